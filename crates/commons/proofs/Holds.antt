@@ -1,0 +1,82 @@
+-- Laws of the rows of holds, and of headers.
+use Rattle.std.proofs.Common.{ℕ, zero, suc, ◌≡◌, ◌≢◌, ◌+◌, ◌-◌, ◌<◌, ◌≤◌, ◌==◌, ◌⊎◌, inl, inr, Bool, true, false, cond, List, [], ◌∷◌, length, get_or, set, length-set, get_or-set_same, get_or-set_other, Option, Some, None, refl, sym, ◌∙◌, ap, subst, arith}
+use Rattle.std.specs.Prelude.{sum_by}
+use Rattle.std.proofs.lemmas.List.{get_or_past}
+use Rattle.std.proofs.lemmas.List.Sums.{sum_by-set}
+use Rattle.std.proofs.lemmas.Bool.Decides.{nat_tests}
+use Rattle.commons.specs.Lists.{is_owner, disowned, owner_left, with_hold}
+use Rattle.commons.proofs.Places.{apart_or_same, counted_in}
+
+-- a row holds an element at most as often as all rows do
+pub hold_le : (holds : List (List ℕ)) (k i : ℕ) → k < length holds → get_or (get_or holds k []) i 0 ≤ sum_by (λ row. get_or row i 0) holds
+hold_le holds k i l = omega (arith, sum_by-set (λ (row : List ℕ). get_or row i 0) holds k [] [] l)
+
+-- the sum once a row has changed
+pub holds_changed : (holds : List (List ℕ)) (k i n j : ℕ) → k < length holds →
+    sum_by (λ row. get_or row j 0) (set holds k (set (get_or holds k []) i n)) + get_or (get_or holds k []) j 0
+    ≡ sum_by (λ row. get_or row j 0) holds + get_or (set (get_or holds k []) i n) j 0
+holds_changed holds k i n j l = sum_by-set (λ (row : List ℕ). get_or row j 0) holds k (set (get_or holds k []) i n) [] l
+
+-- at another element nothing changes
+pub sum-elsewhere : (holds : List (List ℕ)) (k i n j : ℕ) → k < length holds → j ≢ i →
+    sum_by (λ row. get_or row j 0) (set holds k (set (get_or holds k []) i n)) ≡ sum_by (λ row. get_or row j 0) holds
+sum-elsewhere holds k i n j l h = omega (arith, holds_changed holds k i n j l, get_or-set_other (get_or holds k []) i j n 0 h)
+
+-- at that element the row's old number is replaced
+pub sum-there : (holds : List (List ℕ)) (k i n : ℕ) → k < length holds → i < length (get_or holds k []) →
+    sum_by (λ row. get_or row i 0) (set holds k (set (get_or holds k []) i n)) + get_or (get_or holds k []) i 0
+    ≡ sum_by (λ row. get_or row i 0) holds + n
+sum-there holds k i n l m = omega (arith, holds_changed holds k i n i l, get_or-set_same (get_or holds k []) i n 0 m)
+
+-- the rows keep their lengths
+pub length-row : (holds : List (List ℕ)) (k i n v size : ℕ) → k < length holds →
+    length (get_or holds k []) ≡ size → length (get_or holds v []) ≡ size →
+    length (get_or (set holds k (set (get_or holds k []) i n)) v []) ≡ size
+length-row holds k i n v size l a b =
+    elim (apart_or_same k v) [
+      | inl e ↦ rw (e, get_or-set_same holds k (set (get_or holds k []) i n) [] l, length-set (get_or holds k []) i n) a
+      | inr e ↦ rw (get_or-set_other holds k v (set (get_or holds k []) i n) [] e) b
+    ]
+
+-- the row that changed, there and elsewhere, and another row
+pub row-there : (holds : List (List ℕ)) (k i n : ℕ) → k < length holds → i < length (get_or holds k []) →
+    get_or (get_or (set holds k (set (get_or holds k []) i n)) k []) i 0 ≡ n
+row-there holds k i n l m = rw (get_or-set_same holds k (set (get_or holds k []) i n) [] l) (get_or-set_same (get_or holds k []) i n 0 m)
+
+pub row-elsewhere : (holds : List (List ℕ)) (k i n j : ℕ) → k < length holds → j ≢ i →
+    get_or (get_or (set holds k (set (get_or holds k []) i n)) k []) j 0 ≡ get_or (get_or holds k []) j 0
+row-elsewhere holds k i n j l h = rw (get_or-set_same holds k (set (get_or holds k []) i n) [] l) (get_or-set_other (get_or holds k []) i j n 0 h)
+
+pub row-other : (holds : List (List ℕ)) (k i n v j : ℕ) → v ≢ k →
+    get_or (get_or (set holds k (set (get_or holds k []) i n)) v []) j 0 ≡ get_or (get_or holds v []) j 0
+row-other holds k i n v j h = rw (get_or-set_other holds k v (set (get_or holds k []) i n) [] h) refl
+
+-- a header that the worker gives up
+disown_other : (b : Bool) (v u : ℕ) → (b ≡ true → u ≢ v) → ◌≡◌ {A = ℕ} (is_owner v (cond b None (Some u))) (cond (u == v) 1 0)
+disown_other true v u h = let e : u ≢ v = h refl in grind (arith, nat_tests)
+disown_other false v u h = refl
+
+disown_same : (b : Bool) (w u : ℕ) → (b ≡ false → u ≢ w) → ◌≡◌ {A = ℕ} (is_owner w (cond b None (Some u))) 0
+disown_same true w u h = refl
+disown_same false w u h = let e : u ≢ w = h refl in grind (arith, nat_tests)
+
+pub disowned-other : (v w : ℕ) (owner : Option ℕ) → v ≢ w → is_owner v (disowned w owner) ≡ is_owner v owner
+disowned-other v w None h = refl
+disowned-other v w (Some u) h = disown_other (u == w) v u (λ e. let k : u ≡ w = grind (arith, nat_tests) in λ m. h (sym m ∙ k))
+
+pub disowned-same : (w : ℕ) (owner : Option ℕ) → is_owner w (disowned w owner) ≡ 0
+disowned-same w None = refl
+disowned-same w (Some u) = disown_same (u == w) w u (λ e. grind (arith, nat_tests))
+
+pub owner_left-other : (v w left : ℕ) (owner : Option ℕ) → v ≢ w → is_owner v (owner_left w left owner) ≡ is_owner v owner
+owner_left-other v w zero owner h = disowned-other v w owner h
+owner_left-other v w (suc left) owner h = refl
+
+pub owner_is : (v w : ℕ) → 0 < is_owner v (Some w) → w ≡ v
+owner_is v w h = grind (arith, nat_tests)
+
+pub owner-same : (w : ℕ) → is_owner w (Some w) ≡ 1
+owner-same w = grind (arith, nat_tests)
+
+pub owner-other : (v w : ℕ) → v ≢ w → is_owner v (Some w) ≡ 0
+owner-other v w h = grind (arith, nat_tests)

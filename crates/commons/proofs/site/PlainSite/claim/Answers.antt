@@ -1,0 +1,22 @@
+use Rattle.std.proofs.Common.{◌≡◌, sym}
+use Rattle.commons.specs.Site.{lists_of}
+use Rattle.commons.proofs.Tables.{table_claim}
+use Rattle.commons.proofs.Single.{others_claim}
+use Rattle.commons.proofs.site.PlainSite.claim.Goals as goal
+
+pub invariant_of-self : goal.invariant_of-self
+invariant_of-self c = record {
+  table = rw c.set_hold.ensures (table_claim (lists_of c.self.inside) c.args.worker c.args.element c.self.invariant.table c.requires.low
+    (rw (sym c.self.view_is) at c.requires.high) (rw (sym c.self.view_is) at c.requires.in_hand));
+  room = c.self.invariant.room;
+}
+
+pub returns-clause-kept : goal.returns-clause-kept
+returns-clause-kept c =
+    rw c.set_hold.ensures (table_claim (lists_of c.self.inside) c.args.worker c.args.element c.self.invariant.table c.requires.low
+    (rw (sym c.self.view_is) at c.requires.high) (rw (sym c.self.view_is) at c.requires.in_hand))
+
+pub returns-clause-others : goal.returns-clause-others
+returns-clause-others c =
+    rw (sym c.self.view_is, c.set_hold.ensures) (others_claim (lists_of c.self.inside) c.args.worker c.args.element c.self.invariant.table c.requires.low
+    (rw (sym c.self.view_is) at c.requires.high) (rw (sym c.self.view_is) at c.requires.in_hand))

@@ -1,0 +1,106 @@
+-- The calls of a shared pool, what each read, and what of it is the cause of its answer.
+use Rattle.std.specs.Prelude.{ℕ, ◌≡◌, ◌+◌, ◌-◌, ◌<◌, ◌≤◌, ◌^◌, List, [], ◌∷◌, Bool, true, false, count_by, map, Any, Contains, Result, Ok, Err, Option, IsTrue}
+use Rattle.commons.specs.Bag.{one}
+use Rattle.commons.specs.declared.limits.Limits.{Limits}
+use Rattle.commons.specs.declared.refusal.Refusal.{Refusal}
+use Rattle.commons.specs.declared.refusal.Refusal.TheVariants.{NoEntries, Contended, HeadSpent, RefSpent}
+use Rattle.commons.specs.declared.refusal.Lowered.{Lowered}
+use Rattle.commons.specs.declared.refusal.Lowered.TheVariants.{Last, Still}
+
+-- one value that a call read: the length of the common list, the head's modification count, an element's
+-- reference count, a desk's word; or one lost try
+pub data Reading : Type 0 where
+  Length : (value : ℕ) → Reading
+  Head : (count : ℕ) → Reading
+  Count : (element value : ℕ) → Reading
+  Desk : (desk value : ℕ) → Reading
+  Lost : Reading
+
+-- a call with its answer
+pub data Call : Type 0 where
+  GetList : (n : ℕ) (answer : Result (List ℕ) Refusal) → Call
+  PutList : (list : List ℕ) (answer : Result (Unit {0}) Refusal) → Call
+  Claim : (element : ℕ) → Call
+  Lower : (element : ℕ) (answer : Lowered) → Call
+  CommonCount : (answer : ℕ) → Call
+
+-- a call's answer with the list that it gave
+abbrev pub with_list : Result (Unit {0}) Refusal → List ℕ → Result (List ℕ) Refusal
+with_list (Ok _) xs = Ok xs
+with_list (Err e) xs = Err e
+
+-- the modification count at which the head is spent, the greatest of 48 bits
+abbrev pub spent : ℕ
+spent = 281474976710655
+
+-- a length below n was read
+abbrev pub IsLengthBelow : ℕ → Reading → Type 0
+IsLengthBelow n (Length value) = value < n
+IsLengthBelow n (Head _) = ⊥
+IsLengthBelow n (Count _ _) = ⊥
+IsLengthBelow n (Desk _ _) = ⊥
+IsLengthBelow n Lost = ⊥
+
+-- a count of the element was read that shows another hold
+abbrev pub IsCountAboveOne : ℕ → Reading → Type 0
+IsCountAboveOne i (Length _) = ⊥
+IsCountAboveOne i (Head _) = ⊥
+IsCountAboveOne i (Count j value) = (j ≡ i) × (1 < value)
+IsCountAboveOne i (Desk _ _) = ⊥
+IsCountAboveOne i Lost = ⊥
+
+abbrev pub is_lost : Reading → Bool
+is_lost (Length _) = false
+is_lost (Head _) = false
+is_lost (Count _ _) = false
+is_lost (Desk _ _) = false
+is_lost Lost = true
+
+-- what was read is a cause to refuse a change of the stack
+abbrev pub IsStackCause : Limits → Refusal → List Reading → Type 0
+IsStackCause l Contended rs = l.tries ≤ count_by is_lost rs
+IsStackCause l HeadSpent rs = Contains rs (Head spent)
+IsStackCause l _ rs = ⊥
+
+-- what was read is a cause to refuse a get of n elements
+abbrev pub IsGetCause : Limits → ℕ → Refusal → List Reading → Type 0
+IsGetCause l n NoEntries rs = Any (IsLengthBelow n) rs
+IsGetCause l n Contended rs = l.tries ≤ count_by is_lost rs
+IsGetCause l n HeadSpent rs = Contains rs (Head spent)
+IsGetCause l n _ rs = ⊥
+
+-- what was read is a cause of the call's answer; an answer that asks for none has Unit
+abbrev pub HasCause : Limits → Call → List Reading → Type 0
+HasCause l (GetList n (Ok _)) rs = Unit {0}
+HasCause l (GetList n (Err e)) rs = IsGetCause l n e rs
+HasCause l (PutList list (Ok _)) rs = Unit {0}
+HasCause l (PutList list (Err e)) rs = IsStackCause l e rs
+HasCause l (Claim i) rs = Unit {0}
+HasCause l (Lower i Last) rs = Contains rs (Count i 1)
+HasCause l (Lower i Still) rs = Any (IsCountAboveOne i) rs
+HasCause l (CommonCount n) rs = Contains rs (Length n)
+
+-- the shared pool did this call, and what it read is a cause of its answer
+pub record Did {S : Type 0} (did : S → Call → List Reading → S → Type 0) (limits : S → Limits) (before : S) (call : Call) (after : S) : Type 0 where
+  pub readings : List Reading
+  pub led : did before call readings after
+  pub cause : HasCause (limits before) call readings
+
+-- a call that was made, and what it read
+pub record Made : Type 0 where
+  pub call : Call
+  pub readings : List Reading
+
+-- the calls alone
+abbrev pub calls_of : List Made → List Call
+calls_of made = map (λ m. m.call) made
+
+-- the calls lead from one state to the other, in order, and no other call was made
+abbrev pub Leads : {S : Type 0} → (S → Call → List Reading → S → Type 0) → (S → Limits) → S → List Made → S → Type 0
+Leads did limits before [] after = before ≡ after
+Leads {S} did limits before (m ∷ made) after = (between : S) × did before m.call m.readings between × HasCause (limits before) m.call m.readings × Leads did limits between made after
+
+-- what comes back into the hand where a count was lowered
+abbrev pub back : Lowered → ℕ → ℕ → ℕ
+back Last i j = one i j
+back Still i j = 0

@@ -1,0 +1,11 @@
+//! The shared part of a packet pool, as one worker sees it.
+#![tactic(auto)]
+
+pub mod limits;
+pub mod packet;
+pub mod place;
+pub mod plain;
+pub mod refusal;
+pub mod seq;
+pub mod shared;
+pub mod site;

@@ -1,0 +1,61 @@
+use arrayvec::ArrayVec;
+use std::marker::Model;
+
+/// The most segments that a packet has. (DPDK's own limit is 65,535.)
+pub const MAX_SEGS: usize = 32;
+
+/// A segment of a packet: an element with its lengths in bytes.
+#[derive(Clone, Copy, Default, PartialEq, Eq, Debug)]
+pub struct Seg {
+    /// The segment's own element.
+    pub elem: u32,
+    /// The direct element whose buffer an indirect segment uses.
+    pub base: Option<u32>,
+    /// Where the data begins in the buffer.
+    pub data_off: u16,
+    /// How long the data is.
+    pub data_len: u16,
+    /// How long the buffer is.
+    pub buf_len: u16,
+}
+
+/// A packet: 1 to 32 segments, the data of each within its buffer.
+#[derive(Debug, Drop)]
+pub struct Packet {
+    segs: ArrayVec<Seg, MAX_SEGS>,
+}
+
+impl Model for Packet {
+    ghost use Rattle.std.specs.Prelude.{List};
+    ghost use Rattle.commons.specs.declared.packet.Seg.{Seg};
+    ghost use Rattle.commons.specs.Packets.{IsPacket};
+
+    ghost Value = { List Seg };
+
+    ghost view = { λ p. p.segs.items };
+
+    ghost invariant = { λ p. IsPacket p.segs.items };
+}
+
+impl Packet {
+    ghost use Rattle.std.specs.Prelude.{◌≡◌, ◌+◌, ◌≤◌, [], ◌∷◌, length, slice_get, Some};
+    ghost use Rattle.commons.specs.Packets.{IsPacket};
+
+    /// The packet of one segment.
+    pub fn single(seg: Seg) -> Packet
+        requires { seg.data_off + seg.data_len ≤ seg.buf_len }
+        ensures { result ≡ seg ∷ [] }
+    {
+        let mut segs = ArrayVec::new();
+        segs.push(seg);
+        Packet { segs }
+    }
+
+    /// The segments in order.
+    pub fn segs(&self) -> &[Seg]
+        ensures segs { result.now ≡ self.now }
+        ensures packet { IsPacket self.now }
+    {
+        self.segs.as_slice()
+    }
+}

@@ -1,0 +1,70 @@
+ghost use Rattle.std.specs.Prelude.{◌≡◌, ◌<◌, ◌≤◌, ◌+◌, ℕ, List, length};
+ghost use Rattle.commons.specs.Bag.{bag, one};
+ghost use Rattle.commons.specs.Calls.{Reading, Call, GetList, PutList, Claim, Lower, CommonCount, with_list, Did};
+ghost use Rattle.commons.specs.Lists.{Lists, IsTable, hand_of, holds_of, header_of, DidOnLists};
+
+use crate::refusal::{Lowered, Refusal};
+use crate::shared::Commons;
+use crate::site::PlainSite;
+
+/// A `PlainSite` as one worker sees it.
+#[derive(Debug, Drop)]
+pub struct PlainCommons<'a> {
+    site: &'a mut PlainSite,
+    worker: u32,
+    pub ghost positive: { 1 ≤ worker },
+    pub ghost of_pool: { worker ≤ site.now.limits.workers },
+    pub ghost table: { IsTable site.now },
+}
+
+impl<'a> PlainCommons<'a> {
+    /// The site as this worker sees it, who is of its pool.
+    pub fn new(site: &'a mut PlainSite, worker: u32) -> PlainCommons<'a>
+        requires low { 1 ≤ worker }
+        requires high { worker ≤ site.old.limits.workers }
+        ensures same { result.site.ghost_name ≡ site.entry.ghost_name }
+        ensures now { result.site.now ≡ site.old }
+        ensures worker { result.worker ≡ worker }
+    {
+        let _known = site.limits();
+        PlainCommons { site, worker }
+    }
+}
+
+impl<'a> Commons for PlainCommons<'a> {
+    ghost limits = { λ c. c.site.now.limits };
+
+    ghost hand = { λ c i. hand_of c.site.now c.worker i };
+
+    ghost holds = { λ c i. holds_of c.site.now c.worker i };
+
+    ghost headers = { λ c i. header_of c.site.now c.worker i };
+
+    ghost did = { λ s call rs t. (t.site.ghost_name ≡ s.site.ghost_name) × (t.worker ≡ s.worker) × DidOnLists s.worker s.site.now call rs t.site.now };
+
+    fn get_list(&mut self, out: &mut [u32]) -> Result<(), Refusal> {
+        self.site.get(self.worker, out)
+    }
+
+    fn put_list(&mut self, list: &[u32]) -> Result<(), Refusal> {
+        self.site.put(self.worker, list)
+    }
+
+    fn claim(&mut self, element: u32) {
+        self.site.claim(self.worker, element)
+    }
+
+    fn lower(&mut self, element: u32) -> Lowered {
+        self.site.lower(self.worker, element)
+    }
+
+    fn common_count(&mut self) -> u32 {
+        self.site.common_count()
+    }
+
+    ghost use Rattle.commons.specs.ListLaws.{hand_once_lem, hand_below_lem};
+
+    ghost hand_once = { λ c i. hand_once_lem c.site.now c.worker i };
+
+    ghost hand_below = { λ c i h. hand_below_lem c.site.now c.worker i c.table h };
+}

@@ -1,0 +1,120 @@
+ghost use Rattle.std.specs.Prelude.{◌≡◌};
+ghost use Rattle.commons.specs.Refusals.{number_of};
+
+use thiserror::Error;
+
+/// Why a call was refused. Each has a number and a name, which are printed together.
+#[derive(Clone, Copy, PartialEq, Eq, Debug, Error)]
+pub enum Refusal {
+    /// The limits are out of range.
+    #[error("BadPool")]
+    BadPool,
+    /// A request for memory, or for a thread, was refused.
+    #[error("OutOfMemory")]
+    OutOfMemory,
+    /// A length below the number asked for was read.
+    #[error("NoEntries")]
+    NoEntries,
+    /// As many tries were lost as the pool allows.
+    #[error("Contended")]
+    Contended,
+    /// The head's modification count is spent.
+    #[error("HeadSpent")]
+    HeadSpent,
+    /// The reference count is at its limit.
+    #[error("RefSpent")]
+    RefSpent,
+    /// A packet would have, or has, too many segments.
+    #[error("TooManySegs")]
+    TooManySegs,
+    /// There is no room in the buffer.
+    #[error("NoRoom")]
+    NoRoom,
+    /// The packet is shorter than that.
+    #[error("TooShort")]
+    TooShort,
+    /// The segment is indirect already.
+    #[error("NotDirect")]
+    NotDirect,
+    /// The segment isn't indirect.
+    #[error("NotIndirect")]
+    NotIndirect,
+    /// The element has other holders.
+    #[error("InUse")]
+    InUse,
+    /// There is no such packet.
+    #[error("NoSuchPacket")]
+    NoSuchPacket,
+    /// The worker's table of packets is full.
+    #[error("PacketsFull")]
+    PacketsFull,
+    /// The desk isn't empty.
+    #[error("DeskTaken")]
+    DeskTaken,
+    /// The desk has no packet.
+    #[error("DeskEmpty")]
+    DeskEmpty,
+    /// There is no such desk.
+    #[error("NoSuchDesk")]
+    NoSuchDesk,
+    /// The least worker whose share wasn't handed in.
+    #[error("MissingShare worker {0}")]
+    MissingShare(u32),
+    /// The worker isn't of this pool, or its share is there already.
+    #[error("StrangerShare")]
+    StrangerShare,
+    /// The script's first faulty line.
+    #[error("ScriptFault line {0}")]
+    ScriptFault(u32),
+    /// A step's condition failed.
+    #[error("StepRefused")]
+    StepRefused,
+    /// The packet is of two pools.
+    #[error("Foreign")]
+    Foreign,
+    /// Both packets are the same.
+    #[error("SamePacket")]
+    SamePacket,
+}
+
+impl Refusal {
+    /// The number that is printed with the name, 1 to 23.
+    pub fn number(self) -> u32
+        ensures { result ≡ number_of self }
+    {
+        match self {
+            Refusal::BadPool => 1,
+            Refusal::OutOfMemory => 2,
+            Refusal::NoEntries => 3,
+            Refusal::Contended => 4,
+            Refusal::HeadSpent => 5,
+            Refusal::RefSpent => 6,
+            Refusal::TooManySegs => 7,
+            Refusal::NoRoom => 8,
+            Refusal::TooShort => 9,
+            Refusal::NotDirect => 10,
+            Refusal::NotIndirect => 11,
+            Refusal::InUse => 12,
+            Refusal::NoSuchPacket => 13,
+            Refusal::PacketsFull => 14,
+            Refusal::DeskTaken => 15,
+            Refusal::DeskEmpty => 16,
+            Refusal::NoSuchDesk => 17,
+            Refusal::MissingShare(_) => 18,
+            Refusal::StrangerShare => 19,
+            Refusal::ScriptFault(_) => 20,
+            Refusal::StepRefused => 21,
+            Refusal::Foreign => 22,
+            Refusal::SamePacket => 23,
+        }
+    }
+}
+
+/// What lowering a reference count found.
+#[derive(Clone, Copy, PartialEq, Eq, Debug)]
+pub enum Lowered {
+    /// It was the last hold: the element is in the worker's hand again, with count 1.
+    Last,
+    /// Another hold is left.
+    Still,
+}

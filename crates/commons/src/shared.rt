@@ -1,0 +1,100 @@
+ghost use Rattle.std.specs.Prelude.{◌≡◌, ◌<◌, ◌≤◌, ◌+◌, ℕ, List, length, OnOk, OnErr, nat_lt, if◌then◌else◌};
+ghost use Rattle.commons.specs.Bag.{bag, one};
+ghost use Rattle.commons.specs.Calls.{Reading, Call, GetList, PutList, Claim, Lower, CommonCount, with_list, Did, back};
+ghost use Rattle.commons.specs.declared.limits.Limits.{Limits};
+
+use crate::refusal::{Lowered, Refusal};
+
+/// The shared part of a packet pool, as one worker sees it: that worker's hand and holds, and the
+/// common stack, which it shares with others.
+pub trait Commons {
+    /// The pool's limits.
+    ghost limits: { Self → Limits };
+
+    /// How often each element is in the worker's hand: once or never.
+    ghost hand: { Self → ℕ → ℕ };
+
+    /// How often the worker holds each element.
+    ghost holds: { Self → ℕ → ℕ };
+
+    /// Which elements are headers of the worker's own packets: once or never.
+    ghost headers: { Self → ℕ → ℕ };
+
+    /// A call was made, read this, and led from the first state to the second.
+    ghost did: { Self → Call → List Reading → Self → Type 0 };
+
+    /// Moves `out.len()` elements from the common stack into the hand: all of them, or none.
+    /// `out` lists them, the top of the stack first.
+    ///
+    /// Refused `NoEntries` where a length below `out.len()` was read, `HeadSpent` where the spent
+    /// modification count was read, and `Contended` after `tries` lost tries. Hand, holds and
+    /// headers are then as before, and nothing is said of `out`.
+    ///
+    /// After rte_stack_lf_generic.h, `__rte_stack_lf_pop_elems` (DPDK 21.11). `Contended` and
+    /// `HeadSpent` are our own.
+    fn get_list(&mut self, out: &mut [u32]) -> Result<(), Refusal>
+        requires { 0 < length out.old }
+        ensures did { Did did limits self.old (GetList (length out.old) (with_list result out.new)) self.new }
+        ensures hand { OnOk result ((i : ℕ) → hand self.new i ≡ hand self.old i + bag out.new i) }
+        ensures hand_err { OnErr result (hand self.new ≡ hand self.old) }
+        ensures holds { holds self.new ≡ holds self.old }
+        ensures headers { headers self.new ≡ headers self.old }
+        ensures limits { limits self.new ≡ limits self.old };
+
+    /// Moves a list of distinct elements from the hand onto the common stack, the last on top:
+    /// all of them, or none.
+    ///
+    /// Refused `HeadSpent` where the spent modification count was read, and `Contended` after
+    /// `tries` lost tries. Hand, holds and headers are then as before.
+    ///
+    /// After rte_stack_lf_generic.h, `__rte_stack_lf_push_elems` (DPDK 21.11), which can't be
+    /// refused.
+    fn put_list(&mut self, list: &[u32]) -> Result<(), Refusal>
+        requires some { 0 < length list.now }
+        requires in_hand { (i : ℕ) → bag list.now i ≤ hand self.old i }
+        ensures did { Did did limits self.old (PutList list.now result) self.new }
+        ensures hand { OnOk result ((i : ℕ) → hand self.old i ≡ hand self.new i + bag list.now i) }
+        ensures hand_err { OnErr result (hand self.new ≡ hand self.old) }
+        ensures holds { holds self.new ≡ holds self.old }
+        ensures headers { headers self.new ≡ headers self.old }
+        ensures limits { limits self.new ≡ limits self.old };
+
+    /// Makes an element of the hand a held one, with one hold by this worker, whose header it is.
+    ///
+    /// After rte_mbuf.h, `rte_mbuf_raw_alloc` (DPDK 21.11), which gives an mbuf of count 1.
+    fn claim(&mut self, element: u32)
+        requires { 0 < hand self.old element }
+        ensures did { Did did limits self.old (Claim element) self.new }
+        ensures hand { (i : ℕ) → hand self.old i ≡ hand self.new i + one element i }
+        ensures holds { (i : ℕ) → holds self.new i ≡ holds self.old i + one element i }
+        ensures headers { (i : ℕ) → headers self.new i ≡ headers self.old i + one element i }
+        ensures limits { limits self.new ≡ limits self.old };
+
+    /// Ends one hold of an element. `Last` where it was the only one: the element is then in the
+    /// hand, with count 1. `Still` where another hold was left at that step.
+    ///
+    /// After rte_mbuf.h, `rte_pktmbuf_prefree_seg` (DPDK 21.11).
+    fn lower(&mut self, element: u32) -> Lowered
+        requires { 0 < holds self.old element }
+        ensures did { Did did limits self.old (Lower element result) self.new }
+        ensures hand { (i : ℕ) → hand self.new i ≡ hand self.old i + back result element i }
+        ensures holds { (i : ℕ) → holds self.old i ≡ holds self.new i + one element i }
+        // A header is one until the worker's last hold of it ends.
+        ensures headers { (i : ℕ) → headers self.new i ≡ (if nat_lt 0 (holds self.new i) then headers self.old i else 0) }
+        ensures limits { limits self.new ≡ limits self.old };
+
+    /// The number of elements on the common stack, as read at one moment of the call.
+    ///
+    /// After rte_stack_lf.h, `__rte_stack_lf_count` (DPDK 21.11).
+    fn common_count(&mut self) -> u32
+        ensures did { Did did limits self.old (CommonCount result) self.new }
+        ensures hand { hand self.new ≡ hand self.old }
+        ensures holds { holds self.new ≡ holds self.old }
+        ensures headers { headers self.new ≡ headers self.old }
+        ensures limits { limits self.new ≡ limits self.old };
+
+    /// An element is in a hand at most once, and none from the population on is.
+    ghost hand_once: { (c : Self) (i : ℕ) → hand c i ≤ 1 };
+
+    ghost hand_below: { (c : Self) (i : ℕ) → (limits c).population ≤ i → hand c i ≡ 0 };
+}

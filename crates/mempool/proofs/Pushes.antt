@@ -1,0 +1,23 @@
+-- A push of what is beyond a size is the one request of a put's or a flush's rule.
+use Rattle.std.proofs.Common.{◌≡◌, ◌<◌, ◌≤◌, ◌+◌, ◌-◌, ◌++◌, ℕ, List, [], ◌∷◌, length, take, drop, arith, refl, ap, ◌∙◌, sym, Result, Ok, Err}
+use Rattle.commons.specs.declared.limits.Limits.{Limits}
+use Rattle.commons.specs.Calls.{Reading, Call, Made, PutList, Did, Leads, calls_of}
+use Rattle.mempool.specs.declared.put.Put.{Put}
+use Rattle.mempool.specs.Caches.{Pushed, Gone, Stays, Puts, Flush, FlushPutOff, Flushes, Whole, WholePutOff, threshold}
+
+pub put_over : {S : Type 0} (did : S → Call → List Reading → S → Type 0) (limits : S → Limits) (l : Limits) (cache list all : List ℕ) (before after : S) (answer : Put) (left : List ℕ) →
+    all ≡ cache ++ list → 0 < length list → length list ≤ 512 → threshold l ≤ length all → l.cache < length all →
+    Pushed did limits l.cache all before answer after left →
+    (made : List Made) × Leads did limits before made after × Puts l cache list (calls_of made) answer left
+put_over did limits l cache list all before after answer left e some few t s (Gone d a k) =
+    (record { call = PutList (drop l.cache all) (Ok tt); readings = d.readings } ∷ [], (after, d.led, d.cause, refl), Flush some few (rw (← e) t) (rw (← e) s) (rw (← e)) (rw (← e) a) (rw (← e) k))
+put_over did limits l cache list all before after answer left e some few t s (Stays cause d a k) =
+    (record { call = PutList (drop l.cache all) (Err cause); readings = d.readings } ∷ [], (after, d.led, d.cause, refl), FlushPutOff some few (rw (← e) t) (rw (← e) s) cause (rw (← e)) (rw (← e) a) (rw (← e) k))
+
+pub flush_whole : {S : Type 0} (did : S → Call → List Reading → S → Type 0) (limits : S → Limits) (cache : List ℕ) (before after : S) (answer : Put) (left : List ℕ) →
+    0 < length cache → Pushed did limits 0 cache before answer after left →
+    (made : List Made) × Leads did limits before made after × Flushes cache (calls_of made) answer left
+flush_whole did limits cache before after answer left some (Gone d a k) =
+    (record { call = PutList cache (Ok tt); readings = d.readings } ∷ [], (after, d.led, d.cause, refl), Whole some refl (let e : length cache - 0 ≡ length cache = omega arith in rw e at a) k)
+flush_whole did limits cache before after answer left some (Stays cause d a k) =
+    (record { call = PutList cache (Err cause); readings = d.readings } ∷ [], (after, d.led, d.cause, refl), WholePutOff some cause refl (let e : length cache - 0 ≡ length cache = omega arith in rw e at a) k)

@@ -1,0 +1,205 @@
+ghost use Rattle.std.specs.Prelude.{◌≡◌, ◌<◌, ◌≤◌, ◌+◌, ◌-◌, ◌++◌, ℕ, List, length, take, drop, reverse, OnOk, OnErr, IsOk, vec_len, vec_capacity};
+ghost use Rattle.commons.specs.Bag.{bag, one};
+ghost use Rattle.commons.specs.Calls.{Made, calls_of, with_list, Leads};
+
+use crate::put::Put;
+use crate::steps;
+use commons::limits::Limits;
+use commons::refusal::Refusal;
+use commons::shared::Commons;
+use std::alloc::Global;
+use std::marker::Model;
+
+/// The most elements that a put takes into a cache.
+/// (rte_mempool.h, `RTE_MEMPOOL_CACHE_MAX_SIZE`, DPDK 21.11)
+const CACHE_MAX: usize = 512;
+
+/// A worker's cache over a shared pool. A worker can't be dropped: `lose` ends it.
+#[derive(Debug)]
+pub struct Worker {
+    limits: Limits,
+    number: u32,
+    cache: Vec<u32>,
+}
+
+impl Model for Worker {
+    ghost use Rattle.mempool.specs.WorkerCache.{WorkerCache};
+
+    ghost Value = { WorkerCache };
+
+    ghost use Rattle.mempool.specs.Kept.{cache_of, IsKept};
+
+    ghost view = { cache_of };
+
+    ghost invariant = { IsKept };
+}
+
+impl Worker {
+    ghost use Rattle.std.specs.Prelude.{◌≡◌, ◌≤◌, ◌<◌, ◌⊎◌, [], IfOk, IfErr};
+    ghost use Rattle.commons.specs.Bounds.{IsPool};
+    ghost use Rattle.mempool.specs.Caches.{Gets, Puts, Flushes};
+    ghost use Rattle.mempool.specs.WorkerCache.{IsWorkerCause, KeepsNumber};
+
+    /// A worker with an empty cache, which has room for the whole population from now on.
+    ///
+    /// Refused `BadPool` where the limits are out of range or have no worker of this number, and
+    /// `OutOfMemory` where memory was refused.
+    ///
+    /// After rte_mempool.c, `rte_mempool_cache_create` (DPDK 21.11).
+    pub fn make(alloc: Global, limits: &Limits, number: u32) -> Result<Worker, Refusal>
+        ensures ok { IfOk result (λ w. w ≡ record { limits = limits.now; number = number; cache = [] }) }
+        ensures pool { IfOk result (λ w. IsPool limits.now × (1 ≤ number) × (number ≤ limits.now.workers)) }
+        ensures cause { IfErr result (IsWorkerCause limits.now number) }
+    {
+        limits.check()?;
+        if number == 0 || u64::from(number) > limits.workers {
+            return Err(Refusal::BadPool);
+        }
+        match Vec::with_capacity(alloc, limits.population as usize) {
+            Ok(cache) => Ok(Worker {
+                limits: *limits,
+                number,
+                cache,
+            }),
+            Err(_) => Err(Refusal::OutOfMemory),
+        }
+    }
+
+    /// Ends the worker and gives nothing back.
+    pub fn lose(self) {
+        let Worker {
+            limits: _,
+            number: _,
+            cache: _,
+        } = self;
+    }
+
+    /// The worker's number, from 1.
+    pub fn number(&self) -> u32
+        ensures { result ≡ self.now.number }
+    {
+        self.number
+    }
+
+    /// How many elements the cache has.
+    pub fn cache_len(&self) -> usize
+        ensures { result ≡ length self.now.cache }
+    {
+        self.cache.len()
+    }
+
+    /// The cache, from its first element to its last.
+    pub fn cache(&self) -> &[u32]
+        ensures { result.now ≡ self.now.cache }
+    {
+        self.cache.as_slice()
+    }
+
+    /// Gets `out.len()` elements, from the cache or the common stack: all of them, or none. They
+    /// stay in the hand. An empty get takes no step.
+    ///
+    /// Refused as the last request to the stack was: `NoEntries`, `Contended` or `HeadSpent`.
+    /// Cache and hand are then as before, and nothing is said of `out`.
+    ///
+    /// After rte_mempool.h, `rte_mempool_do_generic_get` (DPDK 21.11), which doesn't test whether a
+    /// refill can be met at all.
+    pub fn get_bulk<C: Commons>(&mut self, c: &mut C, out: &mut [u32]) -> Result<(), Refusal>
+        requires limits { C.limits c.old ≡ self.old.limits }
+        ensures calls { (made : List Made) × Leads C.did C.limits c.old made c.new × Gets self.old.limits self.old.cache (length out.old) (calls_of made) (with_list result out.new) self.new.cache }
+        ensures hand { OnOk result ((i : ℕ) → C.hand c.new i + bag self.old.cache i ≡ C.hand c.old i + bag self.new.cache i + bag out.new i) }
+        ensures hand_err { OnErr result (C.hand c.new ≡ C.hand c.old) }
+        ensures cache_err { OnErr result (self.new.cache ≡ self.old.cache) }
+        ensures holds { C.holds c.new ≡ C.holds c.old }
+        ensures headers { C.headers c.new ≡ C.headers c.old }
+        ensures limits { C.limits c.new ≡ C.limits c.old }
+        ensures number { KeepsNumber self.old self.new }
+    {
+        let n = out.len();
+        if n == 0 {
+            return Ok(());
+        }
+        let size = self.limits.cache as usize;
+        if n >= size {
+            return c.get_list(out);
+        }
+        let len = self.cache.len();
+        if n <= len {
+            steps::take_last(&mut self.cache, out);
+            return Ok(());
+        }
+        if n + size > self.limits.population as usize {
+            return c.get_list(out);
+        }
+        match steps::refill(&mut self.cache, c, n + size - len) {
+            Ok(()) => {
+                steps::take_last(&mut self.cache, out);
+                Ok(())
+            }
+            Err(_cause) => c.get_list(out),
+        }
+    }
+
+    /// Puts elements of the hand into the cache, and from the threshold on all beyond its size
+    /// onto the common stack. A list of more than 512 goes there past the cache. Where the stack
+    /// refuses, all of them stay in the cache, and the next flush offers them again. An empty put
+    /// takes no step.
+    ///
+    /// After rte_mempool.h, `rte_mempool_do_generic_put` (DPDK 21.11), whose stack can't refuse.
+    #[tactic(auto, using(commons::proofs::Bags::bags))]
+    pub fn put_bulk<C: Commons>(&mut self, c: &mut C, list: &[u32]) -> Put
+        requires limits { C.limits c.old ≡ self.old.limits }
+        requires in_hand { (i : ℕ) → bag self.old.cache i + bag list.now i ≤ C.hand c.old i }
+        ensures calls { (made : List Made) × Leads C.did C.limits c.old made c.new × Puts self.old.limits self.old.cache list.now (calls_of made) result self.new.cache }
+        ensures hand { (i : ℕ) → C.hand c.new i + bag self.old.cache i + bag list.now i ≡ C.hand c.old i + bag self.new.cache i }
+        ensures holds { C.holds c.new ≡ C.holds c.old }
+        ensures headers { C.headers c.new ≡ C.headers c.old }
+        ensures limits { C.limits c.new ≡ C.limits c.old }
+        ensures number { KeepsNumber self.old self.new }
+    {
+        let count = list.len();
+        if count == 0 {
+            return Put::Kept;
+        }
+        steps::room(c, &self.cache, list);
+        if count > CACHE_MAX {
+            return match c.put_list(list) {
+                Ok(()) => Put::Flushed(count as u32),
+                Err(cause) => {
+                    steps::append(&mut self.cache, list);
+                    Put::PutOff(count as u32, cause)
+                }
+            };
+        }
+        steps::append(&mut self.cache, list);
+        let size = self.limits.cache as usize;
+        let len = self.cache.len();
+        if len < size * 3 / 2 {
+            return Put::Kept;
+        }
+        if len <= size {
+            return Put::Kept;
+        }
+        steps::flush_beyond(&mut self.cache, c, size)
+    }
+
+    /// Puts the whole cache onto the common stack in one push. An empty cache takes no step.
+    ///
+    /// After rte_mempool.h, `rte_mempool_cache_flush` (DPDK 21.11).
+    #[tactic(auto, using(commons::proofs::Bags::bags))]
+    pub fn flush<C: Commons>(&mut self, c: &mut C) -> Put
+        requires limits { C.limits c.old ≡ self.old.limits }
+        requires in_hand { (i : ℕ) → bag self.old.cache i ≤ C.hand c.old i }
+        ensures calls { (made : List Made) × Leads C.did C.limits c.old made c.new × Flushes self.old.cache (calls_of made) result self.new.cache }
+        ensures hand { (i : ℕ) → C.hand c.new i + bag self.old.cache i ≡ C.hand c.old i + bag self.new.cache i }
+        ensures holds { C.holds c.new ≡ C.holds c.old }
+        ensures headers { C.headers c.new ≡ C.headers c.old }
+        ensures limits { C.limits c.new ≡ C.limits c.old }
+        ensures number { KeepsNumber self.old self.new }
+    {
+        if self.cache.is_empty() {
+            return Put::Kept;
+        }
+        steps::room(c, &self.cache, &[]);
+        steps::flush_beyond(&mut self.cache, c, 0)
+    }
+}

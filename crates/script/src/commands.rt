@@ -1,0 +1,40 @@
+ghost use Rattle.commons.specs.Bounds.{IsPool};
+ghost use Rattle.script.specs.Commands.{AreOfPool};
+
+use commons::limits::Limits;
+use commons::seq::Seq;
+
+/// A packet's name: 1 to 16 of `a` to `z` and `0` to `9`, beginning with a letter.
+pub type Name = Seq<u8>;
+
+/// What a line asks a worker to do.
+#[derive(Debug, Drop)]
+pub enum Command {
+    /// Makes a packet of one element.
+    Alloc(Name),
+    /// Frees a packet.
+    Free(Name),
+}
+
+/// A command with the number of its line, from 1, and the worker that performs it, from 1.
+#[derive(Debug, Drop)]
+pub struct Line {
+    /// The line's number in the script, from 1.
+    pub number: u32,
+    /// The worker, from 1.
+    pub worker: u32,
+    /// What it is to do.
+    pub command: Command,
+}
+
+/// A script: the limits of its pool, which can be made, and its commands in the order of the lines,
+/// each by a worker of the pool.
+#[derive(Debug, Drop)]
+pub struct Script {
+    /// The limits that the pool line gives.
+    pub limits: Limits,
+    /// The command lines in order.
+    pub lines: Seq<Line>,
+    pub ghost pool: { IsPool limits },
+    pub ghost workers: { AreOfPool limits.workers lines },
+}

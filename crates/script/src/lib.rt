@@ -1,0 +1,6 @@
+//! Scripts of a packet pool, their replay and its statement.
+#![tactic(auto)]
+
+pub mod commands;
+pub mod replies;
+pub mod statement;
