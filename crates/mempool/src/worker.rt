@@ -74,6 +74,14 @@ impl Worker {
         } = self;
     }
 
+    /// The limits of the worker's pool.
+    pub fn limits(&self) -> &Limits
+        ensures limits { result.now ≡ self.now.limits }
+        ensures pool { IsPool self.now.limits }
+    {
+        &self.limits
+    }
+
     /// The worker's number, from 1.
     pub fn number(&self) -> u32
         ensures { result ≡ self.now.number }

@@ -1,0 +1,3 @@
+pub mod CacheCalls
+pub mod PacketTables
+pub mod PlainCalls

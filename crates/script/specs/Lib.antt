@@ -1,1 +1,9 @@
+pub mod CacheModel
 pub mod Commands
+pub mod Own
+pub mod PacketModel
+pub mod Pool
+pub mod Replay
+pub mod Single
+pub mod Statements
+pub mod Table

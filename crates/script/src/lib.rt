@@ -2,5 +2,6 @@
 #![tactic(auto)]
 
 pub mod commands;
+mod packets;
 pub mod replies;
 pub mod statement;

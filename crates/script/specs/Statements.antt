@@ -1,0 +1,68 @@
+-- What a statement says: of a pool in the reference model, and of any pool.
+use Rattle.std.specs.Prelude.{ℕ, ◌≡◌, ◌+◌, ◌<◌, ◌≤◌, nat_lt, List, [], ◌∷◌, ◌++◌, length, replicate, filter, map, flat_map, sum_by, All, Option, Some, None}
+use Rattle.std.specs.List.{range_with_len}
+use Rattle.std.specs.List.Sorted.{IsStrictlyIncreasing}
+use Rattle.commons.specs.Bag.{bag}
+use Rattle.commons.specs.declared.packet.Seg.{Seg}
+use Rattle.script.specs.declared.statement.Statement.{Statement}
+use Rattle.script.specs.declared.statement.PlacedPacket.{PlacedPacket}
+use Rattle.script.specs.declared.statement.Held.{Held}
+use Rattle.script.specs.declared.statement.Holder.{Holder}
+use Rattle.script.specs.declared.statement.Holder.TheVariants.{Worker}
+use Rattle.script.specs.Pool.{Stack, Member, Pool, holds_of_packet, held_in, held_by}
+
+-- the packets of a worker's table, the first of its slots having this number
+abbrev pub packets_from : ℕ → ℕ → List (Option (List Seg)) → List PlacedPacket
+packets_from worker slot [] = []
+packets_from worker slot (None ∷ table) = packets_from worker (slot + 1) table
+packets_from worker slot (Some segs ∷ table) = record { worker = worker; slot = slot; segs = segs } ∷ packets_from worker (slot + 1) table
+
+-- the packets of a worker, by slot
+abbrev pub packets_of : Member → List PlacedPacket
+packets_of member = packets_from member.number 0 member.table
+
+-- who holds an element, each as often as it does
+abbrev pub holders_of : List Member → ℕ → List Holder
+holders_of members i = flat_map (λ member. replicate (held_in member.table i) (Worker member.number)) members
+
+abbrev pub held_entry : List Member → ℕ → Held
+held_entry members i = record { elem = i; count = held_by members i; holders = holders_of members i }
+
+-- the elements below the population that packets hold, ascending
+abbrev pub held_elements : Pool → List ℕ
+held_elements pool = filter (λ i. nat_lt 0 (held_by pool.members i)) (range_with_len 0 pool.limits.population)
+
+-- the statement of a pool that has no desks
+abbrev pub statement_of : Pool → Statement
+statement_of pool = record {
+  population = pool.limits.population;
+  available = length pool.stack.common + sum_by (λ member. length member.cache) pool.members;
+  in_use = length (held_elements pool);
+  common = pool.stack.common;
+  caches = map (λ member. member.cache) pool.members;
+  packets = flat_map packets_of pool.members;
+  desks = [];
+  held = map (held_entry pool.members) (held_elements pool);
+}
+
+-- how often a statement lists an element: in the common list, in caches, and as a held one
+abbrev pub listed : Statement → ℕ → ℕ
+listed s i = bag s.common i + sum_by (λ cache. bag cache i) s.caches + bag (map (λ held. held.elem) s.held) i
+
+-- how often the packets of a statement hold an element
+abbrev pub packet_holds : Statement → ℕ → ℕ
+packet_holds s i = sum_by (λ placed. bag (holds_of_packet placed.segs) i) s.packets + sum_by (λ desk. bag (holds_of_packet desk.segs) i) s.desks
+
+-- Each element of the pool is listed exactly once, and nothing else is; what is available and what is in use
+-- are the population; and the count of a held element is the number of its holders, which is that of the holds
+-- of all packets.
+pub record ListsEachOnce (s : Statement) : Type 0 where
+  pub once : (i : ℕ) → i < s.population → listed s i ≡ 1
+  pub none_else : (i : ℕ) → s.population ≤ i → listed s i ≡ 0
+  pub whole : s.available + s.in_use ≡ s.population
+  pub available : s.available ≡ length s.common + sum_by (λ cache. length cache) s.caches
+  pub in_use : s.in_use ≡ length s.held
+  pub ascending : IsStrictlyIncreasing (map (λ held. held.elem) s.held)
+  pub held : All (λ held. 1 ≤ held.count) s.held
+  pub holders : All (λ held. length held.holders ≡ held.count) s.held
+  pub counts : All (λ held. held.count ≡ packet_holds s held.elem) s.held
