@@ -20,7 +20,7 @@ use Rattle.commons.specs.Lists.{Lists, hand_of, holds_of}
 use Rattle.script.specs.Own.{is_single, Owns}
 use Rattle.script.specs.Single.{element_of, freed_by}
 
-same_or_other : (i j : ℕ) → (j ≡ i) ⊎ (j ≢ i)
+pub same_or_other : (i j : ℕ) → (j ≡ i) ⊎ (j ≢ i)
 same_or_other i j = grind arith
 
 -- a list of one element

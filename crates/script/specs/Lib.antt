@@ -5,5 +5,6 @@ pub mod PacketModel
 pub mod Pool
 pub mod Replay
 pub mod Single
+pub mod SitePool
 pub mod Statements
 pub mod Table

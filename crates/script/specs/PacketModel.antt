@@ -71,9 +71,18 @@ without_packet slot m = record m { table = slice_set m.table slot None }
 abbrev pub held_elsewhere : Pool → ℕ → ℕ → ℕ → ℕ
 held_elsewhere pool n slot i = held_by (slice_set pool.members n (without_packet slot (member_at pool n))) i
 
+-- what a worker does, where this is how often others hold each element
+abbrev pub member_act : Act → (ℕ → ℕ) → Member → Stack → Reply × Member × Stack
+member_act Alloc others m s = alloc m s
+member_act (Free slot) others m s = free others slot m s
+
+-- how often all packets but the one that is freed hold each element
+abbrev pub held_outside : Pool → ℕ → Act → ℕ → ℕ
+held_outside pool n Alloc i = 0
+held_outside pool n (Free slot) i = held_elsewhere pool n slot i
+
 abbrev pub act_on : Pool → ℕ → Act → Reply × Member × Stack
-act_on pool n Alloc = alloc (member_at pool n) pool.stack
-act_on pool n (Free slot) = free (held_elsewhere pool n slot) slot (member_at pool n) pool.stack
+act_on pool n act = member_act act (held_outside pool n act) (member_at pool n) pool.stack
 
 -- the reply to what a worker is asked to do, and the pool afterwards; a worker outside the pool does nothing
 abbrev pub perform : Pool → ℕ → Act → Reply × Pool

@@ -4,4 +4,5 @@
 pub mod commands;
 mod packets;
 pub mod replies;
+pub mod site_pool;
 pub mod statement;

@@ -74,6 +74,7 @@ impl Packets {
         ensures same { c.new.site.ghost_name ≡ c.old.site.ghost_name }
         ensures worker { c.new.worker ≡ c.old.worker }
         ensures model { (result, self.new, stack_of c.new.site.now) ≡ alloc self.old (stack_of c.old.site.now) }
+        ensures number { self.new.number ≡ self.old.number }
         ensures own { Owns c.new.site.now self.new }
         ensures alone { StepsAlone c.old.worker c.old.site.now c.new.site.now }
     {
@@ -98,6 +99,7 @@ impl Packets {
         ensures same { c.new.site.ghost_name ≡ c.old.site.ghost_name }
         ensures worker { c.new.worker ≡ c.old.worker }
         ensures model { (result, self.new, stack_of c.new.site.now) ≡ free (left_of c.old.site.now) slot self.old (stack_of c.old.site.now) }
+        ensures number { self.new.number ≡ self.old.number }
         ensures own { Owns c.new.site.now self.new }
         ensures alone { StepsAlone c.old.worker c.old.site.now c.new.site.now }
     {

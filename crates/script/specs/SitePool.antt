@@ -1,0 +1,21 @@
+-- How a `SitePool` is kept. No public clause cites this module.
+use Rattle.std.specs.Prelude.{ℕ, ◌≡◌, ◌+◌, ◌<◌, List, length, slice_index_or}
+use Rattle.commons.specs.declared.limits.Limits.{Limits}
+use Rattle.commons.specs.Lists.{Lists, IsTable}
+use Rattle.script.specs.Pool.{Member, Pool, nobody}
+use Rattle.script.specs.Own.{stack_of, Owns}
+use Rattle.script.specs.declared.site_pool.SitePool.TheInside.{Inside}
+
+abbrev pub pool_of : Inside → Pool
+pool_of p = record { limits = p.site.limits; stack = stack_of p.site; members = p.members.items }
+
+-- the worker at n has the number n + 1 and owns its part of the lists
+pub record IsMember (s : Lists) (n : ℕ) (m : Member) : Type 0 where
+  pub number : m.number ≡ n + 1
+  pub own : Owns s m
+
+-- the lists show a table, and each worker owns its part of them
+pub record IsSitePool (p : Inside) : Type 0 where
+  pub table : IsTable p.site
+  pub workers : length p.members.items ≡ p.site.limits.workers
+  pub each : (n : ℕ) → n < p.site.limits.workers → IsMember p.site n (slice_index_or p.members.items n (nobody p.site.limits))

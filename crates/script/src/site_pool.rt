@@ -1,0 +1,119 @@
+ghost use Rattle.std.specs.Prelude.{◌≡◌, ◌≤◌, ◌+◌, IfOk, IfErr};
+ghost use Rattle.commons.specs.Bounds.{IsPool};
+ghost use Rattle.commons.specs.Lists.{IsMakeCause};
+ghost use Rattle.script.specs.Own.{stack_of, left_of, Owns, StepsAlone};
+ghost use Rattle.script.specs.Pool.{new_members};
+ghost use Rattle.script.specs.PacketModel.{member_act};
+
+use crate::packets::Packets;
+use crate::replies::{Act, Reply};
+use commons::limits::Limits;
+use commons::plain::PlainCommons;
+use commons::refusal::Refusal;
+use commons::site::PlainSite;
+use std::alloc::Global;
+use std::marker::Model;
+
+/// A pool as lists, with the packets of all its workers, for one thread. It can't be dropped:
+/// `lose` ends it.
+pub struct SitePool {
+    site: PlainSite,
+    members: Vec<Packets>,
+}
+
+impl Model for SitePool {
+    ghost use Rattle.script.specs.Pool.{Pool};
+
+    ghost Value = { Pool };
+
+    ghost use Rattle.script.specs.SitePool.{pool_of, IsSitePool};
+
+    ghost view = { pool_of };
+
+    ghost invariant = { IsSitePool };
+}
+
+impl SitePool {
+    ghost use Rattle.script.specs.Pool.{new_pool};
+    ghost use Rattle.script.specs.PacketModel.{perform};
+
+    /// A new pool: all elements in the common list, and its workers have nothing.
+    ///
+    /// Refused `BadPool` where the limits are out of range, and `OutOfMemory` where memory was
+    /// refused.
+    pub fn make(alloc: Global, limits: &Limits) -> Result<SitePool, Refusal>
+        ensures ok { IfOk result (λ p. p ≡ new_pool limits.now) }
+        ensures cause { IfErr result (IsMakeCause limits.now) }
+    {
+        let site = PlainSite::make(alloc, limits)?;
+        let members = no_packets(alloc, limits)?;
+        Ok(SitePool { site, members })
+    }
+
+    /// Ends the pool and gives nothing back.
+    pub fn lose(self) {
+        let SitePool { site: _, members } = self;
+        lose_all(members);
+    }
+
+    /// Lets a worker, numbered from 1, do this, and answers what came of it. A worker outside the
+    /// pool is refused `StrangerShare`, and nothing changes.
+    pub fn perform(&mut self, worker: u32, act: Act) -> Reply
+        ensures { (result, self.new) ≡ perform self.old worker act }
+    {
+        if worker == 0 || worker as usize > self.members.len() {
+            return Reply::Refused(Refusal::StrangerShare);
+        }
+        let packets = &mut self.members[worker as usize - 1];
+        act_alone(&mut self.site, packets, worker, act)
+    }
+}
+
+/// Lets one worker act on the lists.
+fn act_alone(site: &mut PlainSite, packets: &mut Packets, worker: u32, act: Act) -> Reply
+    requires number { packets.old.number ≡ worker }
+    requires own { Owns site.old packets.old }
+    ensures model { (result, packets.new, stack_of site.new) ≡ member_act act (left_of site.old) packets.old (stack_of site.old) }
+    ensures number { packets.new.number ≡ packets.old.number }
+    ensures own { Owns site.new packets.new }
+    ensures alone { StepsAlone worker site.old site.new }
+{
+    let mut c = PlainCommons::new(site, worker);
+    match act {
+        Act::Alloc => packets.alloc(&mut c),
+        Act::Free(slot) => packets.free(&mut c, slot),
+    }
+}
+
+/// For each worker of a pool an empty cache and an empty table.
+fn no_packets(alloc: Global, limits: &Limits) -> Result<Vec<Packets>, Refusal>
+    requires { IsPool limits.now }
+    ensures ok { IfOk result (λ v. v.items ≡ new_members limits.now 1 limits.now.workers) }
+    ensures memory { IfErr result (λ e. e ≡ Refusal.OutOfMemory) }
+{
+    let mut members = Vec::new(alloc);
+    for number in 1..limits.workers as u32 + 1 {
+        match Packets::make(alloc, limits, number) {
+            Ok(packets) => {
+                if let Err(failed) = members.push(packets) {
+                    failed.value.lose();
+                    lose_all(members);
+                    return Err(Refusal::OutOfMemory);
+                }
+            }
+            Err(cause) => {
+                lose_all(members);
+                return Err(cause);
+            }
+        }
+    }
+    Ok(members)
+}
+
+/// Ends each worker.
+fn lose_all(mut members: Vec<Packets>) {
+    while let Some(packets) = members.pop() {
+        packets.lose();
+    }
+    members.destroy_empty();
+}
