@@ -1,5 +1,5 @@
--- The numbers of the refusals.
-use Rattle.std.specs.Prelude.{ℕ}
+-- The numbers and names of the refusals.
+use Rattle.std.specs.Prelude.{ℕ, List, codes}
 use Rattle.commons.specs.declared.refusal.Refusal.{Refusal}
 use Rattle.commons.specs.declared.refusal.Refusal.TheVariants.{BadPool, OutOfMemory, NoEntries, Contended, HeadSpent, RefSpent, TooManySegs, NoRoom, TooShort, NotDirect, NotIndirect, InUse, NoSuchPacket, PacketsFull, DeskTaken, DeskEmpty, NoSuchDesk, MissingShare, StrangerShare, ScriptFault, StepRefused, Foreign, SamePacket}
 
@@ -28,3 +28,29 @@ number_of (ScriptFault _) = 20
 number_of StepRefused = 21
 number_of Foreign = 22
 number_of SamePacket = 23
+
+-- the name that stands behind a refusal's number
+abbrev pub name_of : Refusal → List ℕ
+name_of BadPool = codes "BadPool"
+name_of OutOfMemory = codes "OutOfMemory"
+name_of NoEntries = codes "NoEntries"
+name_of Contended = codes "Contended"
+name_of HeadSpent = codes "HeadSpent"
+name_of RefSpent = codes "RefSpent"
+name_of TooManySegs = codes "TooManySegs"
+name_of NoRoom = codes "NoRoom"
+name_of TooShort = codes "TooShort"
+name_of NotDirect = codes "NotDirect"
+name_of NotIndirect = codes "NotIndirect"
+name_of InUse = codes "InUse"
+name_of NoSuchPacket = codes "NoSuchPacket"
+name_of PacketsFull = codes "PacketsFull"
+name_of DeskTaken = codes "DeskTaken"
+name_of DeskEmpty = codes "DeskEmpty"
+name_of NoSuchDesk = codes "NoSuchDesk"
+name_of (MissingShare _) = codes "MissingShare"
+name_of StrangerShare = codes "StrangerShare"
+name_of (ScriptFault _) = codes "ScriptFault"
+name_of StepRefused = codes "StepRefused"
+name_of Foreign = codes "Foreign"
+name_of SamePacket = codes "SamePacket"

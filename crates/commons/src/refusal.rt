@@ -1,5 +1,5 @@
 ghost use Rattle.std.specs.Prelude.{◌≡◌};
-ghost use Rattle.commons.specs.Refusals.{number_of};
+ghost use Rattle.commons.specs.Refusals.{name_of, number_of};
 
 use thiserror::Error;
 
@@ -106,6 +106,37 @@ impl Refusal {
             Refusal::StepRefused => 21,
             Refusal::Foreign => 22,
             Refusal::SamePacket => 23,
+        }
+    }
+
+    /// The name alone, without the worker or the line that `Display` adds.
+    pub fn name(&self) -> &'static str
+        ensures { result.now ≡ name_of self.now }
+    {
+        match self {
+            Refusal::BadPool => "BadPool",
+            Refusal::OutOfMemory => "OutOfMemory",
+            Refusal::NoEntries => "NoEntries",
+            Refusal::Contended => "Contended",
+            Refusal::HeadSpent => "HeadSpent",
+            Refusal::RefSpent => "RefSpent",
+            Refusal::TooManySegs => "TooManySegs",
+            Refusal::NoRoom => "NoRoom",
+            Refusal::TooShort => "TooShort",
+            Refusal::NotDirect => "NotDirect",
+            Refusal::NotIndirect => "NotIndirect",
+            Refusal::InUse => "InUse",
+            Refusal::NoSuchPacket => "NoSuchPacket",
+            Refusal::PacketsFull => "PacketsFull",
+            Refusal::DeskTaken => "DeskTaken",
+            Refusal::DeskEmpty => "DeskEmpty",
+            Refusal::NoSuchDesk => "NoSuchDesk",
+            Refusal::MissingShare(_) => "MissingShare",
+            Refusal::StrangerShare => "StrangerShare",
+            Refusal::ScriptFault(_) => "ScriptFault",
+            Refusal::StepRefused => "StepRefused",
+            Refusal::Foreign => "Foreign",
+            Refusal::SamePacket => "SamePacket",
         }
     }
 }

@@ -90,6 +90,17 @@ impl PlainSite {
         self.places.as_slice()
     }
 
+    /// How often a worker holds an element.
+    pub fn hold(&self, worker: u32, element: u32) -> u32
+        requires low { 1 ≤ worker }
+        requires high { worker ≤ self.now.limits.workers }
+        requires below { element < self.now.limits.population }
+        ensures holds { result ≡ holds_of self.now worker element }
+        ensures table { IsTable self.now }
+    {
+        hold(&self.holds, worker as usize - 1, element as usize)
+    }
+
     /// Moves elements from the top of the common list into a worker's hand, the top first.
     ///
     /// Refused `NoEntries` where the list is shorter, else `HeadSpent` where the modification

@@ -20,6 +20,7 @@ use Rattle.script.specs.PacketModel.{member_act, held_outside, act_on, perform, 
 use Rattle.script.specs.Own.{stack_of, left_of, is_single, Owns, StepsAlone}
 use Rattle.script.specs.SitePool.{IsMember}
 use Rattle.script.specs.Single.{element_of}
+use Rattle.script.proofs.Entries.{counts_are_holds}
 use Rattle.script.proofs.PacketTables.{same_or_other, held_in-set, holds_of_single, stands_in_table}
 
 -- another worker owns its part as before
@@ -47,25 +48,6 @@ members_after s t members n w m e l len each a number own k b =
           rw (get_or-set_other members n k m (nobody t.limits) f, get_or_default members k (nobody t.limits) (nobody s.limits) (omega arith))
           (record { number = there.number; own = owns_other s t w (get_or members k (nobody s.limits)) a (λ g. f (omega (arith, there.number, e, g))) there.own })
     ]
-
--- sums over two lists that agree place by place
-sum_agrees : {X Y : Type 0} (f : X → ℕ) (g : Y → ℕ) (xs : List X) (ys : List Y) (dx : X) (dy : Y) → length xs ≡ length ys →
-    ((k : ℕ) → k < length xs → f (get_or xs k dx) ≡ g (get_or ys k dy)) → sum_by f xs ≡ sum_by g ys
-sum_agrees f g [] [] dx dy l h = refl
-sum_agrees f g [] (y ∷ ys) dx dy l h = absurd (omega arith)
-sum_agrees f g (x ∷ xs) [] dx dy l h = absurd (omega arith)
-sum_agrees f g (x ∷ xs) (y ∷ ys) dx dy l h =
-    omega (arith, sum_by-cons f x xs, sum_by-cons g y ys, h 0 (omega arith), sum_agrees f g xs ys dx dy (omega arith) (λ k b. h (suc k) (omega arith)))
-
--- an element's count is how often the packets of all workers hold it
-pub counts_are_holds : (s : Lists) (members : List Member) → IsTable s → length members ≡ s.limits.workers →
-    ((k : ℕ) → k < s.limits.workers → IsMember s k (get_or members k (nobody s.limits))) → (i : ℕ) → held_count (place_of s i) ≡ held_by members i
-counts_are_holds s members t l each i =
-    t.counted i ∙ sum_agrees (λ (row : List ℕ). get_or row i 0) (λ (m : Member). held_in m.table i) s.holds members [] (nobody s.limits) (t.workers ∙ sym l)
-    (λ k b.
-      let there = each k (omega (arith, t.workers)) in
-      let same : (get_or members k (nobody s.limits)).number - 1 ≡ k = omega (arith, there.number) in
-      rw same at (there.own.held i))
 
 -- the model's free depends on how often others hold the packet's element
 end_one_others : (l : Limits) (o1 o2 : ℕ → ℕ) (es : List ℕ) (e : ℕ) (x : Freed × List ℕ × Stack) → es ≡ e ∷ [] → o1 e ≡ o2 e → end_holds l o1 es x ≡ end_holds l o2 es x

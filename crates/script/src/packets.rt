@@ -67,6 +67,27 @@ impl Packets {
         worker.lose();
     }
 
+    /// The worker's number, from 1.
+    pub(crate) fn number(&self) -> u32
+        ensures { result ≡ self.now.number }
+    {
+        self.worker.number()
+    }
+
+    /// The worker's cache, from its first element to its last.
+    pub(crate) fn cache(&self) -> &[u32]
+        ensures { result.now ≡ self.now.cache }
+    {
+        self.worker.cache()
+    }
+
+    /// The packet in each slot of the worker's table.
+    pub(crate) fn table(&self) -> &[Option<Packet>]
+        ensures { result.now ≡ self.now.table }
+    {
+        self.table.as_slice()
+    }
+
     /// Makes a packet of one element, in the lowest free slot.
     pub(crate) fn alloc(&mut self, c: &mut PlainCommons) -> Reply
         requires worker { c.old.worker ≡ self.old.number }

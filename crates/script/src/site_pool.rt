@@ -6,7 +6,9 @@ ghost use Rattle.script.specs.Pool.{new_members};
 ghost use Rattle.script.specs.PacketModel.{member_act};
 
 use crate::packets::Packets;
+use crate::placing;
 use crate::replies::{Act, Reply};
+use crate::statement::Statement;
 use commons::limits::Limits;
 use commons::plain::PlainCommons;
 use commons::refusal::Refusal;
@@ -36,6 +38,7 @@ impl Model for SitePool {
 impl SitePool {
     ghost use Rattle.script.specs.Pool.{new_pool};
     ghost use Rattle.script.specs.PacketModel.{perform};
+    ghost use Rattle.script.specs.Statements.{statement_of};
 
     /// A new pool: all elements in the common list, and its workers have nothing.
     ///
@@ -66,6 +69,19 @@ impl SitePool {
         }
         let packets = &mut self.members[worker as usize - 1];
         act_alone(&mut self.site, packets, worker, act)
+    }
+
+    /// Where each element of the pool is. The pool stays as it was.
+    ///
+    /// Refused `OutOfMemory` where memory was refused.
+    pub fn statement(&self, alloc: Global) -> Result<Statement, Refusal>
+        ensures ok { IfOk result (λ s. s ≡ statement_of self.now) }
+        ensures memory { IfErr result (λ e. e ≡ Refusal.OutOfMemory) }
+    {
+        match placing::statement(alloc, &self.site, &self.members) {
+            Ok(statement) => Ok(statement),
+            Err(_) => Err(Refusal::OutOfMemory),
+        }
     }
 }
 

@@ -1,0 +1,47 @@
+//! The replay of a script in a file.
+ghost use Rattle.std.specs.Prelude.{IfErr};
+ghost use Rattle.mbufpool.specs.Failures.{IsOfReplay};
+
+use crate::failures::Failure;
+use commons::refusal::Refusal;
+use script::run_replay;
+use std::fs::File;
+use std::io;
+use std::io::Read;
+use std::rt::Files;
+
+// How many bytes of a script are read: one more than a script may have.
+const BYTES_READ: u64 = 1_048_577;
+
+/// What the replay of the script in `file` prints.
+pub fn text<'a, R: Files + AllocGlobal>(rt: &R, file: &'a str) -> Result<Vec<u8>, Failure<'a>>
+    ensures { IfErr result (IsOfReplay file.entry.now) }
+{
+    let script = match read(rt, file) {
+        Ok(script) => script,
+        Err(error) => return Err(unread(file, error.kind())),
+    };
+    match run_replay(rt.alloc(), script.as_slice()) {
+        Ok(text) => Ok(text),
+        Err(refusal) => Err(Failure::Fault(refusal)),
+    }
+}
+
+/// The bytes of a file, or as many of them as show that they are too many for a script.
+pub fn read<R: Files + AllocGlobal>(rt: &R, file: &str) -> io::Result<Vec<u8>> {
+    let mut bytes = Vec::new(rt.alloc());
+    File::open(rt, file)?
+        .take(BYTES_READ)
+        .read_to_end(&mut bytes)?;
+    Ok(bytes)
+}
+
+// What an error says that reading the file gave.
+fn unread(file: &str, kind: io::ErrorKind) -> Failure<'_>
+    ensures { IsOfReplay file.entry.now result }
+{
+    match kind {
+        io::ErrorKind::OutOfMemory => Failure::Fault(Refusal::OutOfMemory),
+        _ => Failure::Unreadable(file),
+    }
+}

@@ -1,0 +1,4 @@
+mod faults;
+mod files;
+mod screen;
+mod words;

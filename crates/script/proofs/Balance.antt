@@ -1,0 +1,186 @@
+-- Each command keeps each element in one place.
+use Rattle.std.proofs.Common.{ℕ, zero, suc, ◌≡◌, ◌+◌, ◌-◌, ◌<◌, ◌≤◌, ◌&&◌, inl, inr, nat_lt, nat_le, true, cond, List, [], ◌∷◌, length, get_or, set, replicate, Option, Some, None, Result, Ok, Err, refl, sym, ◌∙◌, ap, arith}
+use Rattle.std.specs.Prelude.{min, is_none}
+use Rattle.std.specs.List.{range_with_len}
+use Rattle.std.proofs.lemmas.List.{get_or_past}
+use Rattle.std.proofs.lemmas.List.Sums.{sum_by-cons, get_or-le-sum_by}
+use Rattle.std.proofs.lemmas.List.Quantifiers.{position-Some}
+use Rattle.std.proofs.lemmas.Option.{none-some}
+use Rattle.std.proofs.lemmas.List.Folds.{sum_by-replicate}
+use Rattle.std.proofs.lemmas.Bool.{cases_Bool, cases_lt, cases_eq, leb-true, and_parts}
+use Rattle.std.proofs.lemmas.Bool.Decides.{nat_tests}
+use Rattle.commons.specs.Bag.{bag, one}
+use Rattle.commons.specs.declared.limits.Limits.{Limits}
+use Rattle.commons.specs.declared.packet.Seg.{Seg}
+use Rattle.commons.specs.declared.refusal.Refusal.{Refusal}
+use Rattle.commons.proofs.Bags.{bag-nil, bag-single, bag-of_one, one-same}
+use Rattle.commons.proofs.Places.{one-apart}
+use Rattle.commons.proofs.Opening.{bag-range_in, bag-range_high}
+use Rattle.script.specs.declared.commands.Command.{Command}
+use Rattle.script.specs.declared.commands.Command.TheVariants as command
+use Rattle.script.specs.declared.commands.Line.{Line}
+use Rattle.script.specs.declared.replies.Act.{Act}
+use Rattle.script.specs.declared.replies.Act.TheVariants.{Alloc, Free}
+use Rattle.script.specs.Pool.{Stack, Member, Pool, holds_in_slot, held_in, held_by, member_at, with_member, nobody, new_members, new_pool, slots}
+use Rattle.script.specs.CacheModel.{get}
+use Rattle.script.specs.PacketModel.{fresh_seg, free_slot, fill_slot, alloc_in, freed_nothing, free_in, without_packet, held_elsewhere, act_on, perform}
+use Rattle.script.specs.Replay.{Run, free_as, obey, end_of}
+use Rattle.script.proofs.CacheBags.{IsGot, get-IsGot}
+use Rattle.script.proofs.HeldBags.{end_holds-bag, held_in-set, held_by-set, cached_by, cached_by-set, IsBalanced}
+
+-- an element of the pool counts once
+pub at_most_one : (i n : ℕ) → ◌≤◌ (cond (nat_lt i n) 1 0) 1
+at_most_one i n = grind (arith, nat_tests)
+
+-- how often an element is in a member's cache, in the common list, and held there or by this many others
+abbrev near : ℕ → Member → Stack → ℕ → ℕ
+near others m s i = bag m.cache i + bag s.common i + min 1 (others + held_in m.table i)
+
+-- a test for None that passes
+is_none-true : {X : Type 0} (o : Option X) → is_none o ≡ true → o ≡ None
+is_none-true None h = refl
+is_none-true (Some x) h = cc
+
+-- a free slot is in the table, and nothing is in it
+free_slot-is : (table : List (Option (List Seg))) (slot : ℕ) → free_slot table ≡ Some slot → (slot < length table) × (get_or table slot None ≡ None)
+free_slot-is table slot h = let k = position-Some is_none table slot None h in (k.0, is_none-true (get_or table slot None) k.1)
+
+-- a packet of a fresh element, added to a table that holds the others
+add_hold : (x i a b c d others : ℕ) (f : ℕ → ℕ) → one x i + (a + b) ≡ c + d → c + d + min 1 (others + f i) ≤ 1 → a + b + min 1 (others + (f i + one x i)) ≡ c + d + min 1 (others + f i)
+add_hold x i a b c d others f h k = elim (cases_eq x i) [
+  | inl q ↦ let w : one x i ≡ 1 = rw q (one-same i) in omega arith
+  | inr q ↦ let w = one-apart x i (λ p. q (sym p)) in omega arith
+]
+
+-- making a packet moves its element from the cache or the common list
+fill_slot-near : (slot : ℕ) (m : Member) (s : Stack) (r : Result (List ℕ) Refusal × List ℕ × Stack) → slot < length m.table → get_or m.table slot None ≡ None →
+    IsGot 1 m.cache s r → (others i : ℕ) → near others m s i ≤ 1 → near others (fill_slot slot m r).1 (fill_slot slot m r).2 i ≡ near others m s i
+fill_slot-near slot m s (Ok [], cache, t) h e g others i k = absurd (omega (arith, g.long))
+fill_slot-near slot m s (Ok (x ∷ xs), cache, t) h e g others i k =
+    let a : bag (x ∷ xs) i ≡ one x i = bag-of_one (x ∷ xs) i g.long in
+    let b = held_in-set m.table slot (Some (fresh_seg m.limits x ∷ [])) i h in
+    let c : bag (holds_in_slot (get_or m.table slot None)) i ≡ 0 = rw e (bag-nil i) in
+    let d : held_in (set m.table slot (Some (fresh_seg m.limits x ∷ []))) i ≡ held_in m.table i + one x i = omega (arith, b, c, bag-single x i) in
+    rw d (add_hold x i (bag cache i) (bag t.common i) (bag m.cache i) (bag s.common i) others (held_in m.table) (omega (arith, a, g.moved i)) k)
+fill_slot-near slot m s (Err cause, cache, t) h e g others i k = omega (arith, g.moved i)
+
+-- so does making one in a free slot, and where there is none nothing changes
+alloc_in-near : (slot : Option ℕ) (m : Member) (s : Stack) → ((n : ℕ) → slot ≡ Some n → (n < length m.table) × (get_or m.table n None ≡ None)) →
+    (others i : ℕ) → near others m s i ≤ 1 → near others (alloc_in slot m s).1 (alloc_in slot m s).2 i ≡ near others m s i
+alloc_in-near None m s h others i k = refl
+alloc_in-near (Some slot) m s h others i k =
+    let empty = h slot refl in
+    fill_slot-near slot m s (get m.limits 1 m.cache s) empty.0 empty.1 (get-IsGot m.limits 1 m.cache s) others i k
+
+-- a slot that has something is in the table
+slot_below : (table : List (Option (List Seg))) (slot : ℕ) (segs : List Seg) → get_or table slot None ≡ Some segs → slot < length table
+slot_below table slot segs e = elim (cases_lt slot (length table)) [
+  | inl h ↦ h
+  | inr h ↦ absurd (none-some segs (sym (get_or_past table slot None h) ∙ e))
+]
+
+-- freeing a packet moves its elements to the cache or the common list, but those that are held elsewhere
+free_in-near : (content : Option (List Seg)) (elsewhere : ℕ → ℕ) (slot : ℕ) (m : Member) (s : Stack) → get_or m.table slot None ≡ content → (others i : ℕ) →
+    (slot < length m.table → elsewhere i ≡ others + held_in (set m.table slot None) i) →
+    near others (free_in content elsewhere slot m s).1 (free_in content elsewhere slot m s).2 i ≡ near others m s i
+free_in-near None elsewhere slot m s e others i h = refl
+free_in-near (Some segs) elsewhere slot m s e others i h =
+    let l = slot_below m.table slot segs e in
+    let b = held_in-set m.table slot None i l in
+    let c : bag (holds_in_slot (get_or m.table slot None)) i ≡ bag (holds_in_slot (Some segs)) i = ap (λ (o : Option (List Seg)). bag (holds_in_slot o) i) e in
+    let d : held_in (set m.table slot None) i + bag (holds_in_slot (Some segs)) i ≡ held_in m.table i = omega (arith, b, c, bag-nil i) in
+    let k : others + held_in m.table i ≡ elsewhere i + bag (holds_in_slot (Some segs)) i = omega (arith, h l, d) in
+    let f = end_holds-bag m.limits elsewhere (holds_in_slot (Some segs)) (freed_nothing, m.cache, s) i in
+    rw (k, ← (h l)) f
+
+-- how often the other members' packets hold an element
+abbrev by_others : List Member → ℕ → Member → ℕ → ℕ
+by_others members n d i = held_by members i - held_in (get_or members n d).table i
+
+-- the other members' holds and this one's are all
+by_others-add : (members : List Member) (n : ℕ) (d : Member) (i : ℕ) → n < length members →
+    by_others members n d i + held_in (get_or members n d).table i ≡ held_by members i
+by_others-add members n d i h = omega (arith, get_or-le-sum_by (λ (m : Member). held_in m.table i) members n d h)
+
+-- a member and the stack change so that each element stays in one place
+with_member-balanced : (pool : Pool) (n : ℕ) (m : Member) (s : Stack) → IsBalanced pool → n < length pool.members →
+    ((i : ℕ) → near (by_others pool.members n (nobody pool.limits) i) (member_at pool n) pool.stack i ≤ 1 →
+    near (by_others pool.members n (nobody pool.limits) i) m s i ≡ near (by_others pool.members n (nobody pool.limits) i) (member_at pool n) pool.stack i) →
+    IsBalanced (with_member pool n m s)
+with_member-balanced pool n m s b h same = record {
+  placed = λ i.
+      let a = by_others-add pool.members n (nobody pool.limits) i h in
+      let c = held_by-set pool.members n m (nobody pool.limits) i h in
+      let d = cached_by-set pool.members n m (nobody pool.limits) i h in
+      let e : held_by (set pool.members n m) i ≡ by_others pool.members n (nobody pool.limits) i + held_in m.table i = omega (arith, a, c) in
+      let f : bag (member_at pool n).cache i ≤ cached_by pool.members i = get_or-le-sum_by (λ (m : Member). bag m.cache i) pool.members n (nobody pool.limits) h in
+      let p : bag pool.stack.common i + cached_by pool.members i + min 1 (by_others pool.members n (nobody pool.limits) i + held_in (member_at pool n).table i) ≡ cond (nat_lt i pool.limits.population) 1 0 = rw a (b.placed i) in
+      rw e (omega (arith, d, f, p, at_most_one i pool.limits.population, same i (omega (arith, f, p, at_most_one i pool.limits.population))));
+}
+
+-- what a worker does keeps each element in one place
+act_on-balanced : (pool : Pool) (n : ℕ) (act : Act) → IsBalanced pool → n < length pool.members →
+    IsBalanced (with_member pool n (act_on pool n act).1 (act_on pool n act).2)
+act_on-balanced pool n Alloc b h = with_member-balanced pool n (act_on pool n Alloc).1 (act_on pool n Alloc).2 b h
+    (λ i. alloc_in-near (free_slot (member_at pool n).table) (member_at pool n) pool.stack (free_slot-is (member_at pool n).table) (by_others pool.members n (nobody pool.limits) i) i)
+act_on-balanced pool n (Free slot) b h = with_member-balanced pool n (act_on pool n (Free slot)).1 (act_on pool n (Free slot)).2 b h
+    (λ i k. free_in-near (get_or (member_at pool n).table slot None) (held_elsewhere pool n slot) slot (member_at pool n) pool.stack refl
+    (by_others pool.members n (nobody pool.limits) i) i (λ l. omega (
+      arith,
+      by_others-add pool.members n (nobody pool.limits) i h,
+      held_by-set pool.members n (without_packet slot (member_at pool n)) (nobody pool.limits) i h,
+    )))
+
+-- and so does what a worker outside the pool is asked to do, which is nothing
+perform-balanced : (pool : Pool) (w : ℕ) (act : Act) → IsBalanced pool → IsBalanced (perform pool w act).1
+perform-balanced pool w act b = elim (cases_Bool (nat_le 1 w && nat_le w (length pool.members))) [
+  | inl e ↦ rw e (let k = and_parts (nat_le 1 w) (nat_le w (length pool.members)) e in
+      act_on-balanced pool (w - 1) act b (omega (arith, leb-true 1 w k.0, leb-true w (length pool.members) k.1)))
+  | inr e ↦ rw e b
+]
+
+-- a free by name keeps each element in one place, also where the name stands for none
+free_as-balanced : (slot : Option ℕ) (worker : ℕ) (name : List ℕ) (run : Run) → IsBalanced run.pool → IsBalanced (free_as slot worker name run).1.pool
+free_as-balanced None worker name run b = b
+free_as-balanced (Some slot) worker name run b = perform-balanced run.pool worker (Free slot) b
+
+-- each command keeps each element in one place
+obey-balanced : (worker : ℕ) (c : Command) (run : Run) → IsBalanced run.pool → IsBalanced (obey worker c run).1.pool
+obey-balanced worker (command.Alloc name) run b = perform-balanced run.pool worker Alloc b
+obey-balanced worker (command.Free name) run b = free_as-balanced (run.stands worker name) worker name run b
+
+-- all lines keep each element in one place
+pub end_of-balanced : (lines : List Line) (run : Run) → IsBalanced run.pool → IsBalanced (end_of lines run).pool
+end_of-balanced [] run b = b
+end_of-balanced (line ∷ lines) run b = end_of-balanced lines (obey line.worker line.command run).1 (obey-balanced line.worker line.command run b)
+
+-- an empty table holds nothing
+held_in-empty : (n i : ℕ) → held_in (replicate n None) i ≡ 0
+held_in-empty n i =
+    let f = λ (slot : Option (List Seg)). bag (holds_in_slot slot) i in
+    sum_by-replicate f n None ∙ rw (bag-nil i) (omega arith)
+
+-- new members hold nothing
+held_by-new : (l : Limits) (number n i : ℕ) → held_by (new_members l number n) i ≡ 0
+held_by-new l number zero i = refl
+held_by-new l number (suc n) i =
+    let m : Member = record { limits = l; number = number; cache = []; table = replicate slots None } in
+    sum_by-cons (λ (m : Member). held_in m.table i) m (new_members l (number + 1) n) ∙ omega (arith, held_in-empty slots i, held_by-new l (number + 1) n i)
+
+-- nor do they cache anything
+cached_by-new : (l : Limits) (number n i : ℕ) → cached_by (new_members l number n) i ≡ 0
+cached_by-new l number zero i = refl
+cached_by-new l number (suc n) i =
+    let m : Member = record { limits = l; number = number; cache = []; table = replicate slots None } in
+    sum_by-cons (λ (m : Member). bag m.cache i) m (new_members l (number + 1) n) ∙ omega (arith, bag-nil i, cached_by-new l (number + 1) n i)
+
+-- the numbers below n
+pub range-bag : (n i : ℕ) → bag (range_with_len 0 n) i ≡ cond (nat_lt i n) 1 0
+range-bag n i = elim (cases_lt i n) [
+  | inl h ↦ let k = bag-range_in 0 n i (omega arith) (omega arith) in grind (arith, nat_tests)
+  | inr h ↦ let k = bag-range_high 0 n i (omega arith) in grind (arith, nat_tests)
+]
+
+-- in a new pool each element is in the common list
+pub new_pool-balanced : (l : Limits) → IsBalanced (new_pool l)
+new_pool-balanced l = record { placed = λ i. rw (held_by-new l 1 l.workers i, cached_by-new l 1 l.workers i) (omega (arith, range-bag l.population i)) }

@@ -1,0 +1,215 @@
+-- The statement of a pool in the reference model lists each element exactly once.
+use Rattle.std.proofs.Common.{ℕ, zero, suc, ◌≡◌, ◌+◌, ◌<◌, ◌≤◌, inl, inr, nat_lt, Bool, true, false, cond, List, [], ◌∷◌, ◌++◌, length, length-append, get_or, map, replicate, filter, Option, Some, None, refl, sym, ◌∙◌, ap, arith}
+use Rattle.std.specs.Prelude.{min, sum_by, flat_map}
+use Rattle.std.specs.List.{range_with_len}
+use Rattle.std.specs.List.Sorted.{IsStrictlyIncreasing}
+use Rattle.std.proofs.lemmas.List.{length-map, length-replicate}
+use Rattle.std.proofs.lemmas.List.Concat.{length-flat_map}
+use Rattle.std.proofs.lemmas.List.Elements.{All-map, filter_passes}
+use Rattle.std.proofs.lemmas.List.FromFn.{length-range_with_len, get_or-range_with_len}
+use Rattle.std.proofs.lemmas.List.Kept.{IsStrictlyIncreasing-filter}
+use Rattle.std.proofs.lemmas.List.Sums.{sum_by-cons, sum_by-append}
+use Rattle.std.proofs.lemmas.Bool.{cases_Bool, ltb-true, ltb-false, lt-ltb, le-ltb, cond-true, cond-false, true≢false}
+use Rattle.std.proofs.lemmas.Bool.Decides.{nat_tests}
+use Rattle.commons.specs.Bag.{bag, one}
+use Rattle.commons.specs.Bounds.{IsPool}
+use Rattle.commons.specs.declared.limits.Limits.{Limits}
+use Rattle.commons.specs.declared.packet.Seg.{Seg}
+use Rattle.commons.proofs.Bags.{bag-nil, bag-cons, bag-append, bag-head}
+use Rattle.commons.proofs.Places.{one-apart}
+use Rattle.script.specs.declared.commands.Line.{Line}
+use Rattle.script.specs.declared.statement.PlacedPacket.{PlacedPacket}
+use Rattle.script.specs.declared.statement.Held.{Held}
+use Rattle.script.specs.declared.statement.Holder.{Holder}
+use Rattle.script.specs.declared.statement.Holder.TheVariants.{Worker}
+use Rattle.script.specs.Pool.{Member, Pool, holds_of_packet, holds_in_slot, held_in, held_by}
+use Rattle.script.specs.Replay.{new_run, end_of}
+use Rattle.script.specs.Statements.{packets_from, packets_of, holders_of, held_entry, held_elements, statement_of, listed, packet_holds, ListsEachOnce}
+use Rattle.script.proofs.HeldBags.{IsBalanced}
+use Rattle.script.proofs.Balance.{at_most_one, range-bag, end_of-balanced, new_pool-balanced}
+
+-- the elements of the entries
+elems-entries : (members : List Member) (xs : List ℕ) → map (λ (held : Held). held.elem) (map (held_entry members) xs) ≡ xs
+elems-entries members [] = refl
+elems-entries members (x ∷ xs) = ap (λ (ys : List ℕ). x ∷ ys) (elems-entries members xs)
+
+-- a sum over what is made of each element
+sum_by-map : {X Y : Type 0} (f : Y → ℕ) (g : X → Y) (xs : List X) → sum_by f (map g xs) ≡ sum_by (λ x. f (g x)) xs
+sum_by-map f g [] = refl
+sum_by-map f g (x ∷ xs) = omega (arith, sum_by-cons f (g x) (map g xs), sum_by-cons (λ x. f (g x)) x xs, sum_by-map f g xs)
+
+-- an element that passes is kept as often as it is there
+bag-filter_yes : (p : ℕ → Bool) (xs : List ℕ) (i : ℕ) → p i ≡ true → bag (filter p xs) i ≡ bag xs i
+bag-filter_yes p [] i h = refl
+bag-filter_yes p (x ∷ xs) i h = elim (cases_Bool (p x)) [
+  | inl e ↦ rw e (omega (arith, bag-cons x (filter p xs) i, bag-cons x xs i, bag-filter_yes p xs i h))
+  | inr e ↦ rw e (omega (arith, bag-cons x xs i, bag-filter_yes p xs i h, one-apart x i (λ q. true≢false (sym h ∙ ap p q ∙ e))))
+]
+
+-- one that does not pass is not kept
+bag-filter_no : (p : ℕ → Bool) (xs : List ℕ) (i : ℕ) → p i ≡ false → bag (filter p xs) i ≡ 0
+bag-filter_no p [] i h = bag-nil i
+bag-filter_no p (x ∷ xs) i h = elim (cases_Bool (p x)) [
+  | inl e ↦ rw e (omega (arith, bag-cons x (filter p xs) i, bag-filter_no p xs i h, one-apart x i (λ q. true≢false (sym e ∙ ap p (sym q) ∙ h))))
+  | inr e ↦ rw e (bag-filter_no p xs i h)
+]
+
+-- where an element is placed once, one that is held is among the population's as often as it is held at all
+held_once : (b h i n others : ℕ) → 0 < h → b ≡ cond (nat_lt i n) 1 0 → others + min 1 h ≡ cond (nat_lt i n) 1 0 → b ≡ min 1 h
+held_once b h i n others p q r = omega (arith, at_most_one i n)
+
+-- a held element is listed once among the held, and no other is
+held_elements-bag : (pool : Pool) → IsBalanced pool → (i : ℕ) → bag (held_elements pool) i ≡ min 1 (held_by pool.members i)
+held_elements-bag pool b i =
+    let p = λ (i : ℕ). nat_lt 0 (held_by pool.members i) in
+    elim (cases_Bool (nat_lt 0 (held_by pool.members i))) [
+      | inl e ↦ held_once (bag (held_elements pool) i) (held_by pool.members i) i pool.limits.population _ (ltb-true 0 (held_by pool.members i) e)
+          (bag-filter_yes p (range_with_len 0 pool.limits.population) i e ∙ range-bag pool.limits.population i) (b.placed i)
+      | inr e ↦ omega (arith, bag-filter_no p (range_with_len 0 pool.limits.population) i e, ltb-false 0 (held_by pool.members i) e)
+    ]
+
+-- an element of a pool is in the common list, in a cache or held
+placed_once : (pool : Pool) → IsBalanced pool → (i : ℕ) → listed (statement_of pool) i ≡ cond (nat_lt i pool.limits.population) 1 0
+placed_once pool b i =
+    rw elems-entries (omega (arith, held_elements-bag pool b i, b.placed i, sum_by-map (λ (cache : List ℕ). bag cache i) (λ (m : Member). m.cache) pool.members))
+
+-- how many of a list are below n
+below : ℕ → List ℕ → ℕ
+below n [] = 0
+below n (x ∷ xs) = cond (nat_lt x n) 1 0 + below n xs
+
+-- no number is below 0
+below-first : (x : ℕ) → ◌≡◌ {A = ℕ} (cond (nat_lt x 0) 1 0) 0
+below-first x = grind (arith, nat_tests)
+
+-- none of a list is below 0
+below-zero : (xs : List ℕ) → below 0 xs ≡ 0
+unfolding below
+below-zero [] = refl
+below-zero (x ∷ xs) = omega (arith, below-zero xs, below-first x)
+
+-- a number below n + 1 is below n or is n
+below-step : (n x : ℕ) → cond (nat_lt x (suc n)) 1 0 ≡ cond (nat_lt x n) 1 0 + one x n
+below-step n x = grind (arith, nat_tests)
+
+-- those below n + 1 are those below n and those that are n
+below-suc : (n : ℕ) (xs : List ℕ) → below (suc n) xs ≡ below n xs + bag xs n
+unfolding below
+below-suc n [] = omega (arith, bag-nil n)
+below-suc n (x ∷ xs) = omega (arith, below-suc n xs, bag-cons x xs n, below-step n x)
+
+-- each number below n is there once
+below-each : (n : ℕ) (xs : List ℕ) → ((i : ℕ) → i < n → bag xs i ≡ 1) → below n xs ≡ n
+below-each zero xs h = below-zero xs
+below-each (suc n) xs h = omega (arith, below-suc n xs, h n (omega arith), below-each n xs (λ i l. h i (omega arith)))
+
+-- what is there is below n, where nothing from n on is
+below-head : (n x b : ℕ) → (n ≤ x → b ≡ 0) → 0 < b → ◌≡◌ {A = ℕ} (cond (nat_lt x n) 1 0) 1
+below-head n x b h p = grind (arith, nat_tests)
+
+-- all are below n
+below-all : (n : ℕ) (xs : List ℕ) → ((i : ℕ) → n ≤ i → bag xs i ≡ 0) → below n xs ≡ length xs
+unfolding below
+below-all n [] h = refl
+below-all n (x ∷ xs) h =
+    omega (arith, below-all n xs (λ i p. omega (arith, h i p, bag-cons x xs i)), below-head n x (bag (x ∷ xs) x) (h x) (bag-head x xs))
+
+-- a list of each number below n once, and of no other, has the length n
+length-each : (n : ℕ) (xs : List ℕ) → ((i : ℕ) → bag xs i ≡ cond (nat_lt i n) 1 0) → length xs ≡ n
+length-each n xs h =
+    omega (arith, below-each n xs (λ i l. h i ∙ cond-true (nat_lt i n) 1 0 (lt-ltb i n l)), below-all n xs (λ i l. h i ∙ cond-false (nat_lt i n) 1 0 (le-ltb i n l)))
+
+-- the bag of lists end to end
+bag-flat_map : {X : Type 0} (f : X → List ℕ) (xs : List X) (i : ℕ) → bag (flat_map f xs) i ≡ sum_by (λ x. bag (f x) i) xs
+bag-flat_map f [] i = bag-nil i
+bag-flat_map f (x ∷ xs) i = omega (arith, bag-append (f x) (flat_map f xs) i, bag-flat_map f xs i, sum_by-cons (λ x. bag (f x) i) x xs)
+
+-- what is available and what is in use are the population
+whole_pool : (pool : Pool) → IsBalanced pool →
+    length pool.stack.common + sum_by (λ member. length member.cache) pool.members + length (held_elements pool) ≡ pool.limits.population
+whole_pool pool b =
+    let caches = flat_map (λ (m : Member). m.cache) pool.members in
+    let n = length-each pool.limits.population (pool.stack.common ++ (caches ++ held_elements pool)) (λ i. omega (
+      arith,
+      bag-append pool.stack.common (caches ++ held_elements pool) i,
+      bag-append caches (held_elements pool) i,
+      bag-flat_map (λ (m : Member). m.cache) pool.members i,
+      held_elements-bag pool b i,
+      b.placed i,
+    )) in
+    omega (
+      arith,
+      n,
+      length-append pool.stack.common (caches ++ held_elements pool),
+      length-append caches (held_elements pool),
+      length-flat_map (λ (m : Member). m.cache) pool.members,
+    )
+
+-- an element has a holder for each hold
+length-holders : (members : List Member) (i : ℕ) → length (holders_of members i) ≡ held_by members i
+length-holders [] i = refl
+length-holders (m ∷ members) i =
+    let copies : List Holder = replicate (held_in m.table i) (Worker m.number) in
+    omega (
+      arith,
+      length-append copies (holders_of members i),
+      length-replicate (held_in m.table i) (Worker m.number),
+      length-holders members i,
+      sum_by-cons (λ (m : Member). held_in m.table i) m members,
+    )
+
+-- the holds of a table are those of its packets
+packets_from-holds : (worker slot : ℕ) (table : List (Option (List Seg))) (i : ℕ) →
+    sum_by (λ (placed : PlacedPacket). bag (holds_of_packet placed.segs) i) (packets_from worker slot table) ≡ held_in table i
+packets_from-holds worker slot [] i = refl
+packets_from-holds worker slot (None ∷ table) i =
+    omega (arith, packets_from-holds worker (slot + 1) table i, sum_by-cons (λ (s : Option (List Seg)). bag (holds_in_slot s) i) None table, bag-nil i)
+packets_from-holds worker slot (Some segs ∷ table) i =
+    let packet : PlacedPacket = record { worker = worker; slot = slot; segs = segs } in
+    omega (
+      arith,
+      packets_from-holds worker (slot + 1) table i,
+      sum_by-cons (λ (s : Option (List Seg)). bag (holds_in_slot s) i) (Some segs) table,
+      sum_by-cons (λ (placed : PlacedPacket). bag (holds_of_packet placed.segs) i) packet (packets_from worker (slot + 1) table),
+    )
+
+-- and so are those of all tables
+packets-holds : (members : List Member) (i : ℕ) →
+    sum_by (λ (placed : PlacedPacket). bag (holds_of_packet placed.segs) i) (flat_map packets_of members) ≡ held_by members i
+packets-holds [] i = refl
+packets-holds (m ∷ members) i =
+    omega (
+      arith,
+      sum_by-append (λ (placed : PlacedPacket). bag (holds_of_packet placed.segs) i) (packets_of m) (flat_map packets_of members),
+      packets_from-holds m.number 0 m.table i,
+      packets-holds members i,
+      sum_by-cons (λ (m : Member). held_in m.table i) m members,
+    )
+
+-- numbers in a row rise
+range-rises : (n : ℕ) → IsStrictlyIncreasing (range_with_len 0 n)
+range-rises n k h =
+    let l : k + 1 < n = omega (arith, length-range_with_len 0 n) in
+    omega (arith, get_or-range_with_len 0 n k 0 (omega arith), get_or-range_with_len 0 n (k + 1) 0 l)
+
+-- where each element is in one place, the statement lists it once
+pub lists_each_once : (pool : Pool) → IsBalanced pool → ListsEachOnce (statement_of pool)
+lists_each_once pool b =
+    let test = λ (i : ℕ). nat_lt 0 (held_by pool.members i) in record {
+      once = λ i l. placed_once pool b i ∙ cond-true (nat_lt i pool.limits.population) 1 0 (lt-ltb i pool.limits.population l);
+      none_else = λ i l. placed_once pool b i ∙ cond-false (nat_lt i pool.limits.population) 1 0 (le-ltb i pool.limits.population l);
+      whole = whole_pool pool b;
+      available = omega (arith, sum_by-map (λ (cache : List ℕ). length cache) (λ (m : Member). m.cache) pool.members);
+      in_use = sym (length-map (held_elements pool) (held_entry pool.members));
+      ascending = rw elems-entries (IsStrictlyIncreasing-filter test (range_with_len 0 pool.limits.population) (range-rises pool.limits.population));
+      held = All-map (λ (held : Held). 1 ≤ held.count) (held_entry pool.members) (held_elements pool)
+          (λ k d h. ltb-true 0 (held_by pool.members (get_or (held_elements pool) k d)) (filter_passes test (range_with_len 0 pool.limits.population) k d h));
+      holders = All-map (λ (held : Held). length held.holders ≡ held.count) (held_entry pool.members) (held_elements pool)
+          (λ k d h. length-holders pool.members (get_or (held_elements pool) k d));
+      counts = All-map (λ (held : Held). held.count ≡ packet_holds (statement_of pool) held.elem) (held_entry pool.members) (held_elements pool)
+          (λ k d h. omega (arith, packets-holds pool.members (get_or (held_elements pool) k d)));
+    }
+
+-- after any commands a new pool's statement lists each element exactly once
+pub replay_lists_each_once : (l : Limits) → IsPool l → (lines : List Line) → ListsEachOnce (statement_of (end_of lines (new_run l)).pool)
+replay_lists_each_once l p lines = lists_each_once (end_of lines (new_run l)).pool (end_of-balanced lines (new_run l) (new_pool-balanced l))

@@ -1,0 +1,7 @@
+use Rattle.std.proofs.Common.{◌≡◌, ◌++◌, take}
+use Rattle.script.specs.StatementText.{holder_text, joined}
+use Rattle.script.proofs.texts.held.write_joined.Given as goal
+
+abbrev pub invariant-loop-holder : goal.invariant-loop-holder
+invariant-loop-holder l =
+    l.out.items ≡ l.fn.out.items ++ joined holder_text (take l.holder-index l.holders)

@@ -1,0 +1,7 @@
+use Rattle.std.proofs.Common.{◌≡◌, ◌++◌, take}
+use Rattle.script.specs.StatementText.{joined, segment_text}
+use Rattle.script.proofs.texts.segments.write_joined.Given as goal
+
+abbrev pub invariant-loop-seg : goal.invariant-loop-seg
+invariant-loop-seg l =
+    l.out.items ≡ l.fn.out.items ++ joined segment_text (take l.seg-index l.segs)

@@ -1,0 +1,20 @@
+-- All that the replay of a script prints.
+use Rattle.std.specs.Prelude.{ℕ, ◌≡◌, List, ◌++◌, flat_map}
+use Rattle.commons.specs.declared.limits.Limits.{Limits}
+use Rattle.script.specs.declared.commands.Line.{Line}
+use Rattle.script.specs.Grammar.{IsScript}
+use Rattle.script.specs.Replay.{replies_to, end_of, new_run}
+use Rattle.script.specs.ReplyText.{reply_line}
+use Rattle.script.specs.StatementText.{text_of}
+use Rattle.script.specs.Statements.{statement_of}
+
+-- the reference model's reply to each line, and the statement of its end
+abbrev pub printed_for : Limits → List Line → List ℕ
+printed_for limits lines = flat_map (λ p. reply_line p.0 p.1) (replies_to lines (new_run limits)) ++ text_of (statement_of (end_of lines (new_run limits)).pool)
+
+-- the bytes are a script, and this is printed for it
+pub record IsPrintedFor (bytes out : List ℕ) : Type 0 where
+  pub limits : Limits
+  pub lines : List Line
+  pub script : IsScript bytes limits lines
+  pub printed : out ≡ printed_for limits lines

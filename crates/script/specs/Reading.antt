@@ -1,0 +1,284 @@
+-- How a script is read, as functions on lists, for the crate's own functions. No public clause cites this module.
+use Rattle.std.specs.Prelude.{ℕ, ◌+◌, ◌-◌, ◌*◌, ◌/◌, ◌^◌, max, Bool, true, false, ◌&&◌, ◌||◌, if◌then◌else◌, ◌==◌, nat_le, nat_lt, List, [], ◌∷◌, ◌++◌, length, Option, Some, None, is_some, option_and_then, Result, Ok, Err, unwrap_or, codes}
+use Rattle.std.specs.List.{list_all}
+use Rattle.std.specs.Str.{bytes_eq}
+use Rattle.commons.specs.declared.limits.Limits.{Limits}
+use Rattle.commons.specs.declared.refusal.Refusal.{Refusal}
+use Rattle.commons.specs.declared.refusal.Refusal.TheVariants.{BadPool, ScriptFault}
+use Rattle.script.specs.declared.commands.Command.{Command}
+use Rattle.script.specs.declared.commands.Command.TheVariants.{Alloc, Free}
+use Rattle.script.specs.declared.commands.Line.{Line}
+use Rattle.script.specs.declared.command_line.Verb.{Verb}
+use Rattle.script.specs.declared.command_line.Verb.TheVariants as verbs
+use Rattle.script.specs.declared.pool_line.Key.{Key}
+use Rattle.script.specs.declared.pool_line.Key.TheVariants.{Buf, Tries, Start}
+use Rattle.script.specs.declared.pool_line.Settings.{Settings}
+use Rattle.script.specs.Numbers.{decimal}
+use Rattle.script.specs.Grammar.{State, start}
+
+-- ---- lines
+
+-- the lines of a text, and the bytes behind the last line end
+pub record Parts : Type 0 where
+  pub lines : List (List ℕ)
+  pub rest : List ℕ
+
+-- one byte more in front, which ends no line
+abbrev pub grown : ℕ → List (List ℕ) → List ℕ → Parts
+grown byte [] rest = record { lines = []; rest = byte ∷ rest }
+grown byte (line ∷ lines) rest = record { lines = (byte ∷ line) ∷ lines; rest = rest }
+
+-- the lines of a text and its rest, from the front on
+unfoldable pub parts : List ℕ → Parts
+parts [] = record { lines = []; rest = [] }
+parts (byte ∷ bytes) =
+    if byte == 10 then record { lines = [] ∷ (parts bytes).lines; rest = (parts bytes).rest } else grown byte (parts bytes).lines (parts bytes).rest
+
+-- whether a byte is a space or a character that is printed
+abbrev pub is_printed : ℕ → Bool
+is_printed byte = nat_le 32 byte && nat_le byte 126
+
+-- whether a line isn't too long, and has no other bytes than those
+abbrev pub is_plain : List ℕ → Bool
+is_plain line = nat_le (length line) 8192 && list_all is_printed line
+
+-- ---- words
+
+-- one byte more at the front of the first word
+abbrev pub on_first : ℕ → List (List ℕ) → List (List ℕ)
+on_first byte [] = (byte ∷ []) ∷ []
+on_first byte (word ∷ words) = (byte ∷ word) ∷ words
+
+-- a byte of a word, before bytes that have these words
+abbrev pub in_word : ℕ → List ℕ → List (List ℕ) → List (List ℕ)
+in_word byte [] words = (byte ∷ []) ∷ words
+in_word byte (next ∷ bytes) words = if next == 32 then (byte ∷ []) ∷ words else on_first byte words
+
+-- the words of a line
+unfoldable pub words_of : List ℕ → List (List ℕ)
+words_of [] = []
+words_of (byte ∷ bytes) = if byte == 32 then words_of bytes else in_word byte bytes (words_of bytes)
+
+-- whether the first byte is `#`
+abbrev pub is_marked : List ℕ → Bool
+is_marked [] = false
+is_marked (byte ∷ bytes) = byte == 35
+
+-- whether a line with these words is skipped
+abbrev pub is_skipped : List (List ℕ) → Bool
+is_skipped [] = true
+is_skipped (word ∷ words) = is_marked word
+
+-- ---- numbers and names
+
+-- whether a byte is `0` to `9`
+abbrev pub is_digit : ℕ → Bool
+is_digit byte = nat_le 48 byte && nat_le byte 57
+
+-- whether a word is 1 to 20 digits with a value below 2^64
+abbrev pub is_number : List ℕ → Bool
+is_number word =
+    nat_le 1 (length word) && nat_le (length word) 20 && list_all is_digit word && nat_lt (decimal word) (2 ^ 64)
+
+-- the number that a word spells
+unfoldable pub number_at : List ℕ → Option ℕ
+number_at word = if is_number word then Some (decimal word) else None
+
+-- whether a byte is `a` to `z`
+abbrev pub is_letter : ℕ → Bool
+is_letter byte = nat_le 97 byte && nat_le byte 122
+
+-- whether the first byte is a letter
+abbrev pub begins_with_letter : List ℕ → Bool
+begins_with_letter [] = false
+begins_with_letter (byte ∷ bytes) = is_letter byte
+
+-- whether a word is 1 to 16 letters and digits, and begins with a letter
+unfoldable pub is_name_word : List ℕ → Bool
+is_name_word word =
+    begins_with_letter word && nat_le (length word) 16 && list_all (λ byte. is_letter byte || is_digit byte) word
+
+-- ---- the pool line
+
+-- the key that a word spells
+abbrev pub key_at : List ℕ → Option Key
+key_at word =
+    if bytes_eq word (codes "buf") then Some Buf else if bytes_eq word (codes "tries") then Some Tries else if bytes_eq word (codes "start") then Some Start else None
+
+-- the value that a key was given
+abbrev pub value_of : Settings → Key → Option ℕ
+value_of settings Buf = settings.buf
+value_of settings Tries = settings.tries
+value_of settings Start = settings.start
+
+-- the settings with this value of the key
+abbrev pub with_value : Settings → Key → ℕ → Settings
+with_value settings Buf value = record settings { buf = Some value }
+with_value settings Tries value = record settings { tries = Some value }
+with_value settings Start value = record settings { start = Some value }
+
+-- no key was given a value
+abbrev pub none_given : Settings
+none_given = record { buf = None; tries = None; start = None }
+
+-- a new value of a key
+abbrev pub add_value : Settings → Key → ℕ → Option Settings
+add_value settings key value = if is_some (value_of settings key) then None else Some (with_value settings key value)
+
+-- the settings once a key's word and its number's are read
+abbrev pub add_pair : Settings → List ℕ → List ℕ → Option Settings
+add_pair settings key number =
+    option_and_then (λ k. option_and_then (λ value. add_value settings k value) (number_at number)) (key_at key)
+
+-- the settings once all words are read, a pair after a pair
+unfoldable pub settings_from : Settings → List (List ℕ) → Option Settings
+settings_from settings [] = Some settings
+settings_from settings (key ∷ []) = None
+settings_from settings (key ∷ number ∷ words) =
+    option_and_then (λ more. settings_from more words) (add_pair settings key number)
+
+-- the limits of a pool of so many elements with these settings
+abbrev pub limits_by : ℕ → Settings → Limits
+limits_by population settings = record {
+  population = population;
+  cache = 0;
+  workers = 1;
+  desks = 0;
+  buf = unwrap_or settings.buf 2048;
+  ref_limit = 65535;
+  tries = unwrap_or settings.tries 64;
+  start_count = unwrap_or settings.start 0;
+}
+
+-- the limits, from the words behind `pool`
+abbrev pub pool_with : List (List ℕ) → Option Limits
+pool_with [] = None
+pool_with (number ∷ words) =
+    option_and_then (λ population. option_and_then (λ settings. Some (limits_by population settings)) (settings_from none_given words)) (number_at number)
+
+-- the limits that the words of a pool line give
+abbrev pub limits_from : List (List ℕ) → Option Limits
+limits_from [] = None
+limits_from (word ∷ words) = if bytes_eq word (codes "pool") then pool_with words else None
+
+-- whether a pool can be made within the limits
+abbrev pub is_pool : Limits → Bool
+is_pool l =
+    nat_le 1 l.population && nat_le l.population 65534 && nat_le l.cache 512 && nat_le (l.cache * 3 / 2) l.population
+    && nat_le 1 l.workers && nat_le l.workers 64 && nat_le l.desks 64 && nat_le l.buf 65535
+    && nat_le 1 l.ref_limit && nat_le l.ref_limit 65535 && nat_le 1 l.tries && nat_le l.tries 1000000
+    && nat_le l.start_count 281474976710655
+
+-- ---- commands
+
+-- the verb that a word spells
+abbrev pub verb_at : List ℕ → Option Verb
+verb_at word =
+    if bytes_eq word (codes "alloc") then Some verbs.Alloc else if bytes_eq word (codes "free") then Some verbs.Free else None
+
+-- the only one of the words, where it is a name
+abbrev pub only_name_of : List (List ℕ) → Option (List ℕ)
+only_name_of [] = None
+only_name_of (word ∷ []) = if is_name_word word then Some word else None
+only_name_of (word ∷ other ∷ words) = None
+
+-- the command of a verb and a name
+abbrev pub command_with : Verb → List ℕ → Command
+command_with verbs.Alloc name = Alloc name
+command_with verbs.Free name = Free name
+
+-- the command, where there are a verb and a name
+abbrev pub command_by : Option Verb → Option (List ℕ) → Option Command
+command_by verb name = option_and_then (λ v. option_and_then (λ n. Some (command_with v n)) name) verb
+
+-- the command that the words of a line are
+abbrev pub command_from : List (List ℕ) → Option Command
+command_from [] = None
+command_from (verb ∷ words) = command_by (verb_at verb) (only_name_of words)
+
+-- whether the command makes the name
+abbrev pub makes : Command → List ℕ → Bool
+makes (Alloc made) name = bytes_eq name made
+makes (Free freed) name = false
+
+-- whether one of the lines makes the worker's name
+abbrev pub is_made : List Line → ℕ → List ℕ → Bool
+is_made [] worker name = false
+is_made (line ∷ lines) worker name = (worker == line.worker && makes line.command name) || is_made lines worker name
+
+-- whether the worker's command makes a name that one of the lines made
+abbrev pub repeats : List Line → ℕ → Command → Bool
+repeats lines worker (Alloc name) = is_made lines worker name
+repeats lines worker (Free name) = false
+
+-- ---- a line, and lines one after another
+
+-- what is told after a pool line with these limits
+abbrev pub with_limits : State → Limits → State
+with_limits state limits = record { limits = Some limits; lines = state.lines }
+
+-- what is told after the command line with this number
+abbrev pub with_line : State → ℕ → Command → State
+with_line state number command = record { limits = state.limits; lines = state.lines ++ record { number = number; worker = 1; command = command } ∷ [] }
+
+-- the same, where the command makes no name that was made before
+abbrev pub add_command : State → ℕ → Command → Option State
+add_command state number command = if repeats state.lines 1 command then None else Some (with_line state number command)
+
+-- what is told after these words, where the limits are told
+abbrev pub read_command : State → ℕ → List (List ℕ) → Option State
+read_command state number words =
+    if nat_lt (length state.lines) 10000 then option_and_then (add_command state number) (command_from words) else None
+
+-- what is told after these words, where no limits are told
+abbrev pub read_pool : State → List (List ℕ) → Option State
+read_pool state words = option_and_then (λ limits. Some (with_limits state limits)) (limits_from words)
+
+-- a line that isn't skipped, by whether the limits are told
+abbrev pub read_words : Option Limits → State → ℕ → List (List ℕ) → Option State
+read_words None state number words = read_pool state words
+read_words (Some limits) state number words = read_command state number words
+
+-- what is told after a line, if it has a reading
+unfoldable pub read_line : State → ℕ → List ℕ → Option State
+read_line state number line =
+    if is_plain line then (if is_skipped (words_of line) then Some state else read_words state.limits state number (words_of line)) else None
+
+-- whether a pool can be made within the limits, if they are told
+abbrev pub are_ready : Option Limits → Bool
+are_ready None = true
+are_ready (Some limits) = is_pool limits
+
+-- a line's reading, or its refusal
+abbrev pub step_with : ℕ → Option State → Result State Refusal
+step_with number None = Err (ScriptFault number)
+step_with number (Some next) = if are_ready next.limits then Ok next else Err BadPool
+
+-- the step of a line: its reading within limits of a pool, or its refusal
+unfoldable pub step : State → ℕ → List ℕ → Result State Refusal
+step state number line = step_with number (read_line state number line)
+
+-- what is told once there is no line left
+abbrev pub finish : Option Limits → State → ℕ → List ℕ → Result State Refusal
+finish limits state number (byte ∷ bytes) = Err (ScriptFault number)
+finish None state number [] = Err (ScriptFault (max 1 (number - 1)))
+finish (Some limits) state number [] = Ok state
+
+-- a further step, unless the one before was refused
+abbrev pub goes_on : Result State Refusal → (State → Result State Refusal) → Result State Refusal
+goes_on (Ok next) f = f next
+goes_on (Err refusal) f = Err refusal
+
+-- what is told after the lines and the rest, the first line having this number
+unfoldable pub read_lines : State → ℕ → List (List ℕ) → List ℕ → Result State Refusal
+read_lines state number [] rest = finish state.limits state number rest
+read_lines state number (line ∷ lines) rest =
+    goes_on (step state number line) (λ next. read_lines next (number + 1) lines rest)
+
+-- what is told after a text, whose first line has this number
+unfoldable pub read_from : State → ℕ → List ℕ → Result State Refusal
+read_from state number bytes = read_lines state number (parts bytes).lines (parts bytes).rest
+
+-- what the bytes of a script are read as
+unfoldable pub read_text : List ℕ → Result State Refusal
+read_text bytes = if nat_lt 1048576 (length bytes) then Err (ScriptFault 0) else read_from start 1 bytes

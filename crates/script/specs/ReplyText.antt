@@ -1,0 +1,29 @@
+-- The line that answers a command.
+use Rattle.std.specs.Prelude.{ℕ, List, [], ◌++◌, Option, Some, None, codes, decimal}
+use Rattle.commons.specs.declared.refusal.Refusal.{Refusal}
+use Rattle.commons.specs.Refusals.{name_of, number_of}
+use Rattle.script.specs.declared.replies.Freed.{Freed}
+use Rattle.script.specs.declared.replies.Reply.{Reply}
+use Rattle.script.specs.declared.replies.Reply.TheVariants as replies
+
+-- the last push that was refused, and why; nothing where none was
+unfoldable pub put_off_text : Option (ℕ × Refusal) → List ℕ
+put_off_text (Some (count, refusal)) = codes " putoff " ++ decimal count ++ codes " " ++ name_of refusal
+put_off_text None = []
+
+-- what freeing did
+unfoldable pub freed_text : Freed → List ℕ
+freed_text freed =
+    codes "ok back " ++ decimal freed.back ++ codes " flushed " ++ decimal freed.flushed
+    ++ put_off_text freed.put_off
+
+-- a reply: the new packet's element, what freeing did, or the refusal's number and name
+unfoldable pub reply_text : Reply → List ℕ
+reply_text (replies.Allocated slot elem) = codes "ok " ++ decimal elem
+reply_text (replies.Freed freed) = freed_text freed
+reply_text (replies.Refused refusal) =
+    codes "refused " ++ decimal (number_of refusal) ++ codes " " ++ name_of refusal
+
+-- the reply to the command of this line
+unfoldable pub reply_line : ℕ → Reply → List ℕ
+reply_line number reply = decimal number ++ codes ": " ++ reply_text reply ++ codes "\n"

@@ -1,0 +1,38 @@
+//! Laws of the grammar of scripts, and of each replay.
+
+ghost use Rattle.std.specs.Prelude.{◌≡◌, ℕ, List};
+ghost use Rattle.commons.specs.Bounds.{IsPool};
+ghost use Rattle.commons.specs.declared.limits.Limits.{Limits};
+ghost use Rattle.script.specs.declared.commands.Line.{Line};
+ghost use Rattle.script.specs.Grammar.{IsScript, IsFirstFault, HasBadPool};
+ghost use Rattle.script.specs.Replay.{new_run, end_of};
+ghost use Rattle.script.specs.Statements.{statement_of, ListsEachOnce};
+
+/// No text is two scripts.
+pub fn one_reading()
+    ensures { (bytes : List ℕ) (limits other_limits : Limits) (lines other_lines : List Line) →
+        IsScript bytes limits lines → IsScript bytes other_limits other_lines →
+        (limits ≡ other_limits) × (lines ≡ other_lines) }
+{}
+
+/// No text has two first faulty lines, and none has both a faulty line and a bad pool.
+pub fn one_fault()
+    ensures line { (bytes : List ℕ) (number other : ℕ) →
+        IsFirstFault bytes number → IsFirstFault bytes other → number ≡ other }
+    ensures pool { (bytes : List ℕ) (number : ℕ) →
+        IsFirstFault bytes number → HasBadPool bytes → ⊥ }
+{}
+
+/// No text with a faulty line or a bad pool is a script.
+pub fn no_faulty_script()
+    ensures line { (bytes : List ℕ) (number : ℕ) (limits : Limits) (lines : List Line) →
+        IsFirstFault bytes number → IsScript bytes limits lines → ⊥ }
+    ensures pool { (bytes : List ℕ) (limits : Limits) (lines : List Line) →
+        HasBadPool bytes → IsScript bytes limits lines → ⊥ }
+{}
+
+/// After any commands a new pool's statement lists each element exactly once, and what is available and what
+/// is in use are the population.
+pub fn each_element_is_listed_once()
+    ensures { (l : Limits) (lines : List Line) → IsPool l → ListsEachOnce (statement_of (end_of lines (new_run l)).pool) }
+{}

@@ -1,0 +1,87 @@
+//! Reading a script.
+//!
+//! A script has at most 1,048,576 bytes, in lines that each end with a line feed. A line has at most
+//! 8,192 bytes before its end, each a space or a printed ASCII character. Lines of spaces alone and
+//! lines whose first word begins with `#` are skipped. The first other line is the pool line, `pool`
+//! with the number of elements and then, in any order, keys with their numbers: `buf`, `tries` and
+//! `start`. Behind it come at most 10,000 command lines, `alloc NAME` or `free NAME`. A number is 1 to
+//! 20 digits, and a name 1 to 16 of `a` to `z` and `0` to `9` that begin with a letter. No two lines
+//! make the same name.
+
+ghost use Rattle.std.specs.Prelude.{◌≡◌, List, IfOk, IfErr, MatchResult};
+ghost use Rattle.commons.specs.declared.limits.Limits.{Limits};
+ghost use Rattle.commons.specs.declared.refusal.Refusal.{Refusal};
+ghost use Rattle.script.specs.declared.commands.Line.{Line};
+ghost use Rattle.script.specs.Grammar.{IsScript, IsCause};
+ghost use Rattle.script.specs.Reading.{read_text};
+ghost use Rattle.script.specs.Told.{Gives, refusal_at};
+
+use crate::commands::Script;
+use crate::line::next_line;
+use crate::reader::{Reader, Stop};
+use commons::refusal::Refusal;
+use std::alloc::Global;
+
+#[cfg(test)]
+mod tests;
+
+/// The most bytes that a script has.
+pub const MAX_BYTES: usize = 1_048_576;
+
+/// The refusal for a line with this number.
+fn refused_at(stop: Stop, number: u32) -> Refusal
+    ensures { result ≡ refusal_at stop number }
+{
+    match stop {
+        Stop::Fault => Refusal::ScriptFault(number),
+        Stop::BadPool => Refusal::BadPool,
+        Stop::OutOfMemory => Refusal::OutOfMemory,
+    }
+}
+
+/// Reads the lines of a script one after another.
+fn script_of(alloc: Global, bytes: &[u8]) -> Result<Script, Refusal>
+    ensures { Gives result (read_text bytes.now) }
+{
+    if bytes.len() > MAX_BYTES {
+        return Err(Refusal::ScriptFault(0));
+    }
+    let mut reader = Reader::new(alloc);
+    let mut number = 1u32;
+    let mut rest = bytes;
+    while let Some((line, after)) = next_line(rest) {
+        if let Err(stop) = reader.read_line(alloc, number, line) {
+            return Err(refused_at(stop, number));
+        }
+        number += 1;
+        rest = after;
+    }
+    if !rest.is_empty() {
+        return Err(Refusal::ScriptFault(number));
+    }
+    match reader.finish() {
+        Some(script) => Ok(script),
+        None => Err(Refusal::ScriptFault((number - 1).max(1))),
+    }
+}
+
+/// Reads a script: the script that the bytes are in the grammar, or why they are none.
+///
+/// Refused `BadPool` where no pool can be made within the limits of the pool line, and
+/// `ScriptFault` with the number of the first faulty line, or 0 where there are more than
+/// `MAX_BYTES` bytes. `OutOfMemory` comes only where memory was refused.
+pub fn parse(alloc: Global, bytes: &[u8]) -> Result<Script, Refusal>
+    // What is read is in the grammar.
+    ensures read { IfOk result (λ script. IsScript bytes.now script.limits script.lines) }
+
+    // Why nothing is read.
+    ensures faults { IfErr result (λ refusal. IsCause bytes.now refusal) }
+
+    // What is in the grammar is read as that script and no other, unless memory is refused.
+    ensures only { (limits : Limits) (lines : List Line) → IsScript bytes.now limits lines →
+        MatchResult result
+        (λ script. (script.limits ≡ limits) × (script.lines ≡ lines))
+        (λ refusal. refusal ≡ Refusal.OutOfMemory) }
+{
+    script_of(alloc, bytes)
+}

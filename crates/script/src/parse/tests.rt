@@ -1,0 +1,229 @@
+use super::parse;
+use crate::commands::{Command, Line, Script};
+use commons::refusal::Refusal;
+use std::alloc::Global;
+use std::process::Abort;
+use std::test::Fail;
+
+mod bounds;
+
+/// The refusal of a text, if it has one.
+fn refusal_of(alloc: Global, text: &[u8]) -> Option<Refusal> {
+    match parse(alloc, text) {
+        Ok(_) => None,
+        Err(refusal) => Some(refusal),
+    }
+}
+
+fn read(rt: &impl Abort, alloc: Global, text: &[u8]) -> Script {
+    parse(alloc, text).expect(rt, "the text is a script")
+}
+
+/// What a line says, as text.
+fn shown(alloc: Global, line: &Line) -> Result<String, Fail> {
+    let (verb, name) = match &line.command {
+        Command::Alloc(name) => ("alloc", name),
+        Command::Free(name) => ("free", name),
+    };
+    let mut text = format!(in alloc; "{} {} {verb} ", line.number, line.worker)?;
+    for byte in name.as_slice() {
+        text.push(char::from(*byte))?;
+    }
+    Ok(text)
+}
+
+#[test]
+fn a_good_script_is_read(rt: HostRuntime) -> Result<(), Fail> {
+    let text =
+        b"# a pool\n\n  pool 12 tries 7 buf 0100  start 3 \n   \nalloc a\n  free   b9 \n#x\nalloc b9\nfree a\nfree a\n";
+    let script = read(&rt, rt.alloc(), text);
+    assert_eq!(rt; script.limits.population, 12);
+    assert_eq!(rt; script.limits.cache, 0);
+    assert_eq!(rt; script.limits.workers, 1);
+    assert_eq!(rt; script.limits.desks, 0);
+    assert_eq!(rt; script.limits.buf, 100);
+    assert_eq!(rt; script.limits.ref_limit, 65_535);
+    assert_eq!(rt; script.limits.tries, 7);
+    assert_eq!(rt; script.limits.start_count, 3);
+    let mut lines = String::new(rt.alloc());
+    for line in script.lines.as_slice() {
+        lines.push_str(shown(rt.alloc(), line)?.as_str())?;
+        lines.push_str("; ")?;
+    }
+    assert_eq!(rt;
+        lines.as_str(),
+        "5 1 alloc a; 6 1 free b9; 8 1 alloc b9; 9 1 free a; 10 1 free a; "
+    );
+    Ok(())
+}
+
+#[test]
+fn a_pool_line_alone_is_a_script_with_the_defaults(rt: HostRuntime) {
+    let script = read(&rt, rt.alloc(), b"pool 3\n");
+    assert_eq!(rt; script.limits.population, 3);
+    assert_eq!(rt; script.limits.buf, 2_048);
+    assert_eq!(rt; script.limits.tries, 64);
+    assert_eq!(rt; script.limits.start_count, 0);
+    assert!(rt; script.lines.is_empty());
+}
+
+#[test]
+fn an_empty_file_is_a_fault_of_line_one(rt: HostRuntime) {
+    assert_eq!(rt; refusal_of(rt.alloc(), b""), Some(Refusal::ScriptFault(1)));
+    assert_eq!(rt;
+        refusal_of(rt.alloc(), b"\n"),
+        Some(Refusal::ScriptFault(1))
+    );
+    assert_eq!(rt;
+        refusal_of(rt.alloc(), b"pool 3"),
+        Some(Refusal::ScriptFault(1))
+    );
+}
+
+#[test]
+fn skipped_lines_alone_are_a_fault_of_the_last_one(rt: HostRuntime) {
+    assert_eq!(rt;
+        refusal_of(rt.alloc(), b"#\n\n  \n"),
+        Some(Refusal::ScriptFault(3))
+    );
+    assert_eq!(rt;
+        refusal_of(rt.alloc(), b"#\n\n  \n#"),
+        Some(Refusal::ScriptFault(4))
+    );
+}
+
+#[test]
+fn an_unfinished_last_line_is_a_fault_of_its_number(rt: HostRuntime) {
+    assert_eq!(rt;
+        refusal_of(rt.alloc(), b"pool 3\nalloc a"),
+        Some(Refusal::ScriptFault(2))
+    );
+    assert_eq!(rt;
+        refusal_of(rt.alloc(), b"pool 3\n "),
+        Some(Refusal::ScriptFault(2))
+    );
+}
+
+#[test]
+fn a_name_has_sixteen_letters_at_most(rt: HostRuntime) {
+    assert_eq!(rt;
+        refusal_of(rt.alloc(), b"pool 3\nalloc abcdefghijklmnop\n"),
+        None
+    );
+    assert_eq!(rt;
+        refusal_of(rt.alloc(), b"pool 3\nalloc abcdefghijklmnopq\n"),
+        Some(Refusal::ScriptFault(2))
+    );
+    assert_eq!(rt;
+        refusal_of(rt.alloc(), b"pool 3\nalloc 1a\n"),
+        Some(Refusal::ScriptFault(2))
+    );
+    assert_eq!(rt;
+        refusal_of(rt.alloc(), b"pool 3\nalloc aB\n"),
+        Some(Refusal::ScriptFault(2))
+    );
+    assert_eq!(rt; refusal_of(rt.alloc(), b"pool 3\nalloc a1\n"), None);
+}
+
+#[test]
+fn a_name_is_made_once(rt: HostRuntime) {
+    assert_eq!(rt;
+        refusal_of(
+            rt.alloc(),
+            b"pool 3\nalloc a\nfree a\nalloc b\nalloc a\nalloc b\n"
+        ),
+        Some(Refusal::ScriptFault(5))
+    );
+    assert_eq!(rt;
+        refusal_of(
+            rt.alloc(),
+            b"pool 3\nalloc abcdefghijklmno\nalloc abcdefghijklmnop\n"
+        ),
+        None
+    );
+}
+
+#[test]
+fn the_first_faulty_line_is_named(rt: HostRuntime) {
+    assert_eq!(rt;
+        refusal_of(rt.alloc(), b"pool 3\nalloc a\nput a\nalloc\n"),
+        Some(Refusal::ScriptFault(3))
+    );
+    assert_eq!(rt;
+        refusal_of(rt.alloc(), b"alloc a\npool 3\n"),
+        Some(Refusal::ScriptFault(1))
+    );
+    assert_eq!(rt;
+        refusal_of(rt.alloc(), b"pool 3\npool 3\n"),
+        Some(Refusal::ScriptFault(2))
+    );
+    assert_eq!(rt;
+        refusal_of(rt.alloc(), b"pool 3\nalloc a b\n"),
+        Some(Refusal::ScriptFault(2))
+    );
+    assert_eq!(rt;
+        refusal_of(rt.alloc(), b"pool 3\nalloc\n"),
+        Some(Refusal::ScriptFault(2))
+    );
+    assert_eq!(rt;
+        refusal_of(rt.alloc(), b"pool 3\n1:alloc a\n"),
+        Some(Refusal::ScriptFault(2))
+    );
+}
+
+#[test]
+fn limits_past_their_range_are_a_bad_pool(rt: HostRuntime) {
+    assert_eq!(rt;
+        refusal_of(rt.alloc(), b"pool 65535\n"),
+        Some(Refusal::BadPool)
+    );
+    assert_eq!(rt; refusal_of(rt.alloc(), b"pool 65534\n"), None);
+    assert_eq!(rt;
+        refusal_of(rt.alloc(), b"pool 0\nbad\nworse"),
+        Some(Refusal::BadPool)
+    );
+    assert_eq!(rt;
+        refusal_of(rt.alloc(), b"pool 3 tries 0\n"),
+        Some(Refusal::BadPool)
+    );
+    assert_eq!(rt;
+        refusal_of(rt.alloc(), b"pool 3 start 281474976710656\n"),
+        Some(Refusal::BadPool)
+    );
+}
+
+#[test]
+fn a_fault_of_the_pool_line_comes_before_its_limits(rt: HostRuntime) {
+    assert_eq!(rt;
+        refusal_of(rt.alloc(), b"pool 0 cache\n"),
+        Some(Refusal::ScriptFault(1))
+    );
+    assert_eq!(rt;
+        refusal_of(rt.alloc(), b"pool 0 cache 1\n"),
+        Some(Refusal::ScriptFault(1))
+    );
+    assert_eq!(rt;
+        refusal_of(rt.alloc(), b"pool 0 buf\n"),
+        Some(Refusal::ScriptFault(1))
+    );
+    assert_eq!(rt;
+        refusal_of(rt.alloc(), b"pool 0 buf 1 buf 1\n"),
+        Some(Refusal::ScriptFault(1))
+    );
+    assert_eq!(rt;
+        refusal_of(rt.alloc(), b"pool 0 buf x\n"),
+        Some(Refusal::ScriptFault(1))
+    );
+    assert_eq!(rt;
+        refusal_of(rt.alloc(), b"pool\n"),
+        Some(Refusal::ScriptFault(1))
+    );
+    assert_eq!(rt;
+        refusal_of(rt.alloc(), b"pool 3 pool 3\n"),
+        Some(Refusal::ScriptFault(1))
+    );
+    assert_eq!(rt;
+        refusal_of(rt.alloc(), b"pools 3\n"),
+        Some(Refusal::ScriptFault(1))
+    );
+}

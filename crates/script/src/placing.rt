@@ -1,0 +1,166 @@
+//! Where each element of a pool is.
+
+ghost use Rattle.std.specs.Prelude.{All, ◌≡◌, ◌<◌, ◌≤◌, ◌++◌, ℕ, IfOk, filter, flat_map, length, map, nat_lt, replicate, slice_index_or, sum_by};
+ghost use Rattle.std.specs.List.{range_with_len};
+ghost use Rattle.script.specs.Own.{stack_of};
+ghost use Rattle.script.specs.Pool.{held_by, nobody, slots};
+ghost use Rattle.script.specs.SitePool.{IsMember};
+ghost use Rattle.script.specs.Statements.{held_entry, holders_of, packets_of, statement_of};
+
+use crate::packets::Packets;
+use crate::statement::{Held, Holder, PlacedPacket, Statement};
+use commons::place::Place;
+use commons::seq::Seq;
+use commons::site::PlainSite;
+use std::alloc::{AllocError, Global};
+
+/// Where each element is of the pool that has these lists and these workers.
+pub(crate) fn statement(
+    alloc: Global,
+    site: &PlainSite,
+    members: &[Packets],
+) -> Result<Statement, AllocError>
+    requires workers { length members.now ≡ site.now.limits.workers }
+    requires each { (n : ℕ) → n < site.now.limits.workers → IsMember site.now n (slice_index_or members.now n (nobody site.now.limits)) }
+    ensures { IfOk result (λ s. s ≡ statement_of (record { limits = site.now.limits; stack = stack_of site.now; members = members.now })) }
+{
+    let held = held(alloc, site, members)?;
+    Ok(Statement {
+        population: site.limits().population,
+        available: u64::from(site.common_count()) + in_caches(members),
+        in_use: held.len() as u64,
+        common: common_list(alloc, site)?,
+        caches: caches(alloc, members)?,
+        packets: packets(alloc, members)?,
+        desks: Seq::new(Vec::new(alloc)),
+        held,
+    })
+}
+
+/// A copy of these values.
+fn copied<T: Copy + Drop>(alloc: Global, values: &[T]) -> Result<Seq<T>, AllocError>
+    ensures { IfOk result (λ s. s ≡ values.now) }
+{
+    Ok(Seq::new(Vec::from_slice(alloc, values)?))
+}
+
+/// The common list from the top.
+fn common_list(alloc: Global, site: &PlainSite) -> Result<Seq<u32>, AllocError>
+    ensures { IfOk result (λ s. s ≡ site.now.common) }
+{
+    let mut common = Vec::from_slice(alloc, site.common())?;
+    common.reverse();
+    Ok(Seq::new(common))
+}
+
+/// Each worker's cache.
+fn caches(alloc: Global, members: &[Packets]) -> Result<Seq<Seq<u32>>, AllocError>
+    ensures { IfOk result (λ s. s ≡ map (λ member. member.cache) members.now) }
+{
+    let mut caches = Vec::with_capacity(alloc, members.len())?;
+    for member in members {
+        caches.push(copied(alloc, member.cache())?)?;
+    }
+    Ok(Seq::new(caches))
+}
+
+/// How many elements the caches have.
+fn in_caches(members: &[Packets]) -> u64
+    requires { sum_by (λ member. length member.cache) members.now ≤ 4_294_967_295 }
+    ensures { result ≡ sum_by (λ member. length member.cache) members.now }
+{
+    let mut count = 0;
+    for member in members {
+        count += member.cache().len() as u64;
+    }
+    count
+}
+
+/// The packets by worker and slot.
+fn packets(alloc: Global, members: &[Packets]) -> Result<Seq<PlacedPacket>, AllocError>
+    requires { All (λ member. length member.table ≡ slots) members.now }
+    ensures { IfOk result (λ s. s ≡ flat_map packets_of members.now) }
+{
+    let mut placed = Vec::new(alloc);
+    for member in members {
+        place_packets(alloc, member, &mut placed)?;
+    }
+    Ok(Seq::new(placed))
+}
+
+/// Adds a worker's packets by slot.
+fn place_packets(
+    alloc: Global,
+    member: &Packets,
+    placed: &mut Vec<PlacedPacket>,
+) -> Result<(), AllocError>
+    requires { length member.now.table ≡ slots }
+    ensures { IfOk result (λ _. placed.new.items ≡ placed.old.items ++ packets_of member.now) }
+{
+    for (slot, packet) in member.table().iter().enumerate() {
+        if let Some(packet) = packet {
+            let segs = copied(alloc, packet.segs())?;
+            placed.push(PlacedPacket {
+                worker: member.number(),
+                slot: slot as u32,
+                segs,
+            })?;
+        }
+    }
+    Ok(())
+}
+
+/// The held elements, ascending.
+fn held(alloc: Global, site: &PlainSite, members: &[Packets]) -> Result<Seq<Held>, AllocError>
+    requires workers { length members.now ≡ site.now.limits.workers }
+    requires each { (n : ℕ) → n < site.now.limits.workers → IsMember site.now n (slice_index_or members.now n (nobody site.now.limits)) }
+    ensures { IfOk result (λ s. s ≡ map (held_entry members.now) (filter (λ i. nat_lt 0 (held_by members.now i)) (range_with_len 0 site.now.limits.population))) }
+{
+    let mut held = Vec::new(alloc);
+    for (i, place) in site.places().iter().enumerate() {
+        if let Place::Held(count) = *place {
+            let elem = i as u32;
+            let holders = holders(alloc, site, members, elem)?;
+            held.push(Held {
+                elem,
+                count,
+                holders,
+            })?;
+        }
+    }
+    Ok(Seq::new(held))
+}
+
+/// Who holds an element, each as often as it does.
+fn holders(
+    alloc: Global,
+    site: &PlainSite,
+    members: &[Packets],
+    elem: u32,
+) -> Result<Seq<Holder>, AllocError>
+    requires below { elem < site.now.limits.population }
+    requires workers { length members.now ≡ site.now.limits.workers }
+    requires each { (n : ℕ) → n < site.now.limits.workers → IsMember site.now n (slice_index_or members.now n (nobody site.now.limits)) }
+    ensures { IfOk result (λ s. s ≡ holders_of members.now elem) }
+{
+    let mut holders = Vec::new(alloc);
+    for member in members {
+        let number = member.number();
+        hold_often(
+            &mut holders,
+            Holder::Worker(number),
+            site.hold(number, elem),
+        )?;
+    }
+    Ok(Seq::new(holders))
+}
+
+/// Adds a holder so often.
+fn hold_often(holders: &mut Vec<Holder>, holder: Holder, count: u32) -> Result<(), AllocError>
+    ensures { IfOk result (λ _. holders.new.items ≡ holders.old.items ++ replicate count holder) }
+{
+    for _ in 0..count {
+        holders.push(holder)?;
+    }
+    Ok(())
+}

@@ -1,0 +1,97 @@
+ghost use Rattle.std.specs.Prelude.{◌≡◌, None, IfOk, IfErr, OnOk};
+ghost use Rattle.script.specs.Replay.{replies_to, end_of, new_run, obey as obeyed};
+ghost use Rattle.script.specs.Standing.{run_of, fresh_run};
+ghost use Rattle.script.specs.Statements.{statement_of, ListsEachOnce};
+
+use crate::commands::{Command, Line, Script};
+use crate::names::Names;
+use crate::replies::{Act, Reply};
+use crate::site_pool::SitePool;
+use crate::statement::Statement;
+use commons::refusal::Refusal;
+use std::alloc::{AllocError, Global};
+
+/// The reply to each command of a script, with the number of its line, and the statement of its
+/// end. The commands are performed in one thread, in the order of the lines, on a new pool.
+///
+/// Refused `OutOfMemory` where memory was refused, and for no other cause: a command that is
+/// refused has that as its reply, and the next one goes on.
+pub fn replay(
+    alloc: Global,
+    script: &Script,
+) -> Result<(Vec<(u32, Reply)>, Statement), Refusal>
+    ensures replies { IfOk result (λ r. r.0.items ≡ replies_to script.now.lines (new_run script.now.limits)) }
+    ensures statement { IfOk result (λ r. r.1 ≡ statement_of (end_of script.now.lines (new_run script.now.limits)).pool) }
+    // Above the model: no element is missing, and none is anywhere twice.
+    ensures once { IfOk result (λ r. ListsEachOnce r.1) }
+    ensures memory { IfErr result (λ e. e ≡ Refusal.OutOfMemory) }
+{
+    let mut pool = SitePool::make(alloc, &script.limits)?;
+    let outcome = play_to_end(alloc, &mut pool, script.lines.as_slice());
+    pool.lose();
+    outcome
+}
+
+/// The replies to all lines, and the statement of the pool after them.
+fn play_to_end(
+    alloc: Global,
+    pool: &mut SitePool,
+    lines: &[Line],
+) -> Result<(Vec<(u32, Reply)>, Statement), Refusal>
+    ensures replies { IfOk result (λ r. r.0.items ≡ replies_to lines.now (fresh_run pool.old)) }
+    ensures statement { IfOk result (λ r. r.1 ≡ statement_of (end_of lines.now (fresh_run pool.old)).pool) }
+    ensures memory { IfErr result (λ e. e ≡ Refusal.OutOfMemory) }
+{
+    match play(alloc, pool, lines) {
+        Ok(replies) => {
+            let statement = pool.statement(alloc)?;
+            Ok((replies, statement))
+        }
+        Err(_) => Err(Refusal::OutOfMemory),
+    }
+}
+
+/// Performs each line in turn, and lists the replies with the lines' numbers.
+fn play(
+    alloc: Global,
+    pool: &mut SitePool,
+    lines: &[Line],
+) -> Result<Vec<(u32, Reply)>, AllocError>
+    ensures replies { IfOk result (λ v. v.items ≡ replies_to lines.now (fresh_run pool.old)) }
+    ensures pool { OnOk result (pool.new ≡ (end_of lines.now (fresh_run pool.old)).pool) }
+{
+    let mut names = Names::new(alloc);
+    let mut replies = Vec::with_capacity(alloc, lines.len())?;
+    for line in lines {
+        let reply = obey(pool, &mut names, line)?;
+        replies.push((line.number, reply))?;
+    }
+    Ok(replies)
+}
+
+/// Performs one line, and keeps which packet its name stands for.
+fn obey<'a>(pool: &mut SitePool, names: &mut Names<'a>, line: &'a Line) -> Result<Reply, AllocError>
+    ensures { IfOk result (λ r. (r, run_of pool.new names.new) ≡ obeyed line.now.worker line.now.command (run_of pool.old names.old)) }
+{
+    let worker = line.worker;
+    match &line.command {
+        Command::Alloc(name) => {
+            let reply = pool.perform(worker, Act::Alloc);
+            if let Reply::Allocated(slot, _) = reply {
+                names.set(worker, name.as_slice(), slot)?;
+            }
+            Ok(reply)
+        }
+        Command::Free(name) => {
+            let name = name.as_slice();
+            let Some(slot) = names.get(worker, name) else {
+                return Ok(Reply::Refused(Refusal::NoSuchPacket));
+            };
+            let reply = pool.perform(worker, Act::Free(slot));
+            if let Reply::Freed(_) = reply {
+                names.forget(worker, name);
+            }
+            Ok(reply)
+        }
+    }
+}

@@ -1,0 +1,62 @@
+//! The lines that answer commands.
+ghost use Rattle.std.specs.Prelude.{◌≡◌, ◌++◌, IfErr, OnOk};
+ghost use Rattle.script.specs.ReplyText.{freed_text, put_off_text, reply_line, reply_text};
+
+use crate::replies::{Freed, Reply};
+use commons::refusal::Refusal;
+use std::io;
+use std::io::Write;
+
+/// Appends the line that answers the command of the line `number`.
+///
+/// Refused `OutOfMemory` where there is no room for it: the line may then stand in part.
+pub fn push_reply(out: &mut Vec<u8>, number: u32, reply: &Reply) -> Result<(), Refusal>
+    ensures text { OnOk result (out.new.items ≡ out.old.items ++ reply_line number reply.now) }
+    ensures memory { IfErr result (λ e. e ≡ Refusal.OutOfMemory) }
+{
+    match write_line(out, number, *reply) {
+        Ok(()) => Ok(()),
+        Err(_) => Err(Refusal::OutOfMemory),
+    }
+}
+
+#[tactic(auto, unfolding(crate::specs::ReplyText::reply_line))]
+fn write_line(out: &mut Vec<u8>, number: u32, reply: Reply) -> io::Result<()>
+    ensures { OnOk result (out.new.items ≡ out.old.items ++ reply_line number reply) }
+{
+    write!(out, "{number}: ")?;
+    write_reply(out, reply)?;
+    writeln!(out)
+}
+
+#[tactic(auto, unfolding(crate::specs::ReplyText::reply_text))]
+fn write_reply(out: &mut Vec<u8>, reply: Reply) -> io::Result<()>
+    ensures { OnOk result (out.new.items ≡ out.old.items ++ reply_text reply) }
+{
+    match reply {
+        Reply::Allocated(_, elem) => write!(out, "ok {elem}"),
+        Reply::Freed(freed) => write_freed(out, freed),
+        Reply::Refused(refusal) => {
+            write!(out, "refused {} {}", refusal.number(), refusal.name())
+        }
+    }
+}
+
+#[tactic(auto, unfolding(crate::specs::ReplyText::freed_text))]
+fn write_freed(out: &mut Vec<u8>, freed: Freed) -> io::Result<()>
+    ensures { OnOk result (out.new.items ≡ out.old.items ++ freed_text freed) }
+{
+    write!(out, "ok back {} flushed {}", freed.back, freed.flushed)?;
+    write_put_off(out, freed.put_off)
+}
+
+// The last push that was refused, and why.
+#[tactic(auto, unfolding(crate::specs::ReplyText::put_off_text))]
+fn write_put_off(out: &mut Vec<u8>, put_off: Option<(u32, Refusal)>) -> io::Result<()>
+    ensures { OnOk result (out.new.items ≡ out.old.items ++ put_off_text put_off) }
+{
+    match put_off {
+        Some((count, refusal)) => write!(out, " putoff {count} {}", refusal.name()),
+        None => Ok(()),
+    }
+}

@@ -1,0 +1,92 @@
+//! Segments, and the packets that are made of them.
+ghost use Rattle.std.specs.Prelude.{◌≡◌, ◌++◌, OnOk, sum_by};
+ghost use Rattle.std.specs.List.{flat_map};
+ghost use Rattle.script.specs.StatementText.{base_text, desk_text, joined, packet_text, segment_text, segments_text};
+
+use crate::statement::{DeskPacket, PlacedPacket};
+use commons::packet::Seg;
+use std::io;
+use std::io::Write;
+
+// A line for each packet of a worker.
+pub(super) fn write_packets(out: &mut Vec<u8>, packets: &[PlacedPacket]) -> io::Result<()>
+    ensures { OnOk result (out.new.items ≡ out.old.items ++ flat_map packet_text packets.now) }
+{
+    for packet in packets {
+        write_packet(out, packet)?;
+    }
+    Ok(())
+}
+
+#[tactic(auto, unfolding(crate::specs::StatementText::packet_text))]
+fn write_packet(out: &mut Vec<u8>, packet: &PlacedPacket) -> io::Result<()>
+    ensures { OnOk result (out.new.items ≡ out.old.items ++ packet_text packet.now) }
+{
+    write!(out, "packet {} {}", packet.worker, packet.slot)?;
+    write_segments(out, packet.segs.as_slice())
+}
+
+// A line for each packet on a desk.
+pub(super) fn write_desks(out: &mut Vec<u8>, desks: &[DeskPacket]) -> io::Result<()>
+    ensures { OnOk result (out.new.items ≡ out.old.items ++ flat_map desk_text desks.now) }
+{
+    for desk in desks {
+        write_desk(out, desk)?;
+    }
+    Ok(())
+}
+
+#[tactic(auto, unfolding(crate::specs::StatementText::desk_text))]
+fn write_desk(out: &mut Vec<u8>, desk: &DeskPacket) -> io::Result<()>
+    ensures { OnOk result (out.new.items ≡ out.old.items ++ desk_text desk.now) }
+{
+    write!(out, "desk {}", desk.desk)?;
+    write_segments(out, desk.segs.as_slice())
+}
+
+// How many segments these are, how long their data is, and which they are, to the end of the line.
+#[tactic(auto, unfolding(crate::specs::StatementText::segments_text))]
+fn write_segments(out: &mut Vec<u8>, segs: &[Seg]) -> io::Result<()>
+    ensures { OnOk result (out.new.items ≡ out.old.items ++ segments_text segs.now) }
+{
+    write!(out, " segs {} len {}:", segs.len(), data_len(segs))?;
+    write_joined(out, segs)?;
+    writeln!(out)
+}
+
+// How long the data of these segments is. A sum of so many lengths fits 128 bits.
+fn data_len(segs: &[Seg]) -> u128
+    ensures { result ≡ sum_by (λ seg. seg.data_len) segs.now }
+{
+    segs.iter().map(|seg| u128::from(seg.data_len)).sum()
+}
+
+// Each segment behind a space.
+fn write_joined(out: &mut Vec<u8>, segs: &[Seg]) -> io::Result<()>
+    ensures { OnOk result (out.new.items ≡ out.old.items ++ joined segment_text segs.now) }
+{
+    for seg in segs {
+        write!(out, " ")?;
+        write_segment(out, seg)?;
+    }
+    Ok(())
+}
+
+#[tactic(auto, unfolding(crate::specs::StatementText::segment_text))]
+fn write_segment(out: &mut Vec<u8>, seg: &Seg) -> io::Result<()>
+    ensures { OnOk result (out.new.items ≡ out.old.items ++ segment_text seg.now) }
+{
+    write!(out, "{}", seg.elem)?;
+    write_base(out, seg.base)?;
+    write!(out, "@{}+{}/{}", seg.data_off, seg.data_len, seg.buf_len)
+}
+
+// The element whose buffer an indirect segment uses.
+fn write_base(out: &mut Vec<u8>, base: Option<u32>) -> io::Result<()>
+    ensures { OnOk result (out.new.items ≡ out.old.items ++ base_text base) }
+{
+    match base {
+        Some(base) => write!(out, ">{base}"),
+        None => Ok(()),
+    }
+}

@@ -1,0 +1,57 @@
+//! The whole text of a statement.
+ghost use Rattle.std.specs.Prelude.{◌≡◌, ◌++◌, IfErr, IfOk, OnOk};
+ghost use Rattle.script.specs.StatementText.{text_of, total_line, totals_text};
+
+use super::elements::{write_caches, write_elements};
+use super::held::write_held;
+use super::segments::{write_desks, write_packets};
+use crate::statement::Statement;
+use commons::refusal::Refusal;
+use std::alloc::Global;
+use std::io;
+use std::io::Write;
+
+/// The text of a statement: its totals, the common list from the top, and then a line for each
+/// cache, packet, desk and held element.
+///
+/// Refused `OutOfMemory` where there is no room for it.
+pub fn statement_text(alloc: Global, statement: &Statement) -> Result<Vec<u8>, Refusal>
+    ensures text { IfOk result (λ v. v.items ≡ text_of statement.now) }
+    ensures memory { IfErr result (λ e. e ≡ Refusal.OutOfMemory) }
+{
+    let mut out = Vec::new(alloc);
+    match write_statement(&mut out, statement) {
+        Ok(()) => Ok(out),
+        Err(_) => Err(Refusal::OutOfMemory),
+    }
+}
+
+#[tactic(auto, unfolding(crate::specs::StatementText::text_of))]
+fn write_statement(out: &mut Vec<u8>, statement: &Statement) -> io::Result<()>
+    ensures { OnOk result (out.new.items ≡ out.old.items ++ text_of statement.now) }
+{
+    write_totals(out, statement)?;
+    write!(out, "common")?;
+    write_elements(out, statement.common.as_slice())?;
+    write_caches(out, statement.caches.as_slice())?;
+    write_packets(out, statement.packets.as_slice())?;
+    write_desks(out, statement.desks.as_slice())?;
+    write_held(out, statement.held.as_slice())
+}
+
+// How many elements there are, in common and held.
+#[tactic(auto, unfolding(crate::specs::StatementText::totals_text))]
+fn write_totals(out: &mut Vec<u8>, statement: &Statement) -> io::Result<()>
+    ensures { OnOk result (out.new.items ≡ out.old.items ++ totals_text statement.now) }
+{
+    write_total(out, "population", statement.population)?;
+    write_total(out, "available", statement.available)?;
+    write_total(out, "in use", statement.in_use)
+}
+
+#[tactic(auto, unfolding(crate::specs::StatementText::total_line))]
+fn write_total(out: &mut Vec<u8>, name: &str, count: u64) -> io::Result<()>
+    ensures { OnOk result (out.new.items ≡ out.old.items ++ total_line name.now count) }
+{
+    writeln!(out, "{name} {count}")
+}
