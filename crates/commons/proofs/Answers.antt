@@ -1,5 +1,5 @@
 -- What the calls' answers say: why each was refused, and what one that was met moved.
-use Rattle.std.proofs.Common.{add-one, ◌≡◌, ℕ, ◌+◌, ◌-◌, ◌<◌, ◌≤◌, List, [], ◌∷◌, ◌++◌, length, take, drop, reverse, Result, Ok, Err, OnOk, OnErr, refl, sym, ◌∙◌, ap, subst, arith}
+use Rattle.std.proofs.Common.{length-take, add-one, ◌≡◌, ℕ, ◌+◌, ◌-◌, ◌<◌, ◌≤◌, List, [], ◌∷◌, ◌++◌, length, take, drop, reverse, Result, Ok, Err, OnOk, OnErr, refl, sym, ◌∙◌, ap, subst, arith}
 use Rattle.std.specs.List.{range_with_len}
 use Rattle.std.proofs.lemmas.List.{reverse-append}
 use Rattle.commons.specs.declared.refusal.Refusal.{Refusal}
@@ -11,7 +11,7 @@ use Rattle.commons.proofs.Tables.{hand_get, hand_put}
 
 -- what a get read is the cause of its refusal
 pub cause_get : (s : Lists) (w n : ℕ) (r : Result (Unit {0}) Refusal) (xs : List ℕ) (t : Lists) → DidGet w s n (with_list r xs) t → HasCause s.limits (GetList n (with_list r xs)) (read_by s (GetList n (with_list r xs)))
-cause_get s w n (Ok _) xs t d = tt
+cause_get s w n (Ok _) xs t d = rw d.2 (omega (arith, length-take n s.common, d.0))
 cause_get s w n (Err NoEntries) xs t d = (0, Length (length s.common), omega arith, refl, d.0)
 cause_get s w n (Err HeadSpent) xs t d = (1, omega arith, ap Head d.1)
 cause_get s w n (Err Contended) xs t d = absurd d

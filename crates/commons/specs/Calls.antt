@@ -1,5 +1,5 @@
 -- The calls of a shared pool, what each read, and what of it is the cause of its answer.
-use Rattle.std.specs.Prelude.{ℕ, ◌≡◌, ◌+◌, ◌-◌, ◌<◌, ◌≤◌, ◌^◌, List, [], ◌∷◌, Bool, true, false, count_by, map, Any, Contains, Result, Ok, Err, Option, IsTrue}
+use Rattle.std.specs.Prelude.{ℕ, ◌≡◌, ◌+◌, ◌-◌, ◌<◌, ◌≤◌, ◌^◌, List, [], ◌∷◌, length, Bool, true, false, count_by, map, Any, Contains, Result, Ok, Err, Option, IsTrue}
 use Rattle.commons.specs.Bag.{one}
 use Rattle.commons.specs.declared.limits.Limits.{Limits}
 use Rattle.commons.specs.declared.refusal.Refusal.{Refusal}
@@ -69,9 +69,10 @@ IsGetCause l n Contended rs = l.tries ≤ count_by is_lost rs
 IsGetCause l n HeadSpent rs = Contains rs (Head spent)
 IsGetCause l n _ rs = ⊥
 
--- what was read is a cause of the call's answer; an answer that asks for none has Unit
+-- What was read is a cause of the call's answer. A get that was met gives as many as were asked for; of the
+-- other answers with Unit nothing is asked.
 abbrev pub HasCause : Limits → Call → List Reading → Type 0
-HasCause l (GetList n (Ok _)) rs = Unit {0}
+HasCause l (GetList n (Ok xs)) rs = length xs ≡ n
 HasCause l (GetList n (Err e)) rs = IsGetCause l n e rs
 HasCause l (PutList list (Ok _)) rs = Unit {0}
 HasCause l (PutList list (Err e)) rs = IsStackCause l e rs

@@ -1,7 +1,8 @@
 use arrayvec::ArrayVec;
 use std::marker::Model;
 
-/// The most segments that a packet has. (DPDK's own limit is 65,535.)
+/// The most segments that a packet has.
+/// (rte_mbuf_core.h, `RTE_MBUF_MAX_NB_SEGS`, DPDK 21.11, is 65,535)
 pub const MAX_SEGS: usize = 32;
 
 /// A segment of a packet: an element with its lengths in bytes.

@@ -62,9 +62,15 @@ impl<'a> Commons for PlainCommons<'a> {
         self.site.common_count()
     }
 
-    ghost use Rattle.commons.specs.ListLaws.{hand_once_lem, hand_below_lem};
+    ghost use Rattle.commons.specs.ListLaws.{hand_once_lem, hand_below_lem, apart_lem, header_once_lem, header_held_lem};
 
     ghost hand_once = { λ c i. hand_once_lem c.site.now c.worker i };
 
     ghost hand_below = { λ c i h. hand_below_lem c.site.now c.worker i c.table h };
+
+    ghost apart = { λ c i h. apart_lem c.site.now c.worker i c.table h };
+
+    ghost header_once = { λ c i. header_once_lem c.site.now c.worker i };
+
+    ghost header_held = { λ c i h. header_held_lem c.site.now c.worker i c.table c.positive h };
 }

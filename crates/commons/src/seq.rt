@@ -1,7 +1,7 @@
 use std::marker::Model;
 
-/// A list of values, which contracts see as that list and nothing else.
-/// It is made from a `Vec` and gives it back, without taking memory.
+/// A list of values, which contracts see as that list and nothing else: a `Vec` whose capacity
+/// and place in memory they don't see.
 #[derive(Debug, Drop)]
 pub struct Seq<T> {
     items: Vec<T>,

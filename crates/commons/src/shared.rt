@@ -5,8 +5,8 @@ ghost use Rattle.commons.specs.declared.limits.Limits.{Limits};
 
 use crate::refusal::{Lowered, Refusal};
 
-/// The shared part of a packet pool, as one worker sees it: that worker's hand and holds, and the
-/// common stack, which it shares with others.
+/// What a worker of a packet pool shares with others, the common stack, with its own side of it:
+/// its hand, its holds and the headers of its packets.
 pub trait Commons {
     /// The pool's limits.
     ghost limits: { Self → Limits };
@@ -23,8 +23,8 @@ pub trait Commons {
     /// A call was made, read this, and led from the first state to the second.
     ghost did: { Self → Call → List Reading → Self → Type 0 };
 
-    /// Moves `out.len()` elements from the common stack into the hand: all of them, or none.
-    /// `out` lists them, the top of the stack first.
+    /// Moves `out.len()` elements, at least one, from the common stack into the hand: all of them,
+    /// or none. `out` lists them; on the lists the top of the stack comes first.
     ///
     /// Refused `NoEntries` where a length below `out.len()` was read, `HeadSpent` where the spent
     /// modification count was read, and `Contended` after `tries` lost tries. Hand, holds and
@@ -41,8 +41,8 @@ pub trait Commons {
         ensures headers { headers self.new ≡ headers self.old }
         ensures limits { limits self.new ≡ limits self.old };
 
-    /// Moves a list of distinct elements from the hand onto the common stack, the last on top:
-    /// all of them, or none.
+    /// Moves a list of distinct elements, at least one, from the hand onto the common stack: all of
+    /// them, or none. On the lists the last one is on top then.
     ///
     /// Refused `HeadSpent` where the spent modification count was read, and `Contended` after
     /// `tries` lost tries. Hand, holds and headers are then as before.
@@ -70,7 +70,7 @@ pub trait Commons {
         ensures headers { (i : ℕ) → headers self.new i ≡ headers self.old i + one element i }
         ensures limits { limits self.new ≡ limits self.old };
 
-    /// Ends one hold of an element. `Last` where it was the only one: the element is then in the
+    /// Ends one hold that this worker has of an element. `Last` where it was the only one: the element is then in the
     /// hand, with count 1. `Still` where another hold was left at that step.
     ///
     /// After rte_mbuf.h, `rte_pktmbuf_prefree_seg` (DPDK 21.11).
@@ -85,7 +85,7 @@ pub trait Commons {
 
     /// The number of elements on the common stack, as read at one moment of the call.
     ///
-    /// After rte_stack_lf.h, `__rte_stack_lf_count` (DPDK 21.11).
+    /// After rte_stack_lf_generic.h, `__rte_stack_lf_count` (DPDK 21.11).
     fn common_count(&mut self) -> u32
         ensures did { Did did limits self.old (CommonCount result) self.new }
         ensures hand { hand self.new ≡ hand self.old }
@@ -97,4 +97,12 @@ pub trait Commons {
     ghost hand_once: { (c : Self) (i : ℕ) → hand c i ≤ 1 };
 
     ghost hand_below: { (c : Self) (i : ℕ) → (limits c).population ≤ i → hand c i ≡ 0 };
+
+    /// What the worker holds isn't in its hand.
+    ghost apart: { (c : Self) (i : ℕ) → 0 < holds c i → hand c i ≡ 0 };
+
+    /// An element is a header at most once, and only one that the worker holds.
+    ghost header_once: { (c : Self) (i : ℕ) → headers c i ≤ 1 };
+
+    ghost header_held: { (c : Self) (i : ℕ) → 0 < headers c i → 0 < holds c i };
 }

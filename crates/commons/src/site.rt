@@ -105,7 +105,7 @@ impl PlainSite {
     ///
     /// Refused `NoEntries` where the list is shorter, else `HeadSpent` where the modification
     /// count is spent. Nothing changes then.
-    pub fn get(&mut self, worker: u32, out: &mut [u32]) -> Result<(), Refusal>
+    pub(crate) fn get(&mut self, worker: u32, out: &mut [u32]) -> Result<(), Refusal>
         requires low { 1 ≤ worker }
         requires high { worker ≤ self.old.limits.workers }
         ensures did { DidGet worker self.old (length out.old) (with_list result out.new) self.new }
@@ -128,7 +128,7 @@ impl PlainSite {
     /// Moves elements of a worker's hand onto the common list, the last on top.
     ///
     /// Refused `HeadSpent` where the modification count is spent. Nothing changes then.
-    pub fn put(&mut self, worker: u32, list: &[u32]) -> Result<(), Refusal>
+    pub(crate) fn put(&mut self, worker: u32, list: &[u32]) -> Result<(), Refusal>
         requires low { 1 ≤ worker }
         requires high { worker ≤ self.old.limits.workers }
         requires in_hand { (i : ℕ) → bag list.now i ≤ hand_of self.old worker i }
@@ -147,7 +147,7 @@ impl PlainSite {
     }
 
     /// Makes an element of a worker's hand a held one, with one hold and as the worker's header.
-    pub fn claim(&mut self, worker: u32, element: u32)
+    pub(crate) fn claim(&mut self, worker: u32, element: u32)
         requires low { 1 ≤ worker }
         requires high { worker ≤ self.old.limits.workers }
         requires in_hand { 0 < hand_of self.old worker element }
@@ -163,7 +163,7 @@ impl PlainSite {
     }
 
     /// Ends one hold of an element: `Last` exactly where its count is 1.
-    pub fn lower(&mut self, worker: u32, element: u32) -> Lowered
+    pub(crate) fn lower(&mut self, worker: u32, element: u32) -> Lowered
         requires low { 1 ≤ worker }
         requires high { worker ≤ self.old.limits.workers }
         requires held { 0 < holds_of self.old worker element }

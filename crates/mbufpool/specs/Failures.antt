@@ -8,6 +8,7 @@ use Rattle.commons.specs.declared.refusal.Refusal.{Refusal}
 use Rattle.commons.specs.declared.refusal.Refusal.TheVariants.{MissingShare, ScriptFault}
 use Rattle.commons.specs.declared.refusal.Refusal.TheVariants as refusals
 use Rattle.commons.specs.Refusals.{name_of, number_of}
+use Rattle.script.specs.Grammar.{IsCause}
 use Rattle.mbufpool.specs.declared.failures.Failure.{Failure}
 use Rattle.mbufpool.specs.declared.failures.Failure.TheVariants.{CommandLine, Unreadable, Fault}
 
@@ -26,11 +27,11 @@ IsOfWords (CommandLine error) = Unit {0}
 IsOfWords (Unreadable named) = ⊥
 IsOfWords (Fault refusal) = refusal ≡ refusals.OutOfMemory
 
--- a failure of the replay of this file: one that names it, or a fault
+-- a failure of the replay of this file: one that names it, or a refusal that some bytes are the cause of
 abbrev pub IsOfReplay : List ℕ → Failure → Type 0
 IsOfReplay file (CommandLine error) = ⊥
 IsOfReplay file (Unreadable named) = named.now ≡ file
-IsOfReplay file (Fault refusal) = Unit {0}
+IsOfReplay file (Fault refusal) = (bytes : List ℕ) × IsCause bytes refusal
 
 -- 0 where help or the version was asked for, and 2 for a mistake
 abbrev pub status_of_kind : ErrorKind → ℕ

@@ -4,6 +4,7 @@ ghost use Rattle.mbufpool.specs.Failures.{IsOfReplay};
 
 use crate::failures::Failure;
 use commons::refusal::Refusal;
+use script::parse::MAX_BYTES;
 use script::run_replay;
 use std::fs::File;
 use std::io;
@@ -11,7 +12,7 @@ use std::io::Read;
 use std::rt::Files;
 
 // How many bytes of a script are read: one more than a script may have.
-const BYTES_READ: u64 = 1_048_577;
+const BYTES_READ: u64 = MAX_BYTES as u64 + 1;
 
 /// What the replay of the script in `file` prints.
 pub fn text<'a, R: Files + AllocGlobal>(rt: &R, file: &'a str) -> Result<Vec<u8>, Failure<'a>>

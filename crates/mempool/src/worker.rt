@@ -11,7 +11,7 @@ use std::alloc::Global;
 use std::marker::Model;
 
 /// The most elements that a put takes into a cache.
-/// (rte_mempool.h, `RTE_MEMPOOL_CACHE_MAX_SIZE`, DPDK 21.11)
+/// (rte_config.h, `RTE_MEMPOOL_CACHE_MAX_SIZE`, DPDK 21.11)
 const CACHE_MAX: usize = 512;
 
 /// A worker's cache over a shared pool. A worker can't be dropped: `lose` ends it.
@@ -45,7 +45,7 @@ impl Worker {
     /// Refused `BadPool` where the limits are out of range or have no worker of this number, and
     /// `OutOfMemory` where memory was refused.
     ///
-    /// After rte_mempool.c, `rte_mempool_cache_create` (DPDK 21.11).
+    /// After rte_mempool.c, `mempool_cache_init` (DPDK 21.11).
     pub fn make(alloc: Global, limits: &Limits, number: u32) -> Result<Worker, Refusal>
         ensures ok { IfOk result (λ w. w ≡ record { limits = limits.now; number = number; cache = [] }) }
         ensures pool { IfOk result (λ w. IsPool limits.now × (1 ≤ number) × (number ≤ limits.now.workers)) }
@@ -147,9 +147,10 @@ impl Worker {
         }
     }
 
-    /// Puts elements of the hand into the cache, and from the threshold on all beyond its size
-    /// onto the common stack. A list of more than 512 goes there past the cache. Where the stack
-    /// refuses, all of them stay in the cache, and the next flush offers them again. An empty put
+    /// Puts distinct elements of the hand, none of which is in the cache, into the cache, and from
+    /// the threshold on all beyond its size onto the common stack. A list of more than 512 goes
+    /// there past the cache. Where the stack refuses (`HeadSpent` or `Contended`, the cause in
+    /// `PutOff`), all of them stay in the cache, and the next flush offers them again. An empty put
     /// takes no step.
     ///
     /// After rte_mempool.h, `rte_mempool_do_generic_put` (DPDK 21.11), whose stack can't refuse.

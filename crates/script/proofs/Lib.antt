@@ -4,6 +4,7 @@ pub mod CacheCalls
 pub mod CommandLemmas
 pub mod CutLemmas
 pub mod Entries
+pub mod GapLemmas
 pub mod GrammarLemmas
 pub mod HeldBags
 pub mod KeptLemmas

@@ -1,6 +1,6 @@
 -- The statement of a pool in the reference model lists each element exactly once.
 use Rattle.std.proofs.Common.{ℕ, zero, suc, ◌≡◌, ◌+◌, ◌<◌, ◌≤◌, inl, inr, nat_lt, Bool, true, false, cond, List, [], ◌∷◌, ◌++◌, length, length-append, get_or, map, replicate, filter, Option, Some, None, refl, sym, ◌∙◌, ap, arith}
-use Rattle.std.specs.Prelude.{min, sum_by, flat_map}
+use Rattle.std.specs.Prelude.{min, sum_by, count_by, flat_map, ◌==◌, ◌*◌}
 use Rattle.std.specs.List.{range_with_len}
 use Rattle.std.specs.List.Sorted.{IsStrictlyIncreasing}
 use Rattle.std.proofs.lemmas.List.{length-map, length-replicate}
@@ -8,6 +8,7 @@ use Rattle.std.proofs.lemmas.List.Concat.{length-flat_map}
 use Rattle.std.proofs.lemmas.List.Elements.{All-map, filter_passes}
 use Rattle.std.proofs.lemmas.List.FromFn.{length-range_with_len, get_or-range_with_len}
 use Rattle.std.proofs.lemmas.List.Kept.{IsStrictlyIncreasing-filter}
+use Rattle.std.proofs.lemmas.List.Folds.{sum_by-replicate}
 use Rattle.std.proofs.lemmas.List.Sums.{sum_by-cons, sum_by-append}
 use Rattle.std.proofs.lemmas.Bool.{cases_Bool, ltb-true, ltb-false, lt-ltb, le-ltb, cond-true, cond-false, true≢false}
 use Rattle.std.proofs.lemmas.Bool.Decides.{nat_tests}
@@ -15,7 +16,7 @@ use Rattle.commons.specs.Bag.{bag, one}
 use Rattle.commons.specs.Bounds.{IsPool}
 use Rattle.commons.specs.declared.limits.Limits.{Limits}
 use Rattle.commons.specs.declared.packet.Seg.{Seg}
-use Rattle.commons.proofs.Bags.{bag-nil, bag-cons, bag-append, bag-head}
+use Rattle.commons.proofs.Bags.{bag-nil, bag-cons, bag-append, length-is}
 use Rattle.commons.proofs.Places.{one-apart}
 use Rattle.script.specs.declared.commands.Line.{Line}
 use Rattle.script.specs.declared.statement.PlacedPacket.{PlacedPacket}
@@ -24,7 +25,7 @@ use Rattle.script.specs.declared.statement.Holder.{Holder}
 use Rattle.script.specs.declared.statement.Holder.TheVariants.{Worker}
 use Rattle.script.specs.Pool.{Member, Pool, holds_of_packet, holds_in_slot, held_in, held_by}
 use Rattle.script.specs.Replay.{new_run, end_of}
-use Rattle.script.specs.Statements.{packets_from, packets_of, holders_of, held_entry, held_elements, statement_of, listed, packet_holds, ListsEachOnce}
+use Rattle.script.specs.Statements.{packets_from, packets_of, holders_of, held_entry, held_elements, statement_of, listed, packet_holds, is_worker, is_desk, worker_holds, desk_holds, ListsEachOnce}
 use Rattle.script.proofs.HeldBags.{IsBalanced}
 use Rattle.script.proofs.Balance.{at_most_one, range-bag, end_of-balanced, new_pool-balanced}
 
@@ -73,51 +74,10 @@ placed_once : (pool : Pool) → IsBalanced pool → (i : ℕ) → listed (statem
 placed_once pool b i =
     rw elems-entries (omega (arith, held_elements-bag pool b i, b.placed i, sum_by-map (λ (cache : List ℕ). bag cache i) (λ (m : Member). m.cache) pool.members))
 
--- how many of a list are below n
-below : ℕ → List ℕ → ℕ
-below n [] = 0
-below n (x ∷ xs) = cond (nat_lt x n) 1 0 + below n xs
-
--- no number is below 0
-below-first : (x : ℕ) → ◌≡◌ {A = ℕ} (cond (nat_lt x 0) 1 0) 0
-below-first x = grind (arith, nat_tests)
-
--- none of a list is below 0
-below-zero : (xs : List ℕ) → below 0 xs ≡ 0
-unfolding below
-below-zero [] = refl
-below-zero (x ∷ xs) = omega (arith, below-zero xs, below-first x)
-
--- a number below n + 1 is below n or is n
-below-step : (n x : ℕ) → cond (nat_lt x (suc n)) 1 0 ≡ cond (nat_lt x n) 1 0 + one x n
-below-step n x = grind (arith, nat_tests)
-
--- those below n + 1 are those below n and those that are n
-below-suc : (n : ℕ) (xs : List ℕ) → below (suc n) xs ≡ below n xs + bag xs n
-unfolding below
-below-suc n [] = omega (arith, bag-nil n)
-below-suc n (x ∷ xs) = omega (arith, below-suc n xs, bag-cons x xs n, below-step n x)
-
--- each number below n is there once
-below-each : (n : ℕ) (xs : List ℕ) → ((i : ℕ) → i < n → bag xs i ≡ 1) → below n xs ≡ n
-below-each zero xs h = below-zero xs
-below-each (suc n) xs h = omega (arith, below-suc n xs, h n (omega arith), below-each n xs (λ i l. h i (omega arith)))
-
--- what is there is below n, where nothing from n on is
-below-head : (n x b : ℕ) → (n ≤ x → b ≡ 0) → 0 < b → ◌≡◌ {A = ℕ} (cond (nat_lt x n) 1 0) 1
-below-head n x b h p = grind (arith, nat_tests)
-
--- all are below n
-below-all : (n : ℕ) (xs : List ℕ) → ((i : ℕ) → n ≤ i → bag xs i ≡ 0) → below n xs ≡ length xs
-unfolding below
-below-all n [] h = refl
-below-all n (x ∷ xs) h =
-    omega (arith, below-all n xs (λ i p. omega (arith, h i p, bag-cons x xs i)), below-head n x (bag (x ∷ xs) x) (h x) (bag-head x xs))
-
 -- a list of each number below n once, and of no other, has the length n
 length-each : (n : ℕ) (xs : List ℕ) → ((i : ℕ) → bag xs i ≡ cond (nat_lt i n) 1 0) → length xs ≡ n
 length-each n xs h =
-    omega (arith, below-each n xs (λ i l. h i ∙ cond-true (nat_lt i n) 1 0 (lt-ltb i n l)), below-all n xs (λ i l. h i ∙ cond-false (nat_lt i n) 1 0 (le-ltb i n l)))
+    length-is n xs (λ i l. h i ∙ cond-true (nat_lt i n) 1 0 (lt-ltb i n l)) (λ i l. h i ∙ cond-false (nat_lt i n) 1 0 (le-ltb i n l))
 
 -- the bag of lists end to end
 bag-flat_map : {X : Type 0} (f : X → List ℕ) (xs : List X) (i : ℕ) → bag (flat_map f xs) i ≡ sum_by (λ x. bag (f x) i) xs
@@ -186,6 +146,77 @@ packets-holds (m ∷ members) i =
       sum_by-cons (λ (m : Member). held_in m.table i) m members,
     )
 
+-- copies of a worker, counted
+times_flag : (b : Bool) (n : ℕ) → ◌≡◌ {A = ℕ} (n * cond b 1 0) (cond b n 0)
+times_flag true n = omega arith
+times_flag false n = omega arith
+
+sum_flag : (b : Bool) (x y : ℕ) → ◌≡◌ {A = ℕ} (cond b x 0 + cond b y 0) (cond b (x + y) 0)
+sum_flag true x y = refl
+sum_flag false x y = refl
+
+no_flag : (b : Bool) → ◌≡◌ {A = ℕ} (cond b 0 0) 0
+no_flag true = refl
+no_flag false = refl
+
+copies-worker : (n v w : ℕ) → ◌≡◌ {A = ℕ} (count_by (is_worker w) (replicate n (Worker v))) (cond (v == w) n 0)
+copies-worker n v w = sum_by-replicate (λ (h : Holder). cond (is_worker w h) 1 0) n (Worker v) ∙ times_flag (v == w) n
+
+copies-desk : (n v d : ℕ) → ◌≡◌ {A = ℕ} (count_by (is_desk d) (replicate n (Worker v))) 0
+copies-desk n v d = sum_by-replicate (λ (h : Holder). cond (is_desk d h) 1 0) n (Worker v) ∙ omega arith
+
+-- how often a worker stands among the holders, and a desk, which never does
+holders-worker : (members : List Member) (i w : ℕ) → count_by (is_worker w) (holders_of members i) ≡ sum_by (λ (m : Member). cond (m.number == w) (held_in m.table i) 0) members
+holders-worker [] i w = refl
+holders-worker (m ∷ members) i w =
+    let copies : List Holder = replicate (held_in m.table i) (Worker m.number) in
+    omega (
+      arith,
+      sum_by-append (λ (h : Holder). cond (is_worker w h) 1 0) copies (holders_of members i),
+      copies-worker (held_in m.table i) m.number w,
+      holders-worker members i w,
+      sum_by-cons (λ (m : Member). cond (m.number == w) (held_in m.table i) 0) m members,
+    )
+
+holders-desk : (members : List Member) (i d : ℕ) → count_by (is_desk d) (holders_of members i) ≡ 0
+holders-desk [] i d = refl
+holders-desk (m ∷ members) i d =
+    let copies : List Holder = replicate (held_in m.table i) (Worker m.number) in
+    omega (
+      arith,
+      sum_by-append (λ (h : Holder). cond (is_desk d h) 1 0) copies (holders_of members i),
+      copies-desk (held_in m.table i) m.number d,
+      holders-desk members i d,
+    )
+
+-- what a worker's packets hold is what its table does
+packets_from-worker : (worker slot : ℕ) (table : List (Option (List Seg))) (i w : ℕ) →
+    sum_by (λ (placed : PlacedPacket). cond (placed.worker == w) (bag (holds_of_packet placed.segs) i) 0) (packets_from worker slot table) ≡ cond (worker == w) (held_in table i) 0
+packets_from-worker worker slot [] i w = sym (no_flag (worker == w))
+packets_from-worker worker slot (None ∷ table) i w =
+    let same : held_in (None ∷ table) i ≡ held_in table i = omega (arith, sum_by-cons (λ (s : Option (List Seg)). bag (holds_in_slot s) i) None table, bag-nil i) in
+    packets_from-worker worker (slot + 1) table i w ∙ ap (λ (n : ℕ). cond (worker == w) n 0) (sym same)
+packets_from-worker worker slot (Some segs ∷ table) i w =
+    let packet : PlacedPacket = record { worker = worker; slot = slot; segs = segs } in
+    let same : held_in (Some segs ∷ table) i ≡ bag (holds_of_packet segs) i + held_in table i = sum_by-cons (λ (s : Option (List Seg)). bag (holds_in_slot s) i) (Some segs) table in
+    sum_by-cons (λ (placed : PlacedPacket). cond (placed.worker == w) (bag (holds_of_packet placed.segs) i) 0) packet (packets_from worker (slot + 1) table)
+    ∙ ap (λ (n : ℕ). cond (worker == w) (bag (holds_of_packet segs) i) 0 + n) (packets_from-worker worker (slot + 1) table i w)
+    ∙ sum_flag (worker == w) (bag (holds_of_packet segs) i) (held_in table i)
+    ∙ ap (λ (n : ℕ). cond (worker == w) n 0) (sym same)
+
+packets-worker : (members : List Member) (i w : ℕ) →
+    sum_by (λ (placed : PlacedPacket). cond (placed.worker == w) (bag (holds_of_packet placed.segs) i) 0) (flat_map packets_of members)
+    ≡ sum_by (λ (m : Member). cond (m.number == w) (held_in m.table i) 0) members
+packets-worker [] i w = refl
+packets-worker (m ∷ members) i w =
+    omega (
+      arith,
+      sum_by-append (λ (placed : PlacedPacket). cond (placed.worker == w) (bag (holds_of_packet placed.segs) i) 0) (packets_of m) (flat_map packets_of members),
+      packets_from-worker m.number 0 m.table i w,
+      packets-worker members i w,
+      sum_by-cons (λ (m : Member). cond (m.number == w) (held_in m.table i) 0) m members,
+    )
+
 -- numbers in a row rise
 range-rises : (n : ℕ) → IsStrictlyIncreasing (range_with_len 0 n)
 range-rises n k h =
@@ -208,6 +239,11 @@ lists_each_once pool b =
           (λ k d h. length-holders pool.members (get_or (held_elements pool) k d));
       counts = All-map (λ (held : Held). held.count ≡ packet_holds (statement_of pool) held.elem) (held_entry pool.members) (held_elements pool)
           (λ k d h. omega (arith, packets-holds pool.members (get_or (held_elements pool) k d)));
+      by_worker = All-map (λ (held : Held). (w : ℕ) → count_by (is_worker w) held.holders ≡ worker_holds (statement_of pool) w held.elem) (held_entry pool.members) (held_elements pool)
+          (λ k d h w. holders-worker pool.members (get_or (held_elements pool) k d) w ∙ sym (packets-worker pool.members (get_or (held_elements pool) k d) w));
+      by_desk = All-map (λ (held : Held). (e : ℕ) → count_by (is_desk e) held.holders ≡ desk_holds (statement_of pool) e held.elem) (held_entry pool.members) (held_elements pool)
+          (λ k d h e. holders-desk pool.members (get_or (held_elements pool) k d) e);
+      unheld = λ i h. let none = rw elems-entries at h in omega (arith, none, held_elements-bag pool b i, packets-holds pool.members i, b.placed i);
     }
 
 -- after any commands a new pool's statement lists each element exactly once

@@ -5,8 +5,8 @@ use Rattle.std.specs.Str.{bytes_eq}
 use Rattle.std.proofs.lemmas.Bool.{cond-true, cond-false, cases_Bool, false≢true}
 use Rattle.std.proofs.lemmas.Slice.Eq.{bytes_eq-Decides}
 use Rattle.commons.specs.declared.limits.Limits.{Limits}
-use Rattle.script.specs.declared.pool_line.Key.{Key}
-use Rattle.script.specs.declared.pool_line.Key.TheVariants.{Buf, Tries, Start}
+use Rattle.script.specs.declared.commands.Key.{Key}
+use Rattle.script.specs.declared.commands.Key.TheVariants.{Buf, Tries, Start}
 use Rattle.script.specs.declared.pool_line.Settings.{Settings}
 use Rattle.script.specs.Numbers.{IsNumber}
 use Rattle.script.specs.PoolLine.{spelled, same_key, ArePairs, given, AreOnce, limits_with, IsPoolLine}

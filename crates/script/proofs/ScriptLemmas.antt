@@ -199,7 +199,7 @@ unfolding read_from
 script_is bytes limits lines h =
     text_short bytes h.short ∙ ap (λ p. read_lines start 1 p.lines p.rest) (lines_once bytes h.texts [] h.are_lines) ∙ lines_is h.texts start (record { limits = Some limits; lines = lines }) 1 limits h.read refl
 
-cause_from : (bytes : List ℕ) (refusal : Refusal) → read_text bytes ≡ Err refusal → IsCause bytes refusal
+pub cause_from : (bytes : List ℕ) (refusal : Refusal) → read_text bytes ≡ Err refusal → IsCause bytes refusal
 unfolding read_from
 cause_from bytes refusal e =
     elim (cases_lt 1048576 (length bytes)) [

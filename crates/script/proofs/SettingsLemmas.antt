@@ -1,7 +1,7 @@
 -- The settings that words give, one pair after another.
 use Rattle.std.proofs.Common.{◌≡◌, ℕ, List, [], ◌∷◌, Option, Some, None, refl, ap, ◌∙◌}
 use Rattle.std.specs.Prelude.{option_and_then}
-use Rattle.script.specs.declared.pool_line.Key.{Key}
+use Rattle.script.specs.declared.commands.Key.{Key}
 use Rattle.script.specs.declared.pool_line.Settings.{Settings}
 use Rattle.script.specs.Reading.{key_at, number_at, add_value, add_pair, settings_from}
 

@@ -158,3 +158,14 @@ IsCause bytes (ScriptFault number) = IsFirstFault bytes number
 IsCause bytes StepRefused = ⊥
 IsCause bytes Foreign = ⊥
 IsCause bytes SamePacket = ⊥
+
+-- the bytes are some script
+pub record IsSomeScript (bytes : List ℕ) : Type 0 where
+  pub limits : Limits
+  pub lines : List Line
+  pub script : IsScript bytes limits lines
+
+-- some line of the bytes is the first faulty one
+pub record HasSomeFault (bytes : List ℕ) : Type 0 where
+  pub number : ℕ
+  pub fault : IsFirstFault bytes number

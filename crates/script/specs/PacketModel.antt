@@ -23,7 +23,8 @@ fresh_seg l e = record { elem = e; base = None; data_off = min 128 l.buf; data_l
 abbrev pub free_slot : List (Option (List Seg)) → Option ℕ
 free_slot table = position is_none table
 
--- a get of one element fills the slot
+-- A get of one element fills the slot. (A get that is met gives as many elements as were asked for, so its list
+-- isn't empty.)
 abbrev pub fill_slot : ℕ → Member → Result (List ℕ) Refusal × List ℕ × Stack → Reply × Member × Stack
 fill_slot slot m (Ok [], cache, s) = (reply.Refused NoEntries, m, s)
 fill_slot slot m (Ok (e ∷ _), cache, s) =
@@ -43,8 +44,8 @@ put_back freed (Kept, cache, s) = (record freed { back = freed.back + 1 }, cache
 put_back freed (Flushed k, cache, s) = (record freed { back = freed.back + 1; flushed = freed.flushed + k }, cache, s)
 put_back freed (PutOff k e, cache, s) = (record freed { back = freed.back + 1; put_off = Some (k, e) }, cache, s)
 
--- The holds end in order. An element whose last hold went is put back: no later one of these holds it, nor
--- does any other packet.
+-- The holds end in order. After each, the element goes back into the cache where nothing holds it any more:
+-- none of the holds that are still to end, and no other packet.
 abbrev pub end_holds : Limits → (ℕ → ℕ) → List ℕ → Freed × List ℕ × Stack → Freed × List ℕ × Stack
 end_holds l others [] so_far = so_far
 end_holds l others (e ∷ es) so_far =
@@ -76,7 +77,7 @@ abbrev pub member_act : Act → (ℕ → ℕ) → Member → Stack → Reply × 
 member_act Alloc others m s = alloc m s
 member_act (Free slot) others m s = free others slot m s
 
--- how often all packets but the one that is freed hold each element
+-- how often the packets that stay hold each element; an alloc takes none away and doesn't ask
 abbrev pub held_outside : Pool → ℕ → Act → ℕ → ℕ
 held_outside pool n Alloc i = 0
 held_outside pool n (Free slot) i = held_elsewhere pool n slot i

@@ -1,8 +1,8 @@
 -- The pool line: which limits its words give.
 use Rattle.std.specs.Prelude.{◌≡◌, ℕ, Bool, true, false, if◌then◌else◌, List, [], ◌∷◌, Option, Some, None, unwrap_or, codes}
 use Rattle.commons.specs.declared.limits.Limits.{Limits}
-use Rattle.script.specs.declared.pool_line.Key.{Key}
-use Rattle.script.specs.declared.pool_line.Key.TheVariants.{Buf, Tries, Start}
+use Rattle.script.specs.declared.commands.Key.{Key}
+use Rattle.script.specs.declared.commands.Key.TheVariants.{Buf, Tries, Start}
 use Rattle.script.specs.Numbers.{IsNumber}
 
 -- how a key is written
@@ -14,9 +14,14 @@ spelled Start = codes "start"
 -- whether two keys are the same
 abbrev pub same_key : Key → Key → Bool
 same_key Buf Buf = true
+same_key Buf Tries = false
+same_key Buf Start = false
+same_key Tries Buf = false
 same_key Tries Tries = true
+same_key Tries Start = false
+same_key Start Buf = false
+same_key Start Tries = false
 same_key Start Start = true
-same_key _ _ = false
 
 -- the words are these keys, each with its number behind it
 abbrev pub ArePairs : List (List ℕ) → List (Key × ℕ) → Type 0

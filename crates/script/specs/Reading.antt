@@ -10,8 +10,8 @@ use Rattle.script.specs.declared.commands.Command.TheVariants.{Alloc, Free}
 use Rattle.script.specs.declared.commands.Line.{Line}
 use Rattle.script.specs.declared.command_line.Verb.{Verb}
 use Rattle.script.specs.declared.command_line.Verb.TheVariants as verbs
-use Rattle.script.specs.declared.pool_line.Key.{Key}
-use Rattle.script.specs.declared.pool_line.Key.TheVariants.{Buf, Tries, Start}
+use Rattle.script.specs.declared.commands.Key.{Key}
+use Rattle.script.specs.declared.commands.Key.TheVariants.{Buf, Tries, Start}
 use Rattle.script.specs.declared.pool_line.Settings.{Settings}
 use Rattle.script.specs.Numbers.{decimal}
 use Rattle.script.specs.Grammar.{State, start}

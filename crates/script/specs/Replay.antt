@@ -26,13 +26,13 @@ new_run l = record { pool = new_pool l; stands = λ worker name. None }
 abbrev pub named : ℕ → List ℕ → Option ℕ → (ℕ → List ℕ → Option ℕ) → ℕ → List ℕ → Option ℕ
 named worker name slot stands other_worker other_name = if other_worker == worker && bytes_eq other_name name then slot else stands other_worker other_name
 
--- a name stands for its packet from the making that succeeds
+-- an alloc that is met gives its name the new packet's slot
 abbrev pub stands_after_alloc : ℕ → List ℕ → Reply → (ℕ → List ℕ → Option ℕ) → ℕ → List ℕ → Option ℕ
 stands_after_alloc worker name (Allocated slot elem) stands = named worker name (Some slot) stands
 stands_after_alloc worker name (WasFreed freed) stands = stands
 stands_after_alloc worker name (Refused cause) stands = stands
 
--- until it is freed
+-- and a free that is met takes it away
 abbrev pub stands_after_free : ℕ → List ℕ → Reply → (ℕ → List ℕ → Option ℕ) → ℕ → List ℕ → Option ℕ
 stands_after_free worker name (Allocated slot elem) stands = stands
 stands_after_free worker name (WasFreed freed) stands = named worker name None stands

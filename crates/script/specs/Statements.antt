@@ -1,5 +1,5 @@
 -- What a statement says: of a pool in the reference model, and of any pool.
-use Rattle.std.specs.Prelude.{ℕ, ◌≡◌, ◌+◌, ◌<◌, ◌≤◌, nat_lt, List, [], ◌∷◌, ◌++◌, length, replicate, filter, map, flat_map, sum_by, All, Option, Some, None}
+use Rattle.std.specs.Prelude.{ℕ, ◌≡◌, ◌+◌, ◌<◌, ◌≤◌, nat_lt, List, [], ◌∷◌, ◌++◌, length, replicate, filter, map, flat_map, sum_by, All, Option, Some, None, ◌==◌, Bool, true, false, cond, count_by}
 use Rattle.std.specs.List.{range_with_len}
 use Rattle.std.specs.List.Sorted.{IsStrictlyIncreasing}
 use Rattle.commons.specs.Bag.{bag}
@@ -8,7 +8,7 @@ use Rattle.script.specs.declared.statement.Statement.{Statement}
 use Rattle.script.specs.declared.statement.PlacedPacket.{PlacedPacket}
 use Rattle.script.specs.declared.statement.Held.{Held}
 use Rattle.script.specs.declared.statement.Holder.{Holder}
-use Rattle.script.specs.declared.statement.Holder.TheVariants.{Worker}
+use Rattle.script.specs.declared.statement.Holder.TheVariants.{Worker, Desk}
 use Rattle.script.specs.Pool.{Stack, Member, Pool, holds_of_packet, held_in, held_by}
 
 -- the packets of a worker's table, the first of its slots having this number
@@ -53,9 +53,25 @@ listed s i = bag s.common i + sum_by (λ cache. bag cache i) s.caches + bag (map
 abbrev pub packet_holds : Statement → ℕ → ℕ
 packet_holds s i = sum_by (λ placed. bag (holds_of_packet placed.segs) i) s.packets + sum_by (λ desk. bag (holds_of_packet desk.segs) i) s.desks
 
+-- how often a worker's packets do, and a desk's
+abbrev pub worker_holds : Statement → ℕ → ℕ → ℕ
+worker_holds s w i = sum_by (λ placed. cond (placed.worker == w) (bag (holds_of_packet placed.segs) i) 0) s.packets
+
+abbrev pub desk_holds : Statement → ℕ → ℕ → ℕ
+desk_holds s d i = sum_by (λ desk. cond (desk.desk == d) (bag (holds_of_packet desk.segs) i) 0) s.desks
+
+abbrev pub is_worker : ℕ → Holder → Bool
+is_worker w (Worker v) = v == w
+is_worker w (Desk d) = false
+
+abbrev pub is_desk : ℕ → Holder → Bool
+is_desk d (Worker v) = false
+is_desk d (Desk e) = e == d
+
 -- Each element of the pool is listed exactly once, and nothing else is; what is available and what is in use
--- are the population; and the count of a held element is the number of its holders, which is that of the holds
--- of all packets.
+-- are the population; the count of a held element is the number of its holders, which is that of the holds of
+-- all packets, and each holder stands there as often as its own packets hold the element; and no packet holds
+-- an element that isn't listed as held.
 pub record ListsEachOnce (s : Statement) : Type 0 where
   pub once : (i : ℕ) → i < s.population → listed s i ≡ 1
   pub none_else : (i : ℕ) → s.population ≤ i → listed s i ≡ 0
@@ -66,3 +82,6 @@ pub record ListsEachOnce (s : Statement) : Type 0 where
   pub held : All (λ held. 1 ≤ held.count) s.held
   pub holders : All (λ held. length held.holders ≡ held.count) s.held
   pub counts : All (λ held. held.count ≡ packet_holds s held.elem) s.held
+  pub by_worker : All (λ held. (w : ℕ) → count_by (is_worker w) held.holders ≡ worker_holds s w held.elem) s.held
+  pub by_desk : All (λ held. (d : ℕ) → count_by (is_desk d) held.holders ≡ desk_holds s d held.elem) s.held
+  pub unheld : (i : ℕ) → bag (map (λ held. held.elem) s.held) i ≡ 0 → packet_holds s i ≡ 0

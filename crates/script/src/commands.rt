@@ -27,6 +27,17 @@ pub struct Line {
     pub command: Command,
 }
 
+/// A key of the pool line.
+#[derive(Clone, Copy, PartialEq, Eq, Debug)]
+pub enum Key {
+    /// Bytes in an element's buffer.
+    Buf,
+    /// Lost tries after which a call gives up.
+    Tries,
+    /// The modification count at the start.
+    Start,
+}
+
 /// A script: the limits of its pool, which can be made, and its commands in the order of the lines,
 /// each by a worker of the pool.
 #[derive(Debug, Drop)]

@@ -1,10 +1,10 @@
 //! Laws of the grammar of scripts, and of each replay.
 
-ghost use Rattle.std.specs.Prelude.{◌≡◌, ℕ, List};
+ghost use Rattle.std.specs.Prelude.{◌≡◌, ℕ, ◌⊎◌, List};
 ghost use Rattle.commons.specs.Bounds.{IsPool};
 ghost use Rattle.commons.specs.declared.limits.Limits.{Limits};
 ghost use Rattle.script.specs.declared.commands.Line.{Line};
-ghost use Rattle.script.specs.Grammar.{IsScript, IsFirstFault, HasBadPool};
+ghost use Rattle.script.specs.Grammar.{IsScript, IsFirstFault, HasBadPool, IsSomeScript, HasSomeFault};
 ghost use Rattle.script.specs.Replay.{new_run, end_of};
 ghost use Rattle.script.specs.Statements.{statement_of, ListsEachOnce};
 
@@ -29,6 +29,11 @@ pub fn no_faulty_script()
         IsFirstFault bytes number → IsScript bytes limits lines → ⊥ }
     ensures pool { (bytes : List ℕ) (limits : Limits) (lines : List Line) →
         HasBadPool bytes → IsScript bytes limits lines → ⊥ }
+{}
+
+/// Every text is a script, or has a first faulty line, or has a bad pool.
+pub fn no_gap()
+    ensures { (bytes : List ℕ) → IsSomeScript bytes ⊎ (HasSomeFault bytes ⊎ HasBadPool bytes) }
 {}
 
 /// After any commands a new pool's statement lists each element exactly once, and what is available and what

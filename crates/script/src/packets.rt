@@ -8,6 +8,7 @@ ghost use Rattle.commons.specs.Lists.{hand_of, holds_of};
 ghost use Rattle.mempool.specs.WorkerCache.{IsWorkerCause, KeepsNumber};
 ghost use Rattle.script.specs.CacheModel.{get, put};
 ghost use Rattle.script.specs.Own.{stack_of, left_of, as_list, Owns, StepsAlone};
+ghost use Rattle.script.specs.Pool.{slots};
 ghost use Rattle.script.specs.PacketModel.{alloc, free, fresh_seg, free_slot};
 ghost use Rattle.script.specs.Single.{element_of, freed_by};
 
@@ -48,7 +49,7 @@ impl Model for Packets {
 impl Packets {
     /// A worker with an empty cache and an empty table.
     pub(crate) fn make(alloc: Global, limits: &Limits, number: u32) -> Result<Packets, Refusal>
-        ensures ok { IfOk result (λ p. p ≡ record { limits = limits.now; number = number; cache = []; table = replicate 256 None }) }
+        ensures ok { IfOk result (λ p. p ≡ record { limits = limits.now; number = number; cache = []; table = replicate slots None }) }
         ensures cause { IfErr result (IsWorkerCause limits.now number) }
     {
         let worker = Worker::make(alloc, limits, number)?;
@@ -144,7 +145,7 @@ const NOTHING_FREED: Freed = Freed {
 
 /// A table of empty slots.
 fn empty_table(alloc: Global) -> Result<Vec<Option<Packet>>, AllocError>
-    ensures { IfOk result (λ v. v.items ≡ replicate 256 None) }
+    ensures { IfOk result (λ v. v.items ≡ replicate slots None) }
 {
     let mut table = Vec::with_capacity(alloc, SLOTS)?;
     for _ in 0..SLOTS {

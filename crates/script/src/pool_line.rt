@@ -4,20 +4,10 @@ ghost use Rattle.std.specs.Prelude.{◌≡◌, codes};
 ghost use Rattle.std.specs.Str.{bytes_eq};
 ghost use Rattle.script.specs.Reading.{words_of, key_at, add_value, value_of, settings_from, none_given, limits_by, limits_from};
 
+use crate::commands::Key;
 use crate::line::next_word;
 use crate::number::number_of;
 use commons::limits::Limits;
-
-/// A key of the pool line.
-#[derive(Clone, Copy, PartialEq, Eq, Debug)]
-pub(crate) enum Key {
-    /// Bytes in an element's buffer.
-    Buf,
-    /// Lost tries after which a call gives up.
-    Tries,
-    /// The modification count that the stack starts with.
-    Start,
-}
 
 /// The key that a word spells.
 fn key_of(word: &[u8]) -> Option<Key>

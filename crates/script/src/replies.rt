@@ -6,7 +6,7 @@ pub type Pid = u32;
 /// What a worker is asked to do with its packets.
 #[derive(Clone, Copy, PartialEq, Eq, Debug)]
 pub enum Act {
-    /// Makes a packet of one element.
+    /// Makes a packet of one element, in the lowest free slot.
     Alloc,
     /// Frees the packet in this slot.
     Free(Pid),

@@ -59,8 +59,15 @@ impl SitePool {
         lose_all(members);
     }
 
-    /// Lets a worker, numbered from 1, do this, and answers what came of it. A worker outside the
-    /// pool is refused `StrangerShare`, and nothing changes.
+    /// Lets a worker, numbered from 1, do this, and answers what came of it.
+    ///
+    /// Refused `StrangerShare` for a worker outside the pool. An alloc is refused `PacketsFull`
+    /// where the worker has no free slot, else as its cache's get of one element is: `NoEntries` or
+    /// `HeadSpent`. A free is refused `NoSuchPacket` where the slot is empty or above 255. Nothing
+    /// changes then. A push that the stack refuses is no refusal of a free: `put_off` tells of it,
+    /// and the elements stay in the cache.
+    ///
+    /// After rte_mbuf.h, `rte_pktmbuf_alloc` and `rte_pktmbuf_free` (DPDK 21.11).
     pub fn perform(&mut self, worker: u32, act: Act) -> Reply
         ensures { (result, self.new) ≡ perform self.old worker act }
     {

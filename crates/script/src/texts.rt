@@ -6,7 +6,7 @@ mod replies;
 mod segments;
 mod whole;
 
-pub use replies::push_reply;
+pub(crate) use replies::push_reply;
 pub use whole::statement_text;
 
 #[cfg(test)]
