@@ -1,11 +1,11 @@
 -- What the calls' answers say: why each was refused, and what one that was met moved.
-use Rattle.std.proofs.Common.{length-take, add-one, ◌≡◌, ℕ, ◌+◌, ◌-◌, ◌<◌, ◌≤◌, List, [], ◌∷◌, ◌++◌, length, take, drop, reverse, Result, Ok, Err, OnOk, OnErr, refl, sym, ◌∙◌, ap, subst, arith}
+use Rattle.std.proofs.Common.{length-take, add-one, ◌≡◌, ℕ, ◌+◌, ◌-◌, ◌<◌, ◌≤◌, List, [], ◌∷◌, ◌++◌, length, reverse, Result, Ok, Err, OnOk, refl, ap, arith}
 use Rattle.std.specs.List.{range_with_len}
 use Rattle.std.proofs.lemmas.List.{reverse-append}
 use Rattle.commons.specs.declared.refusal.Refusal.{Refusal}
-use Rattle.commons.specs.declared.refusal.Refusal.TheVariants.{BadPool, OutOfMemory, NoEntries, Contended, HeadSpent, RefSpent, TooManySegs, NoRoom, TooShort, NotDirect, NotIndirect, InUse, NoSuchPacket, PacketsFull, DeskTaken, DeskEmpty, NoSuchDesk, MissingShare, StrangerShare, ScriptFault, StepRefused, Foreign, SamePacket}
+use Rattle.commons.specs.declared.refusal.Refusal.TheVariants.{NoEntries, Contended, HeadSpent}
 use Rattle.commons.specs.Bag.{bag}
-use Rattle.commons.specs.Calls.{Reading, Length, Head, Call, GetList, PutList, HasCause, with_list, spent}
+use Rattle.commons.specs.Calls.{Length, Head, GetList, PutList, HasCause, with_list}
 use Rattle.commons.specs.Lists.{Lists, IsTable, DidGet, DidPut, hand_of, read_by}
 use Rattle.commons.proofs.Tables.{hand_get, hand_put}
 

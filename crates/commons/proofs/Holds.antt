@@ -1,11 +1,10 @@
 -- Laws of the rows of holds, and of headers.
-use Rattle.std.proofs.Common.{ℕ, zero, suc, ◌≡◌, ◌≢◌, ◌+◌, ◌-◌, ◌<◌, ◌≤◌, ◌==◌, ◌⊎◌, inl, inr, Bool, true, false, cond, List, [], ◌∷◌, length, get_or, set, length-set, get_or-set_same, get_or-set_other, Option, Some, None, refl, sym, ◌∙◌, ap, subst, arith}
+use Rattle.std.proofs.Common.{ℕ, zero, suc, ◌≡◌, ◌≢◌, ◌+◌, ◌<◌, ◌≤◌, ◌==◌, inl, inr, Bool, true, false, cond, List, [], length, get_or, set, length-set, get_or-set_same, get_or-set_other, Option, Some, None, refl, sym, ◌∙◌, arith}
 use Rattle.std.specs.Prelude.{sum_by}
-use Rattle.std.proofs.lemmas.List.{get_or_past}
 use Rattle.std.proofs.lemmas.List.Sums.{sum_by-set}
 use Rattle.std.proofs.lemmas.Bool.Decides.{nat_tests}
-use Rattle.commons.specs.Lists.{is_owner, disowned, owner_left, with_hold}
-use Rattle.commons.proofs.Places.{apart_or_same, counted_in}
+use Rattle.commons.specs.Lists.{is_owner, disowned, owner_left}
+use Rattle.commons.proofs.Places.{apart_or_same}
 
 -- a row holds an element at most as often as all rows do
 pub hold_le : (holds : List (List ℕ)) (k i : ℕ) → k < length holds → get_or (get_or holds k []) i 0 ≤ sum_by (λ row. get_or row i 0) holds

@@ -1,17 +1,15 @@
 -- A new pool's lists show a table.
-use Rattle.std.proofs.Common.{◌≡◌, ◌≢◌, ℕ, zero, suc, ◌+◌, ◌-◌, ◌<◌, ◌≤◌, ◌==◌, ◌*◌, ◌⊎◌, inl, inr, Bool, true, false, cond, List, [], ◌∷◌, length, get_or, replicate, Option, Some, None, refl, sym, ◌∙◌, ap, subst, arith}
+use Rattle.std.proofs.Common.{◌≡◌, ℕ, zero, suc, ◌+◌, ◌<◌, ◌≤◌, inl, inr, List, [], length, get_or, replicate, Option, None, refl, sym, ◌∙◌, arith}
 use Rattle.std.specs.Prelude.{sum_by}
 use Rattle.std.specs.List.{range_with_len}
 use Rattle.std.proofs.lemmas.List.{get_or_past, get_or-replicate, length-replicate}
 use Rattle.std.proofs.lemmas.List.Folds.{sum_by-replicate}
 use Rattle.std.proofs.lemmas.Bool.{cases_lt}
-use Rattle.std.proofs.lemmas.Bool.Decides.{nat_tests}
 use Rattle.commons.specs.declared.limits.Limits.{Limits}
-use Rattle.commons.specs.declared.place.Place.{Place}
-use Rattle.commons.specs.declared.place.Place.TheVariants.{Common, Hand, Held}
-use Rattle.commons.specs.Bag.{bag, one}
+use Rattle.commons.specs.declared.place.Place.TheVariants.{Common}
+use Rattle.commons.specs.Bag.{bag}
 use Rattle.commons.specs.Bounds.{IsPool}
-use Rattle.commons.specs.Lists.{IsTable, opening, nowhere, in_common, held_count, weight, is_owner}
+use Rattle.commons.specs.Lists.{IsTable, opening, nowhere, is_owner}
 use Rattle.commons.proofs.Bags.{bag-nil, bag-cons, one-same}
 use Rattle.commons.proofs.Places.{apart_or_same, one-apart}
 

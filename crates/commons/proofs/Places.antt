@@ -1,15 +1,13 @@
 -- Laws of places, of the holds of a row for each worker, and of headers.
-use Rattle.std.proofs.Common.{ℕ, zero, suc, ◌≡◌, ◌≢◌, ◌+◌, ◌-◌, ◌<◌, ◌≤◌, ◌==◌, ◌⊎◌, inl, inr, Bool, true, false, cond, List, [], ◌∷◌, length, get_or, set, length-set, get_or-set_same, get_or-set_other, Option, Some, None, refl, sym, ◌∙◌, ap, subst, arith, All}
-use Rattle.std.specs.Prelude.{sum_by}
+use Rattle.std.proofs.Common.{ℕ, zero, suc, ◌≡◌, ◌≢◌, ◌<◌, ◌≤◌, ◌==◌, ◌⊎◌, inl, inr, cond, List, [], ◌∷◌, length, get_or, set, length-set, get_or-set_same, get_or-set_other, refl, ◌∙◌, ap, arith}
 use Rattle.std.proofs.lemmas.List.{get_or_past}
-use Rattle.std.proofs.lemmas.List.Sums.{sum_by-set}
 use Rattle.std.proofs.lemmas.Bool.{cases_lt}
 use Rattle.std.proofs.lemmas.Bool.Decides.{nat_tests}
 use Rattle.commons.specs.declared.place.Place.{Place}
 use Rattle.commons.specs.declared.place.Place.TheVariants.{Common, Hand, Held}
 use Rattle.commons.specs.Bag.{bag, one}
-use Rattle.commons.specs.Lists.{nowhere, in_common, in_hand, held_count, weight, placed, is_owner, disowned, owner_left, with_hold}
-use Rattle.commons.proofs.Bags.{bag-nil, bag-cons, bag-head}
+use Rattle.commons.specs.Lists.{nowhere, in_common, in_hand, held_count, weight, placed}
+use Rattle.commons.proofs.Bags.{bag-nil, bag-cons}
 
 pub zero_or_more : (n : ℕ) → (n ≡ 0) ⊎ (0 < n)
 zero_or_more zero = inl refl

@@ -1,18 +1,18 @@
 -- What a claim and the end of a hold do to a table.
-use Rattle.std.proofs.Common.{◌≡◌, ◌≢◌, ℕ, ◌+◌, ◌-◌, ◌<◌, ◌≤◌, ◌==◌, ◌⊎◌, inl, inr, zero, suc, Bool, true, false, cond, nat_lt, List, [], ◌∷◌, length, get_or, set, length-set, get_or-set_same, get_or-set_other, Option, Some, None, refl, sym, ◌∙◌, ap, subst, arith}
+use Rattle.std.proofs.Common.{◌≡◌, ◌≢◌, ℕ, ◌+◌, ◌-◌, ◌<◌, ◌≤◌, inl, inr, zero, suc, true, cond, nat_lt, [], length, get_or, set, length-set, get_or-set_same, get_or-set_other, Option, Some, None, refl, sym, ◌∙◌, arith}
 use Rattle.std.proofs.lemmas.List.{get_or_past}
 use Rattle.std.proofs.lemmas.Bool.{cases_lt}
 use Rattle.std.proofs.lemmas.Bool.Decides.{nat_tests}
 use Rattle.commons.specs.declared.place.Place.{Place}
-use Rattle.commons.specs.declared.place.Place.TheVariants.{Common, Hand, Held}
+use Rattle.commons.specs.declared.place.Place.TheVariants.{Held}
 use Rattle.commons.specs.declared.refusal.Lowered.{Lowered}
 use Rattle.commons.specs.declared.refusal.Lowered.TheVariants.{Last, Still}
-use Rattle.commons.specs.Bag.{bag, one}
+use Rattle.commons.specs.Bag.{one}
 use Rattle.commons.specs.Calls.{back}
-use Rattle.commons.specs.Lists.{Lists, IsTable, KeepsOthers, WasLowered, nowhere, place_of, in_common, in_hand, held_count, weight, hand_of, holds_of, holds_of_all, header_of, is_owner, with_hold, owner_left, headers_left, after_claim, after_lower}
+use Rattle.commons.specs.Lists.{Lists, IsTable, KeepsOthers, WasLowered, nowhere, place_of, in_common, in_hand, held_count, weight, hand_of, holds_of, holds_of_all, header_of, is_owner, owner_left, after_claim, after_lower}
 use Rattle.commons.proofs.Bags.{one-same}
 use Rattle.commons.proofs.Places.{zero_or_more, apart_or_same, one-apart, in_hand-same, in_hand-other, is_hand, weight-hand, stands_in_hand, counted_in, held_only}
-use Rattle.commons.proofs.Holds.{hold_le, sum-elsewhere, sum-there, length-row, row-there, row-elsewhere, row-other, owner_left-other, disowned-same, owner_is, owner-same, owner-other}
+use Rattle.commons.proofs.Holds.{hold_le, sum-elsewhere, sum-there, length-row, row-there, row-elsewhere, owner_left-other, disowned-same, owner-same, owner-other}
 use Rattle.commons.proofs.Tables.{row_below, not_held, hold_elsewhere, hold_of_other}
 
 -- what a worker holds is in all holds
@@ -160,7 +160,7 @@ module _ (s : Lists) (w i : ℕ) (q : Place) (answer : Lowered) (t : IsTable s) 
     rows = λ v m. length-row s.holds (w - 1) i (holds_of s w i - 1) v s.limits.population row_ok.0 row_ok.1 (t.rows v m);
     counted = λ j. elim (apart_or_same i j) [
       | inl e ↦ rw (e, get_or-set_same s.places i q nowhere in_places)
-        (omega (arith, sum-there s.holds (w - 1) i (holds_of s w i - 1) row_ok.0 in_row, t.counted i, lowered_count w (place_of s i) q answer d, p))
+          (omega (arith, sum-there s.holds (w - 1) i (holds_of s w i - 1) row_ok.0 in_row, t.counted i, lowered_count w (place_of s i) q answer d, p))
       | inr e ↦ rw (get_or-set_other s.places i j q nowhere e) (t.counted j ∙ sym (sum-elsewhere s.holds (w - 1) i (holds_of s w i - 1) j row_ok.0 e))
     ];
     header_places = length-set s.headers i (owner_left w (holds_of s w i - 1) (get_or s.headers i None)) ∙ t.header_places;

@@ -1,20 +1,16 @@
 -- What the calls do to a table: each keeps it, and what the other workers have.
-use Rattle.std.proofs.Common.{length-append, ◌≡◌, ◌≢◌, ℕ, ◌+◌, ◌-◌, ◌<◌, ◌≤◌, ◌==◌, ◌⊎◌, inl, inr, zero, suc, Bool, true, false, cond, List, [], ◌∷◌, ◌++◌, length, take, drop, reverse, get_or, set, length-set, get_or-set_same, get_or-set_other, Option, Some, None, Result, Ok, Err, refl, sym, ◌∙◌, ap, subst, arith, All}
-use Rattle.std.specs.Prelude.{sum_by}
+use Rattle.std.proofs.Common.{length-append, ◌≡◌, ◌≢◌, ℕ, ◌+◌, ◌-◌, ◌<◌, ◌≤◌, ◌⊎◌, inl, inr, zero, suc, List, [], ◌∷◌, ◌++◌, length, take, drop, reverse, get_or, set, length-set, get_or-set_same, get_or-set_other, Some, None, refl, sym, ◌∙◌, arith, All}
 use Rattle.std.proofs.lemmas.List.{get_or_past}
 use Rattle.std.proofs.lemmas.Bool.{cases_lt}
-use Rattle.std.proofs.lemmas.Bool.Decides.{nat_tests}
 use Rattle.commons.specs.declared.place.Place.{Place}
 use Rattle.commons.specs.declared.place.Place.TheVariants.{Common, Hand, Held}
-use Rattle.commons.specs.declared.refusal.Lowered.{Lowered}
-use Rattle.commons.specs.declared.refusal.Lowered.TheVariants.{Last, Still}
-use Rattle.commons.specs.Bag.{bag, one}
-use Rattle.commons.specs.Calls.{spent, back}
-use Rattle.commons.specs.Lists.{Lists, IsTable, KeepsOthers, WasLowered, nowhere, place_of, in_common, in_hand, held_count, weight, hand_of, holds_of, holds_of_all, header_of, is_owner, placed, with_hold, owner_left, headers_left, after_get, after_put, after_claim, after_lower}
+use Rattle.commons.specs.Bag.{bag}
+use Rattle.commons.specs.Calls.{spent}
+use Rattle.commons.specs.Lists.{Lists, IsTable, KeepsOthers, nowhere, place_of, in_common, in_hand, held_count, weight, hand_of, holds_of_all, placed, with_hold, after_get, after_put, after_claim}
 use Rattle.commons.specs.ListLaws.{in_hand-le, hand_below_lem}
-use Rattle.commons.proofs.Bags.{bag-nil, bag-cons, bag-take-drop, bag-append, bag-reverse, bag-head, one-same, length-le}
-use Rattle.commons.proofs.Places.{zero_or_more, apart_or_same, one-apart, length-placed, placed-out, placed-in, in_common-le, in_hand-same, in_hand-other, is_common, is_hand, weight-hand, stands_in_common, stands_in_hand, counted_in, held_only}
-use Rattle.commons.proofs.Holds.{hold_le, sum-elsewhere, sum-there, length-row, row-there, row-elsewhere, row-other, owner_left-other, disowned-same, owner_is, owner-same, owner-other}
+use Rattle.commons.proofs.Bags.{bag-nil, bag-cons, bag-take-drop, bag-append, bag-reverse, bag-head, length-le}
+use Rattle.commons.proofs.Places.{zero_or_more, apart_or_same, length-placed, placed-out, placed-in, in_common-le, in_hand-same, in_hand-other, is_common, is_hand, weight-hand, stands_in_common, stands_in_hand}
+use Rattle.commons.proofs.Holds.{hold_le, sum-elsewhere, sum-there, length-row, row-there, row-elsewhere, row-other, owner_is}
 
 -- at another element each row is as it was
 pub hold_elsewhere : (holds : List (List ℕ)) (w i n v j : ℕ) → w - 1 < length holds → 1 ≤ v → j ≢ i →
@@ -38,7 +34,7 @@ moved s common places changes = record s { common = common; places = places; cha
 table_moved : (s : Lists) (common : List ℕ) (places : List Place) (changes : ℕ) (old new : Place) → IsTable s →
     length places ≡ length s.places → held_count old ≡ 0 → held_count new ≡ 0 → 0 < weight s.limits.workers new → changes ≤ spent →
     ((i : ℕ) → ((get_or places i nowhere ≡ place_of s i) × (bag common i ≡ bag s.common i))
-      ⊎ ((place_of s i ≡ old) × (get_or places i nowhere ≡ new) × (bag common i ≡ in_common new))) →
+    ⊎ ((place_of s i ≡ old) × (get_or places i nowhere ≡ new) × (bag common i ≡ in_common new))) →
     IsTable (moved s common places changes)
 unfolding moved
 table_moved s common places changes old new t len a b w c each = record {
@@ -67,7 +63,7 @@ table_moved s common places changes old new t len a b w c each = record {
 others_moved : (s : Lists) (common : List ℕ) (places : List Place) (changes : ℕ) (old new : Place) (w : ℕ) →
     ((v : ℕ) → v ≢ w → in_hand v old ≡ in_hand v new) →
     ((i : ℕ) → ((get_or places i nowhere ≡ place_of s i) × (bag common i ≡ bag s.common i))
-      ⊎ ((place_of s i ≡ old) × (get_or places i nowhere ≡ new) × (bag common i ≡ in_common new))) →
+    ⊎ ((place_of s i ≡ old) × (get_or places i nowhere ≡ new) × (bag common i ≡ in_common new))) →
     KeepsOthers w s (moved s common places changes)
 unfolding moved
 others_moved s common places changes old new w same each = record {
@@ -89,8 +85,11 @@ got_each s w n t i =
       | inl z ↦ inl (placed-out (take n s.common) (Hand w) nowhere s.places i z, omega (arith, a))
       | inr p ↦
           let c : 0 < in_common (place_of s i) = omega (arith, t.shown i, a) in
-          inr (is_common (place_of s i) c, placed-in (take n s.common) (Hand w) nowhere s.places i p (stands_in_common s.places i c),
-            omega (arith, t.shown i, a, in_common-le (place_of s i)))
+          inr (
+            is_common (place_of s i) c,
+            placed-in (take n s.common) (Hand w) nowhere s.places i p (stands_in_common s.places i c),
+            omega (arith, t.shown i, a, in_common-le (place_of s i)),
+          )
     ]
 
 pub table_get : (s : Lists) (w n : ℕ) → IsTable s → 1 ≤ w → w ≤ s.limits.workers → s.changes < spent → IsTable (after_get w n s)
@@ -131,8 +130,11 @@ put_each s w xs t h i =
           let c : 0 < in_hand w (place_of s i) = omega (arith, h i) in
           let e = is_hand w (place_of s i) c in
           let k = rw e at (t.shown i) in
-          inr (e, placed-in xs Common nowhere s.places i p (stands_in_hand s.places w i c),
-            omega (arith, a, b, k, h i, in_hand-le w (place_of s i)))
+          inr (
+            e,
+            placed-in xs Common nowhere s.places i p (stands_in_hand s.places w i c),
+            omega (arith, a, b, k, h i, in_hand-le w (place_of s i)),
+          )
     ]
 
 pub table_put : (s : Lists) (w : ℕ) (xs : List ℕ) → IsTable s → ((i : ℕ) → bag xs i ≤ hand_of s w i) → s.changes < spent → IsTable (after_put xs s)
@@ -213,7 +215,7 @@ table_claim s w i t l h p =
       rows = λ v b. length-row s.holds (w - 1) i 1 v s.limits.population k.0 k.1 (t.rows v b);
       counted = λ j. elim (apart_or_same i j) [
         | inl e ↦ rw (e, get_or-set_same s.places i (Held 1) nowhere below)
-          (omega (arith, sum-there s.holds (w - 1) i 1 k.0 within, not_held s w i t p, hold_le s.holds (w - 1) i k.0))
+            (omega (arith, sum-there s.holds (w - 1) i 1 k.0 within, not_held s w i t p, hold_le s.holds (w - 1) i k.0))
         | inr e ↦ rw (get_or-set_other s.places i j (Held 1) nowhere e) (t.counted j ∙ sym (sum-elsewhere s.holds (w - 1) i 1 j k.0 e))
       ];
       header_places = length-set s.headers i (Some w) ∙ t.header_places;

@@ -1,5 +1,5 @@
 -- The limits within which a pool can be made.
-use Rattle.std.specs.Prelude.{ℕ, ◌≤◌, ◌*◌, ◌/◌}
+use Rattle.std.specs.Prelude.{◌≤◌, ◌*◌, ◌/◌}
 use Rattle.commons.specs.declared.limits.Limits.{Limits}
 
 -- the limits are those of a pool

@@ -1,5 +1,5 @@
 -- What a packet is.
-use Rattle.std.specs.Prelude.{ℕ, ◌≤◌, ◌+◌, List, length}
+use Rattle.std.specs.Prelude.{◌≤◌, ◌+◌, List, length}
 use Rattle.std.specs.Prelude.{All}
 use Rattle.commons.specs.declared.packet.Seg.{Seg}
 

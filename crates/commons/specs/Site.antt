@@ -1,5 +1,5 @@
 -- How a `PlainSite` keeps its lists. No public clause cites this module.
-use Rattle.std.specs.Prelude.{ℕ, ◌≤◌, reverse, vec_capacity}
+use Rattle.std.specs.Prelude.{◌≤◌, reverse, vec_capacity}
 use Rattle.commons.specs.Lists.{Lists, IsTable}
 use Rattle.commons.specs.declared.site.PlainSite.TheInside.{Inside}
 

@@ -9,3 +9,5 @@ pub mod refusal;
 pub mod seq;
 pub mod shared;
 pub mod site;
+#[cfg(test)]
+mod tests;

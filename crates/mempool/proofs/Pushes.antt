@@ -1,7 +1,7 @@
 -- A push of what is beyond a size is the one request of a put's or a flush's rule.
-use Rattle.std.proofs.Common.{◌≡◌, ◌<◌, ◌≤◌, ◌+◌, ◌-◌, ◌++◌, ℕ, List, [], ◌∷◌, length, take, drop, arith, refl, ap, ◌∙◌, sym, Result, Ok, Err}
+use Rattle.std.proofs.Common.{◌≡◌, ◌<◌, ◌≤◌, ◌-◌, ◌++◌, ℕ, List, [], ◌∷◌, length, drop, arith, refl, Ok, Err}
 use Rattle.commons.specs.declared.limits.Limits.{Limits}
-use Rattle.commons.specs.Calls.{Reading, Call, Made, PutList, Did, Leads, calls_of}
+use Rattle.commons.specs.Calls.{Reading, Call, Made, PutList, Leads, calls_of}
 use Rattle.mempool.specs.declared.put.Put.{Put}
 use Rattle.mempool.specs.Caches.{Pushed, Gone, Stays, Puts, Flush, FlushPutOff, Flushes, Whole, WholePutOff, threshold}
 

@@ -1,5 +1,5 @@
 -- How a `Worker` keeps its cache. No public clause cites this module.
-use Rattle.std.specs.Prelude.{ℕ, ◌≤◌, vec_capacity}
+use Rattle.std.specs.Prelude.{◌≤◌, vec_capacity}
 use Rattle.commons.specs.Bounds.{IsPool}
 use Rattle.mempool.specs.WorkerCache.{WorkerCache}
 use Rattle.mempool.specs.declared.worker.Worker.TheInside.{Inside}

@@ -3,4 +3,6 @@
 
 pub mod put;
 mod steps;
+#[cfg(test)]
+mod tests;
 pub mod worker;

@@ -1,15 +1,14 @@
 -- A cache's calls on the lists are the reference model's requests.
-use Rattle.std.proofs.Common.{ℕ, ◌≡◌, ◌≢◌, ◌+◌, ◌-◌, ◌==◌, ◌<◌, ◌≤◌, ◌⊎◌, inl, inr, nat_lt, nat_le, Bool, true, false, cond, List, [], ◌∷◌, ◌++◌, length, take, drop, Result, Ok, Err, refl, sym, ◌∙◌, ap, subst, arith}
+use Rattle.std.proofs.Common.{ℕ, ◌≡◌, ◌≢◌, ◌+◌, ◌-◌, ◌==◌, ◌<◌, ◌≤◌, ◌⊎◌, inl, inr, nat_lt, nat_le, Bool, true, false, cond, List, ◌++◌, length, drop, Result, Ok, Err, refl, sym, ◌∙◌, subst, arith}
 use Rattle.std.proofs.lemmas.Bool.Decides.{nat_tests}
 use Rattle.commons.specs.declared.limits.Limits.{Limits}
 use Rattle.commons.specs.declared.refusal.Refusal.{Refusal}
 use Rattle.commons.specs.declared.refusal.Refusal.TheVariants.{NoEntries, Contended, HeadSpent}
-use Rattle.commons.specs.Calls.{spent, Call, GetList, PutList}
-use Rattle.commons.specs.Lists.{Lists, DidGet, DidPut, after_get, after_put}
+use Rattle.commons.specs.Calls.{spent, Call}
+use Rattle.commons.specs.Lists.{Lists, DidGet, DidPut}
 use Rattle.mempool.specs.declared.put.Put.{Put}
-use Rattle.mempool.specs.declared.put.Put.TheVariants.{Kept, Flushed, PutOff}
-use Rattle.mempool.specs.Caches.{last, without_last, threshold, Gets, Nothing, Direct, FromCache, Refill, RefillRefused, NoRefill, Puts, NothingPut, Bypass, BypassPutOff, Flush, FlushPutOff, Keep}
-use Rattle.script.specs.Pool.{Stack}
+use Rattle.mempool.specs.declared.put.Put.TheVariants.{Kept}
+use Rattle.mempool.specs.Caches.{threshold, Gets, Nothing, Direct, FromCache, Refill, RefillRefused, NoRefill, Puts, NothingPut, Bypass, BypassPutOff, Flush, FlushPutOff, Keep}
 use Rattle.script.specs.CacheModel.{ask, push, get, put, put_beyond}
 use Rattle.script.specs.Own.{stack_of}
 use Rattle.script.proofs.PlainCalls.{LeadsPlain}

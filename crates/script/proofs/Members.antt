@@ -1,22 +1,21 @@
 -- The workers of a pool: what one does keeps the others, and is what the reference model does.
-use Rattle.std.proofs.Common.{ℕ, zero, suc, ◌≡◌, ◌≢◌, ◌+◌, ◌-◌, ◌<◌, ◌≤◌, ◌==◌, ◌&&◌, ◌⊎◌, inl, inr, nat_le, Bool, true, false, cond, List, [], ◌∷◌, length, get_or, set, length-set, get_or-set_same, get_or-set_other, Option, Some, None, refl, sym, ◌∙◌, ap, subst, arith, All}
-use Rattle.std.specs.Prelude.{sum_by, IsTrue}
+use Rattle.std.proofs.Common.{ℕ, ◌≡◌, ◌≢◌, ◌+◌, ◌-◌, ◌<◌, ◌≤◌, ◌&&◌, inl, inr, nat_le, true, List, [], ◌∷◌, length, get_or, set, get_or-set_same, get_or-set_other, Option, Some, None, refl, sym, ◌∙◌, ap, arith, All}
+use Rattle.std.specs.Prelude.{IsTrue}
 use Rattle.std.proofs.lemmas.List.{get_or_past, get_or_default}
 use Rattle.std.proofs.lemmas.Bool.{cases_lt}
-use Rattle.std.proofs.lemmas.List.Sums.{sum_by-set, sum_by-cons}
+use Rattle.std.proofs.lemmas.List.Sums.{sum_by-set}
 use Rattle.std.proofs.lemmas.Bool.Decides.{nat_tests}
-use Rattle.commons.specs.Bag.{bag, one}
 use Rattle.commons.specs.declared.limits.Limits.{Limits}
 use Rattle.commons.specs.declared.packet.Seg.{Seg}
-use Rattle.commons.specs.Lists.{Lists, IsTable, hand_of, holds_of, held_count, place_of}
+use Rattle.commons.specs.Lists.{Lists, IsTable}
 use Rattle.commons.proofs.Bags.{bag-nil, bag-single, one-same}
 use Rattle.script.specs.declared.replies.Act.{Act}
 use Rattle.script.specs.declared.replies.Act.TheVariants.{Alloc, Free}
 use Rattle.script.specs.declared.replies.Freed.{Freed}
 use Rattle.script.specs.declared.replies.Reply.{Reply}
 use Rattle.script.specs.declared.replies.Reply.TheVariants as reply
-use Rattle.script.specs.Pool.{Stack, Member, Pool, nobody, member_at, holds_in_slot, held_in, held_by, with_member}
-use Rattle.script.specs.PacketModel.{member_act, held_outside, act_on, perform, freed_nothing, end_holds, free_in, free, without_packet}
+use Rattle.script.specs.Pool.{Stack, Member, Pool, nobody, holds_in_slot, held_in, held_by}
+use Rattle.script.specs.PacketModel.{member_act, act_on, perform, freed_nothing, end_holds, free_in, without_packet}
 use Rattle.script.specs.Own.{stack_of, left_of, is_single, Owns, StepsAlone}
 use Rattle.script.specs.SitePool.{IsMember}
 use Rattle.script.specs.Single.{element_of}
@@ -59,7 +58,7 @@ free_in_others o1 o2 None k m s single h = refl
 free_in_others o1 o2 (Some []) k m s single h = cc
 free_in_others o1 o2 (Some (seg ∷ [])) k m s single h =
     let same : end_holds m.limits o1 (holds_in_slot (Some (seg ∷ []))) (freed_nothing, m.cache, s) ≡ end_holds m.limits o2 (holds_in_slot (Some (seg ∷ []))) (freed_nothing, m.cache, s) =
-      end_one_others m.limits o1 o2 (holds_in_slot (Some (seg ∷ []))) seg.elem (freed_nothing, m.cache, s) (holds_of_single (Some (seg ∷ [])) seg.elem single refl) (h seg.elem refl) in
+    end_one_others m.limits o1 o2 (holds_in_slot (Some (seg ∷ []))) seg.elem (freed_nothing, m.cache, s) (holds_of_single (Some (seg ∷ [])) seg.elem single refl) (h seg.elem refl) in
     ap (λ (d : Freed × List ℕ × Stack). (reply.Freed d.0, record m { cache = d.1; table = set m.table k None }, d.2)) same
 free_in_others o1 o2 (Some (seg ∷ (other ∷ segs))) k m s single h = cc
 
@@ -98,7 +97,7 @@ pub performed : (s t : Lists) (members : List Member) (w : ℕ) (act : Act) (r :
     ((k : ℕ) → k < s.limits.workers → IsMember s k (get_or members k (nobody s.limits))) → 1 ≤ w → w ≤ length members → t.limits ≡ s.limits →
     (r, m, stack_of t) ≡ member_act act (left_of s) (get_or members (w - 1) (nobody s.limits)) (stack_of s) →
     ◌≡◌ {A = Reply × Pool} (r, record { limits = t.limits; stack = stack_of t; members = set members (w - 1) m })
-      (perform (record { limits = s.limits; stack = stack_of s; members = members }) w act)
+    (perform (record { limits = s.limits; stack = stack_of s; members = members }) w act)
 performed s t members w act r m table l each first last same did =
     let done = did ∙ member_act_same s members (w - 1) act table l each (omega arith) in
     rw (in_pool w (length members) first last, same)

@@ -1,6 +1,6 @@
 -- Which packet a name stands for, once a name was set or forgotten.
-use Rattle.std.proofs.Common.{◌≡◌, ℕ, Bool, cond, List, Option, refl, sym, ap, ◌∙◌, eqb}
-use Rattle.std.specs.Prelude.{◌&&◌, ◌==◌}
+use Rattle.std.proofs.Common.{◌≡◌, ℕ, cond, List, Option, sym, ap, ◌∙◌, eqb}
+use Rattle.std.specs.Prelude.{◌&&◌}
 use Rattle.std.specs.Borrow.{Bor}
 use Rattle.std.specs.Str.{bytes_eq}
 use Rattle.std.specs.HashMap.{get}

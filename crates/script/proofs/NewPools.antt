@@ -1,6 +1,6 @@
 -- A new pool: each of its workers has nothing, and owns its part of the lists.
-use Rattle.std.proofs.Common.{ℕ, zero, suc, ◌≡◌, ◌≢◌, ◌+◌, ◌-◌, ◌*◌, ◌<◌, ◌≤◌, ◌⊎◌, inl, inr, Bool, true, false, List, [], ◌∷◌, ◌++◌, add-one, length, get_or, replicate, Option, Some, None, refl, sym, ◌∙◌, ap, subst, arith, All, append_assoc}
-use Rattle.std.specs.Prelude.{sum_by, IsTrue}
+use Rattle.std.proofs.Common.{ℕ, zero, suc, ◌≡◌, ◌+◌, ◌-◌, ◌<◌, ◌≤◌, inl, inr, List, [], ◌∷◌, ◌++◌, add-one, length, get_or, replicate, Option, None, refl, sym, ◌∙◌, ap, arith, All, append_assoc}
+use Rattle.std.specs.Prelude.{IsTrue}
 use Rattle.std.proofs.lemmas.List.{get_or_past, get_or-replicate, length-replicate}
 use Rattle.std.proofs.lemmas.List.Folds.{sum_by-replicate}
 use Rattle.std.proofs.lemmas.Bool.{cases_lt}
@@ -8,15 +8,14 @@ use Rattle.commons.specs.Bag.{bag}
 use Rattle.commons.specs.Bounds.{IsPool}
 use Rattle.commons.specs.declared.limits.Limits.{Limits}
 use Rattle.commons.specs.declared.packet.Seg.{Seg}
-use Rattle.commons.specs.declared.place.Place.{Place}
 use Rattle.commons.specs.declared.place.Place.TheVariants.{Common}
 use Rattle.commons.specs.declared.refusal.Refusal.{Refusal}
-use Rattle.commons.specs.declared.refusal.Refusal.TheVariants.{BadPool, OutOfMemory, NoEntries, Contended, HeadSpent, RefSpent, TooManySegs, NoRoom, TooShort, NotDirect, NotIndirect, InUse, NoSuchPacket, PacketsFull, DeskTaken, DeskEmpty, NoSuchDesk, MissingShare, StrangerShare, ScriptFault, StepRefused, Foreign, SamePacket}
-use Rattle.commons.specs.Lists.{opening, nowhere, in_hand, hand_of, holds_of}
+use Rattle.commons.specs.declared.refusal.Refusal.TheVariants.{BadPool, OutOfMemory}
+use Rattle.commons.specs.Lists.{opening, nowhere, in_hand}
 use Rattle.commons.proofs.Bags.{bag-nil}
 use Rattle.mempool.specs.WorkerCache.{IsWorkerCause}
 use Rattle.script.specs.Pool.{Member, new_members, nobody, held_in, holds_in_slot, slots}
-use Rattle.script.specs.Own.{is_single, Owns}
+use Rattle.script.specs.Own.{is_single}
 use Rattle.script.specs.SitePool.{IsMember}
 
 -- a worker that is new

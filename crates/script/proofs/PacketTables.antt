@@ -1,6 +1,6 @@
 -- Laws of a table of packets of one direct segment.
-use Rattle.std.proofs.Common.{ℕ, zero, suc, ◌≡◌, ◌≢◌, ◌+◌, ◌-◌, ◌<◌, ◌≤◌, ◌==◌, ◌⊎◌, inl, inr, Bool, true, false, cond, List, [], ◌∷◌, length, get_or, set, length-set, get_or-set_same, get_or-set_other, Option, Some, None, refl, sym, ◌∙◌, ap, subst, arith, All}
-use Rattle.std.specs.Prelude.{sum_by, IsTrue, is_none, position}
+use Rattle.std.proofs.Common.{ℕ, ◌≡◌, ◌≢◌, ◌+◌, ◌<◌, ◌==◌, ◌⊎◌, inl, inr, true, List, [], ◌∷◌, length, get_or, set, length-set, get_or-set_same, get_or-set_other, Option, Some, None, refl, sym, ◌∙◌, ap, arith, All}
+use Rattle.std.specs.Prelude.{IsTrue, is_none}
 use Rattle.std.proofs.lemmas.List.{get_or_past}
 use Rattle.std.proofs.lemmas.List.Quantifiers.{position-Some}
 use Rattle.std.proofs.lemmas.List.Sums.{sum_by-set}
@@ -13,7 +13,7 @@ use Rattle.mempool.specs.declared.put.Put.{Put}
 use Rattle.mempool.specs.declared.put.Put.TheVariants.{Kept, Flushed, PutOff}
 use Rattle.script.specs.declared.replies.Freed.{Freed}
 use Rattle.script.specs.declared.replies.Reply.TheVariants as reply
-use Rattle.script.specs.Pool.{Stack, Member, holds_of_seg, holds_of_packet, holds_in_slot, held_in}
+use Rattle.script.specs.Pool.{Stack, Member, holds_of_packet, holds_in_slot, held_in}
 use Rattle.script.specs.PacketModel.{fresh_seg, free_slot, put_back, freed_nothing, end_holds, free_in, free}
 use Rattle.script.specs.CacheModel.{put}
 use Rattle.commons.specs.Lists.{Lists, hand_of, holds_of}
@@ -150,7 +150,7 @@ freed_in : (slot : Option (List Seg)) (others : ℕ → ℕ) (k e : ℕ) (m : Me
 freed_in None others k e m s r cache t single there h p = cc
 freed_in (Some segs) others k e m s r cache t single there h p =
     let done : end_holds m.limits others (holds_in_slot (Some segs)) (freed_nothing, m.cache, s) ≡ (freed_by r, cache, t) =
-      end_one m.limits others (holds_in_slot (Some segs)) e m.cache s (holds_of_single (Some segs) e single there) h ∙ ap (put_back freed_nothing) (sym p) ∙ put_back-nothing r cache t in
+    end_one m.limits others (holds_in_slot (Some segs)) e m.cache s (holds_of_single (Some segs) e single there) h ∙ ap (put_back freed_nothing) (sym p) ∙ put_back-nothing r cache t in
     ap (λ (d : Freed × List ℕ × Stack). (reply.Freed d.0, record m { cache = d.1; table = set m.table k None }, d.2)) (sym done)
 
 pub freed_last : (others : ℕ → ℕ) (k e : ℕ) (m : Member) (s : Stack) (r : Put) (cache : List ℕ) (t : Stack) (o : All (λ slot. IsTrue (is_single slot)) m.table) →

@@ -1,9 +1,9 @@
 -- The calls of a body over any shared pool, at the lists of one worker.
-use Rattle.std.proofs.Common.{Result, Ok, Err, OnOk, OnErr, ℕ, ◌≡◌, ◌≢◌, ◌≤◌, List, [], ◌∷◌, refl, sym, ◌∙◌, ap, subst}
+use Rattle.std.proofs.Common.{Result, Ok, Err, OnOk, OnErr, ℕ, ◌≡◌, List, [], ◌∷◌, refl, sym, ◌∙◌, ap, subst}
 use Rattle.commons.specs.declared.plain.PlainCommons.{PlainCommons}
 use Rattle.commons.specs.declared.limits.Limits.{Limits}
 use Rattle.commons.specs.Calls.{Call, Reading, Made, Leads, calls_of}
-use Rattle.commons.specs.Lists.{Lists, IsTable, KeepsOthers, DidPlain, DidOnLists}
+use Rattle.commons.specs.Lists.{Lists, KeepsOthers, DidPlain, DidOnLists}
 
 -- the calls lead a worker's lists from one state to the other
 abbrev pub LeadsPlain : ℕ → Lists → List Call → Lists → Type 0

@@ -1,5 +1,5 @@
 -- A worker's part of the lists: what a `PlainSite` keeps for it is what the worker has. No public clause cites this module.
-use Rattle.std.specs.Prelude.{ℕ, ◌≡◌, ◌+◌, ◌-◌, ◌≤◌, ◌&&◌, Bool, true, false, is_none, List, [], ◌∷◌, length, All, IsTrue, Option, Some, None, Result, Ok, Err}
+use Rattle.std.specs.Prelude.{ℕ, ◌≡◌, ◌-◌, ◌≤◌, Bool, true, false, is_none, List, [], ◌∷◌, length, All, IsTrue, Option, Some, None, Result, Ok, Err}
 use Rattle.commons.specs.Bag.{bag}
 use Rattle.commons.specs.declared.packet.Seg.{Seg}
 use Rattle.commons.specs.declared.refusal.Refusal.{Refusal}

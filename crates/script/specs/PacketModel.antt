@@ -1,5 +1,5 @@
 -- The reference model of a worker's packets.
-use Rattle.std.specs.Prelude.{ℕ, ◌≡◌, ◌+◌, ◌-◌, ◌<◌, ◌≤◌, ◌==◌, ◌&&◌, nat_lt, nat_le, Bool, true, false, if◌then◌else◌, min, List, [], ◌∷◌, ◌++◌, length, slice_index_or, slice_set, position, is_none, Option, Some, None, Result, Ok, Err}
+use Rattle.std.specs.Prelude.{ℕ, ◌+◌, ◌-◌, ◌==◌, ◌&&◌, nat_le, if◌then◌else◌, min, List, [], ◌∷◌, length, slice_index_or, slice_set, position, is_none, Option, Some, None, Result, Ok, Err}
 use Rattle.commons.specs.Bag.{bag}
 use Rattle.commons.specs.declared.limits.Limits.{Limits}
 use Rattle.commons.specs.declared.packet.Seg.{Seg}
@@ -12,7 +12,7 @@ use Rattle.script.specs.declared.replies.Act.TheVariants.{Alloc, Free}
 use Rattle.script.specs.declared.replies.Freed.{Freed}
 use Rattle.script.specs.declared.replies.Reply.{Reply}
 use Rattle.script.specs.declared.replies.Reply.TheVariants as reply
-use Rattle.script.specs.Pool.{Stack, Member, Pool, holds_in_slot, held_by, member_at, with_member, slots}
+use Rattle.script.specs.Pool.{Stack, Member, Pool, holds_in_slot, held_by, member_at, with_member}
 use Rattle.script.specs.CacheModel.{get, put}
 
 -- the segment of a fresh packet

@@ -1,5 +1,5 @@
 -- The reference model's state: a pool as lists of elements and of packets, with no counts.
-use Rattle.std.specs.Prelude.{ℕ, zero, suc, ◌≡◌, ◌+◌, ◌-◌, ◌*◌, ◌/◌, ◌<◌, ◌≤◌, ◌==◌, ◌&&◌, nat_lt, nat_le, Bool, true, false, if◌then◌else◌, min, List, [], ◌∷◌, ◌++◌, length, take, drop, reverse, slice_index_or, slice_set, replicate, position, is_none, Option, Some, None, Result, Ok, Err, sum_by, flat_map, map}
+use Rattle.std.specs.Prelude.{ℕ, zero, suc, ◌+◌, List, [], ◌∷◌, ◌++◌, slice_index_or, slice_set, replicate, Option, Some, None, sum_by, flat_map}
 use Rattle.std.specs.List.{range_with_len}
 use Rattle.commons.specs.Bag.{bag}
 use Rattle.commons.specs.declared.limits.Limits.{Limits}

@@ -1,5 +1,5 @@
 -- The reference model of a script's commands, line by line.
-use Rattle.std.specs.Prelude.{ℕ, ◌≡◌, ◌+◌, ◌==◌, ◌&&◌, Bool, if◌then◌else◌, List, [], ◌∷◌, Option, Some, None}
+use Rattle.std.specs.Prelude.{ℕ, ◌==◌, ◌&&◌, if◌then◌else◌, List, [], ◌∷◌, Option, Some, None}
 use Rattle.std.specs.Str.{bytes_eq}
 use Rattle.commons.specs.declared.limits.Limits.{Limits}
 use Rattle.commons.specs.declared.refusal.Refusal.TheVariants.{NoSuchPacket}
@@ -7,7 +7,6 @@ use Rattle.script.specs.declared.commands.Command.{Command}
 use Rattle.script.specs.declared.commands.Command.TheVariants as command
 use Rattle.script.specs.declared.commands.Line.{Line}
 use Rattle.script.specs.declared.replies.Act.TheVariants.{Alloc, Free}
-use Rattle.script.specs.declared.replies.Freed.{Freed}
 use Rattle.script.specs.declared.replies.Reply.{Reply}
 use Rattle.script.specs.declared.replies.Reply.TheVariants.{Allocated, Freed as WasFreed, Refused}
 use Rattle.script.specs.Pool.{Pool, new_pool}

@@ -1,6 +1,5 @@
 -- How a `SitePool` is kept. No public clause cites this module.
-use Rattle.std.specs.Prelude.{ℕ, ◌≡◌, ◌+◌, ◌<◌, List, length, slice_index_or}
-use Rattle.commons.specs.declared.limits.Limits.{Limits}
+use Rattle.std.specs.Prelude.{ℕ, ◌≡◌, ◌+◌, ◌<◌, length, slice_index_or}
 use Rattle.commons.specs.Lists.{Lists, IsTable}
 use Rattle.script.specs.Pool.{Member, Pool, nobody}
 use Rattle.script.specs.Own.{stack_of, Owns}

@@ -1,5 +1,5 @@
 -- A run of the reference model, as the code keeps it. No public clause cites this module.
-use Rattle.std.specs.Prelude.{ℕ, List, Option, None}
+use Rattle.std.specs.Prelude.{None}
 use Rattle.script.specs.declared.names.Names.{Names}
 use Rattle.script.specs.Pool.{Pool}
 use Rattle.script.specs.Replay.{Run}

@@ -1,5 +1,5 @@
 -- What a statement says: of a pool in the reference model, and of any pool.
-use Rattle.std.specs.Prelude.{ℕ, ◌≡◌, ◌+◌, ◌<◌, ◌≤◌, nat_lt, List, [], ◌∷◌, ◌++◌, length, replicate, filter, map, flat_map, sum_by, All, Option, Some, None, ◌==◌, Bool, true, false, cond, count_by}
+use Rattle.std.specs.Prelude.{ℕ, ◌≡◌, ◌+◌, ◌<◌, ◌≤◌, nat_lt, List, [], ◌∷◌, length, replicate, filter, map, flat_map, sum_by, All, Option, Some, None, ◌==◌, Bool, false, cond, count_by}
 use Rattle.std.specs.List.{range_with_len}
 use Rattle.std.specs.List.Sorted.{IsStrictlyIncreasing}
 use Rattle.commons.specs.Bag.{bag}
@@ -9,7 +9,7 @@ use Rattle.script.specs.declared.statement.PlacedPacket.{PlacedPacket}
 use Rattle.script.specs.declared.statement.Held.{Held}
 use Rattle.script.specs.declared.statement.Holder.{Holder}
 use Rattle.script.specs.declared.statement.Holder.TheVariants.{Worker, Desk}
-use Rattle.script.specs.Pool.{Stack, Member, Pool, holds_of_packet, held_in, held_by}
+use Rattle.script.specs.Pool.{Member, Pool, holds_of_packet, held_in, held_by}
 
 -- the packets of a worker's table, the first of its slots having this number
 abbrev pub packets_from : ℕ → ℕ → List (Option (List Seg)) → List PlacedPacket

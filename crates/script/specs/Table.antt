@@ -1,6 +1,4 @@
 -- How a worker's packets are kept. No public clause cites this module.
-use Rattle.std.specs.Prelude.{ℕ, List, [], ◌∷◌, Option, Some, None}
-use Rattle.commons.specs.declared.packet.Seg.{Seg}
 use Rattle.script.specs.Pool.{Member}
 use Rattle.script.specs.declared.packets.Packets.TheInside.{Inside}
 

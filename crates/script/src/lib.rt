@@ -22,3 +22,6 @@ pub mod statement;
 pub mod texts;
 
 pub use run::run_replay;
+
+#[cfg(test)]
+mod tests;

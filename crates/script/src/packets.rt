@@ -194,9 +194,21 @@ fn once_put(put: Put) -> Freed
     ensures { result ≡ freed_by put }
 {
     match put {
-        Put::Kept => Freed { back: 1, flushed: 0, put_off: None },
-        Put::Flushed(count) => Freed { back: 1, flushed: count, put_off: None },
-        Put::PutOff(count, cause) => Freed { back: 1, flushed: 0, put_off: Some((count, cause)) },
+        Put::Kept => Freed {
+            back: 1,
+            flushed: 0,
+            put_off: None,
+        },
+        Put::Flushed(count) => Freed {
+            back: 1,
+            flushed: count,
+            put_off: None,
+        },
+        Put::PutOff(count, cause) => Freed {
+            back: 1,
+            flushed: 0,
+            put_off: Some((count, cause)),
+        },
     }
 }
 

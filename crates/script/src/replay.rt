@@ -16,10 +16,7 @@ use std::alloc::{AllocError, Global};
 ///
 /// Refused `OutOfMemory` where memory was refused, and for no other cause: a command that is
 /// refused has that as its reply, and the next one goes on.
-pub fn replay(
-    alloc: Global,
-    script: &Script,
-) -> Result<(Vec<(u32, Reply)>, Statement), Refusal>
+pub fn replay(alloc: Global, script: &Script) -> Result<(Vec<(u32, Reply)>, Statement), Refusal>
     ensures replies { IfOk result (λ r. r.0.items ≡ replies_to script.now.lines (new_run script.now.limits)) }
     ensures statement { IfOk result (λ r. r.1 ≡ statement_of (end_of script.now.lines (new_run script.now.limits)).pool) }
     // Above the model: no element is missing, and none is anywhere twice.
@@ -52,11 +49,7 @@ fn play_to_end(
 }
 
 /// Performs each line in turn, and lists the replies with the lines' numbers.
-fn play(
-    alloc: Global,
-    pool: &mut SitePool,
-    lines: &[Line],
-) -> Result<Vec<(u32, Reply)>, AllocError>
+fn play(alloc: Global, pool: &mut SitePool, lines: &[Line]) -> Result<Vec<(u32, Reply)>, AllocError>
     ensures replies { IfOk result (λ v. v.items ≡ replies_to lines.now (fresh_run pool.old)) }
     ensures pool { OnOk result (pool.new ≡ (end_of lines.now (fresh_run pool.old)).pool) }
 {

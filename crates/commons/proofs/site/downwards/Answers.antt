@@ -5,7 +5,7 @@ use Rattle.commons.proofs.site.downwards.Goals as goal
 pub loop-i-preserved : goal.loop-i-preserved
 loop-i-preserved c = record {
   so_far =
-    let items : c.push.new.self.items ≡ c.loop-i.numbers.items ++ (c.args.count - 1 - c.loop-i.i) ∷ [] = search (rules, c.in_ok-push.ensures.items) in
-    rw items (down_one c.loop-i.numbers.items c.args.count c.loop-i.i (omega arith) c.loop-i.invariant.so_far);
+      let items : c.push.new.self.items ≡ c.loop-i.numbers.items ++ (c.args.count - 1 - c.loop-i.i) ∷ [] = search (rules, c.in_ok-push.ensures.items) in
+      rw items (down_one c.loop-i.numbers.items c.args.count c.loop-i.i (omega arith) c.loop-i.invariant.so_far);
   len = search (rules, c.in_ok-push.ensures.len, c.loop-i.invariant.len);
 }

@@ -1,4 +1,4 @@
-use Rattle.std.proofs.Common.{◌≡◌, refl, arith}
+use Rattle.std.proofs.Common.{refl, arith}
 use Rattle.commons.proofs.Opening.{table_opening}
 use Rattle.commons.proofs.site.opened.Goals as goal
 

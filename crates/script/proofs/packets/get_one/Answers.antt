@@ -1,4 +1,4 @@
-use Rattle.std.proofs.Common.{ℕ, length, ◌≡◌, sym, arith}
+use Rattle.std.proofs.Common.{length, ◌≡◌, sym, arith}
 use Rattle.commons.proofs.Bags.{bag-of_one}
 use Rattle.script.proofs.PacketTables.{one_alone}
 use Rattle.script.proofs.packets.get_one.Goals as goal

@@ -1,8 +1,8 @@
-use Rattle.std.proofs.Common.{ℕ, List, length, ◌≡◌, ◌+◌, ap, subst, sym}
+use Rattle.std.proofs.Common.{ℕ, length, ◌≡◌, ◌+◌, ap, subst}
 use Rattle.commons.specs.Bag.{bag}
 use Rattle.commons.specs.Calls.{calls_of, with_list}
 use Rattle.commons.specs.Lists.{hand_of, holds_of}
-use Rattle.script.proofs.PlainCalls.{Plainly, plainly, on_ok, on_err}
+use Rattle.script.proofs.PlainCalls.{plainly, on_ok, on_err}
 use Rattle.script.proofs.CacheCalls.{got}
 use Rattle.script.proofs.packets.get_plain.Goals as goal
 

@@ -1,9 +1,9 @@
-use Rattle.std.proofs.Common.{ℕ, List, [], ◌∷◌, length, ◌≡◌, ◌+◌, ◌≤◌, ap, subst, sym, arith}
+use Rattle.std.proofs.Common.{ℕ, [], ◌∷◌, ◌≡◌, ◌+◌, ap, subst, arith}
 use Rattle.commons.specs.Bag.{bag, one}
 use Rattle.commons.specs.Calls.{calls_of}
 use Rattle.commons.specs.Lists.{hand_of, holds_of}
 use Rattle.commons.proofs.Bags.{bag-single}
-use Rattle.script.proofs.PlainCalls.{Plainly, plainly}
+use Rattle.script.proofs.PlainCalls.{plainly}
 use Rattle.script.proofs.CacheCalls.{was_put}
 use Rattle.script.proofs.packets.put_one.Goals as goal
 

@@ -1,6 +1,5 @@
-use Rattle.std.proofs.Common.{◌≡◌, List, ℕ, Result, Ok, Err, IfOk, sym, subst}
+use Rattle.std.proofs.Common.{◌≡◌, Result, Ok, Err, IfOk, sym, subst}
 use Rattle.commons.specs.declared.refusal.Refusal.{Refusal}
-use Rattle.script.specs.declared.replies.Reply.{Reply}
 use Rattle.script.specs.declared.statement.Statement.{Statement}
 use Rattle.script.specs.Statements.{ListsEachOnce}
 use Rattle.script.proofs.Listed.{replay_lists_each_once}

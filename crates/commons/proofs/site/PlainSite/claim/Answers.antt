@@ -1,4 +1,4 @@
-use Rattle.std.proofs.Common.{◌≡◌, sym}
+use Rattle.std.proofs.Common.{sym}
 use Rattle.commons.specs.Site.{lists_of}
 use Rattle.commons.proofs.Tables.{table_claim}
 use Rattle.commons.proofs.Single.{others_claim}
@@ -7,7 +7,7 @@ use Rattle.commons.proofs.site.PlainSite.claim.Goals as goal
 pub invariant_of-self : goal.invariant_of-self
 invariant_of-self c = record {
   table = rw c.set_hold.ensures (table_claim (lists_of c.self.inside) c.args.worker c.args.element c.self.invariant.table c.requires.low
-    (rw (sym c.self.view_is) at c.requires.high) (rw (sym c.self.view_is) at c.requires.in_hand));
+      (rw (sym c.self.view_is) at c.requires.high) (rw (sym c.self.view_is) at c.requires.in_hand));
   room = c.self.invariant.room;
 }
 

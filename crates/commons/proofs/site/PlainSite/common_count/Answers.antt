@@ -1,4 +1,4 @@
-use Rattle.std.proofs.Common.{reverse, vec_len, arith}
+use Rattle.std.proofs.Common.{arith}
 use Rattle.std.proofs.lemmas.List.{length-reverse}
 use Rattle.commons.proofs.Tables.{length_common}
 use Rattle.commons.specs.Site.{lists_of}

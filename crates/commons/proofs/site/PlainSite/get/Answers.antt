@@ -1,7 +1,6 @@
-use Rattle.std.proofs.Common.{◌≡◌, ◌<◌, ◌≤◌, length, reverse, take, drop, vec_len, refl, sym, arith, ap}
-use Rattle.commons.specs.Lists.{Lists, IsTable, after_get}
+use Rattle.std.proofs.Common.{length, sym, arith}
+use Rattle.commons.specs.Lists.{Lists}
 use Rattle.commons.specs.Site.{lists_of}
-use Rattle.commons.proofs.Bags.{bag-take-drop}
 use Rattle.commons.proofs.Tables.{table_get, others_get, taken_below}
 use Rattle.commons.proofs.site.PlainSite.get.Goals as goal
 
@@ -13,7 +12,7 @@ place-requires c =
 pub invariant_of-self : goal.invariant_of-self
 invariant_of-self c = record {
   table = rw (c.place.ensures.items, c.take_top.ensures.out, c.take_top.ensures.common)
-    (table_get (lists_of c.self.inside) c.args.worker (length c.args.out.now) c.self.invariant.table c.requires.low (rw (sym c.self.view_is) at c.requires.high)
+      (table_get (lists_of c.self.inside) c.args.worker (length c.args.out.now) c.self.invariant.table c.requires.low (rw (sym c.self.view_is) at c.requires.high)
       (omega (arith, c.self.invariant.table.changed, c.if-self-eq-SPENT.false)));
   room = omega (arith, c.take_top.ensures.capacity, c.self.invariant.room);
 }
@@ -22,7 +21,7 @@ pub returns-clause-kept : goal.returns-clause-kept
 returns-clause-kept c =
     rw (c.place.ensures.items, c.take_top.ensures.out, c.take_top.ensures.common)
     (table_get (lists_of c.self.inside) c.args.worker (length c.args.out.now) c.self.invariant.table c.requires.low (rw (sym c.self.view_is) at c.requires.high)
-      (omega (arith, c.self.invariant.table.changed, c.if-self-eq-SPENT.false)))
+    (omega (arith, c.self.invariant.table.changed, c.if-self-eq-SPENT.false)))
 
 pub returns-clause-others : goal.returns-clause-others
 returns-clause-others c =

@@ -1,6 +1,6 @@
-use Rattle.std.proofs.Common.{◌≡◌, ◌<◌, ◌≤◌, ◌-◌, ◌∙◌, sym, ap, refl, get_or, length, arith, vec_len, None, Option, ℕ}
+use Rattle.std.proofs.Common.{◌≡◌, ◌<◌, ◌≤◌, ◌∙◌, sym, refl, length, arith, None, ℕ}
 use Rattle.std.proofs.lemmas.List.{get_or_default}
-use Rattle.commons.specs.Lists.{Lists, IsTable, WasLowered, nowhere, held_count, place_of, holds_of, owner_left, after_lower}
+use Rattle.commons.specs.Lists.{Lists, IsTable, nowhere, holds_of}
 use Rattle.commons.specs.Site.{lists_of}
 use Rattle.commons.proofs.Single.{held_below, held_place, table_lower, others_lower}
 use Rattle.commons.proofs.site.PlainSite.lower.Goals as goal
@@ -29,7 +29,7 @@ invariant_of-self c =
     let o = c.index-2.ensures ∙ get_or_default s.headers c.args.element c.index-2.result.now None h.1 in
     record {
       table = rw (c.set_hold.ensures, c.owner_left.ensures, o, c.hold-left.ensures)
-        (table_lower s c.args.worker c.args.element c.lowered-place.result.0 c.lowered-place.result.1 t c.requires.low h.2 h.3 d);
+          (table_lower s c.args.worker c.args.element c.lowered-place.result.0 c.lowered-place.result.1 t c.requires.low h.2 h.3 d);
       room = c.self.invariant.room;
     }
 

@@ -1,7 +1,5 @@
-use Rattle.std.proofs.Common.{rules, ◌≡◌, ◌<◌, ◌≤◌, ◌+◌, ◌++◌, ℕ, length, reverse, vec_len, vec_capacity, refl, sym, arith}
+use Rattle.std.proofs.Common.{rules, ◌≡◌, ◌++◌, sym, arith}
 use Rattle.std.proofs.lemmas.List.{length-reverse, reverse-append}
-use Rattle.commons.specs.Bag.{bag}
-use Rattle.commons.specs.Lists.{Lists, hand_of}
 use Rattle.commons.specs.Site.{lists_of}
 use Rattle.commons.proofs.Tables.{table_put, others_put, room_put, put_below}
 use Rattle.commons.proofs.site.PlainSite.put.Goals as goal
@@ -13,15 +11,19 @@ unwrap-requires c =
 
 pub place-requires : goal.place-requires
 place-requires c = λ k d l.
-    omega (arith, put_below (lists_of c.self.inside) c.args.worker c.args.list.now c.self.invariant.table (rw (sym c.self.view_is) at c.requires.in_hand) k d l,
-      c.self.invariant.table.elements, c.self.inside.places.ok)
+    omega (
+      arith,
+      put_below (lists_of c.self.inside) c.args.worker c.args.list.now c.self.invariant.table (rw (sym c.self.view_is) at c.requires.in_hand) k d l,
+      c.self.invariant.table.elements,
+      c.self.inside.places.ok,
+    )
 
 pub invariant_of-self : goal.invariant_of-self
 invariant_of-self c =
     let items : c.extend_from_slice.new.self.items ≡ c.self.inside.common.items ++ c.args.list.now = search (rules, c.extend_from_slice.ensures.items, c.unwrap.ensures) in
     record {
       table = rw (c.place.ensures.items, items, reverse-append)
-        (table_put (lists_of c.self.inside) c.args.worker c.args.list.now c.self.invariant.table (rw (sym c.self.view_is) at c.requires.in_hand)
+          (table_put (lists_of c.self.inside) c.args.worker c.args.list.now c.self.invariant.table (rw (sym c.self.view_is) at c.requires.in_hand)
           (omega (arith, c.self.invariant.table.changed, c.if-self-eq-SPENT.false)));
       room = omega (arith, c.extend_from_slice.ensures.capacity, c.self.invariant.room);
     }
@@ -31,7 +33,7 @@ returns-clause-kept c =
     let items : c.extend_from_slice.new.self.items ≡ c.self.inside.common.items ++ c.args.list.now = search (rules, c.extend_from_slice.ensures.items, c.unwrap.ensures) in
     rw (c.place.ensures.items, items, reverse-append)
     (table_put (lists_of c.self.inside) c.args.worker c.args.list.now c.self.invariant.table (rw (sym c.self.view_is) at c.requires.in_hand)
-      (omega (arith, c.self.invariant.table.changed, c.if-self-eq-SPENT.false)))
+    (omega (arith, c.self.invariant.table.changed, c.if-self-eq-SPENT.false)))
 
 pub returns-clause-others : goal.returns-clause-others
 returns-clause-others c =

@@ -1,7 +1,6 @@
 use Rattle.std.proofs.lemmas.List.{take-append-drop}
-use Rattle.std.proofs.Common.{sym, ap, ◌∙◌, ◌≡◌, ◌<◌, ◌≤◌, ◌+◌, ◌-◌, ◌++◌, ℕ, List, length, take, drop, vec_len, arith, refl, [], ◌∷◌, Ok, Err}
-use Rattle.commons.specs.Bag.{bag}
-use Rattle.commons.specs.Calls.{Made, GetList, with_list}
+use Rattle.std.proofs.Common.{sym, ap, ◌∙◌, ◌≡◌, ◌+◌, ◌-◌, ◌++◌, ℕ, List, length, take, drop, vec_len, arith, refl, [], ◌∷◌, Ok, Err}
+use Rattle.commons.specs.Calls.{GetList, with_list}
 use Rattle.commons.proofs.Bags.{bag-empty, bag-last, bag-take-drop}
 use Rattle.mempool.specs.Caches.{Direct, NoRefill, RefillRefused, Refill}
 use Rattle.mempool.proofs.worker.Worker.get_bulk.Goals as goal
@@ -72,7 +71,7 @@ returns-in-Err-clause-calls g c =
     let ok = c.self.inside.cache.ok in
     rw (sym c.self.view_is) (
       record { call = GetList (length c.args.out.now + c.self.inside.limits.cache - c.len-len.result) (Err c.in-Err._cause); readings = d.readings }
-        ∷ record { call = GetList (length c.args.out.now) (with_list c.get_list-in-Err.result c.get_list-in-Err.new.out); readings = e.readings } ∷ [],
+          ∷ record { call = GetList (length c.args.out.now) (with_list c.get_list-in-Err.result c.get_list-in-Err.new.out); readings = e.readings } ∷ [],
       (c.refill.new.c, d.led, d.cause, (c.get_list-in-Err.new.self, e.led, e.cause, refl)),
       RefillRefused (omega arith) (omega arith) (omega (arith, ok)) (omega arith) c.in-Err._cause (let e : c.len-len.result ≡ length c.self.inside.cache.items = omega (arith, ok) in rw e) c.in-Err.ensures.err,
     )

@@ -1,5 +1,5 @@
-use Rattle.std.proofs.Common.{◌≡◌, ◌<◌, ◌≤◌, ◌++◌, [], ◌∷◌, length, vec_len, arith, refl, sym, Ok, Err}
-use Rattle.commons.specs.Calls.{Made, PutList}
+use Rattle.std.proofs.Common.{[], ◌∷◌, arith, refl, sym, Ok, Err}
+use Rattle.commons.specs.Calls.{PutList}
 use Rattle.mempool.specs.Caches.{Bypass, BypassPutOff}
 use Rattle.mempool.proofs.Pushes.{put_over}
 use Rattle.mempool.proofs.worker.Worker.put_bulk.Goals as goal

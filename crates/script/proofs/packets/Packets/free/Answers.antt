@@ -1,6 +1,5 @@
-use Rattle.std.proofs.Common.{ℕ, ◌≡◌, ◌+◌, ◌-◌, ◌<◌, sym, ◌∙◌, subst, ap, refl, arith, List, [], ◌∷◌, Option, Some, None, get_or}
-use Rattle.commons.specs.Bag.{bag, one}
-use Rattle.commons.specs.Lists.{Lists, KeepsOthers, hand_of, holds_of, held_count, place_of}
+use Rattle.std.proofs.Common.{ℕ, ◌≡◌, ◌-◌, sym, ◌∙◌, subst, ap, arith, List, [], ◌∷◌, Option, Some, None, get_or}
+use Rattle.commons.specs.Lists.{Lists, KeepsOthers, held_count}
 use Rattle.commons.specs.declared.packet.Seg.{Seg}
 use Rattle.script.specs.Table.{member_of}
 use Rattle.script.specs.Pool.{Stack}
@@ -20,7 +19,7 @@ lower-requires c =
     let own = rw (sym c.self.view_is) at c.requires.own in
     let worker = rw (sym c.self.view_is) at c.requires.worker in
     rw worker (held_once c.args.c.now.site.now (member_of c.self.inside) c.args.slot c.in-Some.elem own
-      (there c.self.inside.table.items c.deref.result.now c.args.slot c.in-Some.elem c.deref.ensures.value c.in-Some.ensures))
+    (there c.self.inside.table.items c.deref.result.now c.args.slot c.in-Some.elem c.deref.ensures.value c.in-Some.ensures))
 
 pub returns-in-Still-clause-own : goal.returns-in-Still-clause-own
 returns-in-Still-clause-own c =
@@ -41,9 +40,9 @@ returns-in-Last-clause-model c =
     let same : stack_of c.lower.new.self.site.now ≡ stack_of c.args.c.now.site.now = ap (λ (s : Lists). stack_of s) did.2 in
     rw (sym c.self.view_is, c.once_put.ensures, c.put_one.ensures.number.limits, c.put_one.ensures.number.number)
     (freed_last (left_of c.args.c.now.site.now) c.args.slot c.in-Some.elem (member_of c.self.inside) (stack_of c.args.c.now.site.now)
-      c.put_one.result c.put_one.new.worker.cache (stack_of c.put_one.new.c.site.now) own.single
-      (there c.self.inside.table.items c.deref.result.now c.args.slot c.in-Some.elem c.deref.ensures.value c.in-Some.ensures)
-      last (c.put_one.ensures.model ∙ ap (λ (x : Stack). put c.self.inside.worker.limits (c.in-Some.elem ∷ []) c.self.inside.worker.cache x) same))
+    c.put_one.result c.put_one.new.worker.cache (stack_of c.put_one.new.c.site.now) own.single
+    (there c.self.inside.table.items c.deref.result.now c.args.slot c.in-Some.elem c.deref.ensures.value c.in-Some.ensures)
+    last (c.put_one.ensures.model ∙ ap (λ (x : Stack). put c.self.inside.worker.limits (c.in-Some.elem ∷ []) c.self.inside.worker.cache x) same))
 
 pub returns-in-Last-clause-own : goal.returns-in-Last-clause-own
 returns-in-Last-clause-own c =
@@ -51,11 +50,11 @@ returns-in-Last-clause-own c =
     let worker = rw (sym c.self.view_is) at c.requires.worker in
     rw (c.put_one.ensures.number.limits, c.put_one.ensures.number.number)
     (owns_free c.args.c.now.site.now c.put_one.new.c.site.now c.args.c.now.worker c.lower.new.self.worker (member_of c.self.inside)
-      c.put_one.new.worker.cache c.args.slot c.in-Some.elem own worker c.in-Last.ensures.did.led.1
-      (there c.self.inside.table.items c.deref.result.now c.args.slot c.in-Some.elem c.deref.ensures.value c.in-Some.ensures)
-      (c.put_one.ensures.alone.limits ∙ c.in-Last.ensures.limits)
-      (λ i. omega (arith, c.in-Last.ensures.hand i, c.put_one.ensures.hand i))
-      (λ i. omega (arith, c.in-Last.ensures.holds i, c.put_one.ensures.holds i)))
+    c.put_one.new.worker.cache c.args.slot c.in-Some.elem own worker c.in-Last.ensures.did.led.1
+    (there c.self.inside.table.items c.deref.result.now c.args.slot c.in-Some.elem c.deref.ensures.value c.in-Some.ensures)
+    (c.put_one.ensures.alone.limits ∙ c.in-Last.ensures.limits)
+    (λ i. omega (arith, c.in-Last.ensures.hand i, c.put_one.ensures.hand i))
+    (λ i. omega (arith, c.in-Last.ensures.holds i, c.put_one.ensures.holds i)))
 
 pub returns-in-Last-clause-alone : goal.returns-in-Last-clause-alone
 returns-in-Last-clause-alone c =
@@ -64,5 +63,5 @@ returns-in-Last-clause-alone c =
       limits = c.put_one.ensures.alone.limits ∙ c.in-Last.ensures.limits;
       after = c.put_one.ensures.alone.after;
       others = KeepsOthers-trans c.args.c.now.worker c.args.c.now.site.now c.lower.new.self.site.now c.put_one.new.c.site.now led.2.others
-        (subst (λ (v : ℕ). KeepsOthers v c.lower.new.self.site.now c.put_one.new.c.site.now) led.1 c.put_one.ensures.alone.others);
+          (subst (λ (v : ℕ). KeepsOthers v c.lower.new.self.site.now c.put_one.new.c.site.now) led.1 c.put_one.ensures.alone.others);
     }

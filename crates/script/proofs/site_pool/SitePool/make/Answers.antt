@@ -1,4 +1,3 @@
-use Rattle.std.proofs.Common.{◌≡◌, refl}
 use Rattle.script.proofs.NewPools.{length-new_members, new_member_owns}
 use Rattle.script.proofs.site_pool.SitePool.make.Goals as goal
 

@@ -1,8 +1,7 @@
-use Rattle.std.proofs.Common.{ℕ, ◌≡◌, ◌-◌, ◌+◌, ◌<◌, ◌≤◌, length, length-set, get_or, sym, ap, ◌∙◌, arith}
+use Rattle.std.proofs.Common.{◌≡◌, ◌-◌, ◌+◌, ◌<◌, length, length-set, sym, ap, ◌∙◌, arith}
 use Rattle.commons.specs.declared.limits.Limits.{Limits}
 use Rattle.std.proofs.lemmas.List.{get_or_default}
 use Rattle.script.specs.Pool.{Member, nobody}
-use Rattle.script.specs.SitePool.{pool_of}
 use Rattle.script.proofs.Members.{members_after, performed}
 use Rattle.script.proofs.site_pool.SitePool.perform.Goals as goal
 
@@ -15,7 +14,7 @@ invariant_of-self c =
       table = c.act_alone.ensures.alone.after;
       workers = length-set c.self.inside.members.items (c.args.worker - 1) c.act_alone.new.packets ∙ c.self.invariant.workers ∙ sym (ap (λ (l : Limits). l.workers) c.act_alone.ensures.alone.limits);
       each = members_after c.self.inside.site c.act_alone.new.site c.self.inside.members.items (c.args.worker - 1) c.args.worker c.act_alone.new.packets n below c.self.invariant.workers
-        c.self.invariant.each c.act_alone.ensures.alone (c.act_alone.ensures.number ∙ ap (λ (m : Member). m.number) packets ∙ (c.self.invariant.each (c.args.worker - 1) (omega (arith, c.self.invariant.workers))).number ∙ sym n) c.act_alone.ensures.own;
+          c.self.invariant.each c.act_alone.ensures.alone (c.act_alone.ensures.number ∙ ap (λ (m : Member). m.number) packets ∙ (c.self.invariant.each (c.args.worker - 1) (omega (arith, c.self.invariant.workers))).number ∙ sym n) c.act_alone.ensures.own;
     }
 
 pub returns : goal.returns
@@ -24,5 +23,5 @@ returns c =
     let packets = c.index_mut-packets.ensures.value ∙ get_or_default c.self.inside.members.items (c.args.worker - 1) c.index_mut-packets.result.now (nobody c.self.inside.site.limits) below in
     rw (sym c.self.view_is)
     (performed c.self.inside.site c.act_alone.new.site c.self.inside.members.items c.args.worker c.args.act c.act_alone.result c.act_alone.new.packets
-      c.self.invariant.table c.self.invariant.workers c.self.invariant.each (omega arith) (omega (arith, c.self.inside.members.ok)) c.act_alone.ensures.alone.limits
-      (rw packets at c.act_alone.ensures.model))
+    c.self.invariant.table c.self.invariant.workers c.self.invariant.each (omega arith) (omega (arith, c.self.inside.members.ok)) c.act_alone.ensures.alone.limits
+    (rw packets at c.act_alone.ensures.model))

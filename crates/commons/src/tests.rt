@@ -1,0 +1,122 @@
+ghost use Rattle.std.specs.Prelude.{◌≡◌};
+
+use crate::limits::Limits;
+use crate::place::Place;
+use crate::plain::PlainCommons;
+use crate::refusal::Refusal;
+use crate::shared::Commons;
+use crate::site::PlainSite;
+use std::process::Abort;
+use std::test::Fail;
+
+fn three(start_count: u64) -> Limits
+    ensures { result ≡ record { population = 3; cache = 0; workers = 2; desks = 1; buf = 2048; ref_limit = 65535; tries = 8; start_count = start_count } }
+{
+    Limits {
+        population: 3,
+        cache: 0,
+        workers: 2,
+        desks: 1,
+        buf: 2048,
+        ref_limit: 65_535,
+        tries: 8,
+        start_count,
+    }
+}
+
+#[test]
+fn a_new_site_has_all_elements_in_the_common_list(rt: HostRuntime) -> Result<(), Fail> {
+    let limits = three(0);
+    let site = PlainSite::make(rt.alloc(), &limits)?;
+    assert_eq!(rt; site.limits(), limits);
+    assert_eq!(rt; site.common(), [2, 1, 0].as_slice());
+    assert_eq!(rt; site.common_count(), 3);
+    let places = [Place::Common, Place::Common, Place::Common];
+    assert_eq!(rt; site.places(), places.as_slice());
+    for (worker, element) in [(1, 0), (1, 2), (2, 0), (2, 2)] {
+        assert_eq!(rt;
+            site.hold(worker, element),
+            0,
+            "worker {worker}, element {element}"
+        );
+    }
+    Ok(())
+}
+
+// Whichever request for memory is refused, there is a whole site or none.
+#[test]
+fn a_site_is_whole_or_memory_was_refused(rt: HostRuntime) {
+    match PlainSite::make(rt.alloc(), &three(0)) {
+        Ok(site) => {
+            assert_eq!(rt; site.common(), [2, 1, 0].as_slice());
+            assert_eq!(rt; site.places().len(), 3);
+        }
+        Err(refusal) => assert_eq!(rt; refusal, Refusal::OutOfMemory),
+    }
+}
+
+#[test]
+fn each_refusal_has_its_number_and_displays_its_name(rt: HostRuntime) -> Result<(), Fail> {
+    let alloc = rt.alloc();
+    let all = [
+        (Refusal::BadPool, 1, "BadPool", ""),
+        (Refusal::OutOfMemory, 2, "OutOfMemory", ""),
+        (Refusal::NoEntries, 3, "NoEntries", ""),
+        (Refusal::Contended, 4, "Contended", ""),
+        (Refusal::HeadSpent, 5, "HeadSpent", ""),
+        (Refusal::RefSpent, 6, "RefSpent", ""),
+        (Refusal::TooManySegs, 7, "TooManySegs", ""),
+        (Refusal::NoRoom, 8, "NoRoom", ""),
+        (Refusal::TooShort, 9, "TooShort", ""),
+        (Refusal::NotDirect, 10, "NotDirect", ""),
+        (Refusal::NotIndirect, 11, "NotIndirect", ""),
+        (Refusal::InUse, 12, "InUse", ""),
+        (Refusal::NoSuchPacket, 13, "NoSuchPacket", ""),
+        (Refusal::PacketsFull, 14, "PacketsFull", ""),
+        (Refusal::DeskTaken, 15, "DeskTaken", ""),
+        (Refusal::DeskEmpty, 16, "DeskEmpty", ""),
+        (Refusal::NoSuchDesk, 17, "NoSuchDesk", ""),
+        (Refusal::MissingShare(7), 18, "MissingShare", " worker 7"),
+        (Refusal::StrangerShare, 19, "StrangerShare", ""),
+        (Refusal::ScriptFault(12), 20, "ScriptFault", " line 12"),
+        (Refusal::StepRefused, 21, "StepRefused", ""),
+        (Refusal::Foreign, 22, "Foreign", ""),
+        (Refusal::SamePacket, 23, "SamePacket", ""),
+    ];
+    for (refusal, number, name, more) in all {
+        let told = format!(in alloc; "{} {} {refusal}", refusal.number(), refusal.name())?;
+        let wanted = format!(in alloc; "{number} {name} {name}{more}")?;
+        assert_eq!(rt; told.as_str(), wanted.as_str());
+    }
+    Ok(())
+}
+
+#[test]
+fn a_list_goes_back_with_its_last_on_top(rt: HostRuntime) -> Result<(), Fail> {
+    let mut site = PlainSite::make(rt.alloc(), &three(0))?;
+    let mut two = [0; 2];
+    let mut four = [0; 4];
+    let mut c = PlainCommons::new(&mut site, 1);
+    c.get_list(&mut two)?;
+    assert_eq!(rt; two.as_slice(), [0, 1].as_slice());
+    assert_eq!(rt; c.common_count(), 1);
+    c.put_list(&two)?;
+    let refused = c.get_list(&mut four);
+    assert_eq!(rt; refused, Err(Refusal::NoEntries));
+    assert_eq!(rt; site.common(), [2, 0, 1].as_slice());
+    Ok(())
+}
+
+#[test]
+fn a_spent_head_is_told_of_behind_a_short_list(rt: HostRuntime) -> Result<(), Fail> {
+    let mut site = PlainSite::make(rt.alloc(), &three(281_474_976_710_655))?;
+    let mut one = [0; 1];
+    let mut four = [0; 4];
+    let mut c = PlainCommons::new(&mut site, 1);
+    let spent = c.get_list(&mut one);
+    let short = c.get_list(&mut four);
+    assert_eq!(rt; spent, Err(Refusal::HeadSpent));
+    assert_eq!(rt; short, Err(Refusal::NoEntries));
+    assert_eq!(rt; site.common(), [2, 1, 0].as_slice());
+    Ok(())
+}
