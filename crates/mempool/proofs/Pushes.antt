@@ -1,9 +1,10 @@
 -- A push of what is beyond a size is the one request of a put's or a flush's rule.
-use Rattle.std.proofs.Common.{◌≡◌, ◌<◌, ◌≤◌, ◌-◌, ◌++◌, ℕ, List, [], ◌∷◌, length, drop, arith, refl, Ok, Err}
+use Rattle.std.proofs.Common.{◌≡◌, ◌<◌, ◌≤◌, ◌-◌, ◌++◌, ℕ, List, [], ◌∷◌, length, length-append, drop, arith, refl, sym, ◌∙◌, subst, Ok, Err}
+use Rattle.std.proofs.Math.Seq.{take-append_seam, drop-append_seam}
 use Rattle.commons.specs.declared.limits.Limits.{Limits}
 use Rattle.commons.specs.Calls.{Reading, Call, Made, PutList, Leads, calls_of}
 use Rattle.mempool.specs.declared.put.Put.{Put}
-use Rattle.mempool.specs.Caches.{Pushed, Gone, Stays, Puts, Flush, FlushPutOff, Flushes, Whole, WholePutOff, threshold}
+use Rattle.mempool.specs.Caches.{Pushed, Gone, Stays, Puts, Bypass, BypassPutOff, Flush, FlushPutOff, Flushes, Whole, WholePutOff, threshold}
 
 pub put_over : {S : Type 0} (did : S → Call → List Reading → S → Type 0) (limits : S → Limits) (l : Limits) (cache list all : List ℕ) (before after : S) (answer : Put) (left : List ℕ) →
     all ≡ cache ++ list → 0 < length list → length list ≤ 512 → threshold l ≤ length all → l.cache < length all →
@@ -13,6 +14,32 @@ put_over did limits l cache list all before after answer left e some few t s (Go
     (record { call = PutList (drop l.cache all) (Ok tt); readings = d.readings } ∷ [], (after, d.led, d.cause, refl), Flush some few (rw (← e) t) (rw (← e) s) (rw (← e)) (rw (← e) a) (rw (← e) k))
 put_over did limits l cache list all before after answer left e some few t s (Stays cause d a k) =
     (record { call = PutList (drop l.cache all) (Err cause); readings = d.readings } ∷ [], (after, d.led, d.cause, refl), FlushPutOff some few (rw (← e) t) (rw (← e) s) cause (rw (← e)) (rw (← e) a) (rw (← e) k))
+
+-- A list that was pushed past the cache: all beyond the cache's own length of the two together.
+pub put_passed : {S : Type 0} (did : S → Call → List Reading → S → Type 0) (limits : S → Limits) (l : Limits) (cache list : List ℕ) (before after : S) (answer : Put) (left : List ℕ) →
+    512 < length list → Pushed did limits (length cache) (cache ++ list) before answer after left →
+    (made : List Made) × Leads did limits before made after × Puts l cache list (calls_of made) answer left
+put_passed did limits l cache list before after answer left many (Gone d a k) =
+    let n : length (cache ++ list) - length cache ≡ length list = omega (arith, length-append cache list) in (
+      record { call = PutList (drop (length cache) (cache ++ list)) (Ok tt); readings = d.readings } ∷ [],
+      (after, d.led, d.cause, refl),
+      Bypass many (rw (drop-append_seam cache list) refl) (rw n at a) (k ∙ take-append_seam cache list),
+    )
+put_passed did limits l cache list before after answer left many (Stays cause d a k) =
+    let n : length (cache ++ list) - length cache ≡ length list = omega (arith, length-append cache list) in (
+      record { call = PutList (drop (length cache) (cache ++ list)) (Err cause); readings = d.readings } ∷ [],
+      (after, d.led, d.cause, refl),
+      BypassPutOff many cause (rw (drop-append_seam cache list) refl) (rw n at a) k,
+    )
+
+-- Where nothing is kept and the cache is empty, that is a put's one request too.
+pub put_kept_none : {S : Type 0} (did : S → Call → List Reading → S → Type 0) (limits : S → Limits) (l : Limits) (cache list : List ℕ) (before after : S) (answer : Put) (left : List ℕ) →
+    l.cache ≡ 0 → length cache ≡ 0 → 0 < length list → length list ≤ 512 → Pushed did limits (length cache) (cache ++ list) before answer after left →
+    (made : List Made) × Leads did limits before made after × Puts l cache list (calls_of made) answer left
+put_kept_none did limits l cache list before after answer left none empty some few p =
+    let t : threshold l ≡ 0 = rw none refl in
+    put_over did limits l cache list (cache ++ list) before after answer left refl some few (omega (arith, t)) (omega (arith, none, length-append cache list))
+    (subst (λ (keep : ℕ). Pushed did limits keep (cache ++ list) before answer after left) (empty ∙ sym none) p)
 
 pub flush_whole : {S : Type 0} (did : S → Call → List Reading → S → Type 0) (limits : S → Limits) (cache : List ℕ) (before after : S) (answer : Put) (left : List ℕ) →
     0 < length cache → Pushed did limits 0 cache before answer after left →

@@ -37,7 +37,7 @@ fn got_and_put(alloc: Global, out: &mut [u32]) -> Result<(Put, Vec<u32>, Vec<u32
 }
 
 #[test]
-fn a_put_of_512_goes_through_the_cache(rt: HostRuntime) -> Result<(), Fail> {
+fn bulk_of_512(rt: HostRuntime) -> Result<(), Fail> {
     let mut out = [0; 512];
     let (put, cache, common) = got_and_put(rt.alloc(), &mut out)?;
     for (i, x) in out.iter().enumerate() {
@@ -51,7 +51,7 @@ fn a_put_of_512_goes_through_the_cache(rt: HostRuntime) -> Result<(), Fail> {
 }
 
 #[test]
-fn a_put_of_513_goes_past_the_cache(rt: HostRuntime) -> Result<(), Fail> {
+fn bulk_of_513(rt: HostRuntime) -> Result<(), Fail> {
     let mut out = [0; 513];
     let (put, cache, common) = got_and_put(rt.alloc(), &mut out)?;
     assert_eq!(rt; put, Put::Flushed(513));

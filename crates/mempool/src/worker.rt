@@ -170,22 +170,20 @@ impl Worker {
             return Put::Kept;
         }
         steps::room(c, &self.cache, list);
-        if count > CACHE_MAX {
-            return match c.put_list(list) {
-                Ok(()) => Put::Flushed(count as u32),
-                Err(cause) => {
-                    steps::append(&mut self.cache, list);
-                    Put::PutOff(count as u32, cause)
-                }
-            };
-        }
-        steps::append(&mut self.cache, list);
         let size = self.limits.cache as usize;
         let len = self.cache.len();
-        if len < size * 3 / 2 {
+        if count > CACHE_MAX {
+            return steps::put_past(&mut self.cache, c, list);
+        }
+        if size == 0 && len == 0 {
+            // All of the list goes to the stack: it need not pass through the cache.
+            return steps::put_past(&mut self.cache, c, list);
+        }
+        steps::append(&mut self.cache, list);
+        if len + count < size * 3 / 2 {
             return Put::Kept;
         }
-        if len <= size {
+        if len + count <= size {
             return Put::Kept;
         }
         steps::flush_beyond(&mut self.cache, c, size)

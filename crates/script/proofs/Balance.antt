@@ -20,12 +20,12 @@ use Rattle.script.specs.declared.commands.Command.{Command}
 use Rattle.script.specs.declared.commands.Command.TheVariants as command
 use Rattle.script.specs.declared.commands.Line.{Line}
 use Rattle.script.specs.declared.replies.Act.{Act}
-use Rattle.script.specs.declared.replies.Act.TheVariants.{Alloc, Free}
+use Rattle.script.specs.declared.replies.Act.TheVariants.{Alloc, Free, Flush}
 use Rattle.script.specs.Pool.{Stack, Member, Pool, holds_in_slot, held_in, held_by, member_at, with_member, nobody, new_members, new_pool, slots}
 use Rattle.script.specs.CacheModel.{get}
-use Rattle.script.specs.PacketModel.{fresh_seg, free_slot, fill_slot, alloc_in, freed_nothing, free_in, without_packet, held_elsewhere, act_on, perform}
+use Rattle.script.specs.PacketModel.{fresh_seg, free_slot, fill_slot, alloc_in, freed_nothing, free_in, flush_member, without_packet, held_elsewhere, act_on, perform}
 use Rattle.script.specs.Replay.{Run, free_as, obey, end_of}
-use Rattle.script.proofs.CacheBags.{IsGot, get-IsGot}
+use Rattle.script.proofs.CacheBags.{IsGot, get-IsGot, flush-IsPut}
 use Rattle.script.proofs.HeldBags.{end_holds-bag, held_in-set, held_by-set, cached_by, cached_by-set, IsBalanced}
 
 -- an element of the pool counts once
@@ -93,6 +93,10 @@ free_in-near (Some segs) elsewhere slot m s e others i h =
     let f = end_holds-bag m.limits elsewhere (holds_in_slot (Some segs)) (freed_nothing, m.cache, s) i in
     rw (k, ← (h l)) f
 
+-- a flush moves elements from the cache to the common list
+flush_member-near : (m : Member) (s : Stack) (others i : ℕ) → near others (flush_member m s).1 (flush_member m s).2 i ≡ near others m s i
+flush_member-near m s others i = omega (arith, flush-IsPut m.cache s i, bag-nil i)
+
 -- how often the other members' packets hold an element
 abbrev by_others : List Member → ℕ → Member → ℕ → ℕ
 by_others members n d i = held_by members i - held_in (get_or members n d).table i
@@ -130,6 +134,8 @@ act_on-balanced pool n (Free slot) b h = with_member-balanced pool n (act_on poo
       by_others-add pool.members n (nobody pool.limits) i h,
       held_by-set pool.members n (without_packet slot (member_at pool n)) (nobody pool.limits) i h,
     )))
+act_on-balanced pool n Flush b h = with_member-balanced pool n (act_on pool n Flush).1 (act_on pool n Flush).2 b h
+    (λ i k. flush_member-near (member_at pool n) pool.stack (by_others pool.members n (nobody pool.limits) i) i)
 
 -- and so does what a worker outside the pool is asked to do, which is nothing
 perform-balanced : (pool : Pool) (w : ℕ) (act : Act) → IsBalanced pool → IsBalanced (perform pool w act).1
@@ -148,6 +154,7 @@ free_as-balanced (Some slot) worker name run b = perform-balanced run.pool worke
 obey-balanced : (worker : ℕ) (c : Command) (run : Run) → IsBalanced run.pool → IsBalanced (obey worker c run).1.pool
 obey-balanced worker (command.Alloc name) run b = perform-balanced run.pool worker Alloc b
 obey-balanced worker (command.Free name) run b = free_as-balanced (run.stands worker name) worker name run b
+obey-balanced worker command.Flush run b = perform-balanced run.pool worker Flush b
 
 -- all lines keep each element in one place
 pub end_of-balanced : (lines : List Line) (run : Run) → IsBalanced run.pool → IsBalanced (end_of lines run).pool

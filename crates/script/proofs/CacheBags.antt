@@ -1,5 +1,5 @@
 -- What a get and a put do with elements: none comes to be, and none is lost.
-use Rattle.std.proofs.Common.{ℕ, ◌≡◌, ◌+◌, ◌-◌, ◌≤◌, ◌==◌, nat_lt, nat_le, inl, inr, List, ◌++◌, length, length-append, drop, reverse, Result, Ok, Err, refl, sym, arith}
+use Rattle.std.proofs.Common.{ℕ, ◌≡◌, ◌+◌, ◌-◌, ◌≤◌, ◌==◌, nat_lt, nat_le, inl, inr, List, [], ◌++◌, length, length-append, drop, reverse, Result, Ok, Err, refl, sym, arith}
 use Rattle.std.proofs.lemmas.List.{length-take, length-drop, length-reverse}
 use Rattle.std.proofs.lemmas.Bool.{cases_Bool, leb-true, ltb-false, eqb-true}
 use Rattle.commons.specs.Bag.{bag}
@@ -10,7 +10,7 @@ use Rattle.commons.proofs.Bags.{bag-nil, bag-append, bag-take-drop, bag-reverse,
 use Rattle.mempool.specs.declared.put.Put.{Put}
 use Rattle.mempool.specs.Caches.{last, without_last, threshold}
 use Rattle.script.specs.Pool.{Stack}
-use Rattle.script.specs.CacheModel.{ask, push, get_direct, get_refilled, get, put_past, put_beyond, put}
+use Rattle.script.specs.CacheModel.{ask, push, get_direct, get_refilled, get, put_past, put_beyond, put_whole, put, flush}
 
 -- how often an answer has an element
 abbrev pub in_answer : Result (List ℕ) Refusal → ℕ → ℕ
@@ -106,6 +106,14 @@ get-IsGot l n cache s = elim (cases_Bool (n == 0)) [
 -- what was in the cache, the list and the common list is in the cache and the common list
 abbrev pub IsPut : List ℕ → List ℕ → Stack → Put × List ℕ × Stack → Type 0
 IsPut list cache s r = (i : ℕ) → bag r.1 i + bag r.2.common i ≡ bag cache i + bag list i + bag s.common i
+
+-- a flush moves elements, and loses none
+pub flush-IsPut : (cache : List ℕ) (s : Stack) → IsPut [] cache s (flush cache s)
+flush-IsPut cache s = elim (cases_Bool (length cache == 0)) [
+  | inl a ↦ rw a (λ i. omega (arith, bag-nil i))
+  | inr a ↦ rw a (push-bag cache s (λ r. IsPut [] cache s (put_whole cache r))
+      (λ t h i. omega (arith, h i, bag-nil i)) (λ e i. omega (arith, bag-nil i)))
+]
 
 -- each put moves elements, and loses none
 pub put-IsPut : (l : Limits) (list cache : List ℕ) (s : Stack) → IsPut list cache s (put l list cache s)

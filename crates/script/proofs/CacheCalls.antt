@@ -1,15 +1,17 @@
--- A cache's calls on the lists are the reference model's requests.
-use Rattle.std.proofs.Common.{ℕ, ◌≡◌, ◌≢◌, ◌+◌, ◌-◌, ◌==◌, ◌<◌, ◌≤◌, ◌⊎◌, inl, inr, nat_lt, nat_le, Bool, true, false, cond, List, ◌++◌, length, drop, Result, Ok, Err, refl, sym, ◌∙◌, subst, arith}
+-- A cache's calls are the reference model's requests, over any stack that answers them, and so over the lists.
+use Rattle.std.proofs.Common.{ℕ, ◌≡◌, ◌≢◌, ◌+◌, ◌-◌, ◌==◌, ◌<◌, ◌≤◌, ◌⊎◌, inl, inr, nat_lt, nat_le, Bool, true, false, cond, List, [], ◌∷◌, ◌++◌, length, drop, Result, Ok, Err, refl, sym, ap, ◌∙◌, subst, arith}
 use Rattle.std.proofs.lemmas.Bool.Decides.{nat_tests}
 use Rattle.commons.specs.declared.limits.Limits.{Limits}
 use Rattle.commons.specs.declared.refusal.Refusal.{Refusal}
 use Rattle.commons.specs.declared.refusal.Refusal.TheVariants.{NoEntries, Contended, HeadSpent}
-use Rattle.commons.specs.Calls.{spent, Call}
+use Rattle.commons.specs.Calls.{spent, Call, GetList, PutList}
 use Rattle.commons.specs.Lists.{Lists, DidGet, DidPut}
 use Rattle.mempool.specs.declared.put.Put.{Put}
 use Rattle.mempool.specs.declared.put.Put.TheVariants.{Kept}
-use Rattle.mempool.specs.Caches.{threshold, Gets, Nothing, Direct, FromCache, Refill, RefillRefused, NoRefill, Puts, NothingPut, Bypass, BypassPutOff, Flush, FlushPutOff, Keep}
-use Rattle.script.specs.CacheModel.{ask, push, get, put, put_beyond}
+use Rattle.mempool.specs.Caches.{threshold, Gets, Nothing, Direct, FromCache, Refill, RefillRefused, NoRefill, Puts, NothingPut, Bypass, BypassPutOff, Flush, FlushPutOff, Keep, Flushes, Empty, Whole, WholePutOff}
+use Rattle.script.specs.Pool.{Stack}
+use Rattle.script.specs.CacheModel.{ask, push, get, put, put_beyond, flush}
+use Rattle.script.specs.CacheLaw.{Meets}
 use Rattle.script.specs.Own.{stack_of}
 use Rattle.script.proofs.PlainCalls.{LeadsPlain}
 
@@ -45,31 +47,35 @@ pushed s xs (Err HeadSpent) t d = rw (eq_yes s.changes spent d.0, d.1) refl
 pushed s xs (Err Contended) t d = absurd d
 pushed s xs (Err _) t d = absurd d
 
--- a get by these calls is the model's
-pub got : (w : ℕ) (s : Lists) (l : Limits) (cache : List ℕ) (n : ℕ) (calls : List Call) (answer : Result (List ℕ) Refusal) (left : List ℕ) (t : Lists) →
-    Gets l cache n calls answer left → LeadsPlain w s calls t → (answer, left, stack_of t) ≡ get l n cache (stack_of s)
-got w s l cache n calls answer left t (Nothing z c a k) h =
-    let e = subst (λ cs. LeadsPlain w s cs t) c h in
+-- the stack's answer to the one call
+answered_get : (s t : Stack) (n : ℕ) (answer : Result (List ℕ) Refusal) (calls : List Call) → calls ≡ GetList n answer ∷ [] → Meets s calls t → (answer, t) ≡ ask n s
+answered_get s t n answer calls c h = let e = subst (λ cs. Meets s cs t) c h in subst (λ (u : Stack). (answer, u) ≡ ask n s) e.2 e.1
+
+answered_put : (s t : Stack) (list : List ℕ) (answer : Result (Unit {0}) Refusal) (calls : List Call) → calls ≡ PutList list answer ∷ [] → Meets s calls t → (answer, t) ≡ push list s
+answered_put s t list answer calls c h = let e = subst (λ cs. Meets s cs t) c h in subst (λ (u : Stack). (answer, u) ≡ push list s) e.2 e.1
+
+-- a get by the rules, whose calls the stack answers, is the model's
+pub got_by : (s t : Stack) (l : Limits) (cache : List ℕ) (n : ℕ) (calls : List Call) (answer : Result (List ℕ) Refusal) (left : List ℕ) →
+    Gets l cache n calls answer left → Meets s calls t → (answer, left, t) ≡ get l n cache s
+got_by s t l cache n calls answer left (Nothing z c a k) h =
+    let e = subst (λ cs. Meets s cs t) c h in
     rw (eq_yes n 0 z, a, k, sym e) refl
-got w s l cache n calls answer left t (Direct p q c k) h =
-    let e = subst (λ cs. LeadsPlain w s cs t) c h in
-    let f = asked w s n answer t (subst (λ u. DidGet w s n answer u) e.2 e.1) in
+got_by s t l cache n calls answer left (Direct p q c k) h =
+    let f = answered_get s t n answer calls c h in
     rw (eq_no n 0 (omega arith), le_yes l.cache n q, k, ← f) refl
-got w s l cache n calls answer left t (FromCache p q r c a k) h =
-    let e = subst (λ cs. LeadsPlain w s cs t) c h in
+got_by s t l cache n calls answer left (FromCache p q r c a k) h =
+    let e = subst (λ cs. Meets s cs t) c h in
     rw (eq_no n 0 (omega arith), le_no l.cache n q, le_yes n (length cache) r, a, k, sym e) refl
-got w s l cache n calls answer left t (Refill p q r m more c a k) h =
-    let e = subst (λ cs. LeadsPlain w s cs t) c h in
-    let f = asked w s (n + l.cache - length cache) (Ok more) t (subst (λ u. DidGet w s (n + l.cache - length cache) (Ok more) u) e.2 e.1) in
+got_by s t l cache n calls answer left (Refill p q r m more c a k) h =
+    let f = answered_get s t (n + l.cache - length cache) (Ok more) calls c h in
     rw (eq_no n 0 (omega arith), le_no l.cache n q, le_no n (length cache) r, le_yes (n + l.cache) l.population m, a, k, ← f) refl
-got w s l cache n calls answer left t (RefillRefused p q r m cause c k) h =
-    let e = subst (λ cs. LeadsPlain w s cs t) c h in
-    let f = asked w s (n + l.cache - length cache) (Err cause) e.0 e.1 in
-    let g = asked w e.0 n answer t (subst (λ u. DidGet w e.0 n answer u) e.2.2 e.2.1) in
+got_by s t l cache n calls answer left (RefillRefused p q r m cause c k) h =
+    let e = subst (λ cs. Meets s cs t) c h in
+    let f = e.1 in
+    let g = answered_get e.0 t n answer (GetList n answer ∷ []) refl e.2 in
     rw (eq_no n 0 (omega arith), le_no l.cache n q, le_no n (length cache) r, le_yes (n + l.cache) l.population m, k, ← f, ← g) refl
-got w s l cache n calls answer left t (NoRefill p q r m c k) h =
-    let e = subst (λ cs. LeadsPlain w s cs t) c h in
-    let f = asked w s n answer t (subst (λ u. DidGet w s n answer u) e.2 e.1) in
+got_by s t l cache n calls answer left (NoRefill p q r m c k) h =
+    let f = answered_get s t n answer calls c h in
     rw (eq_no n 0 (omega arith), le_no l.cache n q, le_no n (length cache) r, le_no (n + l.cache) l.population m, k, ← f) refl
 
 either : {X : Type 0} (b : Bool) (y : X) → cond b y y ≡ y
@@ -80,31 +86,93 @@ either false y = refl
 kept_below : {X : Type 0} (n threshold size : ℕ) (x y z : X) → (n < threshold) ⊎ (n ≤ size) → x ≡ y → x ≡ cond (nat_lt n threshold) y (cond (nat_le n size) y z)
 kept_below n threshold size x y z b e = elim b [ inl h ↦ rw (lt_yes n threshold h) e | inr h ↦ rw (le_yes n size h) (e ∙ sym (either (nat_lt n threshold) y)) ]
 
--- a put by these calls is the model's
+-- a put by the rules, whose calls the stack answers, is the model's
+pub put_by : (s t : Stack) (l : Limits) (cache list : List ℕ) (calls : List Call) (answer : Put) (left : List ℕ) →
+    Puts l cache list calls answer left → Meets s calls t → (answer, left, t) ≡ put l list cache s
+put_by s t l cache list calls answer left (NothingPut z c a k) h =
+    let e = subst (λ cs. Meets s cs t) c h in
+    rw (z, a, k, sym e) refl
+put_by s t l cache list calls answer left (Bypass p c a k) h =
+    let f = answered_put s t list (Ok tt) calls c h in
+    rw (eq_no (length list) 0 (omega arith), lt_yes 512 (length list) p, a, k, ← f) refl
+put_by s t l cache list calls answer left (BypassPutOff p cause c a k) h =
+    let f = answered_put s t list (Err cause) calls c h in
+    rw (eq_no (length list) 0 (omega arith), lt_yes 512 (length list) p, a, k, ← f) refl
+put_by s t l cache list calls answer left (Flush p q r m c a k) h =
+    let f = answered_put s t (drop l.cache (cache ++ list)) (Ok tt) calls c h in
+    rw (eq_no (length list) 0 (omega arith), lt_no 512 (length list) q, lt_no (length (cache ++ list)) (threshold l) r, le_no (length (cache ++ list)) l.cache m, a, k, ← f) refl
+put_by s t l cache list calls answer left (FlushPutOff p q r m cause c a k) h =
+    let f = answered_put s t (drop l.cache (cache ++ list)) (Err cause) calls c h in
+    rw (eq_no (length list) 0 (omega arith), lt_no 512 (length list) q, lt_no (length (cache ++ list)) (threshold l) r, le_no (length (cache ++ list)) l.cache m, a, k, ← f) refl
+put_by s t l cache list calls answer left (Keep p q b c a k) h =
+    let e = subst (λ cs. Meets s cs t) c h in
+    let kept = kept_below (length (cache ++ list)) (threshold l) l.cache (answer, left, t) (Kept, cache ++ list, s) (put_beyond l.cache (cache ++ list) (push (drop l.cache (cache ++ list)) s)) b (rw (a, k, sym e) refl) in
+    rw (eq_no (length list) 0 (omega arith), lt_no 512 (length list) q) kept
+
+-- a flush by the rules, whose calls the stack answers, is the model's
+pub flushed_by : (s t : Stack) (cache : List ℕ) (calls : List Call) (answer : Put) (left : List ℕ) →
+    Flushes cache calls answer left → Meets s calls t → (answer, left, t) ≡ flush cache s
+flushed_by s t cache calls answer left (Empty z c a k) h =
+    let e = subst (λ cs. Meets s cs t) c h in
+    rw (a, k, z, sym e) refl
+flushed_by s t cache calls answer left (Whole p c a k) h =
+    let f = answered_put s t cache (Ok tt) calls c h in
+    rw (eq_no (length cache) 0 (omega arith), a, k, ← f) refl
+flushed_by s t cache calls answer left (WholePutOff p cause c a k) h =
+    let f = answered_put s t cache (Err cause) calls c h in
+    rw (eq_no (length cache) 0 (omega arith), a, k, ← f) refl
+
+-- ---- the same over the lists
+
+-- the calls are requests of the stack
+abbrev AreRequests : List Call → Type 0
+AreRequests [] = Unit {0}
+AreRequests (GetList n answer ∷ calls) = AreRequests calls
+AreRequests (PutList list answer ∷ calls) = AreRequests calls
+AreRequests (_ ∷ calls) = ⊥
+
+-- requests on the lists are answered by their stack
+meets : (w : ℕ) (s : Lists) (calls : List Call) (t : Lists) → AreRequests calls → LeadsPlain w s calls t → Meets (stack_of s) calls (stack_of t)
+meets w s [] t r h = ap stack_of h
+meets w s (GetList n answer ∷ calls) t r h = (stack_of h.0, asked w s n answer h.0 h.1, meets w h.0 calls t r h.2)
+meets w s (PutList list answer ∷ calls) t r h = (stack_of h.0, pushed s list answer h.0 h.1, meets w h.0 calls t r h.2)
+meets w s (_ ∷ calls) t r h = absurd r
+
+requests : (calls known : List Call) → calls ≡ known → AreRequests known → AreRequests calls
+requests calls known e h = subst AreRequests (sym e) h
+
+gets_request : (l : Limits) (cache : List ℕ) (n : ℕ) (calls : List Call) (answer : Result (List ℕ) Refusal) (left : List ℕ) → Gets l cache n calls answer left → AreRequests calls
+gets_request l cache n calls answer left (Nothing z c a k) = requests calls [] c tt
+gets_request l cache n calls answer left (Direct p q c k) = requests calls (GetList n answer ∷ []) c tt
+gets_request l cache n calls answer left (FromCache p q r c a k) = requests calls [] c tt
+gets_request l cache n calls answer left (Refill p q r m more c a k) = requests calls (GetList (n + l.cache - length cache) (Ok more) ∷ []) c tt
+gets_request l cache n calls answer left (RefillRefused p q r m cause c k) = requests calls (GetList (n + l.cache - length cache) (Err cause) ∷ GetList n answer ∷ []) c tt
+gets_request l cache n calls answer left (NoRefill p q r m c k) = requests calls (GetList n answer ∷ []) c tt
+
+puts_request : (l : Limits) (cache list : List ℕ) (calls : List Call) (answer : Put) (left : List ℕ) → Puts l cache list calls answer left → AreRequests calls
+puts_request l cache list calls answer left (NothingPut z c a k) = requests calls [] c tt
+puts_request l cache list calls answer left (Bypass p c a k) = requests calls (PutList list (Ok tt) ∷ []) c tt
+puts_request l cache list calls answer left (BypassPutOff p cause c a k) = requests calls (PutList list (Err cause) ∷ []) c tt
+puts_request l cache list calls answer left (Flush p q r m c a k) = requests calls (PutList (drop l.cache (cache ++ list)) (Ok tt) ∷ []) c tt
+puts_request l cache list calls answer left (FlushPutOff p q r m cause c a k) = requests calls (PutList (drop l.cache (cache ++ list)) (Err cause) ∷ []) c tt
+puts_request l cache list calls answer left (Keep p q b c a k) = requests calls [] c tt
+
+flushes_request : (cache : List ℕ) (calls : List Call) (answer : Put) (left : List ℕ) → Flushes cache calls answer left → AreRequests calls
+flushes_request cache calls answer left (Empty z c a k) = requests calls [] c tt
+flushes_request cache calls answer left (Whole p c a k) = requests calls (PutList cache (Ok tt) ∷ []) c tt
+flushes_request cache calls answer left (WholePutOff p cause c a k) = requests calls (PutList cache (Err cause) ∷ []) c tt
+
+-- a get by these calls is the model's
+pub got : (w : ℕ) (s : Lists) (l : Limits) (cache : List ℕ) (n : ℕ) (calls : List Call) (answer : Result (List ℕ) Refusal) (left : List ℕ) (t : Lists) →
+    Gets l cache n calls answer left → LeadsPlain w s calls t → (answer, left, stack_of t) ≡ get l n cache (stack_of s)
+got w s l cache n calls answer left t g h = got_by (stack_of s) (stack_of t) l cache n calls answer left g (meets w s calls t (gets_request l cache n calls answer left g) h)
+
+-- and so is a put
 pub was_put : (w : ℕ) (s : Lists) (l : Limits) (cache list : List ℕ) (calls : List Call) (answer : Put) (left : List ℕ) (t : Lists) →
     Puts l cache list calls answer left → LeadsPlain w s calls t → (answer, left, stack_of t) ≡ put l list cache (stack_of s)
-was_put w s l cache list calls answer left t (NothingPut z c a k) h =
-    let e = subst (λ cs. LeadsPlain w s cs t) c h in
-    rw (z, a, k, sym e) refl
-was_put w s l cache list calls answer left t (Bypass p c a k) h =
-    let e = subst (λ cs. LeadsPlain w s cs t) c h in
-    let f = pushed s list (Ok tt) t (subst (λ u. DidPut s list (Ok tt) u) e.2 e.1) in
-    rw (eq_no (length list) 0 (omega arith), lt_yes 512 (length list) p, a, k, ← f) refl
-was_put w s l cache list calls answer left t (BypassPutOff p cause c a k) h =
-    let e = subst (λ cs. LeadsPlain w s cs t) c h in
-    let f = pushed s list (Err cause) t (subst (λ u. DidPut s list (Err cause) u) e.2 e.1) in
-    rw (eq_no (length list) 0 (omega arith), lt_yes 512 (length list) p, a, k, ← f) refl
-was_put w s l cache list calls answer left t (Flush p q r m c a k) h =
-    let e = subst (λ cs. LeadsPlain w s cs t) c h in
-    let xs = drop l.cache (cache ++ list) in
-    let f = pushed s xs (Ok tt) t (subst (λ u. DidPut s xs (Ok tt) u) e.2 e.1) in
-    rw (eq_no (length list) 0 (omega arith), lt_no 512 (length list) q, lt_no (length (cache ++ list)) (threshold l) r, le_no (length (cache ++ list)) l.cache m, a, k, ← f) refl
-was_put w s l cache list calls answer left t (FlushPutOff p q r m cause c a k) h =
-    let e = subst (λ cs. LeadsPlain w s cs t) c h in
-    let xs = drop l.cache (cache ++ list) in
-    let f = pushed s xs (Err cause) t (subst (λ u. DidPut s xs (Err cause) u) e.2 e.1) in
-    rw (eq_no (length list) 0 (omega arith), lt_no 512 (length list) q, lt_no (length (cache ++ list)) (threshold l) r, le_no (length (cache ++ list)) l.cache m, a, k, ← f) refl
-was_put w s l cache list calls answer left t (Keep p q b c a k) h =
-    let e = subst (λ cs. LeadsPlain w s cs t) c h in
-    let kept = kept_below (length (cache ++ list)) (threshold l) l.cache (answer, left, stack_of t) (Kept, cache ++ list, stack_of s) (put_beyond l.cache (cache ++ list) (push (drop l.cache (cache ++ list)) (stack_of s))) b (rw (a, k, sym e) refl) in
-    rw (eq_no (length list) 0 (omega arith), lt_no 512 (length list) q) kept
+was_put w s l cache list calls answer left t p h = put_by (stack_of s) (stack_of t) l cache list calls answer left p (meets w s calls t (puts_request l cache list calls answer left p) h)
+
+-- and a flush
+pub was_flushed : (w : ℕ) (s : Lists) (cache : List ℕ) (calls : List Call) (answer : Put) (left : List ℕ) (t : Lists) →
+    Flushes cache calls answer left → LeadsPlain w s calls t → (answer, left, stack_of t) ≡ flush cache (stack_of s)
+was_flushed w s cache calls answer left t f h = flushed_by (stack_of s) (stack_of t) cache calls answer left f (meets w s calls t (flushes_request cache calls answer left f) h)

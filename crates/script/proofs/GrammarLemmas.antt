@@ -1,20 +1,21 @@
 -- A line's reading in the grammar is what the reading function gives, and so are the lines' one after another.
-use Rattle.std.proofs.Common.{◌≡◌, ℕ, true, false, cond, ltb, leb, List, [], ◌∷◌, ◌++◌, length, Option, Some, None, refl, sym, ap, ◌∙◌, inl, inr}
-use Rattle.std.specs.Prelude.{option_and_then}
+use Rattle.std.proofs.Common.{◌≡◌, ℕ, true, false, cond, eqb, ltb, leb, List, [], ◌∷◌, ◌++◌, length, Option, Some, None, refl, sym, ap, ◌∙◌, arith, inl, inr}
+use Rattle.std.specs.Prelude.{option_and_then, codes}
 use Rattle.std.specs.List.{list_all}
-use Rattle.std.proofs.lemmas.Bool.{cond-true, cond-false, cases_Bool, leb-true, le-leb, ltb-true, lt-ltb, and_parts, and_from, false≢true}
+use Rattle.std.proofs.lemmas.Bool.{cond-true, cond-false, cases_Bool, leb-true, le-leb, ltb-true, lt-ltb, and_parts, and_from, eqb-true, false_from_ne_true}
 use Rattle.commons.specs.declared.limits.Limits.{Limits}
 use Rattle.script.specs.declared.commands.Command.{Command}
-use Rattle.script.specs.declared.commands.Command.TheVariants.{Alloc, Free}
-use Rattle.script.specs.CommandLine.{IsCommand}
+use Rattle.script.specs.declared.commands.Command.TheVariants.{Alloc, Free, Flush}
+use Rattle.script.specs.Numbers.{IsNumber}
+use Rattle.script.specs.CommandLine.{IsCommand, IsCommandLine, alone, prefixed}
 use Rattle.script.specs.Text.{IsPrinted, IsPlain}
-use Rattle.script.specs.Grammar.{State, ReadsPool, ReadsCommand, Takes, skips, gives_pool, commands, Reads}
-use Rattle.script.specs.Reading.{words_of, is_printed, is_plain, is_skipped, repeats, command_from, limits_from, with_limits, with_line, add_command, read_command, read_pool, read_words, read_line}
+use Rattle.script.specs.Grammar.{State, with_command, ReadsPool, ReadsCommand, Takes, skips, gives_pool, commands, Reads}
+use Rattle.script.specs.Reading.{words_of, is_printed, is_plain, is_skipped, repeats, order_from, limits_from, with_limits, add_command, read_command, read_pool, read_words, read_line}
 use Rattle.script.proofs.WordLemmas.{spelled_once, words_are, skipped_is, skipped_from}
 use Rattle.script.proofs.NumberLemmas.{all_from, all_to, within_from, within_to}
 use Rattle.script.proofs.KeptLemmas.{and_then_some, found_is}
 use Rattle.script.proofs.PoolLineLemmas.{if_some, if_none, pool_line_from, pool_line_is}
-use Rattle.script.proofs.CommandLemmas.{command_comes, command_is, anew_is, anew_from}
+use Rattle.script.proofs.CommandLemmas.{order_comes, order_is, anew_is, anew_from}
 use Rattle.script.proofs.StepLemmas.{read_skipped, read_as}
 
 -- ---- one line
@@ -39,22 +40,22 @@ pool_takes state after number line none e =
       after_is = sym (found_is (with_limits state l.0) after l.2);
     })
 
-command_takes : (state after : State) (number : ℕ) (line : List ℕ) (limits : Limits) → state.limits ≡ Some limits → read_command state number (words_of line) ≡ Some after → Takes state number line after
+command_takes : (state after : State) (number : ℕ) (line : List ℕ) (limits : Limits) → state.limits ≡ Some limits → read_command limits.workers state number (words_of line) ≡ Some after → Takes state number line after
 command_takes state after number line limits some e =
-    let few = if_some (ltb (length state.lines) 10000) (option_and_then (add_command state number) (command_from (words_of line))) after e in
-    let c = and_then_some (add_command state number) (command_from (words_of line)) after few.1 in
-    let anew = if_none (repeats state.lines 1 c.0) (Some (with_line state number c.0)) after c.2 in
+    let few = if_some (ltb (length state.lines) 10000) (option_and_then (add_command state number) (order_from limits.workers (words_of line))) after e in
+    let c = and_then_some (add_command state number) (order_from limits.workers (words_of line)) after few.1 in
+    let anew = if_none (repeats state.lines c.0.0 c.0.1) (Some (with_command state number c.0.0 c.0.1)) after c.2 in
     commands (record {
       limits = limits;
       behind_pool = some;
       few = ltb-true (length state.lines) 10000 few.0;
       words = words_of line;
       spelled = words_are line;
-      worker = 1;
-      command = c.0;
-      is_command_line = record { of_worker = refl; is_command = command_comes (words_of line) c.0 c.1 };
-      anew = anew_from state.lines 1 c.0 anew.0;
-      after_is = sym (found_is (with_line state number c.0) after anew.1);
+      worker = c.0.0;
+      command = c.0.1;
+      is_command_line = order_comes limits.workers (words_of line) c.0 c.1;
+      anew = anew_from state.lines c.0.0 c.0.1 anew.0;
+      after_is = sym (found_is (with_command state number c.0.0 c.0.1) after anew.1);
     })
 
 words_take : (limits : Option Limits) (state after : State) (number : ℕ) (line : List ℕ) → state.limits ≡ limits → read_words limits state number (words_of line) ≡ Some after → Takes state number line after
@@ -81,31 +82,30 @@ pool_is_read state after number line plain h =
     ∙ ap (option_and_then (λ limits. Some (with_limits state limits))) (ap limits_from words ∙ pool_line_is h.words h.limits h.is_pool_line)
     ∙ ap (λ (s : State). Some s) (sym h.after_is)
 
-counted_command : (words : List (List ℕ)) (command : Command) → IsCommand words command → is_skipped words ≡ true → ⊥
-counted_command words (Alloc name) h e = false≢true (sym (ap is_skipped h.0) ∙ e)
-counted_command words (Free name) h e = false≢true (sym (ap is_skipped h.0) ∙ e)
+counted_command : (words : List (List ℕ)) (command : Command) → IsCommand words command → is_skipped words ≡ false
+counted_command words (Alloc name) h = ap is_skipped h.0
+counted_command words (Free name) h = ap is_skipped h.0
+counted_command words Flush h = ap is_skipped h
 
-no_command : (words : List (List ℕ)) (command : Command) → is_skipped words ≡ true → command_from words ≡ Some command → ⊥
-no_command [] command e f = absurd cc
-no_command (word ∷ words) command e f = counted_command (word ∷ words) command (command_comes (word ∷ words) command f) e
+-- a number begins with a digit, and not with `#`
+counted_prefix : (word number : List ℕ) (workers worker : ℕ) (rest : List (List ℕ)) → word ≡ number ++ codes ":" → IsNumber number worker → is_skipped (word ∷ rest) ≡ false
+counted_prefix word [] workers worker rest e h = absurd (omega (arith, h.some))
+counted_prefix word (byte ∷ number) workers worker rest e h =
+    ap (λ (w : List ℕ). is_skipped (w ∷ rest)) e ∙ false_from_ne_true (eqb byte 35) (λ same. let digit = h.digits.0 in omega (arith, digit.0, eqb-true byte 35 same))
 
-command_word : (words : List (List ℕ)) (command : Command) → command_from words ≡ Some command → is_skipped words ≡ false
-command_word words command e = elim (cases_Bool (is_skipped words)) [
-  | inl skipped ↦ absurd (no_command words command skipped e)
-  | inr counted ↦ counted
-]
+counted_line : (workers : ℕ) (words : List (List ℕ)) (worker : ℕ) (command : Command) → IsCommandLine workers words worker command → is_skipped words ≡ false
+counted_line workers words worker command (alone one h) = counted_command words command h
+counted_line workers words worker command (prefixed word rest e p h) = ap is_skipped e ∙ counted_prefix word p.number workers worker rest p.whole p.is_number
 
 command_is_read : (state after : State) (number : ℕ) (line : List ℕ) → IsPlain line → ReadsCommand state number line after → read_line state number line ≡ Some after
 command_is_read state after number line plain h =
     let words : words_of line ≡ h.words = spelled_once h.words line h.spelled in
-    let command : command_from (words_of line) ≡ Some h.command = ap command_from words ∙ command_is h.words h.command h.is_command_line.is_command in
-    let one : h.worker ≡ 1 = h.is_command_line.of_worker in
-    let anew : repeats state.lines 1 h.command ≡ false = ap (λ (w : ℕ). repeats state.lines w h.command) (sym one) ∙ anew_is state.lines h.worker h.command h.anew in
-    read_as state number line (Some h.limits) (plain_is line plain) (command_word (words_of line) h.command command) h.behind_pool
-    ∙ cond-true (ltb (length state.lines) 10000) (option_and_then (add_command state number) (command_from (words_of line))) None (lt-ltb (length state.lines) 10000 h.few)
-    ∙ ap (option_and_then (add_command state number)) command
-    ∙ cond-false (repeats state.lines 1 h.command) None (Some (with_line state number h.command)) anew
-    ∙ ap (λ (w : ℕ). Some (record { limits = state.limits; lines = state.lines ++ record { number = number; worker = w; command = h.command } ∷ [] })) (sym one)
+    let order : order_from h.limits.workers (words_of line) ≡ Some (h.worker, h.command) = ap (order_from h.limits.workers) words ∙ order_is h.limits.workers h.words h.worker h.command h.is_command_line in
+    let counted : is_skipped (words_of line) ≡ false = ap is_skipped words ∙ counted_line h.limits.workers h.words h.worker h.command h.is_command_line in
+    read_as state number line (Some h.limits) (plain_is line plain) counted h.behind_pool
+    ∙ cond-true (ltb (length state.lines) 10000) (option_and_then (add_command state number) (order_from h.limits.workers (words_of line))) None (lt-ltb (length state.lines) 10000 h.few)
+    ∙ ap (option_and_then (add_command state number)) order
+    ∙ cond-false (repeats state.lines h.worker h.command) None (Some (with_command state number h.worker h.command)) (anew_is state.lines h.worker h.command h.anew)
     ∙ ap (λ (s : State). Some s) (sym h.after_is)
 
 takes_is_read : (state after : State) (number : ℕ) (line : List ℕ) → IsPlain line → Takes state number line after → read_line state number line ≡ Some after

@@ -10,7 +10,7 @@ use Rattle.commons.specs.declared.packet.Seg.{Seg}
 use Rattle.commons.specs.Lists.{Lists, IsTable}
 use Rattle.commons.proofs.Bags.{bag-nil, bag-single, one-same}
 use Rattle.script.specs.declared.replies.Act.{Act}
-use Rattle.script.specs.declared.replies.Act.TheVariants.{Alloc, Free}
+use Rattle.script.specs.declared.replies.Act.TheVariants.{Alloc, Free, Flush}
 use Rattle.script.specs.declared.replies.Freed.{Freed}
 use Rattle.script.specs.declared.replies.Reply.{Reply}
 use Rattle.script.specs.declared.replies.Reply.TheVariants as reply
@@ -84,6 +84,7 @@ member_act_same : (s : Lists) (members : List Member) (n : ℕ) (act : Act) → 
     member_act act (left_of s) (get_or members n (nobody s.limits)) (stack_of s)
     ≡ act_on (record { limits = s.limits; stack = stack_of s; members = members }) n act
 member_act_same s members n Alloc t l each b = refl
+member_act_same s members n Flush t l each b = refl
 member_act_same s members n (Free slot) t l each b =
     let m : Member = get_or members n (nobody s.limits) in
     free_in_others (left_of s) (λ i. held_by (set members n (without_packet slot m)) i) (get_or m.table slot None) slot m (stack_of s)

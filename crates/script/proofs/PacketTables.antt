@@ -122,6 +122,22 @@ owns_free s0 s2 w w2 m cache slot e o n n2 there l h k =
       single = single-set m.table slot None refl o.single;
     }
 
+-- what a worker owns once its cache was flushed
+pub owns_flush : (s t : Lists) (w : ℕ) (m : Member) (cache : List ℕ) → Owns s m → w ≡ m.number → t.limits ≡ s.limits →
+    ((i : ℕ) → hand_of t w i + bag m.cache i ≡ hand_of s w i + bag cache i) → ((i : ℕ) → holds_of t w i ≡ holds_of s w i) →
+    Owns t (record m { cache = cache })
+owns_flush s t w m cache o n l h k = record {
+  limits = o.limits ∙ sym l;
+  first = o.first;
+  last = rw l o.last;
+  cached = λ i.
+      let a = rw n at (h i) in
+      omega (arith, a, o.cached i);
+  held = λ i. let a = rw n at (k i) in a ∙ o.held i;
+  full = o.full;
+  single = o.single;
+}
+
 -- the one hold of a packet
 pub held_once : (s : Lists) (m : Member) (slot e : ℕ) → Owns s m → element_of (get_or m.table slot None) ≡ Some e → 0 < holds_of s m.number e
 held_once s m slot e o there =

@@ -1,16 +1,17 @@
 -- The pool line's limits are those that the reading function gives, and no others.
 use Rattle.std.proofs.Common.{◌≡◌, ℕ, Bool, true, false, cond, List, [], ◌∷◌, Option, Some, None, refl, sym, ap, ◌∙◌, subst, inl, inr}
-use Rattle.std.specs.Prelude.{◌⊎◌, option_and_then, is_some, codes}
+use Rattle.std.specs.Prelude.{option_and_then, is_some, codes}
+use Rattle.std.specs.List.{find}
 use Rattle.std.specs.Str.{bytes_eq}
 use Rattle.std.proofs.lemmas.Bool.{cond-true, cond-false, cases_Bool, false≢true}
 use Rattle.std.proofs.lemmas.Slice.Eq.{bytes_eq-Decides}
 use Rattle.commons.specs.declared.limits.Limits.{Limits}
 use Rattle.script.specs.declared.commands.Key.{Key}
-use Rattle.script.specs.declared.commands.Key.TheVariants.{Buf, Tries, Start}
+use Rattle.script.specs.declared.commands.Key.TheVariants.{Cache, Workers, Buf, Tries, Start}
 use Rattle.script.specs.declared.pool_line.Settings.{Settings}
 use Rattle.script.specs.Numbers.{IsNumber}
 use Rattle.script.specs.PoolLine.{spelled, same_key, ArePairs, given, AreOnce, limits_with, IsPoolLine}
-use Rattle.script.specs.Reading.{number_at, key_at, value_of, with_value, none_given, add_value, add_pair, settings_from, limits_by, pool_with, limits_from}
+use Rattle.script.specs.Reading.{number_at, keys, key_at, value_of, value_with, with_value, none_given, add_value, add_pair, settings_from, limits_by, pool_with, limits_from}
 use Rattle.script.proofs.NumberLemmas.{number_from, number_is}
 use Rattle.script.proofs.SettingsLemmas.{no_settings, no_number, one_pair, with_pair}
 use Rattle.script.proofs.KeptLemmas.{and_then_some, found_is}
@@ -21,65 +22,50 @@ pub if_some : {A : Type 0} (b : Bool) (o : Option A) (y : A) → cond b o None �
 if_some true o y e = (refl, e)
 if_some false o y e = absurd cc
 
+-- what is found by its spelling is spelled so
+pub spelled_from : {A : Type 0} (spelling : A → List ℕ) (all : List A) (word : List ℕ) (one : A) → find (λ a. bytes_eq word (spelling a)) all ≡ Some one → word ≡ spelling one
+spelled_from spelling [] word one e = absurd cc
+spelled_from spelling (first ∷ others) word one e = elim (cases_Bool (bytes_eq word (spelling first))) [
+  | inl same ↦
+      let found : first ≡ one = found_is first one (sym (cond-true (bytes_eq word (spelling first)) (Some first) (find (λ a. bytes_eq word (spelling a)) others) same) ∙ e) in
+      (bytes_eq-Decides word (spelling first)).0 same ∙ ap spelling found
+  | inr other ↦ spelled_from spelling others word one (sym (cond-false (bytes_eq word (spelling first)) (Some first) (find (λ a. bytes_eq word (spelling a)) others) other) ∙ e)
+]
+
 pub if_none : {A : Type 0} (b : Bool) (o : Option A) (y : A) → cond b None o ≡ Some y → (b ≡ false) × (o ≡ Some y)
 if_none true o y e = absurd cc
 if_none false o y e = (refl, e)
 
 -- ---- keys
 
-same_key-true : (a b : Key) → same_key a b ≡ true → a ≡ b
-same_key-true Buf Buf e = refl
-same_key-true Buf Tries e = absurd (false≢true e)
-same_key-true Buf Start e = absurd (false≢true e)
-same_key-true Tries Buf e = absurd (false≢true e)
-same_key-true Tries Tries e = refl
-same_key-true Tries Start e = absurd (false≢true e)
-same_key-true Start Buf e = absurd (false≢true e)
-same_key-true Start Tries e = absurd (false≢true e)
-same_key-true Start Start e = refl
-
-same_key-refl : (a : Key) → same_key a a ≡ true
-same_key-refl Buf = refl
-same_key-refl Tries = refl
-same_key-refl Start = refl
-
-with-same : (settings : Settings) (key : Key) (value : ℕ) → value_of (with_value settings key value) key ≡ Some value
-with-same settings Buf value = refl
-with-same settings Tries value = refl
-with-same settings Start value = refl
-
-with-other : (settings : Settings) (key other : Key) (value : ℕ) → same_key other key ≡ false → value_of (with_value settings key value) other ≡ value_of settings other
-with-other settings Buf Buf value e = absurd (false≢true (sym e))
-with-other settings Buf Tries value e = refl
-with-other settings Buf Start value e = refl
-with-other settings Tries Buf value e = refl
-with-other settings Tries Tries value e = absurd (false≢true (sym e))
-with-other settings Tries Start value e = refl
-with-other settings Start Buf value e = refl
-with-other settings Start Tries value e = refl
-with-other settings Start Start value e = absurd (false≢true (sym e))
+key_from : (word : List ℕ) (key : Key) → key_at word ≡ Some key → word ≡ spelled key
+key_from word key e = spelled_from spelled keys word key e
 
 key_at-spelled : (key : Key) → key_at (spelled key) ≡ Some key
+key_at-spelled Cache = refl
+key_at-spelled Workers = refl
 key_at-spelled Buf = refl
 key_at-spelled Tries = refl
 key_at-spelled Start = refl
 
-key_or : (b : Bool) (k key : Key) (o : Option Key) → cond b (Some k) o ≡ Some key → ((b ≡ true) × (k ≡ key)) ⊎ ((b ≡ false) × (o ≡ Some key))
-key_or true k key o e = inl (refl, found_is k key e)
-key_or false k key o e = inr (refl, e)
+same_key-true : (a b : Key) → same_key a b ≡ true → a ≡ b
+same_key-true a b e = found_is a b (sym (key_at-spelled a) ∙ ap key_at ((bytes_eq-Decides (spelled a) (spelled b)).0 e) ∙ key_at-spelled b)
 
-spells : (word : List ℕ) (k key : Key) → bytes_eq word (spelled k) ≡ true → k ≡ key → word ≡ spelled key
-spells word k key e f = (bytes_eq-Decides word (spelled k)).0 e ∙ ap spelled f
+same_key-refl : (a : Key) → same_key a a ≡ true
+same_key-refl a = (bytes_eq-Decides (spelled a) (spelled a)).1 refl
 
-key_from : (word : List ℕ) (key : Key) → key_at word ≡ Some key → word ≡ spelled key
-key_from word key e =
-    elim (key_or (bytes_eq word (codes "buf")) Buf key (cond (bytes_eq word (codes "tries")) (Some Tries) (cond (bytes_eq word (codes "start")) (Some Start) None)) e) [
-      | inl h ↦ spells word Buf key h.0 h.1
-      | inr h ↦ elim (key_or (bytes_eq word (codes "tries")) Tries key (cond (bytes_eq word (codes "start")) (Some Start) None) h.1) [
-        | inl i ↦ spells word Tries key i.0 i.1
-        | inr i ↦ let j = if_some (bytes_eq word (codes "start")) (Some Start) key i.1 in spells word Start key j.0 (found_is Start key j.1)
-      ]
-    ]
+with-each : (settings : Settings) (key other : Key) (value : ℕ) → value_of (with_value settings key value) other ≡ value_with settings key value other
+with-each settings key Cache value = refl
+with-each settings key Workers value = refl
+with-each settings key Buf value = refl
+with-each settings key Tries value = refl
+with-each settings key Start value = refl
+
+with-same : (settings : Settings) (key : Key) (value : ℕ) → value_of (with_value settings key value) key ≡ Some value
+with-same settings key value = with-each settings key key value ∙ cond-true (same_key key key) (Some value) (value_of settings key) (same_key-refl key)
+
+with-other : (settings : Settings) (key other : Key) (value : ℕ) → same_key other key ≡ false → value_of (with_value settings key value) other ≡ value_of settings other
+with-other settings key other value e = with-each settings key other value ∙ cond-false (same_key other key) (Some value) (value_of settings other) e
 
 -- ---- pairs
 
@@ -206,18 +192,20 @@ or_none None = refl
 or_none (Some x) = refl
 
 none_value : (key : Key) → value_of none_given key ≡ None
+none_value Cache = refl
+none_value Workers = refl
 none_value Buf = refl
 none_value Tries = refl
 none_value Start = refl
 
 limits_same : (population : ℕ) (pairs : List (Key × ℕ)) (settings : Settings) → AreWith none_given pairs settings → limits_by population settings ≡ limits_with population pairs
 limits_same population pairs settings h =
+    let cache : settings.cache ≡ given Cache pairs = h Cache ∙ or_none (given Cache pairs) in
+    let workers : settings.workers ≡ given Workers pairs = h Workers ∙ or_none (given Workers pairs) in
     let buf : settings.buf ≡ given Buf pairs = h Buf ∙ or_none (given Buf pairs) in
     let tries : settings.tries ≡ given Tries pairs = h Tries ∙ or_none (given Tries pairs) in
     let start : settings.start ≡ given Start pairs = h Start ∙ or_none (given Start pairs) in
-    ap (λ (o : Option ℕ). limits_by population (record { buf = o; tries = settings.tries; start = settings.start })) buf
-    ∙ ap (λ (o : Option ℕ). limits_by population (record { buf = given Buf pairs; tries = o; start = settings.start })) tries
-    ∙ ap (λ (o : Option ℕ). limits_by population (record { buf = given Buf pairs; tries = given Tries pairs; start = o })) start
+    rw (cache, workers, buf, tries, start) refl
 
 pool_from_words : (word : List ℕ) (words : List (List ℕ)) (limits : Limits) → word ≡ codes "pool" → pool_with words ≡ Some limits → IsPoolLine (word ∷ words) limits
 pool_from_words word [] limits e f = absurd cc

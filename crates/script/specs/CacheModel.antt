@@ -49,6 +49,15 @@ abbrev pub put_beyond : ℕ → List ℕ → Result (Unit {0}) Refusal × Stack 
 put_beyond size all (Ok _, s) = (Flushed (length all - size), take size all, s)
 put_beyond size all (Err e, s) = (PutOff (length all - size) e, all, s)
 
+-- the whole cache goes, or stays where that was refused
+abbrev pub put_whole : List ℕ → Result (Unit {0}) Refusal × Stack → Put × List ℕ × Stack
+put_whole cache (Ok _, s) = (Flushed (length cache), [], s)
+put_whole cache (Err e, s) = (PutOff (length cache) e, cache, s)
+
+-- the answer to a flush, and the cache and the stack that it leaves; an empty cache isn't pushed
+abbrev pub flush : List ℕ → Stack → Put × List ℕ × Stack
+flush cache s = if length cache == 0 then (Kept, cache, s) else put_whole cache (push cache s)
+
 -- the answer to a put of a list, and the cache and the stack that it leaves
 abbrev pub put : Limits → List ℕ → List ℕ → Stack → Put × List ℕ × Stack
 put l list cache s =

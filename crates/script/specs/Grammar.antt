@@ -44,7 +44,7 @@ pub record ReadsCommand (before : State) (number : ℕ) (line : List ℕ) (after
   pub spelled : Spells line words
   pub worker : ℕ
   pub command : Command
-  pub is_command_line : IsCommandLine words worker command
+  pub is_command_line : IsCommandLine limits.workers words worker command
   pub anew : MakesAnew before.lines worker command
   pub after_is : after ≡ with_command before number worker command
 

@@ -1,3 +1,4 @@
+pub mod CacheLaw
 pub mod CacheModel
 pub mod CommandLine
 pub mod Commands

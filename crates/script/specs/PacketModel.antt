@@ -8,12 +8,12 @@ use Rattle.commons.specs.declared.refusal.Refusal.TheVariants.{NoEntries, NoSuch
 use Rattle.mempool.specs.declared.put.Put.{Put}
 use Rattle.mempool.specs.declared.put.Put.TheVariants.{Kept, Flushed, PutOff}
 use Rattle.script.specs.declared.replies.Act.{Act}
-use Rattle.script.specs.declared.replies.Act.TheVariants.{Alloc, Free}
+use Rattle.script.specs.declared.replies.Act.TheVariants.{Alloc, Free, Flush}
 use Rattle.script.specs.declared.replies.Freed.{Freed}
 use Rattle.script.specs.declared.replies.Reply.{Reply}
 use Rattle.script.specs.declared.replies.Reply.TheVariants as reply
 use Rattle.script.specs.Pool.{Stack, Member, Pool, holds_in_slot, held_by, member_at, with_member}
-use Rattle.script.specs.CacheModel.{get, put}
+use Rattle.script.specs.CacheModel.{get, put, flush}
 
 -- the segment of a fresh packet
 abbrev pub fresh_seg : Limits → ℕ → Seg
@@ -64,6 +64,13 @@ free_in (Some segs) others slot m s =
 abbrev pub free : (ℕ → ℕ) → ℕ → Member → Stack → Reply × Member × Stack
 free others slot m s = free_in (slice_index_or m.table slot None) others slot m s
 
+-- a flush changes the worker's cache, and none of its packets
+abbrev pub flushed : Member → Put × List ℕ × Stack → Reply × Member × Stack
+flushed m done = (reply.Put done.0, record m { cache = done.1 }, done.2)
+
+abbrev pub flush_member : Member → Stack → Reply × Member × Stack
+flush_member m s = flushed m (flush m.cache s)
+
 -- the worker without the packet in this slot
 abbrev pub without_packet : ℕ → Member → Member
 without_packet slot m = record m { table = slice_set m.table slot None }
@@ -76,11 +83,13 @@ held_elsewhere pool n slot i = held_by (slice_set pool.members n (without_packet
 abbrev pub member_act : Act → (ℕ → ℕ) → Member → Stack → Reply × Member × Stack
 member_act Alloc others m s = alloc m s
 member_act (Free slot) others m s = free others slot m s
+member_act Flush others m s = flush_member m s
 
--- how often the packets that stay hold each element; an alloc takes none away and doesn't ask
+-- how often the packets that stay hold each element; only a free takes one away and asks
 abbrev pub held_outside : Pool → ℕ → Act → ℕ → ℕ
 held_outside pool n Alloc i = 0
 held_outside pool n (Free slot) i = held_elsewhere pool n slot i
+held_outside pool n Flush i = 0
 
 abbrev pub act_on : Pool → ℕ → Act → Reply × Member × Stack
 act_on pool n act = member_act act (held_outside pool n act) (member_at pool n) pool.stack

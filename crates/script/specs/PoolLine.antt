@@ -1,27 +1,22 @@
 -- The pool line: which limits its words give.
-use Rattle.std.specs.Prelude.{◌≡◌, ℕ, Bool, true, false, if◌then◌else◌, List, [], ◌∷◌, Option, Some, None, unwrap_or, codes}
+use Rattle.std.specs.Prelude.{◌≡◌, ℕ, Bool, if◌then◌else◌, List, [], ◌∷◌, Option, Some, None, unwrap_or, codes}
+use Rattle.std.specs.Str.{bytes_eq}
 use Rattle.commons.specs.declared.limits.Limits.{Limits}
 use Rattle.script.specs.declared.commands.Key.{Key}
-use Rattle.script.specs.declared.commands.Key.TheVariants.{Buf, Tries, Start}
+use Rattle.script.specs.declared.commands.Key.TheVariants.{Cache, Workers, Buf, Tries, Start}
 use Rattle.script.specs.Numbers.{IsNumber}
 
 -- how a key is written
 abbrev pub spelled : Key → List ℕ
+spelled Cache = codes "cache"
+spelled Workers = codes "workers"
 spelled Buf = codes "buf"
 spelled Tries = codes "tries"
 spelled Start = codes "start"
 
--- whether two keys are the same
+-- whether two keys are the same, which they are where they are written alike
 abbrev pub same_key : Key → Key → Bool
-same_key Buf Buf = true
-same_key Buf Tries = false
-same_key Buf Start = false
-same_key Tries Buf = false
-same_key Tries Tries = true
-same_key Tries Start = false
-same_key Start Buf = false
-same_key Start Tries = false
-same_key Start Start = true
+same_key key other = bytes_eq (spelled key) (spelled other)
 
 -- the words are these keys, each with its number behind it
 abbrev pub ArePairs : List (List ℕ) → List (Key × ℕ) → Type 0
@@ -43,8 +38,8 @@ AreOnce (pair ∷ pairs) = (given pair.0 pairs ≡ None) × AreOnce pairs
 abbrev pub limits_with : ℕ → List (Key × ℕ) → Limits
 limits_with population pairs = record {
   population = population;
-  cache = 0;
-  workers = 1;
+  cache = unwrap_or (given Cache pairs) 0;
+  workers = unwrap_or (given Workers pairs) 1;
   desks = 0;
   buf = unwrap_or (given Buf pairs) 2048;
   ref_limit = 65535;

@@ -1,20 +1,21 @@
 -- How a script is read, as functions on lists, for the crate's own functions. No public clause cites this module.
-use Rattle.std.specs.Prelude.{ℕ, ◌+◌, ◌-◌, ◌*◌, ◌/◌, ◌^◌, max, Bool, true, false, ◌&&◌, ◌||◌, if◌then◌else◌, ◌==◌, nat_le, nat_lt, List, [], ◌∷◌, ◌++◌, length, Option, Some, None, is_some, option_and_then, Result, Ok, Err, unwrap_or, codes}
-use Rattle.std.specs.List.{list_all}
+use Rattle.std.specs.Prelude.{ℕ, ◌+◌, ◌-◌, ◌*◌, ◌/◌, ◌^◌, max, Bool, true, false, ◌&&◌, ◌||◌, if◌then◌else◌, ◌==◌, nat_le, nat_lt, List, [], ◌∷◌, length, Option, Some, None, is_some, option_and_then, Result, Ok, Err, unwrap_or, take, drop, codes}
+use Rattle.std.specs.List.{find, list_all}
 use Rattle.std.specs.Str.{bytes_eq}
 use Rattle.commons.specs.declared.limits.Limits.{Limits}
 use Rattle.commons.specs.declared.refusal.Refusal.{Refusal}
 use Rattle.commons.specs.declared.refusal.Refusal.TheVariants.{BadPool, ScriptFault}
 use Rattle.script.specs.declared.commands.Command.{Command}
-use Rattle.script.specs.declared.commands.Command.TheVariants.{Alloc, Free}
+use Rattle.script.specs.declared.commands.Command.TheVariants.{Alloc, Free, Flush}
 use Rattle.script.specs.declared.commands.Line.{Line}
 use Rattle.script.specs.declared.command_line.Verb.{Verb}
 use Rattle.script.specs.declared.command_line.Verb.TheVariants as verbs
 use Rattle.script.specs.declared.commands.Key.{Key}
-use Rattle.script.specs.declared.commands.Key.TheVariants.{Buf, Tries, Start}
+use Rattle.script.specs.declared.commands.Key.TheVariants.{Cache, Workers, Buf, Tries, Start}
 use Rattle.script.specs.declared.pool_line.Settings.{Settings}
 use Rattle.script.specs.Numbers.{decimal}
-use Rattle.script.specs.Grammar.{State, start}
+use Rattle.script.specs.PoolLine.{spelled, same_key}
+use Rattle.script.specs.Grammar.{State, start, with_command}
 
 -- ---- lines
 
@@ -100,26 +101,39 @@ is_name_word word =
 
 -- ---- the pool line
 
+-- all keys
+abbrev pub keys : List Key
+keys = Cache ∷ Workers ∷ Buf ∷ Tries ∷ Start ∷ []
+
 -- the key that a word spells
 abbrev pub key_at : List ℕ → Option Key
-key_at word =
-    if bytes_eq word (codes "buf") then Some Buf else if bytes_eq word (codes "tries") then Some Tries else if bytes_eq word (codes "start") then Some Start else None
+key_at word = find (λ key. bytes_eq word (spelled key)) keys
 
 -- the value that a key was given
 abbrev pub value_of : Settings → Key → Option ℕ
+value_of settings Cache = settings.cache
+value_of settings Workers = settings.workers
 value_of settings Buf = settings.buf
 value_of settings Tries = settings.tries
 value_of settings Start = settings.start
 
+-- the value of one key once another was given this one
+abbrev pub value_with : Settings → Key → ℕ → Key → Option ℕ
+value_with settings key value other = if same_key other key then Some value else value_of settings other
+
 -- the settings with this value of the key
 abbrev pub with_value : Settings → Key → ℕ → Settings
-with_value settings Buf value = record settings { buf = Some value }
-with_value settings Tries value = record settings { tries = Some value }
-with_value settings Start value = record settings { start = Some value }
+with_value settings key value = record {
+  cache = value_with settings key value Cache;
+  workers = value_with settings key value Workers;
+  buf = value_with settings key value Buf;
+  tries = value_with settings key value Tries;
+  start = value_with settings key value Start;
+}
 
 -- no key was given a value
 abbrev pub none_given : Settings
-none_given = record { buf = None; tries = None; start = None }
+none_given = record { cache = None; workers = None; buf = None; tries = None; start = None }
 
 -- a new value of a key
 abbrev pub add_value : Settings → Key → ℕ → Option Settings
@@ -141,8 +155,8 @@ settings_from settings (key ∷ number ∷ words) =
 abbrev pub limits_by : ℕ → Settings → Limits
 limits_by population settings = record {
   population = population;
-  cache = 0;
-  workers = 1;
+  cache = unwrap_or settings.cache 0;
+  workers = unwrap_or settings.workers 1;
   desks = 0;
   buf = unwrap_or settings.buf 2048;
   ref_limit = 65535;
@@ -171,10 +185,19 @@ is_pool l =
 
 -- ---- commands
 
+-- how a verb is written
+abbrev pub verb_word : Verb → List ℕ
+verb_word verbs.Alloc = codes "alloc"
+verb_word verbs.Free = codes "free"
+verb_word verbs.Flush = codes "flush"
+
+-- all verbs
+abbrev pub all_verbs : List Verb
+all_verbs = verbs.Alloc ∷ verbs.Free ∷ verbs.Flush ∷ []
+
 -- the verb that a word spells
 abbrev pub verb_at : List ℕ → Option Verb
-verb_at word =
-    if bytes_eq word (codes "alloc") then Some verbs.Alloc else if bytes_eq word (codes "free") then Some verbs.Free else None
+verb_at word = find (λ verb. bytes_eq word (verb_word verb)) all_verbs
 
 -- the only one of the words, where it is a name
 abbrev pub only_name_of : List (List ℕ) → Option (List ℕ)
@@ -182,24 +205,53 @@ only_name_of [] = None
 only_name_of (word ∷ []) = if is_name_word word then Some word else None
 only_name_of (word ∷ other ∷ words) = None
 
--- the command of a verb and a name
-abbrev pub command_with : Verb → List ℕ → Command
-command_with verbs.Alloc name = Alloc name
-command_with verbs.Free name = Free name
+-- the command of a verb that has no words behind it
+abbrev pub bare : Command → List (List ℕ) → Option Command
+bare command [] = Some command
+bare command (word ∷ words) = None
 
--- the command, where there are a verb and a name
-abbrev pub command_by : Option Verb → Option (List ℕ) → Option Command
-command_by verb name = option_and_then (λ v. option_and_then (λ n. Some (command_with v n)) name) verb
+-- the command of a verb and the words behind it
+abbrev pub command_with : Verb → List (List ℕ) → Option Command
+command_with verbs.Alloc words = option_and_then (λ name. Some (Alloc name)) (only_name_of words)
+command_with verbs.Free words = option_and_then (λ name. Some (Free name)) (only_name_of words)
+command_with verbs.Flush words = bare Flush words
 
--- the command that the words of a line are
+-- the command that words are
 abbrev pub command_from : List (List ℕ) → Option Command
 command_from [] = None
-command_from (verb ∷ words) = command_by (verb_at verb) (only_name_of words)
+command_from (word ∷ words) = option_and_then (λ verb. command_with verb words) (verb_at word)
+
+-- the part of a word before a colon at its end
+abbrev pub before_colon : List ℕ → Option (List ℕ)
+before_colon word = if bytes_eq (drop (length word - 1) word) (codes ":") then Some (take (length word - 1) word) else None
+
+-- the worker of this number, if there are so many
+abbrev pub of_workers : ℕ → ℕ → Option ℕ
+of_workers workers worker = if nat_le 1 worker && nat_le worker workers then Some worker else None
+
+-- the worker whose number a word spells
+abbrev pub worker_at : ℕ → List ℕ → Option ℕ
+worker_at workers number = option_and_then (of_workers workers) (number_at number)
+
+-- the command of words, with its worker
+abbrev pub order_of : ℕ → List (List ℕ) → Option (ℕ × Command)
+order_of worker words = option_and_then (λ command. Some (worker, command)) (command_from words)
+
+-- the same, where the line's words are these, with or without a worker's number in front
+abbrev pub order_by : ℕ → Option (List ℕ) → List (List ℕ) → List (List ℕ) → Option (ℕ × Command)
+order_by workers None all behind = order_of 1 all
+order_by workers (Some number) all behind = option_and_then (λ worker. order_of worker behind) (worker_at workers number)
+
+-- the worker and the command that the words of a line are, in a pool of so many workers
+abbrev pub order_from : ℕ → List (List ℕ) → Option (ℕ × Command)
+order_from workers [] = None
+order_from workers (word ∷ words) = order_by workers (before_colon word) (word ∷ words) words
 
 -- whether the command makes the name
 abbrev pub makes : Command → List ℕ → Bool
 makes (Alloc made) name = bytes_eq name made
 makes (Free freed) name = false
+makes Flush name = false
 
 -- whether one of the lines makes the worker's name
 abbrev pub is_made : List Line → ℕ → List ℕ → Bool
@@ -210,6 +262,7 @@ is_made (line ∷ lines) worker name = (worker == line.worker && makes line.comm
 abbrev pub repeats : List Line → ℕ → Command → Bool
 repeats lines worker (Alloc name) = is_made lines worker name
 repeats lines worker (Free name) = false
+repeats lines worker Flush = false
 
 -- ---- a line, and lines one after another
 
@@ -217,18 +270,14 @@ repeats lines worker (Free name) = false
 abbrev pub with_limits : State → Limits → State
 with_limits state limits = record { limits = Some limits; lines = state.lines }
 
--- what is told after the command line with this number
-abbrev pub with_line : State → ℕ → Command → State
-with_line state number command = record { limits = state.limits; lines = state.lines ++ record { number = number; worker = 1; command = command } ∷ [] }
+-- what is told after the worker's command on the line with this number, if it makes no name that was made before
+abbrev pub add_command : State → ℕ → ℕ × Command → Option State
+add_command state number order = if repeats state.lines order.0 order.1 then None else Some (with_command state number order.0 order.1)
 
--- the same, where the command makes no name that was made before
-abbrev pub add_command : State → ℕ → Command → Option State
-add_command state number command = if repeats state.lines 1 command then None else Some (with_line state number command)
-
--- what is told after these words, where the limits are told
-abbrev pub read_command : State → ℕ → List (List ℕ) → Option State
-read_command state number words =
-    if nat_lt (length state.lines) 10000 then option_and_then (add_command state number) (command_from words) else None
+-- what is told after these words, where the limits are told and have so many workers
+abbrev pub read_command : ℕ → State → ℕ → List (List ℕ) → Option State
+read_command workers state number words =
+    if nat_lt (length state.lines) 10000 then option_and_then (add_command state number) (order_from workers words) else None
 
 -- what is told after these words, where no limits are told
 abbrev pub read_pool : State → List (List ℕ) → Option State
@@ -237,7 +286,7 @@ read_pool state words = option_and_then (λ limits. Some (with_limits state limi
 -- a line that isn't skipped, by whether the limits are told
 abbrev pub read_words : Option Limits → State → ℕ → List (List ℕ) → Option State
 read_words None state number words = read_pool state words
-read_words (Some limits) state number words = read_command state number words
+read_words (Some limits) state number words = read_command limits.workers state number words
 
 -- what is told after a line, if it has a reading
 unfoldable pub read_line : State → ℕ → List ℕ → Option State

@@ -6,9 +6,9 @@ use Rattle.commons.specs.declared.refusal.Refusal.TheVariants.{NoSuchPacket}
 use Rattle.script.specs.declared.commands.Command.{Command}
 use Rattle.script.specs.declared.commands.Command.TheVariants as command
 use Rattle.script.specs.declared.commands.Line.{Line}
-use Rattle.script.specs.declared.replies.Act.TheVariants.{Alloc, Free}
+use Rattle.script.specs.declared.replies.Act.TheVariants.{Alloc, Free, Flush}
 use Rattle.script.specs.declared.replies.Reply.{Reply}
-use Rattle.script.specs.declared.replies.Reply.TheVariants.{Allocated, Freed as WasFreed, Refused}
+use Rattle.script.specs.declared.replies.Reply.TheVariants.{Allocated, Freed as WasFreed, Put as WasPut, Refused}
 use Rattle.script.specs.Pool.{Pool, new_pool}
 use Rattle.script.specs.PacketModel.{perform}
 
@@ -29,12 +29,14 @@ named worker name slot stands other_worker other_name = if other_worker == worke
 abbrev pub stands_after_alloc : ℕ → List ℕ → Reply → (ℕ → List ℕ → Option ℕ) → ℕ → List ℕ → Option ℕ
 stands_after_alloc worker name (Allocated slot elem) stands = named worker name (Some slot) stands
 stands_after_alloc worker name (WasFreed freed) stands = stands
+stands_after_alloc worker name (WasPut put) stands = stands
 stands_after_alloc worker name (Refused cause) stands = stands
 
 -- and a free that is met takes it away
 abbrev pub stands_after_free : ℕ → List ℕ → Reply → (ℕ → List ℕ → Option ℕ) → ℕ → List ℕ → Option ℕ
 stands_after_free worker name (Allocated slot elem) stands = stands
 stands_after_free worker name (WasFreed freed) stands = named worker name None stands
+stands_after_free worker name (WasPut put) stands = stands
 stands_after_free worker name (Refused cause) stands = stands
 
 abbrev pub alloc_as : ℕ → List ℕ → Run → Reply × Run
@@ -49,10 +51,15 @@ free_as (Some slot) worker name run =
     let done = perform run.pool worker (Free slot) in
     (done.0, record { pool = done.1; stands = stands_after_free worker name done.0 run.stands })
 
+-- a flush leaves each name as it stands
+abbrev pub flush_as : ℕ → Run → Reply × Run
+flush_as worker run = let done = perform run.pool worker Flush in (done.0, record { pool = done.1; stands = run.stands })
+
 -- the reply to a worker's command, and what is left
 abbrev pub obey : ℕ → Command → Run → Reply × Run
 obey worker (command.Alloc name) run = alloc_as worker name run
 obey worker (command.Free name) run = free_as (run.stands worker name) worker name run
+obey worker command.Flush run = flush_as worker run
 
 -- the reply to each line, with its number
 abbrev pub replies_to : List Line → Run → List (ℕ × Reply)

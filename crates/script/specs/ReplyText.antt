@@ -2,6 +2,8 @@
 use Rattle.std.specs.Prelude.{ℕ, List, [], ◌++◌, Option, Some, None, codes, decimal}
 use Rattle.commons.specs.declared.refusal.Refusal.{Refusal}
 use Rattle.commons.specs.Refusals.{name_of, number_of}
+use Rattle.mempool.specs.declared.put.Put.{Put}
+use Rattle.mempool.specs.declared.put.Put.TheVariants as puts
 use Rattle.script.specs.declared.replies.Freed.{Freed}
 use Rattle.script.specs.declared.replies.Reply.{Reply}
 use Rattle.script.specs.declared.replies.Reply.TheVariants as replies
@@ -17,10 +19,17 @@ freed_text freed =
     codes "ok back " ++ decimal freed.back ++ codes " flushed " ++ decimal freed.flushed
     ++ put_off_text freed.put_off
 
--- a reply: the new packet's element, what freeing did, or the refusal's number and name
+-- what a flush did with the cache
+unfoldable pub put_text : Put → List ℕ
+put_text puts.Kept = codes "ok kept"
+put_text (puts.Flushed count) = codes "ok flushed " ++ decimal count
+put_text (puts.PutOff count refusal) = codes "ok putoff " ++ decimal count ++ codes " " ++ name_of refusal
+
+-- a reply: the new packet's element, what freeing or a flush did, or the refusal's number and name
 unfoldable pub reply_text : Reply → List ℕ
 reply_text (replies.Allocated slot elem) = codes "ok " ++ decimal elem
 reply_text (replies.Freed freed) = freed_text freed
+reply_text (replies.Put put) = put_text put
 reply_text (replies.Refused refusal) =
     codes "refused " ++ decimal (number_of refusal) ++ codes " " ++ name_of refusal
 

@@ -1,5 +1,5 @@
 -- How the crate's own functions say that they read as the functions on lists do. No public clause cites this module.
-use Rattle.std.specs.Prelude.{◌≡◌, ℕ, zero, suc, Bool, true, false, ◌&&◌, ◌==◌, nat_eq, List, [], ◌∷◌, Option, Some, None, Result, Ok, Err}
+use Rattle.std.specs.Prelude.{◌≡◌, ◌≤◌, ℕ, zero, suc, Bool, true, false, ◌&&◌, ◌==◌, nat_eq, List, [], ◌∷◌, Option, Some, None, Result, Ok, Err}
 use Rattle.std.specs.List.{AllByRecursion}
 use Rattle.std.specs.Cmp.Lexicographic.{pointwise}
 use Rattle.std.specs.HashSet.{contains}
@@ -7,7 +7,7 @@ use Rattle.commons.specs.declared.limits.Limits.{Limits}
 use Rattle.commons.specs.declared.refusal.Refusal.{Refusal}
 use Rattle.commons.specs.declared.refusal.Refusal.TheVariants as refusals
 use Rattle.script.specs.declared.commands.Command.{Command}
-use Rattle.script.specs.declared.commands.Command.TheVariants.{Alloc, Free}
+use Rattle.script.specs.declared.commands.Command.TheVariants.{Alloc, Free, Flush}
 use Rattle.script.specs.declared.commands.Line.{Line}
 use Rattle.script.specs.declared.commands.Script.{Script}
 use Rattle.script.specs.declared.made_names.MadeNames.{MadeNames}
@@ -44,16 +44,26 @@ AreMade made lines = (worker : ℕ) (name : List ℕ) → IsName name → has_ma
 abbrev pub state_of : Reader → State
 state_of reader = record { limits = reader.limits; lines = reader.lines.items }
 
+-- the worker is one of so many
+abbrev pub IsAmong : ℕ → ℕ → Type 0
+IsAmong workers worker = (1 ≤ worker) × (worker ≤ workers)
+
+-- no line comes before the limits, and then each is of one of their workers
+abbrev pub AreWithin : Option Limits → List Line → Type 0
+AreWithin None lines = lines ≡ []
+AreWithin (Some limits) lines = AllByRecursion (λ line. IsAmong limits.workers line.worker) lines
+
 -- what each reader keeps
 pub record IsKept (reader : Reader) : Type 0 where
   pub ready : are_ready reader.limits ≡ true
-  pub workers : AllByRecursion (λ line. line.worker ≡ 1) reader.lines.items
+  pub workers : AreWithin reader.limits reader.lines.items
   pub made : AreMade reader.made reader.lines.items
 
 -- a name is what the command has as its name
 abbrev pub IsNamed : Command → Type 0
 IsNamed (Alloc name) = IsName name
 IsNamed (Free name) = IsName name
+IsNamed Flush = Unit {0}
 
 -- why a pool line wasn't read
 abbrev pub StopsPool : Stop → Option Limits → Type 0

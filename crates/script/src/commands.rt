@@ -14,6 +14,8 @@ pub enum Command {
     Alloc(Name),
     /// Frees a packet.
     Free(Name),
+    /// Puts the worker's whole cache onto the common stack.
+    Flush,
 }
 
 /// A command with the number of its line, from 1, and the worker that performs it, from 1.
@@ -30,6 +32,10 @@ pub struct Line {
 /// A key of the pool line.
 #[derive(Clone, Copy, PartialEq, Eq, Debug)]
 pub enum Key {
+    /// How many elements a worker's cache keeps.
+    Cache,
+    /// How many workers the pool has.
+    Workers,
     /// Bytes in an element's buffer.
     Buf,
     /// Lost tries after which a call gives up.

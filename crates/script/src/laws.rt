@@ -1,8 +1,15 @@
-//! Laws of the grammar of scripts, and of each replay.
+//! Laws of the grammar of scripts, of the reference model's caches, and of each replay.
 
-ghost use Rattle.std.specs.Prelude.{◌≡◌, ℕ, ◌⊎◌, List};
+ghost use Rattle.std.specs.Prelude.{◌≡◌, ℕ, ◌⊎◌, List, Result};
 ghost use Rattle.commons.specs.Bounds.{IsPool};
+ghost use Rattle.commons.specs.Calls.{Call};
 ghost use Rattle.commons.specs.declared.limits.Limits.{Limits};
+ghost use Rattle.commons.specs.declared.refusal.Refusal.{Refusal};
+ghost use Rattle.mempool.specs.Caches.{Gets, Puts, Flushes};
+ghost use Rattle.mempool.specs.declared.put.Put.{Put};
+ghost use Rattle.script.specs.CacheLaw.{Meets};
+ghost use Rattle.script.specs.CacheModel.{get as cache_get, put as cache_put, flush as cache_flush};
+ghost use Rattle.script.specs.Pool.{Stack};
 ghost use Rattle.script.specs.declared.commands.Line.{Line};
 ghost use Rattle.script.specs.Grammar.{IsScript, IsFirstFault, HasBadPool, IsSomeScript, HasSomeFault};
 ghost use Rattle.script.specs.Replay.{new_run, end_of};
@@ -34,6 +41,17 @@ pub fn no_faulty_script()
 /// Every text is a script, or has a first faulty line, or has a bad pool.
 pub fn no_gap()
     ensures { (bytes : List ℕ) → IsSomeScript bytes ⊎ (HasSomeFault bytes ⊎ HasBadPool bytes) }
+{}
+
+/// The reference model's caches keep the rules that a worker's cache keeps over any shared pool:
+/// where the model's stack answers the calls of a rule, the rule's reply and cache are the model's.
+pub fn the_model_keeps_the_cache_rules()
+    ensures get { (l : Limits) (cache : List ℕ) (n : ℕ) (calls : List Call) (answer : Result (List ℕ) Refusal) (left : List ℕ) (s t : Stack) →
+        Gets l cache n calls answer left → Meets s calls t → (answer, left, t) ≡ cache_get l n cache s }
+    ensures put { (l : Limits) (cache list : List ℕ) (calls : List Call) (answer : Put) (left : List ℕ) (s t : Stack) →
+        Puts l cache list calls answer left → Meets s calls t → (answer, left, t) ≡ cache_put l list cache s }
+    ensures flush { (cache : List ℕ) (calls : List Call) (answer : Put) (left : List ℕ) (s t : Stack) →
+        Flushes cache calls answer left → Meets s calls t → (answer, left, t) ≡ cache_flush cache s }
 {}
 
 /// After any commands a new pool's statement lists each element exactly once, and what is available and what

@@ -6,10 +6,10 @@ ghost use Rattle.commons.specs.Bounds.{IsPool};
 ghost use Rattle.commons.specs.Calls.{with_list};
 ghost use Rattle.commons.specs.Lists.{hand_of, holds_of};
 ghost use Rattle.mempool.specs.WorkerCache.{IsWorkerCause, KeepsNumber};
-ghost use Rattle.script.specs.CacheModel.{get, put};
+ghost use Rattle.script.specs.CacheModel.{get, put, flush as flush_cache};
 ghost use Rattle.script.specs.Own.{stack_of, left_of, as_list, Owns, StepsAlone};
 ghost use Rattle.script.specs.Pool.{slots};
-ghost use Rattle.script.specs.PacketModel.{alloc, free, fresh_seg, free_slot};
+ghost use Rattle.script.specs.PacketModel.{alloc, flush_member, free, fresh_seg, free_slot};
 ghost use Rattle.script.specs.Single.{element_of, freed_by};
 
 use crate::replies::{Freed, Pid, Reply};
@@ -134,6 +134,20 @@ impl Packets {
             Lowered::Last => Reply::Freed(once_put(put_one(&mut self.worker, c, elem))),
         }
     }
+
+    /// Puts the whole cache onto the common stack.
+    pub(crate) fn flush(&mut self, c: &mut PlainCommons) -> Reply
+        requires worker { c.old.worker ≡ self.old.number }
+        requires own { Owns c.old.site.now self.old }
+        ensures same { c.new.site.ghost_name ≡ c.old.site.ghost_name }
+        ensures worker { c.new.worker ≡ c.old.worker }
+        ensures model { (result, self.new, stack_of c.new.site.now) ≡ flush_member self.old (stack_of c.old.site.now) }
+        ensures number { self.new.number ≡ self.old.number }
+        ensures own { Owns c.new.site.now self.new }
+        ensures alone { StepsAlone c.old.worker c.old.site.now c.new.site.now }
+    {
+        Reply::Put(flush_plain(&mut self.worker, c))
+    }
 }
 
 /// What a free that put nothing back has done.
@@ -246,6 +260,21 @@ fn get_one(worker: &mut Worker, c: &mut PlainCommons) -> Result<u32, Refusal>
         Ok(()) => Ok(out[0]),
         Err(cause) => Err(cause),
     }
+}
+
+/// A worker's flush on the lists.
+fn flush_plain(worker: &mut Worker, c: &mut PlainCommons) -> Put
+    requires limits { worker.old.limits ≡ c.old.site.now.limits }
+    requires in_hand { (i : ℕ) → bag worker.old.cache i ≤ hand_of c.old.site.now c.old.worker i }
+    ensures same { c.new.site.ghost_name ≡ c.old.site.ghost_name }
+    ensures worker { c.new.worker ≡ c.old.worker }
+    ensures model { (result, worker.new.cache, stack_of c.new.site.now) ≡ flush_cache worker.old.cache (stack_of c.old.site.now) }
+    ensures number { KeepsNumber worker.old worker.new }
+    ensures hand { (i : ℕ) → hand_of c.new.site.now c.old.worker i + bag worker.old.cache i ≡ hand_of c.old.site.now c.old.worker i + bag worker.new.cache i }
+    ensures holds { (i : ℕ) → holds_of c.new.site.now c.old.worker i ≡ holds_of c.old.site.now c.old.worker i }
+    ensures alone { StepsAlone c.old.worker c.old.site.now c.new.site.now }
+{
+    worker.flush(c)
 }
 
 /// Puts one element by the cache's rules.

@@ -3,10 +3,11 @@
 //! A script has at most 1,048,576 bytes, in lines that each end with a line feed. A line has at most
 //! 8,192 bytes before its end, each a space or a printed ASCII character. Lines of spaces alone and
 //! lines whose first word begins with `#` are skipped. The first other line is the pool line, `pool`
-//! with the number of elements and then, in any order, keys with their numbers: `buf`, `tries` and
-//! `start`. Behind it come at most 10,000 command lines, `alloc NAME` or `free NAME`. A number is 1 to
-//! 20 digits, and a name 1 to 16 of `a` to `z` and `0` to `9` that begin with a letter. No two lines
-//! make the same name.
+//! with the number of elements and then, in any order, keys with their numbers: `cache`, `workers`,
+//! `buf`, `tries` and `start`. Behind it come at most 10,000 command lines: `alloc NAME`, `free NAME` or
+//! `flush`, each of the first worker, or of the one whose number stands in front with a colon behind it,
+//! as `2: flush`. A number is 1 to 20 digits, and a name 1 to 16 of `a` to `z` and `0` to `9` that begin
+//! with a letter. Names are each worker's own, and no two lines make the same name of one worker.
 
 ghost use Rattle.std.specs.Prelude.{◌≡◌, List, IfOk, IfErr, MatchResult};
 ghost use Rattle.commons.specs.declared.limits.Limits.{Limits};

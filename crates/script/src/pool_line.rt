@@ -13,7 +13,11 @@ use commons::limits::Limits;
 fn key_of(word: &[u8]) -> Option<Key>
     ensures { result ≡ key_at word.now }
 {
-    if word == b"buf".as_slice() {
+    if word == b"cache".as_slice() {
+        Some(Key::Cache)
+    } else if word == b"workers".as_slice() {
+        Some(Key::Workers)
+    } else if word == b"buf".as_slice() {
         Some(Key::Buf)
     } else if word == b"tries".as_slice() {
         Some(Key::Tries)
@@ -27,6 +31,8 @@ fn key_of(word: &[u8]) -> Option<Key>
 /// The values that the keys of a pool line were given so far.
 #[derive(Clone, Copy, PartialEq, Eq, Debug)]
 pub(crate) struct Settings {
+    cache: Option<u64>,
+    workers: Option<u64>,
     buf: Option<u64>,
     tries: Option<u64>,
     start: Option<u64>,
@@ -34,6 +40,8 @@ pub(crate) struct Settings {
 
 /// No key was given a value.
 const NONE_GIVEN: Settings = Settings {
+    cache: None,
+    workers: None,
     buf: None,
     tries: None,
     start: None,
@@ -45,6 +53,8 @@ impl Settings {
         ensures { result ≡ value_of self.now key }
     {
         match key {
+            Key::Cache => self.cache,
+            Key::Workers => self.workers,
             Key::Buf => self.buf,
             Key::Tries => self.tries,
             Key::Start => self.start,
@@ -61,6 +71,8 @@ impl Settings {
         let value = Some(value);
         let mut settings = self;
         match key {
+            Key::Cache => settings.cache = value,
+            Key::Workers => settings.workers = value,
             Key::Buf => settings.buf = value,
             Key::Tries => settings.tries = value,
             Key::Start => settings.start = value,
@@ -74,8 +86,8 @@ impl Settings {
     {
         Limits {
             population,
-            cache: 0,
-            workers: 1,
+            cache: self.cache.unwrap_or(0),
+            workers: self.workers.unwrap_or(1),
             desks: 0,
             buf: self.buf.unwrap_or(2_048),
             ref_limit: 65_535,

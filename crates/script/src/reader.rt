@@ -7,7 +7,7 @@ ghost use Rattle.script.specs.Grammar.{start};
 ghost use Rattle.script.specs.Reading.{words_of, limits_from, is_pool, repeats, makes, is_made, read_command as read_command_line, step};
 ghost use Rattle.script.specs.declared.reader.Stop.TheVariants.{OutOfMemory};
 
-use crate::command_line::command_of;
+use crate::command_line::order_of;
 use crate::commands::{Command, Line, Script};
 use crate::line::{is_plain, is_skipped};
 use crate::made_names::MadeNames;
@@ -103,52 +103,59 @@ impl Reader {
                 self.limits = Some(pool_of(line)?);
                 Ok(())
             }
-            Some(_) => self.read_command(alloc, number, line),
+            Some(limits) => self.read_command(alloc, &limits, number, line),
         }
     }
 
-    /// Reads a command line, which has this number.
-    fn read_command(&mut self, alloc: Global, number: u32, line: &[u8]) -> Result<(), Stop>
-        requires { IsKept self.old }
+    /// Reads a command line, which has this number, of a pool within these limits.
+    fn read_command(
+        &mut self,
+        alloc: Global,
+        limits: &Limits,
+        number: u32,
+        line: &[u8],
+    ) -> Result<(), Stop>
+        requires kept { IsKept self.old }
+        requires told { self.old.limits ≡ Some limits.now }
         ensures read { MatchResult result
-            (λ _. read_command_line (state_of self.old) number (words_of line.now)
+            (λ _. read_command_line limits.now.workers (state_of self.old) number (words_of line.now)
             ≡ Some (state_of self.new))
             (λ stop. StopsCommand stop
-            (read_command_line (state_of self.old) number (words_of line.now))) }
+            (read_command_line limits.now.workers (state_of self.old) number (words_of line.now))) }
         ensures limits { self.new.limits ≡ self.old.limits }
         ensures kept { OnOk result (IsKept self.new) }
     {
         if self.lines.len() >= MAX_COMMANDS {
             return Err(Stop::Fault);
         }
-        let Some(command) = command_of(alloc, line)? else {
+        let Some((worker, command)) = order_of(alloc, limits.workers, line)? else {
             return Err(Stop::Fault);
         };
-        if !self.claim(&command)? {
+        if !self.claim(worker, &command)? {
             return Err(Stop::Fault);
         }
         self.lines.push(Line {
             number,
-            worker: 1,
+            worker,
             command,
         })?;
         Ok(())
     }
 
-    /// Notes the name that a command makes, and says whether no line made it before.
-    fn claim(&mut self, command: &Command) -> Result<bool, AllocError>
+    /// Notes the name that a worker's command makes, and says whether no line made it before.
+    fn claim(&mut self, worker: u32, command: &Command) -> Result<bool, AllocError>
         requires kept { IsKept self.old }
         requires named { IsNamed command.now }
-        ensures first { IfOk result (λ first. first ≡ not (repeats self.old.lines.items 1 command.now)) }
-        ensures made { OnOk result ((worker : ℕ) (name : List ℕ) → IsName name →
-            has_made self.new.made worker name
-            ≡ ((worker == 1 && makes command.now name) || is_made self.old.lines.items worker name)) }
+        ensures first { IfOk result (λ first. first ≡ not (repeats self.old.lines.items worker command.now)) }
+        ensures made { OnOk result ((other : ℕ) (name : List ℕ) → IsName name →
+            has_made self.new.made other name
+            ≡ ((other == worker && makes command.now name) || is_made self.old.lines.items other name)) }
         ensures limits { self.new.limits ≡ self.old.limits }
         ensures lines { self.new.lines ≡ self.old.lines }
     {
         match command {
-            Command::Alloc(name) => self.made.add(1, name.as_slice()),
-            Command::Free(_) => Ok(true),
+            Command::Alloc(name) => self.made.add(worker, name.as_slice()),
+            Command::Free(_) | Command::Flush => Ok(true),
         }
     }
 

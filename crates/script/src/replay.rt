@@ -86,5 +86,6 @@ fn obey<'a>(pool: &mut SitePool, names: &mut Names<'a>, line: &'a Line) -> Resul
             }
             Ok(reply)
         }
+        Command::Flush => Ok(pool.perform(worker, Act::Flush)),
     }
 }

@@ -1,15 +1,18 @@
 use commons::refusal::Refusal;
+use mempool::put::Put;
 
 /// A packet's slot in its worker's table, 0 to 255.
 pub type Pid = u32;
 
-/// What a worker is asked to do with its packets.
+/// What a worker is asked to do with its packets and its cache.
 #[derive(Clone, Copy, PartialEq, Eq, Debug)]
 pub enum Act {
     /// Makes a packet of one element, in the lowest free slot.
     Alloc,
     /// Frees the packet in this slot.
     Free(Pid),
+    /// Puts the whole cache onto the common stack.
+    Flush,
 }
 
 /// What freeing did.
@@ -30,6 +33,8 @@ pub enum Reply {
     Allocated(Pid, u32),
     /// The packet was freed.
     Freed(Freed),
+    /// What a flush did with the cache.
+    Put(Put),
     /// Nothing was done.
     Refused(Refusal),
 }

@@ -64,10 +64,11 @@ impl SitePool {
     /// Refused `StrangerShare` for a worker outside the pool. An alloc is refused `PacketsFull`
     /// where the worker has no free slot, else as its cache's get of one element is: `NoEntries` or
     /// `HeadSpent`. A free is refused `NoSuchPacket` where the slot is empty or above 255. Nothing
-    /// changes then. A push that the stack refuses is no refusal of a free: `put_off` tells of it,
-    /// and the elements stay in the cache.
+    /// changes then. A push that the stack refuses is no refusal of a free or a flush: `put_off` and
+    /// `PutOff` tell of it, and the elements stay in the cache. A flush is never refused.
     ///
-    /// After rte_mbuf.h, `rte_pktmbuf_alloc` and `rte_pktmbuf_free` (DPDK 21.11).
+    /// After rte_mbuf.h, `rte_pktmbuf_alloc` and `rte_pktmbuf_free`, and rte_mempool.h,
+    /// `rte_mempool_cache_flush` (DPDK 21.11).
     pub fn perform(&mut self, worker: u32, act: Act) -> Reply
         ensures { (result, self.new) ≡ perform self.old worker act }
     {
@@ -105,6 +106,7 @@ fn act_alone(site: &mut PlainSite, packets: &mut Packets, worker: u32, act: Act)
     match act {
         Act::Alloc => packets.alloc(&mut c),
         Act::Free(slot) => packets.free(&mut c, slot),
+        Act::Flush => packets.flush(&mut c),
     }
 }
 

@@ -4,6 +4,7 @@ use std::alloc::Global;
 use std::process::Abort;
 use std::test::Fail;
 
+mod caches;
 mod calls;
 mod many;
 mod memory;
@@ -62,6 +63,12 @@ fn empty_scripts(rt: HostRuntime) -> Result<(), Fail> {
 fn limits(rt: HostRuntime) -> Result<(), Fail> {
     let past = refusal_of(rt.alloc(), "pool 65535\n");
     assert_eq!(rt; past, Some(Refusal::BadPool));
+    let threshold = refusal_of(rt.alloc(), "pool 6 cache 5\n");
+    assert_eq!(rt; threshold, Some(Refusal::BadPool));
+    let met = refusal_of(rt.alloc(), "pool 7 cache 5\n");
+    assert_eq!(rt; met, None);
+    let large = refusal_of(rt.alloc(), "pool 1000 cache 513\n");
+    assert_eq!(rt; large, Some(Refusal::BadPool));
     let most = replayed(rt.alloc(), "pool 65534\n")?;
     let text = "population 65534\navailable 65534\nin use 0\ncommon 65534: 0 1 2 ";
     assert!(rt; most.as_str().starts_with(text));

@@ -21,13 +21,11 @@ fn read(rt: &impl Abort, alloc: Global, text: &[u8]) -> Script {
 
 /// What a line says, as text.
 fn shown(alloc: Global, line: &Line) -> Result<String, Fail> {
-    let (verb, name) = match &line.command {
-        Command::Alloc(name) => ("alloc", name),
-        Command::Free(name) => ("free", name),
-    };
-    let mut text = format!(in alloc; "{} {} {verb} ", line.number, line.worker)?;
-    for byte in name.as_slice() {
-        text.push(char::from(*byte))?;
+    let mut text = format!(in alloc; "{} {} ", line.number, line.worker)?;
+    match &line.command {
+        Command::Alloc(name) => write!(text, "alloc {}", std::str::from_utf8(name.as_slice())?)?,
+        Command::Free(name) => write!(text, "free {}", std::str::from_utf8(name.as_slice())?)?,
+        Command::Flush => write!(text, "flush")?,
     }
     Ok(text)
 }
@@ -35,11 +33,11 @@ fn shown(alloc: Global, line: &Line) -> Result<String, Fail> {
 #[test]
 fn a_good_script_is_read(rt: HostRuntime) -> Result<(), Fail> {
     let text =
-        b"# a pool\n\n  pool 12 tries 7 buf 0100  start 3 \n   \nalloc a\n  free   b9 \n#x\nalloc b9\nfree a\nfree a\n";
+        b"# a pool\n\n  pool 12 tries 7 buf 0100  start 3 workers 2 cache 08 \n   \nalloc a\n  free   b9 \n#x\nalloc b9\n2: free a\n 002:  flush\n1: alloc c\n";
     let script = read(&rt, rt.alloc(), text);
     assert_eq!(rt; script.limits.population, 12);
-    assert_eq!(rt; script.limits.cache, 0);
-    assert_eq!(rt; script.limits.workers, 1);
+    assert_eq!(rt; script.limits.cache, 8);
+    assert_eq!(rt; script.limits.workers, 2);
     assert_eq!(rt; script.limits.desks, 0);
     assert_eq!(rt; script.limits.buf, 100);
     assert_eq!(rt; script.limits.ref_limit, 65_535);
@@ -52,7 +50,7 @@ fn a_good_script_is_read(rt: HostRuntime) -> Result<(), Fail> {
     }
     assert_eq!(rt;
         lines.as_str(),
-        "5 1 alloc a; 6 1 free b9; 8 1 alloc b9; 9 1 free a; 10 1 free a; "
+        "5 1 alloc a; 6 1 free b9; 8 1 alloc b9; 9 2 free a; 10 2 flush; 11 1 alloc c; "
     );
     Ok(())
 }
@@ -61,6 +59,8 @@ fn a_good_script_is_read(rt: HostRuntime) -> Result<(), Fail> {
 fn a_pool_line_alone_is_a_script_with_the_defaults(rt: HostRuntime) {
     let script = read(&rt, rt.alloc(), b"pool 3\n");
     assert_eq!(rt; script.limits.population, 3);
+    assert_eq!(rt; script.limits.cache, 0);
+    assert_eq!(rt; script.limits.workers, 1);
     assert_eq!(rt; script.limits.buf, 2_048);
     assert_eq!(rt; script.limits.tries, 64);
     assert_eq!(rt; script.limits.start_count, 0);
@@ -171,6 +171,59 @@ fn the_first_faulty_line_is_named(rt: HostRuntime) {
     );
 }
 
+// In a pool of two workers, which words in front of a command name one.
+#[test]
+fn a_command_is_of_the_worker_in_front_of_it(rt: HostRuntime) -> Result<(), Fail> {
+    let good = [
+        "1: flush",
+        "2: flush",
+        "2:  alloc a",
+        "00000000000000000002: flush",
+    ];
+    for line in good {
+        let text = format!(in rt.alloc(); "pool 3 workers 2\n{line}\n")?;
+        assert_eq!(rt; refusal_of(rt.alloc(), text.as_bytes()), None, "{line}");
+    }
+    let bad = [
+        "3: flush",
+        "0: flush",
+        "2:",
+        "2: # flush",
+        "2 : flush",
+        "2:flush",
+        ": flush",
+        "2:: flush",
+        "1: 2: flush",
+        "000000000000000000002: flush",
+        "18446744073709551617: flush",
+        "flush 2:",
+        "flush flush",
+        "flush: 2",
+    ];
+    for line in bad {
+        let text = format!(in rt.alloc(); "pool 3 workers 2\n{line}\n")?;
+        let refusal = refusal_of(rt.alloc(), text.as_bytes());
+        assert_eq!(rt; refusal, Some(Refusal::ScriptFault(2)), "{line}");
+    }
+    Ok(())
+}
+
+#[test]
+fn names_are_each_workers_own(rt: HostRuntime) {
+    let both = b"pool 3 workers 2\nalloc a\n2: alloc a\n";
+    assert_eq!(rt; refusal_of(rt.alloc(), both), None);
+    let twice = b"pool 3 workers 2\n2: alloc a\nalloc b\n2: alloc a\n";
+    assert_eq!(rt;
+        refusal_of(rt.alloc(), twice),
+        Some(Refusal::ScriptFault(4))
+    );
+    let spelled = b"pool 3 workers 2\nalloc a\n01: alloc a\n";
+    assert_eq!(rt;
+        refusal_of(rt.alloc(), spelled),
+        Some(Refusal::ScriptFault(3))
+    );
+}
+
 #[test]
 fn limits_past_their_range_are_a_bad_pool(rt: HostRuntime) {
     assert_eq!(rt;
@@ -199,7 +252,7 @@ fn a_fault_of_the_pool_line_comes_before_its_limits(rt: HostRuntime) {
         Some(Refusal::ScriptFault(1))
     );
     assert_eq!(rt;
-        refusal_of(rt.alloc(), b"pool 0 cache 1\n"),
+        refusal_of(rt.alloc(), b"pool 0 desks 1\n"),
         Some(Refusal::ScriptFault(1))
     );
     assert_eq!(rt;

@@ -76,12 +76,16 @@ fn parse_reads_the_first_run(rt: HostRuntime) -> Result<(), Fail> {
     assert_eq!(rt; script.limits, limits(3, 0, 1));
     let mut lines = String::new(rt.alloc());
     for line in script.lines.as_slice() {
-        let (verb, name) = match &line.command {
-            Command::Alloc(name) => ("alloc", name),
-            Command::Free(name) => ("free", name),
-        };
-        let name = std::str::from_utf8(name.as_slice())?;
-        write!(lines, "{} {} {verb} {name}; ", line.number, line.worker)?;
+        write!(lines, "{} {} ", line.number, line.worker)?;
+        match &line.command {
+            Command::Alloc(name) => {
+                write!(lines, "alloc {}; ", std::str::from_utf8(name.as_slice())?)?
+            }
+            Command::Free(name) => {
+                write!(lines, "free {}; ", std::str::from_utf8(name.as_slice())?)?
+            }
+            Command::Flush => write!(lines, "flush; ")?,
+        }
     }
     assert_eq!(rt; lines.as_str(), "2 1 alloc a; 3 1 alloc b; 4 1 free a; ");
     Ok(())
@@ -150,7 +154,7 @@ fn a_stranger_is_refused_and_changes_nothing(rt: HostRuntime) -> Result<(), Fail
     let made = pool.perform(2, Act::Alloc);
     let before = pool.statement(rt.alloc());
     for worker in [0, 3, 65_536, 4_294_967_295] {
-        for act in [Act::Alloc, Act::Free(0)] {
+        for act in [Act::Alloc, Act::Free(0), Act::Flush] {
             let reply = pool.perform(worker, act);
             assert_eq!(rt;
                 reply,

@@ -1,9 +1,10 @@
 //! The lines that answer commands.
 ghost use Rattle.std.specs.Prelude.{◌≡◌, ◌++◌, IfErr, OnOk};
-ghost use Rattle.script.specs.ReplyText.{freed_text, put_off_text, reply_line, reply_text};
+ghost use Rattle.script.specs.ReplyText.{freed_text, put_off_text, put_text, reply_line, reply_text};
 
 use crate::replies::{Freed, Reply};
 use commons::refusal::Refusal;
+use mempool::put::Put;
 use std::io;
 use std::io::Write;
 
@@ -36,6 +37,7 @@ fn write_reply(out: &mut Vec<u8>, reply: Reply) -> io::Result<()>
     match reply {
         Reply::Allocated(_, elem) => write!(out, "ok {elem}"),
         Reply::Freed(freed) => write_freed(out, freed),
+        Reply::Put(put) => write_put(out, put),
         Reply::Refused(refusal) => {
             write!(out, "refused {} {}", refusal.number(), refusal.name())
         }
@@ -48,6 +50,18 @@ fn write_freed(out: &mut Vec<u8>, freed: Freed) -> io::Result<()>
 {
     write!(out, "ok back {} flushed {}", freed.back, freed.flushed)?;
     write_put_off(out, freed.put_off)
+}
+
+// What a flush did.
+#[tactic(auto, unfolding(crate::specs::ReplyText::put_text))]
+fn write_put(out: &mut Vec<u8>, put: Put) -> io::Result<()>
+    ensures { OnOk result (out.new.items ≡ out.old.items ++ put_text put) }
+{
+    match put {
+        Put::Kept => write!(out, "ok kept"),
+        Put::Flushed(count) => write!(out, "ok flushed {count}"),
+        Put::PutOff(count, refusal) => write!(out, "ok putoff {count} {}", refusal.name()),
+    }
 }
 
 // The last push that was refused, and why.

@@ -4,6 +4,7 @@ use crate::statement::{DeskPacket, Held, Holder, PlacedPacket, Statement};
 use commons::packet::Seg;
 use commons::refusal::Refusal;
 use commons::seq::Seq;
+use mempool::put::Put;
 use std::alloc::{AllocError, Global};
 use std::process::Abort;
 use std::test::Fail;
@@ -140,6 +141,13 @@ fn each_reply_prints_behind_its_line(rt: HostRuntime) -> Result<(), Fail> {
     push_reply(&mut out, 3, &freed(None))?;
     push_reply(&mut out, 4, &freed(Some((12, Refusal::HeadSpent))))?;
     push_reply(&mut out, 5, &Reply::Refused(Refusal::NoEntries))?;
+    push_reply(&mut out, 6, &Reply::Put(Put::Kept))?;
+    push_reply(&mut out, 7, &Reply::Put(Put::Flushed(65_534)))?;
+    push_reply(
+        &mut out,
+        8,
+        &Reply::Put(Put::PutOff(10, Refusal::Contended)),
+    )?;
     push_reply(
         &mut out,
         4_294_967_295,
@@ -148,7 +156,7 @@ fn each_reply_prints_behind_its_line(rt: HostRuntime) -> Result<(), Fail> {
     let printed = String::from_utf8(out)?;
     let text = "2: ok 65533\n3: ok back 2 flushed 10\n\
         4: ok back 2 flushed 10 putoff 12 HeadSpent\n5: refused 3 NoEntries\n\
-        4294967295: refused 23 SamePacket\n";
+        6: ok kept\n7: ok flushed 65534\n8: ok putoff 10 Contended\n4294967295: refused 23 SamePacket\n";
     assert_eq!(rt; printed.as_str(), text);
     Ok(())
 }

@@ -7,8 +7,7 @@ use Rattle.script.proofs.reader.Reader.finish.Goals as goal
 pub invariant_of-result : goal.invariant_of-result
 invariant_of-result c =
     let limits = c.in_ok-limits.limits in
-    let pool = pool_from limits (rw c.in_ok-limits.was at c.requires.ready) in
     record {
-      pool = pool;
-      workers = subst (AreOfPool limits.workers) (sym c.new.ensures) (of_pool limits.workers c.args.self.lines.items pool.workers_low c.requires.workers);
+      pool = pool_from limits (rw c.in_ok-limits.was at c.requires.ready);
+      workers = subst (AreOfPool limits.workers) (sym c.new.ensures) (of_pool limits.workers c.args.self.lines.items (rw c.in_ok-limits.was at c.requires.workers));
     }

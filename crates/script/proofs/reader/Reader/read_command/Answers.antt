@@ -1,21 +1,32 @@
-use Rattle.std.proofs.Common.{◌≡◌, refl, ap, ◌∙◌, sym, subst, List, [], ◌∷◌, ◌++◌}
-use Rattle.std.specs.List.{AllByRecursion}
+use Rattle.std.proofs.Common.{◌≡◌, refl, ap, ◌∙◌, sym, subst, [], ◌∷◌, ◌++◌, Option, Some}
+use Rattle.commons.specs.declared.limits.Limits.{Limits}
 use Rattle.script.specs.declared.commands.Line.{Line}
 use Rattle.script.specs.Reading.{words_of, are_ready}
-use Rattle.script.specs.Told.{AreMade}
-use Rattle.script.proofs.KeptLemmas.{workers-push, made-push, command_named}
+use Rattle.script.specs.Told.{AreMade, AreWithin}
+use Rattle.script.proofs.PoolLemmas.{pool_from}
+use Rattle.script.proofs.KeptLemmas.{workers-push, made-push}
+use Rattle.script.proofs.CommandLemmas.{order_named, order_among}
 use Rattle.script.proofs.reader.Reader.read_command.Goals as goal
 
+pub order_of-requires : goal.order_of-requires
+order_of-requires c =
+    let pool = pool_from c.args.limits.now (rw c.requires.told at c.requires.kept.ready) in pool.workers
+
 pub claim-requires-clause-named : goal.claim-requires-clause-named
-claim-requires-clause-named c = command_named (words_of c.args.line.now) c.in-Some.command (sym c.in_ok-command.ensures ∙ c.in-Some.is)
+claim-requires-clause-named c = order_named c.args.limits.now.workers (words_of c.args.line.now) (c.in-Some.worker, c.in-Some.command) (sym c.in_ok-worker.ensures ∙ c.in-Some.is)
 
 pub returns-clause-kept : goal.returns-clause-kept
 returns-clause-kept c =
-    let line : Line = record { number = c.args.number; worker = 1; command = c.in-Some.command } in
+    let limits = c.args.limits.now in
+    let worker = c.in-Some.worker in
+    let line : Line = record { number = c.args.number; worker = worker; command = c.in-Some.command } in
     let lines = c.args.self.now.lines.items in
+    let pool = pool_from limits (rw c.requires.told at c.requires.kept.ready) in
+    let among = order_among limits.workers (words_of c.args.line.now) (worker, c.in-Some.command) pool.workers_low (sym c.in_ok-worker.ensures ∙ c.in-Some.is) in
+    let told = c.in_ok-claim.ensures.limits ∙ c.requires.told in
     let items : c.push.new.self.items ≡ lines ++ line ∷ [] = rw c.in_ok-claim.ensures.lines at c.in_ok-push.ensures.items in
     record {
-      ready = ap are_ready c.in_ok-claim.ensures.limits ∙ c.requires.ready;
-      workers = subst (λ (ls : List Line). AllByRecursion (λ l. l.worker ≡ 1) ls) (sym items) (workers-push lines line refl c.requires.workers);
-      made = subst (AreMade c.claim.new.self.made) (sym items) (made-push c.claim.new.self.made lines line refl c.in_ok-claim.ensures.made);
+      ready = ap are_ready c.in_ok-claim.ensures.limits ∙ c.requires.kept.ready;
+      workers = subst (λ (o : Option Limits). AreWithin o c.push.new.self.items) (sym told) (subst (AreWithin (Some limits)) (sym items) (workers-push limits.workers lines line among (rw c.requires.told at c.requires.kept.workers)));
+      made = subst (AreMade c.claim.new.self.made) (sym items) (made-push c.claim.new.self.made lines line worker refl c.in_ok-claim.ensures.made);
     }

@@ -36,7 +36,7 @@ returns-in-Some-clause-read c =
     let next = state_of c.read_command.new.self in
     let n = c.args.number in
     let line = c.args.line.now in
-    let read = read_as s n line (Some c.in-Some.field-0) (sym c.is_plain.ensures ∙ c.if-not-is_plain.false) (sym c.is_skipped.ensures ∙ c.if-is_skipped.false) c.in-Some.is in
+    let read = read_as s n line (Some c.in-Some.limits) (sym c.is_plain.ensures ∙ c.if-not-is_plain.false) (sym c.is_skipped.ensures ∙ c.if-is_skipped.false) c.in-Some.is in
     MatchResult-weaker c.read_command.result c.read_command.ensures.read
     (λ x h. step_ok s next n line (read ∙ h) (ap are_ready c.read_command.ensures.limits ∙ c.requires.ready))
     (λ stop h. stops_command stop s n line _ read h)
