@@ -39,17 +39,44 @@ impl Model for Packet {
 }
 
 impl Packet {
-    ghost use Rattle.std.specs.Prelude.{◌≡◌, ◌+◌, ◌≤◌, [], ◌∷◌, length, slice_get, Some};
-    ghost use Rattle.commons.specs.Packets.{IsPacket};
+    ghost use Rattle.std.specs.Prelude.{◌≡◌, ◌<◌, [], ◌∷◌, ◌++◌, length, slice_set};
+    ghost use Rattle.commons.specs.Packets.{HasItsData, IsPacket};
 
     /// The packet of one segment.
     pub fn single(seg: Seg) -> Packet
-        requires { seg.data_off + seg.data_len ≤ seg.buf_len }
+        requires { HasItsData seg }
         ensures { result ≡ seg ∷ [] }
     {
         let mut segs = ArrayVec::new();
         segs.push(seg);
         Packet { segs }
+    }
+
+    /// Makes this the packet of one segment, in its place.
+    pub fn restart(&mut self, seg: Seg)
+        requires { HasItsData seg }
+        ensures { self.new ≡ seg ∷ [] }
+    {
+        self.segs.truncate(1);
+        self.segs.as_mut_slice()[0] = seg;
+    }
+
+    /// Puts a segment behind the last. The packet has fewer than 32.
+    pub fn push(&mut self, seg: Seg)
+        requires room { length self.old < 32 }
+        requires data { HasItsData seg }
+        ensures { self.new ≡ self.old ++ seg ∷ [] }
+    {
+        self.segs.push(seg);
+    }
+
+    /// Puts a segment in the place of the one at `index`, counted from 0.
+    pub fn set(&mut self, index: usize, seg: Seg)
+        requires index { index < length self.old }
+        requires data { HasItsData seg }
+        ensures { self.new ≡ slice_set self.old index seg }
+    {
+        self.segs.as_mut_slice()[index] = seg;
     }
 
     /// The segments in order.

@@ -34,6 +34,12 @@ pub data Gets (l : Limits) (cache : List ℕ) (n : ℕ) (calls : List Call) (ans
   -- no refill can be met, and the stack is asked for n
   NoRefill : 0 < n → n < l.cache → length cache < n → l.population < n + l.cache → calls ≡ GetList n answer ∷ [] → left ≡ cache → Gets l cache n calls answer left
 
+-- how many elements went to the stack, or were to go there
+abbrev pub put_count : Put → ℕ
+put_count Kept = 0
+put_count (Flushed k) = k
+put_count (PutOff k e) = k
+
 -- what a put of a list does with a cache
 pub data Puts (l : Limits) (cache list : List ℕ) (calls : List Call) (answer : Put) (left : List ℕ) : Type 0 where
   -- nothing is put

@@ -37,7 +37,7 @@ impl Model for Worker {
 impl Worker {
     ghost use Rattle.std.specs.Prelude.{◌≡◌, ◌≤◌, ◌<◌, ◌⊎◌, [], IfOk, IfErr};
     ghost use Rattle.commons.specs.Bounds.{IsPool};
-    ghost use Rattle.mempool.specs.Caches.{Gets, Puts, Flushes};
+    ghost use Rattle.mempool.specs.Caches.{Gets, Puts, Flushes, put_count};
     ghost use Rattle.mempool.specs.WorkerCache.{IsWorkerCause, KeepsNumber};
 
     /// A worker with an empty cache, which has room for the whole population from now on.
@@ -159,6 +159,7 @@ impl Worker {
         requires limits { C.limits c.old ≡ self.old.limits }
         requires in_hand { (i : ℕ) → bag self.old.cache i + bag list.now i ≤ C.hand c.old i }
         ensures calls { (made : List Made) × Leads C.did C.limits c.old made c.new × Puts self.old.limits self.old.cache list.now (calls_of made) result self.new.cache }
+        ensures few { put_count result ≤ self.old.limits.population }
         ensures hand { (i : ℕ) → C.hand c.new i + bag self.old.cache i + bag list.now i ≡ C.hand c.old i + bag self.new.cache i }
         ensures holds { C.holds c.new ≡ C.holds c.old }
         ensures headers { C.headers c.new ≡ C.headers c.old }

@@ -1,0 +1,58 @@
+-- Holds that end one after another.
+use Rattle.std.proofs.Common.{◌≡◌, ℕ, ◌+◌, ◌<◌, ◌≤◌, suc, List, [], ◌∷◌, ◌++◌, length, take, drop, get_or, refl, sym, ap, ◌∙◌, subst, append_assoc, arith}
+use Rattle.std.proofs.Math.Seq.{take-suc}
+use Rattle.std.proofs.lemmas.List.{append-nil, take-append-drop}
+use Rattle.std.proofs.lemmas.Grind.{flat_map-append}
+use Rattle.commons.specs.Bag.{bag}
+use Rattle.commons.specs.declared.limits.Limits.{Limits}
+use Rattle.commons.specs.declared.packet.Seg.{Seg}
+use Rattle.commons.specs.Calls.{Reading, Call, Made, calls_of, Leads}
+use Rattle.commons.proofs.Bags.{bag-append}
+use Rattle.commons.proofs.Leading.{calls_of-append, Leads-append}
+use Rattle.mbuf.specs.Members.{holds_of_seg, holds_of_packet}
+use Rattle.mbuf.specs.PacketRules.{EndsHold, EndsHolds}
+use Rattle.mbuf.specs.declared.freed.Freed.{Freed}
+
+EndsHolds-one : (l : Limits) (e : ℕ) (cache : List ℕ) (freed : Freed) (calls : List Call) (left : List ℕ) (done : Freed) →
+    EndsHold l e cache freed calls left done → EndsHolds l (e ∷ []) cache freed calls left done
+EndsHolds-one l e cache freed calls left done h = (calls, [], left, done, sym (append-nil calls), h, (refl, refl, refl))
+
+EndsHolds-append : (l : Limits) (es fs : List ℕ) (cache : List ℕ) (freed : Freed) (a : List Call) (between : List ℕ) (so_far : Freed) (b : List Call) (left : List ℕ) (done : Freed) →
+    EndsHolds l es cache freed a between so_far → EndsHolds l fs between so_far b left done → EndsHolds l (es ++ fs) cache freed (a ++ b) left done
+EndsHolds-append l [] fs cache freed a between so_far b left done h k =
+    subst (λ (calls : List Call). EndsHolds l fs cache freed (calls ++ b) left done) (sym h.0)
+    (subst (λ (c : List ℕ). EndsHolds l fs c freed b left done) h.1 (subst (λ (f : Freed). EndsHolds l fs between f b left done) h.2 k))
+EndsHolds-append l (e ∷ es) fs cache freed a between so_far b left done h k =
+    (h.0, h.1 ++ b, h.2, h.3, ap (λ (calls : List Call). calls ++ b) h.4 ∙ append_assoc h.0 h.1 b, h.5, EndsHolds-append l es fs h.2 h.3 h.1 between so_far b left done h.6 k)
+
+-- calls were made by which these holds ended
+abbrev pub Ended : {S : Type 0} (did : S → Call → List Reading → S → Type 0) (limits : S → Limits) (s t : S) → Limits → List ℕ → List ℕ → Freed → List ℕ → Freed → Type 0
+Ended did limits s t l es cache freed left done = (made : List Made) × Leads did limits s made t × EndsHolds l es cache freed (calls_of made) left done
+
+pub one_ended : {S : Type 0} (did : S → Call → List Reading → S → Type 0) (limits : S → Limits) (s t : S) (l : Limits) (e : ℕ) (cache : List ℕ) (freed : Freed) (left : List ℕ) (done : Freed) →
+    ((made : List Made) × Leads did limits s made t × EndsHold l e cache freed (calls_of made) left done) → Ended did limits s t l (e ∷ []) cache freed left done
+one_ended did limits s t l e cache freed left done h = (h.0, h.1, EndsHolds-one l e cache freed (calls_of h.0) left done h.2)
+
+pub both_ended : {S : Type 0} (did : S → Call → List Reading → S → Type 0) (limits : S → Limits) (s t u : S) (l : Limits) (es fs : List ℕ) (cache : List ℕ) (freed : Freed) (between : List ℕ) (so_far : Freed) (left : List ℕ) (done : Freed) →
+    Ended did limits s t l es cache freed between so_far → Ended did limits t u l fs between so_far left done → Ended did limits s u l (es ++ fs) cache freed left done
+both_ended did limits s t u l es fs cache freed between so_far left done h k = (
+  h.0 ++ k.0,
+  Leads-append did limits h.0 k.0 s t u h.1 k.1,
+  subst (λ (calls : List Call). EndsHolds l (es ++ fs) cache freed calls left done) (sym (calls_of-append h.0 k.0))
+      (EndsHolds-append l es fs cache freed (calls_of h.0) between so_far (calls_of k.0) left done h.2 k.2),
+)
+
+-- ---- the segments so far
+
+-- one segment more
+pub holds-suc : (segs : List Seg) (k : ℕ) (d : Seg) → k < length segs → holds_of_packet (take (k + 1) segs) ≡ holds_of_packet (take k segs) ++ holds_of_seg (get_or segs k d)
+holds-suc segs k d within =
+    let e : k + 1 ≡ suc k = omega arith in
+    ap (λ (n : ℕ). holds_of_packet (take n segs)) e ∙ ap holds_of_packet (take-suc segs k d within)
+    ∙ flat_map-append holds_of_seg (take k segs) (get_or segs k d ∷ []) ∙ ap (λ (es : List ℕ). holds_of_packet (take k segs) ++ es) (append-nil (holds_of_seg (get_or segs k d)))
+
+-- the segments so far hold no more than all
+pub holds_so_far : (segs : List Seg) (k i : ℕ) → bag (holds_of_packet (take k segs)) i ≤ bag (holds_of_packet segs) i
+holds_so_far segs k i =
+    let whole = ap (λ (es : List ℕ). bag es i) (sym (flat_map-append holds_of_seg (take k segs) (drop k segs)) ∙ ap holds_of_packet (take-append-drop k segs)) in
+    omega (arith, whole, bag-append (holds_of_packet (take k segs)) (holds_of_packet (drop k segs)) i)

@@ -1,0 +1,16 @@
+use Rattle.std.proofs.Common.{[], ◌∷◌, refl}
+use Rattle.commons.specs.Calls.{Lower, calls_of}
+use Rattle.commons.specs.declared.refusal.Lowered.TheVariants.{Last, Still}
+use Rattle.mbuf.specs.PacketRules.{Stays, GoesBack}
+use Rattle.mbuf.proofs.steps.end_hold.Goals as goal
+
+pub returns-in-Still-clause-calls : goal.returns-in-Still-clause-calls
+returns-in-Still-clause-calls g c =
+    let d = c.in-Still.ensures.did in
+    (record { call = Lower c.args.elem Still; readings = d.readings } ∷ [], (c.lower.new.self, d.led, d.cause, refl), Stays refl refl refl)
+
+pub returns-in-Last-clause-calls : goal.returns-in-Last-clause-calls
+returns-in-Last-clause-calls g c =
+    let d = c.in-Last.ensures.did in
+    let e = c.put_bulk.ensures.calls in
+    (record { call = Lower c.args.elem Last; readings = d.readings } ∷ e.0, (c.lower.new.self, d.led, d.cause, e.1), GoesBack (calls_of e.0) c.put_bulk.result e.2 refl c.counted.ensures.counted)

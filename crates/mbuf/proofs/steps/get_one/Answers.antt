@@ -1,0 +1,14 @@
+use Rattle.std.proofs.Common.{length, ◌≡◌, sym, arith}
+use Rattle.commons.proofs.Bags.{bag-of_one}
+use Rattle.mbuf.proofs.ListLemmas.{one_alone}
+use Rattle.mbuf.proofs.steps.get_one.Goals as goal
+
+pub returns-in-Ok-clause-calls : goal.returns-in-Ok-clause-calls
+returns-in-Ok-clause-calls g c =
+    let len : length c.get_bulk.new.out ≡ 1 = omega (arith, c.get_bulk.auto.out) in
+    rw (sym (one_alone c.get_bulk.new.out len)) c.in-Ok.ensures.calls
+
+pub returns-in-Ok-clause-hand : goal.returns-in-Ok-clause-hand
+returns-in-Ok-clause-hand g c = λ i.
+    let len : length c.get_bulk.new.out ≡ 1 = omega (arith, c.get_bulk.auto.out) in
+    omega (arith, c.in-Ok.ensures.hand i, bag-of_one c.get_bulk.new.out i len)

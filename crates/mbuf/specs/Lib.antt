@@ -1,0 +1,7 @@
+pub mod Bits
+pub mod Changes
+pub mod Kept
+pub mod Lengths
+pub mod Members
+pub mod Own
+pub mod PacketRules

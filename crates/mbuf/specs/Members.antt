@@ -1,0 +1,47 @@
+-- What a contract sees of a `Packets`.
+use Rattle.std.specs.Prelude.{ℕ, List, [], ◌∷◌, ◌++◌, Option, Some, None, map, flat_map, sum_by}
+use Rattle.commons.specs.Bag.{bag}
+use Rattle.commons.specs.declared.limits.Limits.{Limits}
+use Rattle.commons.specs.declared.packet.Seg.{Seg}
+
+-- a worker of a pool: the pool's limits, its number from 1, its cache from the first element to the last,
+-- and the packet in each slot of its table
+pub record Member : Type 0 where
+  pub limits : Limits
+  pub number : ℕ
+  pub cache : List ℕ
+  pub table : List (Option (List Seg))
+
+-- how many packets a table has room for
+abbrev pub slots : ℕ
+slots = 256
+
+abbrev pub holds_of_base : Option ℕ → List ℕ
+holds_of_base None = []
+holds_of_base (Some base) = base ∷ []
+
+-- the holds of a segment: of its base, where it has one, and of its own element
+abbrev pub holds_of_seg : Seg → List ℕ
+holds_of_seg seg = holds_of_base seg.base ++ seg.elem ∷ []
+
+-- the holds of a packet, in the order in which they end
+abbrev pub holds_of_packet : List Seg → List ℕ
+holds_of_packet segs = flat_map holds_of_seg segs
+
+-- the holds of what is in a slot
+abbrev pub holds_in_slot : Option (List Seg) → List ℕ
+holds_in_slot None = []
+holds_in_slot (Some segs) = holds_of_packet segs
+
+-- the own elements of what is in a slot
+abbrev pub own_in_slot : Option (List Seg) → List ℕ
+own_in_slot None = []
+own_in_slot (Some segs) = map (λ seg. seg.elem) segs
+
+-- how often the packets of a table hold an element
+abbrev pub held_in : List (Option (List Seg)) → ℕ → ℕ
+held_in table i = sum_by (λ slot. bag (holds_in_slot slot) i) table
+
+-- how often it is an own element of one of their segments
+abbrev pub own_in : List (Option (List Seg)) → ℕ → ℕ
+own_in table i = sum_by (λ slot. bag (own_in_slot slot) i) table

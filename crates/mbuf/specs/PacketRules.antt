@@ -1,0 +1,88 @@
+-- What a worker's calls do with its packets: for each case the calls that are made on the shared pool with
+-- their answers, the answer, and what the worker has afterwards.
+use Rattle.std.specs.Prelude.{ℕ, ◌≡◌, ◌≢◌, ◌+◌, ◌<◌, ◌≤◌, min, length, is_none, position, List, [], ◌∷◌, ◌++◌, slice_index_or, slice_set, Option, Some, None, Result, Ok, Err}
+use Rattle.commons.specs.declared.limits.Limits.{Limits}
+use Rattle.commons.specs.declared.packet.Seg.{Seg}
+use Rattle.commons.specs.declared.refusal.Lowered.TheVariants.{Last, Still}
+use Rattle.commons.specs.declared.refusal.Refusal.{Refusal}
+use Rattle.commons.specs.declared.refusal.Refusal.TheVariants.{PacketsFull, NoSuchPacket, SamePacket, TooManySegs}
+use Rattle.commons.specs.Calls.{Call, Claim, Lower}
+use Rattle.mempool.specs.Caches.{Gets, Puts}
+use Rattle.mempool.specs.declared.put.Put.{Put}
+use Rattle.mempool.specs.declared.put.Put.TheVariants.{Kept, Flushed, PutOff}
+use Rattle.mbuf.specs.Lengths.{pkt_len}
+use Rattle.mbuf.specs.Members.{Member, holds_of_packet}
+use Rattle.mbuf.specs.declared.freed.Freed.{Freed}
+
+-- the segment of a fresh packet
+abbrev pub fresh_seg : Limits → ℕ → Seg
+fresh_seg l e = record { elem = e; base = None; data_off = min 128 l.buf; data_len = 0; buf_len = l.buf }
+
+-- the lowest free slot
+abbrev pub free_slot : List (Option (List Seg)) → Option ℕ
+free_slot table = position is_none table
+
+-- what an alloc does
+pub data Allocs (m : Member) (calls : List Call) (answer : Result ℕ Refusal) (after : Member) : Type 0 where
+  -- no slot is free: nothing is asked for
+  Full : free_slot m.table ≡ None → calls ≡ [] → answer ≡ Err PacketsFull → after ≡ m → Allocs m calls answer after
+  -- the cache's get of one element is refused
+  NotGot : (slot : ℕ) → free_slot m.table ≡ Some slot → (cause : Refusal) → Gets m.limits m.cache 1 calls (Err cause) m.cache → answer ≡ Err cause → after ≡ m → Allocs m calls answer after
+  -- the element that was got is claimed, and its packet stands in the lowest free slot
+  Fresh : (slot e : ℕ) → free_slot m.table ≡ Some slot → (got : List Call) (left : List ℕ) → Gets m.limits m.cache 1 got (Ok (e ∷ [])) left → calls ≡ got ++ Claim e ∷ [] → answer ≡ Ok slot → after ≡ record m { cache = left; table = slice_set m.table slot (Some (fresh_seg m.limits e ∷ [])) } → Allocs m calls answer after
+
+-- nothing was freed yet
+abbrev pub freed_nothing : Freed
+freed_nothing = record { back = 0; flushed = 0; put_off = None }
+
+-- what freeing has done once one element more was put back
+abbrev pub counted : Freed → Put → Freed
+counted freed Kept = record freed { back = freed.back + 1 }
+counted freed (Flushed k) = record freed { back = freed.back + 1; flushed = freed.flushed + k }
+counted freed (PutOff k e) = record freed { back = freed.back + 1; put_off = Some (k, e) }
+
+-- what the end of one hold of an element does, by the cache and what was freed before and afterwards
+pub data EndsHold (l : Limits) (e : ℕ) (cache : List ℕ) (freed : Freed) (calls : List Call) (left : List ℕ) (done : Freed) : Type 0 where
+  -- another hold is left
+  Stays : calls ≡ Lower e Still ∷ [] → left ≡ cache → done ≡ freed → EndsHold l e cache freed calls left done
+  -- it was the last one: the element is put back through the cache
+  GoesBack : (puts : List Call) (put : Put) → Puts l cache (e ∷ []) puts put left → calls ≡ Lower e Last ∷ puts → done ≡ counted freed put → EndsHold l e cache freed calls left done
+
+-- one hold after another ends
+abbrev pub EndsHolds : Limits → List ℕ → List ℕ → Freed → List Call → List ℕ → Freed → Type 0
+EndsHolds l [] cache freed calls left done = (calls ≡ []) × (left ≡ cache) × (done ≡ freed)
+EndsHolds l (e ∷ es) cache freed calls left done =
+    (first : List Call) × (others : List Call) × (between : List ℕ) × (so_far : Freed) × (calls ≡ first ++ others) × EndsHold l e cache freed first between so_far × EndsHolds l es between so_far others left done
+
+-- what a free of the packet in a slot does
+pub data Frees (m : Member) (slot : ℕ) (calls : List Call) (answer : Result Freed Refusal) (after : Member) : Type 0 where
+  -- the slot is empty, or there is none of this number
+  NoPacket : slice_index_or m.table slot None ≡ None → calls ≡ [] → answer ≡ Err NoSuchPacket → after ≡ m → Frees m slot calls answer after
+  -- the packet's holds end in order, and its slot is free
+  WasFreed : (segs : List Seg) (left : List ℕ) (done : Freed) → slice_index_or m.table slot None ≡ Some segs → EndsHolds m.limits (holds_of_packet segs) m.cache freed_nothing calls left done → answer ≡ Ok done → after ≡ record m { cache = left; table = slice_set m.table slot None } → Frees m slot calls answer after
+
+-- what is told of the packet in a slot
+abbrev pub of_packet : (List Seg → ℕ) → Option (List Seg) → Result ℕ Refusal
+of_packet tell None = Err NoSuchPacket
+of_packet tell (Some segs) = Ok (tell segs)
+
+-- What a change of a packet's lengths does. It asks nothing of the shared pool.
+pub data Resizes (resize : List Seg → Option (List Seg)) (cause : Refusal) (m : Member) (slot : ℕ) (answer : Result ℕ Refusal) (after : Member) : Type 0 where
+  -- the slot is empty, or there is none of this number
+  NoneThere : slice_index_or m.table slot None ≡ None → answer ≡ Err NoSuchPacket → after ≡ m → Resizes resize cause m slot answer after
+  -- the packet hasn't the room or the data
+  NotResized : (segs : List Seg) → slice_index_or m.table slot None ≡ Some segs → resize segs ≡ None → answer ≡ Err cause → after ≡ m → Resizes resize cause m slot answer after
+  -- it has, and its new length is the answer
+  WasResized : (segs new : List Seg) → slice_index_or m.table slot None ≡ Some segs → resize segs ≡ Some new → answer ≡ Ok (pkt_len new) → after ≡ record m { table = slice_set m.table slot (Some new) } → Resizes resize cause m slot answer after
+
+-- What a chain of two packets does. It asks nothing of the shared pool.
+pub data Chains (m : Member) (head tail : ℕ) (answer : Result (Unit {0}) Refusal) (after : Member) : Type 0 where
+  -- one of them isn't there
+  NoHead : slice_index_or m.table head None ≡ None → answer ≡ Err NoSuchPacket → after ≡ m → Chains m head tail answer after
+  NoTail : slice_index_or m.table tail None ≡ None → answer ≡ Err NoSuchPacket → after ≡ m → Chains m head tail answer after
+  -- they are one
+  Same : (segs : List Seg) → slice_index_or m.table head None ≡ Some segs → head ≡ tail → answer ≡ Err SamePacket → after ≡ m → Chains m head tail answer after
+  -- they have more segments together than a packet has
+  TooLong : (first second : List Seg) → slice_index_or m.table head None ≡ Some first → slice_index_or m.table tail None ≡ Some second → head ≢ tail → 32 < length first + length second → answer ≡ Err TooManySegs → after ≡ m → Chains m head tail answer after
+  -- the tail's segments stand behind the head's, and its slot is free
+  WasChained : (first second : List Seg) → slice_index_or m.table head None ≡ Some first → slice_index_or m.table tail None ≡ Some second → head ≢ tail → length first + length second ≤ 32 → answer ≡ Ok tt → after ≡ record m { table = slice_set (slice_set m.table head (Some (first ++ second))) tail None } → Chains m head tail answer after

@@ -1,0 +1,84 @@
+//! Which of 256 slots are free, as bits, so that the lowest is found without a walk over them.
+//!
+//! Bit k of word w is 1 while slot 64 w + k is free.
+
+ghost use Rattle.std.specs.Prelude.{◌≡◌, ◌<◌, true, false, position, replicate, slice_index_or, slice_set, MatchOption};
+ghost use Rattle.mbuf.specs.Bits.{IsLowestBit};
+
+use std::marker::Model;
+
+/// How many slots there are.
+pub const SLOTS: usize = 256;
+
+/// For each slot whether it is free.
+#[derive(Debug, Drop)]
+pub struct FreeSlots {
+    words: [u64; 4],
+}
+
+impl Model for FreeSlots {
+    ghost use Rattle.std.specs.Prelude.{Bool, List};
+    ghost use Rattle.mbuf.specs.Bits.{flags_of};
+
+    ghost Value = { List Bool };
+
+    ghost view = { λ s. flags_of s.words };
+}
+
+/// The lowest bit of a word that is 1.
+fn lowest_bit(word: u64) -> Option<usize>
+    ensures { MatchOption result (word ≡ 0) (IsLowestBit word) }
+{
+    if word == 0 {
+        None
+    } else {
+        Some(word.trailing_zeros() as usize)
+    }
+}
+
+impl FreeSlots {
+    /// All slots are free.
+    pub fn new() -> FreeSlots
+        ensures { result ≡ replicate 256 true }
+    {
+        FreeSlots {
+            words: [u64::MAX; 4],
+        }
+    }
+
+    /// The lowest free slot.
+    pub fn lowest(&self) -> Option<usize>
+        ensures { result ≡ position (λ free. free) self.now }
+    {
+        for (index, word) in self.words.iter().enumerate() {
+            if let Some(bit) = lowest_bit(*word) {
+                return Some(64 * index + bit);
+            }
+        }
+        None
+    }
+
+    /// Whether a slot is free.
+    pub fn is_free(&self, slot: usize) -> bool
+        requires { slot < 256 }
+        ensures { result ≡ slice_index_or self.now slot false }
+    {
+        self.words[slot / 64] >> (slot % 64) & 1 == 1
+    }
+
+    /// Takes a slot: it isn't free from now on.
+    pub fn take(&mut self, slot: usize)
+        requires { slot < 256 }
+        ensures { self.new ≡ slice_set self.old slot false }
+    {
+        self.words[slot / 64] &= !(1 << (slot % 64));
+    }
+
+    /// Gives a slot back: it is free from now on.
+    pub fn give(&mut self, slot: usize)
+        requires { slot < 256 }
+        ensures { self.new ≡ slice_set self.old slot true }
+    {
+        self.words[slot / 64] |= 1 << (slot % 64);
+    }
+}

@@ -1,0 +1,10 @@
+//! Packets of one worker over any shared pool: mbufs with lengths and chains.
+#![tactic(auto)]
+
+mod free_slots;
+pub mod freed;
+mod lengths;
+pub mod packets;
+mod steps;
+#[cfg(test)]
+mod tests;

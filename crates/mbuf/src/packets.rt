@@ -1,0 +1,365 @@
+ghost use Rattle.std.specs.Prelude.{◌≡◌, ◌≢◌, ◌<◌, ◌≤◌, ◌+◌, ◌++◌, [], List, IfOk, IfErr, MatchOption, MatchResult, IsSome, Option, None, Some, length, replicate, slice_index_or, slice_set, vec_len};
+ghost use Rattle.commons.specs.Bounds.{IsPool};
+ghost use Rattle.commons.specs.Calls.{Made, Leads, calls_of};
+ghost use Rattle.mempool.specs.Caches.{Flushes};
+ghost use Rattle.mempool.specs.WorkerCache.{IsWorkerCause};
+ghost use Rattle.mbuf.specs.Members.{slots};
+ghost use Rattle.mbuf.specs.Own.{Own};
+ghost use Rattle.mbuf.specs.PacketRules.{Allocs, Chains, Frees, Resizes, of_packet};
+ghost use Rattle.mbuf.specs.Changes.{resized, not_resized};
+ghost use Rattle.mbuf.specs.Lengths.{pkt_len as len_of, appended, prepended, adjusted, trimmed};
+ghost use Rattle.mbuf.specs.Kept.{KeepsHolds};
+
+use crate::free_slots::{FreeSlots, SLOTS};
+use crate::freed::Freed;
+use crate::lengths::Change;
+use crate::{lengths, steps};
+use commons::limits::Limits;
+use commons::packet::{MAX_SEGS, Packet, Seg};
+use commons::refusal::Refusal;
+use commons::shared::Commons;
+use mempool::put::Put;
+use mempool::worker::Worker;
+use std::alloc::{AllocError, Global};
+use std::marker::Model;
+
+/// A packet's slot in its worker's table, 0 to 255.
+pub type Pid = u32;
+
+/// A worker's cache and its packets, at most 256. It can't be dropped: `lose` ends it.
+pub struct Packets {
+    worker: Worker,
+    packets: Vec<Packet>,
+    free: FreeSlots,
+}
+
+impl Model for Packets {
+    ghost use Rattle.mbuf.specs.Members.{Member};
+
+    ghost Value = { Member };
+
+    ghost use Rattle.mbuf.specs.Kept.{member_of, IsKept};
+
+    ghost view = { member_of };
+
+    ghost invariant = { IsKept };
+}
+
+impl Packets {
+    /// A worker with an empty cache and no packets. No other call takes memory.
+    ///
+    /// Refused `BadPool` where the limits are out of range or have no worker of this number, and
+    /// `OutOfMemory` where memory was refused.
+    pub fn make(alloc: Global, limits: &Limits, number: u32) -> Result<Packets, Refusal>
+        ensures ok { IfOk result (λ p. p ≡ record { limits = limits.now; number = number; cache = []; table = replicate slots None }) }
+        ensures pool { IfOk result (λ p. IsPool limits.now × (1 ≤ number) × (number ≤ limits.now.workers)) }
+        ensures cause { IfErr result (IsWorkerCause limits.now number) }
+    {
+        let worker = Worker::make(alloc, limits, number)?;
+        match blank_packets(alloc) {
+            Ok(packets) => Ok(Packets {
+                worker,
+                packets,
+                free: FreeSlots::new(),
+            }),
+            Err(_) => {
+                worker.lose();
+                Err(Refusal::OutOfMemory)
+            }
+        }
+    }
+
+    /// Ends the worker and its packets, and gives nothing back.
+    pub fn lose(self) {
+        let Packets {
+            worker,
+            packets: _,
+            free: _,
+        } = self;
+        worker.lose();
+    }
+
+    /// The worker's number, from 1.
+    pub fn worker(&self) -> u32
+        ensures { result ≡ self.now.number }
+    {
+        self.worker.number()
+    }
+
+    /// The worker's cache, from its first element to its last.
+    pub fn cache(&self) -> &[u32]
+        ensures { result.now ≡ self.now.cache }
+    {
+        self.worker.cache()
+    }
+
+    /// The slot of a packet's number, if a packet stands there.
+    fn slot(&self, p: Pid) -> Option<usize>
+        ensures { MatchOption result (slice_index_or self.now.table p None ≡ None) (λ slot. (slot ≡ p) × (slot < slots) × IsSome (slice_index_or self.now.table p None)) }
+    {
+        let slot = p as usize;
+        if slot >= self.packets.len() {
+            return None;
+        }
+        if self.free.is_free(slot) {
+            return None;
+        }
+        Some(slot)
+    }
+
+    /// The packet in a slot, if one stands there.
+    pub fn place(&self, slot: u32) -> Option<&Packet>
+        ensures { MatchOption result (slice_index_or self.now.table slot None ≡ None) (λ p. slice_index_or self.now.table slot None ≡ Some p.now) }
+    {
+        let slot = self.slot(slot)?;
+        Some(&self.packets[slot])
+    }
+
+    /// Makes a packet of one element, in the lowest free slot, and answers its slot.
+    ///
+    /// Refused `PacketsFull` where no slot is free, else as the cache's get of one element is:
+    /// `NoEntries`, `Contended` or `HeadSpent`. Packets, cache and holds are then as before.
+    ///
+    /// After rte_mbuf.h, `rte_pktmbuf_alloc` (DPDK 21.11). The table of packets is our own.
+    pub fn alloc<C: Commons>(&mut self, c: &mut C) -> Result<Pid, Refusal>
+        requires own { Own self.old (C.limits c.old) (C.hand c.old) (C.holds c.old) (C.headers c.old) }
+        ensures calls { (made : List Made) × Leads C.did C.limits c.old made c.new × Allocs self.old (calls_of made) result self.new }
+        ensures own { Own self.new (C.limits c.new) (C.hand c.new) (C.holds c.new) (C.headers c.new) }
+    {
+        let Some(slot) = self.free.lowest() else {
+            return Err(Refusal::PacketsFull);
+        };
+        match steps::get_one(&mut self.worker, c) {
+            Ok(elem) => {
+                c.claim(elem);
+                let seg = steps::fresh(self.worker.limits(), elem);
+                self.packets[slot].restart(seg);
+                self.free.take(slot);
+                Ok(slot as Pid)
+            }
+            Err(cause) => Err(cause),
+        }
+    }
+
+    /// Frees a packet: its holds end in order, of each segment its base's first and then its own,
+    /// and an element whose last hold went is put back through the cache.
+    ///
+    /// Refused `NoSuchPacket` where no packet stands there; nothing changes then. A push that the
+    /// stack refuses is no refusal: `put_off` tells of the last one, and the elements stay in the
+    /// cache.
+    ///
+    /// After rte_mbuf.h, `rte_pktmbuf_free` (DPDK 21.11).
+    pub fn free<C: Commons>(&mut self, c: &mut C, p: Pid) -> Result<Freed, Refusal>
+        requires own { Own self.old (C.limits c.old) (C.hand c.old) (C.holds c.old) (C.headers c.old) }
+        ensures calls { (made : List Made) × Leads C.did C.limits c.old made c.new × Frees self.old p (calls_of made) result self.new }
+        ensures own { Own self.new (C.limits c.new) (C.hand c.new) (C.holds c.new) (C.headers c.new) }
+    {
+        let Some(slot) = self.slot(p) else {
+            return Err(Refusal::NoSuchPacket);
+        };
+        let freed = steps::end_segs(&mut self.worker, c, self.packets[slot].segs());
+        self.free.give(slot);
+        Ok(freed)
+    }
+
+    /// Puts the worker's whole cache onto the common stack in one push. An empty cache takes no
+    /// step.
+    ///
+    /// After rte_mempool.h, `rte_mempool_cache_flush` (DPDK 21.11).
+    pub fn flush<C: Commons>(&mut self, c: &mut C) -> Put
+        requires own { Own self.old (C.limits c.old) (C.hand c.old) (C.holds c.old) (C.headers c.old) }
+        ensures calls { (made : List Made) × Leads C.did C.limits c.old made c.new × Flushes self.old.cache (calls_of made) result self.new.cache }
+        ensures packets { self.new ≡ record self.old { cache = self.new.cache } }
+        ensures own { Own self.new (C.limits c.new) (C.hand c.new) (C.holds c.new) (C.headers c.new) }
+    {
+        self.worker.flush(c)
+    }
+
+    /// Changes a packet's lengths.
+    fn resize(&mut self, p: Pid, change: Change) -> Result<u32, Refusal>
+        ensures resized { Resizes (resized change) (not_resized change) self.old p result self.new }
+        ensures kept { KeepsHolds self.old self.new }
+    {
+        let Some(slot) = self.slot(p) else {
+            return Err(Refusal::NoSuchPacket);
+        };
+        if !lengths::resize(&mut self.packets[slot], change) {
+            return Err(lengths::refusal(change));
+        }
+        Ok(lengths::pkt_len(&self.packets[slot]))
+    }
+
+    /// Adds `len` bytes behind the data of a packet's last segment, and answers the packet's new
+    /// length in bytes.
+    ///
+    /// Refused `NoSuchPacket` where no packet stands there, and `NoRoom` where the last segment's
+    /// tailroom, what its buffer has behind the data, is shorter. Nothing changes then.
+    ///
+    /// After rte_mbuf.h, `rte_pktmbuf_append` (DPDK 21.11).
+    pub fn append<C: Commons>(&mut self, c: &mut C, p: Pid, len: u16) -> Result<u32, Refusal>
+        requires own { Own self.old (C.limits c.old) (C.hand c.old) (C.holds c.old) (C.headers c.old) }
+        ensures resized { Resizes (appended len) Refusal.NoRoom self.old p result self.new }
+        ensures no_call { c.new ≡ c.old }
+        ensures own { Own self.new (C.limits c.new) (C.hand c.new) (C.holds c.new) (C.headers c.new) }
+    {
+        self.resize(p, Change::Append(len))
+    }
+
+    /// Adds `len` bytes in front of the data of a packet's first segment, and answers the packet's
+    /// new length in bytes.
+    ///
+    /// Refused `NoSuchPacket` where no packet stands there, and `NoRoom` where the first segment's
+    /// headroom, what its buffer has in front of the data, is shorter. Nothing changes then.
+    ///
+    /// After rte_mbuf.h, `rte_pktmbuf_prepend` (DPDK 21.11).
+    pub fn prepend<C: Commons>(&mut self, c: &mut C, p: Pid, len: u16) -> Result<u32, Refusal>
+        requires own { Own self.old (C.limits c.old) (C.hand c.old) (C.holds c.old) (C.headers c.old) }
+        ensures resized { Resizes (prepended len) Refusal.NoRoom self.old p result self.new }
+        ensures no_call { c.new ≡ c.old }
+        ensures own { Own self.new (C.limits c.new) (C.hand c.new) (C.holds c.new) (C.headers c.new) }
+    {
+        self.resize(p, Change::Prepend(len))
+    }
+
+    /// Takes `len` bytes off the front of a packet's first segment, and answers the packet's new
+    /// length in bytes.
+    ///
+    /// Refused `NoSuchPacket` where no packet stands there, and `TooShort` where the first segment
+    /// has fewer bytes of data. Nothing changes then.
+    ///
+    /// After rte_mbuf.h, `rte_pktmbuf_adj` (DPDK 21.11).
+    pub fn adj<C: Commons>(&mut self, c: &mut C, p: Pid, len: u16) -> Result<u32, Refusal>
+        requires own { Own self.old (C.limits c.old) (C.hand c.old) (C.holds c.old) (C.headers c.old) }
+        ensures resized { Resizes (adjusted len) Refusal.TooShort self.old p result self.new }
+        ensures no_call { c.new ≡ c.old }
+        ensures own { Own self.new (C.limits c.new) (C.hand c.new) (C.holds c.new) (C.headers c.new) }
+    {
+        self.resize(p, Change::Adj(len))
+    }
+
+    /// Takes `len` bytes off the end of a packet's last segment, and answers the packet's new
+    /// length in bytes.
+    ///
+    /// Refused `NoSuchPacket` where no packet stands there, and `TooShort` where the last segment
+    /// has fewer bytes of data. Nothing changes then.
+    ///
+    /// After rte_mbuf.h, `rte_pktmbuf_trim` (DPDK 21.11).
+    pub fn trim<C: Commons>(&mut self, c: &mut C, p: Pid, len: u16) -> Result<u32, Refusal>
+        requires own { Own self.old (C.limits c.old) (C.hand c.old) (C.holds c.old) (C.headers c.old) }
+        ensures resized { Resizes (trimmed len) Refusal.TooShort self.old p result self.new }
+        ensures no_call { c.new ≡ c.old }
+        ensures own { Own self.new (C.limits c.new) (C.hand c.new) (C.holds c.new) (C.headers c.new) }
+    {
+        self.resize(p, Change::Trim(len))
+    }
+
+    /// How many bytes of data a packet has.
+    ///
+    /// Refused `NoSuchPacket` where no packet stands there.
+    ///
+    /// After rte_mbuf.h, `rte_pktmbuf_pkt_len` (DPDK 21.11).
+    pub fn pkt_len<C: Commons>(&self, c: &mut C, p: Pid) -> Result<u32, Refusal>
+        requires own { Own self.now (C.limits c.old) (C.hand c.old) (C.holds c.old) (C.headers c.old) }
+        ensures answer { result ≡ of_packet len_of (slice_index_or self.now.table p None) }
+        ensures no_call { c.new ≡ c.old }
+    {
+        match self.place(p) {
+            Some(packet) => Ok(lengths::pkt_len(packet)),
+            None => Err(Refusal::NoSuchPacket),
+        }
+    }
+
+    /// How many segments a packet has, 1 to 32.
+    ///
+    /// Refused `NoSuchPacket` where no packet stands there.
+    ///
+    /// After rte_mbuf_core.h, `nb_segs` of `struct rte_mbuf` (DPDK 21.11).
+    pub fn nb_segs<C: Commons>(&self, c: &mut C, p: Pid) -> Result<u32, Refusal>
+        requires own { Own self.now (C.limits c.old) (C.hand c.old) (C.holds c.old) (C.headers c.old) }
+        ensures answer { result ≡ of_packet length (slice_index_or self.now.table p None) }
+        ensures no_call { c.new ≡ c.old }
+    {
+        match self.place(p) {
+            Some(packet) => Ok(packet.segs().len() as u32),
+            None => Err(Refusal::NoSuchPacket),
+        }
+    }
+
+    /// A packet's segments in order.
+    ///
+    /// Refused `NoSuchPacket` where no packet stands there.
+    pub fn segs<C: Commons>(&self, c: &mut C, p: Pid) -> Result<&[Seg], Refusal>
+        requires own { Own self.now (C.limits c.old) (C.hand c.old) (C.holds c.old) (C.headers c.old) }
+        ensures answer { MatchResult result (λ segs. slice_index_or self.now.table p None ≡ Some segs.now) (λ cause. (cause ≡ Refusal.NoSuchPacket) × (slice_index_or self.now.table p None ≡ None)) }
+        ensures no_call { c.new ≡ c.old }
+    {
+        match self.place(p) {
+            Some(packet) => Ok(packet.segs()),
+            None => Err(Refusal::NoSuchPacket),
+        }
+    }
+
+    /// Puts one packet's segments behind another's.
+    fn join(&mut self, head: Pid, tail: Pid) -> Result<(), Refusal>
+        ensures chained { Chains self.old head tail result self.new }
+        ensures kept { KeepsHolds self.old self.new }
+    {
+        let Some(first) = self.slot(head) else {
+            return Err(Refusal::NoSuchPacket);
+        };
+        let Some(second) = self.slot(tail) else {
+            return Err(Refusal::NoSuchPacket);
+        };
+        if first == second {
+            return Err(Refusal::SamePacket);
+        }
+        if self.packets[first].segs().len() + self.packets[second].segs().len() > MAX_SEGS {
+            return Err(Refusal::TooManySegs);
+        }
+        push_segs(&mut self.packets, first, second);
+        self.free.give(second);
+        Ok(())
+    }
+
+    /// Chains two packets: the tail's segments stand behind the head's last, and the tail's slot is
+    /// empty.
+    ///
+    /// Refused `NoSuchPacket` where no packet stands in one of the slots, `SamePacket` where they
+    /// are one, and `TooManySegs` where they have more than 32 segments together. Nothing changes
+    /// then.
+    ///
+    /// After rte_mbuf.h, `rte_pktmbuf_chain` (DPDK 21.11), whose limit is 65,535.
+    pub fn chain<C: Commons>(&mut self, c: &mut C, head: Pid, tail: Pid) -> Result<(), Refusal>
+        requires own { Own self.old (C.limits c.old) (C.hand c.old) (C.holds c.old) (C.headers c.old) }
+        ensures chained { Chains self.old head tail result self.new }
+        ensures no_call { c.new ≡ c.old }
+        ensures own { Own self.new (C.limits c.new) (C.hand c.new) (C.holds c.new) (C.headers c.new) }
+    {
+        self.join(head, tail)
+    }
+}
+
+/// As many packets as there are slots, of which none is shown yet.
+fn blank_packets(alloc: Global) -> Result<Vec<Packet>, AllocError>
+    ensures { IfOk result (λ v. length v.items ≡ slots) }
+{
+    let mut packets = Vec::with_capacity(alloc, SLOTS)?;
+    for _ in 0..SLOTS {
+        packets.push(Packet::single(Seg::default()))?;
+    }
+    Ok(packets)
+}
+
+/// Puts the segments of the packet at `second` behind those of the one at `first`.
+fn push_segs(packets: &mut Vec<Packet>, first: usize, second: usize)
+    requires first { first < vec_len packets.old }
+    requires second { second < vec_len packets.old }
+    requires apart { first ≢ second }
+    requires few { length (slice_index_or packets.old.items first []) + length (slice_index_or packets.old.items second []) ≤ 32 }
+    ensures { packets.new.items ≡ slice_set packets.old.items first (slice_index_or packets.old.items first [] ++ slice_index_or packets.old.items second []) }
+{
+    for index in 0..packets[second].segs().len() {
+        let seg = packets[second].segs()[index];
+        packets[first].push(seg);
+    }
+}

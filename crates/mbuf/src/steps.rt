@@ -1,0 +1,152 @@
+//! What packets ask of the cache and of the shared pool, an element at a time.
+
+ghost use Rattle.std.specs.Prelude.{◌≡◌, ◌<◌, ◌≤◌, ◌+◌, ◌*◌, ℕ, List, length, if◌then◌else◌, nat_lt, IfOk, OnOk, OnErr};
+ghost use Rattle.commons.specs.Bag.{bag, one};
+ghost use Rattle.commons.specs.Bounds.{IsPool};
+ghost use Rattle.commons.specs.Calls.{Made, Leads, calls_of};
+ghost use Rattle.mempool.specs.Caches.{Gets, put_count};
+ghost use Rattle.mempool.specs.WorkerCache.{KeepsNumber};
+ghost use Rattle.mbuf.specs.Kept.{as_list};
+ghost use Rattle.mbuf.specs.Members.{holds_of_packet, holds_of_seg};
+ghost use Rattle.mbuf.specs.PacketRules.{fresh_seg, freed_nothing, counted as counted_put, EndsHold, EndsHolds};
+
+use crate::freed::Freed;
+use commons::limits::Limits;
+use commons::packet::Seg;
+use commons::refusal::{Lowered, Refusal};
+use commons::shared::Commons;
+use mempool::put::Put;
+use mempool::worker::Worker;
+
+/// The headroom of a fresh packet, in bytes, where its buffer is no shorter.
+/// (rte_config.h, `RTE_PKTMBUF_HEADROOM`, DPDK 21.11)
+const HEADROOM: u64 = 128;
+
+/// The segment of a fresh packet.
+pub fn fresh(limits: &Limits, elem: u32) -> Seg
+    requires { IsPool limits.now }
+    ensures seg { result ≡ fresh_seg limits.now elem }
+    ensures fits { result.data_off + result.data_len ≤ result.buf_len }
+{
+    Seg {
+        elem,
+        base: None,
+        data_off: HEADROOM.min(limits.buf) as u16,
+        data_len: 0,
+        buf_len: limits.buf as u16,
+    }
+}
+
+/// Gets one element by the cache's rules.
+pub fn get_one<C: Commons>(worker: &mut Worker, c: &mut C) -> Result<u32, Refusal>
+    requires limits { C.limits c.old ≡ worker.old.limits }
+    ensures calls { (made : List Made) × Leads C.did C.limits c.old made c.new × Gets worker.old.limits worker.old.cache 1 (calls_of made) (as_list result) worker.new.cache }
+    ensures hand { IfOk result (λ e. (i : ℕ) → C.hand c.new i + bag worker.old.cache i ≡ C.hand c.old i + bag worker.new.cache i + one e i) }
+    ensures hand_err { OnErr result (C.hand c.new ≡ C.hand c.old) }
+    ensures cache_err { OnErr result (worker.new.cache ≡ worker.old.cache) }
+    ensures holds { C.holds c.new ≡ C.holds c.old }
+    ensures headers { C.headers c.new ≡ C.headers c.old }
+    ensures limits { C.limits c.new ≡ C.limits c.old }
+    ensures number { KeepsNumber worker.old worker.new }
+{
+    let mut out = [0u32; 1];
+    match worker.get_bulk(c, &mut out) {
+        Ok(()) => Ok(out[0]),
+        Err(cause) => Err(cause),
+    }
+}
+
+/// What freeing has done once one element more was put back.
+pub fn counted(freed: Freed, put: Put) -> Freed
+    requires back { freed.back < 4_294_967_295 }
+    requires flushed { freed.flushed + put_count put ≤ 4_294_967_295 }
+    ensures counted { result ≡ counted_put freed put }
+    ensures back { result.back ≡ freed.back + 1 }
+    ensures flushed { result.flushed ≤ freed.flushed + put_count put }
+{
+    let mut freed = freed;
+    freed.back += 1;
+    match put {
+        Put::Kept => {}
+        Put::Flushed(count) => freed.flushed += count,
+        Put::PutOff(count, cause) => freed.put_off = Some((count, cause)),
+    }
+    freed
+}
+
+/// Ends one hold of an element, and puts it back where that was the last.
+#[tactic(auto, using(commons::proofs::Bags::bags))]
+pub fn end_hold<C: Commons>(worker: &mut Worker, c: &mut C, elem: u32, freed: Freed) -> Freed
+    requires limits { C.limits c.old ≡ worker.old.limits }
+    requires hand { (i : ℕ) → C.hand c.old i ≡ bag worker.old.cache i }
+    requires held { 0 < C.holds c.old elem }
+    requires back { freed.back < 64 }
+    requires flushed { freed.flushed ≤ 65_534 * freed.back }
+    ensures calls { (made : List Made) × Leads C.did C.limits c.old made c.new × EndsHold worker.old.limits elem worker.old.cache freed (calls_of made) worker.new.cache result }
+    ensures hand { (i : ℕ) → C.hand c.new i ≡ bag worker.new.cache i }
+    ensures holds { (i : ℕ) → C.holds c.old i ≡ C.holds c.new i + one elem i }
+    ensures headers { (i : ℕ) → C.headers c.new i ≡ (if nat_lt 0 (C.holds c.new i) then C.headers c.old i else 0) }
+    ensures limits { C.limits c.new ≡ C.limits c.old }
+    ensures number { KeepsNumber worker.old worker.new }
+    ensures back { result.back ≤ freed.back + 1 }
+    ensures flushed { result.flushed ≤ 65_534 * result.back }
+{
+    let _limits = worker.limits();
+    match c.lower(elem) {
+        Lowered::Still => freed,
+        Lowered::Last => counted(freed, worker.put_bulk(c, &[elem])),
+    }
+}
+
+/// Ends the holds of one segment: that of its base, where it has one, and then its own.
+#[tactic(auto, using(commons::proofs::Bags::bags))]
+fn end_seg<C: Commons>(worker: &mut Worker, c: &mut C, seg: Seg, freed: Freed) -> Freed
+    requires limits { C.limits c.old ≡ worker.old.limits }
+    requires hand { (i : ℕ) → C.hand c.old i ≡ bag worker.old.cache i }
+    requires held { (i : ℕ) → bag (holds_of_seg seg) i ≤ C.holds c.old i }
+    requires back { freed.back < 63 }
+    requires flushed { freed.flushed ≤ 65_534 * freed.back }
+    ensures calls { (made : List Made) × Leads C.did C.limits c.old made c.new × EndsHolds worker.old.limits (holds_of_seg seg) worker.old.cache freed (calls_of made) worker.new.cache result }
+    ensures hand { (i : ℕ) → C.hand c.new i ≡ bag worker.new.cache i }
+    ensures holds { (i : ℕ) → C.holds c.old i ≡ C.holds c.new i + bag (holds_of_seg seg) i }
+    ensures headers { (i : ℕ) → 0 < C.holds c.new i → C.headers c.new i ≡ C.headers c.old i }
+    ensures limits { C.limits c.new ≡ C.limits c.old }
+    ensures number { KeepsNumber worker.old worker.new }
+    ensures back { result.back ≤ freed.back + 2 }
+    ensures flushed { result.flushed ≤ 65_534 * result.back }
+{
+    match seg.base {
+        None => end_hold(worker, c, seg.elem, freed),
+        Some(base) => {
+            let so_far = end_hold(worker, c, base, freed);
+            end_hold(worker, c, seg.elem, so_far)
+        }
+    }
+}
+
+/// What freeing nothing has done.
+const NOTHING_FREED: Freed = Freed {
+    back: 0,
+    flushed: 0,
+    put_off: None,
+};
+
+/// Ends the holds of segments in order.
+pub fn end_segs<C: Commons>(worker: &mut Worker, c: &mut C, segs: &[Seg]) -> Freed
+    requires limits { C.limits c.old ≡ worker.old.limits }
+    requires hand { (i : ℕ) → C.hand c.old i ≡ bag worker.old.cache i }
+    requires held { (i : ℕ) → bag (holds_of_packet segs.now) i ≤ C.holds c.old i }
+    requires few { length segs.now ≤ 32 }
+    ensures calls { (made : List Made) × Leads C.did C.limits c.old made c.new × EndsHolds worker.old.limits (holds_of_packet segs.now) worker.old.cache freed_nothing (calls_of made) worker.new.cache result }
+    ensures hand { (i : ℕ) → C.hand c.new i ≡ bag worker.new.cache i }
+    ensures holds { (i : ℕ) → C.holds c.old i ≡ C.holds c.new i + bag (holds_of_packet segs.now) i }
+    ensures headers { (i : ℕ) → 0 < C.holds c.new i → C.headers c.new i ≡ C.headers c.old i }
+    ensures limits { C.limits c.new ≡ C.limits c.old }
+    ensures number { KeepsNumber worker.old worker.new }
+{
+    let mut freed = NOTHING_FREED;
+    for seg in segs {
+        freed = end_seg(worker, c, *seg, freed);
+    }
+    freed
+}
