@@ -1,13 +1,13 @@
 -- Words as flags: what a test, a change of one bit and a search of the lowest say of them.
-use Rattle.std.proofs.Common.{◌≡◌, ◌≢◌, ℕ, ◌+◌, ◌*◌, ◌/◌, ◌%◌, ◌<◌, Bool, true, false, List, length, length-set, get_or, set, get_or-set_same, get_or-set_other, Some, None, refl, sym, ap, ◌∙◌, arith, inl, inr}
-use Rattle.std.specs.Prelude.{◌==◌, not, position, nat_lt}
+use Rattle.std.proofs.Common.{◌≡◌, ◌≢◌, ℕ, ◌+◌, ◌-◌, ◌*◌, ◌/◌, ◌%◌, ◌<◌, Bool, true, false, List, length, length-set, get_or, set, get_or-set_same, get_or-set_other, Some, None, refl, sym, ap, ◌∙◌, arith, inl, inr}
+use Rattle.std.specs.Prelude.{◌==◌, cond, count_by, not, position, nat_lt}
 use Rattle.std.specs.List.{position_or_len}
 use Rattle.std.specs.Int.{bit_at}
 use Rattle.std.proofs.lemmas.Nat.Bits.{bit_at-zero}
 use Rattle.std.proofs.lemmas.Bool.{cases_eq, cases_lt, cond-true, cond-false, lt-ltb, le-ltb, eq-eqb}
 use Rattle.std.proofs.lemmas.List.{ext_get_or}
 use Rattle.std.proofs.lemmas.List.FromFn.{get_or-map-range_with_len, length-map-range_with_len}
-use Rattle.std.proofs.lemmas.List.Sums.{prefix_len_is}
+use Rattle.std.proofs.lemmas.List.Sums.{prefix_len_is, sum_by-set}
 use Rattle.mbuf.specs.Bits.{is_set, flags_of, IsLowestBit}
 
 pub flag_at : (words : List ℕ) (slot : ℕ) → slot < 256 → get_or (flags_of words) slot false ≡ is_set words slot
@@ -77,3 +77,20 @@ none_is words len zeros =
     none_up (flags_of words) (λ i l.
     let within : i < 256 = omega (arith, l, length-flags words) in
     flag_at words i within ∙ rw (zeros (i / 64) (omega arith)) (ap (λ (n : ℕ). n == 1) (bit_at-zero (i % 64))))
+
+-- ---- how many
+
+-- a flag that goes up counts
+pub counted_up : (flags : List Bool) (k : ℕ) → k < length flags → get_or flags k false ≡ false → count_by (λ free. free) (set flags k true) ≡ count_by (λ free. free) flags + 1
+counted_up flags k within down =
+    let all = sum_by-set (λ (free : Bool). cond free 1 0) flags k true false within in
+    omega (arith, rw down at all)
+
+-- one that goes down doesn't any more
+pub counted_down : (flags : List Bool) (k : ℕ) → k < length flags → get_or flags k false ≡ true → count_by (λ free. free) (set flags k false) + 1 ≡ count_by (λ free. free) flags
+counted_down flags k within up =
+    let all = sum_by-set (λ (free : Bool). cond free 1 0) flags k false false within in
+    omega (arith, rw up at all)
+
+pub one_fewer : (a b c : ℕ) → a ≡ b → c + 1 ≡ b → a - 1 ≡ c
+one_fewer a b c e h = omega (arith, e, h)

@@ -1,6 +1,8 @@
+pub mod ActLemmas
 pub mod BitLemmas
 pub mod ChainLemmas
 pub mod EndLemmas
+pub mod FreeLemmas
 pub mod ListLemmas
 pub mod OwnLemmas
 pub mod ResizeLemmas

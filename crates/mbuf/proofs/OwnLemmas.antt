@@ -1,16 +1,16 @@
 -- What the packets hold, and what of it stays a worker's own.
-use Rattle.std.proofs.Common.{◌≡◌, ℕ, ◌+◌, ◌<◌, ◌≤◌, List, [], ◌∷◌, length, get_or, set, map, Option, Some, None, refl, sym, ap, ◌∙◌, true, inl, inr, arith}
+use Rattle.std.proofs.Common.{◌≡◌, ℕ, ◌+◌, ◌<◌, ◌≤◌, List, [], ◌∷◌, length, get_or, set, map, Option, Some, None, refl, sym, ◌∙◌, true, inl, inr, arith}
 use Rattle.std.specs.Prelude.{is_none}
 use Rattle.std.proofs.lemmas.Bool.{cases_lt}
 use Rattle.std.proofs.lemmas.List.Sums.{sum_by-set, sum_by-cons, get_or-le-sum_by}
 use Rattle.std.proofs.lemmas.List.Quantifiers.{position-Some}
-use Rattle.commons.specs.Bag.{bag, one}
+use Rattle.commons.specs.Bag.{bag}
 use Rattle.commons.specs.declared.limits.Limits.{Limits}
 use Rattle.commons.specs.declared.packet.Seg.{Seg}
 use Rattle.commons.proofs.Bags.{bag-nil, bag-cons, bag-append, bag-single}
 use Rattle.mbuf.specs.Members.{Member, holds_of_base, holds_of_seg, holds_of_packet, holds_in_slot, own_in_slot, held_in, own_in}
 use Rattle.mbuf.specs.Own.{Own}
-use Rattle.mbuf.specs.PacketRules.{fresh_seg, free_slot}
+use Rattle.mbuf.specs.PacketRules.{free_slot}
 
 -- a slot with other contents
 pub held_in-set : (table : List (Option (List Seg))) (k : ℕ) (new : Option (List Seg)) (i : ℕ) → k < length table →
@@ -58,25 +58,6 @@ none_is (Some segs) e = absurd cc
 -- a free slot is in the table, and nothing is in it
 pub free_slot-is : (table : List (Option (List Seg))) (slot : ℕ) → free_slot table ≡ Some slot → (slot < length table) × (get_or table slot None ≡ None)
 free_slot-is table slot e = let h = position-Some is_none table slot None e in (h.0, none_is (get_or table slot None) h.1)
-
--- a packet of a fresh element stands in a free slot
-pub own_alloc : (m : Member) (l later : Limits) (h0 h1 h2 o0 o1 o2 d0 d1 d2 : ℕ → ℕ) (cache : List ℕ) (slot e : ℕ) →
-    Own m l h0 o0 d0 → later ≡ l → free_slot m.table ≡ Some slot →
-    ((i : ℕ) → h1 i + bag m.cache i ≡ h0 i + bag cache i + one e i) → o1 ≡ o0 → d1 ≡ d0 →
-    ((i : ℕ) → h1 i ≡ h2 i + one e i) → ((i : ℕ) → o2 i ≡ o1 i + one e i) → ((i : ℕ) → d2 i ≡ d1 i + one e i) →
-    Own (record m { cache = cache; table = set m.table slot (Some (fresh_seg m.limits e ∷ [])) }) later h2 o2 d2
-own_alloc m l later h0 h1 h2 o0 o1 o2 d0 d1 d2 cache slot e own same free got_hand got_holds got_headers hand holds headers =
-    let empty = free_slot-is m.table slot free in
-    record {
-      limits = own.limits ∙ sym same;
-      cached = λ i. omega (arith, got_hand i, hand i, own.cached i);
-      held = λ i.
-          let t = rw empty.1 at (held_in-set m.table slot (Some (fresh_seg m.limits e ∷ [])) i empty.0) in
-          omega (arith, holds i, ap (λ (f : ℕ → ℕ). f i) got_holds, own.held i, t, bag-nil i, bag-single e i);
-      headed = λ i.
-          let t = rw empty.1 at (own_in-set m.table slot (Some (fresh_seg m.limits e ∷ [])) i empty.0) in
-          omega (arith, headers i, ap (λ (f : ℕ → ℕ). f i) got_headers, own.headed i, t, bag-nil i, bag-single e i);
-    }
 
 -- what is still an own element is still held, and so a header as before
 own_headed : (own before held holds d1 d0 : ℕ) → own ≤ before → before ≤ d0 → own ≤ held → holds ≡ held → (0 < holds → d1 ≡ d0) → own ≤ d1

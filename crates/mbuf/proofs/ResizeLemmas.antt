@@ -5,7 +5,7 @@ use Rattle.commons.specs.declared.limits.Limits.{Limits}
 use Rattle.commons.specs.declared.packet.Seg.{Seg}
 use Rattle.mbuf.specs.Changes.{resized}
 use Rattle.mbuf.specs.Kept.{KeepsHolds}
-use Rattle.mbuf.specs.Lengths.{no_seg, with_seg, grown_behind, grown_in_front, cut_in_front, cut_behind}
+use Rattle.mbuf.specs.Lengths.{no_seg, with_seg, appended, prepended, adjusted, trimmed, grown_behind, grown_in_front, cut_in_front, cut_behind}
 use Rattle.mbuf.specs.Members.{Member, holds_of_base, holds_of_seg, holds_of_packet}
 use Rattle.mbuf.specs.Own.{Own}
 use Rattle.mbuf.specs.declared.lengths.Change.{Change}
@@ -56,6 +56,19 @@ resized_holds (Adj n) segs new e =
 resized_holds (Trim n) segs new e =
     let last = get_or segs (length segs - 1) no_seg in
     replaced_holds segs new (length segs - 1) (cut_behind n last) (λ seg f. chosen (nat_le n last.data_len) seg (record last { data_len = last.data_len - n }) last f (refl, refl)) e
+
+-- each change alone
+pub appended_holds : (n : ℕ) (segs new : List Seg) → appended n segs ≡ Some new → SamePacketHolds new segs
+appended_holds n segs new e = resized_holds (Append n) segs new e
+
+pub prepended_holds : (n : ℕ) (segs new : List Seg) → prepended n segs ≡ Some new → SamePacketHolds new segs
+prepended_holds n segs new e = resized_holds (Prepend n) segs new e
+
+pub adjusted_holds : (n : ℕ) (segs new : List Seg) → adjusted n segs ≡ Some new → SamePacketHolds new segs
+adjusted_holds n segs new e = resized_holds (Adj n) segs new e
+
+pub trimmed_holds : (n : ℕ) (segs new : List Seg) → trimmed n segs ≡ Some new → SamePacketHolds new segs
+trimmed_holds n segs new e = resized_holds (Trim n) segs new e
 
 -- a packet that is exchanged for one that holds the same
 pub KeepsHolds-set : (m : Member) (slot : ℕ) (segs new : List Seg) → slot < length m.table → get_or m.table slot None ≡ Some segs → SamePacketHolds new segs →

@@ -69,6 +69,15 @@ free_slot-shown flags packets e = rw (before_free flags packets e, length-shown 
 pub past_shown : (flags : List Bool) (packets : List (List Seg)) (k : ℕ) → length packets ≡ length flags → length flags ≤ k → get_or (shown flags packets) k None ≡ None
 past_shown flags packets k e past = get_or_past (shown flags packets) k None (omega (arith, length-shown flags packets e, past))
 
+not_free : (free : Bool) (segs : List Seg) → IsSome (unless_free free segs) → free ≡ false
+not_free true segs h = absurd cc
+not_free false segs h = refl
+
+-- a slot that shows something isn't free
+pub taken_slot : (flags : List Bool) (packets : List (List Seg)) (k : ℕ) → k < length flags → length packets ≡ length flags → IsSome (get_or (shown flags packets) k None) → get_or flags k false ≡ false
+taken_slot flags packets k within e some =
+    not_free (get_or flags k false) (get_or packets k []) (subst (λ (o : Option (List Seg)). IsSome o) (get_or-shown flags packets k within e) some)
+
 some_is : (free : Bool) (segs : List Seg) → IsSome (unless_free free segs) → unless_free free segs ≡ Some segs
 some_is true segs h = absurd cc
 some_is false segs h = refl

@@ -1,3 +1,4 @@
+pub mod Acts
 pub mod Bits
 pub mod Changes
 pub mod Kept

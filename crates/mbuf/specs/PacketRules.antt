@@ -1,6 +1,6 @@
 -- What a worker's calls do with its packets: for each case the calls that are made on the shared pool with
 -- their answers, the answer, and what the worker has afterwards.
-use Rattle.std.specs.Prelude.{ℕ, ◌≡◌, ◌≢◌, ◌+◌, ◌<◌, ◌≤◌, min, length, is_none, position, List, [], ◌∷◌, ◌++◌, slice_index_or, slice_set, Option, Some, None, Result, Ok, Err}
+use Rattle.std.specs.Prelude.{ℕ, ◌≡◌, ◌≢◌, ◌+◌, ◌<◌, ◌≤◌, min, length, is_none, map, position, take, List, [], ◌∷◌, ◌++◌, slice_index_or, slice_set, Option, Some, None, Result, Ok, Err}
 use Rattle.commons.specs.declared.limits.Limits.{Limits}
 use Rattle.commons.specs.declared.packet.Seg.{Seg}
 use Rattle.commons.specs.declared.refusal.Lowered.TheVariants.{Last, Still}
@@ -22,6 +22,21 @@ fresh_seg l e = record { elem = e; base = None; data_off = min 128 l.buf; data_l
 abbrev pub free_slot : List (Option (List Seg)) → Option ℕ
 free_slot table = position is_none table
 
+-- the free slots ascending, the first slot of the table having this number
+abbrev pub free_from : ℕ → List (Option (List Seg)) → List ℕ
+free_from slot [] = []
+free_from slot (None ∷ table) = slot ∷ free_from (slot + 1) table
+free_from slot (Some segs ∷ table) = free_from (slot + 1) table
+
+abbrev pub free_slots : List (Option (List Seg)) → List ℕ
+free_slots table = free_from 0 table
+
+-- the table once the fresh packets of these elements stand in these slots, one in each
+abbrev pub stood : Limits → List ℕ → List ℕ → List (Option (List Seg)) → List (Option (List Seg))
+stood l [] slots table = table
+stood l (e ∷ es) [] table = table
+stood l (e ∷ es) (slot ∷ slots) table = stood l es slots (slice_set table slot (Some (fresh_seg l e ∷ [])))
+
 -- what an alloc does
 pub data Allocs (m : Member) (calls : List Call) (answer : Result ℕ Refusal) (after : Member) : Type 0 where
   -- no slot is free: nothing is asked for
@@ -30,6 +45,16 @@ pub data Allocs (m : Member) (calls : List Call) (answer : Result ℕ Refusal) (
   NotGot : (slot : ℕ) → free_slot m.table ≡ Some slot → (cause : Refusal) → Gets m.limits m.cache 1 calls (Err cause) m.cache → answer ≡ Err cause → after ≡ m → Allocs m calls answer after
   -- the element that was got is claimed, and its packet stands in the lowest free slot
   Fresh : (slot e : ℕ) → free_slot m.table ≡ Some slot → (got : List Call) (left : List ℕ) → Gets m.limits m.cache 1 got (Ok (e ∷ [])) left → calls ≡ got ++ Claim e ∷ [] → answer ≡ Ok slot → after ≡ record m { cache = left; table = slice_set m.table slot (Some (fresh_seg m.limits e ∷ [])) } → Allocs m calls answer after
+
+-- what an alloc of n packets at once does
+pub data AllocsBulk (m : Member) (n : ℕ) (calls : List Call) (answer : Result (List ℕ) Refusal) (after : Member) : Type 0 where
+  -- fewer slots are free: nothing is asked for
+  TooFull : length (free_slots m.table) < n → calls ≡ [] → answer ≡ Err PacketsFull → after ≡ m → AllocsBulk m n calls answer after
+  -- the cache's get of n elements is refused
+  BulkNotGot : n ≤ length (free_slots m.table) → (cause : Refusal) → Gets m.limits m.cache n calls (Err cause) m.cache → answer ≡ Err cause → after ≡ m → AllocsBulk m n calls answer after
+  -- the elements are claimed in the order in which they were got, and their packets stand, in that order, in the
+  -- lowest free slots
+  FreshBulk : (es : List ℕ) → length es ≡ n → n ≤ length (free_slots m.table) → (got : List Call) (left : List ℕ) → Gets m.limits m.cache n got (Ok es) left → calls ≡ got ++ map Claim es → answer ≡ Ok (take n (free_slots m.table)) → after ≡ record m { cache = left; table = stood m.limits es (take n (free_slots m.table)) m.table } → AllocsBulk m n calls answer after
 
 -- nothing was freed yet
 abbrev pub freed_nothing : Freed

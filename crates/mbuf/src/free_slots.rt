@@ -2,27 +2,28 @@
 //!
 //! Bit k of word w is 1 while slot 64 w + k is free.
 
-ghost use Rattle.std.specs.Prelude.{◌≡◌, ◌<◌, true, false, position, replicate, slice_index_or, slice_set, MatchOption};
+ghost use Rattle.std.specs.Prelude.{◌≡◌, ◌<◌, true, false, count_by, position, replicate, slice_index_or, slice_set, MatchOption};
 ghost use Rattle.mbuf.specs.Bits.{IsLowestBit};
 
+use crate::packets::SLOTS;
 use std::marker::Model;
-
-/// How many slots there are.
-pub const SLOTS: usize = 256;
 
 /// For each slot whether it is free.
 #[derive(Debug, Drop)]
 pub struct FreeSlots {
     words: [u64; 4],
+    count: usize,
 }
 
 impl Model for FreeSlots {
     ghost use Rattle.std.specs.Prelude.{Bool, List};
-    ghost use Rattle.mbuf.specs.Bits.{flags_of};
+    ghost use Rattle.mbuf.specs.Bits.{flags_of, IsCounted};
 
     ghost Value = { List Bool };
 
     ghost view = { λ s. flags_of s.words };
+
+    ghost invariant = { λ s. IsCounted s.words s.count };
 }
 
 /// The lowest bit of a word that is 1.
@@ -43,7 +44,15 @@ impl FreeSlots {
     {
         FreeSlots {
             words: [u64::MAX; 4],
+            count: SLOTS,
         }
+    }
+
+    /// How many slots are free.
+    pub fn count(&self) -> usize
+        ensures { result ≡ count_by (λ free. free) self.now }
+    {
+        self.count
     }
 
     /// The lowest free slot.
@@ -66,19 +75,23 @@ impl FreeSlots {
         self.words[slot / 64] >> (slot % 64) & 1 == 1
     }
 
-    /// Takes a slot: it isn't free from now on.
+    /// Takes a free slot: it isn't free from now on.
     pub fn take(&mut self, slot: usize)
-        requires { slot < 256 }
+        requires within { slot < 256 }
+        requires free { slice_index_or self.old slot false ≡ true }
         ensures { self.new ≡ slice_set self.old slot false }
     {
         self.words[slot / 64] &= !(1 << (slot % 64));
+        self.count -= 1;
     }
 
-    /// Gives a slot back: it is free from now on.
+    /// Gives a slot back that was taken: it is free from now on.
     pub fn give(&mut self, slot: usize)
-        requires { slot < 256 }
+        requires within { slot < 256 }
+        requires taken { slice_index_or self.old slot false ≡ false }
         ensures { self.new ≡ slice_set self.old slot true }
     {
         self.words[slot / 64] |= 1 << (slot % 64);
+        self.count += 1;
     }
 }

@@ -1,6 +1,7 @@
 //! Packets of one worker over any shared pool: mbufs with lengths and chains.
 #![tactic(auto)]
 
+pub mod acts;
 mod free_slots;
 pub mod freed;
 mod lengths;

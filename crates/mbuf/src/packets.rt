@@ -1,16 +1,17 @@
-ghost use Rattle.std.specs.Prelude.{◌≡◌, ◌≢◌, ◌<◌, ◌≤◌, ◌+◌, ◌++◌, [], List, IfOk, IfErr, MatchOption, MatchResult, IsSome, Option, None, Some, length, replicate, slice_index_or, slice_set, vec_len};
+ghost use Rattle.std.specs.Prelude.{◌≡◌, ◌≢◌, ◌<◌, ◌≤◌, ◌+◌, ◌++◌, [], ◌∷◌, ℕ, List, IfOk, IfErr, MatchOption, MatchResult, IsSome, Option, None, Some, length, map, replicate, slice_index_or, slice_set, take, vec_len};
 ghost use Rattle.commons.specs.Bounds.{IsPool};
-ghost use Rattle.commons.specs.Calls.{Made, Leads, calls_of};
+ghost use Rattle.commons.specs.Bag.{bag, one};
+ghost use Rattle.commons.specs.Calls.{Claim, Did, Made, Leads, calls_of, with_list};
 ghost use Rattle.mempool.specs.Caches.{Flushes};
 ghost use Rattle.mempool.specs.WorkerCache.{IsWorkerCause};
 ghost use Rattle.mbuf.specs.Members.{slots};
 ghost use Rattle.mbuf.specs.Own.{Own};
-ghost use Rattle.mbuf.specs.PacketRules.{Allocs, Chains, Frees, Resizes, of_packet};
+ghost use Rattle.mbuf.specs.PacketRules.{Allocs, AllocsBulk, Chains, Frees, Resizes, free_slot, free_slots, fresh_seg, of_packet, stood};
 ghost use Rattle.mbuf.specs.Changes.{resized, not_resized};
 ghost use Rattle.mbuf.specs.Lengths.{pkt_len as len_of, appended, prepended, adjusted, trimmed};
 ghost use Rattle.mbuf.specs.Kept.{KeepsHolds};
 
-use crate::free_slots::{FreeSlots, SLOTS};
+use crate::free_slots::FreeSlots;
 use crate::freed::Freed;
 use crate::lengths::Change;
 use crate::{lengths, steps};
@@ -22,6 +23,9 @@ use mempool::put::Put;
 use mempool::worker::Worker;
 use std::alloc::{AllocError, Global};
 use std::marker::Model;
+
+/// How many packets a worker holds at most.
+pub const SLOTS: usize = 256;
 
 /// A packet's slot in its worker's table, 0 to 255.
 pub type Pid = u32;
@@ -93,6 +97,13 @@ impl Packets {
         self.worker.cache()
     }
 
+    /// A law of each worker: its table has 256 slots, whatever stands in them. It does nothing.
+    pub fn has_slots(&self)
+        ensures { length self.now.table ≡ slots }
+    {
+        let _known = &self.free;
+    }
+
     /// The slot of a packet's number, if a packet stands there.
     fn slot(&self, p: Pid) -> Option<usize>
         ensures { MatchOption result (slice_index_or self.now.table p None ≡ None) (λ slot. (slot ≡ p) × (slot < slots) × IsSome (slice_index_or self.now.table p None)) }
@@ -115,6 +126,43 @@ impl Packets {
         Some(&self.packets[slot])
     }
 
+    /// Claims an element of the hand, and lets its fresh packet stand in the lowest free slot.
+    fn stand<C: Commons>(&mut self, c: &mut C, elem: u32) -> Pid
+        requires hand { 0 < C.hand c.old elem }
+        requires free { 0 < length (free_slots self.old.table) }
+        ensures did { Did C.did C.limits c.old (Claim elem) c.new }
+        ensures slot { free_slot self.old.table ≡ Some result }
+        ensures stood { self.new ≡ record self.old { table = slice_set self.old.table result (Some (fresh_seg self.old.limits elem ∷ [])) } }
+        ensures hand { (i : ℕ) → C.hand c.old i ≡ C.hand c.new i + one elem i }
+        ensures holds { (i : ℕ) → C.holds c.new i ≡ C.holds c.old i + one elem i }
+        ensures headers { (i : ℕ) → C.headers c.new i ≡ C.headers c.old i + one elem i }
+        ensures limits { C.limits c.new ≡ C.limits c.old }
+    {
+        let slot = self.free.lowest().unwrap();
+        c.claim(elem);
+        let seg = steps::fresh(self.worker.limits(), elem);
+        self.packets[slot].restart(seg);
+        self.free.take(slot);
+        slot as Pid
+    }
+
+    /// Claims elements of the hand in turn, and puts the slots of their packets in their places.
+    fn stand_all<C: Commons>(&mut self, c: &mut C, out: &mut [u32])
+        requires hand { (i : ℕ) → bag out.old i ≤ C.hand c.old i }
+        requires free { length out.old ≤ length (free_slots self.old.table) }
+        ensures calls { (made : List Made) × Leads C.did C.limits c.old made c.new × (calls_of made ≡ map Claim out.old) }
+        ensures slots { out.new ≡ take (length out.old) (free_slots self.old.table) }
+        ensures stood { self.new ≡ record self.old { table = stood self.old.limits out.old out.new self.old.table } }
+        ensures hand { (i : ℕ) → C.hand c.old i ≡ C.hand c.new i + bag out.old i }
+        ensures holds { (i : ℕ) → C.holds c.new i ≡ C.holds c.old i + bag out.old i }
+        ensures headers { (i : ℕ) → C.headers c.new i ≡ C.headers c.old i + bag out.old i }
+        ensures limits { C.limits c.new ≡ C.limits c.old }
+    {
+        for place in 0..out.len() {
+            out[place] = self.stand(c, out[place]);
+        }
+    }
+
     /// Makes a packet of one element, in the lowest free slot, and answers its slot.
     ///
     /// Refused `PacketsFull` where no slot is free, else as the cache's get of one element is:
@@ -126,16 +174,36 @@ impl Packets {
         ensures calls { (made : List Made) × Leads C.did C.limits c.old made c.new × Allocs self.old (calls_of made) result self.new }
         ensures own { Own self.new (C.limits c.new) (C.hand c.new) (C.holds c.new) (C.headers c.new) }
     {
-        let Some(slot) = self.free.lowest() else {
+        if self.free.count() == 0 {
             return Err(Refusal::PacketsFull);
-        };
+        }
         match steps::get_one(&mut self.worker, c) {
-            Ok(elem) => {
-                c.claim(elem);
-                let seg = steps::fresh(self.worker.limits(), elem);
-                self.packets[slot].restart(seg);
-                self.free.take(slot);
-                Ok(slot as Pid)
+            Ok(elem) => Ok(self.stand(c, elem)),
+            Err(cause) => Err(cause),
+        }
+    }
+
+    /// Makes `out.len()` packets of one element each, all of them or none, in the lowest free
+    /// slots, and answers their slots in `out`. The elements come from one get, and the packets
+    /// stand in their order. An empty `out` takes no step.
+    ///
+    /// Refused `PacketsFull` where fewer slots are free, else as the cache's get of so many elements
+    /// is: `NoEntries`, `Contended` or `HeadSpent`. Packets, cache and holds are then as before, and
+    /// nothing is said of `out`.
+    ///
+    /// After rte_mbuf.h, `rte_pktmbuf_alloc_bulk` (DPDK 21.11). The table of packets is our own.
+    pub fn alloc_bulk<C: Commons>(&mut self, c: &mut C, out: &mut [Pid]) -> Result<(), Refusal>
+        requires own { Own self.old (C.limits c.old) (C.hand c.old) (C.holds c.old) (C.headers c.old) }
+        ensures calls { (made : List Made) × Leads C.did C.limits c.old made c.new × AllocsBulk self.old (length out.old) (calls_of made) (with_list result out.new) self.new }
+        ensures own { Own self.new (C.limits c.new) (C.hand c.new) (C.holds c.new) (C.headers c.new) }
+    {
+        if self.free.count() < out.len() {
+            return Err(Refusal::PacketsFull);
+        }
+        match self.worker.get_bulk(c, out) {
+            Ok(()) => {
+                self.stand_all(c, out);
+                Ok(())
             }
             Err(cause) => Err(cause),
         }

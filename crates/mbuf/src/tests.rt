@@ -15,6 +15,8 @@ use mempool::put::Put;
 use std::process::Abort;
 use std::test::Fail;
 
+mod acts;
+
 fn limits(population: u64, cache: u64) -> Limits {
     Limits {
         population,

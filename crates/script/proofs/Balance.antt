@@ -1,32 +1,37 @@
 -- Each command keeps each element in one place.
-use Rattle.std.proofs.Common.{ℕ, zero, suc, ◌≡◌, ◌+◌, ◌-◌, ◌<◌, ◌≤◌, ◌&&◌, inl, inr, nat_lt, nat_le, true, cond, List, [], ◌∷◌, length, get_or, set, replicate, Option, Some, None, Result, Ok, Err, refl, sym, ◌∙◌, ap, arith}
-use Rattle.std.specs.Prelude.{min, is_none}
+use Rattle.std.proofs.Common.{ℕ, zero, suc, ◌≡◌, ◌+◌, ◌-◌, ◌<◌, ◌≤◌, ◌==◌, ◌&&◌, inl, inr, nat_lt, nat_le, cond, List, [], ◌∷◌, length, get_or, set, take, replicate, Option, Some, None, Result, Ok, Err, refl, sym, ◌∙◌, ap, arith}
+use Rattle.std.specs.Prelude.{min}
 use Rattle.std.specs.List.{range_with_len}
-use Rattle.std.proofs.lemmas.List.{get_or_past}
 use Rattle.std.proofs.lemmas.List.Sums.{sum_by-cons, get_or-le-sum_by}
-use Rattle.std.proofs.lemmas.List.Quantifiers.{position-Some}
-use Rattle.std.proofs.lemmas.Option.{none-some}
 use Rattle.std.proofs.lemmas.List.Folds.{sum_by-replicate}
-use Rattle.std.proofs.lemmas.Bool.{cases_Bool, cases_lt, cases_eq, leb-true, and_parts}
+use Rattle.std.proofs.lemmas.Bool.{cases_Bool, cases_lt, leb-true, ltb-false, eqb-false, and_parts}
 use Rattle.std.proofs.lemmas.Bool.Decides.{nat_tests}
 use Rattle.commons.specs.Bag.{bag, one}
 use Rattle.commons.specs.declared.limits.Limits.{Limits}
 use Rattle.commons.specs.declared.packet.Seg.{Seg}
 use Rattle.commons.specs.declared.refusal.Refusal.{Refusal}
-use Rattle.commons.proofs.Bags.{bag-nil, bag-single, bag-of_one, one-same}
-use Rattle.commons.proofs.Places.{one-apart}
+use Rattle.commons.specs.declared.refusal.Refusal.TheVariants.{NoRoom, TooShort}
+use Rattle.commons.proofs.Bags.{bag-nil, bag-single, bag-of_one}
 use Rattle.commons.proofs.Opening.{bag-range_in, bag-range_high}
 use Rattle.script.specs.declared.commands.Command.{Command}
 use Rattle.script.specs.declared.commands.Command.TheVariants as command
 use Rattle.script.specs.declared.commands.Line.{Line}
-use Rattle.script.specs.declared.replies.Act.{Act}
-use Rattle.script.specs.declared.replies.Act.TheVariants.{Alloc, Free, Flush}
-use Rattle.script.specs.Pool.{Stack, Member, Pool, holds_in_slot, held_in, held_by, member_at, with_member, nobody, new_members, new_pool, slots}
+use Rattle.mbuf.specs.declared.acts.Act.{Act}
+use Rattle.mbuf.specs.declared.acts.Act.TheVariants.{Alloc, AllocBulk, Free, Append, Prepend, Adj, Trim, Chain, PktLen, NbSegs, Flush}
+use Rattle.mbuf.specs.Members.{Member, holds_in_slot, held_in, slots}
+use Rattle.mbuf.specs.PacketRules.{fresh_seg, free_slot, free_slots, freed_nothing}
+use Rattle.mbuf.specs.Lengths.{appended, prepended, adjusted, trimmed}
+use Rattle.script.specs.Pool.{Stack, Pool, held_by, member_at, with_member, nobody, new_members, new_pool}
 use Rattle.script.specs.CacheModel.{get}
-use Rattle.script.specs.PacketModel.{fresh_seg, free_slot, fill_slot, alloc_in, freed_nothing, free_in, flush_member, without_packet, held_elsewhere, act_on, perform}
+use Rattle.script.specs.PacketModel.{fill_slot, alloc_in, fill_slots, alloc_bulk, resize_to, resize_in, chain_in, free_in, flush_member, without_packet, held_elsewhere, act_on, perform}
 use Rattle.script.specs.Replay.{Run, free_as, obey, end_of}
 use Rattle.script.proofs.CacheBags.{IsGot, get-IsGot, flush-IsPut}
-use Rattle.script.proofs.HeldBags.{end_holds-bag, held_in-set, held_by-set, cached_by, cached_by-set, IsBalanced}
+use Rattle.mbuf.proofs.ChainLemmas.{KeepsHolds-chain}
+use Rattle.mbuf.proofs.FreeLemmas.{holds_stood}
+use Rattle.mbuf.proofs.OwnLemmas.{held_in-set, free_slot-is}
+use Rattle.mbuf.proofs.ResizeLemmas.{SamePacketHolds, appended_holds, prepended_holds, adjusted_holds, trimmed_holds}
+use Rattle.script.proofs.PacketCalls.{stands_within}
+use Rattle.script.proofs.HeldBags.{end_holds-bag, held_by-set, cached_by, cached_by-set, IsBalanced}
 
 -- an element of the pool counts once
 pub at_most_one : (i n : ℕ) → ◌≤◌ (cond (nat_lt i n) 1 0) 1
@@ -36,21 +41,9 @@ at_most_one i n = grind (arith, nat_tests)
 abbrev near : ℕ → Member → Stack → ℕ → ℕ
 near others m s i = bag m.cache i + bag s.common i + min 1 (others + held_in m.table i)
 
--- a test for None that passes
-is_none-true : {X : Type 0} (o : Option X) → is_none o ≡ true → o ≡ None
-is_none-true None h = refl
-is_none-true (Some x) h = cc
-
--- a free slot is in the table, and nothing is in it
-free_slot-is : (table : List (Option (List Seg))) (slot : ℕ) → free_slot table ≡ Some slot → (slot < length table) × (get_or table slot None ≡ None)
-free_slot-is table slot h = let k = position-Some is_none table slot None h in (k.0, is_none-true (get_or table slot None) k.1)
-
--- a packet of a fresh element, added to a table that holds the others
-add_hold : (x i a b c d others : ℕ) (f : ℕ → ℕ) → one x i + (a + b) ≡ c + d → c + d + min 1 (others + f i) ≤ 1 → a + b + min 1 (others + (f i + one x i)) ≡ c + d + min 1 (others + f i)
-add_hold x i a b c d others f h k = elim (cases_eq x i) [
-  | inl q ↦ let w : one x i ≡ 1 = rw q (one-same i) in omega arith
-  | inr q ↦ let w = one-apart x i (λ p. q (sym p)) in omega arith
-]
+-- packets of fresh elements, which were in no other place
+add_holds : (n a b c d others held : ℕ) → n + (a + b) ≡ c + d → c + d + min 1 (others + held) ≤ 1 → a + b + min 1 (others + (held + n)) ≡ c + d + min 1 (others + held)
+add_holds n a b c d others held h k = omega (arith, h, k)
 
 -- making a packet moves its element from the cache or the common list
 fill_slot-near : (slot : ℕ) (m : Member) (s : Stack) (r : Result (List ℕ) Refusal × List ℕ × Stack) → slot < length m.table → get_or m.table slot None ≡ None →
@@ -61,7 +54,7 @@ fill_slot-near slot m s (Ok (x ∷ xs), cache, t) h e g others i k =
     let b = held_in-set m.table slot (Some (fresh_seg m.limits x ∷ [])) i h in
     let c : bag (holds_in_slot (get_or m.table slot None)) i ≡ 0 = rw e (bag-nil i) in
     let d : held_in (set m.table slot (Some (fresh_seg m.limits x ∷ []))) i ≡ held_in m.table i + one x i = omega (arith, b, c, bag-single x i) in
-    rw d (add_hold x i (bag cache i) (bag t.common i) (bag m.cache i) (bag s.common i) others (held_in m.table) (omega (arith, a, g.moved i)) k)
+    rw d (add_holds (one x i) (bag cache i) (bag t.common i) (bag m.cache i) (bag s.common i) others (held_in m.table i) (omega (arith, a, g.moved i)) k)
 fill_slot-near slot m s (Err cause, cache, t) h e g others i k = omega (arith, g.moved i)
 
 -- so does making one in a free slot, and where there is none nothing changes
@@ -72,26 +65,63 @@ alloc_in-near (Some slot) m s h others i k =
     let empty = h slot refl in
     fill_slot-near slot m s (get m.limits 1 m.cache s) empty.0 empty.1 (get-IsGot m.limits 1 m.cache s) others i k
 
--- a slot that has something is in the table
-slot_below : (table : List (Option (List Seg))) (slot : ℕ) (segs : List Seg) → get_or table slot None ≡ Some segs → slot < length table
-slot_below table slot segs e = elim (cases_lt slot (length table)) [
-  | inl h ↦ h
-  | inr h ↦ absurd (none-some segs (sym (get_or_past table slot None h) ∙ e))
-]
-
 -- freeing a packet moves its elements to the cache or the common list, but those that are held elsewhere
 free_in-near : (content : Option (List Seg)) (elsewhere : ℕ → ℕ) (slot : ℕ) (m : Member) (s : Stack) → get_or m.table slot None ≡ content → (others i : ℕ) →
     (slot < length m.table → elsewhere i ≡ others + held_in (set m.table slot None) i) →
     near others (free_in content elsewhere slot m s).1 (free_in content elsewhere slot m s).2 i ≡ near others m s i
 free_in-near None elsewhere slot m s e others i h = refl
 free_in-near (Some segs) elsewhere slot m s e others i h =
-    let l = slot_below m.table slot segs e in
+    let l = stands_within m.table slot segs e in
     let b = held_in-set m.table slot None i l in
     let c : bag (holds_in_slot (get_or m.table slot None)) i ≡ bag (holds_in_slot (Some segs)) i = ap (λ (o : Option (List Seg)). bag (holds_in_slot o) i) e in
     let d : held_in (set m.table slot None) i + bag (holds_in_slot (Some segs)) i ≡ held_in m.table i = omega (arith, b, c, bag-nil i) in
     let k : others + held_in m.table i ≡ elsewhere i + bag (holds_in_slot (Some segs)) i = omega (arith, h l, d) in
     let f = end_holds-bag m.limits elsewhere (holds_in_slot (Some segs)) (freed_nothing, m.cache, s) i in
     rw (k, ← (h l)) f
+
+-- making several moves theirs
+fill_slots-near : (n : ℕ) (m : Member) (s : Stack) (r : Result (List ℕ) Refusal × List ℕ × Stack) → n ≤ length (free_slots m.table) → IsGot n m.cache s r →
+    (others i : ℕ) → near others m s i ≤ 1 → near others (fill_slots (take n (free_slots m.table)) m r).1 (fill_slots (take n (free_slots m.table)) m r).2 i ≡ near others m s i
+fill_slots-near n m s (Ok es, cache, t) room g others i k =
+    let long : n ≡ length es = sym g.long in
+    let d = (holds_stood m.limits es m.table (omega (arith, room, long)) i).0 in
+    rw (long, d) (add_holds (bag es i) (bag cache i) (bag t.common i) (bag m.cache i) (bag s.common i) others (held_in m.table i) (g.moved i) k)
+fill_slots-near n m s (Err cause, cache, t) room g others i k = omega (arith, g.moved i)
+
+alloc_bulk-near : (n : ℕ) (m : Member) (s : Stack) (others i : ℕ) → near others m s i ≤ 1 → near others (alloc_bulk n m s).1 (alloc_bulk n m s).2 i ≡ near others m s i
+alloc_bulk-near n m s others i k = elim (cases_Bool (nat_lt (length (free_slots m.table)) n)) [
+  | inl e ↦ rw e refl
+  | inr e ↦ rw e (fill_slots-near n m s (get m.limits n m.cache s) (ltb-false (length (free_slots m.table)) n e) (get-IsGot m.limits n m.cache s) others i k)
+]
+
+-- a change of lengths moves none
+resize_to-near : (o : Option (List Seg)) (segs : List Seg) (cause : Refusal) (slot : ℕ) (m : Member) (s : Stack) (others i : ℕ) → get_or m.table slot None ≡ Some segs → ((new : List Seg) → o ≡ Some new → SamePacketHolds new segs) →
+    near others (resize_to o cause slot m).1 s i ≡ near others m s i
+resize_to-near None segs cause slot m s others i e h = refl
+resize_to-near (Some new) segs cause slot m s others i e h =
+    let b = rw e at (held_in-set m.table slot (Some new) i (stands_within m.table slot segs e)) in
+    let d : held_in (set m.table slot (Some new)) i ≡ held_in m.table i = omega (arith, b, ap (λ (es : List ℕ). bag es i) (h new refl).0) in
+    rw d refl
+
+resize_in-near : (o : Option (List Seg)) (change : List Seg → Option (List Seg)) (cause : Refusal) (slot : ℕ) (m : Member) (s : Stack) (others i : ℕ) → get_or m.table slot None ≡ o →
+    ((segs new : List Seg) → change segs ≡ Some new → SamePacketHolds new segs) → near others (resize_in o change cause slot m).1 s i ≡ near others m s i
+resize_in-near None change cause slot m s others i e h = refl
+resize_in-near (Some segs) change cause slot m s others i e h = resize_to-near (change segs) segs cause slot m s others i e (λ new f. h segs new f)
+
+-- nor does a chain
+chain_in-near : (one two : Option (List Seg)) (head tail : ℕ) (m : Member) (s : Stack) (others i : ℕ) → get_or m.table head None ≡ one → get_or m.table tail None ≡ two →
+    near others (chain_in one two head tail m).1 s i ≡ near others m s i
+chain_in-near None two head tail m s others i e f = refl
+chain_in-near (Some first) None head tail m s others i e f = refl
+chain_in-near (Some first) (Some second) head tail m s others i e f = elim (cases_Bool (head == tail)) [
+  | inl same ↦ rw same refl
+  | inr apart ↦ elim (cases_Bool (nat_lt 32 (length first + length second))) [
+    | inl long ↦ rw (apart, long) refl
+    | inr few ↦
+        let kept = KeepsHolds-chain m head tail first second (stands_within m.table head first e) (stands_within m.table tail second f) (eqb-false head tail apart) e f in
+        rw (apart, few, kept.held i) refl
+  ]
+]
 
 -- a flush moves elements from the cache to the common list
 flush_member-near : (m : Member) (s : Stack) (others i : ℕ) → near others (flush_member m s).1 (flush_member m s).2 i ≡ near others m s i
@@ -134,6 +164,20 @@ act_on-balanced pool n (Free slot) b h = with_member-balanced pool n (act_on poo
       by_others-add pool.members n (nobody pool.limits) i h,
       held_by-set pool.members n (without_packet slot (member_at pool n)) (nobody pool.limits) i h,
     )))
+act_on-balanced pool n (AllocBulk count) b h = with_member-balanced pool n (act_on pool n (AllocBulk count)).1 (act_on pool n (AllocBulk count)).2 b h
+    (λ i. alloc_bulk-near count (member_at pool n) pool.stack (by_others pool.members n (nobody pool.limits) i) i)
+act_on-balanced pool n (Append slot count) b h = with_member-balanced pool n (act_on pool n (Append slot count)).1 (act_on pool n (Append slot count)).2 b h
+    (λ i k. resize_in-near (get_or (member_at pool n).table slot None) (appended count) NoRoom slot (member_at pool n) pool.stack (by_others pool.members n (nobody pool.limits) i) i refl (appended_holds count))
+act_on-balanced pool n (Prepend slot count) b h = with_member-balanced pool n (act_on pool n (Prepend slot count)).1 (act_on pool n (Prepend slot count)).2 b h
+    (λ i k. resize_in-near (get_or (member_at pool n).table slot None) (prepended count) NoRoom slot (member_at pool n) pool.stack (by_others pool.members n (nobody pool.limits) i) i refl (prepended_holds count))
+act_on-balanced pool n (Adj slot count) b h = with_member-balanced pool n (act_on pool n (Adj slot count)).1 (act_on pool n (Adj slot count)).2 b h
+    (λ i k. resize_in-near (get_or (member_at pool n).table slot None) (adjusted count) TooShort slot (member_at pool n) pool.stack (by_others pool.members n (nobody pool.limits) i) i refl (adjusted_holds count))
+act_on-balanced pool n (Trim slot count) b h = with_member-balanced pool n (act_on pool n (Trim slot count)).1 (act_on pool n (Trim slot count)).2 b h
+    (λ i k. resize_in-near (get_or (member_at pool n).table slot None) (trimmed count) TooShort slot (member_at pool n) pool.stack (by_others pool.members n (nobody pool.limits) i) i refl (trimmed_holds count))
+act_on-balanced pool n (Chain head tail) b h = with_member-balanced pool n (act_on pool n (Chain head tail)).1 (act_on pool n (Chain head tail)).2 b h
+    (λ i k. chain_in-near (get_or (member_at pool n).table head None) (get_or (member_at pool n).table tail None) head tail (member_at pool n) pool.stack (by_others pool.members n (nobody pool.limits) i) i refl refl)
+act_on-balanced pool n (PktLen slot) b h = with_member-balanced pool n (member_at pool n) pool.stack b h (λ i k. refl)
+act_on-balanced pool n (NbSegs slot) b h = with_member-balanced pool n (member_at pool n) pool.stack b h (λ i k. refl)
 act_on-balanced pool n Flush b h = with_member-balanced pool n (act_on pool n Flush).1 (act_on pool n Flush).2 b h
     (λ i k. flush_member-near (member_at pool n) pool.stack (by_others pool.members n (nobody pool.limits) i) i)
 

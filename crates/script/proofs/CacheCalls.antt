@@ -12,8 +12,7 @@ use Rattle.mempool.specs.Caches.{threshold, Gets, Nothing, Direct, FromCache, Re
 use Rattle.script.specs.Pool.{Stack}
 use Rattle.script.specs.CacheModel.{ask, push, get, put, put_beyond, flush}
 use Rattle.script.specs.CacheLaw.{Meets}
-use Rattle.script.specs.Own.{stack_of}
-use Rattle.script.proofs.PlainCalls.{LeadsPlain}
+use Rattle.script.specs.Own.{stack_of, LeadsPlain}
 
 lt_yes : (a b : ℕ) → a < b → nat_lt a b ≡ true
 lt_yes a b h = grind (arith, nat_tests)
@@ -125,7 +124,7 @@ flushed_by s t cache calls answer left (WholePutOff p cause c a k) h =
 -- ---- the same over the lists
 
 -- the calls are requests of the stack
-abbrev AreRequests : List Call → Type 0
+abbrev pub AreRequests : List Call → Type 0
 AreRequests [] = Unit {0}
 AreRequests (GetList n answer ∷ calls) = AreRequests calls
 AreRequests (PutList list answer ∷ calls) = AreRequests calls
@@ -134,8 +133,8 @@ AreRequests (_ ∷ calls) = ⊥
 -- requests on the lists are answered by their stack
 meets : (w : ℕ) (s : Lists) (calls : List Call) (t : Lists) → AreRequests calls → LeadsPlain w s calls t → Meets (stack_of s) calls (stack_of t)
 meets w s [] t r h = ap stack_of h
-meets w s (GetList n answer ∷ calls) t r h = (stack_of h.0, asked w s n answer h.0 h.1, meets w h.0 calls t r h.2)
-meets w s (PutList list answer ∷ calls) t r h = (stack_of h.0, pushed s list answer h.0 h.1, meets w h.0 calls t r h.2)
+meets w s (GetList n answer ∷ calls) t r h = (stack_of h.0, asked w s n answer h.0 h.1, meets w h.0 calls t r h.4)
+meets w s (PutList list answer ∷ calls) t r h = (stack_of h.0, pushed s list answer h.0 h.1, meets w h.0 calls t r h.4)
 meets w s (_ ∷ calls) t r h = absurd r
 
 requests : (calls known : List Call) → calls ≡ known → AreRequests known → AreRequests calls
@@ -149,7 +148,7 @@ gets_request l cache n calls answer left (Refill p q r m more c a k) = requests 
 gets_request l cache n calls answer left (RefillRefused p q r m cause c k) = requests calls (GetList (n + l.cache - length cache) (Err cause) ∷ GetList n answer ∷ []) c tt
 gets_request l cache n calls answer left (NoRefill p q r m c k) = requests calls (GetList n answer ∷ []) c tt
 
-puts_request : (l : Limits) (cache list : List ℕ) (calls : List Call) (answer : Put) (left : List ℕ) → Puts l cache list calls answer left → AreRequests calls
+pub puts_request : (l : Limits) (cache list : List ℕ) (calls : List Call) (answer : Put) (left : List ℕ) → Puts l cache list calls answer left → AreRequests calls
 puts_request l cache list calls answer left (NothingPut z c a k) = requests calls [] c tt
 puts_request l cache list calls answer left (Bypass p c a k) = requests calls (PutList list (Ok tt) ∷ []) c tt
 puts_request l cache list calls answer left (BypassPutOff p cause c a k) = requests calls (PutList list (Err cause) ∷ []) c tt

@@ -1,5 +1,5 @@
 -- The parts of a pool's statement.
-use Rattle.std.proofs.Common.{ℕ, suc, ◌≡◌, ◌+◌, ◌-◌, ◌<◌, ◌≤◌, nat_lt, true, cond, List, [], ◌∷◌, ◌++◌, length, get_or, take, map, filter, replicate, refl, sym, ◌∙◌, ap, arith, All}
+use Rattle.std.proofs.Common.{ℕ, suc, ◌≡◌, ◌+◌, ◌-◌, ◌<◌, ◌≤◌, nat_lt, true, cond, List, [], ◌∷◌, ◌++◌, length, get_or, take, map, filter, replicate, refl, sym, ◌∙◌, ap, arith}
 use Rattle.std.specs.Prelude.{sum_by}
 use Rattle.std.specs.List.{range_with_len}
 use Rattle.std.proofs.lemmas.List.{append-nil, flat_map_more, get_or_default, map_push, take_all, take_more}
@@ -13,7 +13,8 @@ use Rattle.commons.specs.ListLaws.{hand_once_lem, hand_below_lem}
 use Rattle.commons.specs.Lists.{Lists, IsTable, held_count, place_of, nowhere}
 use Rattle.commons.proofs.Bags.{length-le}
 use Rattle.script.specs.declared.statement.Holder.TheVariants.{Worker}
-use Rattle.script.specs.Pool.{Member, held_in, held_by, nobody, slots}
+use Rattle.mbuf.specs.Members.{Member, held_in}
+use Rattle.script.specs.Pool.{held_by, nobody}
 use Rattle.script.specs.Own.{Owns}
 use Rattle.script.specs.SitePool.{IsMember}
 use Rattle.script.specs.Statements.{held_entry, holders_of}
@@ -35,7 +36,7 @@ sums_agree f g (x ∷ xs) (y ∷ ys) c d l h =
 
 -- a worker's row of the lists shows how often its packets hold an element
 row_of : (s : Lists) (k i : ℕ) (m : Member) → IsMember s k m → get_or (get_or s.holds k []) i 0 ≡ held_in m.table i
-row_of s k i m is = let same : m.number - 1 ≡ k = omega (arith, is.number) in rw same at (is.own.held i)
+row_of s k i m is = let same : m.number - 1 ≡ k = omega (arith, is.number) in rw same at (is.own.share.held i)
 
 -- the count of an element is how often the packets of the members hold it
 pub counts_are_holds : (s : Lists) (members : List Member) → IsTable s → length members ≡ s.limits.workers →
@@ -49,8 +50,8 @@ counts_are_holds s members t l each i =
 cache_short : (s : Lists) (m : Member) → IsTable s → Owns s m → length m.cache ≤ s.limits.population
 cache_short s m t o =
     length-le s.limits.population m.cache
-    (λ i. omega (arith, o.cached i, hand_once_lem s m.number i))
-    (λ i h. omega (arith, o.cached i, hand_below_lem s m.number i t h))
+    (λ i. omega (arith, o.share.cached i, hand_once_lem s m.number i))
+    (λ i h. omega (arith, o.share.cached i, hand_below_lem s m.number i t h))
 
 -- an element whose place is a count is held so often, at least once
 pub count_there : (s : Lists) (members : List Member) (places : List Place) (i count : ℕ) → IsTable s → length members ≡ s.limits.workers →
@@ -133,8 +134,3 @@ caches_short s members t each w =
     λ k l. omega (arith, cache_short s (get_or members k (nobody s.limits)) t (each k (omega arith)).own, t.pool.population) in
     let sum = sum_by-le (λ (m : Member). length m.cache) 65534 members (λ k d l. rw (get_or_default members k d (nobody s.limits) l) (short k l)) in
     omega (arith, sum, t.pool.workers)
-
--- each worker's table has all its slots
-pub tables_full : (s : Lists) (members : List Member) → AreMembers s members →
-    length members ≡ s.limits.workers → All (λ member. length member.table ≡ slots) members
-tables_full s members each w = λ k d l. rw (get_or_default members k d (nobody s.limits) l) ((each k (omega arith)).own.full)

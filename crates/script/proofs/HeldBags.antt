@@ -1,17 +1,17 @@
 -- Where elements are while packets are made and freed.
-use Rattle.std.proofs.Common.{ℕ, ◌≡◌, ◌≢◌, ◌+◌, ◌<◌, ◌==◌, inl, inr, nat_lt, cond, if◌then◌else◌, List, [], ◌∷◌, length, get_or, set, Option, None, refl, sym, arith}
+use Rattle.std.proofs.Common.{ℕ, ◌≡◌, ◌≢◌, ◌+◌, ◌<◌, ◌==◌, inl, inr, nat_lt, cond, if◌then◌else◌, List, [], ◌∷◌, length, get_or, set, refl, sym, arith}
 use Rattle.std.specs.Prelude.{min, sum_by}
 use Rattle.std.proofs.lemmas.List.Sums.{sum_by-set}
 use Rattle.std.proofs.lemmas.Bool.{cases_Bool, cases_eq, eqb-true, eqb-false}
 use Rattle.commons.specs.Bag.{bag, one}
 use Rattle.commons.specs.declared.limits.Limits.{Limits}
-use Rattle.commons.specs.declared.packet.Seg.{Seg}
 use Rattle.commons.proofs.Bags.{bag-nil, bag-cons, bag-single, one-same}
 use Rattle.commons.proofs.Places.{one-apart}
 use Rattle.mempool.specs.declared.put.Put.{Put}
 use Rattle.mempool.specs.declared.put.Put.TheVariants.{Kept, Flushed, PutOff}
-use Rattle.script.specs.declared.replies.Freed.{Freed}
-use Rattle.script.specs.Pool.{Stack, Member, Pool, holds_in_slot, held_in, held_by}
+use Rattle.mbuf.specs.declared.freed.Freed.{Freed}
+use Rattle.mbuf.specs.Members.{Member, held_in}
+use Rattle.script.specs.Pool.{Stack, Pool, held_by}
 use Rattle.script.specs.CacheModel.{put}
 use Rattle.script.specs.PacketModel.{put_back, end_holds}
 use Rattle.script.proofs.CacheBags.{put-IsPut}
@@ -64,11 +64,6 @@ pub end_holds-bag : (l : Limits) (others : ℕ → ℕ) (es : List ℕ) (so_far 
 end_holds-bag l others [] so_far i = omega (arith, bag-nil i)
 end_holds-bag l others (e ∷ es) so_far i =
     omega (arith, end_holds-bag l others es (next_hold l others e es so_far) i, next_hold-bag l others e es so_far i, bag-cons e es i)
-
--- how often a table holds an element, once a slot has changed
-pub held_in-set : (table : List (Option (List Seg))) (slot : ℕ) (content : Option (List Seg)) (i : ℕ) → slot < length table →
-    held_in (set table slot content) i + bag (holds_in_slot (get_or table slot None)) i ≡ held_in table i + bag (holds_in_slot content) i
-held_in-set table slot content i h = sum_by-set (λ (s : Option (List Seg)). bag (holds_in_slot s) i) table slot content None h
 
 -- how often all members hold it, once a member has changed
 pub held_by-set : (members : List Member) (n : ℕ) (m d : Member) (i : ℕ) → n < length members →

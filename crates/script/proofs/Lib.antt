@@ -3,6 +3,7 @@ pub mod CacheBags
 pub mod CacheCalls
 pub mod CommandLemmas
 pub mod CutLemmas
+pub mod EndedHolds
 pub mod Entries
 pub mod GapLemmas
 pub mod GrammarLemmas
@@ -15,7 +16,7 @@ pub mod Members
 pub mod NameLemmas
 pub mod NewPools
 pub mod NumberLemmas
-pub mod PacketTables
+pub mod PacketCalls
 pub mod PlainCalls
 pub mod PoolLemmas
 pub mod PoolLineLemmas

@@ -1,6 +1,5 @@
 -- A new pool: each of its workers has nothing, and owns its part of the lists.
-use Rattle.std.proofs.Common.{ℕ, zero, suc, ◌≡◌, ◌+◌, ◌-◌, ◌<◌, ◌≤◌, inl, inr, List, [], ◌∷◌, ◌++◌, add-one, length, get_or, replicate, Option, None, refl, sym, ◌∙◌, ap, arith, All, append_assoc}
-use Rattle.std.specs.Prelude.{IsTrue}
+use Rattle.std.proofs.Common.{ℕ, zero, suc, ◌≡◌, ◌+◌, ◌-◌, ◌<◌, ◌≤◌, inl, inr, List, [], ◌∷◌, ◌++◌, add-one, length, get_or, replicate, Option, None, refl, sym, ◌∙◌, ap, arith, append_assoc}
 use Rattle.std.proofs.lemmas.List.{get_or_past, get_or-replicate, length-replicate}
 use Rattle.std.proofs.lemmas.List.Folds.{sum_by-replicate}
 use Rattle.std.proofs.lemmas.Bool.{cases_lt}
@@ -14,8 +13,8 @@ use Rattle.commons.specs.declared.refusal.Refusal.TheVariants.{BadPool, OutOfMem
 use Rattle.commons.specs.Lists.{opening, nowhere, in_hand}
 use Rattle.commons.proofs.Bags.{bag-nil}
 use Rattle.mempool.specs.WorkerCache.{IsWorkerCause}
-use Rattle.script.specs.Pool.{Member, new_members, nobody, held_in, holds_in_slot, slots}
-use Rattle.script.specs.Own.{is_single}
+use Rattle.mbuf.specs.Members.{Member, held_in, holds_in_slot, own_in, own_in_slot, slots}
+use Rattle.script.specs.Pool.{new_members, nobody}
 use Rattle.script.specs.SitePool.{IsMember}
 
 -- a worker that is new
@@ -71,8 +70,8 @@ nothing_held rows n k i =
 empty_slots : (n i : ℕ) → held_in (replicate n None) i ≡ 0
 empty_slots n i = sum_by-replicate (λ (slot : Option (List Seg)). bag (holds_in_slot slot) i) n None ∙ rw (bag-nil i) (omega arith)
 
-all_single : (n : ℕ) → All (λ slot. IsTrue (is_single slot)) (replicate n None)
-all_single n k d b = rw (get_or-replicate {A = Option (List Seg)} n k None d (rw length-replicate at b)) refl
+no_own : (n i : ℕ) → own_in (replicate n None) i ≡ 0
+no_own n i = sum_by-replicate (λ (slot : Option (List Seg)). bag (own_in_slot slot) i) n None ∙ rw (bag-nil i) (omega arith)
 
 pub new_member_owns : (l : Limits) (n : ℕ) → n < l.workers → IsMember (opening l) n (get_or (new_members l 1 l.workers) n (nobody l))
 new_member_owns l n b =
@@ -81,12 +80,13 @@ new_member_owns l n b =
     (record {
       number = refl;
       own = record {
-        limits = refl;
         first = omega arith;
         last = omega arith;
-        cached = λ i. nothing_in_hand l.population (n + 1) i ∙ sym (bag-nil i);
-        held = λ i. nothing_held l.workers l.population (n + 1 - 1) i ∙ sym (empty_slots slots i);
-        full = length-replicate {A = Option (List Seg)} slots None;
-        single = all_single slots;
+        share = record {
+          limits = refl;
+          cached = λ i. nothing_in_hand l.population (n + 1) i ∙ sym (bag-nil i);
+          held = λ i. nothing_held l.workers l.population (n + 1 - 1) i ∙ sym (empty_slots slots i);
+          headed = λ i. omega (arith, no_own slots i);
+        };
       };
     })

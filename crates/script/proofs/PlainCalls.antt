@@ -1,14 +1,11 @@
 -- The calls of a body over any shared pool, at the lists of one worker.
-use Rattle.std.proofs.Common.{Result, Ok, Err, OnOk, OnErr, ℕ, ◌≡◌, List, [], ◌∷◌, refl, sym, ◌∙◌, ap, subst}
+use Rattle.std.proofs.Common.{ℕ, ◌≡◌, List, [], ◌∷◌, ◌++◌, Ok, Err, refl, sym, ◌∙◌, ap, subst}
 use Rattle.commons.specs.declared.plain.PlainCommons.{PlainCommons}
 use Rattle.commons.specs.declared.limits.Limits.{Limits}
-use Rattle.commons.specs.Calls.{Call, Reading, Made, Leads, calls_of}
-use Rattle.commons.specs.Lists.{Lists, KeepsOthers, DidPlain, DidOnLists}
-
--- the calls lead a worker's lists from one state to the other
-abbrev pub LeadsPlain : ℕ → Lists → List Call → Lists → Type 0
-LeadsPlain w before [] after = before ≡ after
-LeadsPlain w before (call ∷ calls) after = (between : Lists) × DidPlain w before call between × LeadsPlain w between calls after
+use Rattle.commons.specs.declared.refusal.Refusal.TheVariants.{NoEntries, HeadSpent}
+use Rattle.commons.specs.Calls.{Call, GetList, PutList, Claim, Lower, CommonCount, Reading, Made, Leads, calls_of}
+use Rattle.commons.specs.Lists.{Lists, IsTable, KeepsOthers, DidPlain, DidOnLists}
+use Rattle.script.specs.Own.{LeadsPlain, StepsAlone}
 
 -- what the trait's relation is at the lists
 abbrev pub DidAt : PlainCommons → Call → List Reading → PlainCommons → Type 0
@@ -46,14 +43,41 @@ plainly s (m ∷ made) t h =
     record {
       same = rest.same ∙ h.1.0;
       worker = rest.worker ∙ h.1.1;
-      led = (h.0.site.now, h.1.2.did, subst (λ w. LeadsPlain w h.0.site.now (calls_of made) t.site.now) h.1.1 rest.led);
+      led = (h.0.site.now, h.1.2.did, h.1.2.before, h.1.2.after, subst (λ w. LeadsPlain w h.0.site.now (calls_of made) t.site.now) h.1.1 rest.led);
       others = KeepsOthers-trans s.worker s.site.now h.0.site.now t.site.now h.1.2.others (subst (λ w. KeepsOthers w h.0.site.now t.site.now) h.1.1 rest.others);
     }
 
--- a fact for one outcome, for the number of a worker that is the same
-pub on_ok : {E : Type 0} (r : Result (Unit {0}) E) (P : ℕ → Type 0) (v w : ℕ) → v ≡ w → OnOk r (P v) → OnOk r (P w)
-on_ok r P v w e h = subst (λ (x : ℕ). OnOk r (P x)) e h
+-- what leads on leads through some state
+pub LeadsPlain-split : (w : ℕ) (s : Lists) (a b : List Call) (t : Lists) → LeadsPlain w s (a ++ b) t → (between : Lists) × LeadsPlain w s a between × LeadsPlain w between b t
+LeadsPlain-split w s [] b t h = (s, refl, h)
+LeadsPlain-split w s (call ∷ a) b t h =
+    let rest = LeadsPlain-split w h.0 a b t h.4 in
+    (rest.0, (h.0, h.1, h.2, h.3, rest.1), rest.2)
 
-pub on_err : {E : Type 0} (r : Result (Unit {0}) E) (P Q : Type 0) → (P → Q) → OnErr r P → OnErr r Q
-on_err (Ok x) P Q f h = tt
-on_err (Err x) P Q f h = f h
+-- the lists stay a table
+pub LeadsPlain-table : (w : ℕ) (s : Lists) (calls : List Call) (t : Lists) → IsTable s → LeadsPlain w s calls t → IsTable t
+LeadsPlain-table w s [] t table h = subst IsTable h table
+LeadsPlain-table w s (call ∷ calls) t table h = LeadsPlain-table w h.0 calls t h.3 h.4
+
+-- and stay those of their pool
+did_limits : (w : ℕ) (s : Lists) (call : Call) (t : Lists) → DidPlain w s call t → t.limits ≡ s.limits
+did_limits w s (GetList n (Ok xs)) t d = ap (λ (x : Lists). x.limits) d.3
+did_limits w s (GetList n (Err NoEntries)) t d = ap (λ (x : Lists). x.limits) d.1
+did_limits w s (GetList n (Err HeadSpent)) t d = ap (λ (x : Lists). x.limits) d.2
+did_limits w s (GetList n (Err _)) t d = absurd d
+did_limits w s (PutList list (Ok _)) t d = ap (λ (x : Lists). x.limits) d.1
+did_limits w s (PutList list (Err HeadSpent)) t d = ap (λ (x : Lists). x.limits) d.1
+did_limits w s (PutList list (Err _)) t d = absurd d
+did_limits w s (Claim i) t d = ap (λ (x : Lists). x.limits) d
+did_limits w s (Lower i answer) t d = ap (λ (x : Lists). x.limits) d.2
+did_limits w s (CommonCount n) t d = ap (λ (x : Lists). x.limits) d.1
+
+pub LeadsPlain-limits : (w : ℕ) (s : Lists) (calls : List Call) (t : Lists) → LeadsPlain w s calls t → t.limits ≡ s.limits
+LeadsPlain-limits w s [] t h = ap (λ (x : Lists). x.limits) (sym h)
+LeadsPlain-limits w s (call ∷ calls) t h = LeadsPlain-limits w h.0 calls t h.4 ∙ did_limits w s call h.0 h.1
+
+-- calls of one worker are its own: what the others have stays
+pub alone : (c : PlainCommons) (made : List Made) (d : PlainCommons) → IsTable d.site.now → Leads DidAt limits_at c made d → StepsAlone c.worker c.site.now d.site.now
+alone c made d table h =
+    let p = plainly c made d h in
+    record { limits = LeadsPlain-limits c.worker c.site.now (calls_of made) d.site.now p.led; after = table; others = p.others }

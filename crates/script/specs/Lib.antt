@@ -13,12 +13,10 @@ pub mod Printed
 pub mod Reading
 pub mod Replay
 pub mod ReplyText
-pub mod Single
 pub mod SitePool
 pub mod Standing
 pub mod Stands
 pub mod StatementText
 pub mod Statements
-pub mod Table
 pub mod Text
 pub mod Told

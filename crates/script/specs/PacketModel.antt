@@ -1,27 +1,22 @@
 -- The reference model of a worker's packets.
-use Rattle.std.specs.Prelude.{ℕ, ◌+◌, ◌-◌, ◌==◌, ◌&&◌, nat_le, if◌then◌else◌, min, List, [], ◌∷◌, length, slice_index_or, slice_set, position, is_none, Option, Some, None, Result, Ok, Err}
+use Rattle.std.specs.Prelude.{ℕ, ◌+◌, ◌-◌, ◌==◌, ◌&&◌, nat_lt, nat_le, if◌then◌else◌, List, [], ◌∷◌, ◌++◌, length, take, slice_index_or, slice_set, Option, Some, None, Result, Ok, Err}
 use Rattle.commons.specs.Bag.{bag}
 use Rattle.commons.specs.declared.limits.Limits.{Limits}
 use Rattle.commons.specs.declared.packet.Seg.{Seg}
 use Rattle.commons.specs.declared.refusal.Refusal.{Refusal}
-use Rattle.commons.specs.declared.refusal.Refusal.TheVariants.{NoEntries, NoSuchPacket, PacketsFull, StrangerShare}
+use Rattle.commons.specs.declared.refusal.Refusal.TheVariants.{NoEntries, NoRoom, NoSuchPacket, PacketsFull, SamePacket, StrangerShare, TooManySegs, TooShort}
 use Rattle.mempool.specs.declared.put.Put.{Put}
-use Rattle.mempool.specs.declared.put.Put.TheVariants.{Kept, Flushed, PutOff}
-use Rattle.script.specs.declared.replies.Act.{Act}
-use Rattle.script.specs.declared.replies.Act.TheVariants.{Alloc, Free, Flush}
-use Rattle.script.specs.declared.replies.Freed.{Freed}
-use Rattle.script.specs.declared.replies.Reply.{Reply}
-use Rattle.script.specs.declared.replies.Reply.TheVariants as reply
-use Rattle.script.specs.Pool.{Stack, Member, Pool, holds_in_slot, held_by, member_at, with_member}
+use Rattle.mbuf.specs.declared.acts.Act.{Act}
+use Rattle.mbuf.specs.declared.acts.Act.TheVariants.{Alloc, AllocBulk, Free, Append, Prepend, Adj, Trim, Chain, PktLen, NbSegs, Flush}
+use Rattle.mbuf.specs.declared.acts.Reply.{Reply}
+use Rattle.mbuf.specs.declared.acts.Reply.TheVariants as reply
+use Rattle.mbuf.specs.declared.freed.Freed.{Freed}
+use Rattle.mbuf.specs.Acts.{allocated_bulk, told_len, told_segs}
+use Rattle.mbuf.specs.Lengths.{pkt_len, appended, prepended, adjusted, trimmed}
+use Rattle.mbuf.specs.Members.{Member, holds_in_slot}
+use Rattle.mbuf.specs.PacketRules.{fresh_seg, free_slot, free_slots, stood, freed_nothing, counted, of_packet}
+use Rattle.script.specs.Pool.{Stack, Pool, held_by, member_at, with_member}
 use Rattle.script.specs.CacheModel.{get, put, flush}
-
--- the segment of a fresh packet
-abbrev pub fresh_seg : Limits → ℕ → Seg
-fresh_seg l e = record { elem = e; base = None; data_off = min 128 l.buf; data_len = 0; buf_len = l.buf }
-
--- the lowest free slot
-abbrev pub free_slot : List (Option (List Seg)) → Option ℕ
-free_slot table = position is_none table
 
 -- A get of one element fills the slot. (A get that is met gives as many elements as were asked for, so its list
 -- isn't empty.)
@@ -38,11 +33,21 @@ alloc_in (Some slot) m s = fill_slot slot m (get m.limits 1 m.cache s)
 abbrev pub alloc : Member → Stack → Reply × Member × Stack
 alloc m s = alloc_in (free_slot m.table) m s
 
+-- a get of several elements fills so many slots
+abbrev pub fill_slots : List ℕ → Member → Result (List ℕ) Refusal × List ℕ × Stack → Reply × Member × Stack
+fill_slots slots m (Ok es, cache, s) =
+    (allocated_bulk (Ok slots) (stood m.limits es slots m.table), record m { cache = cache; table = stood m.limits es slots m.table }, s)
+fill_slots slots m (Err cause, cache, s) = (reply.Refused cause, record m { cache = cache }, s)
+
+-- the lowest free slots are filled in the order of the get, where there are so many
+abbrev pub alloc_bulk : ℕ → Member → Stack → Reply × Member × Stack
+alloc_bulk n m s =
+    if nat_lt (length (free_slots m.table)) n then (reply.Refused PacketsFull, m, s)
+    else fill_slots (take n (free_slots m.table)) m (get m.limits n m.cache s)
+
 -- what freeing has done once one element more was put back
 abbrev pub put_back : Freed → Put × List ℕ × Stack → Freed × List ℕ × Stack
-put_back freed (Kept, cache, s) = (record freed { back = freed.back + 1 }, cache, s)
-put_back freed (Flushed k, cache, s) = (record freed { back = freed.back + 1; flushed = freed.flushed + k }, cache, s)
-put_back freed (PutOff k e, cache, s) = (record freed { back = freed.back + 1; put_off = Some (k, e) }, cache, s)
+put_back freed (answer, cache, s) = (counted freed answer, cache, s)
 
 -- The holds end in order. After each, the element goes back into the cache where nothing holds it any more:
 -- none of the holds that are still to end, and no other packet.
@@ -50,9 +55,6 @@ abbrev pub end_holds : Limits → (ℕ → ℕ) → List ℕ → Freed × List �
 end_holds l others [] so_far = so_far
 end_holds l others (e ∷ es) so_far =
     end_holds l others es (if bag es e + others e == 0 then put_back so_far.0 (put l (e ∷ []) so_far.1 so_far.2) else so_far)
-
-abbrev pub freed_nothing : Freed
-freed_nothing = record { back = 0; flushed = 0; put_off = None }
 
 abbrev pub free_in : Option (List Seg) → (ℕ → ℕ) → ℕ → Member → Stack → Reply × Member × Stack
 free_in None others slot m s = (reply.Refused NoSuchPacket, m, s)
@@ -63,6 +65,38 @@ free_in (Some segs) others slot m s =
 -- others is how often other packets hold each element
 abbrev pub free : (ℕ → ℕ) → ℕ → Member → Stack → Reply × Member × Stack
 free others slot m s = free_in (slice_index_or m.table slot None) others slot m s
+
+-- a packet takes the place of the one in the slot, if it could be made
+abbrev pub resize_to : Option (List Seg) → Refusal → ℕ → Member → Reply × Member
+resize_to None cause slot m = (reply.Refused cause, m)
+resize_to (Some segs) cause slot m = (reply.Len (pkt_len segs), record m { table = slice_set m.table slot (Some segs) })
+
+abbrev pub resize_in : Option (List Seg) → (List Seg → Option (List Seg)) → Refusal → ℕ → Member → Reply × Member
+resize_in None change cause slot m = (reply.Refused NoSuchPacket, m)
+resize_in (Some segs) change cause slot m = resize_to (change segs) cause slot m
+
+-- a change of the lengths of the packet in a slot, which is refused for this cause
+abbrev pub resize : (List Seg → Option (List Seg)) → Refusal → ℕ → Member → Reply × Member
+resize change cause slot m = resize_in (slice_index_or m.table slot None) change cause slot m
+
+-- two packets become one, in the first one's slot
+abbrev pub chain_in : Option (List Seg) → Option (List Seg) → ℕ → ℕ → Member → Reply × Member
+chain_in None second head tail m = (reply.Refused NoSuchPacket, m)
+chain_in (Some first) None head tail m = (reply.Refused NoSuchPacket, m)
+chain_in (Some first) (Some second) head tail m =
+    if head == tail then (reply.Refused SamePacket, m)
+    else if nat_lt 32 (length first + length second) then (reply.Refused TooManySegs, m)
+    else (
+      reply.Chained (length (first ++ second)) (pkt_len (first ++ second)),
+      record m { table = slice_set (slice_set m.table head (Some (first ++ second))) tail None },
+    )
+
+abbrev pub chain : ℕ → ℕ → Member → Reply × Member
+chain head tail m = chain_in (slice_index_or m.table head None) (slice_index_or m.table tail None) head tail m
+
+-- what changes no element's place leaves the stack
+abbrev pub beside : Stack → Reply × Member → Reply × Member × Stack
+beside s done = (done.0, done.1, s)
 
 -- a flush changes the worker's cache, and none of its packets
 abbrev pub flushed : Member → Put × List ℕ × Stack → Reply × Member × Stack
@@ -79,20 +113,23 @@ without_packet slot m = record m { table = slice_set m.table slot None }
 abbrev pub held_elsewhere : Pool → ℕ → ℕ → ℕ → ℕ
 held_elsewhere pool n slot i = held_by (slice_set pool.members n (without_packet slot (member_at pool n))) i
 
--- what a worker does, where this is how often others hold each element
-abbrev pub member_act : Act → (ℕ → ℕ) → Member → Stack → Reply × Member × Stack
+-- What a worker does. Where a packet is freed, others is how often the packets that stay hold each element; the
+-- other acts don't ask.
+abbrev pub member_act : Act → (ℕ → ℕ → ℕ) → Member → Stack → Reply × Member × Stack
 member_act Alloc others m s = alloc m s
-member_act (Free slot) others m s = free others slot m s
+member_act (AllocBulk n) others m s = alloc_bulk n m s
+member_act (Free slot) others m s = free (others slot) slot m s
+member_act (Append slot n) others m s = beside s (resize (appended n) NoRoom slot m)
+member_act (Prepend slot n) others m s = beside s (resize (prepended n) NoRoom slot m)
+member_act (Adj slot n) others m s = beside s (resize (adjusted n) TooShort slot m)
+member_act (Trim slot n) others m s = beside s (resize (trimmed n) TooShort slot m)
+member_act (Chain head tail) others m s = beside s (chain head tail m)
+member_act (PktLen slot) others m s = (told_len (of_packet pkt_len (slice_index_or m.table slot None)), m, s)
+member_act (NbSegs slot) others m s = (told_segs (of_packet length (slice_index_or m.table slot None)), m, s)
 member_act Flush others m s = flush_member m s
 
--- how often the packets that stay hold each element; only a free takes one away and asks
-abbrev pub held_outside : Pool → ℕ → Act → ℕ → ℕ
-held_outside pool n Alloc i = 0
-held_outside pool n (Free slot) i = held_elsewhere pool n slot i
-held_outside pool n Flush i = 0
-
 abbrev pub act_on : Pool → ℕ → Act → Reply × Member × Stack
-act_on pool n act = member_act act (held_outside pool n act) (member_at pool n) pool.stack
+act_on pool n act = member_act act (held_elsewhere pool n) (member_at pool n) pool.stack
 
 -- the reply to what a worker is asked to do, and the pool afterwards; a worker outside the pool does nothing
 abbrev pub perform : Pool → ℕ → Act → Reply × Pool

@@ -6,9 +6,9 @@ use Rattle.commons.specs.declared.refusal.Refusal.TheVariants.{NoSuchPacket}
 use Rattle.script.specs.declared.commands.Command.{Command}
 use Rattle.script.specs.declared.commands.Command.TheVariants as command
 use Rattle.script.specs.declared.commands.Line.{Line}
-use Rattle.script.specs.declared.replies.Act.TheVariants.{Alloc, Free, Flush}
-use Rattle.script.specs.declared.replies.Reply.{Reply}
-use Rattle.script.specs.declared.replies.Reply.TheVariants.{Allocated, Freed as WasFreed, Put as WasPut, Refused}
+use Rattle.mbuf.specs.declared.acts.Act.TheVariants.{Alloc, Free, Flush}
+use Rattle.mbuf.specs.declared.acts.Reply.{Reply}
+use Rattle.mbuf.specs.declared.acts.Reply.TheVariants.{Allocated, Freed as WasFreed, Refused}
 use Rattle.script.specs.Pool.{Pool, new_pool}
 use Rattle.script.specs.PacketModel.{perform}
 
@@ -28,16 +28,12 @@ named worker name slot stands other_worker other_name = if other_worker == worke
 -- an alloc that is met gives its name the new packet's slot
 abbrev pub stands_after_alloc : ℕ → List ℕ → Reply → (ℕ → List ℕ → Option ℕ) → ℕ → List ℕ → Option ℕ
 stands_after_alloc worker name (Allocated slot elem) stands = named worker name (Some slot) stands
-stands_after_alloc worker name (WasFreed freed) stands = stands
-stands_after_alloc worker name (WasPut put) stands = stands
-stands_after_alloc worker name (Refused cause) stands = stands
+stands_after_alloc worker name _ stands = stands
 
 -- and a free that is met takes it away
 abbrev pub stands_after_free : ℕ → List ℕ → Reply → (ℕ → List ℕ → Option ℕ) → ℕ → List ℕ → Option ℕ
-stands_after_free worker name (Allocated slot elem) stands = stands
 stands_after_free worker name (WasFreed freed) stands = named worker name None stands
-stands_after_free worker name (WasPut put) stands = stands
-stands_after_free worker name (Refused cause) stands = stands
+stands_after_free worker name _ stands = stands
 
 abbrev pub alloc_as : ℕ → List ℕ → Run → Reply × Run
 alloc_as worker name run =

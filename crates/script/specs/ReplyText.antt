@@ -1,12 +1,13 @@
 -- The line that answers a command.
-use Rattle.std.specs.Prelude.{ℕ, List, [], ◌++◌, Option, Some, None, codes, decimal}
+use Rattle.std.specs.Prelude.{ℕ, List, [], ◌++◌, Option, Some, None, codes, decimal, flat_map}
 use Rattle.commons.specs.declared.refusal.Refusal.{Refusal}
 use Rattle.commons.specs.Refusals.{name_of, number_of}
 use Rattle.mempool.specs.declared.put.Put.{Put}
 use Rattle.mempool.specs.declared.put.Put.TheVariants as puts
-use Rattle.script.specs.declared.replies.Freed.{Freed}
-use Rattle.script.specs.declared.replies.Reply.{Reply}
-use Rattle.script.specs.declared.replies.Reply.TheVariants as replies
+use Rattle.mbuf.specs.declared.acts.NewPacket.{NewPacket}
+use Rattle.mbuf.specs.declared.acts.Reply.{Reply}
+use Rattle.mbuf.specs.declared.acts.Reply.TheVariants as replies
+use Rattle.mbuf.specs.declared.freed.Freed.{Freed}
 
 -- the last push that was refused, and why; nothing where none was
 unfoldable pub put_off_text : Option (ℕ × Refusal) → List ℕ
@@ -25,10 +26,19 @@ put_text puts.Kept = codes "ok kept"
 put_text (puts.Flushed count) = codes "ok flushed " ++ decimal count
 put_text (puts.PutOff count refusal) = codes "ok putoff " ++ decimal count ++ codes " " ++ name_of refusal
 
--- a reply: the new packet's element, what freeing or a flush did, or the refusal's number and name
+-- the elements of new packets, a space before each
+abbrev pub elements_text : List NewPacket → List ℕ
+elements_text packets = flat_map (λ packet. codes " " ++ decimal packet.elem) packets
+
+-- A reply: the elements of the new packets, what freeing or a flush did, a length in bytes, a number of segments,
+-- of a chain both, or the refusal's number and name.
 unfoldable pub reply_text : Reply → List ℕ
 reply_text (replies.Allocated slot elem) = codes "ok " ++ decimal elem
+reply_text (replies.Bulk packets) = codes "ok" ++ elements_text packets.items
 reply_text (replies.Freed freed) = freed_text freed
+reply_text (replies.Len len) = codes "ok " ++ decimal len
+reply_text (replies.Segs segs) = codes "ok " ++ decimal segs
+reply_text (replies.Chained segs len) = codes "ok " ++ decimal segs ++ codes " " ++ decimal len
 reply_text (replies.Put put) = put_text put
 reply_text (replies.Refused refusal) =
     codes "refused " ++ decimal (number_of refusal) ++ codes " " ++ name_of refusal

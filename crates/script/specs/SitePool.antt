@@ -1,7 +1,8 @@
 -- How a `SitePool` is kept. No public clause cites this module.
 use Rattle.std.specs.Prelude.{ℕ, ◌≡◌, ◌+◌, ◌<◌, length, slice_index_or}
 use Rattle.commons.specs.Lists.{Lists, IsTable}
-use Rattle.script.specs.Pool.{Member, Pool, nobody}
+use Rattle.mbuf.specs.Members.{Member}
+use Rattle.script.specs.Pool.{Pool, nobody}
 use Rattle.script.specs.Own.{stack_of, Owns}
 use Rattle.script.specs.declared.site_pool.SitePool.TheInside.{Inside}
 

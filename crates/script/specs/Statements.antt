@@ -9,7 +9,8 @@ use Rattle.script.specs.declared.statement.PlacedPacket.{PlacedPacket}
 use Rattle.script.specs.declared.statement.Held.{Held}
 use Rattle.script.specs.declared.statement.Holder.{Holder}
 use Rattle.script.specs.declared.statement.Holder.TheVariants.{Worker, Desk}
-use Rattle.script.specs.Pool.{Member, Pool, holds_of_packet, held_in, held_by}
+use Rattle.mbuf.specs.Members.{Member, holds_of_packet, held_in}
+use Rattle.script.specs.Pool.{Pool, held_by}
 
 -- the packets of a worker's table, the first of its slots having this number
 abbrev pub packets_from : ℕ → ℕ → List (Option (List Seg)) → List PlacedPacket

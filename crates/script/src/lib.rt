@@ -9,7 +9,6 @@ mod made_names;
 mod name;
 mod names;
 mod number;
-mod packets;
 pub mod parse;
 mod placing;
 mod pool_line;

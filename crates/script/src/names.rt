@@ -3,7 +3,7 @@
 ghost use Rattle.std.specs.Prelude.{◌≡◌, ℕ, List, None, Some, OnOk};
 ghost use Rattle.script.specs.Replay.{named};
 
-use crate::replies::Pid;
+use mbuf::packets::Pid;
 use std::alloc::{AllocError, Global};
 use std::collections::HashMap;
 

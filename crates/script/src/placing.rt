@@ -1,17 +1,17 @@
 //! Where each element of a pool is.
 
-ghost use Rattle.std.specs.Prelude.{All, ◌≡◌, ◌<◌, ◌≤◌, ◌++◌, ℕ, IfOk, filter, flat_map, length, map, nat_lt, replicate, slice_index_or, sum_by};
+ghost use Rattle.std.specs.Prelude.{◌≡◌, ◌<◌, ◌≤◌, ◌++◌, ℕ, IfOk, filter, flat_map, length, map, nat_lt, replicate, slice_index_or, sum_by};
 ghost use Rattle.std.specs.List.{range_with_len};
 ghost use Rattle.script.specs.Own.{stack_of};
-ghost use Rattle.script.specs.Pool.{held_by, nobody, slots};
+ghost use Rattle.script.specs.Pool.{held_by, nobody};
 ghost use Rattle.script.specs.SitePool.{IsMember};
 ghost use Rattle.script.specs.Statements.{held_entry, holders_of, packets_of, statement_of};
 
-use crate::packets::Packets;
 use crate::statement::{Held, Holder, PlacedPacket, Statement};
 use commons::place::Place;
 use commons::seq::Seq;
 use commons::site::PlainSite;
+use mbuf::packets::{Packets, SLOTS};
 use std::alloc::{AllocError, Global};
 
 /// Where each element is of the pool that has these lists and these workers.
@@ -78,7 +78,6 @@ fn in_caches(members: &[Packets]) -> u64
 
 /// The packets by worker and slot.
 fn packets(alloc: Global, members: &[Packets]) -> Result<Seq<PlacedPacket>, AllocError>
-    requires { All (λ member. length member.table ≡ slots) members.now }
     ensures { IfOk result (λ s. s ≡ flat_map packets_of members.now) }
 {
     let mut placed = Vec::new(alloc);
@@ -94,15 +93,15 @@ fn place_packets(
     member: &Packets,
     placed: &mut Vec<PlacedPacket>,
 ) -> Result<(), AllocError>
-    requires { length member.now.table ≡ slots }
     ensures { IfOk result (λ _. placed.new.items ≡ placed.old.items ++ packets_of member.now) }
 {
-    for (slot, packet) in member.table().iter().enumerate() {
-        if let Some(packet) = packet {
+    member.has_slots();
+    for slot in 0..SLOTS as u32 {
+        if let Some(packet) = member.place(slot) {
             let segs = copied(alloc, packet.segs())?;
             placed.push(PlacedPacket {
-                worker: member.number(),
-                slot: slot as u32,
+                worker: member.worker(),
+                slot,
                 segs,
             })?;
         }
@@ -145,7 +144,7 @@ fn holders(
 {
     let mut holders = Vec::new(alloc);
     for member in members {
-        let number = member.number();
+        let number = member.worker();
         hold_often(
             &mut holders,
             Holder::Worker(number),

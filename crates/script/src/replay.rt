@@ -5,10 +5,10 @@ ghost use Rattle.script.specs.Statements.{statement_of, ListsEachOnce};
 
 use crate::commands::{Command, Line, Script};
 use crate::names::Names;
-use crate::replies::{Act, Reply};
 use crate::site_pool::SitePool;
 use crate::statement::Statement;
 use commons::refusal::Refusal;
+use mbuf::acts::{Act, Reply};
 use std::alloc::{AllocError, Global};
 
 /// The reply to each command of a script, with the number of its line, and the statement of its

@@ -9,9 +9,9 @@ ghost use Rattle.script.specs.Printed.{printed_for, IsPrintedFor};
 use crate::commands::Script;
 use crate::parse::parse;
 use crate::replay::replay;
-use crate::replies::Reply;
 use crate::texts::{push_reply, statement_text};
 use commons::refusal::Refusal;
+use mbuf::acts::Reply;
 use std::alloc::Global;
 
 /// All that the replay of a script prints: a line for the reply to each command, and then the

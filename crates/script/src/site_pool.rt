@@ -1,18 +1,20 @@
-ghost use Rattle.std.specs.Prelude.{◌≡◌, ◌≤◌, ◌+◌, IfOk, IfErr};
+ghost use Rattle.std.specs.Prelude.{◌≡◌, ◌≤◌, ◌+◌, List, IfOk, IfErr};
 ghost use Rattle.commons.specs.Bounds.{IsPool};
 ghost use Rattle.commons.specs.Lists.{IsMakeCause};
-ghost use Rattle.script.specs.Own.{stack_of, left_of, Owns, StepsAlone};
+ghost use Rattle.commons.specs.Calls.{Call};
+ghost use Rattle.mbuf.specs.Acts.{Performs};
+ghost use Rattle.script.specs.Own.{LeadsPlain, Owns, StepsAlone};
 ghost use Rattle.script.specs.Pool.{new_members};
-ghost use Rattle.script.specs.PacketModel.{member_act};
 
-use crate::packets::Packets;
 use crate::placing;
-use crate::replies::{Act, Reply};
 use crate::statement::Statement;
 use commons::limits::Limits;
 use commons::plain::PlainCommons;
 use commons::refusal::Refusal;
 use commons::site::PlainSite;
+use mbuf::acts;
+use mbuf::acts::{Act, Reply};
+use mbuf::packets::Packets;
 use std::alloc::Global;
 use std::marker::Model;
 
@@ -93,21 +95,28 @@ impl SitePool {
     }
 }
 
+/// Lets a worker's packets act on its part of the lists.
+fn act_plain(packets: &mut Packets, c: &mut PlainCommons, act: Act) -> Reply
+    requires worker { c.old.worker ≡ packets.old.number }
+    requires own { Owns c.old.site.now packets.old }
+    ensures same { c.new.site.ghost_name ≡ c.old.site.ghost_name }
+    ensures calls { (calls : List Call) × LeadsPlain c.old.worker c.old.site.now calls c.new.site.now × Performs act packets.old calls result packets.new }
+    ensures own { Owns c.new.site.now packets.new }
+    ensures alone { StepsAlone c.old.worker c.old.site.now c.new.site.now }
+{
+    acts::perform(packets, c, act)
+}
+
 /// Lets one worker act on the lists.
 fn act_alone(site: &mut PlainSite, packets: &mut Packets, worker: u32, act: Act) -> Reply
     requires number { packets.old.number ≡ worker }
     requires own { Owns site.old packets.old }
-    ensures model { (result, packets.new, stack_of site.new) ≡ member_act act (left_of site.old) packets.old (stack_of site.old) }
-    ensures number { packets.new.number ≡ packets.old.number }
+    ensures calls { (calls : List Call) × LeadsPlain worker site.old calls site.new × Performs act packets.old calls result packets.new }
     ensures own { Owns site.new packets.new }
     ensures alone { StepsAlone worker site.old site.new }
 {
     let mut c = PlainCommons::new(site, worker);
-    match act {
-        Act::Alloc => packets.alloc(&mut c),
-        Act::Free(slot) => packets.free(&mut c, slot),
-        Act::Flush => packets.flush(&mut c),
-    }
+    act_plain(packets, &mut c, act)
 }
 
 /// For each worker of a pool an empty cache and an empty table.

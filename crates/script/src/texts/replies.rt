@@ -1,9 +1,10 @@
 //! The lines that answer commands.
-ghost use Rattle.std.specs.Prelude.{◌≡◌, ◌++◌, IfErr, OnOk};
-ghost use Rattle.script.specs.ReplyText.{freed_text, put_off_text, put_text, reply_line, reply_text};
+ghost use Rattle.std.specs.Prelude.{◌≡◌, ◌++◌, codes, IfErr, OnOk};
+ghost use Rattle.script.specs.ReplyText.{elements_text, freed_text, put_off_text, put_text, reply_line, reply_text};
 
-use crate::replies::{Freed, Reply};
 use commons::refusal::Refusal;
+use mbuf::acts::{NewPacket, Reply};
+use mbuf::freed::Freed;
 use mempool::put::Put;
 use std::io;
 use std::io::Write;
@@ -15,15 +16,15 @@ pub(crate) fn push_reply(out: &mut Vec<u8>, number: u32, reply: &Reply) -> Resul
     ensures text { OnOk result (out.new.items ≡ out.old.items ++ reply_line number reply.now) }
     ensures memory { IfErr result (λ e. e ≡ Refusal.OutOfMemory) }
 {
-    match write_line(out, number, *reply) {
+    match write_line(out, number, reply) {
         Ok(()) => Ok(()),
         Err(_) => Err(Refusal::OutOfMemory),
     }
 }
 
 #[tactic(auto, unfolding(crate::specs::ReplyText::reply_line))]
-fn write_line(out: &mut Vec<u8>, number: u32, reply: Reply) -> io::Result<()>
-    ensures { OnOk result (out.new.items ≡ out.old.items ++ reply_line number reply) }
+fn write_line(out: &mut Vec<u8>, number: u32, reply: &Reply) -> io::Result<()>
+    ensures { OnOk result (out.new.items ≡ out.old.items ++ reply_line number reply.now) }
 {
     write!(out, "{number}: ")?;
     write_reply(out, reply)?;
@@ -31,17 +32,32 @@ fn write_line(out: &mut Vec<u8>, number: u32, reply: Reply) -> io::Result<()>
 }
 
 #[tactic(auto, unfolding(crate::specs::ReplyText::reply_text))]
-fn write_reply(out: &mut Vec<u8>, reply: Reply) -> io::Result<()>
-    ensures { OnOk result (out.new.items ≡ out.old.items ++ reply_text reply) }
+fn write_reply(out: &mut Vec<u8>, reply: &Reply) -> io::Result<()>
+    ensures { OnOk result (out.new.items ≡ out.old.items ++ reply_text reply.now) }
 {
     match reply {
         Reply::Allocated(_, elem) => write!(out, "ok {elem}"),
-        Reply::Freed(freed) => write_freed(out, freed),
-        Reply::Put(put) => write_put(out, put),
+        Reply::Bulk(packets) => write_bulk(out, packets.as_slice()),
+        Reply::Freed(freed) => write_freed(out, *freed),
+        Reply::Len(len) => write!(out, "ok {len}"),
+        Reply::Segs(segs) => write!(out, "ok {segs}"),
+        Reply::Chained(segs, len) => write!(out, "ok {segs} {len}"),
+        Reply::Put(put) => write_put(out, *put),
         Reply::Refused(refusal) => {
             write!(out, "refused {} {}", refusal.number(), refusal.name())
         }
     }
+}
+
+// The elements of new packets.
+fn write_bulk(out: &mut Vec<u8>, packets: &[NewPacket]) -> io::Result<()>
+    ensures { OnOk result (out.new.items ≡ out.old.items ++ codes "ok" ++ elements_text packets.now) }
+{
+    write!(out, "ok")?;
+    for packet in packets {
+        write!(out, " {}", packet.elem)?;
+    }
+    Ok(())
 }
 
 #[tactic(auto, unfolding(crate::specs::ReplyText::freed_text))]

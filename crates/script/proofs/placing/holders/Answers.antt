@@ -8,5 +8,5 @@ loop-member-preserved c =
     let members = c.args.members.now in
     let is = member_there c.args.site.now members c.loop-member.member-index m c.requires.each c.requires.workers c.loop-member-test.true c.member-item.is in
     let often = c.hold.ensures.holds in
-    rw (c.in_ok-hold_often.ensures, c.loop-member.invariant, often, c.number-number.ensures, is.own.held c.args.elem)
+    rw (c.in_ok-hold_often.ensures, c.loop-member.invariant, often, c.worker-number.ensures, is.own.share.held c.args.elem)
     (sym (holders_more members c.loop-member.member-index c.args.elem m c.loop-member-test.true c.member-item.is))

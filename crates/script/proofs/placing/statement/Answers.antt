@@ -1,5 +1,5 @@
 use Rattle.std.proofs.Common.{arith}
-use Rattle.script.proofs.Entries.{caches_short, tables_full}
+use Rattle.script.proofs.Entries.{caches_short}
 use Rattle.script.proofs.placing.statement.Goals as goal
 
 pub in_caches-requires : goal.in_caches-requires
@@ -8,6 +8,3 @@ in_caches-requires c = caches_short c.args.site.now c.args.members.now c.limits.
 pub overflow_add-result : goal.overflow_add-result
 overflow_add-result c =
     omega (arith, c.in_caches.ensures, caches_short c.args.site.now c.args.members.now c.limits.ensures.table c.requires.each c.requires.workers, c.from.ensures)
-
-pub packets-requires : goal.packets-requires
-packets-requires c = tables_full c.args.site.now c.args.members.now c.requires.each c.requires.workers

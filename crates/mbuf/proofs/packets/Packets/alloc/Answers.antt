@@ -1,80 +1,103 @@
-use Rattle.std.proofs.Common.{◌≡◌, ◌<◌, [], ◌∷◌, ◌++◌, ℕ, Bool, List, length, set, false, Some, refl, sym, ap, subst, ◌∙◌}
-use Rattle.std.proofs.lemmas.List.Quantifiers.{position-Some}
+use Rattle.std.proofs.Common.{◌≡◌, ◌<◌, [], ◌∷◌, ◌++◌, ℕ, List, length, set, take, Some, refl, sym, ap, subst, ◌∙◌, arith}
+use Rattle.std.specs.Prelude.{is_none}
+use Rattle.std.specs.List.{position_or_len}
 use Rattle.commons.specs.Calls.{Claim, calls_of}
+use Rattle.commons.specs.declared.limits.Limits.{Limits}
+use Rattle.commons.proofs.Bags.{bag-single, one-same}
 use Rattle.commons.proofs.Leading.{calls_of-append, Leads-append, Leads-one, made_by}
 use Rattle.mbuf.specs.Kept.{member_of, shown}
 use Rattle.mbuf.specs.Members.{Member}
 use Rattle.mbuf.specs.Own.{Own}
-use Rattle.mbuf.specs.PacketRules.{fresh_seg, Full, NotGot, Fresh}
-use Rattle.mbuf.proofs.OwnLemmas.{own_alloc}
-use Rattle.mbuf.proofs.TableLemmas.{free_slot-shown, shown-set, member_is}
+use Rattle.mbuf.specs.PacketRules.{free_slots, fresh_seg, stood, Full, NotGot, Fresh}
+use Rattle.mbuf.proofs.FreeLemmas.{length-free, first_free, none_free, taken_first, own_stood}
+use Rattle.mbuf.proofs.TableLemmas.{member_is}
 use Rattle.mbuf.proofs.packets.Packets.alloc.Goals as goal
 
-pub returns-in_default-clause-calls : goal.returns-in_default-clause-calls
-returns-in_default-clause-calls g c =
+pub returns-then-count-eq0-clause-calls : goal.returns-then-count-eq0-clause-calls
+returns-then-count-eq0-clause-calls g c =
     let inv = c.self.invariant in
-    rw (sym c.self.view_is) ([], refl, Full (free_slot-shown c.self.inside.free c.self.inside.packets.items (inv.packets ∙ sym inv.flags) ∙ sym c.in_default.ensures) refl refl refl)
+    let flags = c.self.inside.free in
+    let packets = c.self.inside.packets.items in
+    let none = none_free (shown flags packets) (length-free 0 flags packets (inv.packets ∙ sym inv.flags) ∙ sym c.count.ensures ∙ c.if-count-eq0.true) in
+    rw (sym c.self.view_is) ([], refl, Full none refl refl refl)
+
+-- some slot is free
+some_free : (count free : ℕ) → (count ≡ 0 → ⊥) → free ≡ count → 0 < free
+some_free count free some e = omega (arith, some, e)
 
 pub returns-in-Err-clause-calls : goal.returns-in-Err-clause-calls
 returns-in-Err-clause-calls g c =
     let inv = c.self.invariant in
-    let flags = c.self.inside.free in
-    let packets = c.self.inside.packets.items in
+    let table = shown c.self.inside.free c.self.inside.packets.items in
     let w = c.get_one.new.worker in
     let before = c.self.inside.worker in
     let got = c.in-Err.ensures.calls in
-    let free = free_slot-shown flags packets (inv.packets ∙ sym inv.flags) ∙ sym c.in-Some.ensures in
+    let free = first_free table (some_free c.count.result (length (free_slots table)) c.if-count-eq0.false (length-free 0 c.self.inside.free c.self.inside.packets.items (inv.packets ∙ sym inv.flags) ∙ sym c.count.ensures)) in
     rw (sym c.self.view_is) (
       got.0,
       got.1,
-      NotGot c.in-Some.slot free c.in-Err.cause (rw c.in-Err.ensures.cache_err at got.2) refl
-          (member_is w.limits before.limits w.number before.number w.cache (shown flags packets) (shown flags packets) c.in-Err.ensures.number.limits c.in-Err.ensures.number.number refl
-          ∙ ap (λ (cache : List ℕ). let m : Member = record { limits = before.limits; number = before.number; cache = cache; table = shown flags packets } in m) c.in-Err.ensures.cache_err),
+      NotGot (position_or_len is_none table) free c.in-Err.cause (rw c.in-Err.ensures.cache_err at got.2) refl
+          (member_is w.limits before.limits w.number before.number w.cache table table c.in-Err.ensures.number.limits c.in-Err.ensures.number.number refl
+          ∙ ap (λ (cache : List ℕ). let m : Member = record { limits = before.limits; number = before.number; cache = cache; table = table } in m) c.in-Err.ensures.cache_err),
     )
+
+pub stand-requires-clause-hand : goal.stand-requires-clause-hand
+stand-requires-clause-hand g c =
+    let own = rw (sym c.self.view_is) at c.requires.own in
+    let e = c.in-Ok.elem in
+    omega (arith, own.cached e, c.in-Ok.ensures.hand e, one-same e)
+
+pub stand-requires-clause-free : goal.stand-requires-clause-free
+stand-requires-clause-free g c =
+    let inv = c.self.invariant in
+    let table = shown c.self.inside.free c.self.inside.packets.items in
+    some_free c.count.result (length (free_slots table)) c.if-count-eq0.false (length-free 0 c.self.inside.free c.self.inside.packets.items (inv.packets ∙ sym inv.flags) ∙ sym c.count.ensures)
 
 pub returns-in-Ok-clause-calls : goal.returns-in-Ok-clause-calls
 returns-in-Ok-clause-calls g c =
-    let inv = c.self.invariant in
-    let flags = c.self.inside.free in
-    let packets = c.self.inside.packets.items in
-    let slot = c.in-Some.slot in
+    let table = shown c.self.inside.free c.self.inside.packets.items in
+    let slot = c.stand.result in
     let e = c.in-Ok.elem in
     let got = c.in-Ok.ensures.calls in
     let w = c.get_one.new.worker in
-    let l = c.self.inside.worker.limits in
+    let before = c.self.inside.worker in
+    let number = c.in-Ok.ensures.number in
     let did = g.C.Commons.did in
     let limits = g.C.Commons.limits in
-    let claimed = c.claim.ensures.did in
-    let made = made_by did limits c.get_one.new.c (Claim e) c.claim.new.self claimed in
-    let free = free_slot-shown flags packets (inv.packets ∙ sym inv.flags) ∙ sym c.in-Some.ensures in
-    let within : slot < length flags = (position-Some (λ (b : Bool). b) flags slot false (sym c.in-Some.ensures)).0 in
-    let table : shown c.take.new.self (set packets slot c.restart.new.self) ≡ set (shown flags packets) slot (Some (fresh_seg l e ∷ [])) =
-    rw (c.take.ensures, c.restart.ensures, c.fresh-seg.ensures.seg, c.limits.ensures.limits, c.in-Ok.ensures.number.limits) (shown-set flags packets slot false (fresh_seg l e ∷ []) within (inv.packets ∙ sym inv.flags)) in
+    let stand = c.stand.ensures in
+    let made = made_by did limits c.get_one.new.c (Claim e) c.stand.new.c stand.did in
     rw (sym c.self.view_is) (
       got.0 ++ made ∷ [],
-      Leads-append did limits got.0 (made ∷ []) c.args.c.now c.get_one.new.c c.claim.new.self got.1 (Leads-one did limits c.get_one.new.c (Claim e) c.claim.new.self claimed),
-      Fresh slot e free (calls_of got.0) w.cache got.2 (calls_of-append got.0 (made ∷ [])) refl
-          (member_is w.limits l w.number c.self.inside.worker.number w.cache (shown c.take.new.self (set packets slot c.restart.new.self)) (set (shown flags packets) slot (Some (fresh_seg l e ∷ []))) c.in-Ok.ensures.number.limits c.in-Ok.ensures.number.number table),
+      Leads-append did limits got.0 (made ∷ []) c.args.c.now c.get_one.new.c c.stand.new.c got.1 (Leads-one did limits c.get_one.new.c (Claim e) c.stand.new.c stand.did),
+      Fresh slot e stand.slot (calls_of got.0) w.cache got.2 (calls_of-append got.0 (made ∷ [])) refl
+          (stand.stood ∙ member_is w.limits before.limits w.number before.number w.cache (set table slot (Some (fresh_seg w.limits e ∷ []))) (set table slot (Some (fresh_seg before.limits e ∷ []))) number.limits number.number
+          (ap (λ (l : Limits). set table slot (Some (fresh_seg l e ∷ []))) number.limits)),
     )
 
 pub returns-in-Ok-clause-own : goal.returns-in-Ok-clause-own
 returns-in-Ok-clause-own g c =
     let inv = c.self.invariant in
-    let flags = c.self.inside.free in
-    let packets = c.self.inside.packets.items in
-    let slot = c.in-Some.slot in
+    let table = shown c.self.inside.free c.self.inside.packets.items in
+    let slot = c.stand.result in
     let e = c.in-Ok.elem in
     let w = c.get_one.new.worker in
-    let l = c.self.inside.worker.limits in
+    let before = c.self.inside.worker in
+    let number = c.in-Ok.ensures.number in
+    let got = c.in-Ok.ensures in
+    let stand = c.stand.ensures in
+    let first = c.args.c.now in
+    let mid = c.get_one.new.c in
+    let last = c.stand.new.c in
+    let limits = g.C.Commons.limits in
     let hand = g.C.Commons.hand in
     let holds = g.C.Commons.holds in
     let headers = g.C.Commons.headers in
+    let rest = taken_first table slot (fresh_seg before.limits e ∷ []) stand.slot in
+    let is = stand.stood ∙ member_is w.limits before.limits w.number before.number w.cache (set table slot (Some (fresh_seg w.limits e ∷ []))) (stood before.limits (e ∷ []) (take 1 (free_slots table)) table) number.limits number.number
+    (rw rest (ap (λ (l : Limits). set table slot (Some (fresh_seg l e ∷ []))) number.limits)) in
     let own = rw (sym c.self.view_is) at c.requires.own in
-    let free = free_slot-shown flags packets (inv.packets ∙ sym inv.flags) ∙ sym c.in-Some.ensures in
-    let within : slot < length flags = (position-Some (λ (b : Bool). b) flags slot false (sym c.in-Some.ensures)).0 in
-    let table : shown c.take.new.self (set packets slot c.restart.new.self) ≡ set (shown flags packets) slot (Some (fresh_seg l e ∷ [])) =
-    rw (c.take.ensures, c.restart.ensures, c.fresh-seg.ensures.seg, c.limits.ensures.limits, c.in-Ok.ensures.number.limits) (shown-set flags packets slot false (fresh_seg l e ∷ []) within (inv.packets ∙ sym inv.flags)) in
-    subst (λ (m : Member). Own m (g.C.Commons.limits c.claim.new.self) (hand c.claim.new.self) (holds c.claim.new.self) (headers c.claim.new.self))
-    (sym (member_is w.limits l w.number c.self.inside.worker.number w.cache (shown c.take.new.self (set packets slot c.restart.new.self)) (set (shown flags packets) slot (Some (fresh_seg l e ∷ []))) c.in-Ok.ensures.number.limits c.in-Ok.ensures.number.number table))
-    (own_alloc (member_of c.self.inside) (g.C.Commons.limits c.args.c.now) (g.C.Commons.limits c.claim.new.self) (hand c.args.c.now) (hand c.get_one.new.c) (hand c.claim.new.self) (holds c.args.c.now) (holds c.get_one.new.c) (holds c.claim.new.self) (headers c.args.c.now) (headers c.get_one.new.c) (headers c.claim.new.self)
-    w.cache slot e own (c.claim.ensures.limits ∙ c.in-Ok.ensures.limits) free c.in-Ok.ensures.hand c.in-Ok.ensures.holds c.in-Ok.ensures.headers c.claim.ensures.hand c.claim.ensures.holds c.claim.ensures.headers)
+    subst (λ (m : Member). Own m (limits last) (hand last) (holds last) (headers last)) (sym is)
+    (own_stood (member_of c.self.inside) (limits first) (limits last) (hand first) (hand mid) (hand last) (holds first) (holds mid) (holds last) (headers first) (headers mid) (headers last)
+    w.cache (e ∷ []) own (stand.limits ∙ got.limits)
+    (some_free c.count.result (length (free_slots table)) c.if-count-eq0.false (length-free 0 c.self.inside.free c.self.inside.packets.items (inv.packets ∙ sym inv.flags) ∙ sym c.count.ensures))
+    (λ i. omega (arith, got.hand i, bag-single e i)) got.holds got.headers (λ i. omega (arith, stand.hand i, bag-single e i)) (λ i. omega (arith, stand.holds i, bag-single e i)) (λ i. omega (arith, stand.headers i, bag-single e i)))

@@ -6,7 +6,7 @@ use Rattle.mbuf.specs.Members.{Member, holds_in_slot}
 use Rattle.mbuf.specs.Own.{Own}
 use Rattle.mbuf.specs.PacketRules.{WasFreed}
 use Rattle.mbuf.proofs.OwnLemmas.{held_in-slot, own_free}
-use Rattle.mbuf.proofs.TableLemmas.{stands, length-shown, shown-free, member_is}
+use Rattle.mbuf.proofs.TableLemmas.{stands, taken_slot, length-shown, shown-free, member_is}
 use Rattle.mbuf.proofs.packets.Packets.free.Goals as goal
 
 pub end_segs-freed-requires-clause-held : goal.end_segs-freed-requires-clause-held
@@ -21,6 +21,13 @@ end_segs-freed-requires-clause-held g c = λ i.
     let same = inv.packets ∙ sym inv.flags in
     let there = stands flags packets slot c.index.result.now within same (rw (sym at.0) at at.2) c.index.ensures in
     rw c.segs.ensures.segs (omega (arith, own.held i, held_in-slot (shown flags packets) slot i (omega (arith, within, length-shown flags packets same)), ap (λ (o : Option (List Seg)). bag (holds_in_slot o) i) there))
+
+pub give-requires-clause-taken : goal.give-requires-clause-taken
+give-requires-clause-taken g c =
+    let inv = c.self.invariant in
+    let slot = c.in-Some.slot in
+    let at = rw (sym c.self.view_is) at c.in-Some.ensures in
+    taken_slot c.self.inside.free c.self.inside.packets.items slot (omega (arith, at.1, inv.flags)) (inv.packets ∙ sym inv.flags) (rw (sym at.0) at at.2)
 
 pub returns-clause-calls : goal.returns-clause-calls
 returns-clause-calls g c =

@@ -5,7 +5,7 @@ use Rattle.mbuf.specs.Kept.{member_of, shown, KeepsHolds}
 use Rattle.mbuf.specs.Members.{Member}
 use Rattle.mbuf.specs.PacketRules.{Same, TooLong, WasChained}
 use Rattle.mbuf.proofs.ChainLemmas.{shown_chained, KeepsHolds-chain}
-use Rattle.mbuf.proofs.TableLemmas.{shown_some, length-shown, member_is}
+use Rattle.mbuf.proofs.TableLemmas.{shown_some, taken_slot, length-shown, member_is}
 use Rattle.mbuf.proofs.packets.Packets.join.Goals as goal
 
 -- what is lent from a place is what stands there
@@ -40,6 +40,12 @@ returns-then-segs-gt-MAX_SEGS-clause-chained c =
     rw (sym c.self.view_is, sym at.0, sym other.0)
     (TooLong (get_or packets first []) (get_or packets second []) there behind c.if-first-second.false
     (omega (arith, c.if-segs-gt-MAX_SEGS.true, ap (λ (s : List Seg). length s) a, ap (λ (s : List Seg). length s) b)) refl refl)
+
+pub give-requires-clause-taken : goal.give-requires-clause-taken
+give-requires-clause-taken c =
+    let inv = c.self.invariant in
+    let other = rw (sym c.self.view_is) at c.in-Some-slot.ensures in
+    taken_slot c.self.inside.free c.self.inside.packets.items c.in-Some-slot.second (omega (arith, other.1, inv.flags)) (inv.packets ∙ sym inv.flags) (rw (sym other.0) at other.2)
 
 pub returns-clause-chained : goal.returns-clause-chained
 returns-clause-chained c =

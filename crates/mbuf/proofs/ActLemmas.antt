@@ -1,0 +1,38 @@
+-- What was made is there to be told of.
+use Rattle.std.proofs.Common.{◌≡◌, ℕ, List, [], ◌∷◌, length, get_or, get_or-set_same, take, Option, Some, None, Ok, refl, sym, ap, ◌∙◌, subst, All, arith}
+use Rattle.std.specs.Prelude.{IsSome}
+use Rattle.std.proofs.lemmas.List.{length-take}
+use Rattle.arrayvec.specs.ArrayVec.{ArrayVec}
+use Rattle.commons.specs.Calls.{Call}
+use Rattle.commons.specs.declared.packet.Seg.{Seg}
+use Rattle.mbuf.specs.declared.acts.NewPacket.{NewPacket}
+use Rattle.mbuf.specs.declared.acts.Reply.TheVariants as reply
+use Rattle.mbuf.specs.Members.{Member}
+use Rattle.mbuf.specs.PacketRules.{Allocs, Full, NotGot, Fresh, AllocsBulk, TooFull, BulkNotGot, FreshBulk, fresh_seg, free_slots}
+use Rattle.mbuf.proofs.FreeLemmas.{stood_there}
+use Rattle.mbuf.proofs.OwnLemmas.{free_slot-is}
+
+some_there : (slot : Option (List Seg)) (segs : List Seg) → slot ≡ Some segs → IsSome slot
+some_there slot segs e = subst (λ (o : Option (List Seg)). IsSome o) (sym e) refl
+
+pub allocated_there : (m after : Member) (calls : List Call) (slot : ℕ) → Allocs m calls (Ok slot) after → IsSome (get_or after.table slot None)
+allocated_there m after calls slot (Full f c a k) = absurd cc
+allocated_there m after calls slot (NotGot s f cause g a k) = absurd cc
+allocated_there m after calls slot (Fresh s e f got left g c a k) =
+    let same : slot ≡ s = cc in
+    some_there (get_or after.table slot None) (fresh_seg m.limits e ∷ [])
+    (ap (λ (x : Member). get_or x.table slot None) k ∙ rw same (get_or-set_same m.table s (Some (fresh_seg m.limits e ∷ [])) None (free_slot-is m.table s f).0))
+
+pub bulk_there : (m after : Member) (n : ℕ) (calls : List Call) (slots : List ℕ) → AllocsBulk m n calls (Ok slots) after → All (λ slot. IsSome (get_or after.table slot None)) slots
+bulk_there m after n calls slots (TooFull f c a k) = absurd cc
+bulk_there m after n calls slots (BulkNotGot f cause g a k) = absurd cc
+bulk_there m after n calls slots (FreshBulk es long room got left g c a k) =
+    let same : slots ≡ take n (free_slots m.table) = cc in
+    λ j d within. some_there (get_or after.table (get_or slots j d) None) (fresh_seg m.limits (get_or es j 0) ∷ [])
+    (ap (λ (x : Member). get_or x.table (get_or slots j d) None) k
+    ∙ rw (same, ← long) (stood_there m.limits es m.table (omega (arith, long, room)) j d
+    (omega (arith, within, long, room, length-take n (free_slots m.table), ap (λ (s : List ℕ). length s) same))))
+
+-- a list of new packets is what it shows
+pub bulk_is : (list : ArrayVec NewPacket) (items : List NewPacket) → list.items ≡ items → reply.Bulk list ≡ reply.Bulk (record { items = items })
+bulk_is list items e = rw (← e) refl

@@ -1,0 +1,22 @@
+use Rattle.std.proofs.lemmas.List.{length-take}
+use Rattle.commons.specs.Calls.{calls_of}
+use Rattle.mbuf.specs.Acts.{Performs}
+use Rattle.mbuf.specs.declared.acts.Act.TheVariants.{AllocBulk}
+use Rattle.std.proofs.Common.{ℕ, ◌≡◌, ◌≤◌, [], Err, length, take, replicate, subst, refl, arith}
+use Rattle.commons.specs.declared.refusal.Refusal.TheVariants.{PacketsFull}
+use Rattle.mbuf.specs.PacketRules.{TooFull}
+use Rattle.mbuf.proofs.FreeLemmas.{free_within}
+use Rattle.mbuf.proofs.acts.alloc_bulk.Goals as goal
+
+pub returns-then-count-gt-SLOTS-clause-calls : goal.returns-then-count-gt-SLOTS-clause-calls
+returns-then-count-gt-SLOTS-clause-calls g c =
+    ([], refl, (Err PacketsFull, TooFull (omega (arith, free_within 0 c.args.packets.now.table, c.has_slots.ensures, c.if-count-gt-SLOTS.true)) refl refl refl, refl))
+
+-- as many places are lent as are asked for
+lent : (count : ℕ) → count ≤ 256 → length (take count (replicate {A = ℕ} 256 0)) ≡ count
+lent count few = omega (arith, length-take count (replicate {A = ℕ} 256 0), few)
+
+pub returns-clause-calls : goal.returns-clause-calls
+returns-clause-calls g c =
+    let done = c.alloc_all.ensures.calls in
+    (done.0, done.1, subst (λ (n : ℕ). Performs (AllocBulk n) c.args.packets.now (calls_of done.0) c.alloc_all.result c.alloc_all.new.packets) (lent c.args.count c.if-count-gt-SLOTS.false) done.2)

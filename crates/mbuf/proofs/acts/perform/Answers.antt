@@ -1,0 +1,20 @@
+use Rattle.std.proofs.Common.{[], Ok, refl, sym}
+use Rattle.mbuf.proofs.acts.perform.Goals as goal
+
+pub returns-in-Ok-clause-calls : goal.returns-in-Ok-clause-calls
+returns-in-Ok-clause-calls g c = let done = c.in-Ok.ensures.calls in rw c.in-Free.is (done.0, done.1, (Ok c.in-Ok.freed, done.2, refl))
+
+pub returns-in-Append-clause-calls : goal.returns-in-Append-clause-calls
+returns-in-Append-clause-calls g c = rw c.in-Append.is ([], sym c.append.ensures.no_call, (c.append.result, c.append.ensures.resized, refl, c.told_len.ensures))
+
+pub returns-in-Prepend-clause-calls : goal.returns-in-Prepend-clause-calls
+returns-in-Prepend-clause-calls g c = rw c.in-Prepend.is ([], sym c.prepend.ensures.no_call, (c.prepend.result, c.prepend.ensures.resized, refl, c.told_len-in-Prepend.ensures))
+
+pub returns-in-Adj-clause-calls : goal.returns-in-Adj-clause-calls
+returns-in-Adj-clause-calls g c = rw c.in-Adj.is ([], sym c.adj.ensures.no_call, (c.adj.result, c.adj.ensures.resized, refl, c.told_len-in-Adj.ensures))
+
+pub returns-in-Trim-clause-calls : goal.returns-in-Trim-clause-calls
+returns-in-Trim-clause-calls g c = rw c.in-Trim.is ([], sym c.trim.ensures.no_call, (c.trim.result, c.trim.ensures.resized, refl, c.told_len-in-Trim.ensures))
+
+pub returns-in-Flush-clause-calls : goal.returns-in-Flush-clause-calls
+returns-in-Flush-clause-calls g c = let done = c.flush.ensures.calls in rw c.in-Flush.is (done.0, done.1, (c.flush.result, done.2, c.flush.ensures.packets, refl))

@@ -1,0 +1,101 @@
+use Rattle.std.proofs.Common.{◌≡◌, ◌++◌, [], ℕ, List, length, take, refl, sym, ap, subst, ◌∙◌, Result, Ok, arith}
+use Rattle.commons.specs.Calls.{Call, calls_of}
+use Rattle.commons.specs.declared.limits.Limits.{Limits}
+use Rattle.commons.specs.declared.refusal.Refusal.{Refusal}
+use Rattle.commons.proofs.Leading.{calls_of-append, Leads-append}
+use Rattle.mbuf.specs.Kept.{member_of, shown}
+use Rattle.mbuf.specs.Members.{Member}
+use Rattle.mbuf.specs.Own.{Own}
+use Rattle.mbuf.specs.PacketRules.{free_slots, stood, TooFull, BulkNotGot, FreshBulk}
+use Rattle.mbuf.proofs.FreeLemmas.{length-free, own_stood}
+use Rattle.mbuf.proofs.TableLemmas.{member_is}
+use Rattle.mbuf.proofs.packets.Packets.alloc_bulk.Goals as goal
+
+pub returns-then-count-out-clause-calls : goal.returns-then-count-out-clause-calls
+returns-then-count-out-clause-calls g c =
+    let inv = c.self.invariant in
+    let free = length-free 0 c.self.inside.free c.self.inside.packets.items (inv.packets ∙ sym inv.flags) in
+    rw (sym c.self.view_is) ([], refl, TooFull (omega (arith, free, c.count.ensures, c.if-count-out.true)) refl refl refl)
+
+pub returns-in-Err-clause-calls : goal.returns-in-Err-clause-calls
+returns-in-Err-clause-calls g c =
+    let inv = c.self.invariant in
+    let flags = c.self.inside.free in
+    let packets = c.self.inside.packets.items in
+    let w = c.get_bulk.new.self in
+    let before = c.self.inside.worker in
+    let got = c.in-Err.ensures.calls in
+    let free = length-free 0 flags packets (inv.packets ∙ sym inv.flags) in
+    rw (sym c.self.view_is) (
+      got.0,
+      got.1,
+      BulkNotGot (omega (arith, free, c.count.ensures, c.if-count-out.false)) c.in-Err.cause (rw c.in-Err.ensures.cache_err at got.2) refl
+          (member_is w.limits before.limits w.number before.number w.cache (shown flags packets) (shown flags packets) c.in-Err.ensures.number.limits c.in-Err.ensures.number.number refl
+          ∙ ap (λ (cache : List ℕ). let m : Member = record { limits = before.limits; number = before.number; cache = cache; table = shown flags packets } in m) c.in-Err.ensures.cache_err),
+    )
+
+pub stand_all-requires-clause-hand : goal.stand_all-requires-clause-hand
+stand_all-requires-clause-hand g c = λ i.
+    let own = rw (sym c.self.view_is) at c.requires.own in
+    omega (arith, own.cached i, c.in-Ok.ensures.hand i)
+
+pub stand_all-requires-clause-free : goal.stand_all-requires-clause-free
+stand_all-requires-clause-free g c =
+    let inv = c.self.invariant in
+    omega (arith, length-free 0 c.self.inside.free c.self.inside.packets.items (inv.packets ∙ sym inv.flags), c.count.ensures, c.if-count-out.false, c.get_bulk.auto.out)
+
+pub returns-in-Ok-clause-calls : goal.returns-in-Ok-clause-calls
+returns-in-Ok-clause-calls g c =
+    let inv = c.self.invariant in
+    let table = shown c.self.inside.free c.self.inside.packets.items in
+    let es = c.get_bulk.new.out in
+    let before = c.self.inside.worker in
+    let w = c.get_bulk.new.self in
+    let got = c.in-Ok.ensures.calls in
+    let number = c.in-Ok.ensures.number in
+    let did = g.C.Commons.did in
+    let limits = g.C.Commons.limits in
+    let stand = c.stand_all.ensures in
+    let slots = take (length c.args.out.now) (free_slots table) in
+    let long : length es ≡ length c.args.out.now = omega (arith, c.get_bulk.auto.out) in
+    let listed : c.stand_all.new.out ≡ slots = stand.slots ∙ ap (λ (n : ℕ). take n (free_slots table)) long in
+    rw (sym c.self.view_is) (
+      got.0 ++ stand.calls.0,
+      Leads-append did limits got.0 stand.calls.0 c.args.c.now c.get_bulk.new.c c.stand_all.new.c got.1 stand.calls.1,
+      FreshBulk es long (omega (arith, length-free 0 c.self.inside.free c.self.inside.packets.items (inv.packets ∙ sym inv.flags), c.count.ensures, c.if-count-out.false)) (calls_of got.0) w.cache got.2
+          (calls_of-append got.0 stand.calls.0 ∙ ap (λ (calls : List Call). calls_of got.0 ++ calls) stand.calls.2)
+          (ap (λ (out : List ℕ). let r : Result (List ℕ) Refusal = Ok out in r) listed)
+          (stand.stood
+          ∙ ap (λ (out : List ℕ). let m : Member = record { limits = w.limits; number = w.number; cache = w.cache; table = stood w.limits es out table } in m) listed
+          ∙ member_is w.limits before.limits w.number before.number w.cache (stood w.limits es slots table) (stood before.limits es slots table) number.limits number.number
+          (ap (λ (l : Limits). stood l es slots table) number.limits)),
+    )
+
+pub returns-in-Ok-clause-own : goal.returns-in-Ok-clause-own
+returns-in-Ok-clause-own g c =
+    let inv = c.self.invariant in
+    let table = shown c.self.inside.free c.self.inside.packets.items in
+    let es = c.get_bulk.new.out in
+    let before = c.self.inside.worker in
+    let w = c.get_bulk.new.self in
+    let number = c.in-Ok.ensures.number in
+    let got = c.in-Ok.ensures in
+    let stand = c.stand_all.ensures in
+    let slots = take (length es) (free_slots table) in
+    let first = c.args.c.now in
+    let mid = c.get_bulk.new.c in
+    let last = c.stand_all.new.c in
+    let limits = g.C.Commons.limits in
+    let hand = g.C.Commons.hand in
+    let holds = g.C.Commons.holds in
+    let headers = g.C.Commons.headers in
+    let is = stand.stood
+    ∙ ap (λ (out : List ℕ). let m : Member = record { limits = w.limits; number = w.number; cache = w.cache; table = stood w.limits es out table } in m) stand.slots
+    ∙ member_is w.limits before.limits w.number before.number w.cache (stood w.limits es slots table) (stood before.limits es slots table) number.limits number.number
+    (ap (λ (l : Limits). stood l es slots table) number.limits) in
+    let own = rw (sym c.self.view_is) at c.requires.own in
+    subst (λ (m : Member). Own m (limits last) (hand last) (holds last) (headers last)) (sym is)
+    (own_stood (member_of c.self.inside) (limits first) (limits last) (hand first) (hand mid) (hand last) (holds first) (holds mid) (holds last) (headers first) (headers mid) (headers last)
+    w.cache es own (stand.limits ∙ got.limits)
+    (omega (arith, length-free 0 c.self.inside.free c.self.inside.packets.items (inv.packets ∙ sym inv.flags), c.count.ensures, c.if-count-out.false, c.get_bulk.auto.out))
+    got.hand got.holds got.headers stand.hand stand.holds stand.headers)

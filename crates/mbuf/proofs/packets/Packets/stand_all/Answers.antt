@@ -1,0 +1,94 @@
+use Rattle.std.proofs.Common.{◌≡◌, ℕ, ◌+◌, ◌-◌, ◌<◌, List, [], ◌∷◌, ◌++◌, length, get_or, map, take, drop, refl, sym, ap, ◌∙◌, arith}
+use Rattle.std.proofs.lemmas.List.{length-drop, map-append, take_all, take_more, drop_more}
+use Rattle.commons.specs.Bag.{bag, one}
+use Rattle.commons.specs.Calls.{Call, Claim}
+use Rattle.commons.proofs.Bags.{bag-nil, bag-append, bag-single, bag-take-drop, bag-head}
+use Rattle.commons.proofs.Leading.{calls_of-append, Leads-append, Leads-one, made_by}
+use Rattle.mbuf.specs.PacketRules.{free_slots}
+use Rattle.mbuf.proofs.FreeLemmas.{StoodSo-none, StoodSo-more, next_left}
+use Rattle.mbuf.proofs.packets.Packets.stand_all.Goals as goal
+
+pub loop-place-init : goal.loop-place-init
+loop-place-init g c = record {
+  so_far = StoodSo-none c.args.out.now c.args.self.now;
+  calls = ([], refl, refl);
+  hand = λ i. omega (arith, bag-nil i);
+  holds = λ i. omega (arith, bag-nil i);
+  headers = λ i. omega (arith, bag-nil i);
+  limits = refl;
+}
+
+pub stand-requires-clause-hand : goal.stand-requires-clause-hand
+stand-requires-clause-hand g c =
+    let es = c.args.out.now in
+    let k = c.loop-place.place in
+    let inv = c.loop-place.invariant in
+    let e = get_or es k 0 in
+    let here : 0 < bag (drop k es) e = rw (drop_more es k 0 c.loop-place-test.true) (bag-head e (drop (k + 1) es)) in
+    rw (next_left es c.loop-place.out k inv.so_far.left) (omega (arith, here, bag-take-drop k es e, c.requires.hand e, inv.hand e))
+
+pub stand-requires-clause-free : goal.stand-requires-clause-free
+stand-requires-clause-free g c =
+    let slots = free_slots c.args.self.now.table in
+    let k = c.loop-place.place in
+    let left : length (drop k slots) ≡ length slots - k = length-drop k slots in
+    rw c.loop-place.invariant.so_far.free (omega (arith, left, c.requires.free, c.loop-place-test.true))
+
+pub loop-place-preserved : goal.loop-place-preserved
+loop-place-preserved g c =
+    let es = c.args.out.now in
+    let k = c.loop-place.place in
+    let inv = c.loop-place.invariant in
+    let within : k < length es = c.loop-place-test.true in
+    let e = get_or es k 0 in
+    let elem = next_left es c.loop-place.out k inv.so_far.left in
+    let s = c.stand.ensures in
+    let did = g.C.Commons.did in
+    let limits = g.C.Commons.limits in
+    let done = rw elem at s.did in
+    let made = made_by did limits c.loop-place.c (Claim e) c.stand.new.c done in
+    let more : (i : ℕ) → bag (take (k + 1) es) i ≡ bag (take k es) i + one e i = λ i. rw (take_more es k 0 within) (omega (arith, bag-append (take k es) (e ∷ []) i, bag-single e i)) in
+    record {
+      so_far = StoodSo-more es c.args.self.now k c.loop-place.out c.loop-place.self c.stand.new.self c.stand.result within c.requires.free c.loop-place.auto.out inv.so_far s.slot s.stood;
+      calls = (
+        inv.calls.0 ++ made ∷ [],
+        Leads-append did limits inv.calls.0 (made ∷ []) c.args.c.now c.loop-place.c c.stand.new.c inv.calls.1 (Leads-one did limits c.loop-place.c (Claim e) c.stand.new.c done),
+        calls_of-append inv.calls.0 (made ∷ []) ∙ ap (λ (calls : List Call). calls ++ Claim e ∷ []) inv.calls.2 ∙ sym (ap (λ (xs : List ℕ). map Claim xs) (take_more es k 0 within) ∙ map-append Claim (take k es) (e ∷ [])),
+      );
+      hand = λ i. omega (arith, inv.hand i, rw elem at (s.hand i), more i);
+      holds = λ i. omega (arith, inv.holds i, rw elem at (s.holds i), more i);
+      headers = λ i. omega (arith, inv.headers i, rw elem at (s.headers i), more i);
+      limits = s.limits ∙ inv.limits;
+    }
+
+-- all of them stand
+pub returns-clause-calls : goal.returns-clause-calls
+returns-clause-calls g c =
+    let all = take_all c.loop-place.place c.args.out.now (omega (arith, c.loop-place-test.false)) in
+    rw all at c.loop-place.invariant.calls
+
+pub returns-clause-slots : goal.returns-clause-slots
+returns-clause-slots g c =
+    let k = c.loop-place.place in
+    let at : k ≡ length c.args.out.now = omega (arith, c.loop-place-test.false, c.loop-place.auto.place-end) in
+    sym (take_all k c.loop-place.out (omega (arith, c.loop-place-test.false, c.loop-place.auto.out))) ∙ c.loop-place.invariant.so_far.slots ∙ ap (λ (n : ℕ). take n (free_slots c.args.self.now.table)) at
+
+pub returns-clause-stood : goal.returns-clause-stood
+returns-clause-stood g c =
+    let k = c.loop-place.place in
+    let es = c.args.out.now in
+    let all = take_all k es (omega (arith, c.loop-place-test.false)) in
+    let slots = sym (take_all k c.loop-place.out (omega (arith, c.loop-place-test.false, c.loop-place.auto.out))) ∙ c.loop-place.invariant.so_far.slots in
+    rw (slots, ← all) c.loop-place.invariant.so_far.stood
+
+pub returns-clause-hand : goal.returns-clause-hand
+returns-clause-hand g c = rw (take_all c.loop-place.place c.args.out.now (omega (arith, c.loop-place-test.false))) at c.loop-place.invariant.hand
+
+pub returns-clause-holds : goal.returns-clause-holds
+returns-clause-holds g c = rw (take_all c.loop-place.place c.args.out.now (omega (arith, c.loop-place-test.false))) at c.loop-place.invariant.holds
+
+pub returns-clause-headers : goal.returns-clause-headers
+returns-clause-headers g c = rw (take_all c.loop-place.place c.args.out.now (omega (arith, c.loop-place-test.false))) at c.loop-place.invariant.headers
+
+pub returns-clause-limits : goal.returns-clause-limits
+returns-clause-limits g c = c.loop-place.invariant.limits

@@ -1,0 +1,190 @@
+//! What a worker is asked to do with its packets and its cache, and what is replied.
+
+ghost use Rattle.std.specs.Prelude.{◌≡◌, ◌≤◌, All, List, IsSome, None, length, map, slice_index_or};
+ghost use Rattle.commons.specs.Calls.{Made, Leads, calls_of};
+ghost use Rattle.mbuf.specs.Acts.{Performs, chained, first_elem, new_packet, told_len as len_reply};
+ghost use Rattle.mbuf.specs.Own.{Own};
+
+use crate::freed::Freed;
+use crate::lengths;
+use crate::packets::{Packets, Pid, SLOTS};
+use arrayvec::ArrayVec;
+use commons::refusal::Refusal;
+use commons::shared::Commons;
+use mempool::put::Put;
+
+/// One of the calls of `Packets`, with its arguments.
+#[derive(Clone, Copy, PartialEq, Eq, Debug)]
+pub enum Act {
+    /// Makes a packet of one element, in the lowest free slot.
+    Alloc,
+    /// Makes so many packets of one element each, all or none, in the lowest free slots.
+    AllocBulk(u32),
+    /// Frees the packet in this slot.
+    Free(Pid),
+    /// Adds so many bytes behind the data of a packet's last segment.
+    Append(Pid, u16),
+    /// Adds so many bytes in front of the data of a packet's first segment.
+    Prepend(Pid, u16),
+    /// Takes so many bytes off the front of a packet's first segment.
+    Adj(Pid, u16),
+    /// Takes so many bytes off the end of a packet's last segment.
+    Trim(Pid, u16),
+    /// Puts the segments of the second packet behind those of the first.
+    Chain(Pid, Pid),
+    /// Tells how many bytes of data a packet has.
+    PktLen(Pid),
+    /// Tells how many segments a packet has.
+    NbSegs(Pid),
+    /// Puts the whole cache onto the common stack.
+    Flush,
+}
+
+/// A new packet of one element.
+#[derive(Clone, Copy, Default, PartialEq, Eq, Debug)]
+pub struct NewPacket {
+    /// Its slot.
+    pub slot: Pid,
+    /// Its element.
+    pub elem: u32,
+}
+
+/// The answer to an `Act`.
+#[derive(PartialEq, Eq, Debug, Drop)]
+pub enum Reply {
+    /// The packet stands in this slot, and this is its element.
+    Allocated(Pid, u32),
+    /// The packets stand, in the order of the get.
+    Bulk(ArrayVec<NewPacket, SLOTS>),
+    /// The packet was freed.
+    Freed(Freed),
+    /// How many bytes of data the packet has now.
+    Len(u32),
+    /// How many segments the packet has.
+    Segs(u32),
+    /// The first packet has so many segments now, and so many bytes of data.
+    Chained(u32, u32),
+    /// What a flush did with the cache.
+    Put(Put),
+    /// Nothing was done.
+    Refused(Refusal),
+}
+
+/// The first segment's element of the packet in a slot.
+fn elem_in(packets: &Packets, slot: Pid) -> u32
+    requires { IsSome (slice_index_or packets.now.table slot None) }
+    ensures { result ≡ first_elem (slice_index_or packets.now.table slot None) }
+{
+    packets.place(slot).unwrap().segs()[0].elem
+}
+
+/// The reply that tells of a length.
+fn told_len(answer: Result<u32, Refusal>) -> Reply
+    ensures { result ≡ len_reply answer }
+{
+    match answer {
+        Ok(len) => Reply::Len(len),
+        Err(cause) => Reply::Refused(cause),
+    }
+}
+
+/// Makes a packet, and tells of it.
+fn alloc<C: Commons>(packets: &mut Packets, c: &mut C) -> Reply
+    requires own { Own packets.old (C.limits c.old) (C.hand c.old) (C.holds c.old) (C.headers c.old) }
+    ensures calls { (made : List Made) × Leads C.did C.limits c.old made c.new × Performs Act.Alloc packets.old (calls_of made) result packets.new }
+    ensures own { Own packets.new (C.limits c.new) (C.hand c.new) (C.holds c.new) (C.headers c.new) }
+{
+    match packets.alloc(c) {
+        Ok(slot) => Reply::Allocated(slot, elem_in(packets, slot)),
+        Err(cause) => Reply::Refused(cause),
+    }
+}
+
+/// The packets in these slots, at most 256, with their elements.
+fn new_packets(packets: &Packets, slots: &[Pid]) -> ArrayVec<NewPacket, SLOTS>
+    requires few { length slots.now ≤ 256 }
+    requires there { All (λ slot. IsSome (slice_index_or packets.now.table slot None)) slots.now }
+    ensures { result.items ≡ map (new_packet packets.now.table) slots.now }
+{
+    let mut list = ArrayVec::new();
+    for slot in slots {
+        list.push(NewPacket {
+            slot: *slot,
+            elem: elem_in(packets, *slot),
+        });
+    }
+    list
+}
+
+/// Makes a packet for each place of `slots`, which has the slots then, and tells of them.
+fn alloc_all<C: Commons>(packets: &mut Packets, c: &mut C, slots: &mut [Pid]) -> Reply
+    requires own { Own packets.old (C.limits c.old) (C.hand c.old) (C.holds c.old) (C.headers c.old) }
+    requires few { length slots.old ≤ 256 }
+    ensures calls { (made : List Made) × Leads C.did C.limits c.old made c.new × Performs (Act.AllocBulk (length slots.old)) packets.old (calls_of made) result packets.new }
+    ensures own { Own packets.new (C.limits c.new) (C.hand c.new) (C.holds c.new) (C.headers c.new) }
+{
+    match packets.alloc_bulk(c, slots) {
+        Ok(()) => Reply::Bulk(new_packets(packets, slots)),
+        Err(cause) => Reply::Refused(cause),
+    }
+}
+
+/// Makes so many packets, and tells of them.
+fn alloc_bulk<C: Commons>(packets: &mut Packets, c: &mut C, count: u32) -> Reply
+    requires own { Own packets.old (C.limits c.old) (C.hand c.old) (C.holds c.old) (C.headers c.old) }
+    ensures calls { (made : List Made) × Leads C.did C.limits c.old made c.new × Performs (Act.AllocBulk count) packets.old (calls_of made) result packets.new }
+    ensures own { Own packets.new (C.limits c.new) (C.hand c.new) (C.holds c.new) (C.headers c.new) }
+{
+    packets.has_slots();
+    let count = count as usize;
+    if count > SLOTS {
+        return Reply::Refused(Refusal::PacketsFull);
+    }
+    let mut slots = [0; SLOTS];
+    alloc_all(packets, c, &mut slots[..count])
+}
+
+/// Chains two packets, and tells of the first.
+fn chain<C: Commons>(packets: &mut Packets, c: &mut C, head: Pid, tail: Pid) -> Reply
+    requires own { Own packets.old (C.limits c.old) (C.hand c.old) (C.holds c.old) (C.headers c.old) }
+    ensures calls { (made : List Made) × Leads C.did C.limits c.old made c.new × Performs (Act.Chain head tail) packets.old (calls_of made) result packets.new }
+    ensures own { Own packets.new (C.limits c.new) (C.hand c.new) (C.holds c.new) (C.headers c.new) }
+{
+    if let Err(cause) = packets.chain(c, head, tail) {
+        return Reply::Refused(cause);
+    }
+    match packets.place(head) {
+        Some(packet) => Reply::Chained(packet.segs().len() as u32, lengths::pkt_len(packet)),
+        None => Reply::Refused(Refusal::NoSuchPacket),
+    }
+}
+
+/// Lets a worker do this with its packets, and answers what came of it.
+///
+/// Each act is the call of `Packets` of that name, with its refusals. A count of `AllocBulk` above
+/// 256 is refused `PacketsFull`. After a refusal packets, cache and holds are as before.
+pub fn perform<C: Commons>(packets: &mut Packets, c: &mut C, act: Act) -> Reply
+    requires own { Own packets.old (C.limits c.old) (C.hand c.old) (C.holds c.old) (C.headers c.old) }
+    ensures calls { (made : List Made) × Leads C.did C.limits c.old made c.new × Performs act packets.old (calls_of made) result packets.new }
+    ensures own { Own packets.new (C.limits c.new) (C.hand c.new) (C.holds c.new) (C.headers c.new) }
+{
+    match act {
+        Act::Alloc => alloc(packets, c),
+        Act::AllocBulk(count) => alloc_bulk(packets, c, count),
+        Act::Free(p) => match packets.free(c, p) {
+            Ok(freed) => Reply::Freed(freed),
+            Err(cause) => Reply::Refused(cause),
+        },
+        Act::Append(p, len) => told_len(packets.append(c, p, len)),
+        Act::Prepend(p, len) => told_len(packets.prepend(c, p, len)),
+        Act::Adj(p, len) => told_len(packets.adj(c, p, len)),
+        Act::Trim(p, len) => told_len(packets.trim(c, p, len)),
+        Act::Chain(head, tail) => chain(packets, c, head, tail),
+        Act::PktLen(p) => told_len(packets.pkt_len(c, p)),
+        Act::NbSegs(p) => match packets.nb_segs(c, p) {
+            Ok(segs) => Reply::Segs(segs),
+            Err(cause) => Reply::Refused(cause),
+        },
+        Act::Flush => Reply::Put(packets.flush(c)),
+    }
+}
