@@ -19,7 +19,7 @@ pub enum Act {
     /// Makes a packet of one element, in the lowest free slot.
     Alloc,
     /// Makes so many packets of one element each, all or none, in the lowest free slots.
-    AllocBulk(u32),
+    AllocBulk(usize),
     /// Frees the packet in this slot.
     Free(Pid),
     /// Adds so many bytes behind the data of a packet's last segment.
@@ -130,13 +130,12 @@ fn alloc_all<C: Commons>(packets: &mut Packets, c: &mut C, slots: &mut [Pid]) ->
 }
 
 /// Makes so many packets, and tells of them.
-fn alloc_bulk<C: Commons>(packets: &mut Packets, c: &mut C, count: u32) -> Reply
+fn alloc_bulk<C: Commons>(packets: &mut Packets, c: &mut C, count: usize) -> Reply
     requires own { Own packets.old (C.limits c.old) (C.hand c.old) (C.holds c.old) (C.headers c.old) }
     ensures calls { (made : List Made) × Leads C.did C.limits c.old made c.new × Performs (Act.AllocBulk count) packets.old (calls_of made) result packets.new }
     ensures own { Own packets.new (C.limits c.new) (C.hand c.new) (C.holds c.new) (C.headers c.new) }
 {
     packets.has_slots();
-    let count = count as usize;
     if count > SLOTS {
         return Reply::Refused(Refusal::PacketsFull);
     }

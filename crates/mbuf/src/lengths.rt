@@ -22,7 +22,7 @@ pub enum Change {
 }
 
 /// How many bytes of data a packet has.
-pub fn pkt_len(packet: &Packet) -> u32
+pub(crate) fn pkt_len(packet: &Packet) -> u32
     ensures { result ≡ len_of packet.now }
 {
     let mut len = 0;
@@ -153,7 +153,7 @@ fn trim(packet: &mut Packet, len: u16) -> bool
 }
 
 /// Changes a packet's lengths, if it has the room or the data, and says whether.
-pub fn resize(packet: &mut Packet, change: Change) -> bool
+pub(crate) fn resize(packet: &mut Packet, change: Change) -> bool
     ensures resized { cond result (Some packet.new) None ≡ resized change packet.old }
     ensures same { result ≡ false → packet.new ≡ packet.old }
 {
@@ -166,7 +166,7 @@ pub fn resize(packet: &mut Packet, change: Change) -> bool
 }
 
 /// Why a change isn't made.
-pub fn refusal(change: Change) -> Refusal
+pub(crate) fn refusal(change: Change) -> Refusal
     ensures { result ≡ not_resized change }
 {
     match change {

@@ -4,7 +4,7 @@
 pub mod acts;
 mod free_slots;
 pub mod freed;
-mod lengths;
+pub mod lengths;
 pub mod packets;
 mod steps;
 #[cfg(test)]

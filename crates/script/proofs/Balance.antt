@@ -16,6 +16,7 @@ use Rattle.commons.proofs.Opening.{bag-range_in, bag-range_high}
 use Rattle.script.specs.declared.commands.Command.{Command}
 use Rattle.script.specs.declared.commands.Command.TheVariants as command
 use Rattle.script.specs.declared.commands.Line.{Line}
+use Rattle.mbuf.specs.declared.lengths.Change.{Change}
 use Rattle.mbuf.specs.declared.acts.Act.{Act}
 use Rattle.mbuf.specs.declared.acts.Act.TheVariants.{Alloc, AllocBulk, Free, Append, Prepend, Adj, Trim, Chain, PktLen, NbSegs, Flush}
 use Rattle.mbuf.specs.Members.{Member, holds_in_slot, held_in, slots}
@@ -24,7 +25,7 @@ use Rattle.mbuf.specs.Lengths.{appended, prepended, adjusted, trimmed}
 use Rattle.script.specs.Pool.{Stack, Pool, held_by, member_at, with_member, nobody, new_members, new_pool}
 use Rattle.script.specs.CacheModel.{get}
 use Rattle.script.specs.PacketModel.{fill_slot, alloc_in, fill_slots, alloc_bulk, resize_to, resize_in, chain_in, free_in, flush_member, without_packet, held_elsewhere, act_on, perform}
-use Rattle.script.specs.Replay.{Run, free_as, obey, end_of}
+use Rattle.script.specs.Replay.{Run, free_as, act_of, resize_as, chain_as, obey, end_of}
 use Rattle.script.proofs.CacheBags.{IsGot, get-IsGot, flush-IsPut}
 use Rattle.mbuf.proofs.ChainLemmas.{KeepsHolds-chain}
 use Rattle.mbuf.proofs.FreeLemmas.{holds_stood}
@@ -194,10 +195,23 @@ free_as-balanced : (slot : Option ℕ) (worker : ℕ) (name : List ℕ) (run : R
 free_as-balanced None worker name run b = b
 free_as-balanced (Some slot) worker name run b = perform-balanced run.pool worker (Free slot) b
 
+-- so do a change of lengths by name and a chain
+resize_as-balanced : (slot : Option ℕ) (worker : ℕ) (change : Change) (run : Run) → IsBalanced run.pool → IsBalanced (resize_as slot worker change run).1.pool
+resize_as-balanced None worker change run b = b
+resize_as-balanced (Some slot) worker change run b = perform-balanced run.pool worker (act_of slot change) b
+
+chain_as-balanced : (head tail : Option ℕ) (worker : ℕ) (name : List ℕ) (run : Run) → IsBalanced run.pool → IsBalanced (chain_as head tail worker name run).1.pool
+chain_as-balanced None tail worker name run b = b
+chain_as-balanced (Some head) None worker name run b = b
+chain_as-balanced (Some head) (Some tail) worker name run b = perform-balanced run.pool worker (Chain head tail) b
+
 -- each command keeps each element in one place
 obey-balanced : (worker : ℕ) (c : Command) (run : Run) → IsBalanced run.pool → IsBalanced (obey worker c run).1.pool
 obey-balanced worker (command.Alloc name) run b = perform-balanced run.pool worker Alloc b
+obey-balanced worker (command.Bulk names) run b = perform-balanced run.pool worker (AllocBulk (length names)) b
 obey-balanced worker (command.Free name) run b = free_as-balanced (run.stands worker name) worker name run b
+obey-balanced worker (command.Resize name change) run b = resize_as-balanced (run.stands worker name) worker change run b
+obey-balanced worker (command.Chain head tail) run b = chain_as-balanced (run.stands worker head) (run.stands worker tail) worker tail run b
 obey-balanced worker command.Flush run b = perform-balanced run.pool worker Flush b
 
 -- all lines keep each element in one place

@@ -1,22 +1,26 @@
 -- A command line's worker and command are what the reading function gives, and the names that were made are what its test says.
-use Rattle.std.proofs.Common.{◌≡◌, ℕ, ◌-◌, ◌≤◌, leb, true, false, List, [], ◌∷◌, ◌++◌, length, length-append, take, drop, Option, Some, None, refl, sym, ap, ◌∙◌, subst, arith, inl, inr}
-use Rattle.std.specs.Prelude.{◌&&◌, ◌==◌, option_and_then, codes}
+use Rattle.std.proofs.Common.{◌≡◌, ℕ, ◌-◌, ◌≤◌, leb, Bool, true, false, List, [], ◌∷◌, ◌++◌, length, length-append, take, drop, Option, Some, None, refl, sym, ap, ◌∙◌, subst, arith, inl, inr}
+use Rattle.std.specs.Prelude.{◌&&◌, ◌||◌, ◌==◌, option_and_then, codes}
+use Rattle.std.specs.List.{list_all}
 use Rattle.std.specs.Str.{bytes_eq}
 use Rattle.std.proofs.lemmas.Bool.{eqb-true, eq-eqb, leb-true, le-leb, cond-true, and_parts, and_from, or_cases, or_left, or_right, both_ways, false≢true, false_from_ne_true}
+use Rattle.std.proofs.lemmas.Option.{cond_some}
 use Rattle.std.proofs.Math.Seq.{take-append_seam, drop-append_seam}
 use Rattle.std.proofs.lemmas.List.{take-append-drop}
 use Rattle.std.proofs.lemmas.Slice.Eq.{bytes_eq-Decides}
+use Rattle.mbuf.specs.declared.lengths.Change.{Change}
+use Rattle.mbuf.specs.declared.lengths.Change.TheVariants.{Append, Prepend, Adj, Trim}
 use Rattle.script.specs.declared.command_line.Verb.{Verb}
 use Rattle.script.specs.declared.command_line.Verb.TheVariants as verbs
 use Rattle.script.specs.declared.commands.Command.{Command}
-use Rattle.script.specs.declared.commands.Command.TheVariants.{Alloc, Free, Flush}
+use Rattle.script.specs.declared.commands.Command.TheVariants.{Alloc, Bulk, Free, Resize, Chain, Flush}
 use Rattle.script.specs.declared.commands.Line.{Line}
 use Rattle.script.specs.Names.{IsName}
 use Rattle.script.specs.Numbers.{IsNumber}
-use Rattle.script.specs.CommandLine.{IsCommand, IsPrefix, IsCommandLine, alone, prefixed, Makes, IsMade, MakesAnew}
-use Rattle.script.specs.Reading.{is_name_word, number_at, verb_word, all_verbs, verb_at, only_name_of, bare, command_with, command_from, before_colon, of_workers, worker_at, order_of, order_by, order_from, makes, is_made, repeats}
+use Rattle.script.specs.CommandLine.{AreNames, IsOneOf, AreApart, change_word, bytes_of, IsResize, IsCommand, IsPrefix, IsCommandLine, alone, prefixed, Makes, IsMade, MakesAnew}
+use Rattle.script.specs.Reading.{is_name_word, number_at, are_names, names_with, is_one_of, with_name, repeats_some, both_of, name_at, short_length, length_at, name_and_length, both_names, resize_with, chain_with, verb_word, all_verbs, verb_at, only_name_of, bare, command_with, command_from, before_colon, of_workers, worker_at, order_of, order_by, order_from, makes, is_made, repeats}
 use Rattle.script.specs.Told.{IsNamed, IsAmong}
-use Rattle.script.proofs.NumberLemmas.{name_from, name_is, number_from, number_is}
+use Rattle.script.proofs.NumberLemmas.{all_from, all_to, name_from, name_is, number_from, number_is}
 use Rattle.script.proofs.KeptLemmas.{and_then_some, only_name_is, found_is}
 use Rattle.script.proofs.PoolLineLemmas.{if_some, spelled_from}
 
@@ -36,13 +40,98 @@ named_is make words command e =
     let only = only_name_is words n.0 n.1 in
     (n.0, only.0, name_from n.0 only.1, found_is (make n.0) command n.2)
 
+-- the only two words are those
+both_is : (words : List (List ℕ)) (both : List ℕ × List ℕ) → both_of words ≡ Some both → words ≡ both.0 ∷ both.1 ∷ []
+both_is [] both e = absurd cc
+both_is (word ∷ []) both e = absurd cc
+both_is (word ∷ other ∷ []) both e = let same = found_is (word, other) both e in rw (← same) refl
+both_is (word ∷ other ∷ third ∷ words) both e = absurd cc
+
+name_is_at : (word name : List ℕ) → name_at word ≡ Some name → (word ≡ name) × IsName name
+name_is_at word name e = let h = cond_some (is_name_word word) word name e in (h.1, name_from name (sym (ap is_name_word h.1) ∙ h.0))
+
+-- a length that a word spells
+length_from : (word : List ℕ) (n : ℕ) → length_at word ≡ Some n → IsNumber word n × (n ≤ 65535)
+length_from word n e =
+    let h = and_then_some short_length (number_at word) n e in
+    let c = if_some (leb h.0 65535) (Some h.0) n h.2 in
+    let same = found_is h.0 n c.1 in
+    (subst (λ (k : ℕ). IsNumber word k) same (number_from word h.0 h.1), subst (λ (k : ℕ). k ≤ 65535) same (leb-true h.0 65535 c.0))
+
+length_is : (word : List ℕ) (n : ℕ) → IsNumber word n → n ≤ 65535 → length_at word ≡ Some n
+length_is word n h short = ap (option_and_then short_length) (number_is word n h) ∙ cond-true (leb n 65535) (Some n) None (le-leb n 65535 short)
+
+name_at_is : (name : List ℕ) → IsName name → name_at name ≡ Some name
+name_at_is name h = cond-true (is_name_word name) (Some name) None (name_is name h)
+
+-- a packet's change of lengths
+resize_from : (make : ℕ → Change) (words : List (List ℕ)) (command : Command) → ((n : ℕ) → bytes_of (make n) ≡ n) → ((n m : ℕ) → change_word (make n) ≡ change_word (make m)) → resize_with make words ≡ Some command →
+    IsCommand (change_word (make 0) ∷ words) command
+resize_from make words command by same e =
+    let f = and_then_some (λ found. Some (Resize found.0 (make found.1))) (name_and_length words) command e in
+    let found = f.0 in
+    let b = and_then_some (λ both. option_and_then (λ name. option_and_then (λ len. Some (name, len)) (length_at both.1)) (name_at both.0)) (both_of words) found f.1 in
+    let n = and_then_some (λ name. option_and_then (λ len. Some (name, len)) (length_at b.0.1)) (name_at b.0.0) found b.2 in
+    let l = and_then_some (λ len. Some (n.0, len)) (length_at b.0.1) found n.2 in
+    let pair : ◌≡◌ {A = List ℕ × ℕ} (n.0, l.0) found = found_is (n.0, l.0) found l.2 in
+    let name = name_is_at b.0.0 n.0 n.1 in
+    let len = length_from b.0.1 l.0 l.1 in
+    let is : IsResize (change_word (make 0) ∷ words) n.0 (make l.0) = record {
+      number = b.0.1;
+      words_are = ap (λ (ws : List (List ℕ)). change_word (make 0) ∷ ws) (both_is words b.0 b.1) ∙ ap (λ (w : List ℕ). change_word (make 0) ∷ w ∷ b.0.1 ∷ []) name.0 ∙ ap (λ (w : List ℕ). w ∷ n.0 ∷ b.0.1 ∷ []) (same 0 l.0);
+      is_name = name.1;
+      is_number = subst (λ (k : ℕ). IsNumber b.0.1 k) (sym (by l.0)) len.0;
+      short = subst (λ (k : ℕ). k ≤ 65535) (sym (by l.0)) len.1;
+    } in
+    subst (λ (c : Command). IsCommand (change_word (make 0) ∷ words) c) (ap (λ (p : List ℕ × ℕ). Resize p.0 (make p.1)) pair ∙ found_is (Resize found.0 (make found.1)) command f.2) is
+
+chain_from : (words : List (List ℕ)) (command : Command) → chain_with words ≡ Some command → IsCommand (codes "chain" ∷ words) command
+chain_from words command e =
+    let f = and_then_some (λ names. Some (Chain names.0 names.1)) (both_names words) command e in
+    let found = f.0 in
+    let b = and_then_some (λ both. option_and_then (λ head. option_and_then (λ tail. Some (head, tail)) (name_at both.1)) (name_at both.0)) (both_of words) found f.1 in
+    let n = and_then_some (λ head. option_and_then (λ tail. Some (head, tail)) (name_at b.0.1)) (name_at b.0.0) found b.2 in
+    let l = and_then_some (λ tail. Some (n.0, tail)) (name_at b.0.1) found n.2 in
+    let pair : ◌≡◌ {A = List ℕ × List ℕ} (n.0, l.0) found = found_is (n.0, l.0) found l.2 in
+    let head = name_is_at b.0.0 n.0 n.1 in
+    let tail = name_is_at b.0.1 l.0 l.1 in
+    subst (λ (c : Command). IsCommand (codes "chain" ∷ words) c) (ap (λ (p : List ℕ × List ℕ). Chain p.0 p.1) pair ∙ found_is (Chain found.0 found.1) command f.2)
+    (ap (λ (ws : List (List ℕ)). codes "chain" ∷ ws) (both_is words b.0 b.1) ∙ ap (λ (w : List ℕ). codes "chain" ∷ w ∷ b.0.1 ∷ []) head.0 ∙ ap (λ (w : List ℕ). codes "chain" ∷ n.0 ∷ w ∷ []) tail.0, head.1, tail.1)
+
+resize_by_words : (make : ℕ → Change) (name number : List ℕ) (n : ℕ) → IsName name → IsNumber number n → n ≤ 65535 → resize_with make (name ∷ number ∷ []) ≡ Some (Resize name (make n))
+resize_by_words make name number n h k short = rw (name_at_is name h, length_is number n k short) refl
+
+-- 1 to 256 names
+names_from : (words : List (List ℕ)) → are_names words ≡ true → AreNames words
+names_from words e =
+    let a = and_parts (leb 1 (length words) && leb (length words) 256) (list_all is_name_word words) e in
+    let b = and_parts (leb 1 (length words)) (leb (length words) 256) a.0 in
+    record { some = leb-true 1 (length words) b.0; few = leb-true (length words) 256 b.1; each = all_from is_name_word IsName (λ word h. name_from word h) words a.1 }
+
+names_are : (words : List (List ℕ)) → AreNames words → are_names words ≡ true
+names_are words h =
+    and_from (leb 1 (length words) && leb (length words) 256) (list_all is_name_word words)
+    (and_from (leb 1 (length words)) (leb (length words) 256) (le-leb 1 (length words) h.some) (le-leb (length words) 256 h.few))
+    (all_to is_name_word IsName (λ word k. name_is word k) words h.each)
+
 command_of_verb : (verb : Verb) (words : List (List ℕ)) (command : Command) → command_with verb words ≡ Some command → IsCommand (verb_word verb ∷ words) command
 command_of_verb verbs.Alloc words command e =
     let n = named_is (λ name. Alloc name) words command e in
     subst (λ (c : Command). IsCommand (verb_word verbs.Alloc ∷ words) c) n.3 (ap (λ (ws : List (List ℕ)). verb_word verbs.Alloc ∷ ws) n.1, n.2)
+command_of_verb verbs.Bulk words command e =
+    let n = and_then_some (λ names. Some (Bulk names)) (names_with words) command e in
+    let c = if_some (are_names words) (Some words) n.0 n.1 in
+    let same = found_is words n.0 c.1 in
+    subst (λ (c : Command). IsCommand (verb_word verbs.Bulk ∷ words) c) (found_is (Bulk n.0) command n.2)
+    (ap (λ (ws : List (List ℕ)). codes "bulk" ∷ ws) same, subst AreNames same (names_from words c.0))
 command_of_verb verbs.Free words command e =
     let n = named_is (λ name. Free name) words command e in
     subst (λ (c : Command). IsCommand (verb_word verbs.Free ∷ words) c) n.3 (ap (λ (ws : List (List ℕ)). verb_word verbs.Free ∷ ws) n.1, n.2)
+command_of_verb verbs.Append words command e = resize_from (λ n. Append n) words command (λ n. refl) (λ n m. refl) e
+command_of_verb verbs.Prepend words command e = resize_from (λ n. Prepend n) words command (λ n. refl) (λ n m. refl) e
+command_of_verb verbs.Adj words command e = resize_from (λ n. Adj n) words command (λ n. refl) (λ n m. refl) e
+command_of_verb verbs.Trim words command e = resize_from (λ n. Trim n) words command (λ n. refl) (λ n m. refl) e
+command_of_verb verbs.Chain words command e = chain_from words command e
 command_of_verb verbs.Flush words command e =
     let b = bare_is Flush command words e in
     subst (λ (c : Command). IsCommand (verb_word verbs.Flush ∷ words) c) b.1 (ap (λ (ws : List (List ℕ)). verb_word verbs.Flush ∷ ws) b.0)
@@ -58,7 +147,13 @@ only_name name h = cond-true (is_name_word name) (Some name) None (name_is name 
 
 pub command_is : (words : List (List ℕ)) (command : Command) → IsCommand words command → command_from words ≡ Some command
 command_is words (Alloc name) h = ap command_from h.0 ∙ ap (option_and_then (λ n. Some (Alloc n))) (only_name name h.1)
+command_is words (Bulk names) h = ap command_from h.0 ∙ ap (option_and_then (λ ns. Some (Bulk ns))) (cond-true (are_names names) (Some names) None (names_are names h.1))
 command_is words (Free name) h = ap command_from h.0 ∙ ap (option_and_then (λ n. Some (Free n))) (only_name name h.1)
+command_is words (Resize name (Append n)) h = ap command_from h.words_are ∙ resize_by_words (λ k. Append k) name h.number n h.is_name h.is_number h.short
+command_is words (Resize name (Prepend n)) h = ap command_from h.words_are ∙ resize_by_words (λ k. Prepend k) name h.number n h.is_name h.is_number h.short
+command_is words (Resize name (Adj n)) h = ap command_from h.words_are ∙ resize_by_words (λ k. Adj k) name h.number n h.is_name h.is_number h.short
+command_is words (Resize name (Trim n)) h = ap command_from h.words_are ∙ resize_by_words (λ k. Trim k) name h.number n h.is_name h.is_number h.short
+command_is words (Chain head tail) h = ap command_from h.0 ∙ rw (name_at_is head h.1, name_at_is tail h.2) refl
 command_is words Flush h = ap command_from h
 
 -- ---- the worker in front of a command
@@ -113,7 +208,13 @@ order_comes workers (word ∷ words) order e = order_comes_by workers (before_co
 -- a verb has no colon at its end
 no_prefix : (words : List (List ℕ)) (command : Command) (workers : ℕ) → IsCommand words command → order_from workers words ≡ order_of 1 words
 no_prefix words (Alloc name) workers h = ap (order_from workers) h.0 ∙ ap (order_of 1) (sym h.0)
+no_prefix words (Bulk names) workers h = ap (order_from workers) h.0 ∙ ap (order_of 1) (sym h.0)
 no_prefix words (Free name) workers h = ap (order_from workers) h.0 ∙ ap (order_of 1) (sym h.0)
+no_prefix words (Resize name (Append n)) workers h = ap (order_from workers) h.words_are ∙ ap (order_of 1) (sym h.words_are)
+no_prefix words (Resize name (Prepend n)) workers h = ap (order_from workers) h.words_are ∙ ap (order_of 1) (sym h.words_are)
+no_prefix words (Resize name (Adj n)) workers h = ap (order_from workers) h.words_are ∙ ap (order_of 1) (sym h.words_are)
+no_prefix words (Resize name (Trim n)) workers h = ap (order_from workers) h.words_are ∙ ap (order_of 1) (sym h.words_are)
+no_prefix words (Chain head tail) workers h = ap (order_from workers) h.0 ∙ ap (order_of 1) (sym h.0)
 no_prefix words Flush workers h = ap (order_from workers) h ∙ ap (order_of 1) (sym h)
 
 order_as : (worker : ℕ) (words : List (List ℕ)) (command : Command) → IsCommand words command → order_of worker words ≡ Some (worker, command)
@@ -131,7 +232,10 @@ order_is workers words worker command (prefixed word rest e p h) =
 -- the name of a command is a name
 named_by : (words : List (List ℕ)) (command : Command) → IsCommand words command → IsNamed command
 named_by words (Alloc name) h = h.1
+named_by words (Bulk names) h = h.1.each
 named_by words (Free name) h = h.1
+named_by words (Resize name change) h = h.is_name
+named_by words (Chain head tail) h = (h.1, h.2)
 named_by words Flush h = tt
 
 line_names : (workers : ℕ) (words : List (List ℕ)) (worker : ℕ) (command : Command) → IsCommandLine workers words worker command → IsNamed command
@@ -150,14 +254,33 @@ order_among workers words order some e = line_among workers words order.0 order.
 
 -- ---- names that were made
 
+one_of_from : (names : List (List ℕ)) (name : List ℕ) → is_one_of names name ≡ true → IsOneOf names name
+one_of_from [] name e = absurd (false≢true e)
+one_of_from (first ∷ names) name e =
+    elim (or_cases (bytes_eq name first) (is_one_of names name) e) [
+      | inl h ↦ inl (sym ((bytes_eq-Decides name first).0 h))
+      | inr h ↦ inr (one_of_from names name h)
+    ]
+
+one_of_is : (names : List (List ℕ)) (name : List ℕ) → IsOneOf names name → is_one_of names name ≡ true
+one_of_is [] name h = absurd h
+one_of_is (first ∷ names) name (inl h) = or_left (bytes_eq name first) (is_one_of names name) ((bytes_eq-Decides name first).1 (sym h))
+one_of_is (first ∷ names) name (inr h) = or_right (bytes_eq name first) (is_one_of names name) (one_of_is names name h)
+
 makes_from : (command : Command) (name : List ℕ) → makes command name ≡ true → Makes command name
 makes_from (Alloc made) name e = sym ((bytes_eq-Decides name made).0 e)
+makes_from (Bulk names) name e = one_of_from names name e
 makes_from (Free freed) name e = absurd (false≢true e)
+makes_from (Resize packet change) name e = absurd (false≢true e)
+makes_from (Chain head tail) name e = absurd (false≢true e)
 makes_from Flush name e = absurd (false≢true e)
 
 makes_is : (command : Command) (name : List ℕ) → Makes command name → makes command name ≡ true
 makes_is (Alloc made) name h = (bytes_eq-Decides name made).1 (sym h)
+makes_is (Bulk names) name h = one_of_is names name h
 makes_is (Free freed) name h = absurd h
+makes_is (Resize packet change) name h = absurd h
+makes_is (Chain head tail) name h = absurd h
 makes_is Flush name h = absurd h
 
 made_from : (lines : List Line) (worker : ℕ) (name : List ℕ) → is_made lines worker name ≡ true → IsMade lines worker name
@@ -173,12 +296,45 @@ made_is [] worker name h = absurd h
 made_is (line ∷ lines) worker name (inl h) = or_left (worker == line.worker && makes line.command name) (is_made lines worker name) (and_from (worker == line.worker) (makes line.command name) (eq-eqb worker line.worker (sym h.0)) (makes_is line.command name h.1))
 made_is (line ∷ lines) worker name (inr h) = or_right (worker == line.worker && makes line.command name) (is_made lines worker name) (made_is lines worker name h)
 
+-- names that no line made and that stand once each
+some_is : (lines : List Line) (worker : ℕ) (names : List (List ℕ)) → ((name : List ℕ) → IsOneOf names name → IsMade lines worker name → ⊥) → AreApart names → repeats_some lines worker names ≡ false
+some_is lines worker [] new once = refl
+some_is lines worker (name ∷ names) new once =
+    let first = false_from_ne_true (is_made lines worker name) (λ e. new name (inl refl) (made_from lines worker name e)) in
+    ap (λ (b : Bool). b || repeats_some (with_name lines worker name) worker names) first
+    ∙ some_is (with_name lines worker name) worker names (λ other h made. elim made [
+      | inl same ↦ once.0 (subst (IsOneOf names) (sym same.1) h)
+      | inr before ↦ new other (inr h) before
+    ]) once.1
+
+either_false : (a b : Bool) → (a || b) ≡ false → (a ≡ false) × (b ≡ false)
+either_false true b e = absurd (false≢true (sym e))
+either_false false b e = (refl, e)
+
+some_from : (lines : List Line) (worker : ℕ) (names : List (List ℕ)) → repeats_some lines worker names ≡ false → ((name : List ℕ) → IsOneOf names name → IsMade lines worker name → ⊥) × AreApart names
+some_from lines worker [] e = (λ name h made. h, tt)
+some_from lines worker (name ∷ names) e =
+    let both = either_false (is_made lines worker name) (repeats_some (with_name lines worker name) worker names) e in
+    let rest = some_from (with_name lines worker name) worker names both.1 in (
+      λ other h made. elim h [
+        | inl same ↦ both_ways (is_made lines worker name) both.0 (ap (is_made lines worker) same ∙ made_is lines worker other made)
+        | inr behind ↦ rest.0 other behind (inr made)
+      ],
+      (λ h. rest.0 name h (inl (refl, refl)), rest.1),
+    )
+
 pub anew_is : (lines : List Line) (worker : ℕ) (command : Command) → MakesAnew lines worker command → repeats lines worker command ≡ false
-anew_is lines worker (Alloc name) h = false_from_ne_true (is_made lines worker name) (λ e. h name refl (made_from lines worker name e))
+anew_is lines worker (Alloc name) h = false_from_ne_true (is_made lines worker name) (λ e. h.new name refl (made_from lines worker name e))
+anew_is lines worker (Bulk names) h = some_is lines worker names h.new h.once
 anew_is lines worker (Free name) h = refl
+anew_is lines worker (Resize name change) h = refl
+anew_is lines worker (Chain head tail) h = refl
 anew_is lines worker Flush h = refl
 
 pub anew_from : (lines : List Line) (worker : ℕ) (command : Command) → repeats lines worker command ≡ false → MakesAnew lines worker command
-anew_from lines worker (Alloc made) e name makes_it h = both_ways (is_made lines worker made) e (ap (is_made lines worker) makes_it ∙ made_is lines worker name h)
-anew_from lines worker (Free freed) e name makes_it h = makes_it
-anew_from lines worker Flush e name makes_it h = makes_it
+anew_from lines worker (Alloc made) e = record { new = λ name makes_it h. both_ways (is_made lines worker made) e (ap (is_made lines worker) makes_it ∙ made_is lines worker name h); once = tt }
+anew_from lines worker (Bulk names) e = let r = some_from lines worker names e in record { new = r.0; once = r.1 }
+anew_from lines worker (Free freed) e = record { new = λ name makes_it h. makes_it; once = tt }
+anew_from lines worker (Resize packet change) e = record { new = λ name makes_it h. makes_it; once = tt }
+anew_from lines worker (Chain head tail) e = record { new = λ name makes_it h. makes_it; once = tt }
+anew_from lines worker Flush e = record { new = λ name makes_it h. makes_it; once = tt }

@@ -4,8 +4,9 @@ use Rattle.std.specs.Prelude.{option_and_then, codes}
 use Rattle.std.specs.List.{list_all}
 use Rattle.std.proofs.lemmas.Bool.{cond-true, cond-false, cases_Bool, leb-true, le-leb, ltb-true, lt-ltb, and_parts, and_from, eqb-true, false_from_ne_true}
 use Rattle.commons.specs.declared.limits.Limits.{Limits}
+use Rattle.mbuf.specs.declared.lengths.Change.TheVariants.{Append, Prepend, Adj, Trim}
 use Rattle.script.specs.declared.commands.Command.{Command}
-use Rattle.script.specs.declared.commands.Command.TheVariants.{Alloc, Free, Flush}
+use Rattle.script.specs.declared.commands.Command.TheVariants.{Alloc, Bulk, Free, Resize, Chain, Flush}
 use Rattle.script.specs.Numbers.{IsNumber}
 use Rattle.script.specs.CommandLine.{IsCommand, IsCommandLine, alone, prefixed}
 use Rattle.script.specs.Text.{IsPrinted, IsPlain}
@@ -84,7 +85,13 @@ pool_is_read state after number line plain h =
 
 counted_command : (words : List (List ℕ)) (command : Command) → IsCommand words command → is_skipped words ≡ false
 counted_command words (Alloc name) h = ap is_skipped h.0
+counted_command words (Bulk names) h = ap is_skipped h.0
 counted_command words (Free name) h = ap is_skipped h.0
+counted_command words (Resize name (Append n)) h = ap is_skipped h.words_are
+counted_command words (Resize name (Prepend n)) h = ap is_skipped h.words_are
+counted_command words (Resize name (Adj n)) h = ap is_skipped h.words_are
+counted_command words (Resize name (Trim n)) h = ap is_skipped h.words_are
+counted_command words (Chain head tail) h = ap is_skipped h.0
 counted_command words Flush h = ap is_skipped h
 
 -- a number begins with a digit, and not with `#`

@@ -14,6 +14,7 @@ pub mod Listed
 pub mod MadeLemmas
 pub mod Members
 pub mod NameLemmas
+pub mod NameRuns
 pub mod NewPools
 pub mod NumberLemmas
 pub mod PacketCalls

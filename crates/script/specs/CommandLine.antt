@@ -1,15 +1,49 @@
 -- Command lines: which words are a command of which worker, and which names commands make.
-use Rattle.std.specs.Prelude.{◌≡◌, ℕ, ◌≤◌, ◌⊎◌, List, [], ◌∷◌, ◌++◌, codes}
+use Rattle.std.specs.Prelude.{◌≡◌, ℕ, ◌≤◌, ◌⊎◌, List, [], ◌∷◌, ◌++◌, length, codes}
+use Rattle.std.specs.List.{AllByRecursion}
+use Rattle.mbuf.specs.declared.lengths.Change.{Change}
+use Rattle.mbuf.specs.declared.lengths.Change.TheVariants.{Append, Prepend, Adj, Trim}
 use Rattle.script.specs.declared.commands.Command.{Command}
-use Rattle.script.specs.declared.commands.Command.TheVariants.{Alloc, Free, Flush}
+use Rattle.script.specs.declared.commands.Command.TheVariants.{Alloc, Bulk, Free, Resize, Chain, Flush}
 use Rattle.script.specs.declared.commands.Line.{Line}
 use Rattle.script.specs.Names.{IsName}
 use Rattle.script.specs.Numbers.{IsNumber}
 
+-- how a change of lengths is written
+abbrev pub change_word : Change → List ℕ
+change_word (Append n) = codes "append"
+change_word (Prepend n) = codes "prepend"
+change_word (Adj n) = codes "adj"
+change_word (Trim n) = codes "trim"
+
+-- by how many bytes it is
+abbrev pub bytes_of : Change → ℕ
+bytes_of (Append n) = n
+bytes_of (Prepend n) = n
+bytes_of (Adj n) = n
+bytes_of (Trim n) = n
+
+-- the words are a packet's change by so many bytes, at most 65535
+pub record IsResize (words : List (List ℕ)) (name : List ℕ) (change : Change) : Type 0 where
+  pub number : List ℕ
+  pub words_are : words ≡ change_word change ∷ name ∷ number ∷ []
+  pub is_name : IsName name
+  pub is_number : IsNumber number (bytes_of change)
+  pub short : bytes_of change ≤ 65535
+
+-- the words are 1 to 256 names
+pub record AreNames (words : List (List ℕ)) : Type 0 where
+  pub some : 1 ≤ length words
+  pub few : length words ≤ 256
+  pub each : AllByRecursion IsName words
+
 -- the words are this command
 abbrev pub IsCommand : List (List ℕ) → Command → Type 0
 IsCommand words (Alloc name) = (words ≡ codes "alloc" ∷ name ∷ []) × IsName name
+IsCommand words (Bulk names) = (words ≡ codes "bulk" ∷ names) × AreNames names
 IsCommand words (Free name) = (words ≡ codes "free" ∷ name ∷ []) × IsName name
+IsCommand words (Resize name change) = IsResize words name change
+IsCommand words (Chain head tail) = (words ≡ codes "chain" ∷ head ∷ tail ∷ []) × IsName head × IsName tail
 IsCommand words Flush = words ≡ codes "flush" ∷ []
 
 -- the word is a worker's number, from 1 to that of the last, with a colon behind it
@@ -27,10 +61,23 @@ pub data IsCommandLine (workers : ℕ) (words : List (List ℕ)) (worker : ℕ) 
   -- and one that does is of the worker that stands in front of the command
   prefixed : (word : List ℕ) → (rest : List (List ℕ)) → words ≡ word ∷ rest → IsPrefix word workers worker → IsCommand rest command → IsCommandLine workers words worker command
 
+-- the name is one of these
+abbrev pub IsOneOf : List (List ℕ) → List ℕ → Type 0
+IsOneOf [] name = ⊥
+IsOneOf (first ∷ names) name = (first ≡ name) ⊎ IsOneOf names name
+
+-- none of these stands twice
+abbrev pub AreApart : List (List ℕ) → Type 0
+AreApart [] = Unit {0}
+AreApart (name ∷ names) = (IsOneOf names name → ⊥) × AreApart names
+
 -- the command makes the name
 abbrev pub Makes : Command → List ℕ → Type 0
 Makes (Alloc made) name = made ≡ name
+Makes (Bulk names) name = IsOneOf names name
 Makes (Free freed) name = ⊥
+Makes (Resize packet change) name = ⊥
+Makes (Chain head tail) name = ⊥
 Makes Flush name = ⊥
 
 -- one of the lines makes the worker's name
@@ -38,6 +85,16 @@ abbrev pub IsMade : List Line → ℕ → List ℕ → Type 0
 IsMade [] worker name = ⊥
 IsMade (line ∷ lines) worker name = ((line.worker ≡ worker) × Makes line.command name) ⊎ IsMade lines worker name
 
--- no line has made before what the worker's command makes
-abbrev pub MakesAnew : List Line → ℕ → Command → Type 0
-MakesAnew lines worker command = (name : List ℕ) → Makes command name → IsMade lines worker name → ⊥
+-- the command makes each of its names once
+abbrev pub MakesOnce : Command → Type 0
+MakesOnce (Alloc name) = Unit {0}
+MakesOnce (Bulk names) = AreApart names
+MakesOnce (Free name) = Unit {0}
+MakesOnce (Resize name change) = Unit {0}
+MakesOnce (Chain head tail) = Unit {0}
+MakesOnce Flush = Unit {0}
+
+-- no line has made before what the worker's command makes, and it makes it once
+pub record MakesAnew (lines : List Line) (worker : ℕ) (command : Command) : Type 0 where
+  pub new : (name : List ℕ) → Makes command name → IsMade lines worker name → ⊥
+  pub once : MakesOnce command

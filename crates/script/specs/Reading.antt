@@ -5,8 +5,10 @@ use Rattle.std.specs.Str.{bytes_eq}
 use Rattle.commons.specs.declared.limits.Limits.{Limits}
 use Rattle.commons.specs.declared.refusal.Refusal.{Refusal}
 use Rattle.commons.specs.declared.refusal.Refusal.TheVariants.{BadPool, ScriptFault}
+use Rattle.mbuf.specs.declared.lengths.Change.{Change}
+use Rattle.mbuf.specs.declared.lengths.Change.TheVariants.{Append, Prepend, Adj, Trim}
 use Rattle.script.specs.declared.commands.Command.{Command}
-use Rattle.script.specs.declared.commands.Command.TheVariants.{Alloc, Free, Flush}
+use Rattle.script.specs.declared.commands.Command.TheVariants.{Alloc, Bulk, Free, Resize, Chain, Flush}
 use Rattle.script.specs.declared.commands.Line.{Line}
 use Rattle.script.specs.declared.command_line.Verb.{Verb}
 use Rattle.script.specs.declared.command_line.Verb.TheVariants as verbs
@@ -188,12 +190,18 @@ is_pool l =
 -- how a verb is written
 abbrev pub verb_word : Verb → List ℕ
 verb_word verbs.Alloc = codes "alloc"
+verb_word verbs.Bulk = codes "bulk"
 verb_word verbs.Free = codes "free"
+verb_word verbs.Append = codes "append"
+verb_word verbs.Prepend = codes "prepend"
+verb_word verbs.Adj = codes "adj"
+verb_word verbs.Trim = codes "trim"
+verb_word verbs.Chain = codes "chain"
 verb_word verbs.Flush = codes "flush"
 
 -- all verbs
 abbrev pub all_verbs : List Verb
-all_verbs = verbs.Alloc ∷ verbs.Free ∷ verbs.Flush ∷ []
+all_verbs = verbs.Alloc ∷ verbs.Bulk ∷ verbs.Free ∷ verbs.Append ∷ verbs.Prepend ∷ verbs.Adj ∷ verbs.Trim ∷ verbs.Chain ∷ verbs.Flush ∷ []
 
 -- the verb that a word spells
 abbrev pub verb_at : List ℕ → Option Verb
@@ -205,6 +213,49 @@ only_name_of [] = None
 only_name_of (word ∷ []) = if is_name_word word then Some word else None
 only_name_of (word ∷ other ∷ words) = None
 
+-- the words, where they are 1 to 256 names
+abbrev pub are_names : List (List ℕ) → Bool
+are_names words = nat_le 1 (length words) && nat_le (length words) 256 && list_all is_name_word words
+
+abbrev pub names_with : List (List ℕ) → Option (List (List ℕ))
+names_with words = if are_names words then Some words else None
+
+-- the only two of the words
+abbrev pub both_of : List (List ℕ) → Option (List ℕ × List ℕ)
+both_of [] = None
+both_of (word ∷ []) = None
+both_of (word ∷ other ∷ []) = Some (word, other)
+both_of (word ∷ other ∷ third ∷ words) = None
+
+-- the word, where it is a name
+abbrev pub name_at : List ℕ → Option (List ℕ)
+name_at word = if is_name_word word then Some word else None
+
+-- the number, where it is a length in bytes of at most 65535
+abbrev pub short_length : ℕ → Option ℕ
+short_length n = if nat_le n 65535 then Some n else None
+
+abbrev pub length_at : List ℕ → Option ℕ
+length_at word = option_and_then short_length (number_at word)
+
+-- a name and a length
+abbrev pub name_and_length : List (List ℕ) → Option (List ℕ × ℕ)
+name_and_length words =
+    option_and_then (λ both. option_and_then (λ name. option_and_then (λ len. Some (name, len)) (length_at both.1)) (name_at both.0)) (both_of words)
+
+-- two names
+abbrev pub both_names : List (List ℕ) → Option (List ℕ × List ℕ)
+both_names words =
+    option_and_then (λ both. option_and_then (λ head. option_and_then (λ tail. Some (head, tail)) (name_at both.1)) (name_at both.0)) (both_of words)
+
+-- the command of a change of lengths
+abbrev pub resize_with : (ℕ → Change) → List (List ℕ) → Option Command
+resize_with change words = option_and_then (λ found. Some (Resize found.0 (change found.1))) (name_and_length words)
+
+-- the command of a chain
+abbrev pub chain_with : List (List ℕ) → Option Command
+chain_with words = option_and_then (λ names. Some (Chain names.0 names.1)) (both_names words)
+
 -- the command of a verb that has no words behind it
 abbrev pub bare : Command → List (List ℕ) → Option Command
 bare command [] = Some command
@@ -213,7 +264,13 @@ bare command (word ∷ words) = None
 -- the command of a verb and the words behind it
 abbrev pub command_with : Verb → List (List ℕ) → Option Command
 command_with verbs.Alloc words = option_and_then (λ name. Some (Alloc name)) (only_name_of words)
+command_with verbs.Bulk words = option_and_then (λ names. Some (Bulk names)) (names_with words)
 command_with verbs.Free words = option_and_then (λ name. Some (Free name)) (only_name_of words)
+command_with verbs.Append words = resize_with Append words
+command_with verbs.Prepend words = resize_with Prepend words
+command_with verbs.Adj words = resize_with Adj words
+command_with verbs.Trim words = resize_with Trim words
+command_with verbs.Chain words = chain_with words
 command_with verbs.Flush words = bare Flush words
 
 -- the command that words are
@@ -247,10 +304,18 @@ abbrev pub order_from : ℕ → List (List ℕ) → Option (ℕ × Command)
 order_from workers [] = None
 order_from workers (word ∷ words) = order_by workers (before_colon word) (word ∷ words) words
 
+-- whether the name is one of these
+abbrev pub is_one_of : List (List ℕ) → List ℕ → Bool
+is_one_of [] name = false
+is_one_of (first ∷ names) name = bytes_eq name first || is_one_of names name
+
 -- whether the command makes the name
 abbrev pub makes : Command → List ℕ → Bool
 makes (Alloc made) name = bytes_eq name made
+makes (Bulk names) name = is_one_of names name
 makes (Free freed) name = false
+makes (Resize packet change) name = false
+makes (Chain head tail) name = false
 makes Flush name = false
 
 -- whether one of the lines makes the worker's name
@@ -258,10 +323,22 @@ abbrev pub is_made : List Line → ℕ → List ℕ → Bool
 is_made [] worker name = false
 is_made (line ∷ lines) worker name = (worker == line.worker && makes line.command name) || is_made lines worker name
 
--- whether the worker's command makes a name that one of the lines made
+-- the lines with one more, of no number, that makes the worker's name
+abbrev pub with_name : List Line → ℕ → List ℕ → List Line
+with_name lines worker name = record { number = 0; worker = worker; command = Alloc name } ∷ lines
+
+-- whether one of the names was made before, by one of the lines or by a name in front of it
+abbrev pub repeats_some : List Line → ℕ → List (List ℕ) → Bool
+repeats_some lines worker [] = false
+repeats_some lines worker (name ∷ names) = is_made lines worker name || repeats_some (with_name lines worker name) worker names
+
+-- whether the worker's command makes a name that one of the lines made, or one twice
 abbrev pub repeats : List Line → ℕ → Command → Bool
 repeats lines worker (Alloc name) = is_made lines worker name
+repeats lines worker (Bulk names) = repeats_some lines worker names
 repeats lines worker (Free name) = false
+repeats lines worker (Resize name change) = false
+repeats lines worker (Chain head tail) = false
 repeats lines worker Flush = false
 
 -- ---- a line, and lines one after another

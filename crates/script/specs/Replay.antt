@@ -1,14 +1,18 @@
 -- The reference model of a script's commands, line by line.
-use Rattle.std.specs.Prelude.{ℕ, ◌==◌, ◌&&◌, if◌then◌else◌, List, [], ◌∷◌, Option, Some, None}
+use Rattle.std.specs.Prelude.{ℕ, ◌==◌, ◌&&◌, if◌then◌else◌, List, [], ◌∷◌, length, Option, Some, None}
 use Rattle.std.specs.Str.{bytes_eq}
 use Rattle.commons.specs.declared.limits.Limits.{Limits}
 use Rattle.commons.specs.declared.refusal.Refusal.TheVariants.{NoSuchPacket}
 use Rattle.script.specs.declared.commands.Command.{Command}
 use Rattle.script.specs.declared.commands.Command.TheVariants as command
 use Rattle.script.specs.declared.commands.Line.{Line}
-use Rattle.mbuf.specs.declared.acts.Act.TheVariants.{Alloc, Free, Flush}
+use Rattle.mbuf.specs.declared.acts.Act.{Act}
+use Rattle.mbuf.specs.declared.acts.Act.TheVariants.{Alloc, AllocBulk, Free, Append, Prepend, Adj, Trim, Chain, Flush}
+use Rattle.mbuf.specs.declared.lengths.Change.{Change}
+use Rattle.mbuf.specs.declared.lengths.Change.TheVariants as change
+use Rattle.mbuf.specs.declared.acts.NewPacket.{NewPacket}
 use Rattle.mbuf.specs.declared.acts.Reply.{Reply}
-use Rattle.mbuf.specs.declared.acts.Reply.TheVariants.{Allocated, Freed as WasFreed, Refused}
+use Rattle.mbuf.specs.declared.acts.Reply.TheVariants.{Allocated, Bulk as WasBulk, Chained, Freed as WasFreed, Refused}
 use Rattle.script.specs.Pool.{Pool, new_pool}
 use Rattle.script.specs.PacketModel.{perform}
 
@@ -30,6 +34,17 @@ abbrev pub stands_after_alloc : ℕ → List ℕ → Reply → (ℕ → List ℕ
 stands_after_alloc worker name (Allocated slot elem) stands = named worker name (Some slot) stands
 stands_after_alloc worker name _ stands = stands
 
+-- names one after another stand for new packets
+abbrev pub all_named : ℕ → List (List ℕ) → List NewPacket → (ℕ → List ℕ → Option ℕ) → ℕ → List ℕ → Option ℕ
+all_named worker [] packets stands = stands
+all_named worker (name ∷ names) [] stands = stands
+all_named worker (name ∷ names) (packet ∷ packets) stands = all_named worker names packets (named worker name (Some packet.slot) stands)
+
+-- a bulk that is met gives its names the new packets' slots
+abbrev pub stands_after_bulk : ℕ → List (List ℕ) → Reply → (ℕ → List ℕ → Option ℕ) → ℕ → List ℕ → Option ℕ
+stands_after_bulk worker names (WasBulk packets) stands = all_named worker names packets.items stands
+stands_after_bulk worker names _ stands = stands
+
 -- and a free that is met takes it away
 abbrev pub stands_after_free : ℕ → List ℕ → Reply → (ℕ → List ℕ → Option ℕ) → ℕ → List ℕ → Option ℕ
 stands_after_free worker name (WasFreed freed) stands = named worker name None stands
@@ -40,12 +55,43 @@ alloc_as worker name run =
     let done = perform run.pool worker Alloc in
     (done.0, record { pool = done.1; stands = stands_after_alloc worker name done.0 run.stands })
 
+abbrev pub bulk_as : ℕ → List (List ℕ) → Run → Reply × Run
+bulk_as worker names run =
+    let done = perform run.pool worker (AllocBulk (length names)) in
+    (done.0, record { pool = done.1; stands = stands_after_bulk worker names done.0 run.stands })
+
 -- a name that stands for no packet is refused
 abbrev pub free_as : Option ℕ → ℕ → List ℕ → Run → Reply × Run
 free_as None worker name run = (Refused NoSuchPacket, run)
 free_as (Some slot) worker name run =
     let done = perform run.pool worker (Free slot) in
     (done.0, record { pool = done.1; stands = stands_after_free worker name done.0 run.stands })
+
+-- a change of lengths as an act on the packet in a slot
+abbrev pub act_of : ℕ → Change → Act
+act_of slot (change.Append n) = Append slot n
+act_of slot (change.Prepend n) = Prepend slot n
+act_of slot (change.Adj n) = Adj slot n
+act_of slot (change.Trim n) = Trim slot n
+
+-- a change of lengths leaves each name as it stands
+abbrev pub resize_as : Option ℕ → ℕ → Change → Run → Reply × Run
+resize_as None worker change run = (Refused NoSuchPacket, run)
+resize_as (Some slot) worker change run =
+    let done = perform run.pool worker (act_of slot change) in
+    (done.0, record { pool = done.1; stands = run.stands })
+
+-- a chain that is met takes the second packet's name away
+abbrev pub stands_after_chain : ℕ → List ℕ → Reply → (ℕ → List ℕ → Option ℕ) → ℕ → List ℕ → Option ℕ
+stands_after_chain worker name (Chained segs len) stands = named worker name None stands
+stands_after_chain worker name _ stands = stands
+
+abbrev pub chain_as : Option ℕ → Option ℕ → ℕ → List ℕ → Run → Reply × Run
+chain_as None second worker name run = (Refused NoSuchPacket, run)
+chain_as (Some head) None worker name run = (Refused NoSuchPacket, run)
+chain_as (Some head) (Some tail) worker name run =
+    let done = perform run.pool worker (Chain head tail) in
+    (done.0, record { pool = done.1; stands = stands_after_chain worker name done.0 run.stands })
 
 -- a flush leaves each name as it stands
 abbrev pub flush_as : ℕ → Run → Reply × Run
@@ -54,7 +100,10 @@ flush_as worker run = let done = perform run.pool worker Flush in (done.0, recor
 -- the reply to a worker's command, and what is left
 abbrev pub obey : ℕ → Command → Run → Reply × Run
 obey worker (command.Alloc name) run = alloc_as worker name run
+obey worker (command.Bulk names) run = bulk_as worker names run
 obey worker (command.Free name) run = free_as (run.stands worker name) worker name run
+obey worker (command.Resize name change) run = resize_as (run.stands worker name) worker change run
+obey worker (command.Chain head tail) run = chain_as (run.stands worker head) (run.stands worker tail) worker tail run
 obey worker command.Flush run = flush_as worker run
 
 -- the reply to each line, with its number

@@ -7,7 +7,7 @@ use Rattle.commons.specs.declared.limits.Limits.{Limits}
 use Rattle.commons.specs.declared.refusal.Refusal.{Refusal}
 use Rattle.commons.specs.declared.refusal.Refusal.TheVariants as refusals
 use Rattle.script.specs.declared.commands.Command.{Command}
-use Rattle.script.specs.declared.commands.Command.TheVariants.{Alloc, Free, Flush}
+use Rattle.script.specs.declared.commands.Command.TheVariants.{Alloc, Bulk, Free, Resize, Chain, Flush}
 use Rattle.script.specs.declared.commands.Line.{Line}
 use Rattle.script.specs.declared.commands.Script.{Script}
 use Rattle.script.specs.declared.made_names.MadeNames.{MadeNames}
@@ -62,7 +62,10 @@ pub record IsKept (reader : Reader) : Type 0 where
 -- a name is what the command has as its name
 abbrev pub IsNamed : Command → Type 0
 IsNamed (Alloc name) = IsName name
+IsNamed (Bulk names) = AllByRecursion IsName names
 IsNamed (Free name) = IsName name
+IsNamed (Resize name change) = IsName name
+IsNamed (Chain head tail) = IsName head × IsName tail
 IsNamed Flush = Unit {0}
 
 -- why a pool line wasn't read

@@ -1,22 +1,32 @@
 //! The words of a command line.
 
-ghost use Rattle.std.specs.Prelude.{◌≡◌, ◌≤◌, [], ◌∷◌, codes, IfOk, if◌then◌else◌, Option, None, Some};
+ghost use Rattle.std.specs.Prelude.{◌≡◌, ◌≤◌, [], ◌∷◌, codes, IfOk, MatchOption, if◌then◌else◌, Option, None, Some};
 ghost use Rattle.std.specs.Str.{bytes_eq};
 ghost use Rattle.std.specs.Option.{option_copied};
-ghost use Rattle.script.specs.Reading.{before_colon, command_from, only_name_of, order_from, verb_at, words_of, worker_at};
+ghost use Rattle.script.specs.Reading.{before_colon, both_of, chain_with, command_from, command_with as command_by, length_at, name_and_length as name_and_length_of, name_at, names_with, only_name_of, order_from, verb_at, words_of, worker_at};
 
 use crate::commands::{Command, Name};
 use crate::line::next_word;
 use crate::name::is_name;
 use crate::number::number_of;
 use commons::seq::Seq;
+use mbuf::lengths::Change;
 use std::alloc::{AllocError, Global};
+
+/// The most names that a bulk has.
+const MAX_NAMES: usize = 256;
 
 /// The first word of a command.
 #[derive(Clone, Copy, PartialEq, Eq, Debug)]
 enum Verb {
     Alloc,
+    Bulk,
     Free,
+    Append,
+    Prepend,
+    Adj,
+    Trim,
+    Chain,
     Flush,
 }
 
@@ -26,8 +36,20 @@ fn verb_of(word: &[u8]) -> Option<Verb>
 {
     if word == b"alloc".as_slice() {
         Some(Verb::Alloc)
+    } else if word == b"bulk".as_slice() {
+        Some(Verb::Bulk)
     } else if word == b"free".as_slice() {
         Some(Verb::Free)
+    } else if word == b"append".as_slice() {
+        Some(Verb::Append)
+    } else if word == b"prepend".as_slice() {
+        Some(Verb::Prepend)
+    } else if word == b"adj".as_slice() {
+        Some(Verb::Adj)
+    } else if word == b"trim".as_slice() {
+        Some(Verb::Trim)
+    } else if word == b"chain".as_slice() {
+        Some(Verb::Chain)
     } else if word == b"flush".as_slice() {
         Some(Verb::Flush)
     } else {
@@ -57,6 +79,140 @@ fn copied_name(alloc: Global, rest: &[u8]) -> Result<Option<Name>, AllocError>
     }
 }
 
+/// Copies of the words of a rest of a line, where they are 1 to 256 names.
+fn names_of(alloc: Global, rest: &[u8]) -> Result<Option<Seq<Name>>, AllocError>
+    ensures { IfOk result (λ names. names ≡ names_with (words_of rest.now)) }
+{
+    let mut names = Vec::new(alloc);
+    let mut left = rest;
+    while let Some((word, after)) = next_word(left) {
+        if names.len() == MAX_NAMES {
+            return Ok(None);
+        }
+        let Some(name) = name_of(alloc, word)? else {
+            return Ok(None);
+        };
+        names.push(name)?;
+        left = after;
+    }
+    if names.is_empty() {
+        Ok(None)
+    } else {
+        Ok(Some(Seq::new(names)))
+    }
+}
+
+/// The only two words of a rest of a line.
+fn both_words(rest: &[u8]) -> Option<(&[u8], &[u8])>
+    ensures { MatchOption result
+        (both_of (words_of rest.now) ≡ None)
+        (λ found. both_of (words_of rest.now) ≡ Some (found.0.now, found.1.now)) }
+{
+    let (first, after) = next_word(rest)?;
+    let (second, behind) = next_word(after)?;
+    if next_word(behind).is_none() {
+        Some((first, second))
+    } else {
+        None
+    }
+}
+
+/// A copy of a word, where it is a name.
+fn name_of(alloc: Global, word: &[u8]) -> Result<Option<Name>, AllocError>
+    ensures { IfOk result (λ name. name ≡ name_at word.now) }
+{
+    if is_name(word) {
+        Ok(Some(Seq::new(Vec::from_slice(alloc, word)?)))
+    } else {
+        Ok(None)
+    }
+}
+
+/// The length in bytes that a word spells, at most 65,535.
+fn length_of(word: &[u8]) -> Option<u16>
+    ensures { result ≡ length_at word.now }
+{
+    let len = number_of(word)?;
+    if len <= 65_535 {
+        Some(len as u16)
+    } else {
+        None
+    }
+}
+
+/// The name and the length that are the only words of a rest of a line.
+fn name_and_length(alloc: Global, rest: &[u8]) -> Result<Option<(Name, u16)>, AllocError>
+    ensures { IfOk result (λ found. found ≡ name_and_length_of (words_of rest.now)) }
+{
+    let Some((word, number)) = both_words(rest) else {
+        return Ok(None);
+    };
+    let Some(len) = length_of(number) else {
+        return Ok(None);
+    };
+    match name_of(alloc, word)? {
+        Some(name) => Ok(Some((name, len))),
+        None => Ok(None),
+    }
+}
+
+/// The command of a chain, by the words behind it.
+fn chain_of(alloc: Global, rest: &[u8]) -> Result<Option<Command>, AllocError>
+    ensures { IfOk result (λ command. command ≡ chain_with (words_of rest.now)) }
+{
+    let Some((first, second)) = both_words(rest) else {
+        return Ok(None);
+    };
+    let Some(head) = name_of(alloc, first)? else {
+        return Ok(None);
+    };
+    match name_of(alloc, second)? {
+        Some(tail) => Ok(Some(Command::Chain(head, tail))),
+        None => Ok(None),
+    }
+}
+
+/// The command of a verb and the words behind it, or `None` where they are none.
+fn command_with(alloc: Global, verb: Verb, rest: &[u8]) -> Result<Option<Command>, AllocError>
+    ensures { IfOk result (λ command. command ≡ command_by verb (words_of rest.now)) }
+{
+    match verb {
+        Verb::Alloc => match copied_name(alloc, rest)? {
+            Some(name) => Ok(Some(Command::Alloc(name))),
+            None => Ok(None),
+        },
+        Verb::Bulk => match names_of(alloc, rest)? {
+            Some(names) => Ok(Some(Command::Bulk(names))),
+            None => Ok(None),
+        },
+        Verb::Free => match copied_name(alloc, rest)? {
+            Some(name) => Ok(Some(Command::Free(name))),
+            None => Ok(None),
+        },
+        Verb::Append => match name_and_length(alloc, rest)? {
+            Some((name, len)) => Ok(Some(Command::Resize(name, Change::Append(len)))),
+            None => Ok(None),
+        },
+        Verb::Prepend => match name_and_length(alloc, rest)? {
+            Some((name, len)) => Ok(Some(Command::Resize(name, Change::Prepend(len)))),
+            None => Ok(None),
+        },
+        Verb::Adj => match name_and_length(alloc, rest)? {
+            Some((name, len)) => Ok(Some(Command::Resize(name, Change::Adj(len)))),
+            None => Ok(None),
+        },
+        Verb::Trim => match name_and_length(alloc, rest)? {
+            Some((name, len)) => Ok(Some(Command::Resize(name, Change::Trim(len)))),
+            None => Ok(None),
+        },
+        Verb::Chain => chain_of(alloc, rest),
+        Verb::Flush => match next_word(rest) {
+            Some(_) => Ok(None),
+            None => Ok(Some(Command::Flush)),
+        },
+    }
+}
+
 /// The command that words spell, or `None` where they spell none.
 fn command_of(alloc: Global, words: &[u8]) -> Result<Option<Command>, AllocError>
     ensures { IfOk result (λ command. command ≡ command_from (words_of words.now)) }
@@ -67,20 +223,7 @@ fn command_of(alloc: Global, words: &[u8]) -> Result<Option<Command>, AllocError
     let Some(verb) = verb_of(word) else {
         return Ok(None);
     };
-    match verb {
-        Verb::Alloc => match copied_name(alloc, rest)? {
-            Some(name) => Ok(Some(Command::Alloc(name))),
-            None => Ok(None),
-        },
-        Verb::Free => match copied_name(alloc, rest)? {
-            Some(name) => Ok(Some(Command::Free(name))),
-            None => Ok(None),
-        },
-        Verb::Flush => match next_word(rest) {
-            Some(_) => Ok(None),
-            None => Ok(Some(Command::Flush)),
-        },
-    }
+    command_with(alloc, verb, rest)
 }
 
 /// The part of a word before a colon at its end.

@@ -3,6 +3,7 @@ ghost use Rattle.script.specs.Commands.{AreOfPool};
 
 use commons::limits::Limits;
 use commons::seq::Seq;
+use mbuf::lengths::Change;
 
 /// A packet's name: 1 to 16 of `a` to `z` and `0` to `9`, beginning with a letter.
 pub type Name = Seq<u8>;
@@ -12,8 +13,14 @@ pub type Name = Seq<u8>;
 pub enum Command {
     /// Makes a packet of one element.
     Alloc(Name),
+    /// Makes a packet of one element for each of these names, 1 to 256, all or none.
+    Bulk(Seq<Name>),
     /// Frees a packet.
     Free(Name),
+    /// Changes a packet's lengths.
+    Resize(Name, Change),
+    /// Puts the second packet's segments behind those of the first.
+    Chain(Name, Name),
     /// Puts the worker's whole cache onto the common stack.
     Flush,
 }

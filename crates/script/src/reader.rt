@@ -1,14 +1,15 @@
 //! Reading the lines of a script one after another.
 
 ghost use Rattle.std.specs.Prelude.{◌≡◌, ◌&&◌, ◌||◌, ◌==◌, ℕ, List, [], None, Some, Ok, not, IfOk, OnOk, MatchOption, MatchResult, true};
+ghost use Rattle.std.specs.List.{AllByRecursion};
 ghost use Rattle.script.specs.Names.{IsName};
 ghost use Rattle.script.specs.Told.{StopsPool};
 ghost use Rattle.script.specs.Grammar.{start};
-ghost use Rattle.script.specs.Reading.{words_of, limits_from, is_pool, repeats, makes, is_made, read_command as read_command_line, step};
+ghost use Rattle.script.specs.Reading.{words_of, limits_from, is_pool, repeats, repeats_some, makes, is_made, is_one_of, read_command as read_command_line, step};
 ghost use Rattle.script.specs.declared.reader.Stop.TheVariants.{OutOfMemory};
 
 use crate::command_line::order_of;
-use crate::commands::{Command, Line, Script};
+use crate::commands::{Command, Line, Name, Script};
 use crate::line::{is_plain, is_skipped};
 use crate::made_names::MadeNames;
 use crate::pool_line::limits_of;
@@ -147,16 +148,39 @@ impl Reader {
         requires kept { IsKept self.old }
         requires named { IsNamed command.now }
         ensures first { IfOk result (λ first. first ≡ not (repeats self.old.lines.items worker command.now)) }
-        ensures made { OnOk result ((other : ℕ) (name : List ℕ) → IsName name →
+        ensures made { result ≡ Ok true → (other : ℕ) (name : List ℕ) → IsName name →
             has_made self.new.made other name
-            ≡ ((other == worker && makes command.now name) || is_made self.old.lines.items other name)) }
+            ≡ ((other == worker && makes command.now name) || is_made self.old.lines.items other name) }
         ensures limits { self.new.limits ≡ self.old.limits }
         ensures lines { self.new.lines ≡ self.old.lines }
     {
         match command {
             Command::Alloc(name) => self.made.add(worker, name.as_slice()),
-            Command::Free(_) | Command::Flush => Ok(true),
+            Command::Bulk(names) => self.claim_all(worker, names.as_slice()),
+            Command::Free(_) | Command::Resize(_, _) | Command::Chain(_, _) | Command::Flush => {
+                Ok(true)
+            }
         }
+    }
+
+    /// Notes a worker's names, and says whether no line made one of them before and none stands
+    /// twice.
+    fn claim_all(&mut self, worker: u32, names: &[Name]) -> Result<bool, AllocError>
+        requires kept { IsKept self.old }
+        requires named { AllByRecursion IsName names.now }
+        ensures first { IfOk result (λ first. first ≡ not (repeats_some self.old.lines.items worker names.now)) }
+        ensures made { result ≡ Ok true → (other : ℕ) (name : List ℕ) → IsName name →
+            has_made self.new.made other name
+            ≡ ((other == worker && is_one_of names.now name) || is_made self.old.lines.items other name) }
+        ensures limits { self.new.limits ≡ self.old.limits }
+        ensures lines { self.new.lines ≡ self.old.lines }
+    {
+        for name in names {
+            if !self.made.add(worker, name.as_slice())? {
+                return Ok(false);
+            }
+        }
+        Ok(true)
     }
 
     /// The script, where a pool line was read.

@@ -1,14 +1,17 @@
 ghost use Rattle.std.specs.Prelude.{◌≡◌, None, IfOk, IfErr, OnOk};
-ghost use Rattle.script.specs.Replay.{replies_to, end_of, new_run, obey as obeyed};
+ghost use Rattle.script.specs.Replay.{replies_to, end_of, new_run, act_of as changes_to, all_named, chain_as, obey as obeyed};
 ghost use Rattle.script.specs.Standing.{run_of, fresh_run};
+ghost use Rattle.script.specs.Stands.{stands_in};
 ghost use Rattle.script.specs.Statements.{statement_of, ListsEachOnce};
 
-use crate::commands::{Command, Line, Script};
+use crate::commands::{Command, Line, Name, Script};
 use crate::names::Names;
 use crate::site_pool::SitePool;
 use crate::statement::Statement;
 use commons::refusal::Refusal;
-use mbuf::acts::{Act, Reply};
+use mbuf::acts::{Act, NewPacket, Reply};
+use mbuf::lengths::Change;
+use mbuf::packets::Pid;
 use std::alloc::{AllocError, Global};
 
 /// The reply to each command of a script, with the number of its line, and the statement of its
@@ -62,6 +65,53 @@ fn play(alloc: Global, pool: &mut SitePool, lines: &[Line]) -> Result<Vec<(u32, 
     Ok(replies)
 }
 
+/// Lets a worker's names stand for new packets, one after another.
+fn name_all<'a>(
+    names: &mut Names<'a>,
+    worker: u32,
+    made: &'a [Name],
+    packets: &[NewPacket],
+) -> Result<(), AllocError>
+    ensures { OnOk result (stands_in names.new ≡ all_named worker made.now packets.now (stands_in names.old)) }
+{
+    for index in 0..made.len().min(packets.len()) {
+        names.set(worker, made[index].as_slice(), packets[index].slot)?;
+    }
+    Ok(())
+}
+
+/// A change of lengths as an act on the packet in a slot.
+fn act_of(slot: Pid, change: Change) -> Act
+    ensures { result ≡ changes_to slot change }
+{
+    match change {
+        Change::Append(len) => Act::Append(slot, len),
+        Change::Prepend(len) => Act::Prepend(slot, len),
+        Change::Adj(len) => Act::Adj(slot, len),
+        Change::Trim(len) => Act::Trim(slot, len),
+    }
+}
+
+/// Chains the packets of two of a worker's names, and keeps that the second name stands for none.
+fn chain<'a>(
+    pool: &mut SitePool,
+    names: &mut Names<'a>,
+    worker: u32,
+    head: &'a [u8],
+    tail: &'a [u8],
+) -> Reply
+    ensures { (result, run_of pool.new names.new) ≡ chain_as ((run_of pool.old names.old).stands worker head.now) ((run_of pool.old names.old).stands worker tail.now) worker tail.now (run_of pool.old names.old) }
+{
+    let (Some(first), Some(second)) = (names.get(worker, head), names.get(worker, tail)) else {
+        return Reply::Refused(Refusal::NoSuchPacket);
+    };
+    let reply = pool.perform(worker, Act::Chain(first, second));
+    if let Reply::Chained(_, _) = reply {
+        names.forget(worker, tail);
+    }
+    reply
+}
+
 /// Performs one line, and keeps which packet its name stands for.
 fn obey<'a>(pool: &mut SitePool, names: &mut Names<'a>, line: &'a Line) -> Result<Reply, AllocError>
     ensures { IfOk result (λ r. (r, run_of pool.new names.new) ≡ obeyed line.now.worker line.now.command (run_of pool.old names.old)) }
@@ -72,6 +122,13 @@ fn obey<'a>(pool: &mut SitePool, names: &mut Names<'a>, line: &'a Line) -> Resul
             let reply = pool.perform(worker, Act::Alloc);
             if let Reply::Allocated(slot, _) = reply {
                 names.set(worker, name.as_slice(), slot)?;
+            }
+            Ok(reply)
+        }
+        Command::Bulk(made) => {
+            let reply = pool.perform(worker, Act::AllocBulk(made.len()));
+            if let Reply::Bulk(packets) = &reply {
+                name_all(names, worker, made.as_slice(), packets.as_slice())?;
             }
             Ok(reply)
         }
@@ -86,6 +143,19 @@ fn obey<'a>(pool: &mut SitePool, names: &mut Names<'a>, line: &'a Line) -> Resul
             }
             Ok(reply)
         }
+        Command::Resize(name, change) => {
+            let Some(slot) = names.get(worker, name.as_slice()) else {
+                return Ok(Reply::Refused(Refusal::NoSuchPacket));
+            };
+            Ok(pool.perform(worker, act_of(slot, *change)))
+        }
+        Command::Chain(head, tail) => Ok(chain(
+            pool,
+            names,
+            worker,
+            head.as_slice(),
+            tail.as_slice(),
+        )),
         Command::Flush => Ok(pool.perform(worker, Act::Flush)),
     }
 }

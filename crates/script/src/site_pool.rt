@@ -61,16 +61,20 @@ impl SitePool {
         lose_all(members);
     }
 
-    /// Lets a worker, numbered from 1, do this, and answers what came of it.
+    /// Lets a worker, numbered from 1, do this with its packets and its cache, and answers what
+    /// came of it.
     ///
-    /// Refused `StrangerShare` for a worker outside the pool. An alloc is refused `PacketsFull`
-    /// where the worker has no free slot, else as its cache's get of one element is: `NoEntries` or
-    /// `HeadSpent`. A free is refused `NoSuchPacket` where the slot is empty or above 255. Nothing
-    /// changes then. A push that the stack refuses is no refusal of a free or a flush: `put_off` and
-    /// `PutOff` tell of it, and the elements stay in the cache. A flush is never refused.
+    /// Refused `StrangerShare` for a worker outside the pool, else as the worker's packets are. A
+    /// new packet is refused `PacketsFull` where the worker has too few free slots, else as its
+    /// cache's get is: `NoEntries` or `HeadSpent`. An act on a slot that is empty or above 255 is
+    /// refused `NoSuchPacket`; else a change of lengths is refused `NoRoom` or `TooShort`, and a
+    /// chain `SamePacket` or `TooManySegs`. Nothing changes then. A push that the stack refuses is
+    /// no refusal of a free or a flush: `put_off` and `PutOff` tell of it, and the elements stay in
+    /// the cache. A flush is never refused.
     ///
-    /// After rte_mbuf.h, `rte_pktmbuf_alloc` and `rte_pktmbuf_free`, and rte_mempool.h,
-    /// `rte_mempool_cache_flush` (DPDK 21.11).
+    /// After rte_mbuf.h, `rte_pktmbuf_alloc`, `rte_pktmbuf_alloc_bulk`, `rte_pktmbuf_free`,
+    /// `rte_pktmbuf_append`, `rte_pktmbuf_prepend`, `rte_pktmbuf_adj`, `rte_pktmbuf_trim` and
+    /// `rte_pktmbuf_chain`, and rte_mempool.h, `rte_mempool_cache_flush` (DPDK 21.11).
     pub fn perform(&mut self, worker: u32, act: Act) -> Reply
         ensures { (result, self.new) ≡ perform self.old worker act }
     {

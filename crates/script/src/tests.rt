@@ -6,8 +6,10 @@ use std::test::Fail;
 
 mod caches;
 mod calls;
+mod full;
 mod many;
 mod memory;
+mod packets;
 
 const FIRST_RUN: &str = "pool 3\nalloc a\nalloc b\nfree a\n";
 

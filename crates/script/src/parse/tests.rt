@@ -1,6 +1,7 @@
 use super::parse;
 use crate::commands::{Command, Line, Script};
 use commons::refusal::Refusal;
+use mbuf::lengths::Change;
 use std::alloc::Global;
 use std::process::Abort;
 use std::test::Fail;
@@ -19,13 +20,51 @@ fn read(rt: &impl Abort, alloc: Global, text: &[u8]) -> Script {
     parse(alloc, text).expect(rt, "the text is a script")
 }
 
+/// Adds a word and the space in front of it.
+fn push_word(text: &mut String, word: &[u8]) -> Result<(), Fail> {
+    write!(text, " {}", std::str::from_utf8(word)?)?;
+    Ok(())
+}
+
+/// Adds a change of lengths.
+fn push_change(text: &mut String, change: Change) -> Result<(), Fail> {
+    match change {
+        Change::Append(len) => write!(text, "append {len} of")?,
+        Change::Prepend(len) => write!(text, "prepend {len} of")?,
+        Change::Adj(len) => write!(text, "adj {len} of")?,
+        Change::Trim(len) => write!(text, "trim {len} of")?,
+    }
+    Ok(())
+}
+
 /// What a line says, as text.
 fn shown(alloc: Global, line: &Line) -> Result<String, Fail> {
     let mut text = format!(in alloc; "{} {} ", line.number, line.worker)?;
     match &line.command {
-        Command::Alloc(name) => write!(text, "alloc {}", std::str::from_utf8(name.as_slice())?)?,
-        Command::Free(name) => write!(text, "free {}", std::str::from_utf8(name.as_slice())?)?,
-        Command::Flush => write!(text, "flush")?,
+        Command::Alloc(name) => {
+            text.push_str("alloc")?;
+            push_word(&mut text, name.as_slice())?;
+        }
+        Command::Bulk(names) => {
+            text.push_str("bulk")?;
+            for name in names.as_slice() {
+                push_word(&mut text, name.as_slice())?;
+            }
+        }
+        Command::Free(name) => {
+            text.push_str("free")?;
+            push_word(&mut text, name.as_slice())?;
+        }
+        Command::Resize(name, change) => {
+            push_change(&mut text, *change)?;
+            push_word(&mut text, name.as_slice())?;
+        }
+        Command::Chain(head, tail) => {
+            text.push_str("chain")?;
+            push_word(&mut text, head.as_slice())?;
+            push_word(&mut text, tail.as_slice())?;
+        }
+        Command::Flush => text.push_str("flush")?,
     }
     Ok(text)
 }
@@ -53,6 +92,69 @@ fn a_good_script_is_read(rt: HostRuntime) -> Result<(), Fail> {
         "5 1 alloc a; 6 1 free b9; 8 1 alloc b9; 9 2 free a; 10 2 flush; 11 1 alloc c; "
     );
     Ok(())
+}
+
+#[test]
+fn the_commands_of_packets_are_read(rt: HostRuntime) -> Result<(), Fail> {
+    let text =
+        b"pool 9\nbulk a b  c\nappend a 7\nprepend a 65535\n adj b 00 \ntrim c 1\nchain a b\n";
+    let script = read(&rt, rt.alloc(), text);
+    let mut lines = String::new(rt.alloc());
+    for line in script.lines.as_slice() {
+        lines.push_str(shown(rt.alloc(), line)?.as_str())?;
+        lines.push_str("; ")?;
+    }
+    assert_eq!(rt;
+        lines.as_str(),
+        "2 1 bulk a b c; 3 1 append 7 of a; 4 1 prepend 65535 of a; 5 1 adj 0 of b; \
+         6 1 trim 1 of c; 7 1 chain a b; "
+    );
+    Ok(())
+}
+
+#[test]
+fn wrong_words_behind_a_command_are_a_fault(rt: HostRuntime) {
+    let lines: [&[u8]; 14] = [
+        b"bulk",
+        b"bulk a b a",
+        b"bulk a B",
+        b"bulk a 1",
+        b"append a",
+        b"append a 65536",
+        b"append a b",
+        b"append 1 a",
+        b"prepend a 1 2",
+        b"adj a -1",
+        b"trim a",
+        b"chain a",
+        b"chain a b c",
+        b"chain a 1",
+    ];
+    for line in lines {
+        let mut text = Vec::from_slice(rt.alloc(), b"pool 3\n").expect(&rt, "memory");
+        text.extend_from_slice(line).expect(&rt, "memory");
+        text.push(b'\n').expect(&rt, "memory");
+        assert_eq!(rt;
+            refusal_of(rt.alloc(), text.as_slice()),
+            Some(Refusal::ScriptFault(2))
+        );
+    }
+}
+
+#[test]
+fn a_bulk_makes_its_names(rt: HostRuntime) {
+    assert_eq!(rt;
+        refusal_of(rt.alloc(), b"pool 9\nalloc c\nbulk a b c\n"),
+        Some(Refusal::ScriptFault(3))
+    );
+    assert_eq!(rt;
+        refusal_of(rt.alloc(), b"pool 9\nbulk a b c\nalloc b\n"),
+        Some(Refusal::ScriptFault(3))
+    );
+    assert_eq!(rt;
+        refusal_of(rt.alloc(), b"pool 9 workers 2\nbulk a b c\n2: bulk c b a\n"),
+        None
+    );
 }
 
 #[test]
