@@ -1,5 +1,5 @@
 -- Calls one after another: what leads on leads through.
-use Rattle.std.proofs.Common.{◌≡◌, List, [], ◌∷◌, ◌++◌, refl, sym, ap, ◌∙◌, subst}
+use Rattle.std.proofs.Common.{◌≡◌, List, [], ◌∷◌, ◌++◌, refl, sym, ap, subst}
 use Rattle.commons.specs.declared.limits.Limits.{Limits}
 use Rattle.commons.specs.Calls.{Reading, Call, Made, calls_of, Did, Leads}
 

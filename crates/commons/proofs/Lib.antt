@@ -4,5 +4,6 @@ pub mod Holds
 pub mod Leading
 pub mod Opening
 pub mod Places
+pub mod Raising
 pub mod Single
 pub mod Tables

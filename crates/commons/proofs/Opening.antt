@@ -61,6 +61,10 @@ table_opening l p = record {
     | inl b ↦ rw (get_or-replicate l.population i Common nowhere b) (sym (none_held l.workers l.population i))
     | inr b ↦ rw (copies_past l.population Common nowhere i b) (sym (none_held l.workers l.population i))
   ];
+  limited = λ i. elim (cases_lt i l.population) [
+    | inl b ↦ rw (get_or-replicate l.population i Common nowhere b) (omega arith)
+    | inr b ↦ rw (copies_past l.population Common nowhere i b) (omega arith)
+  ];
   header_places = length-replicate {A = Option ℕ} l.population None;
   headers_held = λ w i b h. absurd (omega (arith, nobody l.population w i));
   changed = p.start;

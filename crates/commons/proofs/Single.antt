@@ -163,6 +163,10 @@ module _ (s : Lists) (w i : ℕ) (q : Place) (answer : Lowered) (t : IsTable s) 
           (omega (arith, sum-there s.holds (w - 1) i (holds_of s w i - 1) row_ok.0 in_row, t.counted i, lowered_count w (place_of s i) q answer d, p))
       | inr e ↦ rw (get_or-set_other s.places i j q nowhere e) (t.counted j ∙ sym (sum-elsewhere s.holds (w - 1) i (holds_of s w i - 1) j row_ok.0 e))
     ];
+    limited = λ j. elim (apart_or_same i j) [
+      | inl e ↦ rw (e, get_or-set_same s.places i q nowhere in_places) (omega (arith, t.limited i, lowered_count w (place_of s i) q answer d))
+      | inr e ↦ rw (get_or-set_other s.places i j q nowhere e) (t.limited j)
+    ];
     header_places = length-set s.headers i (owner_left w (holds_of s w i - 1) (get_or s.headers i None)) ∙ t.header_places;
     headers_held = λ v j m o. elim (apart_or_same i j) [
       | inl e ↦

@@ -54,6 +54,10 @@ table_moved s common places changes old new t len a b w c each = record {
     | inl h ↦ rw h.0 (t.counted i)
     | inr h ↦ let k = rw h.0 at (t.counted i) in rw h.1 (omega (arith, k, a, b))
   ];
+  limited = λ i. elim (each i) [
+    | inl h ↦ rw h.0 (t.limited i)
+    | inr h ↦ rw h.1 (omega (arith, b))
+  ];
   header_places = t.header_places;
   headers_held = t.headers_held;
   changed = c;
@@ -217,6 +221,10 @@ table_claim s w i t l h p =
         | inl e ↦ rw (e, get_or-set_same s.places i (Held 1) nowhere below)
             (omega (arith, sum-there s.holds (w - 1) i 1 k.0 within, not_held s w i t p, hold_le s.holds (w - 1) i k.0))
         | inr e ↦ rw (get_or-set_other s.places i j (Held 1) nowhere e) (t.counted j ∙ sym (sum-elsewhere s.holds (w - 1) i 1 j k.0 e))
+      ];
+      limited = λ j. elim (apart_or_same i j) [
+        | inl e ↦ rw (e, get_or-set_same s.places i (Held 1) nowhere below) t.pool.refs_low
+        | inr e ↦ rw (get_or-set_other s.places i j (Held 1) nowhere e) (t.limited j)
       ];
       header_places = length-set s.headers i (Some w) ∙ t.header_places;
       headers_held = λ v j b q. elim (apart_or_same i j) [

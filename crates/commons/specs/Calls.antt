@@ -3,7 +3,7 @@ use Rattle.std.specs.Prelude.{ℕ, ◌≡◌, ◌<◌, ◌≤◌, List, [], ◌�
 use Rattle.commons.specs.Bag.{one}
 use Rattle.commons.specs.declared.limits.Limits.{Limits}
 use Rattle.commons.specs.declared.refusal.Refusal.{Refusal}
-use Rattle.commons.specs.declared.refusal.Refusal.TheVariants.{NoEntries, Contended, HeadSpent}
+use Rattle.commons.specs.declared.refusal.Refusal.TheVariants.{NoEntries, Contended, HeadSpent, RefSpent}
 use Rattle.commons.specs.declared.refusal.Lowered.{Lowered}
 use Rattle.commons.specs.declared.refusal.Lowered.TheVariants.{Last, Still}
 
@@ -21,6 +21,8 @@ pub data Call : Type 0 where
   GetList : (n : ℕ) (answer : Result (List ℕ) Refusal) → Call
   PutList : (list : List ℕ) (answer : Result (Unit {0}) Refusal) → Call
   Claim : (element : ℕ) → Call
+  CountOf : (element answer : ℕ) → Call
+  Raise : (element : ℕ) (answer : Result (Unit {0}) Refusal) → Call
   Lower : (element : ℕ) (answer : Lowered) → Call
   CommonCount : (answer : ℕ) → Call
 
@@ -49,6 +51,14 @@ IsCountAboveOne i (Count j value) = (j ≡ i) × (1 < value)
 IsCountAboveOne i (Desk _ _) = ⊥
 IsCountAboveOne i Lost = ⊥
 
+-- a count of the element below this limit was read
+abbrev pub IsCountBelow : ℕ → ℕ → Reading → Type 0
+IsCountBelow i limit (Length _) = ⊥
+IsCountBelow i limit (Head _) = ⊥
+IsCountBelow i limit (Count j value) = (j ≡ i) × (value < limit)
+IsCountBelow i limit (Desk _ _) = ⊥
+IsCountBelow i limit Lost = ⊥
+
 abbrev pub is_lost : Reading → Bool
 is_lost (Length _) = false
 is_lost (Head _) = false
@@ -69,6 +79,12 @@ IsGetCause l n Contended rs = l.tries ≤ count_by is_lost rs
 IsGetCause l n HeadSpent rs = Contains rs (Head spent)
 IsGetCause l n _ rs = ⊥
 
+-- what was read is a cause to refuse one hold more of an element
+abbrev pub IsRaiseCause : Limits → ℕ → Refusal → List Reading → Type 0
+IsRaiseCause l i Contended rs = l.tries ≤ count_by is_lost rs
+IsRaiseCause l i RefSpent rs = Contains rs (Count i l.ref_limit)
+IsRaiseCause l i _ rs = ⊥
+
 -- What was read is a cause of the call's answer. A get that was met gives as many as were asked for; of the
 -- other answers with Unit nothing is asked.
 abbrev pub HasCause : Limits → Call → List Reading → Type 0
@@ -77,6 +93,9 @@ HasCause l (GetList n (Err e)) rs = IsGetCause l n e rs
 HasCause l (PutList list (Ok _)) rs = Unit {0}
 HasCause l (PutList list (Err e)) rs = IsStackCause l e rs
 HasCause l (Claim i) rs = Unit {0}
+HasCause l (CountOf i n) rs = Contains rs (Count i n)
+HasCause l (Raise i (Ok _)) rs = Any (IsCountBelow i l.ref_limit) rs
+HasCause l (Raise i (Err e)) rs = IsRaiseCause l i e rs
 HasCause l (Lower i Last) rs = Contains rs (Count i 1)
 HasCause l (Lower i Still) rs = Any (IsCountAboveOne i) rs
 HasCause l (CommonCount n) rs = Contains rs (Length n)

@@ -5,12 +5,12 @@ use Rattle.commons.specs.declared.limits.Limits.{Limits}
 use Rattle.commons.specs.declared.place.Place.{Place}
 use Rattle.commons.specs.declared.place.Place.TheVariants.{Common, Hand, Held}
 use Rattle.commons.specs.declared.refusal.Refusal.{Refusal}
-use Rattle.commons.specs.declared.refusal.Refusal.TheVariants.{BadPool, OutOfMemory, NoEntries, HeadSpent}
+use Rattle.commons.specs.declared.refusal.Refusal.TheVariants.{BadPool, OutOfMemory, NoEntries, HeadSpent, RefSpent}
 use Rattle.commons.specs.declared.refusal.Lowered.{Lowered}
 use Rattle.commons.specs.declared.refusal.Lowered.TheVariants.{Last, Still}
 use Rattle.commons.specs.Bag.{bag}
 use Rattle.commons.specs.Bounds.{IsPool}
-use Rattle.commons.specs.Calls.{Reading, Length, Head, Count, Call, GetList, PutList, CommonCount, Claim, Lower, spent}
+use Rattle.commons.specs.Calls.{Reading, Length, Head, Count, Call, GetList, PutList, CommonCount, Claim, CountOf, Raise, Lower, spent}
 
 -- the common list from the top; the place of each element; for each worker how often it holds each element;
 -- for each element the worker whose header it is; the number of changes of the stack
@@ -73,7 +73,8 @@ abbrev pub header_of : Lists → ℕ → ℕ → ℕ
 header_of s w i = is_owner w (slice_index_or s.headers i None)
 
 -- Each element has one place, and the lists show it: it stands in the common list once where that is its place
--- and else not at all, it is in the hand that its place names, and its count is the number of its holds.
+-- and else not at all, it is in the hand that its place names, and its count is the number of its holds, at most
+-- the reference limit.
 pub record IsTable (s : Lists) : Type 0 where
   pub pool : IsPool s.limits
   pub elements : length s.places ≡ s.limits.population
@@ -82,6 +83,7 @@ pub record IsTable (s : Lists) : Type 0 where
   pub workers : length s.holds ≡ s.limits.workers
   pub rows : (v : ℕ) → v < s.limits.workers → length (slice_index_or s.holds v []) ≡ s.limits.population
   pub counted : (i : ℕ) → held_count (place_of s i) ≡ holds_of_all s i
+  pub limited : (i : ℕ) → held_count (place_of s i) ≤ s.limits.ref_limit
   pub header_places : length s.headers ≡ s.limits.population
   pub headers_held : (w i : ℕ) → 1 ≤ w → 0 < header_of s w i → 0 < holds_of s w i
   pub changed : s.changes ≤ spent
@@ -137,6 +139,10 @@ after_put xs s = record s { common = reverse xs ++ s.common; places = placed xs 
 abbrev pub after_claim : ℕ → ℕ → Lists → Lists
 after_claim w i s = record s { places = slice_set s.places i (Held 1); holds = with_hold w i 1 s.holds; headers = slice_set s.headers i (Some w) }
 
+-- what one hold more leaves
+abbrev pub after_raise : ℕ → ℕ → Lists → Lists
+after_raise w i s = record s { places = slice_set s.places i (Held (held_count (place_of s i) + 1)); holds = with_hold w i (holds_of s w i + 1) s.holds }
+
 -- what the end of the last hold leaves, and that of another
 abbrev pub after_lower : ℕ → ℕ → Place → Lists → Lists
 after_lower w i place s =
@@ -162,11 +168,19 @@ DidPut s xs (Ok _) t = (s.changes < spent) × (t ≡ after_put xs s)
 DidPut s xs (Err HeadSpent) t = (s.changes ≡ spent) × (t ≡ s)
 DidPut s xs (Err _) t = ⊥
 
+-- one hold more of an element, where its count is below the limit
+abbrev pub DidRaise : ℕ → Lists → ℕ → Result (Unit {0}) Refusal → Lists → Type 0
+DidRaise w s i (Ok _) t = (held_count (place_of s i) < s.limits.ref_limit) × (t ≡ after_raise w i s)
+DidRaise w s i (Err RefSpent) t = (held_count (place_of s i) ≡ s.limits.ref_limit) × (t ≡ s)
+DidRaise w s i (Err _) t = ⊥
+
 -- a worker's call on the lists
 abbrev pub DidPlain : ℕ → Lists → Call → Lists → Type 0
 DidPlain w s (GetList n answer) t = DidGet w s n answer t
 DidPlain w s (PutList xs answer) t = DidPut s xs answer t
 DidPlain w s (Claim i) t = t ≡ after_claim w i s
+DidPlain w s (CountOf i n) t = (n ≡ held_count (place_of s i)) × (t ≡ s)
+DidPlain w s (Raise i answer) t = DidRaise w s i answer t
 DidPlain w s (Lower i answer) t = DidLower w s i answer t
 DidPlain w s (CommonCount n) t = (n ≡ length s.common) × (t ≡ s)
 
@@ -176,6 +190,8 @@ read_by s (GetList n (Err NoEntries)) = Length (length s.common) ∷ []
 read_by s (GetList n _) = Length (length s.common) ∷ Head s.changes ∷ []
 read_by s (PutList xs _) = Head s.changes ∷ []
 read_by s (Claim i) = []
+read_by s (CountOf i _) = Count i (held_count (place_of s i)) ∷ []
+read_by s (Raise i _) = Count i (held_count (place_of s i)) ∷ []
 read_by s (Lower i _) = Count i (held_count (place_of s i)) ∷ []
 read_by s (CommonCount n) = Length (length s.common) ∷ []
 

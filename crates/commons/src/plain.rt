@@ -1,6 +1,6 @@
 ghost use Rattle.std.specs.Prelude.{◌≡◌, ◌<◌, ◌≤◌, ◌+◌, ℕ, List, length};
 ghost use Rattle.commons.specs.Bag.{bag, one};
-ghost use Rattle.commons.specs.Calls.{Reading, Call, GetList, PutList, Claim, Lower, CommonCount, with_list, Did};
+ghost use Rattle.commons.specs.Calls.{Reading, Call, GetList, PutList, Claim, CountOf, Raise, Lower, CommonCount, with_list, Did};
 ghost use Rattle.commons.specs.Lists.{Lists, IsTable, hand_of, holds_of, header_of, DidOnLists};
 
 use crate::refusal::{Lowered, Refusal};
@@ -52,6 +52,14 @@ impl<'a> Commons for PlainCommons<'a> {
 
     fn claim(&mut self, element: u32) {
         self.site.claim(self.worker, element)
+    }
+
+    fn count(&mut self, element: u32) -> u32 {
+        self.site.count(element)
+    }
+
+    fn raise(&mut self, element: u32) -> Result<(), Refusal> {
+        self.site.raise(self.worker, element)
     }
 
     fn lower(&mut self, element: u32) -> Lowered {

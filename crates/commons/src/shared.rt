@@ -1,6 +1,6 @@
 ghost use Rattle.std.specs.Prelude.{◌≡◌, ◌<◌, ◌≤◌, ◌+◌, ℕ, List, length, OnOk, OnErr, nat_lt, if◌then◌else◌};
 ghost use Rattle.commons.specs.Bag.{bag, one};
-ghost use Rattle.commons.specs.Calls.{Reading, Call, GetList, PutList, Claim, Lower, CommonCount, with_list, Did, back};
+ghost use Rattle.commons.specs.Calls.{Reading, Call, GetList, PutList, Claim, CountOf, Raise, Lower, CommonCount, with_list, Did, back};
 ghost use Rattle.commons.specs.declared.limits.Limits.{Limits};
 
 use crate::refusal::{Lowered, Refusal};
@@ -68,6 +68,37 @@ pub trait Commons {
         ensures hand { (i : ℕ) → hand self.old i ≡ hand self.new i + one element i }
         ensures holds { (i : ℕ) → holds self.new i ≡ holds self.old i + one element i }
         ensures headers { (i : ℕ) → headers self.new i ≡ headers self.old i + one element i }
+        ensures limits { limits self.new ≡ limits self.old };
+
+    /// The reference count of an element that this worker holds, as read at one moment of the call:
+    /// the number of holds of all holders, at most the pool's reference limit. 1 says that there is
+    /// no other hold.
+    ///
+    /// After rte_mbuf.h, `rte_mbuf_refcnt_read` (DPDK 21.11).
+    fn count(&mut self, element: u32) -> u32
+        requires { 0 < holds self.old element }
+        ensures did { Did did limits self.old (CountOf element result) self.new }
+        ensures own { holds self.old element ≤ result }
+        ensures limited { result ≤ (limits self.old).ref_limit }
+        ensures hand { hand self.new ≡ hand self.old }
+        ensures holds { holds self.new ≡ holds self.old }
+        ensures headers { headers self.new ≡ headers self.old }
+        ensures limits { limits self.new ≡ limits self.old };
+
+    /// Makes one more hold by this worker of an element that it holds.
+    ///
+    /// Refused `RefSpent` where a count equal to the pool's reference limit was read, and
+    /// `Contended` after `tries` lost tries. Hand, holds and headers are then as before.
+    ///
+    /// After rte_mbuf.h, `rte_mbuf_refcnt_update` (DPDK 21.11), which knows no limit. `RefSpent` and
+    /// `Contended` are our own.
+    fn raise(&mut self, element: u32) -> Result<(), Refusal>
+        requires { 0 < holds self.old element }
+        ensures did { Did did limits self.old (Raise element result) self.new }
+        ensures hand { (i : ℕ) → hand self.new i ≡ hand self.old i }
+        ensures holds { OnOk result ((i : ℕ) → holds self.new i ≡ holds self.old i + one element i) }
+        ensures holds_err { OnErr result (holds self.new ≡ holds self.old) }
+        ensures headers { headers self.new ≡ headers self.old }
         ensures limits { limits self.new ≡ limits self.old };
 
     /// Ends one hold that this worker has of an element. `Last` where it was the only one: the element is then in the

@@ -1,7 +1,7 @@
 ghost use Rattle.std.specs.Prelude.{◌≡◌, ◌+◌, ◌<◌, ◌≤◌, ◌==◌, [], length, take, drop, reverse, replicate, slice_index, slice_index_or, slice_set, All, IfOk, vec_len, vec_capacity, None};
 ghost use Rattle.std.specs.List.{range_with_len};
 ghost use Rattle.commons.specs.Bounds.{IsPool};
-ghost use Rattle.commons.specs.Lists.{placed, owner_left, held_count, WasLowered, opening, IsTable};
+ghost use Rattle.commons.specs.Lists.{placed, place_of, owner_left, held_count, WasLowered, opening, IsTable};
 
 use crate::limits::Limits;
 use crate::place::Place;
@@ -40,7 +40,7 @@ impl PlainSite {
     ghost use Rattle.std.specs.Prelude.{◌≡◌, ◌<◌, ◌≤◌, ℕ, length, reverse, IfOk, IfErr};
     ghost use Rattle.commons.specs.Bag.{bag};
     ghost use Rattle.commons.specs.Calls.{with_list};
-    ghost use Rattle.commons.specs.Lists.{DidGet, DidPut, DidLower, IsTable, KeepsOthers, hand_of, holds_of, after_claim, opening, IsMakeCause};
+    ghost use Rattle.commons.specs.Lists.{DidGet, DidPut, DidRaise, DidLower, IsTable, KeepsOthers, hand_of, holds_of, after_claim, opening, IsMakeCause};
 
     /// A new pool: all elements in the common list, element 0 on top.
     ///
@@ -162,6 +162,39 @@ impl PlainSite {
         self.headers[i] = Some(worker);
     }
 
+    /// The reference count of an element: how often all workers hold it.
+    pub(crate) fn count(&self, element: u32) -> u32
+        requires { element < self.now.limits.population }
+        ensures count { result ≡ held_count (place_of self.now element) }
+        ensures table { IsTable self.now }
+    {
+        count_in(self.places[element as usize])
+    }
+
+    /// Makes one more hold of an element by a worker that holds it.
+    ///
+    /// Refused `RefSpent` exactly where its count is the reference limit. Nothing changes then.
+    pub(crate) fn raise(&mut self, worker: u32, element: u32) -> Result<(), Refusal>
+        requires low { 1 ≤ worker }
+        requires high { worker ≤ self.old.limits.workers }
+        requires held { 0 < holds_of self.old worker element }
+        ensures did { DidRaise worker self.old element result self.new }
+        ensures table { IsTable self.old }
+        ensures kept { IsTable self.new }
+        ensures others { KeepsOthers worker self.old self.new }
+    {
+        let i = element as usize;
+        let count = count_in(self.places[i]);
+        let limits = PlainSite::limits(self);
+        if u64::from(count) == limits.ref_limit {
+            return Err(Refusal::RefSpent);
+        }
+        self.places[i] = Place::Held(count + 1);
+        let more = hold(&self.holds, worker as usize - 1, i) + 1;
+        set_hold(&mut self.holds, worker as usize - 1, i, more);
+        Ok(())
+    }
+
     /// Ends one hold of an element: `Last` exactly where its count is 1.
     pub(crate) fn lower(&mut self, worker: u32, element: u32) -> Lowered
         requires low { 1 ≤ worker }
@@ -279,6 +312,16 @@ fn set_hold(rows: &mut Vec<Seq<u32>>, row: usize, element: usize, count: u32)
 {
     let counts = &mut rows[row];
     counts.set(element, count);
+}
+
+/// How often an element with this place is held.
+fn count_in(place: Place) -> u32
+    ensures { result ≡ held_count place }
+{
+    match place {
+        Place::Held(count) => count,
+        Place::Common | Place::Hand(_) => 0,
+    }
 }
 
 /// The place of an element once a hold of it has ended, and what the one who ended it is told.

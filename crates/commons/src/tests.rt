@@ -3,7 +3,7 @@ ghost use Rattle.std.specs.Prelude.{◌≡◌};
 use crate::limits::Limits;
 use crate::place::Place;
 use crate::plain::PlainCommons;
-use crate::refusal::Refusal;
+use crate::refusal::{Lowered, Refusal};
 use crate::shared::Commons;
 use crate::site::PlainSite;
 use std::process::Abort;
@@ -118,5 +118,29 @@ fn a_spent_head_is_told_of_behind_a_short_list(rt: HostRuntime) -> Result<(), Fa
     assert_eq!(rt; spent, Err(Refusal::HeadSpent));
     assert_eq!(rt; short, Err(Refusal::NoEntries));
     assert_eq!(rt; site.common(), [2, 1, 0].as_slice());
+    Ok(())
+}
+
+#[test]
+fn a_count_is_raised_to_its_limit_and_lowered(rt: HostRuntime) -> Result<(), Fail> {
+    let mut limits = three(0);
+    limits.ref_limit = 2;
+    let mut site = PlainSite::make(rt.alloc(), &limits)?;
+    let mut c = PlainCommons::new(&mut site, 1);
+    let mut one = [0; 1];
+    c.get_list(&mut one)?;
+    let element = one[0];
+    assert_eq!(rt; element, 0);
+    c.claim(element);
+    assert_eq!(rt; c.count(element), 1);
+    c.raise(element)?;
+    assert_eq!(rt; c.count(element), 2);
+    let spent = c.raise(element);
+    assert_eq!(rt; spent, Err(Refusal::RefSpent));
+    assert_eq!(rt; c.count(element), 2);
+    assert_eq!(rt; c.lower(element), Lowered::Still);
+    assert_eq!(rt; c.count(element), 1);
+    assert_eq!(rt; c.lower(element), Lowered::Last);
+    assert_eq!(rt; site.places()[0], Place::Hand(1));
     Ok(())
 }

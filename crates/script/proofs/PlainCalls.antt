@@ -2,8 +2,8 @@
 use Rattle.std.proofs.Common.{ℕ, ◌≡◌, List, [], ◌∷◌, ◌++◌, Ok, Err, refl, sym, ◌∙◌, ap, subst}
 use Rattle.commons.specs.declared.plain.PlainCommons.{PlainCommons}
 use Rattle.commons.specs.declared.limits.Limits.{Limits}
-use Rattle.commons.specs.declared.refusal.Refusal.TheVariants.{NoEntries, HeadSpent}
-use Rattle.commons.specs.Calls.{Call, GetList, PutList, Claim, Lower, CommonCount, Reading, Made, Leads, calls_of}
+use Rattle.commons.specs.declared.refusal.Refusal.TheVariants.{NoEntries, HeadSpent, RefSpent}
+use Rattle.commons.specs.Calls.{Call, GetList, PutList, Claim, CountOf, Raise, Lower, CommonCount, Reading, Made, Leads, calls_of}
 use Rattle.commons.specs.Lists.{Lists, IsTable, KeepsOthers, DidPlain, DidOnLists}
 use Rattle.script.specs.Own.{LeadsPlain, StepsAlone}
 
@@ -69,6 +69,10 @@ did_limits w s (PutList list (Ok _)) t d = ap (λ (x : Lists). x.limits) d.1
 did_limits w s (PutList list (Err HeadSpent)) t d = ap (λ (x : Lists). x.limits) d.1
 did_limits w s (PutList list (Err _)) t d = absurd d
 did_limits w s (Claim i) t d = ap (λ (x : Lists). x.limits) d
+did_limits w s (CountOf i n) t d = ap (λ (x : Lists). x.limits) d.1
+did_limits w s (Raise i (Ok _)) t d = ap (λ (x : Lists). x.limits) d.1
+did_limits w s (Raise i (Err RefSpent)) t d = ap (λ (x : Lists). x.limits) d.1
+did_limits w s (Raise i (Err _)) t d = absurd d
 did_limits w s (Lower i answer) t d = ap (λ (x : Lists). x.limits) d.2
 did_limits w s (CommonCount n) t d = ap (λ (x : Lists). x.limits) d.1
 
