@@ -1,19 +1,28 @@
 -- What was made is there to be told of.
-use Rattle.std.proofs.Common.{◌≡◌, ℕ, List, [], ◌∷◌, length, get_or, get_or-set_same, take, Option, Some, None, Ok, refl, sym, ap, ◌∙◌, subst, All, arith}
+use Rattle.std.proofs.Common.{◌≡◌, ℕ, List, [], ◌∷◌, length, get_or, get_or-set_same, take, Option, Some, None, Result, Ok, refl, sym, ap, ◌∙◌, subst, All, arith}
 use Rattle.std.specs.Prelude.{IsSome}
 use Rattle.std.proofs.lemmas.List.{length-take}
 use Rattle.arrayvec.specs.ArrayVec.{ArrayVec}
 use Rattle.commons.specs.Calls.{Call}
 use Rattle.commons.specs.declared.packet.Seg.{Seg}
-use Rattle.mbuf.specs.declared.acts.NewPacket.{NewPacket}
-use Rattle.mbuf.specs.declared.acts.Reply.TheVariants as reply
+use Rattle.commons.specs.declared.refusal.Refusal.{Refusal}
 use Rattle.mbuf.specs.Members.{Member}
-use Rattle.mbuf.specs.PacketRules.{Allocs, Full, NotGot, Fresh, AllocsBulk, TooFull, BulkNotGot, FreshBulk, fresh_seg, free_slots}
+use Rattle.mbuf.specs.PacketRules.{Allocs, Full, NotGot, Fresh, AllocsBulk, TooFull, BulkNotGot, FreshBulk, fresh_seg, free_slot, free_slots}
+use Rattle.mbuf.specs.Sharing.{Clones, NotClonable, WasGivenUp, WasCloned, clonable}
 use Rattle.mbuf.proofs.FreeLemmas.{stood_there}
 use Rattle.mbuf.proofs.OwnLemmas.{free_slot-is}
 
 some_there : (slot : Option (List Seg)) (segs : List Seg) → slot ≡ Some segs → IsSome slot
 some_there slot segs e = subst (λ (o : Option (List Seg)). IsSome o) (sym e) refl
+
+found_is : (p q : List Seg × ℕ) → ◌≡◌ {A = Result (List Seg × ℕ) Refusal} (Ok p) (Ok q) → p ≡ q
+found_is p q e = cc
+
+-- the slot of a clone is free
+clonable_free : (source : Option (List Seg)) (free : Option ℕ) (segs : List Seg) (slot : ℕ) → clonable source free ≡ Ok (segs, slot) → free ≡ Some slot
+clonable_free None free segs slot e = absurd cc
+clonable_free (Some x) None segs slot e = absurd cc
+clonable_free (Some x) (Some s) segs slot e = ap (λ (p : List Seg × ℕ). Some p.1) (found_is (x, s) (segs, slot) e)
 
 pub allocated_there : (m after : Member) (calls : List Call) (slot : ℕ) → Allocs m calls (Ok slot) after → IsSome (get_or after.table slot None)
 allocated_there m after calls slot (Full f c a k) = absurd cc
@@ -33,6 +42,15 @@ bulk_there m after n calls slots (FreshBulk es long room got left g c a k) =
     ∙ rw (same, ← long) (stood_there m.limits es m.table (omega (arith, long, room)) j d
     (omega (arith, within, long, room, length-take n (free_slots m.table), ap (λ (s : List ℕ). length s) same))))
 
--- a list of new packets is what it shows
-pub bulk_is : (list : ArrayVec NewPacket) (items : List NewPacket) → list.items ≡ items → reply.Bulk list ≡ reply.Bulk (record { items = items })
-bulk_is list items e = rw (← e) refl
+-- a list in place is what it shows
+pub list_is : {A : Type 0} (list : ArrayVec A) (items : List A) → list.items ≡ items → list ≡ record { items = items }
+list_is list items e = rw (← e) refl
+
+-- a clone is there
+pub cloned_there : (m after : Member) (p : ℕ) (calls : List Call) (slot : ℕ) → Clones m p calls (Ok slot) after → IsSome (get_or after.table slot None)
+cloned_there m after p calls slot (NotClonable cause f c a k) = absurd cc
+cloned_there m after p calls slot (WasGivenUp segs s f cause left g a k) = absurd cc
+cloned_there m after p calls slot (WasCloned segs s f new left g a k) =
+    let same : slot ≡ s = cc in
+    some_there (get_or after.table slot None) new
+    (ap (λ (x : Member). get_or x.table slot None) k ∙ rw same (get_or-set_same m.table s (Some new) None (free_slot-is m.table s (clonable_free (get_or m.table p None) (free_slot m.table) segs s f)).0))

@@ -1,9 +1,11 @@
 pub mod ActLemmas
 pub mod BitLemmas
 pub mod ChainLemmas
+pub mod CloneLemmas
 pub mod EndLemmas
 pub mod FreeLemmas
 pub mod ListLemmas
 pub mod OwnLemmas
 pub mod ResizeLemmas
+pub mod SharingLemmas
 pub mod TableLemmas

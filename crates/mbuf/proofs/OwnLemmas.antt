@@ -2,15 +2,24 @@
 use Rattle.std.proofs.Common.{◌≡◌, ℕ, ◌+◌, ◌<◌, ◌≤◌, List, [], ◌∷◌, length, get_or, set, map, Option, Some, None, refl, sym, ◌∙◌, true, inl, inr, arith}
 use Rattle.std.specs.Prelude.{is_none}
 use Rattle.std.proofs.lemmas.Bool.{cases_lt}
+use Rattle.std.proofs.lemmas.List.{get_or_past}
+use Rattle.std.proofs.lemmas.Option.{none-some}
 use Rattle.std.proofs.lemmas.List.Sums.{sum_by-set, sum_by-cons, get_or-le-sum_by}
 use Rattle.std.proofs.lemmas.List.Quantifiers.{position-Some}
 use Rattle.commons.specs.Bag.{bag}
 use Rattle.commons.specs.declared.limits.Limits.{Limits}
 use Rattle.commons.specs.declared.packet.Seg.{Seg}
 use Rattle.commons.proofs.Bags.{bag-nil, bag-cons, bag-append, bag-single}
-use Rattle.mbuf.specs.Members.{Member, holds_of_base, holds_of_seg, holds_of_packet, holds_in_slot, own_in_slot, held_in, own_in}
+use Rattle.mbuf.specs.Members.{Member, hold_of, holds_of_seg, holds_of_packet, holds_in_slot, own_in_slot, held_in, own_in}
 use Rattle.mbuf.specs.Own.{Own}
 use Rattle.mbuf.specs.PacketRules.{free_slot}
+
+-- a slot that has something is in the table
+pub stands_within : (table : List (Option (List Seg))) (slot : ℕ) (segs : List Seg) → get_or table slot None ≡ Some segs → slot < length table
+stands_within table slot segs e = elim (cases_lt slot (length table)) [
+  | inl h ↦ h
+  | inr h ↦ absurd (none-some segs (sym (get_or_past table slot None h) ∙ e))
+]
 
 -- a slot with other contents
 pub held_in-set : (table : List (Option (List Seg))) (k : ℕ) (new : Option (List Seg)) (i : ℕ) → k < length table →
@@ -33,7 +42,7 @@ own_held (seg ∷ segs) i = omega (
   own_held segs i,
   bag-cons seg.elem (map (λ seg. seg.elem) segs) i,
   bag-append (holds_of_seg seg) (holds_of_packet segs) i,
-  bag-append (holds_of_base seg.base) (seg.elem ∷ []) i,
+  bag-append (hold_of seg.base) (seg.elem ∷ []) i,
   bag-single seg.elem i,
 )
 
@@ -60,7 +69,7 @@ pub free_slot-is : (table : List (Option (List Seg))) (slot : ℕ) → free_slot
 free_slot-is table slot e = let h = position-Some is_none table slot None e in (h.0, none_is (get_or table slot None) h.1)
 
 -- what is still an own element is still held, and so a header as before
-own_headed : (own before held holds d1 d0 : ℕ) → own ≤ before → before ≤ d0 → own ≤ held → holds ≡ held → (0 < holds → d1 ≡ d0) → own ≤ d1
+pub own_headed : (own before held holds d1 d0 : ℕ) → own ≤ before → before ≤ d0 → own ≤ held → holds ≡ held → (0 < holds → d1 ≡ d0) → own ≤ d1
 own_headed own before held holds d1 d0 a b c e f = elim (cases_lt 0 holds) [
   | inl some ↦ omega (arith, a, b, f some)
   | inr none ↦ omega (arith, c, e, none)

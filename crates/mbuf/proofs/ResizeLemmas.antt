@@ -6,7 +6,7 @@ use Rattle.commons.specs.declared.packet.Seg.{Seg}
 use Rattle.mbuf.specs.Changes.{resized}
 use Rattle.mbuf.specs.Kept.{KeepsHolds}
 use Rattle.mbuf.specs.Lengths.{no_seg, with_seg, appended, prepended, adjusted, trimmed, grown_behind, grown_in_front, cut_in_front, cut_behind}
-use Rattle.mbuf.specs.Members.{Member, holds_of_base, holds_of_seg, holds_of_packet}
+use Rattle.mbuf.specs.Members.{Member, hold_of, holds_of_seg, holds_of_packet}
 use Rattle.mbuf.specs.Own.{Own}
 use Rattle.mbuf.specs.declared.lengths.Change.{Change}
 use Rattle.mbuf.specs.declared.lengths.Change.TheVariants.{Append, Prepend, Adj, Trim}
@@ -25,7 +25,7 @@ chosen false seg new other e h = absurd cc
 
 holds-set : (segs : List Seg) (k : ℕ) (seg : Seg) → SameHolds seg (get_or segs k no_seg) → holds_of_packet (set segs k seg) ≡ holds_of_packet segs
 holds-set [] k seg h = refl
-holds-set (first ∷ segs) zero seg h = ap (λ (es : List ℕ). es ++ holds_of_packet segs) (ap (λ (b : Option ℕ). holds_of_base b ++ seg.elem ∷ []) h.1 ∙ ap (λ (e : ℕ). holds_of_base first.base ++ e ∷ []) h.0)
+holds-set (first ∷ segs) zero seg h = ap (λ (es : List ℕ). es ++ holds_of_packet segs) (ap (λ (b : Option ℕ). hold_of b ++ seg.elem ∷ []) h.1 ∙ ap (λ (e : ℕ). hold_of first.base ++ e ∷ []) h.0)
 holds-set (first ∷ segs) (suc k) seg h = ap (λ (es : List ℕ). holds_of_seg first ++ es) (holds-set segs k seg h)
 
 elems-set : (segs : List Seg) (k : ℕ) (seg : Seg) → SameHolds seg (get_or segs k no_seg) → map (λ s. s.elem) (set segs k seg) ≡ map (λ (s : Seg). s.elem) segs

@@ -55,6 +55,13 @@ shown-packet (false ∷ flags) (packet ∷ packets) zero segs within e some = re
 shown-packet (free ∷ flags) (packet ∷ packets) (suc k) segs within e some =
     ap (λ (t : List (Option (List Seg))). unless_free free packet ∷ t) (shown-packet flags packets k segs (omega (arith, within)) (omega (arith, e)) some)
 
+-- what is kept in a free slot isn't shown
+pub shown_hidden : (flags : List Bool) (packets : List (List Seg)) (k : ℕ) (segs : List Seg) → get_or flags k false ≡ true → shown flags (set packets k segs) ≡ shown flags packets
+shown_hidden [] packets k segs e = refl
+shown_hidden (free ∷ flags) [] k segs e = refl
+shown_hidden (free ∷ flags) (packet ∷ packets) zero segs e = rw e refl
+shown_hidden (free ∷ flags) (packet ∷ packets) (suc k) segs e = ap (λ (t : List (Option (List Seg))). unless_free free packet ∷ t) (shown_hidden flags packets k segs e)
+
 -- the lowest free slot is the first that shows nothing
 before_free : (flags : List Bool) (packets : List (List Seg)) → length packets ≡ length flags → position_or_len is_none (shown flags packets) ≡ position_or_len (λ (free : Bool). free) flags
 before_free [] packets e = refl

@@ -7,8 +7,9 @@ use Rattle.commons.specs.Calls.{Call}
 use Rattle.mempool.specs.Caches.{Flushes}
 use Rattle.mempool.specs.declared.put.Put.{Put}
 use Rattle.mbuf.specs.Lengths.{no_seg, pkt_len, appended, prepended, adjusted, trimmed}
-use Rattle.mbuf.specs.Members.{Member}
+use Rattle.mbuf.specs.Members.{Member, own_in_slot}
 use Rattle.mbuf.specs.PacketRules.{Allocs, AllocsBulk, Frees, Resizes, Chains, of_packet}
+use Rattle.mbuf.specs.Sharing.{Attaches, Clones, CountsOf, Detaches}
 use Rattle.mbuf.specs.declared.acts.Act.{Act}
 use Rattle.mbuf.specs.declared.acts.Act.TheVariants as act
 use Rattle.mbuf.specs.declared.acts.NewPacket.{NewPacket}
@@ -57,6 +58,19 @@ abbrev pub chained : Result (Unit {0}) Refusal → Option (List Seg) → Reply
 chained (Ok _) slot = told_both slot
 chained (Err cause) slot = reply.Refused cause
 
+abbrev pub attached : Result (Unit {0}) Refusal → Reply
+attached (Ok _) = reply.Attached
+attached (Err cause) = reply.Refused cause
+
+-- the reply to a clone, by its answer and the table afterwards
+abbrev pub cloned : Result ℕ Refusal → List (Option (List Seg)) → Reply
+cloned (Ok slot) table = reply.Cloned slot (record { items = own_in_slot (slice_index_or table slot None) })
+cloned (Err cause) table = reply.Refused cause
+
+abbrev pub told_count : Result ℕ Refusal → Reply
+told_count (Ok count) = reply.Count count
+told_count (Err cause) = reply.Refused cause
+
 -- what an act does: the calls that are made on the shared pool with their answers, the reply, and what the worker
 -- has afterwards
 abbrev pub Performs : Act → Member → List Call → Reply → Member → Type 0
@@ -68,6 +82,10 @@ Performs (act.Prepend p n) m calls r after = (answer : Result ℕ Refusal) × Re
 Performs (act.Adj p n) m calls r after = (answer : Result ℕ Refusal) × Resizes (adjusted n) TooShort m p answer after × (calls ≡ []) × (r ≡ told_len answer)
 Performs (act.Trim p n) m calls r after = (answer : Result ℕ Refusal) × Resizes (trimmed n) TooShort m p answer after × (calls ≡ []) × (r ≡ told_len answer)
 Performs (act.Chain head tail) m calls r after = (answer : Result (Unit {0}) Refusal) × Chains m head tail answer after × (calls ≡ []) × (r ≡ chained answer (slice_index_or after.table head None))
+Performs (act.Attach mi target) m calls r after = (answer : Result (Unit {0}) Refusal) × Attaches m mi target calls answer after × (r ≡ attached answer)
+Performs (act.Detach p) m calls r after = (answer : Result Freed Refusal) × Detaches m p calls answer after × (r ≡ freed answer)
+Performs (act.ClonePacket p) m calls r after = (answer : Result ℕ Refusal) × Clones m p calls answer after × (r ≡ cloned answer after.table)
+Performs (act.CountOf p) m calls r after = (answer : Result ℕ Refusal) × CountsOf (slice_index_or m.table p None) calls answer × (after ≡ m) × (r ≡ told_count answer)
 Performs (act.PktLen p) m calls r after = (after ≡ m) × (calls ≡ []) × (r ≡ told_len (of_packet pkt_len (slice_index_or m.table p None)))
 Performs (act.NbSegs p) m calls r after = (after ≡ m) × (calls ≡ []) × (r ≡ told_segs (of_packet length (slice_index_or m.table p None)))
 Performs act.Flush m calls r after = (put : Put) × Flushes m.cache calls put after.cache × (after ≡ record m { cache = after.cache }) × (r ≡ reply.Put put)

@@ -1,8 +1,10 @@
 pub mod Acts
 pub mod Bits
 pub mod Changes
+pub mod Cloning
 pub mod Kept
 pub mod Lengths
 pub mod Members
 pub mod Own
 pub mod PacketRules
+pub mod Sharing

@@ -16,13 +16,14 @@ pub record Member : Type 0 where
 abbrev pub slots : ℕ
 slots = 256
 
-abbrev pub holds_of_base : Option ℕ → List ℕ
-holds_of_base None = []
-holds_of_base (Some base) = base ∷ []
+-- one hold of an element, where there is an element
+abbrev pub hold_of : Option ℕ → List ℕ
+hold_of None = []
+hold_of (Some e) = e ∷ []
 
 -- the holds of a segment: of its base, where it has one, and of its own element
 abbrev pub holds_of_seg : Seg → List ℕ
-holds_of_seg seg = holds_of_base seg.base ++ seg.elem ∷ []
+holds_of_seg seg = hold_of seg.base ++ seg.elem ∷ []
 
 -- the holds of a packet, in the order in which they end
 abbrev pub holds_of_packet : List Seg → List ℕ

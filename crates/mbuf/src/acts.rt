@@ -3,12 +3,14 @@
 ghost use Rattle.std.specs.Prelude.{◌≡◌, ◌≤◌, All, List, IsSome, None, length, map, slice_index_or};
 ghost use Rattle.commons.specs.Calls.{Made, Leads, calls_of};
 ghost use Rattle.mbuf.specs.Acts.{Performs, chained, first_elem, new_packet, told_len as len_reply};
+ghost use Rattle.mbuf.specs.Members.{own_in_slot};
 ghost use Rattle.mbuf.specs.Own.{Own};
 
 use crate::freed::Freed;
 use crate::lengths;
 use crate::packets::{Packets, Pid, SLOTS};
 use arrayvec::ArrayVec;
+use commons::packet::MAX_SEGS;
 use commons::refusal::Refusal;
 use commons::shared::Commons;
 use mempool::put::Put;
@@ -32,6 +34,14 @@ pub enum Act {
     Trim(Pid, u16),
     /// Puts the segments of the second packet behind those of the first.
     Chain(Pid, Pid),
+    /// Attaches the first packet, of one direct segment, to the buffer of the second's first segment.
+    Attach(Pid, Pid),
+    /// Gives a packet of one indirect segment its own buffer back.
+    Detach(Pid),
+    /// Clones a packet, into the lowest free slot.
+    ClonePacket(Pid),
+    /// Tells the reference count of a packet's first segment's element.
+    CountOf(Pid),
     /// Tells how many bytes of data a packet has.
     PktLen(Pid),
     /// Tells how many segments a packet has.
@@ -56,8 +66,14 @@ pub enum Reply {
     Allocated(Pid, u32),
     /// The packets stand, in the order of the get.
     Bulk(ArrayVec<NewPacket, SLOTS>),
-    /// The packet was freed.
+    /// The packet was freed, or detached.
     Freed(Freed),
+    /// The packet was attached.
+    Attached,
+    /// The clone stands in this slot, and these are its elements in order.
+    Cloned(Pid, ArrayVec<u32, MAX_SEGS>),
+    /// The reference count that was read.
+    Count(u32),
     /// How many bytes of data the packet has now.
     Len(u32),
     /// How many segments the packet has.
@@ -158,6 +174,30 @@ fn chain<C: Commons>(packets: &mut Packets, c: &mut C, head: Pid, tail: Pid) -> 
     }
 }
 
+/// The elements of the packet in a slot, in the order of its segments.
+fn elems_in(packets: &Packets, slot: Pid) -> ArrayVec<u32, MAX_SEGS>
+    requires { IsSome (slice_index_or packets.now.table slot None) }
+    ensures { result.items ≡ own_in_slot (slice_index_or packets.now.table slot None) }
+{
+    let mut elems = ArrayVec::new();
+    for seg in packets.place(slot).unwrap().segs() {
+        elems.push(seg.elem);
+    }
+    elems
+}
+
+/// Clones a packet, and tells of the clone.
+fn clone_packet<C: Commons>(packets: &mut Packets, c: &mut C, p: Pid) -> Reply
+    requires own { Own packets.old (C.limits c.old) (C.hand c.old) (C.holds c.old) (C.headers c.old) }
+    ensures calls { (made : List Made) × Leads C.did C.limits c.old made c.new × Performs (Act.ClonePacket p) packets.old (calls_of made) result packets.new }
+    ensures own { Own packets.new (C.limits c.new) (C.hand c.new) (C.holds c.new) (C.headers c.new) }
+{
+    match packets.clone_packet(c, p) {
+        Ok(slot) => Reply::Cloned(slot, elems_in(packets, slot)),
+        Err(cause) => Reply::Refused(cause),
+    }
+}
+
 /// Lets a worker do this with its packets, and answers what came of it.
 ///
 /// Each act is the call of `Packets` of that name, with its refusals. A count of `AllocBulk` above
@@ -179,6 +219,19 @@ pub fn perform<C: Commons>(packets: &mut Packets, c: &mut C, act: Act) -> Reply
         Act::Adj(p, len) => told_len(packets.adj(c, p, len)),
         Act::Trim(p, len) => told_len(packets.trim(c, p, len)),
         Act::Chain(head, tail) => chain(packets, c, head, tail),
+        Act::Attach(mi, target) => match packets.attach(c, mi, target) {
+            Ok(()) => Reply::Attached,
+            Err(cause) => Reply::Refused(cause),
+        },
+        Act::Detach(p) => match packets.detach(c, p) {
+            Ok(freed) => Reply::Freed(freed),
+            Err(cause) => Reply::Refused(cause),
+        },
+        Act::ClonePacket(p) => clone_packet(packets, c, p),
+        Act::CountOf(p) => match packets.count_of(c, p) {
+            Ok(count) => Reply::Count(count),
+            Err(cause) => Reply::Refused(cause),
+        },
         Act::PktLen(p) => told_len(packets.pkt_len(c, p)),
         Act::NbSegs(p) => match packets.nb_segs(c, p) {
             Ok(segs) => Reply::Segs(segs),

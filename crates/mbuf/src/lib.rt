@@ -2,6 +2,7 @@
 #![tactic(auto)]
 
 pub mod acts;
+mod clones;
 mod free_slots;
 pub mod freed;
 pub mod lengths;

@@ -1,4 +1,4 @@
-ghost use Rattle.std.specs.Prelude.{◌≡◌, ◌≢◌, ◌<◌, ◌≤◌, ◌+◌, ◌++◌, [], ◌∷◌, ℕ, List, IfOk, IfErr, MatchOption, MatchResult, IsSome, Option, None, Some, length, map, replicate, slice_index_or, slice_set, take, vec_len};
+ghost use Rattle.std.specs.Prelude.{◌≡◌, ◌≢◌, ◌<◌, ◌≤◌, ◌+◌, ◌++◌, [], ◌∷◌, ℕ, List, IfOk, IfErr, OnErr, MatchOption, MatchResult, IsSome, Option, None, Some, length, map, replicate, slice_index_or, slice_set, take, vec_len};
 ghost use Rattle.commons.specs.Bounds.{IsPool};
 ghost use Rattle.commons.specs.Bag.{bag, one};
 ghost use Rattle.commons.specs.Calls.{Claim, Did, Made, Leads, calls_of, with_list};
@@ -10,11 +10,14 @@ ghost use Rattle.mbuf.specs.PacketRules.{Allocs, AllocsBulk, Chains, Frees, Resi
 ghost use Rattle.mbuf.specs.Changes.{resized, not_resized};
 ghost use Rattle.mbuf.specs.Lengths.{pkt_len as len_of, appended, prepended, adjusted, trimmed};
 ghost use Rattle.mbuf.specs.Kept.{KeepsHolds};
+ghost use Rattle.mbuf.specs.Sharing.{Attaches, Clones, CountsOf, Detaches, detachable, pair_in};
+ghost use Rattle.mbuf.specs.Cloning.{ArePair, IsIndirect};
+ghost use Rattle.commons.specs.Packets.{HasItsData};
 
 use crate::free_slots::FreeSlots;
 use crate::freed::Freed;
 use crate::lengths::Change;
-use crate::{lengths, steps};
+use crate::{clones, lengths, steps};
 use commons::limits::Limits;
 use commons::packet::{MAX_SEGS, Packet, Seg};
 use commons::refusal::Refusal;
@@ -404,6 +407,140 @@ impl Packets {
         ensures own { Own self.new (C.limits c.new) (C.hand c.new) (C.holds c.new) (C.headers c.new) }
     {
         self.join(head, tail)
+    }
+
+    /// The element of the packet in one slot, which has one direct segment, and the first segment of
+    /// the packet in another.
+    fn pair(&self, mi: Pid, target: Pid) -> Result<(u32, Seg), Refusal>
+        ensures pair { result ≡ pair_in self.now mi target }
+        ensures are { IfOk result (ArePair self.now.table mi target) }
+        ensures data { IfOk result (λ pair. HasItsData pair.1) }
+    {
+        let Some(slot) = self.slot(mi) else {
+            return Err(Refusal::NoSuchPacket);
+        };
+        let Some(other) = self.slot(target) else {
+            return Err(Refusal::NoSuchPacket);
+        };
+        if slot == other {
+            return Err(Refusal::SamePacket);
+        }
+        let segs = self.packets[slot].segs();
+        if segs.len() > 1 {
+            return Err(Refusal::TooManySegs);
+        }
+        match segs[0].base {
+            Some(_) => Err(Refusal::NotDirect),
+            None => Ok((segs[0].elem, self.packets[other].segs()[0])),
+        }
+    }
+
+    /// Attaches the packet in the slot `mi`, which has one direct segment that nothing else holds, to
+    /// the buffer of the first segment of the packet in the slot `target`, with its lengths. The
+    /// direct element whose buffer that is, the segment's base or itself, has one hold more.
+    ///
+    /// Refused `NoSuchPacket` where no packet stands in one of the slots, `SamePacket` where they
+    /// are one, `TooManySegs` where the packet to attach has several segments, `NotDirect` where it
+    /// is indirect, `InUse` where a count other than 1 was read of its element, and `RefSpent` or
+    /// `Contended` as the raise of the buffer's count is. Nothing changes then.
+    ///
+    /// After rte_mbuf.h, `rte_pktmbuf_attach` (DPDK 21.11), which asserts what we refuse.
+    pub fn attach<C: Commons>(&mut self, c: &mut C, mi: Pid, target: Pid) -> Result<(), Refusal>
+        requires own { Own self.old (C.limits c.old) (C.hand c.old) (C.holds c.old) (C.headers c.old) }
+        ensures calls { (made : List Made) × Leads C.did C.limits c.old made c.new × Attaches self.old mi target (calls_of made) result self.new }
+        ensures own { Own self.new (C.limits c.new) (C.hand c.new) (C.holds c.new) (C.headers c.new) }
+    {
+        let (elem, seg) = self.pair(mi, target)?;
+        let attached = clones::attach(c, elem, seg)?;
+        self.packets[mi as usize].restart(attached);
+        Ok(())
+    }
+
+    /// The element of the packet in a slot, which has one indirect segment, and its base.
+    fn indirect(&self, p: Pid) -> Result<(u32, u32), Refusal>
+        ensures pair { result ≡ detachable (slice_index_or self.now.table p None) }
+        ensures is { IfOk result (IsIndirect self.now.table p) }
+    {
+        let Some(slot) = self.slot(p) else {
+            return Err(Refusal::NoSuchPacket);
+        };
+        let segs = self.packets[slot].segs();
+        if segs.len() > 1 {
+            return Err(Refusal::TooManySegs);
+        }
+        match segs[0].base {
+            Some(base) => Ok((segs[0].elem, base)),
+            None => Err(Refusal::NotIndirect),
+        }
+    }
+
+    /// Gives a packet of one indirect segment its own buffer back: the hold of its base ends, which
+    /// is put back through the cache where that was the last one, and the packet is as a fresh one.
+    ///
+    /// Refused `NoSuchPacket` where no packet stands there, `TooManySegs` where it has several
+    /// segments, and `NotIndirect` where its segment is direct. Nothing changes then.
+    ///
+    /// After rte_mbuf.h, `rte_pktmbuf_detach` (DPDK 21.11).
+    pub fn detach<C: Commons>(&mut self, c: &mut C, p: Pid) -> Result<Freed, Refusal>
+        requires own { Own self.old (C.limits c.old) (C.hand c.old) (C.holds c.old) (C.headers c.old) }
+        ensures calls { (made : List Made) × Leads C.did C.limits c.old made c.new × Detaches self.old p (calls_of made) result self.new }
+        ensures own { Own self.new (C.limits c.new) (C.hand c.new) (C.holds c.new) (C.headers c.new) }
+    {
+        let (elem, base) = self.indirect(p)?;
+        let freed = steps::end_hold(&mut self.worker, c, base, steps::NOTHING_FREED);
+        let fresh = steps::fresh(self.worker.limits(), elem);
+        self.packets[p as usize].restart(fresh);
+        Ok(freed)
+    }
+
+    /// Clones a packet: for each of its segments in order an element is got through the cache,
+    /// claimed and attached to the segment's buffer. The clone stands in the lowest free slot, which
+    /// is the answer.
+    ///
+    /// Refused `NoSuchPacket` where no packet stands there, `PacketsFull` where no slot is free,
+    /// else as the first get or raise is that is refused: `NoEntries`, `Contended`, `HeadSpent` or
+    /// `RefSpent`. The clones so far are then freed in order, then an element that was got and not
+    /// attached is put back; packets, holds and headers are as before, and so are the free elements,
+    /// though cache and stack may share them out otherwise.
+    ///
+    /// After rte_mbuf.h, `rte_pktmbuf_clone` (DPDK 21.11).
+    pub fn clone_packet<C: Commons>(&mut self, c: &mut C, p: Pid) -> Result<Pid, Refusal>
+        requires own { Own self.old (C.limits c.old) (C.hand c.old) (C.holds c.old) (C.headers c.old) }
+        ensures calls { (made : List Made) × Leads C.did C.limits c.old made c.new × Clones self.old p (calls_of made) result self.new }
+        ensures holds_err { OnErr result ((i : ℕ) → C.holds c.new i ≡ C.holds c.old i) }
+        ensures headers_err { OnErr result ((i : ℕ) → C.headers c.new i ≡ C.headers c.old i) }
+        ensures own { Own self.new (C.limits c.new) (C.hand c.new) (C.holds c.new) (C.headers c.new) }
+    {
+        let Some(source) = self.slot(p) else {
+            return Err(Refusal::NoSuchPacket);
+        };
+        let Some(lowest) = self.free.lowest() else {
+            return Err(Refusal::PacketsFull);
+        };
+        match clones::clone_segs(&mut self.worker, c, &mut self.packets, source, lowest) {
+            Ok(()) => {
+                self.free.take(lowest);
+                Ok(lowest as Pid)
+            }
+            Err(cause) => Err(cause),
+        }
+    }
+
+    /// The reference count of a packet's first segment's own element: how many holds all packets
+    /// have of it, as read at one moment of the call.
+    ///
+    /// Refused `NoSuchPacket` where no packet stands there.
+    ///
+    /// After rte_mbuf.h, `rte_mbuf_refcnt_read` (DPDK 21.11).
+    pub fn count_of<C: Commons>(&self, c: &mut C, p: Pid) -> Result<u32, Refusal>
+        requires own { Own self.now (C.limits c.old) (C.hand c.old) (C.holds c.old) (C.headers c.old) }
+        ensures calls { (made : List Made) × Leads C.did C.limits c.old made c.new × CountsOf (slice_index_or self.now.table p None) (calls_of made) result }
+        ensures own { Own self.now (C.limits c.new) (C.hand c.new) (C.holds c.new) (C.headers c.new) }
+    {
+        match self.place(p) {
+            Some(packet) => Ok(c.count(packet.segs()[0].elem)),
+            None => Err(Refusal::NoSuchPacket),
+        }
     }
 }
 

@@ -125,7 +125,7 @@ fn end_seg<C: Commons>(worker: &mut Worker, c: &mut C, seg: Seg, freed: Freed) -
 }
 
 /// What freeing nothing has done.
-const NOTHING_FREED: Freed = Freed {
+pub const NOTHING_FREED: Freed = Freed {
     back: 0,
     flushed: 0,
     put_off: None,
@@ -143,6 +143,8 @@ pub fn end_segs<C: Commons>(worker: &mut Worker, c: &mut C, segs: &[Seg]) -> Fre
     ensures headers { (i : ℕ) → 0 < C.holds c.new i → C.headers c.new i ≡ C.headers c.old i }
     ensures limits { C.limits c.new ≡ C.limits c.old }
     ensures number { KeepsNumber worker.old worker.new }
+    ensures back { result.back ≤ 2 * length segs.now }
+    ensures flushed { result.flushed ≤ 65_534 * result.back }
 {
     let mut freed = NOTHING_FREED;
     for seg in segs {

@@ -1,4 +1,4 @@
-use Rattle.std.proofs.Common.{[], Ok, refl, sym}
+use Rattle.std.proofs.Common.{[], Ok, Err, refl, sym}
 use Rattle.mbuf.proofs.acts.perform.Goals as goal
 
 pub returns-in-Ok-clause-calls : goal.returns-in-Ok-clause-calls
@@ -18,3 +18,18 @@ returns-in-Trim-clause-calls g c = rw c.in-Trim.is ([], sym c.trim.ensures.no_ca
 
 pub returns-in-Flush-clause-calls : goal.returns-in-Flush-clause-calls
 returns-in-Flush-clause-calls g c = let done = c.flush.ensures.calls in rw c.in-Flush.is (done.0, done.1, (c.flush.result, done.2, c.flush.ensures.packets, refl))
+
+pub returns-in-Ok-attach-clause-calls : goal.returns-in-Ok-attach-clause-calls
+returns-in-Ok-attach-clause-calls g c = let done = c.in-Ok-attach.ensures.calls in rw c.in-Attach.is (done.0, done.1, (Ok tt, done.2, refl))
+
+pub returns-in-Err-attach-clause-calls : goal.returns-in-Err-attach-clause-calls
+returns-in-Err-attach-clause-calls g c = let done = c.in-Err-attach.ensures.calls in rw c.in-Attach.is (done.0, done.1, (Err c.in-Err-attach.cause, done.2, refl))
+
+pub returns-in-Ok-detach-clause-calls : goal.returns-in-Ok-detach-clause-calls
+returns-in-Ok-detach-clause-calls g c = let done = c.in-Ok-detach.ensures.calls in rw c.in-Detach.is (done.0, done.1, (Ok c.in-Ok-detach.freed, done.2, refl))
+
+pub returns-in-Err-detach-clause-calls : goal.returns-in-Err-detach-clause-calls
+returns-in-Err-detach-clause-calls g c = let done = c.in-Err-detach.ensures.calls in rw c.in-Detach.is (done.0, done.1, (Err c.in-Err-detach.cause, done.2, refl))
+
+pub returns-in-Ok-count_of-clause-calls : goal.returns-in-Ok-count_of-clause-calls
+returns-in-Ok-count_of-clause-calls g c = let done = c.in-Ok-count_of.ensures.calls in rw c.in-CountOf.is (done.0, done.1, (Ok c.in-Ok-count_of.count, done.2, refl, refl))

@@ -1,0 +1,15 @@
+use Rattle.std.proofs.Common.{Ok, Err, refl, ap}
+use Rattle.mbuf.specs.declared.acts.Reply.TheVariants.{Cloned}
+use Rattle.mbuf.proofs.ActLemmas.{cloned_there, list_is}
+use Rattle.mbuf.proofs.acts.clone_packet.Goals as goal
+
+pub elems_in-requires : goal.elems_in-requires
+elems_in-requires g c = let done = c.in-Ok.ensures.calls in cloned_there _ _ _ _ _ done.2
+
+pub returns-in-Ok-clause-calls : goal.returns-in-Ok-clause-calls
+returns-in-Ok-clause-calls g c =
+    let done = c.in-Ok.ensures.calls in
+    (done.0, done.1, (Ok c.in-Ok.slot, done.2, ap (Cloned c.in-Ok.slot) (list_is c.elems_in.result _ c.elems_in.ensures)))
+
+pub returns-in-Err-clause-calls : goal.returns-in-Err-clause-calls
+returns-in-Err-clause-calls g c = let done = c.in-Err.ensures.calls in (done.0, done.1, (Err c.in-Err.cause, done.2, refl))

@@ -1,0 +1,169 @@
+//! Segments that use another's buffer: attached, and cloned one after another.
+
+ghost use Rattle.std.specs.Prelude.{◌≡◌, ◌≢◌, ◌<◌, ◌≤◌, ◌+◌, [], ◌∷◌, ◌++◌, ℕ, List, length, map, take, Ok, Err, OnOk, OnErr, IfOk, MatchResult, slice_index_or, slice_set, vec_len};
+ghost use Rattle.commons.specs.Bag.{bag, one};
+ghost use Rattle.commons.specs.Calls.{Made, Leads, calls_of};
+ghost use Rattle.commons.specs.Packets.{HasItsData, IsPacket};
+ghost use Rattle.mempool.specs.WorkerCache.{KeepsNumber};
+ghost use Rattle.mbuf.specs.Members.{hold_of, holds_of_packet, holds_of_seg};
+ghost use Rattle.mbuf.specs.PacketRules.{EndsHolds, freed_nothing};
+ghost use Rattle.mbuf.specs.Sharing.{attached as attached_seg, buffer_of as buffer};
+ghost use Rattle.mbuf.specs.Cloning.{AttachesElem, TriesSeg, TriesSegs, new_headers, new_holds};
+
+use crate::freed::Freed;
+use crate::steps;
+use commons::packet::{Packet, Seg};
+use commons::refusal::Refusal;
+use commons::shared::Commons;
+use mempool::worker::Worker;
+
+/// The direct element whose buffer a segment uses.
+fn buffer_of(seg: Seg) -> u32
+    ensures { result ≡ buffer seg }
+{
+    seg.base.unwrap_or(seg.elem)
+}
+
+/// A segment of this element that uses another's buffer, with its lengths.
+fn attached(elem: u32, target: Seg) -> Seg
+    requires { HasItsData target }
+    ensures seg { result ≡ attached_seg elem target }
+    ensures data { HasItsData result }
+{
+    Seg {
+        elem,
+        base: Some(buffer_of(target)),
+        ..target
+    }
+}
+
+/// Attaches an element that has no other hold to a segment's buffer.
+///
+/// Refused `InUse` where another count was read, else as the raise of the buffer's count is.
+pub fn attach<C: Commons>(c: &mut C, elem: u32, target: Seg) -> Result<Seg, Refusal>
+    requires own { 0 < C.holds c.old elem }
+    requires held { 0 < C.holds c.old (buffer target) }
+    requires data { HasItsData target }
+    ensures calls { (made : List Made) × Leads C.did C.limits c.old made c.new × AttachesElem elem target (calls_of made) result }
+    ensures data { IfOk result HasItsData }
+    ensures hand { (i : ℕ) → C.hand c.new i ≡ C.hand c.old i }
+    ensures holds { OnOk result ((i : ℕ) → C.holds c.new i ≡ C.holds c.old i + one (buffer target) i) }
+    ensures holds_err { OnErr result (C.holds c.new ≡ C.holds c.old) }
+    ensures headers { C.headers c.new ≡ C.headers c.old }
+    ensures limits { C.limits c.new ≡ C.limits c.old }
+{
+    if c.count(elem) != 1 {
+        return Err(Refusal::InUse);
+    }
+    match c.raise(buffer_of(target)) {
+        Ok(()) => Ok(attached(elem, target)),
+        Err(cause) => Err(cause),
+    }
+}
+
+/// Why a segment wasn't cloned, and the element that was claimed for it, if one was.
+#[derive(Clone, Copy)]
+struct Stop {
+    cause: Refusal,
+    over: Option<u32>,
+}
+
+/// Clones a segment: gets an element, claims it, and lets it use the segment's buffer.
+fn clone_seg<C: Commons>(worker: &mut Worker, c: &mut C, seg: Seg) -> Result<Seg, Stop>
+    requires limits { C.limits c.old ≡ worker.old.limits }
+    requires hand { (i : ℕ) → C.hand c.old i ≡ bag worker.old.cache i }
+    requires held { 0 < C.holds c.old (buffer seg) }
+    requires data { HasItsData seg }
+    ensures calls { (made : List Made) × Leads C.did C.limits c.old made c.new × TriesSeg worker.old.limits seg worker.old.cache (calls_of made) result worker.new.cache }
+    ensures data { IfOk result HasItsData }
+    ensures hand { (i : ℕ) → C.hand c.new i ≡ bag worker.new.cache i }
+    ensures holds { (i : ℕ) → C.holds c.new i ≡ C.holds c.old i + bag (new_holds result) i }
+    ensures headers { (i : ℕ) → C.headers c.new i ≡ C.headers c.old i + bag (new_headers result) i }
+    ensures unheld { (i : ℕ) → 0 < bag (new_headers result) i → C.holds c.old i ≡ 0 }
+    ensures limits { C.limits c.new ≡ C.limits c.old }
+    ensures number { KeepsNumber worker.old worker.new }
+{
+    let elem = match steps::get_one(worker, c) {
+        Ok(elem) => elem,
+        Err(cause) => return Err(Stop { cause, over: None }),
+    };
+    c.claim(elem);
+    match c.raise(buffer_of(seg)) {
+        Ok(()) => Ok(attached(elem, seg)),
+        Err(cause) => Err(Stop {
+            cause,
+            over: Some(elem),
+        }),
+    }
+}
+
+/// Ends the holds of segments in order, and then that of an element that is left over.
+fn give_up<C: Commons>(worker: &mut Worker, c: &mut C, segs: &[Seg], over: Option<u32>) -> Freed
+    requires limits { C.limits c.old ≡ worker.old.limits }
+    requires hand { (i : ℕ) → C.hand c.old i ≡ bag worker.old.cache i }
+    requires held { (i : ℕ) → bag (holds_of_packet segs.now ++ hold_of over) i ≤ C.holds c.old i }
+    requires few { length segs.now < 32 }
+    ensures calls { (made : List Made) × Leads C.did C.limits c.old made c.new × EndsHolds worker.old.limits (holds_of_packet segs.now ++ hold_of over) worker.old.cache freed_nothing (calls_of made) worker.new.cache result }
+    ensures hand { (i : ℕ) → C.hand c.new i ≡ bag worker.new.cache i }
+    ensures holds { (i : ℕ) → C.holds c.old i ≡ C.holds c.new i + bag (holds_of_packet segs.now ++ hold_of over) i }
+    ensures headers { (i : ℕ) → 0 < C.holds c.new i → C.headers c.new i ≡ C.headers c.old i }
+    ensures limits { C.limits c.new ≡ C.limits c.old }
+    ensures number { KeepsNumber worker.old worker.new }
+{
+    let freed = steps::end_segs(worker, c, segs);
+    match over {
+        None => freed,
+        Some(elem) => steps::end_hold(worker, c, elem, freed),
+    }
+}
+
+/// Lets a segment follow the first `count` of a packet, as its last.
+fn follow(packet: &mut Packet, count: usize, seg: Seg)
+    requires all { 0 < count → length packet.old ≡ count }
+    requires room { count < 32 }
+    requires data { HasItsData seg }
+    ensures { packet.new ≡ take count packet.old ++ seg ∷ [] }
+{
+    if count == 0 {
+        packet.restart(seg);
+    } else {
+        packet.push(seg);
+    }
+}
+
+/// Clones the segments of the packet at `source` into the packet at `slot`, all of them, or none.
+pub fn clone_segs<C: Commons>(
+    worker: &mut Worker,
+    c: &mut C,
+    packets: &mut Vec<Packet>,
+    source: usize,
+    slot: usize,
+) -> Result<(), Refusal>
+    requires source { source < vec_len packets.old }
+    requires slot { slot < vec_len packets.old }
+    requires apart { source ≢ slot }
+    requires limits { C.limits c.old ≡ worker.old.limits }
+    requires hand { (i : ℕ) → C.hand c.old i ≡ bag worker.old.cache i }
+    requires held { (i : ℕ) → bag (holds_of_packet (slice_index_or packets.old.items source [])) i ≤ C.holds c.old i }
+    ensures calls { (made : List Made) × Leads C.did C.limits c.old made c.new × TriesSegs worker.old.limits (slice_index_or packets.old.items source []) worker.old.cache (calls_of made) (slice_index_or packets.new.items slot []) result worker.new.cache }
+    ensures packets { packets.new.items ≡ slice_set packets.old.items slot (slice_index_or packets.new.items slot []) }
+    ensures hand { (i : ℕ) → C.hand c.new i ≡ bag worker.new.cache i }
+    ensures holds { OnOk result ((i : ℕ) → C.holds c.new i ≡ C.holds c.old i + bag (holds_of_packet (slice_index_or packets.new.items slot [])) i) }
+    ensures headers { OnOk result ((i : ℕ) → C.headers c.new i ≡ C.headers c.old i + bag (map (λ seg. seg.elem) (slice_index_or packets.new.items slot [])) i) }
+    ensures holds_err { OnErr result ((i : ℕ) → C.holds c.new i ≡ C.holds c.old i) }
+    ensures headers_err { OnErr result ((i : ℕ) → C.headers c.new i ≡ C.headers c.old i) }
+    ensures limits { C.limits c.new ≡ C.limits c.old }
+    ensures number { KeepsNumber worker.old worker.new }
+{
+    for index in 0..packets[source].segs().len() {
+        let seg = packets[source].segs()[index];
+        match clone_seg(worker, c, seg) {
+            Ok(new) => follow(&mut packets[slot], index, new),
+            Err(stop) => {
+                give_up(worker, c, &packets[slot].segs()[..index], stop.over);
+                return Err(stop.cause);
+            }
+        }
+    }
+    Ok(())
+}
