@@ -3,7 +3,7 @@ use Rattle.std.specs.Prelude.{◌≡◌, ℕ, Bool, if◌then◌else◌, List, [
 use Rattle.std.specs.Str.{bytes_eq}
 use Rattle.commons.specs.declared.limits.Limits.{Limits}
 use Rattle.script.specs.declared.commands.Key.{Key}
-use Rattle.script.specs.declared.commands.Key.TheVariants.{Cache, Workers, Buf, Tries, Start}
+use Rattle.script.specs.declared.commands.Key.TheVariants.{Cache, Workers, Buf, Refs, Tries, Start}
 use Rattle.script.specs.Numbers.{IsNumber}
 
 -- how a key is written
@@ -11,6 +11,7 @@ abbrev pub spelled : Key → List ℕ
 spelled Cache = codes "cache"
 spelled Workers = codes "workers"
 spelled Buf = codes "buf"
+spelled Refs = codes "refs"
 spelled Tries = codes "tries"
 spelled Start = codes "start"
 
@@ -42,7 +43,7 @@ limits_with population pairs = record {
   workers = unwrap_or (given Workers pairs) 1;
   desks = 0;
   buf = unwrap_or (given Buf pairs) 2048;
-  ref_limit = 65535;
+  ref_limit = unwrap_or (given Refs pairs) 65535;
   tries = unwrap_or (given Tries pairs) 64;
   start_count = unwrap_or (given Start pairs) 0;
 }

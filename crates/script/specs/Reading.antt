@@ -13,7 +13,7 @@ use Rattle.script.specs.declared.commands.Line.{Line}
 use Rattle.script.specs.declared.command_line.Verb.{Verb}
 use Rattle.script.specs.declared.command_line.Verb.TheVariants as verbs
 use Rattle.script.specs.declared.commands.Key.{Key}
-use Rattle.script.specs.declared.commands.Key.TheVariants.{Cache, Workers, Buf, Tries, Start}
+use Rattle.script.specs.declared.commands.Key.TheVariants.{Cache, Workers, Buf, Refs, Tries, Start}
 use Rattle.script.specs.declared.pool_line.Settings.{Settings}
 use Rattle.script.specs.Numbers.{decimal}
 use Rattle.script.specs.PoolLine.{spelled, same_key}
@@ -105,7 +105,7 @@ is_name_word word =
 
 -- all keys
 abbrev pub keys : List Key
-keys = Cache ∷ Workers ∷ Buf ∷ Tries ∷ Start ∷ []
+keys = Cache ∷ Workers ∷ Buf ∷ Refs ∷ Tries ∷ Start ∷ []
 
 -- the key that a word spells
 abbrev pub key_at : List ℕ → Option Key
@@ -116,6 +116,7 @@ abbrev pub value_of : Settings → Key → Option ℕ
 value_of settings Cache = settings.cache
 value_of settings Workers = settings.workers
 value_of settings Buf = settings.buf
+value_of settings Refs = settings.refs
 value_of settings Tries = settings.tries
 value_of settings Start = settings.start
 
@@ -129,13 +130,14 @@ with_value settings key value = record {
   cache = value_with settings key value Cache;
   workers = value_with settings key value Workers;
   buf = value_with settings key value Buf;
+  refs = value_with settings key value Refs;
   tries = value_with settings key value Tries;
   start = value_with settings key value Start;
 }
 
 -- no key was given a value
 abbrev pub none_given : Settings
-none_given = record { cache = None; workers = None; buf = None; tries = None; start = None }
+none_given = record { cache = None; workers = None; buf = None; refs = None; tries = None; start = None }
 
 -- a new value of a key
 abbrev pub add_value : Settings → Key → ℕ → Option Settings
@@ -161,7 +163,7 @@ limits_by population settings = record {
   workers = unwrap_or settings.workers 1;
   desks = 0;
   buf = unwrap_or settings.buf 2048;
-  ref_limit = 65535;
+  ref_limit = unwrap_or settings.refs 65535;
   tries = unwrap_or settings.tries 64;
   start_count = unwrap_or settings.start 0;
 }

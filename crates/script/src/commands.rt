@@ -45,6 +45,8 @@ pub enum Key {
     Workers,
     /// Bytes in an element's buffer.
     Buf,
+    /// The greatest reference count.
+    Refs,
     /// Lost tries after which a call gives up.
     Tries,
     /// The modification count at the start.

@@ -19,6 +19,8 @@ fn key_of(word: &[u8]) -> Option<Key>
         Some(Key::Workers)
     } else if word == b"buf".as_slice() {
         Some(Key::Buf)
+    } else if word == b"refs".as_slice() {
+        Some(Key::Refs)
     } else if word == b"tries".as_slice() {
         Some(Key::Tries)
     } else if word == b"start".as_slice() {
@@ -34,6 +36,7 @@ pub(crate) struct Settings {
     cache: Option<u64>,
     workers: Option<u64>,
     buf: Option<u64>,
+    refs: Option<u64>,
     tries: Option<u64>,
     start: Option<u64>,
 }
@@ -43,6 +46,7 @@ const NONE_GIVEN: Settings = Settings {
     cache: None,
     workers: None,
     buf: None,
+    refs: None,
     tries: None,
     start: None,
 };
@@ -56,6 +60,7 @@ impl Settings {
             Key::Cache => self.cache,
             Key::Workers => self.workers,
             Key::Buf => self.buf,
+            Key::Refs => self.refs,
             Key::Tries => self.tries,
             Key::Start => self.start,
         }
@@ -74,6 +79,7 @@ impl Settings {
             Key::Cache => settings.cache = value,
             Key::Workers => settings.workers = value,
             Key::Buf => settings.buf = value,
+            Key::Refs => settings.refs = value,
             Key::Tries => settings.tries = value,
             Key::Start => settings.start = value,
         }
@@ -90,7 +96,7 @@ impl Settings {
             workers: self.workers.unwrap_or(1),
             desks: 0,
             buf: self.buf.unwrap_or(2_048),
-            ref_limit: 65_535,
+            ref_limit: self.refs.unwrap_or(65_535),
             tries: self.tries.unwrap_or(64),
             start_count: self.start.unwrap_or(0),
         }

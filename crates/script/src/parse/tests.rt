@@ -72,14 +72,14 @@ fn shown(alloc: Global, line: &Line) -> Result<String, Fail> {
 #[test]
 fn a_good_script_is_read(rt: HostRuntime) -> Result<(), Fail> {
     let text =
-        b"# a pool\n\n  pool 12 tries 7 buf 0100  start 3 workers 2 cache 08 \n   \nalloc a\n  free   b9 \n#x\nalloc b9\n2: free a\n 002:  flush\n1: alloc c\n";
+        b"# a pool\n\n  pool 12 tries 7 buf 0100  start 3 workers 2 refs 9 cache 08 \n   \nalloc a\n  free   b9 \n#x\nalloc b9\n2: free a\n 002:  flush\n1: alloc c\n";
     let script = read(&rt, rt.alloc(), text);
     assert_eq!(rt; script.limits.population, 12);
     assert_eq!(rt; script.limits.cache, 8);
     assert_eq!(rt; script.limits.workers, 2);
     assert_eq!(rt; script.limits.desks, 0);
     assert_eq!(rt; script.limits.buf, 100);
-    assert_eq!(rt; script.limits.ref_limit, 65_535);
+    assert_eq!(rt; script.limits.ref_limit, 9);
     assert_eq!(rt; script.limits.tries, 7);
     assert_eq!(rt; script.limits.start_count, 3);
     let mut lines = String::new(rt.alloc());
@@ -164,6 +164,7 @@ fn a_pool_line_alone_is_a_script_with_the_defaults(rt: HostRuntime) {
     assert_eq!(rt; script.limits.cache, 0);
     assert_eq!(rt; script.limits.workers, 1);
     assert_eq!(rt; script.limits.buf, 2_048);
+    assert_eq!(rt; script.limits.ref_limit, 65_535);
     assert_eq!(rt; script.limits.tries, 64);
     assert_eq!(rt; script.limits.start_count, 0);
     assert!(rt; script.lines.is_empty());
@@ -344,6 +345,32 @@ fn limits_past_their_range_are_a_bad_pool(rt: HostRuntime) {
     assert_eq!(rt;
         refusal_of(rt.alloc(), b"pool 3 start 281474976710656\n"),
         Some(Refusal::BadPool)
+    );
+}
+
+#[test]
+fn reference_counts_have_a_limit_from_1_to_65535(rt: HostRuntime) {
+    assert_eq!(rt;
+        refusal_of(rt.alloc(), b"pool 3 refs 0\n"),
+        Some(Refusal::BadPool)
+    );
+    assert_eq!(rt; refusal_of(rt.alloc(), b"pool 3 refs 1\n"), None);
+    assert_eq!(rt; refusal_of(rt.alloc(), b"pool 3 refs 65535\n"), None);
+    assert_eq!(rt;
+        refusal_of(rt.alloc(), b"pool 3 refs 65536\n"),
+        Some(Refusal::BadPool)
+    );
+    assert_eq!(rt;
+        refusal_of(rt.alloc(), b"pool 3 refs 1 buf 1 refs 1\n"),
+        Some(Refusal::ScriptFault(1))
+    );
+    assert_eq!(rt;
+        refusal_of(rt.alloc(), b"pool 0 refs\n"),
+        Some(Refusal::ScriptFault(1))
+    );
+    assert_eq!(rt;
+        refusal_of(rt.alloc(), b"pool 3 ref 1\n"),
+        Some(Refusal::ScriptFault(1))
     );
 }
 
