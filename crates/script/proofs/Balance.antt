@@ -212,6 +212,10 @@ obey-balanced worker (command.Bulk names) run b = perform-balanced run.pool work
 obey-balanced worker (command.Free name) run b = free_as-balanced (run.stands worker name) worker name run b
 obey-balanced worker (command.Resize name change) run b = resize_as-balanced (run.stands worker name) worker change run b
 obey-balanced worker (command.Chain head tail) run b = chain_as-balanced (run.stands worker head) (run.stands worker tail) worker tail run b
+obey-balanced worker (command.Attach first second) run b = b
+obey-balanced worker (command.Detach packet) run b = b
+obey-balanced worker (command.Clone packet made) run b = b
+obey-balanced worker (command.Count packet) run b = b
 obey-balanced worker command.Flush run b = perform-balanced run.pool worker Flush b
 
 -- all lines keep each element in one place

@@ -13,12 +13,12 @@ use Rattle.mbuf.specs.declared.lengths.Change.TheVariants.{Append, Prepend, Adj,
 use Rattle.script.specs.declared.command_line.Verb.{Verb}
 use Rattle.script.specs.declared.command_line.Verb.TheVariants as verbs
 use Rattle.script.specs.declared.commands.Command.{Command}
-use Rattle.script.specs.declared.commands.Command.TheVariants.{Alloc, Bulk, Free, Resize, Chain, Flush}
+use Rattle.script.specs.declared.commands.Command.TheVariants.{Alloc, Bulk, Free, Resize, Chain, Attach, Detach, Clone, Count, Flush}
 use Rattle.script.specs.declared.commands.Line.{Line}
 use Rattle.script.specs.Names.{IsName}
 use Rattle.script.specs.Numbers.{IsNumber}
-use Rattle.script.specs.CommandLine.{AreNames, IsOneOf, AreApart, change_word, bytes_of, IsResize, IsCommand, IsPrefix, IsCommandLine, alone, prefixed, Makes, IsMade, MakesAnew}
-use Rattle.script.specs.Reading.{is_name_word, number_at, are_names, names_with, is_one_of, with_name, repeats_some, both_of, name_at, short_length, length_at, name_and_length, both_names, resize_with, chain_with, verb_word, all_verbs, verb_at, only_name_of, bare, command_with, command_from, before_colon, of_workers, worker_at, order_of, order_by, order_from, makes, is_made, repeats}
+use Rattle.script.specs.CommandLine.{AreNames, AreVerbAndName, AreVerbAndNames, IsOneOf, AreApart, change_word, bytes_of, IsResize, IsCommand, IsPrefix, IsCommandLine, alone, prefixed, Makes, IsMade, MakesAnew}
+use Rattle.script.specs.Reading.{is_name_word, number_at, are_names, names_with, is_one_of, with_name, repeats_some, both_of, name_at, short_length, length_at, name_and_length, both_names, name_with, both_with, resize_with, verb_word, all_verbs, verb_at, only_name_of, bare, command_with, command_from, before_colon, of_workers, worker_at, order_of, order_by, order_from, makes, is_made, repeats}
 use Rattle.script.specs.Told.{IsNamed, IsAmong}
 use Rattle.script.proofs.NumberLemmas.{all_from, all_to, name_from, name_is, number_from, number_is}
 use Rattle.script.proofs.KeptLemmas.{and_then_some, only_name_is, found_is}
@@ -34,11 +34,13 @@ bare_is command given [] e = (refl, found_is command given e)
 bare_is command given (word ∷ words) e = absurd cc
 
 -- the command of a verb and one name
-named_is : (make : List ℕ → Command) (words : List (List ℕ)) (command : Command) → option_and_then (λ name. Some (make name)) (only_name_of words) ≡ Some command → (name : List ℕ) × (words ≡ name ∷ []) × IsName name × (make name ≡ command)
-named_is make words command e =
+named_is : (verb : Verb) (make : List ℕ → Command) → ((all : List (List ℕ)) (name : List ℕ) → AreVerbAndName all (verb_word verb) name → IsCommand all (make name)) → (words : List (List ℕ)) (command : Command) → name_with make words ≡ Some command →
+    IsCommand (verb_word verb ∷ words) command
+named_is verb make by words command e =
     let n = and_then_some (λ name. Some (make name)) (only_name_of words) command e in
     let only = only_name_is words n.0 n.1 in
-    (n.0, only.0, name_from n.0 only.1, found_is (make n.0) command n.2)
+    subst (λ (c : Command). IsCommand (verb_word verb ∷ words) c) (found_is (make n.0) command n.2)
+    (by (verb_word verb ∷ words) n.0 (ap (λ (ws : List (List ℕ)). verb_word verb ∷ ws) only.0, name_from n.0 only.1))
 
 -- the only two words are those
 both_is : (words : List (List ℕ)) (both : List ℕ × List ℕ) → both_of words ≡ Some both → words ≡ both.0 ∷ both.1 ∷ []
@@ -60,6 +62,26 @@ length_from word n e =
 
 length_is : (word : List ℕ) (n : ℕ) → IsNumber word n → n ≤ 65535 → length_at word ≡ Some n
 length_is word n h short = ap (option_and_then short_length) (number_is word n h) ∙ cond-true (leb n 65535) (Some n) None (le-leb n 65535 short)
+
+-- the only two words are those names
+both_names_are : (words : List (List ℕ)) (found : List ℕ × List ℕ) → both_names words ≡ Some found → (words ≡ found.0 ∷ found.1 ∷ []) × IsName found.0 × IsName found.1
+both_names_are words found e =
+    let b = and_then_some (λ both. option_and_then (λ first. option_and_then (λ second. Some (first, second)) (name_at both.1)) (name_at both.0)) (both_of words) found e in
+    let n = and_then_some (λ first. option_and_then (λ second. Some (first, second)) (name_at b.0.1)) (name_at b.0.0) found b.2 in
+    let l = and_then_some (λ second. Some (n.0, second)) (name_at b.0.1) found n.2 in
+    let first = name_is_at b.0.0 n.0 n.1 in
+    let second = name_is_at b.0.1 l.0 l.1 in
+    let words_are : words ≡ n.0 ∷ l.0 ∷ [] = both_is words b.0 b.1 ∙ ap (λ (w : List ℕ). w ∷ b.0.1 ∷ []) first.0 ∙ ap (λ (w : List ℕ). n.0 ∷ w ∷ []) second.0 in
+    subst (λ (p : List ℕ × List ℕ). (words ≡ p.0 ∷ p.1 ∷ []) × IsName p.0 × IsName p.1) (found_is (n.0, l.0) found l.2) (words_are, first.1, second.1)
+
+-- the command of a verb and two names
+both_named_is : (verb : Verb) (make : List ℕ → List ℕ → Command) → ((all : List (List ℕ)) (first second : List ℕ) → AreVerbAndNames all (verb_word verb) first second → IsCommand all (make first second)) → (words : List (List ℕ)) (command : Command) → both_with make words ≡ Some command →
+    IsCommand (verb_word verb ∷ words) command
+both_named_is verb make by words command e =
+    let n = and_then_some (λ names. Some (make names.0 names.1)) (both_names words) command e in
+    let both = both_names_are words n.0 n.1 in
+    subst (λ (c : Command). IsCommand (verb_word verb ∷ words) c) (found_is (make n.0.0 n.0.1) command n.2)
+    (by (verb_word verb ∷ words) n.0.0 n.0.1 (ap (λ (ws : List (List ℕ)). verb_word verb ∷ ws) both.0, both.1, both.2))
 
 name_at_is : (name : List ℕ) → IsName name → name_at name ≡ Some name
 name_at_is name h = cond-true (is_name_word name) (Some name) None (name_is name h)
@@ -85,19 +107,6 @@ resize_from make words command by same e =
     } in
     subst (λ (c : Command). IsCommand (change_word (make 0) ∷ words) c) (ap (λ (p : List ℕ × ℕ). Resize p.0 (make p.1)) pair ∙ found_is (Resize found.0 (make found.1)) command f.2) is
 
-chain_from : (words : List (List ℕ)) (command : Command) → chain_with words ≡ Some command → IsCommand (codes "chain" ∷ words) command
-chain_from words command e =
-    let f = and_then_some (λ names. Some (Chain names.0 names.1)) (both_names words) command e in
-    let found = f.0 in
-    let b = and_then_some (λ both. option_and_then (λ head. option_and_then (λ tail. Some (head, tail)) (name_at both.1)) (name_at both.0)) (both_of words) found f.1 in
-    let n = and_then_some (λ head. option_and_then (λ tail. Some (head, tail)) (name_at b.0.1)) (name_at b.0.0) found b.2 in
-    let l = and_then_some (λ tail. Some (n.0, tail)) (name_at b.0.1) found n.2 in
-    let pair : ◌≡◌ {A = List ℕ × List ℕ} (n.0, l.0) found = found_is (n.0, l.0) found l.2 in
-    let head = name_is_at b.0.0 n.0 n.1 in
-    let tail = name_is_at b.0.1 l.0 l.1 in
-    subst (λ (c : Command). IsCommand (codes "chain" ∷ words) c) (ap (λ (p : List ℕ × List ℕ). Chain p.0 p.1) pair ∙ found_is (Chain found.0 found.1) command f.2)
-    (ap (λ (ws : List (List ℕ)). codes "chain" ∷ ws) (both_is words b.0 b.1) ∙ ap (λ (w : List ℕ). codes "chain" ∷ w ∷ b.0.1 ∷ []) head.0 ∙ ap (λ (w : List ℕ). codes "chain" ∷ n.0 ∷ w ∷ []) tail.0, head.1, tail.1)
-
 resize_by_words : (make : ℕ → Change) (name number : List ℕ) (n : ℕ) → IsName name → IsNumber number n → n ≤ 65535 → resize_with make (name ∷ number ∷ []) ≡ Some (Resize name (make n))
 resize_by_words make name number n h k short = rw (name_at_is name h, length_is number n k short) refl
 
@@ -115,23 +124,23 @@ names_are words h =
     (all_to is_name_word IsName (λ word k. name_is word k) words h.each)
 
 command_of_verb : (verb : Verb) (words : List (List ℕ)) (command : Command) → command_with verb words ≡ Some command → IsCommand (verb_word verb ∷ words) command
-command_of_verb verbs.Alloc words command e =
-    let n = named_is (λ name. Alloc name) words command e in
-    subst (λ (c : Command). IsCommand (verb_word verbs.Alloc ∷ words) c) n.3 (ap (λ (ws : List (List ℕ)). verb_word verbs.Alloc ∷ ws) n.1, n.2)
+command_of_verb verbs.Alloc words command e = named_is verbs.Alloc (λ name. Alloc name) (λ all name h. h) words command e
 command_of_verb verbs.Bulk words command e =
     let n = and_then_some (λ names. Some (Bulk names)) (names_with words) command e in
     let c = if_some (are_names words) (Some words) n.0 n.1 in
     let same = found_is words n.0 c.1 in
     subst (λ (c : Command). IsCommand (verb_word verbs.Bulk ∷ words) c) (found_is (Bulk n.0) command n.2)
     (ap (λ (ws : List (List ℕ)). codes "bulk" ∷ ws) same, subst AreNames same (names_from words c.0))
-command_of_verb verbs.Free words command e =
-    let n = named_is (λ name. Free name) words command e in
-    subst (λ (c : Command). IsCommand (verb_word verbs.Free ∷ words) c) n.3 (ap (λ (ws : List (List ℕ)). verb_word verbs.Free ∷ ws) n.1, n.2)
+command_of_verb verbs.Free words command e = named_is verbs.Free (λ name. Free name) (λ all name h. h) words command e
 command_of_verb verbs.Append words command e = resize_from (λ n. Append n) words command (λ n. refl) (λ n m. refl) e
 command_of_verb verbs.Prepend words command e = resize_from (λ n. Prepend n) words command (λ n. refl) (λ n m. refl) e
 command_of_verb verbs.Adj words command e = resize_from (λ n. Adj n) words command (λ n. refl) (λ n m. refl) e
 command_of_verb verbs.Trim words command e = resize_from (λ n. Trim n) words command (λ n. refl) (λ n m. refl) e
-command_of_verb verbs.Chain words command e = chain_from words command e
+command_of_verb verbs.Chain words command e = both_named_is verbs.Chain (λ head tail. Chain head tail) (λ all head tail h. h) words command e
+command_of_verb verbs.Attach words command e = both_named_is verbs.Attach (λ first second. Attach first second) (λ all first second h. h) words command e
+command_of_verb verbs.Detach words command e = named_is verbs.Detach (λ packet. Detach packet) (λ all packet h. h) words command e
+command_of_verb verbs.Clone words command e = both_named_is verbs.Clone (λ packet made. Clone packet made) (λ all packet made h. h) words command e
+command_of_verb verbs.Count words command e = named_is verbs.Count (λ packet. Count packet) (λ all packet h. h) words command e
 command_of_verb verbs.Flush words command e =
     let b = bare_is Flush command words e in
     subst (λ (c : Command). IsCommand (verb_word verbs.Flush ∷ words) c) b.1 (ap (λ (ws : List (List ℕ)). verb_word verbs.Flush ∷ ws) b.0)
@@ -145,15 +154,25 @@ command_comes (word ∷ words) command e =
 only_name : (name : List ℕ) → IsName name → only_name_of (name ∷ []) ≡ Some name
 only_name name h = cond-true (is_name_word name) (Some name) None (name_is name h)
 
+name_by_words : (make : List ℕ → Command) (name : List ℕ) → IsName name → name_with make (name ∷ []) ≡ Some (make name)
+name_by_words make name h = ap (option_and_then (λ n. Some (make n))) (only_name name h)
+
+both_by_words : (make : List ℕ → List ℕ → Command) (first second : List ℕ) → IsName first → IsName second → both_with make (first ∷ second ∷ []) ≡ Some (make first second)
+both_by_words make first second h k = rw (name_at_is first h, name_at_is second k) refl
+
 pub command_is : (words : List (List ℕ)) (command : Command) → IsCommand words command → command_from words ≡ Some command
-command_is words (Alloc name) h = ap command_from h.0 ∙ ap (option_and_then (λ n. Some (Alloc n))) (only_name name h.1)
+command_is words (Alloc name) h = ap command_from h.0 ∙ name_by_words (λ n. Alloc n) name h.1
 command_is words (Bulk names) h = ap command_from h.0 ∙ ap (option_and_then (λ ns. Some (Bulk ns))) (cond-true (are_names names) (Some names) None (names_are names h.1))
-command_is words (Free name) h = ap command_from h.0 ∙ ap (option_and_then (λ n. Some (Free n))) (only_name name h.1)
+command_is words (Free name) h = ap command_from h.0 ∙ name_by_words (λ n. Free n) name h.1
 command_is words (Resize name (Append n)) h = ap command_from h.words_are ∙ resize_by_words (λ k. Append k) name h.number n h.is_name h.is_number h.short
 command_is words (Resize name (Prepend n)) h = ap command_from h.words_are ∙ resize_by_words (λ k. Prepend k) name h.number n h.is_name h.is_number h.short
 command_is words (Resize name (Adj n)) h = ap command_from h.words_are ∙ resize_by_words (λ k. Adj k) name h.number n h.is_name h.is_number h.short
 command_is words (Resize name (Trim n)) h = ap command_from h.words_are ∙ resize_by_words (λ k. Trim k) name h.number n h.is_name h.is_number h.short
-command_is words (Chain head tail) h = ap command_from h.0 ∙ rw (name_at_is head h.1, name_at_is tail h.2) refl
+command_is words (Chain head tail) h = ap command_from h.0 ∙ both_by_words (λ n k. Chain n k) head tail h.1 h.2
+command_is words (Attach first second) h = ap command_from h.0 ∙ both_by_words (λ n k. Attach n k) first second h.1 h.2
+command_is words (Detach packet) h = ap command_from h.0 ∙ name_by_words (λ n. Detach n) packet h.1
+command_is words (Clone packet made) h = ap command_from h.0 ∙ both_by_words (λ n k. Clone n k) packet made h.1 h.2
+command_is words (Count packet) h = ap command_from h.0 ∙ name_by_words (λ n. Count n) packet h.1
 command_is words Flush h = ap command_from h
 
 -- ---- the worker in front of a command
@@ -215,6 +234,10 @@ no_prefix words (Resize name (Prepend n)) workers h = ap (order_from workers) h.
 no_prefix words (Resize name (Adj n)) workers h = ap (order_from workers) h.words_are ∙ ap (order_of 1) (sym h.words_are)
 no_prefix words (Resize name (Trim n)) workers h = ap (order_from workers) h.words_are ∙ ap (order_of 1) (sym h.words_are)
 no_prefix words (Chain head tail) workers h = ap (order_from workers) h.0 ∙ ap (order_of 1) (sym h.0)
+no_prefix words (Attach first second) workers h = ap (order_from workers) h.0 ∙ ap (order_of 1) (sym h.0)
+no_prefix words (Detach packet) workers h = ap (order_from workers) h.0 ∙ ap (order_of 1) (sym h.0)
+no_prefix words (Clone packet made) workers h = ap (order_from workers) h.0 ∙ ap (order_of 1) (sym h.0)
+no_prefix words (Count packet) workers h = ap (order_from workers) h.0 ∙ ap (order_of 1) (sym h.0)
 no_prefix words Flush workers h = ap (order_from workers) h ∙ ap (order_of 1) (sym h)
 
 order_as : (worker : ℕ) (words : List (List ℕ)) (command : Command) → IsCommand words command → order_of worker words ≡ Some (worker, command)
@@ -236,6 +259,10 @@ named_by words (Bulk names) h = h.1.each
 named_by words (Free name) h = h.1
 named_by words (Resize name change) h = h.is_name
 named_by words (Chain head tail) h = (h.1, h.2)
+named_by words (Attach first second) h = (h.1, h.2)
+named_by words (Detach packet) h = h.1
+named_by words (Clone packet made) h = (h.1, h.2)
+named_by words (Count packet) h = h.1
 named_by words Flush h = tt
 
 line_names : (workers : ℕ) (words : List (List ℕ)) (worker : ℕ) (command : Command) → IsCommandLine workers words worker command → IsNamed command
@@ -273,6 +300,10 @@ makes_from (Bulk names) name e = one_of_from names name e
 makes_from (Free freed) name e = absurd (false≢true e)
 makes_from (Resize packet change) name e = absurd (false≢true e)
 makes_from (Chain head tail) name e = absurd (false≢true e)
+makes_from (Attach first second) name e = absurd (false≢true e)
+makes_from (Detach packet) name e = absurd (false≢true e)
+makes_from (Clone packet made) name e = sym ((bytes_eq-Decides name made).0 e)
+makes_from (Count packet) name e = absurd (false≢true e)
 makes_from Flush name e = absurd (false≢true e)
 
 makes_is : (command : Command) (name : List ℕ) → Makes command name → makes command name ≡ true
@@ -281,6 +312,10 @@ makes_is (Bulk names) name h = one_of_is names name h
 makes_is (Free freed) name h = absurd h
 makes_is (Resize packet change) name h = absurd h
 makes_is (Chain head tail) name h = absurd h
+makes_is (Attach first second) name h = absurd h
+makes_is (Detach packet) name h = absurd h
+makes_is (Clone packet made) name h = (bytes_eq-Decides name made).1 (sym h)
+makes_is (Count packet) name h = absurd h
 makes_is Flush name h = absurd h
 
 made_from : (lines : List Line) (worker : ℕ) (name : List ℕ) → is_made lines worker name ≡ true → IsMade lines worker name
@@ -295,6 +330,13 @@ made_is : (lines : List Line) (worker : ℕ) (name : List ℕ) → IsMade lines 
 made_is [] worker name h = absurd h
 made_is (line ∷ lines) worker name (inl h) = or_left (worker == line.worker && makes line.command name) (is_made lines worker name) (and_from (worker == line.worker) (makes line.command name) (eq-eqb worker line.worker (sym h.0)) (makes_is line.command name h.1))
 made_is (line ∷ lines) worker name (inr h) = or_right (worker == line.worker && makes line.command name) (is_made lines worker name) (made_is lines worker name h)
+
+-- a name that no line made
+one_is : (lines : List Line) (worker : ℕ) (made : List ℕ) → ((name : List ℕ) → made ≡ name → IsMade lines worker name → ⊥) → is_made lines worker made ≡ false
+one_is lines worker made new = false_from_ne_true (is_made lines worker made) (λ e. new made refl (made_from lines worker made e))
+
+one_from : (lines : List Line) (worker : ℕ) (made : List ℕ) → is_made lines worker made ≡ false → (name : List ℕ) → made ≡ name → IsMade lines worker name → ⊥
+one_from lines worker made e name same h = both_ways (is_made lines worker made) e (ap (is_made lines worker) same ∙ made_is lines worker name h)
 
 -- names that no line made and that stand once each
 some_is : (lines : List Line) (worker : ℕ) (names : List (List ℕ)) → ((name : List ℕ) → IsOneOf names name → IsMade lines worker name → ⊥) → AreApart names → repeats_some lines worker names ≡ false
@@ -324,17 +366,25 @@ some_from lines worker (name ∷ names) e =
     )
 
 pub anew_is : (lines : List Line) (worker : ℕ) (command : Command) → MakesAnew lines worker command → repeats lines worker command ≡ false
-anew_is lines worker (Alloc name) h = false_from_ne_true (is_made lines worker name) (λ e. h.new name refl (made_from lines worker name e))
+anew_is lines worker (Alloc made) h = one_is lines worker made h.new
 anew_is lines worker (Bulk names) h = some_is lines worker names h.new h.once
 anew_is lines worker (Free name) h = refl
 anew_is lines worker (Resize name change) h = refl
 anew_is lines worker (Chain head tail) h = refl
+anew_is lines worker (Attach first second) h = refl
+anew_is lines worker (Detach packet) h = refl
+anew_is lines worker (Clone packet made) h = one_is lines worker made h.new
+anew_is lines worker (Count packet) h = refl
 anew_is lines worker Flush h = refl
 
 pub anew_from : (lines : List Line) (worker : ℕ) (command : Command) → repeats lines worker command ≡ false → MakesAnew lines worker command
-anew_from lines worker (Alloc made) e = record { new = λ name makes_it h. both_ways (is_made lines worker made) e (ap (is_made lines worker) makes_it ∙ made_is lines worker name h); once = tt }
+anew_from lines worker (Alloc made) e = record { new = one_from lines worker made e; once = tt }
 anew_from lines worker (Bulk names) e = let r = some_from lines worker names e in record { new = r.0; once = r.1 }
 anew_from lines worker (Free freed) e = record { new = λ name makes_it h. makes_it; once = tt }
 anew_from lines worker (Resize packet change) e = record { new = λ name makes_it h. makes_it; once = tt }
 anew_from lines worker (Chain head tail) e = record { new = λ name makes_it h. makes_it; once = tt }
+anew_from lines worker (Attach first second) e = record { new = λ name makes_it h. makes_it; once = tt }
+anew_from lines worker (Detach packet) e = record { new = λ name makes_it h. makes_it; once = tt }
+anew_from lines worker (Clone packet made) e = record { new = one_from lines worker made e; once = tt }
+anew_from lines worker (Count packet) e = record { new = λ name makes_it h. makes_it; once = tt }
 anew_from lines worker Flush e = record { new = λ name makes_it h. makes_it; once = tt }

@@ -4,7 +4,7 @@ use Rattle.std.specs.List.{AllByRecursion}
 use Rattle.mbuf.specs.declared.lengths.Change.{Change}
 use Rattle.mbuf.specs.declared.lengths.Change.TheVariants.{Append, Prepend, Adj, Trim}
 use Rattle.script.specs.declared.commands.Command.{Command}
-use Rattle.script.specs.declared.commands.Command.TheVariants.{Alloc, Bulk, Free, Resize, Chain, Flush}
+use Rattle.script.specs.declared.commands.Command.TheVariants.{Alloc, Bulk, Free, Resize, Chain, Attach, Detach, Clone, Count, Flush}
 use Rattle.script.specs.declared.commands.Line.{Line}
 use Rattle.script.specs.Names.{IsName}
 use Rattle.script.specs.Numbers.{IsNumber}
@@ -37,13 +37,25 @@ pub record AreNames (words : List (List ℕ)) : Type 0 where
   pub few : length words ≤ 256
   pub each : AllByRecursion IsName words
 
+-- the words are this verb and a name
+abbrev pub AreVerbAndName : List (List ℕ) → List ℕ → List ℕ → Type 0
+AreVerbAndName words verb name = (words ≡ verb ∷ name ∷ []) × IsName name
+
+-- the words are this verb and two names
+abbrev pub AreVerbAndNames : List (List ℕ) → List ℕ → List ℕ → List ℕ → Type 0
+AreVerbAndNames words verb first second = (words ≡ verb ∷ first ∷ second ∷ []) × IsName first × IsName second
+
 -- the words are this command
 abbrev pub IsCommand : List (List ℕ) → Command → Type 0
-IsCommand words (Alloc name) = (words ≡ codes "alloc" ∷ name ∷ []) × IsName name
+IsCommand words (Alloc name) = AreVerbAndName words (codes "alloc") name
 IsCommand words (Bulk names) = (words ≡ codes "bulk" ∷ names) × AreNames names
-IsCommand words (Free name) = (words ≡ codes "free" ∷ name ∷ []) × IsName name
+IsCommand words (Free name) = AreVerbAndName words (codes "free") name
 IsCommand words (Resize name change) = IsResize words name change
-IsCommand words (Chain head tail) = (words ≡ codes "chain" ∷ head ∷ tail ∷ []) × IsName head × IsName tail
+IsCommand words (Chain head tail) = AreVerbAndNames words (codes "chain") head tail
+IsCommand words (Attach first second) = AreVerbAndNames words (codes "attach") first second
+IsCommand words (Detach packet) = AreVerbAndName words (codes "detach") packet
+IsCommand words (Clone packet made) = AreVerbAndNames words (codes "clone") packet made
+IsCommand words (Count packet) = AreVerbAndName words (codes "count") packet
 IsCommand words Flush = words ≡ codes "flush" ∷ []
 
 -- the word is a worker's number, from 1 to that of the last, with a colon behind it
@@ -78,6 +90,10 @@ Makes (Bulk names) name = IsOneOf names name
 Makes (Free freed) name = ⊥
 Makes (Resize packet change) name = ⊥
 Makes (Chain head tail) name = ⊥
+Makes (Attach first second) name = ⊥
+Makes (Detach packet) name = ⊥
+Makes (Clone packet made) name = made ≡ name
+Makes (Count packet) name = ⊥
 Makes Flush name = ⊥
 
 -- one of the lines makes the worker's name
@@ -92,6 +108,10 @@ MakesOnce (Bulk names) = AreApart names
 MakesOnce (Free name) = Unit {0}
 MakesOnce (Resize name change) = Unit {0}
 MakesOnce (Chain head tail) = Unit {0}
+MakesOnce (Attach first second) = Unit {0}
+MakesOnce (Detach packet) = Unit {0}
+MakesOnce (Clone packet made) = Unit {0}
+MakesOnce (Count packet) = Unit {0}
 MakesOnce Flush = Unit {0}
 
 -- no line has made before what the worker's command makes, and it makes it once

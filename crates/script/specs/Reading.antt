@@ -8,7 +8,7 @@ use Rattle.commons.specs.declared.refusal.Refusal.TheVariants.{BadPool, ScriptFa
 use Rattle.mbuf.specs.declared.lengths.Change.{Change}
 use Rattle.mbuf.specs.declared.lengths.Change.TheVariants.{Append, Prepend, Adj, Trim}
 use Rattle.script.specs.declared.commands.Command.{Command}
-use Rattle.script.specs.declared.commands.Command.TheVariants.{Alloc, Bulk, Free, Resize, Chain, Flush}
+use Rattle.script.specs.declared.commands.Command.TheVariants.{Alloc, Bulk, Free, Resize, Chain, Attach, Detach, Clone, Count, Flush}
 use Rattle.script.specs.declared.commands.Line.{Line}
 use Rattle.script.specs.declared.command_line.Verb.{Verb}
 use Rattle.script.specs.declared.command_line.Verb.TheVariants as verbs
@@ -199,11 +199,15 @@ verb_word verbs.Prepend = codes "prepend"
 verb_word verbs.Adj = codes "adj"
 verb_word verbs.Trim = codes "trim"
 verb_word verbs.Chain = codes "chain"
+verb_word verbs.Attach = codes "attach"
+verb_word verbs.Detach = codes "detach"
+verb_word verbs.Clone = codes "clone"
+verb_word verbs.Count = codes "count"
 verb_word verbs.Flush = codes "flush"
 
 -- all verbs
 abbrev pub all_verbs : List Verb
-all_verbs = verbs.Alloc ∷ verbs.Bulk ∷ verbs.Free ∷ verbs.Append ∷ verbs.Prepend ∷ verbs.Adj ∷ verbs.Trim ∷ verbs.Chain ∷ verbs.Flush ∷ []
+all_verbs = verbs.Alloc ∷ verbs.Bulk ∷ verbs.Free ∷ verbs.Append ∷ verbs.Prepend ∷ verbs.Adj ∷ verbs.Trim ∷ verbs.Chain ∷ verbs.Attach ∷ verbs.Detach ∷ verbs.Clone ∷ verbs.Count ∷ verbs.Flush ∷ []
 
 -- the verb that a word spells
 abbrev pub verb_at : List ℕ → Option Verb
@@ -248,15 +252,19 @@ name_and_length words =
 -- two names
 abbrev pub both_names : List (List ℕ) → Option (List ℕ × List ℕ)
 both_names words =
-    option_and_then (λ both. option_and_then (λ head. option_and_then (λ tail. Some (head, tail)) (name_at both.1)) (name_at both.0)) (both_of words)
+    option_and_then (λ both. option_and_then (λ first. option_and_then (λ second. Some (first, second)) (name_at both.1)) (name_at both.0)) (both_of words)
+
+-- the command of a verb and a name
+abbrev pub name_with : (List ℕ → Command) → List (List ℕ) → Option Command
+name_with make words = option_and_then (λ name. Some (make name)) (only_name_of words)
+
+-- the command of a verb and two names
+abbrev pub both_with : (List ℕ → List ℕ → Command) → List (List ℕ) → Option Command
+both_with make words = option_and_then (λ names. Some (make names.0 names.1)) (both_names words)
 
 -- the command of a change of lengths
 abbrev pub resize_with : (ℕ → Change) → List (List ℕ) → Option Command
 resize_with change words = option_and_then (λ found. Some (Resize found.0 (change found.1))) (name_and_length words)
-
--- the command of a chain
-abbrev pub chain_with : List (List ℕ) → Option Command
-chain_with words = option_and_then (λ names. Some (Chain names.0 names.1)) (both_names words)
 
 -- the command of a verb that has no words behind it
 abbrev pub bare : Command → List (List ℕ) → Option Command
@@ -265,14 +273,18 @@ bare command (word ∷ words) = None
 
 -- the command of a verb and the words behind it
 abbrev pub command_with : Verb → List (List ℕ) → Option Command
-command_with verbs.Alloc words = option_and_then (λ name. Some (Alloc name)) (only_name_of words)
+command_with verbs.Alloc words = name_with Alloc words
 command_with verbs.Bulk words = option_and_then (λ names. Some (Bulk names)) (names_with words)
-command_with verbs.Free words = option_and_then (λ name. Some (Free name)) (only_name_of words)
+command_with verbs.Free words = name_with Free words
 command_with verbs.Append words = resize_with Append words
 command_with verbs.Prepend words = resize_with Prepend words
 command_with verbs.Adj words = resize_with Adj words
 command_with verbs.Trim words = resize_with Trim words
-command_with verbs.Chain words = chain_with words
+command_with verbs.Chain words = both_with Chain words
+command_with verbs.Attach words = both_with Attach words
+command_with verbs.Detach words = name_with Detach words
+command_with verbs.Clone words = both_with Clone words
+command_with verbs.Count words = name_with Count words
 command_with verbs.Flush words = bare Flush words
 
 -- the command that words are
@@ -318,6 +330,10 @@ makes (Bulk names) name = is_one_of names name
 makes (Free freed) name = false
 makes (Resize packet change) name = false
 makes (Chain head tail) name = false
+makes (Attach first second) name = false
+makes (Detach packet) name = false
+makes (Clone packet made) name = bytes_eq name made
+makes (Count packet) name = false
 makes Flush name = false
 
 -- whether one of the lines makes the worker's name
@@ -341,6 +357,10 @@ repeats lines worker (Bulk names) = repeats_some lines worker names
 repeats lines worker (Free name) = false
 repeats lines worker (Resize name change) = false
 repeats lines worker (Chain head tail) = false
+repeats lines worker (Attach first second) = false
+repeats lines worker (Detach packet) = false
+repeats lines worker (Clone packet made) = is_made lines worker made
+repeats lines worker (Count packet) = false
 repeats lines worker Flush = false
 
 -- ---- a line, and lines one after another

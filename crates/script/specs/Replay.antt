@@ -104,6 +104,10 @@ obey worker (command.Bulk names) run = bulk_as worker names run
 obey worker (command.Free name) run = free_as (run.stands worker name) worker name run
 obey worker (command.Resize name change) run = resize_as (run.stands worker name) worker change run
 obey worker (command.Chain head tail) run = chain_as (run.stands worker head) (run.stands worker tail) worker tail run
+obey worker (command.Attach first second) run = (Refused NoSuchPacket, run)
+obey worker (command.Detach packet) run = (Refused NoSuchPacket, run)
+obey worker (command.Clone packet made) run = (Refused NoSuchPacket, run)
+obey worker (command.Count packet) run = (Refused NoSuchPacket, run)
 obey worker command.Flush run = flush_as worker run
 
 -- the reply to each line, with its number

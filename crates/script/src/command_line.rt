@@ -3,7 +3,7 @@
 ghost use Rattle.std.specs.Prelude.{◌≡◌, ◌≤◌, [], ◌∷◌, codes, IfOk, MatchOption, if◌then◌else◌, Option, None, Some};
 ghost use Rattle.std.specs.Str.{bytes_eq};
 ghost use Rattle.std.specs.Option.{option_copied};
-ghost use Rattle.script.specs.Reading.{before_colon, both_of, chain_with, command_from, command_with as command_by, length_at, name_and_length as name_and_length_of, name_at, names_with, only_name_of, order_from, verb_at, words_of, worker_at};
+ghost use Rattle.script.specs.Reading.{before_colon, both_names, both_of, command_from, command_with as command_by, length_at, name_and_length as name_and_length_of, name_at, names_with, only_name_of, order_from, verb_at, words_of, worker_at};
 
 use crate::commands::{Command, Name};
 use crate::line::next_word;
@@ -27,6 +27,10 @@ enum Verb {
     Adj,
     Trim,
     Chain,
+    Attach,
+    Detach,
+    Clone,
+    Count,
     Flush,
 }
 
@@ -50,6 +54,14 @@ fn verb_of(word: &[u8]) -> Option<Verb>
         Some(Verb::Trim)
     } else if word == b"chain".as_slice() {
         Some(Verb::Chain)
+    } else if word == b"attach".as_slice() {
+        Some(Verb::Attach)
+    } else if word == b"detach".as_slice() {
+        Some(Verb::Detach)
+    } else if word == b"clone".as_slice() {
+        Some(Verb::Clone)
+    } else if word == b"count".as_slice() {
+        Some(Verb::Count)
     } else if word == b"flush".as_slice() {
         Some(Verb::Flush)
     } else {
@@ -156,18 +168,18 @@ fn name_and_length(alloc: Global, rest: &[u8]) -> Result<Option<(Name, u16)>, Al
     }
 }
 
-/// The command of a chain, by the words behind it.
-fn chain_of(alloc: Global, rest: &[u8]) -> Result<Option<Command>, AllocError>
-    ensures { IfOk result (λ command. command ≡ chain_with (words_of rest.now)) }
+/// Copies of the only two words of a rest of a line, where they are names.
+fn two_names(alloc: Global, rest: &[u8]) -> Result<Option<(Name, Name)>, AllocError>
+    ensures { IfOk result (λ names. names ≡ both_names (words_of rest.now)) }
 {
-    let Some((first, second)) = both_words(rest) else {
+    let Some((word, other)) = both_words(rest) else {
         return Ok(None);
     };
-    let Some(head) = name_of(alloc, first)? else {
+    let Some(first) = name_of(alloc, word)? else {
         return Ok(None);
     };
-    match name_of(alloc, second)? {
-        Some(tail) => Ok(Some(Command::Chain(head, tail))),
+    match name_of(alloc, other)? {
+        Some(second) => Ok(Some((first, second))),
         None => Ok(None),
     }
 }
@@ -205,7 +217,26 @@ fn command_with(alloc: Global, verb: Verb, rest: &[u8]) -> Result<Option<Command
             Some((name, len)) => Ok(Some(Command::Resize(name, Change::Trim(len)))),
             None => Ok(None),
         },
-        Verb::Chain => chain_of(alloc, rest),
+        Verb::Chain => match two_names(alloc, rest)? {
+            Some((head, tail)) => Ok(Some(Command::Chain(head, tail))),
+            None => Ok(None),
+        },
+        Verb::Attach => match two_names(alloc, rest)? {
+            Some((first, second)) => Ok(Some(Command::Attach(first, second))),
+            None => Ok(None),
+        },
+        Verb::Detach => match copied_name(alloc, rest)? {
+            Some(name) => Ok(Some(Command::Detach(name))),
+            None => Ok(None),
+        },
+        Verb::Clone => match two_names(alloc, rest)? {
+            Some((packet, made)) => Ok(Some(Command::Clone(packet, made))),
+            None => Ok(None),
+        },
+        Verb::Count => match copied_name(alloc, rest)? {
+            Some(name) => Ok(Some(Command::Count(name))),
+            None => Ok(None),
+        },
         Verb::Flush => match next_word(rest) {
             Some(_) => Ok(None),
             None => Ok(Some(Command::Flush)),

@@ -21,6 +21,14 @@ pub enum Command {
     Resize(Name, Change),
     /// Puts the second packet's segments behind those of the first.
     Chain(Name, Name),
+    /// Lets the first packet, of one segment, use the buffer of the second's first segment.
+    Attach(Name, Name),
+    /// Gives a packet its own buffer back.
+    Detach(Name),
+    /// Makes a clone of the first packet, under the second name.
+    Clone(Name, Name),
+    /// Tells the reference count of a packet's first segment's element.
+    Count(Name),
     /// Puts the worker's whole cache onto the common stack.
     Flush,
 }

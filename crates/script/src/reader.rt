@@ -155,11 +155,17 @@ impl Reader {
         ensures lines { self.new.lines ≡ self.old.lines }
     {
         match command {
-            Command::Alloc(name) => self.made.add(worker, name.as_slice()),
-            Command::Bulk(names) => self.claim_all(worker, names.as_slice()),
-            Command::Free(_) | Command::Resize(_, _) | Command::Chain(_, _) | Command::Flush => {
-                Ok(true)
+            Command::Alloc(name) | Command::Clone(_, name) => {
+                self.made.add(worker, name.as_slice())
             }
+            Command::Bulk(names) => self.claim_all(worker, names.as_slice()),
+            Command::Free(_)
+            | Command::Resize(_, _)
+            | Command::Chain(_, _)
+            | Command::Attach(_, _)
+            | Command::Detach(_)
+            | Command::Count(_)
+            | Command::Flush => Ok(true),
         }
     }
 

@@ -156,6 +156,9 @@ fn obey<'a>(pool: &mut SitePool, names: &mut Names<'a>, line: &'a Line) -> Resul
             head.as_slice(),
             tail.as_slice(),
         )),
+        Command::Attach(_, _) | Command::Detach(_) | Command::Clone(_, _) | Command::Count(_) => {
+            Ok(Reply::Refused(Refusal::NoSuchPacket))
+        }
         Command::Flush => Ok(pool.perform(worker, Act::Flush)),
     }
 }

@@ -64,9 +64,37 @@ fn shown(alloc: Global, line: &Line) -> Result<String, Fail> {
             push_word(&mut text, head.as_slice())?;
             push_word(&mut text, tail.as_slice())?;
         }
+        Command::Attach(first, second) => {
+            text.push_str("attach")?;
+            push_word(&mut text, first.as_slice())?;
+            push_word(&mut text, second.as_slice())?;
+        }
+        Command::Detach(name) => {
+            text.push_str("detach")?;
+            push_word(&mut text, name.as_slice())?;
+        }
+        Command::Clone(packet, made) => {
+            text.push_str("clone")?;
+            push_word(&mut text, packet.as_slice())?;
+            push_word(&mut text, made.as_slice())?;
+        }
+        Command::Count(name) => {
+            text.push_str("count")?;
+            push_word(&mut text, name.as_slice())?;
+        }
         Command::Flush => text.push_str("flush")?,
     }
     Ok(text)
+}
+
+/// What each line of a script says, with a semicolon behind each.
+fn shown_lines(alloc: Global, script: &Script) -> Result<String, Fail> {
+    let mut lines = String::new(alloc);
+    for line in script.lines.as_slice() {
+        lines.push_str(shown(alloc, line)?.as_str())?;
+        lines.push_str("; ")?;
+    }
+    Ok(lines)
 }
 
 #[test]
@@ -82,11 +110,7 @@ fn a_good_script_is_read(rt: HostRuntime) -> Result<(), Fail> {
     assert_eq!(rt; script.limits.ref_limit, 9);
     assert_eq!(rt; script.limits.tries, 7);
     assert_eq!(rt; script.limits.start_count, 3);
-    let mut lines = String::new(rt.alloc());
-    for line in script.lines.as_slice() {
-        lines.push_str(shown(rt.alloc(), line)?.as_str())?;
-        lines.push_str("; ")?;
-    }
+    let lines = shown_lines(rt.alloc(), &script)?;
     assert_eq!(rt;
         lines.as_str(),
         "5 1 alloc a; 6 1 free b9; 8 1 alloc b9; 9 2 free a; 10 2 flush; 11 1 alloc c; "
@@ -99,11 +123,7 @@ fn the_commands_of_packets_are_read(rt: HostRuntime) -> Result<(), Fail> {
     let text =
         b"pool 9\nbulk a b  c\nappend a 7\nprepend a 65535\n adj b 00 \ntrim c 1\nchain a b\n";
     let script = read(&rt, rt.alloc(), text);
-    let mut lines = String::new(rt.alloc());
-    for line in script.lines.as_slice() {
-        lines.push_str(shown(rt.alloc(), line)?.as_str())?;
-        lines.push_str("; ")?;
-    }
+    let lines = shown_lines(rt.alloc(), &script)?;
     assert_eq!(rt;
         lines.as_str(),
         "2 1 bulk a b c; 3 1 append 7 of a; 4 1 prepend 65535 of a; 5 1 adj 0 of b; \
@@ -113,8 +133,22 @@ fn the_commands_of_packets_are_read(rt: HostRuntime) -> Result<(), Fail> {
 }
 
 #[test]
+fn the_commands_of_shared_buffers_are_read(rt: HostRuntime) -> Result<(), Fail> {
+    let text =
+        b"pool 9\nattach a b\ndetach  a\nclone b c\ncount c\n 1:  attach d d \n1: clone a1 b2\n";
+    let script = read(&rt, rt.alloc(), text);
+    let lines = shown_lines(rt.alloc(), &script)?;
+    assert_eq!(rt;
+        lines.as_str(),
+        "2 1 attach a b; 3 1 detach a; 4 1 clone b c; 5 1 count c; 6 1 attach d d; \
+         7 1 clone a1 b2; "
+    );
+    Ok(())
+}
+
+#[test]
 fn wrong_words_behind_a_command_are_a_fault(rt: HostRuntime) {
-    let lines: [&[u8]; 14] = [
+    let lines: [&[u8]; 31] = [
         b"bulk",
         b"bulk a b a",
         b"bulk a B",
@@ -129,6 +163,23 @@ fn wrong_words_behind_a_command_are_a_fault(rt: HostRuntime) {
         b"chain a",
         b"chain a b c",
         b"chain a 1",
+        b"attach",
+        b"attach a",
+        b"attach a b c",
+        b"attach A b",
+        b"attach a 1",
+        b"detach",
+        b"detach a b",
+        b"detach 1",
+        b"clone",
+        b"clone a",
+        b"clone a b c",
+        b"clone 1 b",
+        b"clone a abcdefghijklmnopq",
+        b"count",
+        b"count a b",
+        b"count 1",
+        b"counts a",
     ];
     for line in lines {
         let mut text = Vec::from_slice(rt.alloc(), b"pool 3\n").expect(&rt, "memory");
@@ -155,6 +206,32 @@ fn a_bulk_makes_its_names(rt: HostRuntime) {
         refusal_of(rt.alloc(), b"pool 9 workers 2\nbulk a b c\n2: bulk c b a\n"),
         None
     );
+}
+
+// A clone makes the second of its names, which it may be given only where no other line of the
+// worker makes it.
+#[test]
+fn a_clone_makes_its_second_name(rt: HostRuntime) {
+    let bad: [&[u8]; 5] = [
+        b"pool 9\nalloc b\nclone a b\n",
+        b"pool 9\nclone a b\nalloc b\n",
+        b"pool 9\nclone a b\nclone c b\n",
+        b"pool 9\nalloc a\nclone a a\n",
+        b"pool 9\nclone a b\nbulk c b\n",
+    ];
+    for text in bad {
+        assert_eq!(rt; refusal_of(rt.alloc(), text), Some(Refusal::ScriptFault(3)));
+    }
+    let good: [&[u8]; 5] = [
+        b"pool 9\nclone a a\n",
+        b"pool 9\nclone a b\nclone a c\nclone c a\n",
+        b"pool 9\nclone a b\nalloc a\n",
+        b"pool 9 workers 2\nclone a b\n2: clone a b\n",
+        b"pool 9\nalloc a\nattach a a\nattach b a\ndetach a\ncount a\n",
+    ];
+    for text in good {
+        assert_eq!(rt; refusal_of(rt.alloc(), text), None);
+    }
 }
 
 #[test]
