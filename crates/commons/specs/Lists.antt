@@ -178,7 +178,7 @@ DidRaise w s i (Err _) t = ⊥
 abbrev pub DidPlain : ℕ → Lists → Call → Lists → Type 0
 DidPlain w s (GetList n answer) t = DidGet w s n answer t
 DidPlain w s (PutList xs answer) t = DidPut s xs answer t
-DidPlain w s (Claim i) t = t ≡ after_claim w i s
+DidPlain w s (Claim i) t = (0 < hand_of s w i) × (t ≡ after_claim w i s)
 DidPlain w s (CountOf i n) t = (n ≡ held_count (place_of s i)) × (t ≡ s)
 DidPlain w s (Raise i answer) t = DidRaise w s i answer t
 DidPlain w s (Lower i answer) t = DidLower w s i answer t

@@ -19,7 +19,7 @@ found_is : (p q : List Seg × ℕ) → ◌≡◌ {A = Result (List Seg × ℕ) R
 found_is p q e = cc
 
 -- the slot of a clone is free
-clonable_free : (source : Option (List Seg)) (free : Option ℕ) (segs : List Seg) (slot : ℕ) → clonable source free ≡ Ok (segs, slot) → free ≡ Some slot
+pub clonable_free : (source : Option (List Seg)) (free : Option ℕ) (segs : List Seg) (slot : ℕ) → clonable source free ≡ Ok (segs, slot) → free ≡ Some slot
 clonable_free None free segs slot e = absurd cc
 clonable_free (Some x) None segs slot e = absurd cc
 clonable_free (Some x) (Some s) segs slot e = ap (λ (p : List Seg × ℕ). Some p.1) (found_is (x, s) (segs, slot) e)

@@ -2,6 +2,7 @@
 use Rattle.std.proofs.Common.{◌≡◌, ℕ, zero, suc, ◌+◌, ◌<◌, inl, inr, List, [], ◌∷◌, ◌++◌, length, length-append, length-set, length-take, take, drop, get_or, set, get_or-set_same, Option, Some, None, refl, sym, ap, ◌∙◌, subst, append_assoc, arith}
 use Rattle.std.proofs.lemmas.Bool.{cases_lt}
 use Rattle.std.proofs.lemmas.List.{append-nil, drop_more, get_or_default, set-set, take-append-drop, take_all}
+use Rattle.std.proofs.lemmas.Grind.{flat_map-append}
 use Rattle.commons.specs.Bag.{bag, one}
 use Rattle.commons.specs.declared.limits.Limits.{Limits}
 use Rattle.commons.specs.declared.packet.Seg.{Seg}
@@ -15,6 +16,10 @@ use Rattle.mbuf.specs.PacketRules.{freed_nothing}
 use Rattle.mbuf.specs.Sharing.{attached, buffer_of, ClonesSeg, ClonesSegs, GivesUp, StopsCloning}
 use Rattle.mbuf.specs.declared.freed.Freed.{Freed}
 use Rattle.mbuf.proofs.EndLemmas.{Ended}
+
+-- what one segment more holds
+pub holds-more : (segs : List Seg) (seg : Seg) → holds_of_packet (segs ++ seg ∷ []) ≡ holds_of_packet segs ++ holds_of_seg seg
+holds-more segs seg = flat_map-append holds_of_seg segs (seg ∷ []) ∙ ap (λ (es : List ℕ). holds_of_packet segs ++ es) (append-nil (holds_of_seg seg))
 
 -- a clone holds the buffer of the segment and its own element
 pub attached_holds : (e : ℕ) (seg new : Seg) (i : ℕ) → new ≡ attached e seg → bag (holds_of_seg new) i ≡ one (buffer_of seg) i + one e i

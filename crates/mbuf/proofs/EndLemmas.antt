@@ -13,7 +13,7 @@ use Rattle.mbuf.specs.Members.{holds_of_seg, holds_of_packet}
 use Rattle.mbuf.specs.PacketRules.{EndsHold, EndsHolds}
 use Rattle.mbuf.specs.declared.freed.Freed.{Freed}
 
-EndsHolds-one : (l : Limits) (e : ℕ) (cache : List ℕ) (freed : Freed) (calls : List Call) (left : List ℕ) (done : Freed) →
+pub EndsHolds-one : (l : Limits) (e : ℕ) (cache : List ℕ) (freed : Freed) (calls : List Call) (left : List ℕ) (done : Freed) →
     EndsHold l e cache freed calls left done → EndsHolds l (e ∷ []) cache freed calls left done
 EndsHolds-one l e cache freed calls left done h = (calls, [], left, done, sym (append-nil calls), h, (refl, refl, refl))
 

@@ -1,43 +1,106 @@
 -- What calls on shared buffers find in the table, and what of it stays a worker's own.
-use Rattle.std.proofs.Common.{◌≡◌, ℕ, ◌+◌, ◌<◌, ◌≤◌, Bool, false, List, [], ◌∷◌, length, drop, map, get_or, set, Option, Some, None, Err, refl, sym, ap, ◌∙◌, arith}
-use Rattle.std.specs.Prelude.{cond, nat_lt}
-use Rattle.std.proofs.lemmas.Bool.{cond-true, cond-false, lt-ltb, le-ltb}
+use Rattle.std.proofs.Common.{◌≡◌, ℕ, ◌+◌, ◌<◌, ◌≤◌, Bool, true, false, List, [], ◌∷◌, length, drop, map, get_or, set, Option, Some, None, Result, Ok, Err, refl, sym, ap, ◌∙◌, arith}
 use Rattle.commons.specs.Bag.{bag, one}
 use Rattle.commons.specs.declared.limits.Limits.{Limits}
 use Rattle.commons.specs.declared.packet.Seg.{Seg}
+use Rattle.commons.specs.declared.refusal.Refusal.{Refusal}
 use Rattle.commons.specs.declared.refusal.Refusal.TheVariants.{TooManySegs}
 use Rattle.commons.proofs.Bags.{bag-nil, bag-append, bag-single, one-same}
 use Rattle.mbuf.specs.Cloning.{ArePair, IsIndirect}
 use Rattle.mbuf.specs.Members.{Member, hold_of, holds_in_slot, holds_of_packet, holds_of_seg, held_in, own_in}
 use Rattle.mbuf.specs.Own.{Own}
 use Rattle.mbuf.specs.PacketRules.{fresh_seg, free_slot}
-use Rattle.mbuf.specs.Sharing.{attachable, attached, buffer_of, detachable, first_seg, if_direct, if_indirect}
+use Rattle.mbuf.specs.Sharing.{attachable, attached, buffer_of, detachable, first_seg, if_alone, if_direct, if_indirect}
 use Rattle.mbuf.proofs.CloneLemmas.{buffer_held}
 use Rattle.mbuf.proofs.OwnLemmas.{held_in-set, held_in-slot, own_in-set, own_in-held, own_headed, free_slot-is, stands_within}
 
 -- ---- what is found
 
 -- two packets that aren't one
-two_there : (a b : Option (List Seg)) (same : Bool) (segs target : List Seg) → a ≡ Some segs → b ≡ Some target → same ≡ false →
-    attachable a b same ≡ cond (nat_lt 1 (length segs)) (Err TooManySegs) (if_direct (first_seg segs).base (first_seg segs).elem (first_seg target))
+two_there : (a b : Option (List Seg)) (same : Bool) (segs target : List Seg) → a ≡ Some segs → b ≡ Some target → same ≡ false → attachable a b same ≡ if_alone segs target
 two_there a b same segs target e f g = rw (e, f, g) refl
 
-pub several_segs : (a b : Option (List Seg)) (same : Bool) (segs target : List Seg) → a ≡ Some segs → b ≡ Some target → same ≡ false → 1 < length segs → attachable a b same ≡ Err TooManySegs
-several_segs a b same segs target e f g many =
-    two_there a b same segs target e f g ∙ cond-true (nat_lt 1 (length segs)) (Err TooManySegs) (if_direct (first_seg segs).base (first_seg segs).elem (first_seg target)) (lt-ltb 1 (length segs) many)
+many_segs : (segs target : List Seg) → 1 < length segs → if_alone segs target ≡ Err TooManySegs
+many_segs [] target many = absurd (omega (arith, many))
+many_segs (seg ∷ []) target many = absurd (omega (arith, many))
+many_segs (seg ∷ (other ∷ segs)) target many = refl
 
-pub one_seg : (a b : Option (List Seg)) (same : Bool) (segs target : List Seg) (base : Option ℕ) → a ≡ Some segs → b ≡ Some target → same ≡ false → length segs ≤ 1 → (first_seg segs).base ≡ base →
+alone_is : (segs target : List Seg) (base : Option ℕ) → 1 ≤ length segs → length segs ≤ 1 → 1 ≤ length target → (first_seg segs).base ≡ base → if_alone segs target ≡ if_direct base (first_seg segs).elem (first_seg target)
+alone_is [] target base some few first h = absurd (omega (arith, some))
+alone_is (seg ∷ []) [] base some few first h = absurd (omega (arith, first))
+alone_is (seg ∷ []) (one ∷ others) base some few first h = ap (λ (o : Option ℕ). if_direct o seg.elem one) h
+alone_is (seg ∷ (other ∷ segs)) target base some few first h = absurd (omega (arith, few))
+
+pub several_segs : (a b : Option (List Seg)) (same : Bool) (segs target : List Seg) → a ≡ Some segs → b ≡ Some target → same ≡ false → 1 < length segs → attachable a b same ≡ Err TooManySegs
+several_segs a b same segs target e f g many = two_there a b same segs target e f g ∙ many_segs segs target many
+
+pub one_seg : (a b : Option (List Seg)) (same : Bool) (segs target : List Seg) (base : Option ℕ) → a ≡ Some segs → b ≡ Some target → same ≡ false → 1 ≤ length segs → length segs ≤ 1 → 1 ≤ length target → (first_seg segs).base ≡ base →
     attachable a b same ≡ if_direct base (first_seg segs).elem (first_seg target)
-one_seg a b same segs target base e f g few h =
-    two_there a b same segs target e f g ∙ cond-false (nat_lt 1 (length segs)) (Err TooManySegs) (if_direct (first_seg segs).base (first_seg segs).elem (first_seg target)) (le-ltb 1 (length segs) few)
-    ∙ ap (λ (o : Option ℕ). if_direct o (first_seg segs).elem (first_seg target)) h
+one_seg a b same segs target base e f g some few first h = two_there a b same segs target e f g ∙ alone_is segs target base some few first h
 
 pub several_there : (a : Option (List Seg)) (segs : List Seg) → a ≡ Some segs → 1 < length segs → detachable a ≡ Err TooManySegs
-several_there a segs e many = rw e (cond-true (nat_lt 1 (length segs)) (Err TooManySegs) (if_indirect (first_seg segs).base (first_seg segs).elem) (lt-ltb 1 (length segs) many))
+several_there a [] e many = absurd (omega (arith, many))
+several_there a (seg ∷ []) e many = absurd (omega (arith, many))
+several_there a (seg ∷ (other ∷ segs)) e many = rw e refl
 
-pub one_there : (a : Option (List Seg)) (segs : List Seg) (base : Option ℕ) → a ≡ Some segs → length segs ≤ 1 → (first_seg segs).base ≡ base → detachable a ≡ if_indirect base (first_seg segs).elem
-one_there a segs base e few h =
-    rw e (cond-false (nat_lt 1 (length segs)) (Err TooManySegs) (if_indirect (first_seg segs).base (first_seg segs).elem) (le-ltb 1 (length segs) few) ∙ ap (λ (o : Option ℕ). if_indirect o (first_seg segs).elem) h)
+pub one_there : (a : Option (List Seg)) (segs : List Seg) (base : Option ℕ) → a ≡ Some segs → 1 ≤ length segs → length segs ≤ 1 → (first_seg segs).base ≡ base → detachable a ≡ if_indirect base (first_seg segs).elem
+one_there a [] base e some few h = absurd (omega (arith, some))
+one_there a (seg ∷ []) base e some few h = rw e (ap (λ (o : Option ℕ). if_indirect o seg.elem) h)
+one_there a (seg ∷ (other ∷ segs)) base e some few h = absurd (omega (arith, few))
+
+-- what was found stands there
+pair_parts : (x y : ℕ × Seg) → ◌≡◌ {A = Result (ℕ × Seg) Refusal} (Ok x) (Ok y) → x ≡ y
+pair_parts x y e = cc
+
+base_parts : (x y : ℕ × ℕ) → ◌≡◌ {A = Result (ℕ × ℕ) Refusal} (Ok x) (Ok y) → x ≡ y
+base_parts x y e = cc
+
+-- a packet of one direct segment, and another's first segment
+pub record Found (one other : Option (List Seg)) (e : ℕ) (target : Seg) : Type 0 where
+  pub own : Seg
+  pub others : List Seg
+  pub here : one ≡ Some (own ∷ [])
+  pub elem : own.elem ≡ e
+  pub direct : own.base ≡ None
+  pub there : other ≡ Some (target ∷ others)
+
+found_direct : (base : Option ℕ) (own first : Seg) (others : List Seg) (one other : Option (List Seg)) (e : ℕ) (target : Seg) → own.base ≡ base → one ≡ Some (own ∷ []) → other ≡ Some (first ∷ others) →
+    if_direct base own.elem first ≡ Ok (e, target) → Found one other e target
+found_direct None own first others one other e target b h k f =
+    let p = pair_parts (own.elem, first) (e, target) f in
+    record { own = own; others = others; here = h; elem = ap (λ (x : ℕ × Seg). x.0) p; direct = b; there = k ∙ ap (λ (x : ℕ × Seg). Some (x.1 ∷ others)) p }
+found_direct (Some base) own first others one other e target b h k f = absurd cc
+
+found_alone : (segs targets : List Seg) (e : ℕ) (target : Seg) → if_alone segs targets ≡ Ok (e, target) → Found (Some segs) (Some targets) e target
+found_alone [] targets e target f = absurd cc
+found_alone (seg ∷ []) [] e target f = absurd cc
+found_alone (seg ∷ []) (first ∷ others) e target f = found_direct seg.base seg first others (Some (seg ∷ [])) (Some (first ∷ others)) e target refl refl refl f
+found_alone (seg ∷ (other ∷ segs)) targets e target f = absurd cc
+
+pub found_pair : (one other : Option (List Seg)) (same : Bool) (e : ℕ) (target : Seg) → attachable one other same ≡ Ok (e, target) → Found one other e target
+found_pair None other same e target f = absurd cc
+found_pair (Some segs) None same e target f = absurd cc
+found_pair (Some segs) (Some targets) true e target f = absurd cc
+found_pair (Some segs) (Some targets) false e target f = found_alone segs targets e target f
+
+-- a packet of one indirect segment
+pub record FoundBase (one : Option (List Seg)) (e base : ℕ) : Type 0 where
+  pub own : Seg
+  pub here : one ≡ Some (own ∷ [])
+  pub elem : own.elem ≡ e
+  pub base_is : own.base ≡ Some base
+
+found_indirect : (b : Option ℕ) (own : Seg) (e base : ℕ) → own.base ≡ b → if_indirect b own.elem ≡ Ok (e, base) → FoundBase (Some (own ∷ [])) e base
+found_indirect None own e base h f = absurd cc
+found_indirect (Some x) own e base h f =
+    let p = base_parts (own.elem, x) (e, base) f in
+    record { own = own; here = refl; elem = ap (λ (y : ℕ × ℕ). y.0) p; base_is = h ∙ ap (λ (y : ℕ × ℕ). Some y.1) p }
+
+pub found_base : (one : Option (List Seg)) (e base : ℕ) → detachable one ≡ Ok (e, base) → FoundBase one e base
+found_base None e base f = absurd cc
+found_base (Some []) e base f = absurd cc
+found_base (Some (seg ∷ [])) e base f = found_indirect seg.base seg e base refl f
+found_base (Some (seg ∷ (other ∷ segs))) e base f = absurd cc
 
 -- a packet begins with its first segment, and one of a single segment has no other
 pub begins : (segs : List Seg) → 1 ≤ length segs → segs ≡ first_seg segs ∷ drop 1 segs
@@ -57,7 +120,7 @@ in_slot_held m l hand holds headers slot segs i own there =
     omega (arith, own.held i, held_in-slot m.table slot i (stands_within m.table slot segs there), ap (λ (o : Option (List Seg)). bag (holds_in_slot o) i) there)
 
 -- the holds of a packet of one segment
-holds_alone : (base : Option ℕ) (seg : Seg) (i : ℕ) → seg.base ≡ base → bag (holds_of_packet (seg ∷ [])) i ≡ bag (hold_of base) i + one seg.elem i
+pub holds_alone : (base : Option ℕ) (seg : Seg) (i : ℕ) → seg.base ≡ base → bag (holds_of_packet (seg ∷ [])) i ≡ bag (hold_of base) i + one seg.elem i
 holds_alone base seg i e =
     omega (arith, bag-append (holds_of_seg seg) [] i, bag-append (hold_of seg.base) (seg.elem ∷ []) i, bag-nil i, bag-single seg.elem i, ap (λ (o : Option ℕ). bag (hold_of o) i) e)
 

@@ -1,7 +1,7 @@
 -- What the calls on shared buffers do: a packet that attaches to another's buffer, one that gets its own back, one
 -- that is cloned, and one whose count is told. For each case the calls that are made on the shared pool with their
 -- answers, the answer, and what the worker has afterwards.
-use Rattle.std.specs.Prelude.{ℕ, ◌≡◌, ◌≢◌, ◌==◌, Bool, if◌then◌else◌, nat_lt, length, List, [], ◌∷◌, ◌++◌, slice_index_or, slice_set, Option, Some, None, Result, Ok, Err, unwrap_or}
+use Rattle.std.specs.Prelude.{ℕ, ◌≡◌, ◌≢◌, ◌==◌, Bool, if◌then◌else◌, List, [], ◌∷◌, ◌++◌, slice_index_or, slice_set, Option, Some, None, Result, Ok, Err, unwrap_or}
 use Rattle.commons.specs.declared.limits.Limits.{Limits}
 use Rattle.commons.specs.declared.packet.Seg.{Seg}
 use Rattle.commons.specs.declared.refusal.Refusal.{Refusal}
@@ -31,15 +31,18 @@ abbrev pub if_direct : Option ℕ → ℕ → Seg → Result (ℕ × Seg) Refusa
 if_direct None e target = Ok (e, target)
 if_direct (Some base) e target = Err NotDirect
 
+-- a packet of one segment, with the first segment of another packet (a packet isn't empty)
+abbrev pub if_alone : List Seg → List Seg → Result (ℕ × Seg) Refusal
+if_alone (seg ∷ []) (target ∷ others) = if_direct seg.base seg.elem target
+if_alone (seg ∷ (other ∷ segs)) targets = Err TooManySegs
+if_alone _ _ = Err NoSuchPacket
+
 -- What is to be attached to what, by what is in the two slots and whether they are one: the element of a packet of
 -- one direct segment, and another packet's first segment. Else the first cause why not.
 abbrev pub attachable : Option (List Seg) → Option (List Seg) → Bool → Result (ℕ × Seg) Refusal
 attachable None target same = Err NoSuchPacket
 attachable (Some segs) None same = Err NoSuchPacket
-attachable (Some segs) (Some target) same =
-    if same then Err SamePacket
-    else if nat_lt 1 (length segs) then Err TooManySegs
-    else if_direct (first_seg segs).base (first_seg segs).elem (first_seg target)
+attachable (Some segs) (Some target) same = if same then Err SamePacket else if_alone segs target
 
 abbrev pub pair_in : Member → ℕ → ℕ → Result (ℕ × Seg) Refusal
 pair_in m mi target = attachable (slice_index_or m.table mi None) (slice_index_or m.table target None) (mi == target)
@@ -63,10 +66,11 @@ if_indirect None e = Err NotIndirect
 if_indirect (Some base) e = Ok (e, base)
 
 -- What is to be detached from what, by what is in the slot: the element of a packet of one indirect segment, and its
--- base. Else the first cause why not.
+-- base. Else the first cause why not. (A packet isn't empty.)
 abbrev pub detachable : Option (List Seg) → Result (ℕ × ℕ) Refusal
-detachable None = Err NoSuchPacket
-detachable (Some segs) = if nat_lt 1 (length segs) then Err TooManySegs else if_indirect (first_seg segs).base (first_seg segs).elem
+detachable (Some (seg ∷ [])) = if_indirect seg.base seg.elem
+detachable (Some (seg ∷ (other ∷ segs))) = Err TooManySegs
+detachable _ = Err NoSuchPacket
 
 -- what a detach of the packet in a slot does
 pub data Detaches (m : Member) (slot : ℕ) (calls : List Call) (answer : Result Freed Refusal) (after : Member) : Type 0 where

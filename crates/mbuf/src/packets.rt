@@ -426,12 +426,13 @@ impl Packets {
             return Err(Refusal::SamePacket);
         }
         let segs = self.packets[slot].segs();
+        let first = self.packets[other].segs()[0];
         if segs.len() > 1 {
             return Err(Refusal::TooManySegs);
         }
         match segs[0].base {
             Some(_) => Err(Refusal::NotDirect),
-            None => Ok((segs[0].elem, self.packets[other].segs()[0])),
+            None => Ok((segs[0].elem, first)),
         }
     }
 

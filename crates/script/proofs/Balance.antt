@@ -16,35 +16,27 @@ use Rattle.commons.proofs.Opening.{bag-range_in, bag-range_high}
 use Rattle.script.specs.declared.commands.Command.{Command}
 use Rattle.script.specs.declared.commands.Command.TheVariants as command
 use Rattle.script.specs.declared.commands.Line.{Line}
-use Rattle.mbuf.specs.declared.lengths.Change.{Change}
 use Rattle.mbuf.specs.declared.acts.Act.{Act}
-use Rattle.mbuf.specs.declared.acts.Act.TheVariants.{Alloc, AllocBulk, Free, Append, Prepend, Adj, Trim, Chain, PktLen, NbSegs, Flush}
-use Rattle.mbuf.specs.Members.{Member, holds_in_slot, held_in, slots}
+use Rattle.mbuf.specs.declared.acts.Act.TheVariants.{Alloc, AllocBulk, Free, Append, Prepend, Adj, Trim, Chain, Attach, Detach, ClonePacket, CountOf, PktLen, NbSegs, Flush}
+use Rattle.mbuf.specs.Members.{Member, holds_in_slot, holds_of_packet, held_in, slots}
 use Rattle.mbuf.specs.PacketRules.{fresh_seg, free_slot, free_slots, freed_nothing}
+use Rattle.mbuf.specs.Sharing.{clonable, detachable, pair_in}
 use Rattle.mbuf.specs.Lengths.{appended, prepended, adjusted, trimmed}
 use Rattle.script.specs.Pool.{Stack, Pool, held_by, member_at, with_member, nobody, new_members, new_pool}
 use Rattle.script.specs.CacheModel.{get}
 use Rattle.script.specs.PacketModel.{fill_slot, alloc_in, fill_slots, alloc_bulk, resize_to, resize_in, chain_in, free_in, flush_member, without_packet, held_elsewhere, act_on, perform}
-use Rattle.script.specs.Replay.{Run, free_as, act_of, resize_as, chain_as, obey, end_of}
+use Rattle.script.specs.Replay.{Run, free_as, act_of, act_as, act_as_both, chain_as, clone_as, obey, end_of}
 use Rattle.script.proofs.CacheBags.{IsGot, get-IsGot, flush-IsPut}
 use Rattle.mbuf.proofs.ChainLemmas.{KeepsHolds-chain}
 use Rattle.mbuf.proofs.FreeLemmas.{holds_stood}
-use Rattle.mbuf.proofs.OwnLemmas.{held_in-set, free_slot-is}
+use Rattle.mbuf.proofs.OwnLemmas.{held_in-set, held_in-slot, free_slot-is, stands_within}
 use Rattle.mbuf.proofs.ResizeLemmas.{SamePacketHolds, appended_holds, prepended_holds, adjusted_holds, trimmed_holds}
-use Rattle.script.proofs.PacketCalls.{stands_within}
-use Rattle.script.proofs.HeldBags.{end_holds-bag, held_by-set, cached_by, cached_by-set, IsBalanced}
+use Rattle.script.proofs.SharedNear.{attach_to-near, clone_at-near, detach_from-near}
+use Rattle.script.proofs.HeldBags.{add_holds, near, end_holds-bag, held_by-set, cached_by, cached_by-set, IsBalanced}
 
 -- an element of the pool counts once
 pub at_most_one : (i n : ℕ) → ◌≤◌ (cond (nat_lt i n) 1 0) 1
 at_most_one i n = grind (arith, nat_tests)
-
--- how often an element is in a member's cache, in the common list, and held there or by this many others
-abbrev near : ℕ → Member → Stack → ℕ → ℕ
-near others m s i = bag m.cache i + bag s.common i + min 1 (others + held_in m.table i)
-
--- packets of fresh elements, which were in no other place
-add_holds : (n a b c d others held : ℕ) → n + (a + b) ≡ c + d → c + d + min 1 (others + held) ≤ 1 → a + b + min 1 (others + (held + n)) ≡ c + d + min 1 (others + held)
-add_holds n a b c d others held h k = omega (arith, h, k)
 
 -- making a packet moves its element from the cache or the common list
 fill_slot-near : (slot : ℕ) (m : Member) (s : Stack) (r : Result (List ℕ) Refusal × List ℕ × Stack) → slot < length m.table → get_or m.table slot None ≡ None →
@@ -153,6 +145,16 @@ with_member-balanced pool n m s b h same = record {
       rw e (omega (arith, d, f, p, at_most_one i pool.limits.population, same i (omega (arith, f, p, at_most_one i pool.limits.population))));
 }
 
+-- a member's packet holds no more than all packets do
+held_within : (pool : Pool) (n : ℕ) → n < length pool.members → (slot : ℕ) (segs : List Seg) → get_or (member_at pool n).table slot None ≡ Some segs → (i : ℕ) → bag (holds_of_packet segs) i ≤ held_by pool.members i
+held_within pool n h slot segs there i =
+    omega (
+      arith,
+      held_in-slot (member_at pool n).table slot i (stands_within (member_at pool n).table slot segs there),
+      ap (λ (o : Option (List Seg)). bag (holds_in_slot o) i) there,
+      get_or-le-sum_by (λ (m : Member). held_in m.table i) pool.members n (nobody pool.limits) h,
+    )
+
 -- what a worker does keeps each element in one place
 act_on-balanced : (pool : Pool) (n : ℕ) (act : Act) → IsBalanced pool → n < length pool.members →
     IsBalanced (with_member pool n (act_on pool n act).1 (act_on pool n act).2)
@@ -177,6 +179,16 @@ act_on-balanced pool n (Trim slot count) b h = with_member-balanced pool n (act_
     (λ i k. resize_in-near (get_or (member_at pool n).table slot None) (trimmed count) TooShort slot (member_at pool n) pool.stack (by_others pool.members n (nobody pool.limits) i) i refl (trimmed_holds count))
 act_on-balanced pool n (Chain head tail) b h = with_member-balanced pool n (act_on pool n (Chain head tail)).1 (act_on pool n (Chain head tail)).2 b h
     (λ i k. chain_in-near (get_or (member_at pool n).table head None) (get_or (member_at pool n).table tail None) head tail (member_at pool n) pool.stack (by_others pool.members n (nobody pool.limits) i) i refl refl)
+act_on-balanced pool n (Attach mi target) b h = with_member-balanced pool n (act_on pool n (Attach mi target)).1 (act_on pool n (Attach mi target)).2 b h
+    (λ i k. attach_to-near (pair_in (member_at pool n) mi target) (held_by pool.members) mi target (member_at pool n) pool.stack refl
+    (by_others pool.members n (nobody pool.limits) i) i (sym (by_others-add pool.members n (nobody pool.limits) i h)) (held_within pool n h))
+act_on-balanced pool n (Detach slot) b h = with_member-balanced pool n (act_on pool n (Detach slot)).1 (act_on pool n (Detach slot)).2 b h
+    (λ i k. detach_from-near (detachable (get_or (member_at pool n).table slot None)) (held_by pool.members) slot (member_at pool n) pool.stack refl
+    (by_others pool.members n (nobody pool.limits) i) i (sym (by_others-add pool.members n (nobody pool.limits) i h)))
+act_on-balanced pool n (ClonePacket source) b h = with_member-balanced pool n (act_on pool n (ClonePacket source)).1 (act_on pool n (ClonePacket source)).2 b h
+    (λ i k. clone_at-near (clonable (get_or (member_at pool n).table source None) (free_slot (member_at pool n).table)) (held_by pool.members) source (member_at pool n) pool.stack refl
+    (by_others pool.members n (nobody pool.limits) i) i (sym (by_others-add pool.members n (nobody pool.limits) i h)) (held_within pool n h) k)
+act_on-balanced pool n (CountOf slot) b h = with_member-balanced pool n (member_at pool n) pool.stack b h (λ i k. refl)
 act_on-balanced pool n (PktLen slot) b h = with_member-balanced pool n (member_at pool n) pool.stack b h (λ i k. refl)
 act_on-balanced pool n (NbSegs slot) b h = with_member-balanced pool n (member_at pool n) pool.stack b h (λ i k. refl)
 act_on-balanced pool n Flush b h = with_member-balanced pool n (act_on pool n Flush).1 (act_on pool n Flush).2 b h
@@ -195,10 +207,18 @@ free_as-balanced : (slot : Option ℕ) (worker : ℕ) (name : List ℕ) (run : R
 free_as-balanced None worker name run b = b
 free_as-balanced (Some slot) worker name run b = perform-balanced run.pool worker (Free slot) b
 
--- so do a change of lengths by name and a chain
-resize_as-balanced : (slot : Option ℕ) (worker : ℕ) (change : Change) (run : Run) → IsBalanced run.pool → IsBalanced (resize_as slot worker change run).1.pool
-resize_as-balanced None worker change run b = b
-resize_as-balanced (Some slot) worker change run b = perform-balanced run.pool worker (act_of slot change) b
+-- so do acts that leave each name as it stands, a chain and a clone
+act_as-balanced : (slot : Option ℕ) (act : ℕ → Act) (worker : ℕ) (run : Run) → IsBalanced run.pool → IsBalanced (act_as slot act worker run).1.pool
+act_as-balanced None act worker run b = b
+act_as-balanced (Some slot) act worker run b = perform-balanced run.pool worker (act slot) b
+
+act_as_both-balanced : (first second : Option ℕ) (act : ℕ → ℕ → Act) (worker : ℕ) (run : Run) → IsBalanced run.pool → IsBalanced (act_as_both first second act worker run).1.pool
+act_as_both-balanced None second act worker run b = b
+act_as_both-balanced (Some first) second act worker run b = act_as-balanced second (act first) worker run b
+
+clone_as-balanced : (slot : Option ℕ) (worker : ℕ) (made : List ℕ) (run : Run) → IsBalanced run.pool → IsBalanced (clone_as slot worker made run).1.pool
+clone_as-balanced None worker made run b = b
+clone_as-balanced (Some slot) worker made run b = perform-balanced run.pool worker (ClonePacket slot) b
 
 chain_as-balanced : (head tail : Option ℕ) (worker : ℕ) (name : List ℕ) (run : Run) → IsBalanced run.pool → IsBalanced (chain_as head tail worker name run).1.pool
 chain_as-balanced None tail worker name run b = b
@@ -210,12 +230,12 @@ obey-balanced : (worker : ℕ) (c : Command) (run : Run) → IsBalanced run.pool
 obey-balanced worker (command.Alloc name) run b = perform-balanced run.pool worker Alloc b
 obey-balanced worker (command.Bulk names) run b = perform-balanced run.pool worker (AllocBulk (length names)) b
 obey-balanced worker (command.Free name) run b = free_as-balanced (run.stands worker name) worker name run b
-obey-balanced worker (command.Resize name change) run b = resize_as-balanced (run.stands worker name) worker change run b
+obey-balanced worker (command.Resize name change) run b = act_as-balanced (run.stands worker name) (λ slot. act_of slot change) worker run b
 obey-balanced worker (command.Chain head tail) run b = chain_as-balanced (run.stands worker head) (run.stands worker tail) worker tail run b
-obey-balanced worker (command.Attach first second) run b = b
-obey-balanced worker (command.Detach packet) run b = b
-obey-balanced worker (command.Clone packet made) run b = b
-obey-balanced worker (command.Count packet) run b = b
+obey-balanced worker (command.Attach name target) run b = act_as_both-balanced (run.stands worker name) (run.stands worker target) Attach worker run b
+obey-balanced worker (command.Detach name) run b = act_as-balanced (run.stands worker name) Detach worker run b
+obey-balanced worker (command.Clone name made) run b = clone_as-balanced (run.stands worker name) worker made run b
+obey-balanced worker (command.Count name) run b = act_as-balanced (run.stands worker name) CountOf worker run b
 obey-balanced worker command.Flush run b = perform-balanced run.pool worker Flush b
 
 -- all lines keep each element in one place

@@ -140,7 +140,7 @@ meets w s (_ ∷ calls) t r h = absurd r
 requests : (calls known : List Call) → calls ≡ known → AreRequests known → AreRequests calls
 requests calls known e h = subst AreRequests (sym e) h
 
-gets_request : (l : Limits) (cache : List ℕ) (n : ℕ) (calls : List Call) (answer : Result (List ℕ) Refusal) (left : List ℕ) → Gets l cache n calls answer left → AreRequests calls
+pub gets_request : (l : Limits) (cache : List ℕ) (n : ℕ) (calls : List Call) (answer : Result (List ℕ) Refusal) (left : List ℕ) → Gets l cache n calls answer left → AreRequests calls
 gets_request l cache n calls answer left (Nothing z c a k) = requests calls [] c tt
 gets_request l cache n calls answer left (Direct p q c k) = requests calls (GetList n answer ∷ []) c tt
 gets_request l cache n calls answer left (FromCache p q r c a k) = requests calls [] c tt

@@ -14,7 +14,7 @@ use Rattle.mbuf.specs.declared.freed.Freed.{Freed}
 use Rattle.mbuf.specs.PacketRules.{EndsHold, Stays, GoesBack, EndsHolds}
 use Rattle.script.specs.Pool.{Stack}
 use Rattle.script.specs.CacheModel.{put}
-use Rattle.script.specs.PacketModel.{put_back, end_holds}
+use Rattle.script.specs.HoldModel.{put_back, end_holds}
 use Rattle.script.specs.Own.{stack_of, LeadsPlain}
 use Rattle.script.proofs.CacheCalls.{AreRequests, puts_request, was_put}
 use Rattle.script.proofs.PlainCalls.{LeadsPlain-split, LeadsPlain-table}
@@ -32,7 +32,7 @@ requests_keep w s (PutList list (Err _) ∷ calls) t r h = absurd h.1
 requests_keep w s (_ ∷ calls) t r h = absurd r
 
 -- and so the counts
-requests_count : (w : ℕ) (s : Lists) (calls : List Call) (t : Lists) → IsTable s → AreRequests calls → LeadsPlain w s calls t → (i : ℕ) → held_count (place_of t i) ≡ held_count (place_of s i)
+pub requests_count : (w : ℕ) (s : Lists) (calls : List Call) (t : Lists) → IsTable s → AreRequests calls → LeadsPlain w s calls t → (i : ℕ) → held_count (place_of t i) ≡ held_count (place_of s i)
 requests_count w s calls t table r h i =
     (LeadsPlain-table w s calls t table h).counted i ∙ ap (λ (rows : List (List ℕ)). holds_of_all (record s { holds = rows }) i) (requests_keep w s calls t r h) ∙ sym (table.counted i)
 
@@ -41,7 +41,7 @@ abbrev pub Counts : Lists → List ℕ → (ℕ → ℕ) → Type 0
 Counts s es others = (i : ℕ) → held_count (place_of s i) ≡ bag es i + others i
 
 -- an element that is held is one of the pool
-held_within : (places : List Place) (e : ℕ) → 0 < held_count (get_or places e nowhere) → e < length places
+pub held_within : (places : List Place) (e : ℕ) → 0 < held_count (get_or places e nowhere) → e < length places
 held_within places e h = elim (cases_lt e (length places)) [
   | inl l ↦ l
   | inr l ↦ absurd (let none = rw (get_or_past places e nowhere l) at h in omega (arith, none))

@@ -1,5 +1,5 @@
 -- Where elements are while packets are made and freed.
-use Rattle.std.proofs.Common.{ℕ, ◌≡◌, ◌≢◌, ◌+◌, ◌<◌, ◌==◌, inl, inr, nat_lt, cond, if◌then◌else◌, List, [], ◌∷◌, length, get_or, set, refl, sym, arith}
+use Rattle.std.proofs.Common.{ℕ, ◌≡◌, ◌≢◌, ◌+◌, ◌<◌, ◌≤◌, ◌==◌, inl, inr, nat_lt, cond, if◌then◌else◌, List, [], ◌∷◌, length, get_or, set, refl, sym, arith}
 use Rattle.std.specs.Prelude.{min, sum_by}
 use Rattle.std.proofs.lemmas.List.Sums.{sum_by-set}
 use Rattle.std.proofs.lemmas.Bool.{cases_Bool, cases_eq, eqb-true, eqb-false}
@@ -13,7 +13,7 @@ use Rattle.mbuf.specs.declared.freed.Freed.{Freed}
 use Rattle.mbuf.specs.Members.{Member, held_in}
 use Rattle.script.specs.Pool.{Stack, Pool, held_by}
 use Rattle.script.specs.CacheModel.{put}
-use Rattle.script.specs.PacketModel.{put_back, end_holds}
+use Rattle.script.specs.HoldModel.{put_back, end_holds}
 use Rattle.script.proofs.CacheBags.{put-IsPut}
 
 -- what freeing counts changes nothing of the cache and the stack
@@ -78,6 +78,14 @@ cached_by members i = sum_by (λ member. bag member.cache i) members
 pub cached_by-set : (members : List Member) (n : ℕ) (m d : Member) (i : ℕ) → n < length members →
     cached_by (set members n m) i + bag (get_or members n d).cache i ≡ cached_by members i + bag m.cache i
 cached_by-set members n m d i h = sum_by-set (λ (m : Member). bag m.cache i) members n m d h
+
+-- how often an element is in a member's cache, in the common list, and held there or by this many others
+abbrev pub near : ℕ → Member → Stack → ℕ → ℕ
+near others m s i = bag m.cache i + bag s.common i + min 1 (others + held_in m.table i)
+
+-- elements that were in no other place, and are held
+pub add_holds : (n a b c d others held : ℕ) → n + (a + b) ≡ c + d → c + d + min 1 (others + held) ≤ 1 → a + b + min 1 (others + (held + n)) ≡ c + d + min 1 (others + held)
+add_holds n a b c d others held h k = omega (arith, h, k)
 
 -- Each element of the pool is in one place, and nothing else is anywhere.
 pub record IsBalanced (pool : Pool) : Type 0 where

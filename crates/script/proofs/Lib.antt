@@ -22,6 +22,8 @@ pub mod PlainCalls
 pub mod PoolLemmas
 pub mod PoolLineLemmas
 pub mod ScriptLemmas
+pub mod SharedBuffers
+pub mod SharedNear
 pub mod SettingsLemmas
 pub mod StepLemmas
 pub mod WordLemmas

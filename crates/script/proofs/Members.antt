@@ -15,8 +15,8 @@ use Rattle.script.specs.Pool.{Stack, Pool, nobody, held_by}
 use Rattle.script.specs.PacketModel.{perform, without_packet}
 use Rattle.script.specs.Own.{stack_of, LeadsPlain, Owns, StepsAlone}
 use Rattle.script.proofs.Entries.{AreMembers, counts_are_holds}
-use Rattle.mbuf.proofs.OwnLemmas.{held_in-set}
-use Rattle.script.proofs.PacketCalls.{Elsewhere, performed_by, stands_within}
+use Rattle.mbuf.proofs.OwnLemmas.{held_in-set, stands_within}
+use Rattle.script.proofs.PacketCalls.{Elsewhere, performed_by}
 
 same_or_other : (i j : ℕ) → (j ≡ i) ⊎ (j ≢ i)
 same_or_other i j = grind arith
@@ -68,6 +68,6 @@ pub performed : (s t : Lists) (members : List Member) (w : ℕ) (act : Act) (cal
 performed s t members w act calls r m table l each first last same did led =
     let old : Member = get_or members (w - 1) (nobody s.limits) in
     let others : ℕ → ℕ → ℕ = λ slot i. held_by (set members (w - 1) (without_packet slot old)) i in
-    let done = performed_by act w s t old m calls r others did led (elsewhere s members (w - 1) table l each (omega arith)) in
+    let done = performed_by act w s t old m calls r (held_by members) others did led table (sym (each (w - 1) (omega (arith, last, l))).own.share.limits) (counts_are_holds s members table l each) (elsewhere s members (w - 1) table l each (omega arith)) in
     rw (in_pool w (length members) first last, same)
     (ap (λ (d : Reply × Member × Stack). let p : Pool = record { limits = s.limits; stack = d.2; members = set members (w - 1) d.1 } in (d.0, p)) done)

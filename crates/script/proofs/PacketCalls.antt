@@ -1,22 +1,21 @@
 -- What a worker's packets do over the lists is what the reference model does.
-use Rattle.std.proofs.Common.{ℕ, ◌≡◌, ◌+◌, ◌<◌, ◌==◌, inl, inr, nat_lt, cond, List, [], ◌∷◌, ◌++◌, length, get_or, set, get_or-set_same, get_or-set_other, map, take, Option, Some, None, Result, Ok, Err, refl, sym, ap, ◌∙◌, subst}
-use Rattle.std.proofs.lemmas.List.{get_or_past}
-use Rattle.std.proofs.lemmas.Option.{none-some}
-use Rattle.std.proofs.lemmas.Bool.{cases_lt, cond-true, cond-false, lt-ltb, le-ltb, eq-eqb, ne_eqb}
+use Rattle.std.proofs.Common.{ℕ, ◌≡◌, ◌+◌, ◌==◌, nat_lt, cond, ◌≤◌, arith, List, [], ◌∷◌, ◌++◌, length, get_or, set, get_or-set_same, get_or-set_other, map, take, Option, Some, None, Result, Ok, Err, refl, sym, ap, ◌∙◌, subst}
+use Rattle.std.proofs.lemmas.Bool.{cond-true, cond-false, lt-ltb, le-ltb, eq-eqb, ne_eqb}
 use Rattle.commons.specs.Bag.{bag}
 use Rattle.commons.specs.Calls.{Call, Claim}
 use Rattle.commons.specs.declared.packet.Seg.{Seg}
 use Rattle.commons.specs.declared.refusal.Refusal.{Refusal}
 use Rattle.commons.specs.declared.refusal.Refusal.TheVariants.{NoRoom, NoSuchPacket, TooShort, PacketsFull, SamePacket, TooManySegs}
-use Rattle.commons.specs.Lists.{Lists, held_count, place_of}
+use Rattle.commons.specs.Lists.{Lists, IsTable, held_count, place_of}
 use Rattle.mbuf.specs.declared.acts.Act.{Act}
-use Rattle.mbuf.specs.declared.acts.Act.TheVariants.{Alloc, AllocBulk, Free, Append, Prepend, Adj, Trim, Chain, PktLen, NbSegs, Flush}
+use Rattle.mbuf.specs.declared.acts.Act.TheVariants.{Alloc, AllocBulk, Free, Append, Prepend, Adj, Trim, Chain, Attach, Detach, ClonePacket, CountOf, PktLen, NbSegs, Flush}
 use Rattle.mbuf.specs.declared.acts.Reply.{Reply}
 use Rattle.mbuf.specs.declared.acts.Reply.TheVariants as reply
 use Rattle.mbuf.specs.declared.freed.Freed.{Freed}
 use Rattle.mbuf.specs.Acts.{Performs, allocated, allocated_bulk, freed as freed_reply, told_len, chained}
 use Rattle.mbuf.specs.Lengths.{pkt_len, appended, prepended, adjusted, trimmed}
 use Rattle.mbuf.specs.Members.{Member, holds_of_packet}
+use Rattle.mbuf.specs.Sharing.{Attaches, NotAttachable, HeldElsewhere, NotRaised, WasAttached, Detaches, NotDetachable, WasDetached, Clones, NotClonable, WasGivenUp, WasCloned}
 use Rattle.mbuf.specs.PacketRules.{Allocs, Full, NotGot, Fresh, AllocsBulk, TooFull, BulkNotGot, FreshBulk, Frees, NoPacket, WasFreed, Resizes, NoneThere, NotResized, WasResized, Chains, NoHead, NoTail, Same, TooLong, WasChained, fresh_seg, free_slots, freed_nothing}
 use Rattle.script.specs.Pool.{Stack}
 use Rattle.script.specs.CacheModel.{get}
@@ -24,24 +23,14 @@ use Rattle.script.specs.PacketModel.{fill_slot, alloc_in, alloc, fill_slots, all
 use Rattle.script.specs.Own.{stack_of, LeadsPlain}
 use Rattle.script.proofs.CacheCalls.{got, was_flushed}
 use Rattle.script.proofs.EndedHolds.{ended}
-use Rattle.mbuf.proofs.OwnLemmas.{free_slot-is}
+use Rattle.mbuf.proofs.OwnLemmas.{free_slot-is, stands_within}
 use Rattle.script.proofs.PlainCalls.{LeadsPlain-split}
-
--- a slot that has something is in the table
-pub stands_within : (table : List (Option (List Seg))) (slot : ℕ) (segs : List Seg) → get_or table slot None ≡ Some segs → slot < length table
-stands_within table slot segs e = elim (cases_lt slot (length table)) [
-  | inl h ↦ h
-  | inr h ↦ absurd (none-some segs (sym (get_or_past table slot None h) ∙ e))
-]
-
--- where nothing is called, the stack is as before
-nothing : (w : ℕ) (s t : Lists) (calls : List Call) → calls ≡ [] → LeadsPlain w s calls t → stack_of t ≡ stack_of s
-nothing w s t calls e h = ap stack_of (sym (subst (λ (cs : List Call). LeadsPlain w s cs t) e h))
+use Rattle.script.proofs.SharedBuffers.{AreHeld, attach_by, clone_by, count_by, detach_by, nothing}
 
 -- claims move no element of the stack
 claimed : (w : ℕ) (s : Lists) (es : List ℕ) (t : Lists) → LeadsPlain w s (map Claim es) t → stack_of t ≡ stack_of s
 claimed w s [] t h = ap stack_of (sym h)
-claimed w s (e ∷ es) t h = claimed w h.0 es t h.4 ∙ ap stack_of h.1
+claimed w s (e ∷ es) t h = claimed w h.0 es t h.4 ∙ ap stack_of h.1.1
 
 abbrev Outcome : Type 0
 Outcome = Reply × Member × Stack
@@ -135,25 +124,33 @@ beside_is : (w : ℕ) (s t : Lists) (calls : List Call) (r : Reply) (after : Mem
     ◌≡◌ {A = Outcome} (r, after, stack_of t) (beside (stack_of s) done)
 beside_is w s t calls r after done e h same = rw (nothing w s t calls e h) (ap (beside (stack_of s)) same)
 
+-- a packet holds no more than all packets
+held_within : (s : Lists) (m : Member) (all : ℕ → ℕ) (others : ℕ → ℕ → ℕ) → AreHeld s all → Elsewhere s m others → (slot : ℕ) (segs : List Seg) → get_or m.table slot None ≡ Some segs → (i : ℕ) → bag (holds_of_packet segs) i ≤ all i
+held_within s m all others counts held slot segs there i = omega (arith, counts i, held slot segs there i)
+
 -- what an act does by these calls is the model's
-pub performed_by : (act : Act) (w : ℕ) (s t : Lists) (m after : Member) (calls : List Call) (r : Reply) (others : ℕ → ℕ → ℕ) →
-    Performs act m calls r after → LeadsPlain w s calls t → Elsewhere s m others → ◌≡◌ {A = Outcome} (r, after, stack_of t) (member_act act others m (stack_of s))
-performed_by Alloc w s t m after calls r others p h held = rw p.2 (alloc_by w s t m after calls p.0 p.1 h)
-performed_by (AllocBulk n) w s t m after calls r others p h held = rw p.2 (bulk_by w s t m after n calls p.0 p.1 h)
-performed_by (Free slot) w s t m after calls r others p h held = rw p.2 (free_by w s t m after slot others calls p.0 p.1 h held)
-performed_by (Append slot n) w s t m after calls r others p h held =
+pub performed_by : (act : Act) (w : ℕ) (s t : Lists) (m after : Member) (calls : List Call) (r : Reply) (all : ℕ → ℕ) (others : ℕ → ℕ → ℕ) →
+    Performs act m calls r after → LeadsPlain w s calls t → IsTable s → s.limits ≡ m.limits → AreHeld s all → Elsewhere s m others → ◌≡◌ {A = Outcome} (r, after, stack_of t) (member_act act all others m (stack_of s))
+performed_by Alloc w s t m after calls r all others p h table same counts held = rw p.2 (alloc_by w s t m after calls p.0 p.1 h)
+performed_by (AllocBulk n) w s t m after calls r all others p h table same counts held = rw p.2 (bulk_by w s t m after n calls p.0 p.1 h)
+performed_by (Free slot) w s t m after calls r all others p h table same counts held = rw p.2 (free_by w s t m after slot others calls p.0 p.1 h held)
+performed_by (Append slot n) w s t m after calls r all others p h table same counts held =
     rw p.3 (beside_is w s t calls (told_len p.0) after (resize (appended n) NoRoom slot m) p.2 h (resize_by m after (appended n) NoRoom slot p.0 p.1))
-performed_by (Prepend slot n) w s t m after calls r others p h held =
+performed_by (Prepend slot n) w s t m after calls r all others p h table same counts held =
     rw p.3 (beside_is w s t calls (told_len p.0) after (resize (prepended n) NoRoom slot m) p.2 h (resize_by m after (prepended n) NoRoom slot p.0 p.1))
-performed_by (Adj slot n) w s t m after calls r others p h held =
+performed_by (Adj slot n) w s t m after calls r all others p h table same counts held =
     rw p.3 (beside_is w s t calls (told_len p.0) after (resize (adjusted n) TooShort slot m) p.2 h (resize_by m after (adjusted n) TooShort slot p.0 p.1))
-performed_by (Trim slot n) w s t m after calls r others p h held =
+performed_by (Trim slot n) w s t m after calls r all others p h table same counts held =
     rw p.3 (beside_is w s t calls (told_len p.0) after (resize (trimmed n) TooShort slot m) p.2 h (resize_by m after (trimmed n) TooShort slot p.0 p.1))
-performed_by (Chain head tail) w s t m after calls r others p h held =
+performed_by (Chain head tail) w s t m after calls r all others p h table same counts held =
     rw p.3 (beside_is w s t calls (chained p.0 (get_or after.table head None)) after (chain head tail m) p.2 h (chain_by m after head tail p.0 p.1))
-performed_by (PktLen slot) w s t m after calls r others p h held = rw (p.0, p.2, nothing w s t calls p.1 h) refl
-performed_by (NbSegs slot) w s t m after calls r others p h held = rw (p.0, p.2, nothing w s t calls p.1 h) refl
-performed_by Flush w s t m after calls r others p h held =
+performed_by (Attach mi target) w s t m after calls r all others p h table same counts held = rw p.2 (attach_by w s t m after mi target all calls p.0 p.1 h same counts)
+performed_by (Detach slot) w s t m after calls r all others p h table same counts held = rw p.2 (detach_by w s t m after slot all calls p.0 p.1 h counts (held_within s m all others counts held))
+performed_by (ClonePacket source) w s t m after calls r all others p h table same counts held = rw p.2 (clone_by w s t m after source all calls p.0 p.1 h table same counts (held_within s m all others counts held))
+performed_by (CountOf slot) w s t m after calls r all others p h table same counts held = rw (p.2, p.3) (count_by w s t m slot all calls p.0 (get_or m.table slot None) refl p.1 h counts)
+performed_by (PktLen slot) w s t m after calls r all others p h table same counts held = rw (p.0, p.2, nothing w s t calls p.1 h) refl
+performed_by (NbSegs slot) w s t m after calls r all others p h table same counts held = rw (p.0, p.2, nothing w s t calls p.1 h) refl
+performed_by Flush w s t m after calls r all others p h table same counts held =
     let f = was_flushed w s m.cache calls p.0 after.cache t p.1 h in
     rw p.3 (ap (λ (x : Member). let o : Outcome = (reply.Put p.0, x, stack_of t) in o) p.2 ∙ ap (flushed m) f)
 
@@ -185,6 +182,21 @@ chains_number m after head tail answer (Same segs f e a k) = ap (λ (x : Member)
 chains_number m after head tail answer (TooLong first second f g apart long a k) = ap (λ (x : Member). x.number) k
 chains_number m after head tail answer (WasChained first second f g apart few a k) = ap (λ (x : Member). x.number) k
 
+attaches_number : (m after : Member) (mi target : ℕ) (calls : List Call) (answer : Result (Unit {0}) Refusal) → Attaches m mi target calls answer after → after.number ≡ m.number
+attaches_number m after mi target calls answer (NotAttachable cause f c a k) = ap (λ (x : Member). x.number) k
+attaches_number m after mi target calls answer (HeldElsewhere e n seg f other c a k) = ap (λ (x : Member). x.number) k
+attaches_number m after mi target calls answer (NotRaised e seg f cause c a k) = ap (λ (x : Member). x.number) k
+attaches_number m after mi target calls answer (WasAttached e seg f c a k) = ap (λ (x : Member). x.number) k
+
+detaches_number : (m after : Member) (slot : ℕ) (calls : List Call) (answer : Result Freed Refusal) → Detaches m slot calls answer after → after.number ≡ m.number
+detaches_number m after slot calls answer (NotDetachable cause f c a k) = ap (λ (x : Member). x.number) k
+detaches_number m after slot calls answer (WasDetached e base f left done g a k) = ap (λ (x : Member). x.number) k
+
+clones_number : (m after : Member) (source : ℕ) (calls : List Call) (answer : Result ℕ Refusal) → Clones m source calls answer after → after.number ≡ m.number
+clones_number m after source calls answer (NotClonable cause f c a k) = ap (λ (x : Member). x.number) k
+clones_number m after source calls answer (WasGivenUp segs slot f cause left g a k) = ap (λ (x : Member). x.number) k
+clones_number m after source calls answer (WasCloned segs slot f new left g a k) = ap (λ (x : Member). x.number) k
+
 pub performs_number : (act : Act) (m after : Member) (calls : List Call) (r : Reply) → Performs act m calls r after → after.number ≡ m.number
 performs_number Alloc m after calls r p = allocs_number m after calls p.0 p.1
 performs_number (AllocBulk n) m after calls r p = bulk_number m after n calls p.0 p.1
@@ -194,6 +206,10 @@ performs_number (Prepend slot n) m after calls r p = resizes_number m after (pre
 performs_number (Adj slot n) m after calls r p = resizes_number m after (adjusted n) TooShort slot p.0 p.1
 performs_number (Trim slot n) m after calls r p = resizes_number m after (trimmed n) TooShort slot p.0 p.1
 performs_number (Chain head tail) m after calls r p = chains_number m after head tail p.0 p.1
+performs_number (Attach mi target) m after calls r p = attaches_number m after mi target calls p.0 p.1
+performs_number (Detach slot) m after calls r p = detaches_number m after slot calls p.0 p.1
+performs_number (ClonePacket source) m after calls r p = clones_number m after source calls p.0 p.1
+performs_number (CountOf slot) m after calls r p = ap (λ (x : Member). x.number) p.2
 performs_number (PktLen slot) m after calls r p = ap (λ (x : Member). x.number) p.0
 performs_number (NbSegs slot) m after calls r p = ap (λ (x : Member). x.number) p.0
 performs_number Flush m after calls r p = ap (λ (x : Member). x.number) p.2

@@ -3,6 +3,7 @@ pub mod CacheModel
 pub mod CommandLine
 pub mod Commands
 pub mod Grammar
+pub mod HoldModel
 pub mod Names
 pub mod Numbers
 pub mod Own
@@ -13,6 +14,7 @@ pub mod Printed
 pub mod Reading
 pub mod Replay
 pub mod ReplyText
+pub mod SharingModel
 pub mod SitePool
 pub mod Standing
 pub mod Stands

@@ -1,22 +1,21 @@
 -- The reference model of a worker's packets.
 use Rattle.std.specs.Prelude.{ℕ, ◌+◌, ◌-◌, ◌==◌, ◌&&◌, nat_lt, nat_le, if◌then◌else◌, List, [], ◌∷◌, ◌++◌, length, take, slice_index_or, slice_set, Option, Some, None, Result, Ok, Err}
-use Rattle.commons.specs.Bag.{bag}
-use Rattle.commons.specs.declared.limits.Limits.{Limits}
 use Rattle.commons.specs.declared.packet.Seg.{Seg}
 use Rattle.commons.specs.declared.refusal.Refusal.{Refusal}
 use Rattle.commons.specs.declared.refusal.Refusal.TheVariants.{NoEntries, NoRoom, NoSuchPacket, PacketsFull, SamePacket, StrangerShare, TooManySegs, TooShort}
 use Rattle.mempool.specs.declared.put.Put.{Put}
 use Rattle.mbuf.specs.declared.acts.Act.{Act}
-use Rattle.mbuf.specs.declared.acts.Act.TheVariants.{Alloc, AllocBulk, Free, Append, Prepend, Adj, Trim, Chain, PktLen, NbSegs, Flush}
+use Rattle.mbuf.specs.declared.acts.Act.TheVariants.{Alloc, AllocBulk, Free, Append, Prepend, Adj, Trim, Chain, Attach, Detach, ClonePacket, CountOf, PktLen, NbSegs, Flush}
 use Rattle.mbuf.specs.declared.acts.Reply.{Reply}
 use Rattle.mbuf.specs.declared.acts.Reply.TheVariants as reply
-use Rattle.mbuf.specs.declared.freed.Freed.{Freed}
 use Rattle.mbuf.specs.Acts.{allocated_bulk, told_len, told_segs}
 use Rattle.mbuf.specs.Lengths.{pkt_len, appended, prepended, adjusted, trimmed}
 use Rattle.mbuf.specs.Members.{Member, holds_in_slot}
-use Rattle.mbuf.specs.PacketRules.{fresh_seg, free_slot, free_slots, stood, freed_nothing, counted, of_packet}
+use Rattle.mbuf.specs.PacketRules.{fresh_seg, free_slot, free_slots, stood, freed_nothing, of_packet}
 use Rattle.script.specs.Pool.{Stack, Pool, held_by, member_at, with_member}
-use Rattle.script.specs.CacheModel.{get, put, flush}
+use Rattle.script.specs.CacheModel.{get, flush}
+use Rattle.script.specs.HoldModel.{end_holds}
+use Rattle.script.specs.SharingModel.{attach, clone, count, detach}
 
 -- A get of one element fills the slot. (A get that is met gives as many elements as were asked for, so its list
 -- isn't empty.)
@@ -44,17 +43,6 @@ abbrev pub alloc_bulk : ℕ → Member → Stack → Reply × Member × Stack
 alloc_bulk n m s =
     if nat_lt (length (free_slots m.table)) n then (reply.Refused PacketsFull, m, s)
     else fill_slots (take n (free_slots m.table)) m (get m.limits n m.cache s)
-
--- what freeing has done once one element more was put back
-abbrev pub put_back : Freed → Put × List ℕ × Stack → Freed × List ℕ × Stack
-put_back freed (answer, cache, s) = (counted freed answer, cache, s)
-
--- The holds end in order. After each, the element goes back into the cache where nothing holds it any more:
--- none of the holds that are still to end, and no other packet.
-abbrev pub end_holds : Limits → (ℕ → ℕ) → List ℕ → Freed × List ℕ × Stack → Freed × List ℕ × Stack
-end_holds l others [] so_far = so_far
-end_holds l others (e ∷ es) so_far =
-    end_holds l others es (if bag es e + others e == 0 then put_back so_far.0 (put l (e ∷ []) so_far.1 so_far.2) else so_far)
 
 abbrev pub free_in : Option (List Seg) → (ℕ → ℕ) → ℕ → Member → Stack → Reply × Member × Stack
 free_in None others slot m s = (reply.Refused NoSuchPacket, m, s)
@@ -113,23 +101,27 @@ without_packet slot m = record m { table = slice_set m.table slot None }
 abbrev pub held_elsewhere : Pool → ℕ → ℕ → ℕ → ℕ
 held_elsewhere pool n slot i = held_by (slice_set pool.members n (without_packet slot (member_at pool n))) i
 
--- What a worker does. Where a packet is freed, others is how often the packets that stay hold each element; the
--- other acts don't ask.
-abbrev pub member_act : Act → (ℕ → ℕ → ℕ) → Member → Stack → Reply × Member × Stack
-member_act Alloc others m s = alloc m s
-member_act (AllocBulk n) others m s = alloc_bulk n m s
-member_act (Free slot) others m s = free (others slot) slot m s
-member_act (Append slot n) others m s = beside s (resize (appended n) NoRoom slot m)
-member_act (Prepend slot n) others m s = beside s (resize (prepended n) NoRoom slot m)
-member_act (Adj slot n) others m s = beside s (resize (adjusted n) TooShort slot m)
-member_act (Trim slot n) others m s = beside s (resize (trimmed n) TooShort slot m)
-member_act (Chain head tail) others m s = beside s (chain head tail m)
-member_act (PktLen slot) others m s = (told_len (of_packet pkt_len (slice_index_or m.table slot None)), m, s)
-member_act (NbSegs slot) others m s = (told_segs (of_packet length (slice_index_or m.table slot None)), m, s)
-member_act Flush others m s = flush_member m s
+-- What a worker does. Of all packets of the pool, held is how often they hold each element, and others slot how often
+-- those hold it that stay where the one in this slot is freed; most acts ask for neither.
+abbrev pub member_act : Act → (ℕ → ℕ) → (ℕ → ℕ → ℕ) → Member → Stack → Reply × Member × Stack
+member_act Alloc held others m s = alloc m s
+member_act (AllocBulk n) held others m s = alloc_bulk n m s
+member_act (Free slot) held others m s = free (others slot) slot m s
+member_act (Append slot n) held others m s = beside s (resize (appended n) NoRoom slot m)
+member_act (Prepend slot n) held others m s = beside s (resize (prepended n) NoRoom slot m)
+member_act (Adj slot n) held others m s = beside s (resize (adjusted n) TooShort slot m)
+member_act (Trim slot n) held others m s = beside s (resize (trimmed n) TooShort slot m)
+member_act (Chain head tail) held others m s = beside s (chain head tail m)
+member_act (Attach mi target) held others m s = beside s (attach held mi target m)
+member_act (Detach slot) held others m s = detach held slot m s
+member_act (ClonePacket source) held others m s = clone held source m s
+member_act (CountOf slot) held others m s = (count held slot m, m, s)
+member_act (PktLen slot) held others m s = (told_len (of_packet pkt_len (slice_index_or m.table slot None)), m, s)
+member_act (NbSegs slot) held others m s = (told_segs (of_packet length (slice_index_or m.table slot None)), m, s)
+member_act Flush held others m s = flush_member m s
 
 abbrev pub act_on : Pool → ℕ → Act → Reply × Member × Stack
-act_on pool n act = member_act act (held_elsewhere pool n) (member_at pool n) pool.stack
+act_on pool n act = member_act act (held_by pool.members) (held_elsewhere pool n) (member_at pool n) pool.stack
 
 -- the reply to what a worker is asked to do, and the pool afterwards; a worker outside the pool does nothing
 abbrev pub perform : Pool → ℕ → Act → Reply × Pool

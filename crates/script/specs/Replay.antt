@@ -7,12 +7,12 @@ use Rattle.script.specs.declared.commands.Command.{Command}
 use Rattle.script.specs.declared.commands.Command.TheVariants as command
 use Rattle.script.specs.declared.commands.Line.{Line}
 use Rattle.mbuf.specs.declared.acts.Act.{Act}
-use Rattle.mbuf.specs.declared.acts.Act.TheVariants.{Alloc, AllocBulk, Free, Append, Prepend, Adj, Trim, Chain, Flush}
+use Rattle.mbuf.specs.declared.acts.Act.TheVariants.{Alloc, AllocBulk, Free, Append, Prepend, Adj, Trim, Chain, Attach, Detach, ClonePacket, CountOf, Flush}
 use Rattle.mbuf.specs.declared.lengths.Change.{Change}
 use Rattle.mbuf.specs.declared.lengths.Change.TheVariants as change
 use Rattle.mbuf.specs.declared.acts.NewPacket.{NewPacket}
 use Rattle.mbuf.specs.declared.acts.Reply.{Reply}
-use Rattle.mbuf.specs.declared.acts.Reply.TheVariants.{Allocated, Bulk as WasBulk, Chained, Freed as WasFreed, Refused}
+use Rattle.mbuf.specs.declared.acts.Reply.TheVariants.{Allocated, Bulk as WasBulk, Chained, Cloned, Freed as WasFreed, Refused}
 use Rattle.script.specs.Pool.{Pool, new_pool}
 use Rattle.script.specs.PacketModel.{perform}
 
@@ -74,12 +74,16 @@ act_of slot (change.Prepend n) = Prepend slot n
 act_of slot (change.Adj n) = Adj slot n
 act_of slot (change.Trim n) = Trim slot n
 
--- a change of lengths leaves each name as it stands
-abbrev pub resize_as : Option ℕ → ℕ → Change → Run → Reply × Run
-resize_as None worker change run = (Refused NoSuchPacket, run)
-resize_as (Some slot) worker change run =
-    let done = perform run.pool worker (act_of slot change) in
+-- an act on the packet of one name, or on those of two, that leaves each name as it stands
+abbrev pub act_as : Option ℕ → (ℕ → Act) → ℕ → Run → Reply × Run
+act_as None act worker run = (Refused NoSuchPacket, run)
+act_as (Some slot) act worker run =
+    let done = perform run.pool worker (act slot) in
     (done.0, record { pool = done.1; stands = run.stands })
+
+abbrev pub act_as_both : Option ℕ → Option ℕ → (ℕ → ℕ → Act) → ℕ → Run → Reply × Run
+act_as_both None second act worker run = (Refused NoSuchPacket, run)
+act_as_both (Some first) second act worker run = act_as second (act first) worker run
 
 -- a chain that is met takes the second packet's name away
 abbrev pub stands_after_chain : ℕ → List ℕ → Reply → (ℕ → List ℕ → Option ℕ) → ℕ → List ℕ → Option ℕ
@@ -93,6 +97,17 @@ chain_as (Some head) (Some tail) worker name run =
     let done = perform run.pool worker (Chain head tail) in
     (done.0, record { pool = done.1; stands = stands_after_chain worker name done.0 run.stands })
 
+-- a clone that is met gives its name the clone's slot
+abbrev pub stands_after_clone : ℕ → List ℕ → Reply → (ℕ → List ℕ → Option ℕ) → ℕ → List ℕ → Option ℕ
+stands_after_clone worker name (Cloned slot elems) stands = named worker name (Some slot) stands
+stands_after_clone worker name _ stands = stands
+
+abbrev pub clone_as : Option ℕ → ℕ → List ℕ → Run → Reply × Run
+clone_as None worker made run = (Refused NoSuchPacket, run)
+clone_as (Some slot) worker made run =
+    let done = perform run.pool worker (ClonePacket slot) in
+    (done.0, record { pool = done.1; stands = stands_after_clone worker made done.0 run.stands })
+
 -- a flush leaves each name as it stands
 abbrev pub flush_as : ℕ → Run → Reply × Run
 flush_as worker run = let done = perform run.pool worker Flush in (done.0, record { pool = done.1; stands = run.stands })
@@ -102,12 +117,12 @@ abbrev pub obey : ℕ → Command → Run → Reply × Run
 obey worker (command.Alloc name) run = alloc_as worker name run
 obey worker (command.Bulk names) run = bulk_as worker names run
 obey worker (command.Free name) run = free_as (run.stands worker name) worker name run
-obey worker (command.Resize name change) run = resize_as (run.stands worker name) worker change run
+obey worker (command.Resize name change) run = act_as (run.stands worker name) (λ slot. act_of slot change) worker run
 obey worker (command.Chain head tail) run = chain_as (run.stands worker head) (run.stands worker tail) worker tail run
-obey worker (command.Attach first second) run = (Refused NoSuchPacket, run)
-obey worker (command.Detach packet) run = (Refused NoSuchPacket, run)
-obey worker (command.Clone packet made) run = (Refused NoSuchPacket, run)
-obey worker (command.Count packet) run = (Refused NoSuchPacket, run)
+obey worker (command.Attach name target) run = act_as_both (run.stands worker name) (run.stands worker target) Attach worker run
+obey worker (command.Detach name) run = act_as (run.stands worker name) Detach worker run
+obey worker (command.Clone name made) run = clone_as (run.stands worker name) worker made run
+obey worker (command.Count name) run = act_as (run.stands worker name) CountOf worker run
 obey worker command.Flush run = flush_as worker run
 
 -- the reply to each line, with its number

@@ -1,5 +1,5 @@
 ghost use Rattle.std.specs.Prelude.{◌≡◌, None, IfOk, IfErr, OnOk};
-ghost use Rattle.script.specs.Replay.{replies_to, end_of, new_run, act_of as changes_to, all_named, chain_as, obey as obeyed};
+ghost use Rattle.script.specs.Replay.{replies_to, end_of, new_run, act_as_both, act_of as changes_to, all_named, chain_as, obey as obeyed};
 ghost use Rattle.script.specs.Standing.{run_of, fresh_run};
 ghost use Rattle.script.specs.Stands.{stands_in};
 ghost use Rattle.script.specs.Statements.{statement_of, ListsEachOnce};
@@ -112,6 +112,22 @@ fn chain<'a>(
     reply
 }
 
+/// Attaches the packet of one of a worker's names to the buffer of another's.
+fn attach<'a>(
+    pool: &mut SitePool,
+    names: &Names<'a>,
+    worker: u32,
+    name: &'a [u8],
+    target: &'a [u8],
+) -> Reply
+    ensures { (result, run_of pool.new names.now) ≡ act_as_both ((run_of pool.old names.now).stands worker name.now) ((run_of pool.old names.now).stands worker target.now) Act.Attach worker (run_of pool.old names.now) }
+{
+    let (Some(mi), Some(target)) = (names.get(worker, name), names.get(worker, target)) else {
+        return Reply::Refused(Refusal::NoSuchPacket);
+    };
+    pool.perform(worker, Act::Attach(mi, target))
+}
+
 /// Performs one line, and keeps which packet its name stands for.
 fn obey<'a>(pool: &mut SitePool, names: &mut Names<'a>, line: &'a Line) -> Result<Reply, AllocError>
     ensures { IfOk result (λ r. (r, run_of pool.new names.new) ≡ obeyed line.now.worker line.now.command (run_of pool.old names.old)) }
@@ -156,8 +172,34 @@ fn obey<'a>(pool: &mut SitePool, names: &mut Names<'a>, line: &'a Line) -> Resul
             head.as_slice(),
             tail.as_slice(),
         )),
-        Command::Attach(_, _) | Command::Detach(_) | Command::Clone(_, _) | Command::Count(_) => {
-            Ok(Reply::Refused(Refusal::NoSuchPacket))
+        Command::Attach(name, target) => Ok(attach(
+            pool,
+            names,
+            worker,
+            name.as_slice(),
+            target.as_slice(),
+        )),
+        Command::Detach(name) => {
+            let Some(slot) = names.get(worker, name.as_slice()) else {
+                return Ok(Reply::Refused(Refusal::NoSuchPacket));
+            };
+            Ok(pool.perform(worker, Act::Detach(slot)))
+        }
+        Command::Clone(name, made) => {
+            let Some(slot) = names.get(worker, name.as_slice()) else {
+                return Ok(Reply::Refused(Refusal::NoSuchPacket));
+            };
+            let reply = pool.perform(worker, Act::ClonePacket(slot));
+            if let Reply::Cloned(slot, _) = &reply {
+                names.set(worker, made.as_slice(), *slot)?;
+            }
+            Ok(reply)
+        }
+        Command::Count(name) => {
+            let Some(slot) = names.get(worker, name.as_slice()) else {
+                return Ok(Reply::Refused(Refusal::NoSuchPacket));
+            };
+            Ok(pool.perform(worker, Act::CountOf(slot)))
         }
         Command::Flush => Ok(pool.perform(worker, Act::Flush)),
     }

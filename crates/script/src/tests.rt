@@ -10,6 +10,7 @@ mod full;
 mod many;
 mod memory;
 mod packets;
+mod sharing;
 
 const FIRST_RUN: &str = "pool 3\nalloc a\nalloc b\nfree a\n";
 

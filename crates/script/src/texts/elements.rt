@@ -17,7 +17,7 @@ pub(super) fn write_elements(out: &mut Vec<u8>, elements: &[u32]) -> io::Result<
 }
 
 // Each element behind a space.
-fn write_joined(out: &mut Vec<u8>, elements: &[u32]) -> io::Result<()>
+pub(super) fn write_joined(out: &mut Vec<u8>, elements: &[u32]) -> io::Result<()>
     ensures { OnOk result (out.new.items ≡ out.old.items ++ joined decimal elements.now) }
 {
     for element in elements {

@@ -1,7 +1,9 @@
 //! The lines that answer commands.
-ghost use Rattle.std.specs.Prelude.{◌≡◌, ◌++◌, codes, IfErr, OnOk};
+ghost use Rattle.std.specs.Prelude.{◌≡◌, ◌++◌, codes, decimal, IfErr, OnOk};
 ghost use Rattle.script.specs.ReplyText.{elements_text, freed_text, put_off_text, put_text, reply_line, reply_text};
+ghost use Rattle.script.specs.StatementText.{joined};
 
+use super::elements::write_joined;
 use commons::refusal::Refusal;
 use mbuf::acts::{NewPacket, Reply};
 use mbuf::freed::Freed;
@@ -39,6 +41,9 @@ fn write_reply(out: &mut Vec<u8>, reply: &Reply) -> io::Result<()>
         Reply::Allocated(_, elem) => write!(out, "ok {elem}"),
         Reply::Bulk(packets) => write_bulk(out, packets.as_slice()),
         Reply::Freed(freed) => write_freed(out, *freed),
+        Reply::Attached => write!(out, "ok"),
+        Reply::Cloned(_, elems) => write_cloned(out, elems.as_slice()),
+        Reply::Count(count) => write!(out, "ok {count}"),
         Reply::Len(len) => write!(out, "ok {len}"),
         Reply::Segs(segs) => write!(out, "ok {segs}"),
         Reply::Chained(segs, len) => write!(out, "ok {segs} {len}"),
@@ -58,6 +63,14 @@ fn write_bulk(out: &mut Vec<u8>, packets: &[NewPacket]) -> io::Result<()>
         write!(out, " {}", packet.elem)?;
     }
     Ok(())
+}
+
+// The elements of a clone.
+fn write_cloned(out: &mut Vec<u8>, elems: &[u32]) -> io::Result<()>
+    ensures { OnOk result (out.new.items ≡ out.old.items ++ codes "ok" ++ joined decimal elems.now) }
+{
+    write!(out, "ok")?;
+    write_joined(out, elems)
 }
 
 #[tactic(auto, unfolding(crate::specs::ReplyText::freed_text))]

@@ -1,7 +1,6 @@
 use Rattle.std.proofs.Common.{◌≡◌, ◌≢◌, ◌<◌, ◌≤◌, ◌+◌, ℕ, List, [], ◌∷◌, ◌++◌, length, length-set, map, take, get_or, set, get_or-set_other, inl, inr, refl, sym, ap, subst, ◌∙◌, arith}
 use Rattle.std.proofs.lemmas.Bool.{cases_lt}
-use Rattle.std.proofs.lemmas.List.{append-nil, get_or_default, map-append, set-get_or, take_more}
-use Rattle.std.proofs.lemmas.Grind.{flat_map-append}
+use Rattle.std.proofs.lemmas.List.{get_or_default, map-append, set-get_or, take_more}
 use Rattle.commons.specs.Bag.{bag}
 use Rattle.commons.specs.Calls.{Made, Leads, calls_of}
 use Rattle.commons.specs.declared.limits.Limits.{Limits}
@@ -11,7 +10,7 @@ use Rattle.mbuf.specs.Lengths.{no_seg}
 use Rattle.mbuf.specs.Members.{hold_of, holds_of_packet, holds_of_seg}
 use Rattle.mbuf.specs.PacketRules.{freed_nothing}
 use Rattle.mbuf.specs.Sharing.{buffer_of, ClonesSeg, StopsCloning}
-use Rattle.mbuf.proofs.CloneLemmas.{buffer_held, cloned_more, followed, given_up, same_headers}
+use Rattle.mbuf.proofs.CloneLemmas.{buffer_held, cloned_more, followed, given_up, holds-more, same_headers}
 use Rattle.mbuf.proofs.EndLemmas.{Ended}
 use Rattle.mbuf.proofs.clones.clone_segs.Goals as goal
 
@@ -31,10 +30,7 @@ new_only a b first later before now grows some = elim (cases_lt 0 a) [
   | inr none ↦ omega (arith, now (omega (arith, some, none)), grows)
 ]
 
--- what one segment more holds, and its own element
-holds-more : (segs : List Seg) (seg : Seg) → holds_of_packet (segs ++ seg ∷ []) ≡ holds_of_packet segs ++ holds_of_seg seg
-holds-more segs seg = flat_map-append holds_of_seg segs (seg ∷ []) ∙ ap (λ (es : List ℕ). holds_of_packet segs ++ es) (append-nil (holds_of_seg seg))
-
+-- the own elements of one segment more
 elems-more : (segs : List Seg) (seg : Seg) (i : ℕ) → bag (map (λ s. s.elem) (segs ++ seg ∷ [])) i ≡ bag (map (λ s. s.elem) segs) i + bag (seg.elem ∷ []) i
 elems-more segs seg i = ap (λ (es : List ℕ). bag es i) (map-append (λ (s : Seg). s.elem) segs (seg ∷ [])) ∙ bag-append (map (λ (s : Seg). s.elem) segs) (seg.elem ∷ []) i
 

@@ -30,7 +30,8 @@ returns-in-Some-base-clause-pair c =
     let here : get_or (shown flags packets) slot None ≡ Some segs =
     rw c.segs-segs.ensures.segs (stands flags packets slot c.index.result.now (omega (arith, at.1, inv.flags)) (inv.packets ∙ sym inv.flags) (rw (sym at.0) at at.2) c.index.ensures) in
     let in_slot = get_or (shown flags packets) slot None in
-    rw (sym c.self.view_is, sym at.0) (sym (one_there in_slot segs (Some c.in-Some-base.base) here c.if-segs-gt1.false c.in-Some-base.is))
+    let some : 1 ≤ length segs = rw c.segs-segs.ensures.segs c.segs-segs.ensures.packet.some in
+    rw (sym c.self.view_is, sym at.0) (sym (one_there in_slot segs (Some c.in-Some-base.base) here some c.if-segs-gt1.false c.in-Some-base.is))
 
 pub returns-in-Some-base-clause-is : goal.returns-in-Some-base-clause-is
 returns-in-Some-base-clause-is c =
@@ -62,4 +63,5 @@ returns-in-None-clause-pair c =
     let here : get_or (shown flags packets) slot None ≡ Some segs =
     rw c.segs-segs.ensures.segs (stands flags packets slot c.index.result.now (omega (arith, at.1, inv.flags)) (inv.packets ∙ sym inv.flags) (rw (sym at.0) at at.2) c.index.ensures) in
     let in_slot = get_or (shown flags packets) slot None in
-    rw (sym c.self.view_is, sym at.0) (sym (one_there in_slot segs None here c.if-segs-gt1.false c.in-None.is))
+    let some : 1 ≤ length segs = rw c.segs-segs.ensures.segs c.segs-segs.ensures.packet.some in
+    rw (sym c.self.view_is, sym at.0) (sym (one_there in_slot segs None here some c.if-segs-gt1.false c.in-None.is))
