@@ -1,6 +1,6 @@
--- What a packet is.
-use Rattle.std.specs.Prelude.{◌≤◌, ◌+◌, List, length}
-use Rattle.std.specs.Prelude.{All}
+-- What a packet is, and what it holds.
+use Rattle.std.specs.Prelude.{ℕ, ◌≤◌, ◌+◌, List, [], ◌∷◌, ◌++◌, All, Option, Some, None, length, map, flat_map, sum_by}
+use Rattle.commons.specs.Bag.{bag}
 use Rattle.commons.specs.declared.packet.Seg.{Seg}
 
 -- the data of the segment is within its buffer
@@ -12,3 +12,34 @@ pub record IsPacket (segs : List Seg) : Type 0 where
   pub some : 1 ≤ length segs
   pub few : length segs ≤ 32
   pub each : All HasItsData segs
+
+-- one hold of an element, where there is an element
+abbrev pub hold_of : Option ℕ → List ℕ
+hold_of None = []
+hold_of (Some e) = e ∷ []
+
+-- the holds of a segment: of its base, where it has one, and of its own element
+abbrev pub holds_of_seg : Seg → List ℕ
+holds_of_seg seg = hold_of seg.base ++ seg.elem ∷ []
+
+-- the holds of a packet, in the order in which they end
+abbrev pub holds_of_packet : List Seg → List ℕ
+holds_of_packet segs = flat_map holds_of_seg segs
+
+-- the holds of what is in a slot
+abbrev pub holds_in_slot : Option (List Seg) → List ℕ
+holds_in_slot None = []
+holds_in_slot (Some segs) = holds_of_packet segs
+
+-- the own elements of what is in a slot
+abbrev pub own_in_slot : Option (List Seg) → List ℕ
+own_in_slot None = []
+own_in_slot (Some segs) = map (λ seg. seg.elem) segs
+
+-- how often the packets of a table, of slots or of desks, hold an element
+abbrev pub held_in : List (Option (List Seg)) → ℕ → ℕ
+held_in table i = sum_by (λ slot. bag (holds_in_slot slot) i) table
+
+-- how often it is an own element of one of their segments
+abbrev pub own_in : List (Option (List Seg)) → ℕ → ℕ
+own_in table i = sum_by (λ slot. bag (own_in_slot slot) i) table

@@ -11,7 +11,7 @@ use Rattle.commons.specs.Calls.{Reading, Call, Made, calls_of, Leads}
 use Rattle.commons.proofs.Bags.{bag-cons, bag-append, bag-head, bag-single}
 use Rattle.commons.proofs.Leading.{calls_of-append, Leads-append}
 use Rattle.commons.proofs.Places.{one-apart, apart_or_same}
-use Rattle.mbuf.specs.Members.{hold_of, holds_of_packet, holds_of_seg}
+use Rattle.commons.specs.Packets.{hold_of, holds_of_packet, holds_of_seg}
 use Rattle.mbuf.specs.PacketRules.{freed_nothing}
 use Rattle.mbuf.specs.Sharing.{attached, buffer_of, ClonesSeg, ClonesSegs, GivesUp, StopsCloning}
 use Rattle.mbuf.specs.declared.freed.Freed.{Freed}

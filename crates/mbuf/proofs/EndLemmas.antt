@@ -9,7 +9,7 @@ use Rattle.commons.specs.declared.packet.Seg.{Seg}
 use Rattle.commons.specs.Calls.{Reading, Call, Made, calls_of, Leads}
 use Rattle.commons.proofs.Bags.{bag-append}
 use Rattle.commons.proofs.Leading.{calls_of-append, Leads-append}
-use Rattle.mbuf.specs.Members.{holds_of_seg, holds_of_packet}
+use Rattle.commons.specs.Packets.{holds_of_seg, holds_of_packet}
 use Rattle.mbuf.specs.PacketRules.{EndsHold, EndsHolds}
 use Rattle.mbuf.specs.declared.freed.Freed.{Freed}
 

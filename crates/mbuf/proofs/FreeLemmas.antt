@@ -11,7 +11,8 @@ use Rattle.commons.specs.declared.limits.Limits.{Limits}
 use Rattle.commons.specs.declared.packet.Seg.{Seg}
 use Rattle.commons.proofs.Bags.{bag-nil, bag-cons, bag-single}
 use Rattle.mbuf.specs.Kept.{shown}
-use Rattle.mbuf.specs.Members.{Member, held_in, own_in}
+use Rattle.commons.specs.Packets.{held_in, own_in}
+use Rattle.mbuf.specs.Members.{Member}
 use Rattle.mbuf.specs.Own.{Own}
 use Rattle.mbuf.specs.PacketRules.{fresh_seg, free_slot, free_from, free_slots, stood}
 use Rattle.mbuf.proofs.OwnLemmas.{held_in-set, own_in-set, free_slot-is}

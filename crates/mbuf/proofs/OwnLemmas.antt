@@ -10,7 +10,8 @@ use Rattle.commons.specs.Bag.{bag}
 use Rattle.commons.specs.declared.limits.Limits.{Limits}
 use Rattle.commons.specs.declared.packet.Seg.{Seg}
 use Rattle.commons.proofs.Bags.{bag-nil, bag-cons, bag-append, bag-single}
-use Rattle.mbuf.specs.Members.{Member, hold_of, holds_of_seg, holds_of_packet, holds_in_slot, own_in_slot, held_in, own_in}
+use Rattle.commons.specs.Packets.{hold_of, holds_of_seg, holds_of_packet, holds_in_slot, own_in_slot, held_in, own_in}
+use Rattle.mbuf.specs.Members.{Member}
 use Rattle.mbuf.specs.Own.{Own}
 use Rattle.mbuf.specs.PacketRules.{free_slot}
 

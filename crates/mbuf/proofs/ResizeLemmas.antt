@@ -6,7 +6,8 @@ use Rattle.commons.specs.declared.packet.Seg.{Seg}
 use Rattle.mbuf.specs.Changes.{resized}
 use Rattle.mbuf.specs.Kept.{KeepsHolds}
 use Rattle.mbuf.specs.Lengths.{no_seg, with_seg, appended, prepended, adjusted, trimmed, grown_behind, grown_in_front, cut_in_front, cut_behind}
-use Rattle.mbuf.specs.Members.{Member, hold_of, holds_of_seg, holds_of_packet}
+use Rattle.commons.specs.Packets.{hold_of, holds_of_seg, holds_of_packet}
+use Rattle.mbuf.specs.Members.{Member}
 use Rattle.mbuf.specs.Own.{Own}
 use Rattle.mbuf.specs.declared.lengths.Change.{Change}
 use Rattle.mbuf.specs.declared.lengths.Change.TheVariants.{Append, Prepend, Adj, Trim}

@@ -7,7 +7,8 @@ use Rattle.commons.specs.declared.refusal.Refusal.{Refusal}
 use Rattle.commons.specs.declared.refusal.Refusal.TheVariants.{TooManySegs}
 use Rattle.commons.proofs.Bags.{bag-nil, bag-append, bag-single, one-same}
 use Rattle.mbuf.specs.Cloning.{ArePair, IsIndirect}
-use Rattle.mbuf.specs.Members.{Member, hold_of, holds_in_slot, holds_of_packet, holds_of_seg, held_in, own_in}
+use Rattle.commons.specs.Packets.{hold_of, holds_in_slot, holds_of_packet, holds_of_seg, held_in, own_in}
+use Rattle.mbuf.specs.Members.{Member}
 use Rattle.mbuf.specs.Own.{Own}
 use Rattle.mbuf.specs.PacketRules.{fresh_seg, free_slot}
 use Rattle.mbuf.specs.Sharing.{attachable, attached, buffer_of, detachable, first_seg, if_alone, if_direct, if_indirect}

@@ -5,7 +5,8 @@ use Rattle.commons.specs.declared.packet.Seg.{Seg}
 use Rattle.commons.specs.declared.refusal.Refusal.{Refusal}
 use Rattle.commons.specs.declared.refusal.Refusal.TheVariants.{InUse}
 use Rattle.commons.specs.Calls.{Call, CountOf, Raise}
-use Rattle.mbuf.specs.Members.{hold_of, holds_of_seg, slots}
+use Rattle.commons.specs.Packets.{hold_of, holds_of_seg}
+use Rattle.mbuf.specs.Members.{slots}
 use Rattle.mbuf.specs.Sharing.{attached, buffer_of, ClonesSeg, ClonesSegs, GivesUp, StopsCloning}
 use Rattle.mbuf.specs.declared.clones.Stop.{Stop}
 

@@ -2,7 +2,8 @@
 use Rattle.std.specs.Prelude.{ℕ, ◌≡◌, Bool, true, false, List, [], ◌∷◌, length, Option, Some, None, Result, Ok, Err}
 use Rattle.commons.specs.declared.packet.Seg.{Seg}
 use Rattle.commons.specs.declared.refusal.Refusal.{Refusal}
-use Rattle.mbuf.specs.Members.{Member, slots, held_in, own_in}
+use Rattle.commons.specs.Packets.{held_in, own_in}
+use Rattle.mbuf.specs.Members.{Member, slots}
 use Rattle.mbuf.specs.declared.packets.Packets.TheInside.{Inside}
 
 -- the packet of a slot, unless the slot is free

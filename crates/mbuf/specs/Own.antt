@@ -2,7 +2,8 @@
 use Rattle.std.specs.Prelude.{ℕ, ◌≡◌, ◌≤◌}
 use Rattle.commons.specs.Bag.{bag}
 use Rattle.commons.specs.declared.limits.Limits.{Limits}
-use Rattle.mbuf.specs.Members.{Member, held_in, own_in}
+use Rattle.commons.specs.Packets.{held_in, own_in}
+use Rattle.mbuf.specs.Members.{Member}
 
 -- Both are of one pool; the cache is the worker's hand; the packets hold what the worker holds; and the own
 -- elements of their segments are headers of the worker, which are distinct.

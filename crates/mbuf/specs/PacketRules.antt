@@ -11,7 +11,8 @@ use Rattle.mempool.specs.Caches.{Gets, Puts}
 use Rattle.mempool.specs.declared.put.Put.{Put}
 use Rattle.mempool.specs.declared.put.Put.TheVariants.{Kept, Flushed, PutOff}
 use Rattle.mbuf.specs.Lengths.{pkt_len}
-use Rattle.mbuf.specs.Members.{Member, holds_of_packet}
+use Rattle.commons.specs.Packets.{holds_of_packet}
+use Rattle.mbuf.specs.Members.{Member}
 use Rattle.mbuf.specs.declared.freed.Freed.{Freed}
 
 -- the segment of a fresh packet

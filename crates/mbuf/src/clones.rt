@@ -3,9 +3,8 @@
 ghost use Rattle.std.specs.Prelude.{◌≡◌, ◌≢◌, ◌<◌, ◌≤◌, ◌+◌, [], ◌∷◌, ◌++◌, ℕ, List, length, map, take, Ok, Err, OnOk, OnErr, IfOk, MatchResult, slice_index_or, slice_set, vec_len};
 ghost use Rattle.commons.specs.Bag.{bag, one};
 ghost use Rattle.commons.specs.Calls.{Made, Leads, calls_of};
-ghost use Rattle.commons.specs.Packets.{HasItsData, IsPacket};
+ghost use Rattle.commons.specs.Packets.{HasItsData, IsPacket, hold_of, holds_of_packet, holds_of_seg};
 ghost use Rattle.mempool.specs.WorkerCache.{KeepsNumber};
-ghost use Rattle.mbuf.specs.Members.{hold_of, holds_of_packet, holds_of_seg};
 ghost use Rattle.mbuf.specs.PacketRules.{EndsHolds, freed_nothing};
 ghost use Rattle.mbuf.specs.Sharing.{attached as attached_seg, buffer_of as buffer};
 ghost use Rattle.mbuf.specs.Cloning.{AttachesElem, TriesSeg, TriesSegs, new_headers, new_holds};

@@ -18,7 +18,8 @@ use Rattle.script.specs.declared.commands.Command.TheVariants as command
 use Rattle.script.specs.declared.commands.Line.{Line}
 use Rattle.mbuf.specs.declared.acts.Act.{Act}
 use Rattle.mbuf.specs.declared.acts.Act.TheVariants.{Alloc, AllocBulk, Free, Append, Prepend, Adj, Trim, Chain, Attach, Detach, ClonePacket, CountOf, PktLen, NbSegs, Flush}
-use Rattle.mbuf.specs.Members.{Member, holds_in_slot, holds_of_packet, held_in, slots}
+use Rattle.commons.specs.Packets.{holds_in_slot, holds_of_packet, held_in}
+use Rattle.mbuf.specs.Members.{Member, slots}
 use Rattle.mbuf.specs.PacketRules.{fresh_seg, free_slot, free_slots, freed_nothing}
 use Rattle.mbuf.specs.Sharing.{clonable, detachable, pair_in}
 use Rattle.mbuf.specs.Lengths.{appended, prepended, adjusted, trimmed}

@@ -13,7 +13,8 @@ use Rattle.commons.specs.ListLaws.{hand_once_lem, hand_below_lem}
 use Rattle.commons.specs.Lists.{Lists, IsTable, held_count, place_of, nowhere}
 use Rattle.commons.proofs.Bags.{length-le}
 use Rattle.script.specs.declared.statement.Holder.TheVariants.{Worker}
-use Rattle.mbuf.specs.Members.{Member, held_in}
+use Rattle.commons.specs.Packets.{held_in}
+use Rattle.mbuf.specs.Members.{Member}
 use Rattle.script.specs.Pool.{held_by, nobody}
 use Rattle.script.specs.Own.{Owns}
 use Rattle.script.specs.SitePool.{IsMember}

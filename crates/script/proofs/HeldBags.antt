@@ -10,7 +10,8 @@ use Rattle.commons.proofs.Places.{one-apart}
 use Rattle.mempool.specs.declared.put.Put.{Put}
 use Rattle.mempool.specs.declared.put.Put.TheVariants.{Kept, Flushed, PutOff}
 use Rattle.mbuf.specs.declared.freed.Freed.{Freed}
-use Rattle.mbuf.specs.Members.{Member, held_in}
+use Rattle.commons.specs.Packets.{held_in}
+use Rattle.mbuf.specs.Members.{Member}
 use Rattle.script.specs.Pool.{Stack, Pool, held_by}
 use Rattle.script.specs.CacheModel.{put}
 use Rattle.script.specs.HoldModel.{put_back, end_holds}

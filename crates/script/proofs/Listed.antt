@@ -22,7 +22,8 @@ use Rattle.script.specs.declared.statement.PlacedPacket.{PlacedPacket}
 use Rattle.script.specs.declared.statement.Held.{Held}
 use Rattle.script.specs.declared.statement.Holder.{Holder}
 use Rattle.script.specs.declared.statement.Holder.TheVariants.{Worker}
-use Rattle.mbuf.specs.Members.{Member, holds_of_packet, holds_in_slot, held_in}
+use Rattle.commons.specs.Packets.{holds_of_packet, holds_in_slot, held_in}
+use Rattle.mbuf.specs.Members.{Member}
 use Rattle.script.specs.Pool.{Pool, held_by}
 use Rattle.script.specs.Replay.{new_run, end_of}
 use Rattle.script.specs.Statements.{packets_from, packets_of, holders_of, held_entry, held_elements, statement_of, listed, packet_holds, is_worker, is_desk, worker_holds, desk_holds, ListsEachOnce}

@@ -8,7 +8,8 @@ use Rattle.commons.specs.declared.limits.Limits.{Limits}
 use Rattle.commons.specs.Lists.{Lists, IsTable}
 use Rattle.commons.proofs.Bags.{bag-nil}
 use Rattle.mbuf.specs.Acts.{Performs}
-use Rattle.mbuf.specs.Members.{Member, held_in}
+use Rattle.commons.specs.Packets.{held_in}
+use Rattle.mbuf.specs.Members.{Member}
 use Rattle.mbuf.specs.declared.acts.Act.{Act}
 use Rattle.mbuf.specs.declared.acts.Reply.{Reply}
 use Rattle.script.specs.Pool.{Stack, Pool, nobody, held_by}

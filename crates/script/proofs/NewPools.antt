@@ -13,7 +13,8 @@ use Rattle.commons.specs.declared.refusal.Refusal.TheVariants.{BadPool, OutOfMem
 use Rattle.commons.specs.Lists.{opening, nowhere, in_hand}
 use Rattle.commons.proofs.Bags.{bag-nil}
 use Rattle.mempool.specs.WorkerCache.{IsWorkerCause}
-use Rattle.mbuf.specs.Members.{Member, held_in, holds_in_slot, own_in, own_in_slot, slots}
+use Rattle.commons.specs.Packets.{held_in, holds_in_slot, own_in, own_in_slot}
+use Rattle.mbuf.specs.Members.{Member, slots}
 use Rattle.script.specs.Pool.{new_members, nobody}
 use Rattle.script.specs.SitePool.{IsMember}
 

@@ -14,7 +14,8 @@ use Rattle.mbuf.specs.declared.acts.Reply.TheVariants as reply
 use Rattle.mbuf.specs.declared.freed.Freed.{Freed}
 use Rattle.mbuf.specs.Acts.{Performs, allocated, allocated_bulk, freed as freed_reply, told_len, chained}
 use Rattle.mbuf.specs.Lengths.{pkt_len, appended, prepended, adjusted, trimmed}
-use Rattle.mbuf.specs.Members.{Member, holds_of_packet}
+use Rattle.commons.specs.Packets.{holds_of_packet}
+use Rattle.mbuf.specs.Members.{Member}
 use Rattle.mbuf.specs.Sharing.{Attaches, NotAttachable, HeldElsewhere, NotRaised, WasAttached, Detaches, NotDetachable, WasDetached, Clones, NotClonable, WasGivenUp, WasCloned}
 use Rattle.mbuf.specs.PacketRules.{Allocs, Full, NotGot, Fresh, AllocsBulk, TooFull, BulkNotGot, FreshBulk, Frees, NoPacket, WasFreed, Resizes, NoneThere, NotResized, WasResized, Chains, NoHead, NoTail, Same, TooLong, WasChained, fresh_seg, free_slots, freed_nothing}
 use Rattle.script.specs.Pool.{Stack}

@@ -17,7 +17,8 @@ use Rattle.mbuf.specs.declared.acts.Reply.{Reply}
 use Rattle.mbuf.specs.declared.acts.Reply.TheVariants as reply
 use Rattle.mbuf.specs.declared.freed.Freed.{Freed}
 use Rattle.mbuf.specs.Acts.{attached as attached_reply, cloned as cloned_reply, freed as freed_reply, told_count}
-use Rattle.mbuf.specs.Members.{Member, hold_of, holds_of_packet, holds_of_seg}
+use Rattle.commons.specs.Packets.{hold_of, holds_of_packet, holds_of_seg}
+use Rattle.mbuf.specs.Members.{Member}
 use Rattle.mbuf.specs.PacketRules.{fresh_seg, free_slot, freed_nothing}
 use Rattle.mbuf.specs.Sharing.{Attaches, NotAttachable, HeldElsewhere, NotRaised, WasAttached, Detaches, NotDetachable, WasDetached, Clones, NotClonable, WasGivenUp, WasCloned, ClonesSeg, ClonesSegs, CountsOf, StopsCloning, NoElement, NoRaise, attached, buffer_of, clonable, first_seg}
 use Rattle.mbuf.proofs.ActLemmas.{clonable_free}

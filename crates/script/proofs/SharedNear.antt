@@ -9,7 +9,8 @@ use Rattle.commons.specs.declared.refusal.Refusal.{Refusal}
 use Rattle.commons.specs.declared.refusal.Refusal.TheVariants.{RefSpent}
 use Rattle.commons.proofs.Bags.{bag-nil, bag-append, bag-single, bag-of_one}
 use Rattle.commons.proofs.Places.{one-apart}
-use Rattle.mbuf.specs.Members.{Member, holds_of_packet, holds_of_seg, held_in}
+use Rattle.commons.specs.Packets.{holds_of_packet, holds_of_seg, held_in}
+use Rattle.mbuf.specs.Members.{Member}
 use Rattle.mbuf.specs.PacketRules.{fresh_seg, free_slot, freed_nothing}
 use Rattle.mbuf.specs.Sharing.{attached, buffer_of, clonable, detachable, pair_in}
 use Rattle.mbuf.proofs.ActLemmas.{clonable_free}

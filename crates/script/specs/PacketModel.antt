@@ -10,7 +10,8 @@ use Rattle.mbuf.specs.declared.acts.Reply.{Reply}
 use Rattle.mbuf.specs.declared.acts.Reply.TheVariants as reply
 use Rattle.mbuf.specs.Acts.{allocated_bulk, told_len, told_segs}
 use Rattle.mbuf.specs.Lengths.{pkt_len, appended, prepended, adjusted, trimmed}
-use Rattle.mbuf.specs.Members.{Member, holds_in_slot}
+use Rattle.commons.specs.Packets.{holds_in_slot}
+use Rattle.mbuf.specs.Members.{Member}
 use Rattle.mbuf.specs.PacketRules.{fresh_seg, free_slot, free_slots, stood, freed_nothing, of_packet}
 use Rattle.script.specs.Pool.{Stack, Pool, held_by, member_at, with_member}
 use Rattle.script.specs.CacheModel.{get, flush}

@@ -2,7 +2,8 @@
 use Rattle.std.specs.Prelude.{ℕ, zero, suc, ◌+◌, List, [], ◌∷◌, slice_index_or, slice_set, replicate, None, sum_by}
 use Rattle.std.specs.List.{range_with_len}
 use Rattle.commons.specs.declared.limits.Limits.{Limits}
-use Rattle.mbuf.specs.Members.{Member, slots, held_in}
+use Rattle.commons.specs.Packets.{held_in}
+use Rattle.mbuf.specs.Members.{Member, slots}
 
 -- the common list from the top, and the number of changes of the stack
 pub record Stack : Type 0 where

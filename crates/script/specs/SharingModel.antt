@@ -9,7 +9,8 @@ use Rattle.commons.specs.declared.refusal.Refusal.TheVariants.{InUse, NoEntries,
 use Rattle.mbuf.specs.declared.acts.Reply.{Reply}
 use Rattle.mbuf.specs.declared.acts.Reply.TheVariants as reply
 use Rattle.mbuf.specs.Acts.{told_count}
-use Rattle.mbuf.specs.Members.{Member, holds_of_packet}
+use Rattle.commons.specs.Packets.{holds_of_packet}
+use Rattle.mbuf.specs.Members.{Member}
 use Rattle.mbuf.specs.PacketRules.{free_slot, freed_nothing, fresh_seg, of_packet}
 use Rattle.mbuf.specs.Sharing.{attached, buffer_of, clonable, detachable, first_seg, pair_in}
 use Rattle.script.specs.Pool.{Stack}

@@ -9,7 +9,8 @@ use Rattle.script.specs.declared.statement.PlacedPacket.{PlacedPacket}
 use Rattle.script.specs.declared.statement.Held.{Held}
 use Rattle.script.specs.declared.statement.Holder.{Holder}
 use Rattle.script.specs.declared.statement.Holder.TheVariants.{Worker, Desk}
-use Rattle.mbuf.specs.Members.{Member, holds_of_packet, held_in}
+use Rattle.commons.specs.Packets.{holds_of_packet, held_in}
+use Rattle.mbuf.specs.Members.{Member}
 use Rattle.script.specs.Pool.{Pool, held_by}
 
 -- the packets of a worker's table, the first of its slots having this number

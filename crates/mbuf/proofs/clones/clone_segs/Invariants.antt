@@ -2,7 +2,7 @@ use Rattle.std.proofs.Common.{◌≡◌, ◌<◌, ◌+◌, [], ℕ, length, map,
 use Rattle.commons.specs.Bag.{bag}
 use Rattle.commons.specs.declared.packet.Seg.{Seg}
 use Rattle.mempool.specs.WorkerCache.{KeepsNumber}
-use Rattle.mbuf.specs.Members.{holds_of_packet}
+use Rattle.commons.specs.Packets.{holds_of_packet}
 use Rattle.mbuf.proofs.CloneLemmas.{ClonedSo}
 use Rattle.mbuf.proofs.clones.clone_segs.Given as goal
 

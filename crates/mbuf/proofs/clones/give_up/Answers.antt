@@ -1,7 +1,7 @@
 use Rattle.std.proofs.Common.{[], ◌∷◌, subst, arith}
 use Rattle.commons.specs.declared.limits.Limits.{Limits}
 use Rattle.commons.proofs.Bags.{bag-append, bag-single, one-same}
-use Rattle.mbuf.specs.Members.{hold_of, holds_of_packet}
+use Rattle.commons.specs.Packets.{hold_of, holds_of_packet}
 use Rattle.mbuf.specs.PacketRules.{freed_nothing}
 use Rattle.mbuf.proofs.EndLemmas.{Ended, one_ended, both_ended}
 use Rattle.mbuf.proofs.clones.give_up.Goals as goal

@@ -3,7 +3,7 @@ use Rattle.commons.specs.Bag.{bag}
 use Rattle.commons.specs.declared.limits.Limits.{Limits}
 use Rattle.commons.specs.declared.packet.Seg.{Seg}
 use Rattle.commons.proofs.Bags.{bag-nil, bag-append}
-use Rattle.mbuf.specs.Members.{holds_of_seg, holds_of_packet}
+use Rattle.commons.specs.Packets.{holds_of_seg, holds_of_packet}
 use Rattle.mbuf.specs.PacketRules.{freed_nothing}
 use Rattle.mbuf.proofs.EndLemmas.{Ended, both_ended, holds-suc, holds_so_far}
 use Rattle.mbuf.proofs.steps.end_segs.Goals as goal

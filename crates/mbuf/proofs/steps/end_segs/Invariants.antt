@@ -1,7 +1,7 @@
 use Rattle.std.proofs.Common.{◌≡◌, ℕ, ◌+◌, ◌*◌, ◌<◌, ◌≤◌, take}
 use Rattle.commons.specs.Bag.{bag}
 use Rattle.mempool.specs.WorkerCache.{KeepsNumber}
-use Rattle.mbuf.specs.Members.{holds_of_packet}
+use Rattle.commons.specs.Packets.{holds_of_packet}
 use Rattle.mbuf.specs.PacketRules.{freed_nothing}
 use Rattle.mbuf.proofs.EndLemmas.{Ended}
 use Rattle.mbuf.proofs.steps.end_segs.Given as goal

@@ -8,7 +8,8 @@ use Rattle.commons.specs.declared.packet.Seg.{Seg}
 use Rattle.commons.specs.declared.place.Place.TheVariants.{Common}
 use Rattle.commons.specs.Lists.{nowhere, in_hand}
 use Rattle.commons.proofs.Bags.{bag-nil}
-use Rattle.mbuf.specs.Members.{holds_in_slot, own_in_slot, held_in, own_in, slots}
+use Rattle.commons.specs.Packets.{holds_in_slot, own_in_slot, held_in, own_in}
+use Rattle.mbuf.specs.Members.{slots}
 use Rattle.mbuf.proofs.tests.begin.Goals as goal
 
 nothing_in_hand : (n w i : ℕ) → in_hand w (get_or (replicate n Common) i nowhere) ≡ 0

@@ -2,7 +2,8 @@ use Rattle.std.proofs.Common.{◌≡◌, ◌<◌, List, length, set, get_or, Opt
 use Rattle.commons.specs.Bag.{bag}
 use Rattle.commons.specs.declared.packet.Seg.{Seg}
 use Rattle.mbuf.specs.Kept.{member_of, shown}
-use Rattle.mbuf.specs.Members.{Member, holds_in_slot}
+use Rattle.commons.specs.Packets.{holds_in_slot}
+use Rattle.mbuf.specs.Members.{Member}
 use Rattle.mbuf.specs.Own.{Own}
 use Rattle.mbuf.specs.PacketRules.{WasFreed}
 use Rattle.mbuf.proofs.OwnLemmas.{held_in-slot, own_free}
