@@ -3,6 +3,7 @@ pub mod Bags
 pub mod Holds
 pub mod Leading
 pub mod Opening
+pub mod PacketBags
 pub mod Places
 pub mod Raising
 pub mod Single

@@ -9,7 +9,7 @@ use Rattle.commons.specs.declared.limits.Limits.{Limits}
 use Rattle.commons.specs.declared.place.Place.TheVariants.{Common}
 use Rattle.commons.specs.Bag.{bag}
 use Rattle.commons.specs.Bounds.{IsPool}
-use Rattle.commons.specs.Lists.{IsTable, opening, nowhere, is_owner}
+use Rattle.commons.specs.Lists.{IsTable, opening, nowhere, in_hand, is_owner}
 use Rattle.commons.proofs.Bags.{bag-nil, bag-cons, one-same}
 use Rattle.commons.proofs.Places.{apart_or_same, one-apart}
 
@@ -69,3 +69,18 @@ table_opening l p = record {
   headers_held = λ w i b h. absurd (omega (arith, nobody l.population w i));
   changed = p.start;
 }
+
+-- nothing is in a hand then, and nothing is held
+pub nothing_in_hand : (n w i : ℕ) → in_hand w (get_or (replicate n Common) i nowhere) ≡ 0
+nothing_in_hand n w i = elim (cases_lt i n) [
+  | inl b ↦ rw (get_or-replicate n i Common nowhere b) refl
+  | inr b ↦ rw (copies_past n Common nowhere i b) refl
+]
+
+pub nothing_held : (rows n k i : ℕ) → ◌≡◌ {A = ℕ} (get_or (get_or (replicate {A = List ℕ} rows (replicate n 0)) k []) i 0) 0
+nothing_held rows n k i =
+    let row : List ℕ = replicate n 0 in
+    elim (cases_lt k rows) [
+      | inl b ↦ rw (get_or-replicate {A = List ℕ} rows k row [] b) (zeros n i)
+      | inr b ↦ rw (copies_past {X = List ℕ} rows row [] k b) refl
+    ]

@@ -11,7 +11,7 @@ use Rattle.mbuf.specs.Kept.{shown, KeepsHolds}
 use Rattle.mbuf.specs.Lengths.{no_seg}
 use Rattle.commons.specs.Packets.{holds_of_seg, holds_of_packet}
 use Rattle.mbuf.specs.Members.{Member}
-use Rattle.mbuf.proofs.OwnLemmas.{held_in-set, own_in-set}
+use Rattle.commons.proofs.PacketBags.{held_in-set, own_in-set}
 use Rattle.mbuf.proofs.TableLemmas.{shown-free, shown-packet}
 
 -- one segment more stands behind the head's

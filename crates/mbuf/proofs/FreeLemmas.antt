@@ -15,7 +15,8 @@ use Rattle.commons.specs.Packets.{held_in, own_in}
 use Rattle.mbuf.specs.Members.{Member}
 use Rattle.mbuf.specs.Own.{Own}
 use Rattle.mbuf.specs.PacketRules.{fresh_seg, free_slot, free_from, free_slots, stood}
-use Rattle.mbuf.proofs.OwnLemmas.{held_in-set, own_in-set, free_slot-is}
+use Rattle.commons.proofs.PacketBags.{held_in-set, own_in-set}
+use Rattle.mbuf.proofs.OwnLemmas.{free_slot-is}
 
 -- as many slots are free as flags are up
 pub length-free : (slot : ℕ) (flags : List Bool) (packets : List (List Seg)) → length packets ≡ length flags → length (free_from slot (shown flags packets)) ≡ count_by (λ (free : Bool). free) flags

@@ -11,7 +11,7 @@ use Rattle.mbuf.specs.Members.{Member}
 use Rattle.mbuf.specs.Own.{Own}
 use Rattle.mbuf.specs.declared.lengths.Change.{Change}
 use Rattle.mbuf.specs.declared.lengths.Change.TheVariants.{Append, Prepend, Adj, Trim}
-use Rattle.mbuf.proofs.OwnLemmas.{held_in-set, own_in-set}
+use Rattle.commons.proofs.PacketBags.{held_in-set, own_in-set}
 
 -- two segments hold the same
 abbrev SameHolds : Seg → Seg → Type 0

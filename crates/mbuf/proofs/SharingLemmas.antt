@@ -13,7 +13,8 @@ use Rattle.mbuf.specs.Own.{Own}
 use Rattle.mbuf.specs.PacketRules.{fresh_seg, free_slot}
 use Rattle.mbuf.specs.Sharing.{attachable, attached, buffer_of, detachable, first_seg, if_alone, if_direct, if_indirect}
 use Rattle.mbuf.proofs.CloneLemmas.{buffer_held}
-use Rattle.mbuf.proofs.OwnLemmas.{held_in-set, held_in-slot, own_in-set, own_in-held, own_headed, free_slot-is, stands_within}
+use Rattle.commons.proofs.PacketBags.{held_in-set, held_in-slot, own_in-set, own_in-held, stands_within}
+use Rattle.mbuf.proofs.OwnLemmas.{own_headed, free_slot-is}
 
 -- ---- what is found
 

@@ -3,7 +3,6 @@ use Rattle.std.proofs.Common.{ℕ, zero, suc, ◌≡◌, ◌+◌, ◌-◌, ◌<�
 use Rattle.std.specs.Prelude.{min}
 use Rattle.std.specs.List.{range_with_len}
 use Rattle.std.proofs.lemmas.List.Sums.{sum_by-cons, get_or-le-sum_by}
-use Rattle.std.proofs.lemmas.List.Folds.{sum_by-replicate}
 use Rattle.std.proofs.lemmas.Bool.{cases_Bool, cases_lt, leb-true, ltb-false, eqb-false, and_parts}
 use Rattle.std.proofs.lemmas.Bool.Decides.{nat_tests}
 use Rattle.commons.specs.Bag.{bag, one}
@@ -30,7 +29,8 @@ use Rattle.script.specs.Replay.{Run, free_as, act_of, act_as, act_as_both, chain
 use Rattle.script.proofs.CacheBags.{IsGot, get-IsGot, flush-IsPut}
 use Rattle.mbuf.proofs.ChainLemmas.{KeepsHolds-chain}
 use Rattle.mbuf.proofs.FreeLemmas.{holds_stood}
-use Rattle.mbuf.proofs.OwnLemmas.{held_in-set, held_in-slot, free_slot-is, stands_within}
+use Rattle.commons.proofs.PacketBags.{held_in-empty, held_in-set, held_in-slot, stands_within}
+use Rattle.mbuf.proofs.OwnLemmas.{free_slot-is}
 use Rattle.mbuf.proofs.ResizeLemmas.{SamePacketHolds, appended_holds, prepended_holds, adjusted_holds, trimmed_holds}
 use Rattle.script.proofs.SharedNear.{attach_to-near, clone_at-near, detach_from-near}
 use Rattle.script.proofs.HeldBags.{add_holds, near, end_holds-bag, held_by-set, cached_by, cached_by-set, IsBalanced}
@@ -243,12 +243,6 @@ obey-balanced worker command.Flush run b = perform-balanced run.pool worker Flus
 pub end_of-balanced : (lines : List Line) (run : Run) → IsBalanced run.pool → IsBalanced (end_of lines run).pool
 end_of-balanced [] run b = b
 end_of-balanced (line ∷ lines) run b = end_of-balanced lines (obey line.worker line.command run).1 (obey-balanced line.worker line.command run b)
-
--- an empty table holds nothing
-held_in-empty : (n i : ℕ) → held_in (replicate n None) i ≡ 0
-held_in-empty n i =
-    let f = λ (slot : Option (List Seg)). bag (holds_in_slot slot) i in
-    sum_by-replicate f n None ∙ rw (bag-nil i) (omega arith)
 
 -- new members hold nothing
 held_by-new : (l : Limits) (number n i : ℕ) → held_by (new_members l number n) i ≡ 0

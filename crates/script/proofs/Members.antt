@@ -16,7 +16,7 @@ use Rattle.script.specs.Pool.{Stack, Pool, nobody, held_by}
 use Rattle.script.specs.PacketModel.{perform, without_packet}
 use Rattle.script.specs.Own.{stack_of, LeadsPlain, Owns, StepsAlone}
 use Rattle.script.proofs.Entries.{AreMembers, counts_are_holds}
-use Rattle.mbuf.proofs.OwnLemmas.{held_in-set, stands_within}
+use Rattle.commons.proofs.PacketBags.{held_in-set, stands_within}
 use Rattle.script.proofs.PacketCalls.{Elsewhere, performed_by}
 
 same_or_other : (i j : ℕ) → (j ≡ i) ⊎ (j ≢ i)

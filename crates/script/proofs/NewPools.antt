@@ -1,19 +1,14 @@
 -- A new pool: each of its workers has nothing, and owns its part of the lists.
-use Rattle.std.proofs.Common.{ℕ, zero, suc, ◌≡◌, ◌+◌, ◌-◌, ◌<◌, ◌≤◌, inl, inr, List, [], ◌∷◌, ◌++◌, add-one, length, get_or, replicate, Option, None, refl, sym, ◌∙◌, ap, arith, append_assoc}
-use Rattle.std.proofs.lemmas.List.{get_or_past, get_or-replicate, length-replicate}
-use Rattle.std.proofs.lemmas.List.Folds.{sum_by-replicate}
-use Rattle.std.proofs.lemmas.Bool.{cases_lt}
-use Rattle.commons.specs.Bag.{bag}
+use Rattle.std.proofs.Common.{ℕ, zero, suc, ◌≡◌, ◌+◌, ◌-◌, ◌<◌, ◌≤◌, List, [], ◌∷◌, ◌++◌, add-one, length, get_or, replicate, None, refl, sym, ◌∙◌, ap, arith, append_assoc}
 use Rattle.commons.specs.Bounds.{IsPool}
 use Rattle.commons.specs.declared.limits.Limits.{Limits}
-use Rattle.commons.specs.declared.packet.Seg.{Seg}
-use Rattle.commons.specs.declared.place.Place.TheVariants.{Common}
 use Rattle.commons.specs.declared.refusal.Refusal.{Refusal}
 use Rattle.commons.specs.declared.refusal.Refusal.TheVariants.{BadPool, OutOfMemory}
-use Rattle.commons.specs.Lists.{opening, nowhere, in_hand}
+use Rattle.commons.specs.Lists.{opening}
 use Rattle.commons.proofs.Bags.{bag-nil}
+use Rattle.commons.proofs.Opening.{nothing_held, nothing_in_hand}
+use Rattle.commons.proofs.PacketBags.{held_in-empty, own_in-empty}
 use Rattle.mempool.specs.WorkerCache.{IsWorkerCause}
-use Rattle.commons.specs.Packets.{held_in, holds_in_slot, own_in, own_in_slot}
 use Rattle.mbuf.specs.Members.{Member, slots}
 use Rattle.script.specs.Pool.{new_members, nobody}
 use Rattle.script.specs.SitePool.{IsMember}
@@ -49,31 +44,7 @@ only_memory l number BadPool p first last h = absurd (h p first last)
 only_memory l number OutOfMemory p first last h = refl
 only_memory l number _ p first last h = absurd h
 
--- nothing is in a new pool's hands, and nothing is held
-nothing_in_hand : (n w i : ℕ) → in_hand w (get_or (replicate n Common) i nowhere) ≡ 0
-nothing_in_hand n w i =
-    elim (cases_lt i n) [
-      | inl b ↦ rw (get_or-replicate n i Common nowhere b) refl
-      | inr b ↦ rw (get_or_past (replicate n Common) i nowhere (rw length-replicate b)) refl
-    ]
-
-zero_there : (n i : ℕ) → ◌≡◌ {A = ℕ} (get_or (replicate n 0) i 0) 0
-zero_there n i = elim (cases_lt i n) [ inl b ↦ get_or-replicate n i 0 0 b | inr b ↦ get_or_past (replicate n 0) i 0 (rw length-replicate b) ]
-
-nothing_held : (rows n k i : ℕ) → ◌≡◌ {A = ℕ} (get_or (get_or (replicate {A = List ℕ} rows (replicate n 0)) k []) i 0) 0
-nothing_held rows n k i =
-    let row : List ℕ = replicate n 0 in
-    elim (cases_lt k rows) [
-      | inl b ↦ rw (get_or-replicate {A = List ℕ} rows k row [] b) (zero_there n i)
-      | inr b ↦ rw (get_or_past (replicate rows row) k [] (rw length-replicate b)) refl
-    ]
-
-empty_slots : (n i : ℕ) → held_in (replicate n None) i ≡ 0
-empty_slots n i = sum_by-replicate (λ (slot : Option (List Seg)). bag (holds_in_slot slot) i) n None ∙ rw (bag-nil i) (omega arith)
-
-no_own : (n i : ℕ) → own_in (replicate n None) i ≡ 0
-no_own n i = sum_by-replicate (λ (slot : Option (List Seg)). bag (own_in_slot slot) i) n None ∙ rw (bag-nil i) (omega arith)
-
+-- each worker of a new pool owns its part of the lists
 pub new_member_owns : (l : Limits) (n : ℕ) → n < l.workers → IsMember (opening l) n (get_or (new_members l 1 l.workers) n (nobody l))
 new_member_owns l n b =
     let e : 1 + n ≡ n + 1 = omega arith in
@@ -86,8 +57,8 @@ new_member_owns l n b =
         share = record {
           limits = refl;
           cached = λ i. nothing_in_hand l.population (n + 1) i ∙ sym (bag-nil i);
-          held = λ i. nothing_held l.workers l.population (n + 1 - 1) i ∙ sym (empty_slots slots i);
-          headed = λ i. omega (arith, no_own slots i);
+          held = λ i. nothing_held l.workers l.population (n + 1 - 1) i ∙ sym (held_in-empty slots i);
+          headed = λ i. omega (arith, own_in-empty slots i);
         };
       };
     })

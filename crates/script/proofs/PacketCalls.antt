@@ -24,7 +24,8 @@ use Rattle.script.specs.PacketModel.{fill_slot, alloc_in, alloc, fill_slots, all
 use Rattle.script.specs.Own.{stack_of, LeadsPlain}
 use Rattle.script.proofs.CacheCalls.{got, was_flushed}
 use Rattle.script.proofs.EndedHolds.{ended}
-use Rattle.mbuf.proofs.OwnLemmas.{free_slot-is, stands_within}
+use Rattle.commons.proofs.PacketBags.{stands_within}
+use Rattle.mbuf.proofs.OwnLemmas.{free_slot-is}
 use Rattle.script.proofs.PlainCalls.{LeadsPlain-split}
 use Rattle.script.proofs.SharedBuffers.{AreHeld, attach_by, clone_by, count_by, detach_by, nothing}
 

@@ -15,7 +15,8 @@ use Rattle.mbuf.specs.PacketRules.{fresh_seg, free_slot, freed_nothing}
 use Rattle.mbuf.specs.Sharing.{attached, buffer_of, clonable, detachable, pair_in}
 use Rattle.mbuf.proofs.ActLemmas.{clonable_free}
 use Rattle.mbuf.proofs.CloneLemmas.{attached_holds, buffer_held, holds-more}
-use Rattle.mbuf.proofs.OwnLemmas.{held_in-set, free_slot-is, stands_within}
+use Rattle.commons.proofs.PacketBags.{held_in-set, stands_within}
+use Rattle.mbuf.proofs.OwnLemmas.{free_slot-is}
 use Rattle.mbuf.proofs.SharingLemmas.{found_base, found_pair, holds_alone}
 use Rattle.script.specs.Pool.{Stack}
 use Rattle.script.specs.CacheModel.{get}

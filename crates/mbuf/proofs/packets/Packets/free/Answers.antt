@@ -6,7 +6,8 @@ use Rattle.commons.specs.Packets.{holds_in_slot}
 use Rattle.mbuf.specs.Members.{Member}
 use Rattle.mbuf.specs.Own.{Own}
 use Rattle.mbuf.specs.PacketRules.{WasFreed}
-use Rattle.mbuf.proofs.OwnLemmas.{held_in-slot, own_free}
+use Rattle.commons.proofs.PacketBags.{held_in-slot}
+use Rattle.mbuf.proofs.OwnLemmas.{own_free}
 use Rattle.mbuf.proofs.TableLemmas.{stands, taken_slot, length-shown, shown-free, member_is}
 use Rattle.mbuf.proofs.packets.Packets.free.Goals as goal
 
