@@ -1,12 +1,14 @@
 -- What the calls' answers say: why each was refused, and what one that was met moved.
-use Rattle.std.proofs.Common.{length-take, add-one, ◌≡◌, ℕ, ◌+◌, ◌-◌, ◌<◌, ◌≤◌, List, [], ◌∷◌, ◌++◌, length, reverse, Result, Ok, Err, OnOk, refl, ap, arith}
+use Rattle.std.proofs.Common.{length-take, add-one, ◌≡◌, ◌≢◌, Option, Some, None, ℕ, ◌+◌, ◌-◌, ◌<◌, ◌≤◌, List, [], ◌∷◌, ◌++◌, length, reverse, Result, Ok, Err, OnOk, refl, sym, ap, arith}
 use Rattle.std.specs.List.{range_with_len}
 use Rattle.std.proofs.lemmas.List.{reverse-append}
+use Rattle.std.proofs.lemmas.Option.{none-some}
+use Rattle.commons.specs.declared.packet.Seg.{Seg}
 use Rattle.commons.specs.declared.refusal.Refusal.{Refusal}
-use Rattle.commons.specs.declared.refusal.Refusal.TheVariants.{NoEntries, Contended, HeadSpent}
+use Rattle.commons.specs.declared.refusal.Refusal.TheVariants.{NoEntries, Contended, HeadSpent, DeskTaken, DeskEmpty, NoSuchDesk}
 use Rattle.commons.specs.Bag.{bag}
-use Rattle.commons.specs.Calls.{Length, Head, GetList, PutList, HasCause, with_list}
-use Rattle.commons.specs.Lists.{Lists, IsTable, DidGet, DidPut, hand_of, read_by}
+use Rattle.commons.specs.Calls.{Length, Head, Desk, GetList, PutList, Offer, Take, HasCause, with_list}
+use Rattle.commons.specs.Lists.{Lists, IsTable, DidGet, DidPut, DidOffer, DidTake, hand_of, desk_of, desk_word, read_by}
 use Rattle.commons.proofs.Tables.{hand_get, hand_put}
 
 -- what a get read is the cause of its refusal
@@ -40,3 +42,25 @@ down_one xs count i l h =
     let a : count - (i + 1) ≡ count - 1 - i = omega arith in
     let b : count - 1 - i + 1 ≡ count - i = omega arith in
     rw (reverse-append, h, a, add-one) (rw b refl)
+
+-- a desk that isn't empty has another word than an empty one
+other_word : (x : Option (List Seg)) → x ≢ None → desk_word x ≢ 0
+other_word None h = λ e. h refl
+other_word (Some packet) h = λ e. absurd (omega (arith, e))
+
+-- what an offer, or a take, read is the cause of its answer
+pub cause_offer : (s : Lists) (w d : ℕ) (packet : List Seg) (r : Result (Unit {0}) Refusal) (t : Lists) → DidOffer w s d packet r t → HasCause s.limits (Offer d packet r) (read_by s (Offer d packet r))
+cause_offer s w d packet (Ok _) t h = (h.0, (0, omega arith, ap (λ (x : Option (List Seg)). Desk d (desk_word x)) h.1))
+cause_offer s w d packet (Err NoSuchDesk) t h = h.0
+cause_offer s w d packet (Err DeskTaken) t h = (h.0, (0, Desk d (desk_word (desk_of s d)), omega arith, refl, (refl, other_word (desk_of s d) h.1)))
+cause_offer s w d packet (Err _) t h = h
+
+empty_word : (x : Option (List Seg)) → x ≡ None → desk_word x ≢ 2
+empty_word None h = λ e. absurd (omega (arith, e))
+empty_word (Some packet) h = absurd (none-some packet (sym h))
+
+pub cause_take : (s : Lists) (w d : ℕ) (r : Result (List Seg) Refusal) (t : Lists) → DidTake w s d r t → HasCause s.limits (Take d r) (read_by s (Take d r))
+cause_take s w d (Ok packet) t h = (h.0, (0, omega arith, ap (λ (x : Option (List Seg)). Desk d (desk_word x)) h.1))
+cause_take s w d (Err NoSuchDesk) t h = h.0
+cause_take s w d (Err DeskEmpty) t h = (h.0, (0, Desk d (desk_word (desk_of s d)), omega arith, refl, (refl, empty_word (desk_of s d) h.1)))
+cause_take s w d (Err _) t h = h

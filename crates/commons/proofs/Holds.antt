@@ -3,7 +3,7 @@ use Rattle.std.proofs.Common.{ℕ, zero, suc, ◌≡◌, ◌≢◌, ◌+◌, ◌
 use Rattle.std.specs.Prelude.{sum_by}
 use Rattle.std.proofs.lemmas.List.Sums.{sum_by-set}
 use Rattle.std.proofs.lemmas.Bool.Decides.{nat_tests}
-use Rattle.commons.specs.Lists.{is_owner, disowned, owner_left}
+use Rattle.commons.specs.Lists.{is_owner, owners, disowned, owner_left}
 use Rattle.commons.proofs.Places.{apart_or_same}
 
 -- a row holds an element at most as often as all rows do
@@ -70,6 +70,16 @@ disowned-same w (Some u) = disown_same (u == w) w u (λ e. grind (arith, nat_tes
 pub owner_left-other : (v w left : ℕ) (owner : Option ℕ) → v ≢ w → is_owner v (owner_left w left owner) ≡ is_owner v owner
 owner_left-other v w zero owner h = disowned-other v w owner h
 owner_left-other v w (suc left) owner h = refl
+
+-- no owner comes
+disown_le : (b : Bool) (u : ℕ) → owners (cond b None (Some u)) ≤ 1
+disown_le true u = omega arith
+disown_le false u = omega arith
+
+pub owner_left-le : (w left : ℕ) (owner : Option ℕ) → owners (owner_left w left owner) ≤ owners owner
+owner_left-le w zero None = omega arith
+owner_left-le w zero (Some u) = disown_le (u == w) u
+owner_left-le w (suc left) owner = omega arith
 
 pub owner_is : (v w : ℕ) → 0 < is_owner v (Some w) → w ≡ v
 owner_is v w h = grind (arith, nat_tests)

@@ -1,5 +1,7 @@
 pub mod Answers
 pub mod Bags
+pub mod DeskTables
+pub mod EndedRows
 pub mod Holds
 pub mod Leading
 pub mod Opening

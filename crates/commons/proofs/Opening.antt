@@ -1,5 +1,5 @@
 -- A new pool's lists show a table.
-use Rattle.std.proofs.Common.{◌≡◌, ℕ, zero, suc, ◌+◌, ◌<◌, ◌≤◌, inl, inr, List, [], length, get_or, replicate, Option, None, refl, sym, ◌∙◌, arith}
+use Rattle.std.proofs.Common.{◌≡◌, ℕ, zero, suc, ◌+◌, ◌<◌, ◌≤◌, inl, inr, List, [], length, get_or, replicate, Option, None, refl, ◌∙◌, arith}
 use Rattle.std.specs.Prelude.{sum_by}
 use Rattle.std.specs.List.{range_with_len}
 use Rattle.std.proofs.lemmas.List.{get_or_past, get_or-replicate, length-replicate}
@@ -9,7 +9,9 @@ use Rattle.commons.specs.declared.limits.Limits.{Limits}
 use Rattle.commons.specs.declared.place.Place.TheVariants.{Common}
 use Rattle.commons.specs.Bag.{bag}
 use Rattle.commons.specs.Bounds.{IsPool}
-use Rattle.commons.specs.Lists.{IsTable, opening, nowhere, in_hand, is_owner}
+use Rattle.commons.specs.Lists.{IsTable, opening, nowhere, in_hand, is_owner, owners}
+use Rattle.commons.specs.declared.packet.Seg.{Seg}
+use Rattle.commons.proofs.PacketBags.{held_in-empty, own_in-empty}
 use Rattle.commons.proofs.Bags.{bag-nil, bag-cons, one-same}
 use Rattle.commons.proofs.Places.{apart_or_same, one-apart}
 
@@ -40,6 +42,9 @@ zeros n i = elim (cases_lt i n) [ inl l ↦ get_or-replicate n i 0 0 l | inr l �
 nobody : (n w i : ℕ) → is_owner w (get_or (replicate n None) i None) ≡ 0
 nobody n w i = elim (cases_lt i n) [ inl l ↦ rw (get_or-replicate {A = Option ℕ} n i None None l) refl | inr l ↦ rw (copies_past {X = Option ℕ} n None None i l) refl ]
 
+no_owner : (n i : ℕ) → owners (get_or (replicate n None) i None) ≡ 0
+no_owner n i = elim (cases_lt i n) [ inl l ↦ rw (get_or-replicate {A = Option ℕ} n i None None l) refl | inr l ↦ rw (copies_past {X = Option ℕ} n None None i l) refl ]
+
 length_of_rows : (rows n v : ℕ) → v < rows → length (get_or (replicate {A = List ℕ} rows (replicate n 0)) v []) ≡ n
 length_of_rows rows n v b = let zero_row : List ℕ = replicate n 0 in rw (get_or-replicate {A = List ℕ} rows v zero_row [] b) (length-replicate {A = ℕ} n 0)
 
@@ -58,8 +63,8 @@ table_opening l p = record {
   workers = length-replicate {A = List ℕ} l.workers (replicate l.population 0);
   rows = λ v b. length_of_rows l.workers l.population v b;
   counted = λ i. elim (cases_lt i l.population) [
-    | inl b ↦ rw (get_or-replicate l.population i Common nowhere b) (sym (none_held l.workers l.population i))
-    | inr b ↦ rw (copies_past l.population Common nowhere i b) (sym (none_held l.workers l.population i))
+    | inl b ↦ rw (get_or-replicate l.population i Common nowhere b) (omega (arith, none_held l.workers l.population i, held_in-empty l.desks i))
+    | inr b ↦ rw (copies_past l.population Common nowhere i b) (omega (arith, none_held l.workers l.population i, held_in-empty l.desks i))
   ];
   limited = λ i. elim (cases_lt i l.population) [
     | inl b ↦ rw (get_or-replicate l.population i Common nowhere b) (omega arith)
@@ -67,6 +72,8 @@ table_opening l p = record {
   ];
   header_places = length-replicate {A = Option ℕ} l.population None;
   headers_held = λ w i b h. absurd (omega (arith, nobody l.population w i));
+  headers_apart = λ i. omega (arith, no_owner l.population i, own_in-empty l.desks i);
+  desks = length-replicate {A = Option (List Seg)} l.desks None;
   changed = p.start;
 }
 

@@ -1,14 +1,16 @@
 -- What packets hold that stand in a table of slots, or on desks.
-use Rattle.std.proofs.Common.{◌≡◌, ℕ, ◌+◌, ◌<◌, ◌≤◌, List, [], ◌∷◌, length, get_or, set, map, replicate, Option, Some, None, sym, ◌∙◌, inl, inr, arith}
+use Rattle.std.proofs.Common.{◌≡◌, ℕ, zero, suc, All, ◌+◌, ◌<◌, ◌≤◌, List, [], ◌∷◌, ◌++◌, take, drop, ap, length, get_or, set, map, replicate, Option, Some, None, sym, ◌∙◌, inl, inr, arith}
 use Rattle.std.proofs.lemmas.Bool.{cases_lt}
-use Rattle.std.proofs.lemmas.List.{get_or_past}
+use Rattle.std.proofs.Math.Seq.{take-suc}
+use Rattle.std.proofs.lemmas.List.{get_or_past, append-nil, take-append-drop}
+use Rattle.std.proofs.lemmas.Grind.{flat_map-append}
 use Rattle.std.proofs.lemmas.List.Folds.{sum_by-replicate}
 use Rattle.std.proofs.lemmas.List.Sums.{sum_by-set, sum_by-cons, get_or-le-sum_by}
 use Rattle.std.proofs.lemmas.Option.{none-some}
 use Rattle.commons.specs.Bag.{bag}
-use Rattle.commons.specs.Packets.{hold_of, holds_of_seg, holds_of_packet, holds_in_slot, own_in_slot, held_in, own_in}
+use Rattle.commons.specs.Packets.{hold_of, holds_of_seg, holds_of_packet, own_of_packet, holds_in_slot, own_in_slot, held_in, own_in}
 use Rattle.commons.specs.declared.packet.Seg.{Seg}
-use Rattle.commons.proofs.Bags.{bag-nil, bag-cons, bag-append, bag-single}
+use Rattle.commons.proofs.Bags.{bag-nil, bag-cons, bag-head, bag-append, bag-single}
 
 -- a slot that has something is in the table
 pub stands_within : (table : List (Option (List Seg))) (slot : ℕ) (segs : List Seg) → get_or table slot None ≡ Some segs → slot < length table
@@ -31,7 +33,7 @@ pub held_in-slot : (table : List (Option (List Seg))) (k : ℕ) (i : ℕ) → k 
 held_in-slot table k i l = get_or-le-sum_by (λ (slot : Option (List Seg)). bag (holds_in_slot slot) i) table k None l
 
 -- a packet holds its own elements
-own_held : (segs : List Seg) (i : ℕ) → bag (map (λ seg. seg.elem) segs) i ≤ bag (holds_of_packet segs) i
+pub own_held : (segs : List Seg) (i : ℕ) → bag (own_of_packet segs) i ≤ bag (holds_of_packet segs) i
 own_held [] i = omega arith
 own_held (seg ∷ segs) i = omega (
   arith,
@@ -41,6 +43,15 @@ own_held (seg ∷ segs) i = omega (
   bag-append (hold_of seg.base) (seg.elem ∷ []) i,
   bag-single seg.elem i,
 )
+
+-- a segment's element is an own one of its packet
+own_at : (segs : List Seg) (k : ℕ) (d : Seg) → k < length segs → 0 < bag (own_of_packet segs) (get_or segs k d).elem
+own_at [] k d h = absurd (omega arith)
+own_at (seg ∷ segs) zero d h = bag-head seg.elem (own_of_packet segs)
+own_at (seg ∷ segs) (suc k) d h = omega (arith, bag-cons seg.elem (own_of_packet segs) (get_or segs k d).elem, own_at segs k d (omega arith))
+
+pub own_below : (n : ℕ) (segs : List Seg) → ((i : ℕ) → 0 < bag (own_of_packet segs) i → i < n) → All (λ seg. seg.elem < n) segs
+own_below n segs h k d l = h (get_or segs k d).elem (own_at segs k d l)
 
 own_held-slot : (slot : Option (List Seg)) (i : ℕ) → bag (own_in_slot slot) i ≤ bag (holds_in_slot slot) i
 own_held-slot None i = omega arith
@@ -55,6 +66,25 @@ own_in-held (slot ∷ table) i = omega (
   sum_by-cons (λ (s : Option (List Seg)). bag (own_in_slot s) i) slot table,
   sum_by-cons (λ (s : Option (List Seg)). bag (holds_in_slot s) i) slot table,
 )
+
+-- ---- the segments so far
+
+-- one segment more
+pub holds-suc : (segs : List Seg) (k : ℕ) (d : Seg) → k < length segs → holds_of_packet (take (k + 1) segs) ≡ holds_of_packet (take k segs) ++ holds_of_seg (get_or segs k d)
+holds-suc segs k d within =
+    let e : k + 1 ≡ suc k = omega arith in
+    ap (λ (n : ℕ). holds_of_packet (take n segs)) e ∙ ap holds_of_packet (take-suc segs k d within)
+    ∙ flat_map-append holds_of_seg (take k segs) (get_or segs k d ∷ []) ∙ ap (λ (es : List ℕ). holds_of_packet (take k segs) ++ es) (append-nil (holds_of_seg (get_or segs k d)))
+
+pub bag-holds_suc : (segs : List Seg) (k i : ℕ) (d : Seg) → k < length segs →
+    bag (holds_of_packet (take (k + 1) segs)) i ≡ bag (holds_of_packet (take k segs)) i + bag (holds_of_seg (get_or segs k d)) i
+bag-holds_suc segs k i d within = ap (λ (es : List ℕ). bag es i) (holds-suc segs k d within) ∙ bag-append (holds_of_packet (take k segs)) (holds_of_seg (get_or segs k d)) i
+
+-- the segments so far hold no more than all
+pub holds_so_far : (segs : List Seg) (k i : ℕ) → bag (holds_of_packet (take k segs)) i ≤ bag (holds_of_packet segs) i
+holds_so_far segs k i =
+    let whole = ap (λ (es : List ℕ). bag es i) (sym (flat_map-append holds_of_seg (take k segs) (drop k segs)) ∙ ap holds_of_packet (take-append-drop k segs)) in
+    omega (arith, whole, bag-append (holds_of_packet (take k segs)) (holds_of_packet (drop k segs)) i)
 
 -- where nothing stands, nothing is held
 pub held_in-empty : (n i : ℕ) → held_in (replicate n None) i ≡ 0

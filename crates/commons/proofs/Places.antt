@@ -25,19 +25,19 @@ one-is x i h = grind (arith, nat_tests)
 pub one-apart : (x i : ℕ) → i ≢ x → one x i ≡ 0
 one-apart x i h = grind (arith, nat_tests)
 
-pub length-placed : (xs : List ℕ) (p : Place) (places : List Place) → length (placed xs p places) ≡ length places
+pub length-placed : {A : Type 0} (xs : List ℕ) (p : A) (places : List A) → length (placed xs p places) ≡ length places
 length-placed [] p places = refl
 length-placed (x ∷ xs) p places = length-placed xs p (set places x p) ∙ length-set places x p
 
 -- an element that is not in the list keeps its place
-pub placed-out : (xs : List ℕ) (p d : Place) (places : List Place) (i : ℕ) → bag xs i ≡ 0 → get_or (placed xs p places) i d ≡ get_or places i d
+pub placed-out : {A : Type 0} (xs : List ℕ) (p d : A) (places : List A) (i : ℕ) → bag xs i ≡ 0 → get_or (placed xs p places) i d ≡ get_or places i d
 placed-out [] p d places i h = refl
 placed-out (x ∷ xs) p d places i h =
     let other : i ≢ x = one-other x i (omega (arith, bag-cons x xs i)) in
     placed-out xs p d (set places x p) i (omega (arith, bag-cons x xs i)) ∙ get_or-set_other places x i p d other
 
 -- one that is in the list has the new place
-pub placed-in : (xs : List ℕ) (p d : Place) (places : List Place) (i : ℕ) → 0 < bag xs i → i < length places → get_or (placed xs p places) i d ≡ p
+pub placed-in : {A : Type 0} (xs : List ℕ) (p d : A) (places : List A) (i : ℕ) → 0 < bag xs i → i < length places → get_or (placed xs p places) i d ≡ p
 placed-in [] p d places i h l = absurd (omega (arith, bag-nil i))
 placed-in (x ∷ xs) p d places i h l =
     elim (zero_or_more (bag xs i)) [

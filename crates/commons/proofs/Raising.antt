@@ -71,13 +71,15 @@ module _ (s : Lists) (w i : ℕ) (t : IsTable s) (l : 1 ≤ w) (b : w ≤ s.limi
     counted = λ j. elim (apart_or_same i j) [
       | inl e ↦ rw (e, get_or-set_same s.places i (Held (held_count (place_of s i) + 1)) nowhere in_places)
           (omega (arith, sum-there s.holds (w - 1) i (holds_of s w i + 1) row_ok.0 in_row, t.counted i))
-      | inr e ↦ rw (get_or-set_other s.places i j (Held (held_count (place_of s i) + 1)) nowhere e) (t.counted j ∙ sym (sum-elsewhere s.holds (w - 1) i (holds_of s w i + 1) j row_ok.0 e))
+      | inr e ↦ rw (get_or-set_other s.places i j (Held (held_count (place_of s i) + 1)) nowhere e) (omega (arith, t.counted j, sum-elsewhere s.holds (w - 1) i (holds_of s w i + 1) j row_ok.0 e))
     ];
     limited = λ j. elim (apart_or_same i j) [
       | inl e ↦ rw (e, get_or-set_same s.places i (Held (held_count (place_of s i) + 1)) nowhere in_places) (omega (arith, below))
       | inr e ↦ rw (get_or-set_other s.places i j (Held (held_count (place_of s i) + 1)) nowhere e) (t.limited j)
     ];
     header_places = t.header_places;
+    headers_apart = t.headers_apart;
+    desks = t.desks;
     headers_held = λ v j m o. omega (arith, t.headers_held v j m o, no_fewer v j m);
     changed = t.changed;
   }

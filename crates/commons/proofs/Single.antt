@@ -12,7 +12,7 @@ use Rattle.commons.specs.Calls.{back}
 use Rattle.commons.specs.Lists.{Lists, IsTable, KeepsOthers, WasLowered, nowhere, place_of, in_common, in_hand, held_count, weight, hand_of, holds_of, holds_of_all, header_of, is_owner, owner_left, after_claim, after_lower}
 use Rattle.commons.proofs.Bags.{one-same}
 use Rattle.commons.proofs.Places.{zero_or_more, apart_or_same, one-apart, in_hand-same, in_hand-other, is_hand, weight-hand, stands_in_hand, counted_in, held_only}
-use Rattle.commons.proofs.Holds.{hold_le, sum-elsewhere, sum-there, length-row, row-there, row-elsewhere, owner_left-other, disowned-same, owner-same, owner-other}
+use Rattle.commons.proofs.Holds.{hold_le, sum-elsewhere, sum-there, length-row, row-there, row-elsewhere, owner_left-other, owner_left-le, disowned-same, owner-same, owner-other}
 use Rattle.commons.proofs.Tables.{row_below, not_held, hold_elsewhere, hold_of_other}
 
 -- what a worker holds is in all holds
@@ -108,7 +108,7 @@ owner_gone : (w left : ℕ) (owner : Option ℕ) → 0 < is_owner w (owner_left 
 owner_gone w zero owner h = absurd (omega (arith, disowned-same w owner))
 owner_gone w (suc left) owner h = omega arith
 
-owner_kept : (w left : ℕ) (owner : Option ℕ) → is_owner w (owner_left w left owner) ≡ cond (nat_lt 0 left) (is_owner w owner) 0
+pub owner_kept : (w left : ℕ) (owner : Option ℕ) → is_owner w (owner_left w left owner) ≡ cond (nat_lt 0 left) (is_owner w owner) 0
 owner_kept w zero owner = disowned-same w owner
 owner_kept w (suc left) owner = let e : nat_lt 0 (suc left) ≡ true = grind (arith, nat_tests) in rw e refl
 
@@ -161,7 +161,7 @@ module _ (s : Lists) (w i : ℕ) (q : Place) (answer : Lowered) (t : IsTable s) 
     counted = λ j. elim (apart_or_same i j) [
       | inl e ↦ rw (e, get_or-set_same s.places i q nowhere in_places)
           (omega (arith, sum-there s.holds (w - 1) i (holds_of s w i - 1) row_ok.0 in_row, t.counted i, lowered_count w (place_of s i) q answer d, p))
-      | inr e ↦ rw (get_or-set_other s.places i j q nowhere e) (t.counted j ∙ sym (sum-elsewhere s.holds (w - 1) i (holds_of s w i - 1) j row_ok.0 e))
+      | inr e ↦ rw (get_or-set_other s.places i j q nowhere e) (omega (arith, t.counted j, sum-elsewhere s.holds (w - 1) i (holds_of s w i - 1) j row_ok.0 e))
     ];
     limited = λ j. elim (apart_or_same i j) [
       | inl e ↦ rw (e, get_or-set_same s.places i q nowhere in_places) (omega (arith, t.limited i, lowered_count w (place_of s i) q answer d))
@@ -183,6 +183,12 @@ module _ (s : Lists) (w i : ℕ) (q : Place) (answer : Lowered) (t : IsTable s) 
           let f = rw (get_or-set_other s.headers i j (owner_left w (holds_of s w i - 1) (get_or s.headers i None)) None e) at o in
           omega (arith, t.headers_held v j m f, hold_elsewhere s.holds w i (holds_of s w i - 1) v j row_ok.0 m e)
     ];
+    headers_apart = λ j. elim (apart_or_same i j) [
+      | inl e ↦ rw (e, get_or-set_same s.headers i (owner_left w (holds_of s w i - 1) (get_or s.headers i None)) None in_headers)
+          (omega (arith, owner_left-le w (holds_of s w i - 1) (get_or s.headers i None), t.headers_apart i))
+      | inr e ↦ rw (get_or-set_other s.headers i j (owner_left w (holds_of s w i - 1) (get_or s.headers i None)) None e) (t.headers_apart j)
+    ];
+    desks = t.desks;
     changed = t.changed;
   }
 

@@ -8,6 +8,8 @@ use Rattle.commons.specs.Bag.{bag}
 use Rattle.commons.specs.Calls.{spent}
 use Rattle.commons.specs.Lists.{Lists, IsTable, KeepsOthers, nowhere, place_of, in_common, in_hand, held_count, weight, hand_of, holds_of_all, placed, with_hold, after_get, after_put, after_claim}
 use Rattle.commons.specs.ListLaws.{in_hand-le, hand_below_lem}
+use Rattle.commons.specs.Packets.{held_in}
+use Rattle.commons.proofs.PacketBags.{own_in-held}
 use Rattle.commons.proofs.Bags.{bag-nil, bag-cons, bag-take-drop, bag-append, bag-reverse, bag-head, length-le}
 use Rattle.commons.proofs.Places.{zero_or_more, apart_or_same, length-placed, placed-out, placed-in, in_common-le, in_hand-same, in_hand-other, is_common, is_hand, weight-hand, stands_in_common, stands_in_hand}
 use Rattle.commons.proofs.Holds.{hold_le, sum-elsewhere, sum-there, length-row, row-there, row-elsewhere, row-other, owner_is}
@@ -60,6 +62,8 @@ table_moved s common places changes old new t len a b w c each = record {
   ];
   header_places = t.header_places;
   headers_held = t.headers_held;
+  headers_apart = t.headers_apart;
+  desks = t.desks;
   changed = c;
 }
 
@@ -194,7 +198,10 @@ row_below s w t l h = (omega (arith, t.workers), t.rows (w - 1) (omega arith))
 
 -- who is in a hand isn't held
 pub not_held : (s : Lists) (w i : ℕ) → IsTable s → 0 < hand_of s w i → holds_of_all s i ≡ 0
-not_held s w i t h = let k = rw (is_hand w (place_of s i) h) at (t.counted i) in sym k
+not_held s w i t h = let k = rw (is_hand w (place_of s i) h) at (t.counted i) in omega (arith, k)
+
+pub not_on_desk : (s : Lists) (w i : ℕ) → IsTable s → 0 < hand_of s w i → held_in s.desks i ≡ 0
+not_on_desk s w i t h = let k = rw (is_hand w (place_of s i) h) at (t.counted i) in omega (arith, k)
 
 not_common : (s : Lists) (w i : ℕ) → IsTable s → 0 < hand_of s w i → bag s.common i ≡ 0
 not_common s w i t h = omega (arith, t.shown i, apart w (place_of s i))
@@ -219,8 +226,8 @@ table_claim s w i t l h p =
       rows = λ v b. length-row s.holds (w - 1) i 1 v s.limits.population k.0 k.1 (t.rows v b);
       counted = λ j. elim (apart_or_same i j) [
         | inl e ↦ rw (e, get_or-set_same s.places i (Held 1) nowhere below)
-            (omega (arith, sum-there s.holds (w - 1) i 1 k.0 within, not_held s w i t p, hold_le s.holds (w - 1) i k.0))
-        | inr e ↦ rw (get_or-set_other s.places i j (Held 1) nowhere e) (t.counted j ∙ sym (sum-elsewhere s.holds (w - 1) i 1 j k.0 e))
+            (omega (arith, sum-there s.holds (w - 1) i 1 k.0 within, not_held s w i t p, not_on_desk s w i t p, hold_le s.holds (w - 1) i k.0))
+        | inr e ↦ rw (get_or-set_other s.places i j (Held 1) nowhere e) (omega (arith, t.counted j, sum-elsewhere s.holds (w - 1) i 1 j k.0 e))
       ];
       limited = λ j. elim (apart_or_same i j) [
         | inl e ↦ rw (e, get_or-set_same s.places i (Held 1) nowhere below) t.pool.refs_low
@@ -235,6 +242,11 @@ table_claim s w i t l h p =
             let f = rw (get_or-set_other s.headers i j (Some w) None e) at q in
             omega (arith, t.headers_held v j b f, hold_elsewhere s.holds w i 1 v j k.0 b e)
       ];
+      headers_apart = λ j. elim (apart_or_same i j) [
+        | inl e ↦ rw (e, get_or-set_same s.headers i (Some w) None heads) (omega (arith, own_in-held s.desks i, not_on_desk s w i t p))
+        | inr e ↦ rw (get_or-set_other s.headers i j (Some w) None e) (t.headers_apart j)
+      ];
+      desks = t.desks;
       changed = t.changed;
     }
 

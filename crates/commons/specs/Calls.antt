@@ -1,9 +1,10 @@
 -- The calls of a shared pool, what each read, and what of it is the cause of its answer.
-use Rattle.std.specs.Prelude.{ℕ, ◌≡◌, ◌<◌, ◌≤◌, List, [], ◌∷◌, length, Bool, true, false, count_by, map, Any, Contains, Result, Ok, Err}
+use Rattle.std.specs.Prelude.{ℕ, ◌≡◌, ◌≢◌, ◌<◌, ◌≤◌, List, [], ◌∷◌, length, Bool, true, false, count_by, map, Any, Contains, Result, Ok, Err}
 use Rattle.commons.specs.Bag.{one}
 use Rattle.commons.specs.declared.limits.Limits.{Limits}
+use Rattle.commons.specs.declared.packet.Seg.{Seg}
 use Rattle.commons.specs.declared.refusal.Refusal.{Refusal}
-use Rattle.commons.specs.declared.refusal.Refusal.TheVariants.{NoEntries, Contended, HeadSpent, RefSpent}
+use Rattle.commons.specs.declared.refusal.Refusal.TheVariants.{NoEntries, Contended, HeadSpent, RefSpent, DeskTaken, DeskEmpty, NoSuchDesk}
 use Rattle.commons.specs.declared.refusal.Lowered.{Lowered}
 use Rattle.commons.specs.declared.refusal.Lowered.TheVariants.{Last, Still}
 
@@ -24,12 +25,19 @@ pub data Call : Type 0 where
   CountOf : (element answer : ℕ) → Call
   Raise : (element : ℕ) (answer : Result (Unit {0}) Refusal) → Call
   Lower : (element : ℕ) (answer : Lowered) → Call
+  Offer : (desk : ℕ) (packet : List Seg) (answer : Result (Unit {0}) Refusal) → Call
+  Take : (desk : ℕ) (answer : Result (List Seg) Refusal) → Call
   CommonCount : (answer : ℕ) → Call
 
 -- a call's answer with the list that it gave
 abbrev pub with_list : Result (Unit {0}) Refusal → List ℕ → Result (List ℕ) Refusal
 with_list (Ok _) xs = Ok xs
 with_list (Err e) xs = Err e
+
+-- an offer's answer without the packet that comes back with a refusal
+abbrev pub without_packet : Result (Unit {0}) (Refusal × List Seg) → Result (Unit {0}) Refusal
+without_packet (Ok met) = Ok met
+without_packet (Err e) = Err e.0
 
 -- the modification count at which the head is spent, the greatest of 48 bits
 abbrev pub spent : ℕ
@@ -59,6 +67,14 @@ IsCountBelow i limit (Count j value) = (j ≡ i) × (value < limit)
 IsCountBelow i limit (Desk _ _) = ⊥
 IsCountBelow i limit Lost = ⊥
 
+-- a word of the desk other than this one was read
+abbrev pub IsDeskOther : ℕ → ℕ → Reading → Type 0
+IsDeskOther d word (Length _) = ⊥
+IsDeskOther d word (Head _) = ⊥
+IsDeskOther d word (Count _ _) = ⊥
+IsDeskOther d word (Desk e value) = (e ≡ d) × (value ≢ word)
+IsDeskOther d word Lost = ⊥
+
 abbrev pub is_lost : Reading → Bool
 is_lost (Length _) = false
 is_lost (Head _) = false
@@ -85,6 +101,24 @@ IsRaiseCause l i Contended rs = l.tries ≤ count_by is_lost rs
 IsRaiseCause l i RefSpent rs = Contains rs (Count i l.ref_limit)
 IsRaiseCause l i _ rs = ⊥
 
+-- the words of a desk that is empty, and of one that has a packet
+abbrev pub desk_empty : ℕ
+desk_empty = 0
+
+abbrev pub desk_full : ℕ
+desk_full = 2
+
+-- the pool's desks, or what was read, are a cause to refuse an offer, or a take
+abbrev pub IsOfferCause : Limits → ℕ → Refusal → List Reading → Type 0
+IsOfferCause l d NoSuchDesk rs = l.desks ≤ d
+IsOfferCause l d DeskTaken rs = (d < l.desks) × Any (IsDeskOther d desk_empty) rs
+IsOfferCause l d _ rs = ⊥
+
+abbrev pub IsTakeCause : Limits → ℕ → Refusal → List Reading → Type 0
+IsTakeCause l d NoSuchDesk rs = l.desks ≤ d
+IsTakeCause l d DeskEmpty rs = (d < l.desks) × Any (IsDeskOther d desk_full) rs
+IsTakeCause l d _ rs = ⊥
+
 -- What was read is a cause of the call's answer. A get that was met gives as many as were asked for; of the
 -- other answers with Unit nothing is asked.
 abbrev pub HasCause : Limits → Call → List Reading → Type 0
@@ -98,6 +132,10 @@ HasCause l (Raise i (Ok _)) rs = Any (IsCountBelow i l.ref_limit) rs
 HasCause l (Raise i (Err e)) rs = IsRaiseCause l i e rs
 HasCause l (Lower i Last) rs = Contains rs (Count i 1)
 HasCause l (Lower i Still) rs = Any (IsCountAboveOne i) rs
+HasCause l (Offer d p (Ok _)) rs = (d < l.desks) × Contains rs (Desk d desk_empty)
+HasCause l (Offer d p (Err e)) rs = IsOfferCause l d e rs
+HasCause l (Take d (Ok p)) rs = (d < l.desks) × Contains rs (Desk d desk_full)
+HasCause l (Take d (Err e)) rs = IsTakeCause l d e rs
 HasCause l (CommonCount n) rs = Contains rs (Length n)
 
 -- the shared pool did this call, and what it read is a cause of its answer

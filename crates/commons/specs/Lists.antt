@@ -1,25 +1,28 @@
 -- The shared pool as lists: what a contract sees of a `PlainSite`, and what each call does to it.
-use Rattle.std.specs.Prelude.{ℕ, zero, suc, ◌≡◌, ◌≢◌, ◌+◌, ◌-◌, ◌<◌, ◌≤◌, ◌==◌, cond, if◌then◌else◌, List, [], ◌∷◌, ◌++◌, length, take, drop, reverse, replicate, slice_index, slice_index_or, slice_set, Result, Ok, Err, Option, Some, None, sum_by}
+use Rattle.std.specs.Prelude.{ℕ, zero, suc, ◌≡◌, ◌≢◌, nat_lt, ◌+◌, ◌-◌, ◌<◌, ◌≤◌, ◌==◌, cond, if◌then◌else◌, List, [], ◌∷◌, ◌++◌, length, take, drop, reverse, replicate, slice_index, slice_index_or, slice_set, Result, Ok, Err, Option, Some, None, sum_by}
 use Rattle.std.specs.List.{range_with_len}
 use Rattle.commons.specs.declared.limits.Limits.{Limits}
+use Rattle.commons.specs.declared.packet.Seg.{Seg}
 use Rattle.commons.specs.declared.place.Place.{Place}
 use Rattle.commons.specs.declared.place.Place.TheVariants.{Common, Hand, Held}
 use Rattle.commons.specs.declared.refusal.Refusal.{Refusal}
-use Rattle.commons.specs.declared.refusal.Refusal.TheVariants.{BadPool, OutOfMemory, NoEntries, HeadSpent, RefSpent}
+use Rattle.commons.specs.declared.refusal.Refusal.TheVariants.{BadPool, OutOfMemory, NoEntries, HeadSpent, RefSpent, DeskTaken, DeskEmpty, NoSuchDesk}
 use Rattle.commons.specs.declared.refusal.Lowered.{Lowered}
 use Rattle.commons.specs.declared.refusal.Lowered.TheVariants.{Last, Still}
 use Rattle.commons.specs.Bag.{bag}
 use Rattle.commons.specs.Bounds.{IsPool}
-use Rattle.commons.specs.Calls.{Reading, Length, Head, Count, Call, GetList, PutList, CommonCount, Claim, CountOf, Raise, Lower, spent}
+use Rattle.commons.specs.Calls.{Reading, Length, Head, Count, Desk, Call, GetList, PutList, CommonCount, Claim, CountOf, Raise, Lower, Offer, Take, spent, desk_empty, desk_full}
+use Rattle.commons.specs.Packets.{held_in, own_in, holds_of_packet, own_of_packet}
 
 -- the common list from the top; the place of each element; for each worker how often it holds each element;
--- for each element the worker whose header it is; the number of changes of the stack
+-- for each element the worker whose header it is; what is on each desk; the number of changes of the stack
 pub record Lists : Type 0 where
   pub limits : Limits
   pub common : List ℕ
   pub places : List Place
   pub holds : List (List ℕ)
   pub headers : List (Option ℕ)
+  pub desks : List (Option (List Seg))
   pub changes : ℕ
 
 -- the place that no element of the pool has
@@ -72,9 +75,19 @@ is_owner w (Some v) = cond (v == w) 1 0
 abbrev pub header_of : Lists → ℕ → ℕ → ℕ
 header_of s w i = is_owner w (slice_index_or s.headers i None)
 
+-- how many workers' header it is
+abbrev pub owners : Option ℕ → ℕ
+owners None = 0
+owners (Some v) = 1
+
+-- what is on a desk
+abbrev pub desk_of : Lists → ℕ → Option (List Seg)
+desk_of s d = slice_index_or s.desks d None
+
 -- Each element has one place, and the lists show it: it stands in the common list once where that is its place
--- and else not at all, it is in the hand that its place names, and its count is the number of its holds, at most
--- the reference limit.
+-- and else not at all, it is in the hand that its place names, and its count is the number of its holds, by the
+-- workers and by the packets on desks, at most the reference limit. What is a worker's header is held by that worker
+-- and is nobody else's header and no own element of a packet on a desk; those are distinct.
 pub record IsTable (s : Lists) : Type 0 where
   pub pool : IsPool s.limits
   pub elements : length s.places ≡ s.limits.population
@@ -82,10 +95,12 @@ pub record IsTable (s : Lists) : Type 0 where
   pub somewhere : (i : ℕ) → i < s.limits.population → 0 < weight s.limits.workers (place_of s i)
   pub workers : length s.holds ≡ s.limits.workers
   pub rows : (v : ℕ) → v < s.limits.workers → length (slice_index_or s.holds v []) ≡ s.limits.population
-  pub counted : (i : ℕ) → held_count (place_of s i) ≡ holds_of_all s i
+  pub counted : (i : ℕ) → held_count (place_of s i) ≡ holds_of_all s i + held_in s.desks i
   pub limited : (i : ℕ) → held_count (place_of s i) ≤ s.limits.ref_limit
   pub header_places : length s.headers ≡ s.limits.population
   pub headers_held : (w i : ℕ) → 1 ≤ w → 0 < header_of s w i → 0 < holds_of s w i
+  pub headers_apart : (i : ℕ) → owners (slice_index_or s.headers i None) + own_in s.desks i ≤ 1
+  pub desks : length s.desks ≡ s.limits.desks
   pub changed : s.changes ≤ spent
 
 -- the lists of a new pool: all elements in the common list, from 0 at the top
@@ -96,6 +111,7 @@ opening l = record {
   places = replicate l.population Common;
   holds = replicate l.workers (replicate l.population 0);
   headers = replicate l.population None;
+  desks = replicate l.desks None;
   changes = l.start_count;
 }
 
@@ -105,8 +121,8 @@ IsMakeCause l BadPool = ¬ (IsPool l)
 IsMakeCause l OutOfMemory = IsPool l
 IsMakeCause l _ = ⊥
 
--- the places once each element of the list has this one
-abbrev pub placed : List ℕ → Place → List Place → List Place
+-- a list, one for each element, once this stands at each of these elements
+abbrev pub placed : {A : Type 0} → List ℕ → A → List A → List A
 placed [] p places = places
 placed (x ∷ xs) p places = placed xs p (slice_set places x p)
 
@@ -174,6 +190,33 @@ DidRaise w s i (Ok _) t = (held_count (place_of s i) < s.limits.ref_limit) × (t
 DidRaise w s i (Err RefSpent) t = (held_count (place_of s i) ≡ s.limits.ref_limit) × (t ≡ s)
 DidRaise w s i (Err _) t = ⊥
 
+-- worker w has a packet more in the second lists: its holds, and its own elements as headers
+pub record HasMore (w : ℕ) (packet : List Seg) (s t : Lists) : Type 0 where
+  pub holds : (i : ℕ) → holds_of t w i ≡ holds_of s w i + bag (holds_of_packet packet) i
+  pub headers : (i : ℕ) → header_of t w i ≡ header_of s w i + bag (own_of_packet packet) i
+
+-- Worker w has a packet less in the second lists: its holds are gone, and its own elements are headers no more; nor
+-- is what the worker then doesn't hold.
+pub record HasLess (w : ℕ) (packet : List Seg) (s t : Lists) : Type 0 where
+  pub holds : (i : ℕ) → holds_of s w i ≡ holds_of t w i + bag (holds_of_packet packet) i
+  pub headers : (i : ℕ) → header_of t w i ≡ (if nat_lt 0 (holds_of t w i) then header_of s w i - bag (own_of_packet packet) i else 0)
+
+-- this is on the desk afterwards; holds and headers may differ, and nothing else does
+abbrev pub IsPassed : ℕ → Option (List Seg) → Lists → Lists → Type 0
+IsPassed d packet s t = t ≡ record s { holds = t.holds; headers = t.headers; desks = slice_set s.desks d packet }
+
+abbrev pub DidOffer : ℕ → Lists → ℕ → List Seg → Result (Unit {0}) Refusal → Lists → Type 0
+DidOffer w s d packet (Ok _) t = (d < s.limits.desks) × (desk_of s d ≡ None) × IsPassed d (Some packet) s t × HasLess w packet s t
+DidOffer w s d packet (Err NoSuchDesk) t = (s.limits.desks ≤ d) × (t ≡ s)
+DidOffer w s d packet (Err DeskTaken) t = (d < s.limits.desks) × (desk_of s d ≢ None) × (t ≡ s)
+DidOffer w s d packet (Err _) t = ⊥
+
+abbrev pub DidTake : ℕ → Lists → ℕ → Result (List Seg) Refusal → Lists → Type 0
+DidTake w s d (Ok packet) t = (d < s.limits.desks) × (desk_of s d ≡ Some packet) × IsPassed d None s t × HasMore w packet s t
+DidTake w s d (Err NoSuchDesk) t = (s.limits.desks ≤ d) × (t ≡ s)
+DidTake w s d (Err DeskEmpty) t = (d < s.limits.desks) × (desk_of s d ≡ None) × (t ≡ s)
+DidTake w s d (Err _) t = ⊥
+
 -- a worker's call on the lists
 abbrev pub DidPlain : ℕ → Lists → Call → Lists → Type 0
 DidPlain w s (GetList n answer) t = DidGet w s n answer t
@@ -182,9 +225,16 @@ DidPlain w s (Claim i) t = (0 < hand_of s w i) × (t ≡ after_claim w i s)
 DidPlain w s (CountOf i n) t = (n ≡ held_count (place_of s i)) × (t ≡ s)
 DidPlain w s (Raise i answer) t = DidRaise w s i answer t
 DidPlain w s (Lower i answer) t = DidLower w s i answer t
+DidPlain w s (Offer d packet answer) t = DidOffer w s d packet answer t
+DidPlain w s (Take d answer) t = DidTake w s d answer t
 DidPlain w s (CommonCount n) t = (n ≡ length s.common) × (t ≡ s)
 
--- what a call on the lists reads
+-- the word of a desk on the lists
+abbrev pub desk_word : Option (List Seg) → ℕ
+desk_word None = desk_empty
+desk_word (Some packet) = desk_full
+
+-- what a call on the lists reads; a desk that isn't there has no word
 abbrev pub read_by : Lists → Call → List Reading
 read_by s (GetList n (Err NoEntries)) = Length (length s.common) ∷ []
 read_by s (GetList n _) = Length (length s.common) ∷ Head s.changes ∷ []
@@ -193,6 +243,10 @@ read_by s (Claim i) = []
 read_by s (CountOf i _) = Count i (held_count (place_of s i)) ∷ []
 read_by s (Raise i _) = Count i (held_count (place_of s i)) ∷ []
 read_by s (Lower i _) = Count i (held_count (place_of s i)) ∷ []
+read_by s (Offer d packet (Err NoSuchDesk)) = []
+read_by s (Offer d packet _) = Desk d (desk_word (desk_of s d)) ∷ []
+read_by s (Take d (Err NoSuchDesk)) = []
+read_by s (Take d _) = Desk d (desk_word (desk_of s d)) ∷ []
 read_by s (CommonCount n) = Length (length s.common) ∷ []
 
 -- what the other workers have is as before

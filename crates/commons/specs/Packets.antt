@@ -26,6 +26,10 @@ holds_of_seg seg = hold_of seg.base ++ seg.elem ∷ []
 abbrev pub holds_of_packet : List Seg → List ℕ
 holds_of_packet segs = flat_map holds_of_seg segs
 
+-- the own elements of a packet
+abbrev pub own_of_packet : List Seg → List ℕ
+own_of_packet segs = map (λ seg. seg.elem) segs
+
 -- the holds of what is in a slot
 abbrev pub holds_in_slot : Option (List Seg) → List ℕ
 holds_in_slot None = []
@@ -34,7 +38,7 @@ holds_in_slot (Some segs) = holds_of_packet segs
 -- the own elements of what is in a slot
 abbrev pub own_in_slot : Option (List Seg) → List ℕ
 own_in_slot None = []
-own_in_slot (Some segs) = map (λ seg. seg.elem) segs
+own_in_slot (Some segs) = own_of_packet segs
 
 -- how often the packets of a table, of slots or of desks, hold an element
 abbrev pub held_in : List (Option (List Seg)) → ℕ → ℕ

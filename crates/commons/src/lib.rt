@@ -3,6 +3,7 @@
 
 pub mod limits;
 pub mod packet;
+mod passing;
 pub mod place;
 pub mod plain;
 pub mod refusal;

@@ -1,8 +1,9 @@
 ghost use Rattle.std.specs.Prelude.{◌≡◌, ◌<◌, ◌≤◌, ◌+◌, ℕ, List, length};
 ghost use Rattle.commons.specs.Bag.{bag, one};
-ghost use Rattle.commons.specs.Calls.{Reading, Call, GetList, PutList, Claim, CountOf, Raise, Lower, CommonCount, with_list, Did};
+ghost use Rattle.commons.specs.Calls.{Reading, Call, GetList, PutList, Claim, CountOf, Raise, Lower, Offer, Take, CommonCount, with_list, Did};
 ghost use Rattle.commons.specs.Lists.{Lists, IsTable, hand_of, holds_of, header_of, DidOnLists};
 
+use crate::packet::Packet;
 use crate::refusal::{Lowered, Refusal};
 use crate::shared::Commons;
 use crate::site::PlainSite;
@@ -64,6 +65,14 @@ impl<'a> Commons for PlainCommons<'a> {
 
     fn lower(&mut self, element: u32) -> Lowered {
         self.site.lower(self.worker, element)
+    }
+
+    fn offer(&mut self, desk: u32, packet: Packet) -> Result<(), (Refusal, Packet)> {
+        self.site.offer(self.worker, desk, packet)
+    }
+
+    fn take(&mut self, desk: u32) -> Result<Packet, Refusal> {
+        self.site.take(self.worker, desk)
     }
 
     fn common_count(&mut self) -> u32 {

@@ -1,8 +1,10 @@
-ghost use Rattle.std.specs.Prelude.{◌≡◌, ◌<◌, ◌≤◌, ◌+◌, ℕ, List, length, OnOk, OnErr, nat_lt, if◌then◌else◌};
+ghost use Rattle.std.specs.Prelude.{◌≡◌, ◌<◌, ◌≤◌, ◌+◌, ◌-◌, ℕ, List, length, IfOk, IfErr, OnOk, OnErr, nat_lt, if◌then◌else◌};
 ghost use Rattle.commons.specs.Bag.{bag, one};
-ghost use Rattle.commons.specs.Calls.{Reading, Call, GetList, PutList, Claim, CountOf, Raise, Lower, CommonCount, with_list, Did, back};
+ghost use Rattle.commons.specs.Calls.{Reading, Call, GetList, PutList, Claim, CountOf, Raise, Lower, Offer, Take, CommonCount, with_list, without_packet, Did, back};
+ghost use Rattle.commons.specs.Packets.{holds_of_packet, own_of_packet};
 ghost use Rattle.commons.specs.declared.limits.Limits.{Limits};
 
+use crate::packet::Packet;
 use crate::refusal::{Lowered, Refusal};
 
 /// What a worker of a packet pool shares with others, the common stack, with its own side of it:
@@ -112,6 +114,45 @@ pub trait Commons {
         ensures holds { (i : ℕ) → holds self.old i ≡ holds self.new i + one element i }
         // A header is one until the worker's last hold of it ends.
         ensures headers { (i : ℕ) → headers self.new i ≡ (if nat_lt 0 (holds self.new i) then headers self.old i else 0) }
+        ensures limits { limits self.new ≡ limits self.old };
+
+    /// Leaves a packet on a desk, of which the pool has `desks`, numbered from 0. The worker holds all that
+    /// the packet holds, and its own elements are distinct headers of the worker; both are gone
+    /// afterwards.
+    ///
+    /// Refused `NoSuchDesk` exactly where the pool has no such desk, and `DeskTaken` where a desk word
+    /// other than 0, that of an empty desk, was read. The packet comes back then, and hand, holds and headers are as before.
+    ///
+    /// Desks are our own; DPDK passes mbufs between lcores over an `rte_ring`.
+    fn offer(&mut self, desk: u32, packet: Packet) -> Result<(), (Refusal, Packet)>
+        requires held { (i : ℕ) → bag (holds_of_packet packet) i ≤ holds self.old i }
+        requires own { (i : ℕ) → bag (own_of_packet packet) i ≤ headers self.old i }
+        ensures did { Did did limits self.old (Offer desk packet (without_packet result)) self.new }
+        ensures kept { IfErr result (λ refused. refused.1 ≡ packet) }
+        ensures hand { hand self.new ≡ hand self.old }
+        ensures holds { OnOk result ((i : ℕ) → holds self.old i ≡ holds self.new i + bag (holds_of_packet packet) i) }
+        ensures holds_err { OnErr result (holds self.new ≡ holds self.old) }
+        // A header of another packet is gone too where this packet had the worker's last hold of it.
+        ensures headers { OnOk result ((i : ℕ) → headers self.new i ≡ (if nat_lt 0 (holds self.new i) then headers self.old i - bag (own_of_packet packet) i else 0)) }
+        ensures headers_err { OnErr result (headers self.new ≡ headers self.old) }
+        ensures limits { limits self.new ≡ limits self.old };
+
+    /// Takes the packet off a desk, of which the pool has `desks`, numbered from 0. The worker then holds all that
+    /// the packet holds; its own elements, which are distinct and were no headers of the worker,
+    /// are headers of the worker.
+    ///
+    /// Refused `NoSuchDesk` exactly where the pool has no such desk, and `DeskEmpty` where a desk word
+    /// other than 2, that of a full desk, was read. Hand, holds and headers are then as before.
+    ///
+    /// Desks are our own; DPDK passes mbufs between lcores over an `rte_ring`.
+    fn take(&mut self, desk: u32) -> Result<Packet, Refusal>
+        ensures did { Did did limits self.old (Take desk result) self.new }
+        ensures hand { hand self.new ≡ hand self.old }
+        ensures holds { IfOk result (λ packet. (i : ℕ) → holds self.new i ≡ holds self.old i + bag (holds_of_packet packet) i) }
+        ensures holds_err { OnErr result (holds self.new ≡ holds self.old) }
+        ensures headers { IfOk result (λ packet. (i : ℕ) → headers self.new i ≡ headers self.old i + bag (own_of_packet packet) i) }
+        ensures apart { IfOk result (λ packet. (i : ℕ) → headers self.old i + bag (own_of_packet packet) i ≤ 1) }
+        ensures headers_err { OnErr result (headers self.new ≡ headers self.old) }
         ensures limits { limits self.new ≡ limits self.old };
 
     /// The number of elements on the common stack, as read at one moment of the call.

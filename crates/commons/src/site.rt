@@ -4,11 +4,14 @@ ghost use Rattle.commons.specs.Bounds.{IsPool};
 ghost use Rattle.commons.specs.Lists.{placed, place_of, owner_left, held_count, WasLowered, opening, IsTable};
 
 use crate::limits::Limits;
+use crate::packet::Packet;
+use crate::passing::{add_holds, end_holds, owner_left, set_owner};
 use crate::place::Place;
 use crate::refusal::{Lowered, Refusal};
 use crate::seq::Seq;
 use std::alloc::{AllocError, Global};
 use std::marker::Model;
+use std::mem;
 
 /// The modification count at which the head is spent: the greatest of 48 bits.
 pub const SPENT: u64 = 281_474_976_710_655;
@@ -21,6 +24,7 @@ pub struct PlainSite {
     places: Vec<Place>,
     holds: Vec<Seq<u32>>,
     headers: Vec<Option<u32>>,
+    desks: Vec<Option<Packet>>,
     changes: u64,
 }
 
@@ -39,8 +43,9 @@ impl Model for PlainSite {
 impl PlainSite {
     ghost use Rattle.std.specs.Prelude.{◌≡◌, ◌<◌, ◌≤◌, ℕ, length, reverse, IfOk, IfErr};
     ghost use Rattle.commons.specs.Bag.{bag};
-    ghost use Rattle.commons.specs.Calls.{with_list};
-    ghost use Rattle.commons.specs.Lists.{DidGet, DidPut, DidRaise, DidLower, IsTable, KeepsOthers, hand_of, holds_of, after_claim, opening, IsMakeCause};
+    ghost use Rattle.commons.specs.Calls.{with_list, without_packet};
+    ghost use Rattle.commons.specs.Lists.{DidGet, DidPut, DidRaise, DidLower, DidOffer, DidTake, IsTable, KeepsOthers, hand_of, holds_of, header_of, after_claim, opening, IsMakeCause};
+    ghost use Rattle.commons.specs.Packets.{holds_of_packet, own_of_packet};
 
     /// A new pool: all elements in the common list, element 0 on top.
     ///
@@ -213,6 +218,74 @@ impl PlainSite {
         self.headers[i] = owner_left(self.headers[i], worker, left);
         answer
     }
+
+    /// What is on each desk.
+    pub fn desks(&self) -> &[Option<Packet>]
+        ensures desks { result.now ≡ self.now.desks }
+        ensures table { IsTable self.now }
+    {
+        self.desks.as_slice()
+    }
+
+    /// Leaves a worker's packet on a desk, with all its holds.
+    ///
+    /// Refused `NoSuchDesk` where the pool has no such desk, else `DeskTaken` where a packet is there.
+    /// Nothing changes then, and the packet comes back.
+    pub(crate) fn offer(
+        &mut self,
+        worker: u32,
+        desk: u32,
+        packet: Packet,
+    ) -> Result<(), (Refusal, Packet)>
+        requires low { 1 ≤ worker }
+        requires high { worker ≤ self.old.limits.workers }
+        requires held { (i : ℕ) → bag (holds_of_packet packet) i ≤ holds_of self.old worker i }
+        requires own { (i : ℕ) → bag (own_of_packet packet) i ≤ header_of self.old worker i }
+        ensures did { DidOffer worker self.old desk packet (without_packet result) self.new }
+        ensures back { IfErr result (λ refused. refused.1 ≡ packet) }
+        ensures table { IsTable self.old }
+        ensures kept { IsTable self.new }
+        ensures others { KeepsOthers worker self.old self.new }
+    {
+        let desk = desk as usize;
+        if desk >= self.desks.len() {
+            return Err((Refusal::NoSuchDesk, packet));
+        }
+        if self.desks[desk].is_some() {
+            return Err((Refusal::DeskTaken, packet));
+        }
+        let row = &mut self.holds[worker as usize - 1];
+        end_holds(row, &mut self.headers, worker, packet.segs());
+        set_owner(&mut self.headers, packet.segs(), None);
+        self.desks[desk] = Some(packet);
+        Ok(())
+    }
+
+    /// Takes the packet off a desk, with all its holds.
+    ///
+    /// Refused `NoSuchDesk` where the pool has no such desk, else `DeskEmpty` where no packet is there.
+    /// Nothing changes then.
+    pub(crate) fn take(&mut self, worker: u32, desk: u32) -> Result<Packet, Refusal>
+        requires low { 1 ≤ worker }
+        requires high { worker ≤ self.old.limits.workers }
+        ensures did { DidTake worker self.old desk result self.new }
+        ensures table { IsTable self.old }
+        ensures kept { IsTable self.new }
+        ensures others { KeepsOthers worker self.old self.new }
+    {
+        let desk = desk as usize;
+        if desk >= self.desks.len() {
+            return Err(Refusal::NoSuchDesk);
+        }
+        match mem::take(&mut self.desks[desk]) {
+            None => Err(Refusal::DeskEmpty),
+            Some(packet) => {
+                add_holds(&mut self.holds[worker as usize - 1], packet.segs());
+                set_owner(&mut self.headers, packet.segs(), Some(worker));
+                Ok(packet)
+            }
+        }
+    }
 }
 
 /// A pool within these limits, or a refusal of memory.
@@ -226,12 +299,14 @@ fn opened(alloc: Global, limits: &Limits) -> Result<PlainSite, AllocError>
     let places = copies(alloc, Place::Common, population)?;
     let holds = no_holds(alloc, limits.workers as usize, population)?;
     let headers = copies(alloc, None, population)?;
+    let desks = no_packets(alloc, limits.desks as usize)?;
     Ok(PlainSite {
         limits: *limits,
         common,
         places,
         holds,
         headers,
+        desks,
         changes: limits.start_count,
     })
 }
@@ -268,6 +343,17 @@ fn no_holds(alloc: Global, workers: usize, population: usize) -> Result<Vec<Seq<
         rows.push(Seq::new(copies(alloc, 0u32, population)?))?;
     }
     Ok(rows)
+}
+
+/// So many desks with no packet.
+fn no_packets(alloc: Global, desks: usize) -> Result<Vec<Option<Packet>>, AllocError>
+    ensures { IfOk result (λ packets. packets.items ≡ replicate desks None) }
+{
+    let mut packets = Vec::with_capacity(alloc, desks)?;
+    for _ in 0..desks {
+        packets.push(None)?;
+    }
+    Ok(packets)
 }
 
 /// Takes the last elements, last first.
@@ -332,15 +418,5 @@ fn lowered(place: Place, worker: u32) -> (Place, Lowered)
     match place {
         Place::Held(count) if count > 1 => (Place::Held(count - 1), Lowered::Still),
         _ => (Place::Hand(worker), Lowered::Last),
-    }
-}
-
-/// A header's owner once a worker has so many holds of it left.
-fn owner_left(owner: Option<u32>, worker: u32, left: u32) -> Option<u32>
-    ensures { result ≡ owner_left worker left owner }
-{
-    match owner {
-        Some(number) if left == 0 && number == worker => None,
-        other => other,
     }
 }

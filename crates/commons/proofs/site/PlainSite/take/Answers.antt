@@ -1,0 +1,99 @@
+use Rattle.std.proofs.Common.{◌≡◌, ◌-◌, ◌<◌, ◌≤◌, [], List, length, get_or, Option, Some, None, ◌∙◌, sym, refl, arith, ℕ}
+use Rattle.std.proofs.lemmas.List.{get_or_default}
+use Rattle.commons.specs.Lists.{Lists, IsTable, desk_of}
+use Rattle.commons.specs.Site.{lists_of}
+use Rattle.commons.specs.declared.packet.Seg.{Seg}
+use Rattle.commons.proofs.Tables.{row_below}
+use Rattle.commons.proofs.DeskTables.{held_on_desk, few_taken, own_on_desk, table_taken, others_taken, more_taken}
+use Rattle.commons.proofs.site.PlainSite.take.Goals as goal
+
+-- what is needed of the lists, as they are kept
+record Taken (s : Lists) (w d : ℕ) (packet : List Seg) : Type 0 where
+  high : w ≤ s.limits.workers
+  row : w - 1 < length s.holds
+  size : length (get_or s.holds (w - 1) []) ≡ s.limits.population
+  full : desk_of s d ≡ Some packet
+
+taken_in : (s v : Lists) (w d : ℕ) (packet : List Seg) (found : Option (List Seg)) → s ≡ v → IsTable s → 1 ≤ w → w ≤ v.limits.workers → d < length s.desks → found ≡ get_or s.desks d found → found ≡ Some packet →
+    Taken s w d packet
+taken_in s v w d packet found e t l b here at some =
+    let b' = rw (sym e) at b in record {
+      high = b';
+      row = (row_below s w t l b').0;
+      size = (row_below s w t l b').1;
+      full = get_or_default s.desks d None found here ∙ sym at ∙ some;
+    }
+
+pub add_holds-requires-clause-below : goal.add_holds-requires-clause-below
+add_holds-requires-clause-below c =
+    let s : Lists = lists_of c.self.inside in
+    let t : IsTable s = c.self.invariant.table in
+    let here : c.args.desk < length s.desks = omega (arith, c.if-desk-len.false, c.len.ensures, c.self.inside.desks.ok) in
+    let h = taken_in s c.args.self.now c.args.worker c.args.desk c.in-Some.packet c.index_mut.result.now c.self.view_is t c.requires.low c.requires.high here c.index_mut.ensures.value (sym c.take.ensures.value ∙ c.in-Some.is) in
+    let row = c.index_mut-in-Some.ensures.value ∙ get_or_default s.holds (c.args.worker - 1) c.index_mut-in-Some.result.now [] h.row in
+    rw (row, c.segs.ensures.segs) (λ i p. omega (arith, held_on_desk s c.args.desk c.in-Some.packet t here h.full i p, h.size))
+
+pub add_holds-requires-clause-few : goal.add_holds-requires-clause-few
+add_holds-requires-clause-few c =
+    let s : Lists = lists_of c.self.inside in
+    let t : IsTable s = c.self.invariant.table in
+    let here : c.args.desk < length s.desks = omega (arith, c.if-desk-len.false, c.len.ensures, c.self.inside.desks.ok) in
+    let h = taken_in s c.args.self.now c.args.worker c.args.desk c.in-Some.packet c.index_mut.result.now c.self.view_is t c.requires.low c.requires.high here c.index_mut.ensures.value (sym c.take.ensures.value ∙ c.in-Some.is) in
+    let row = c.index_mut-in-Some.ensures.value ∙ get_or_default s.holds (c.args.worker - 1) c.index_mut-in-Some.result.now [] h.row in
+    rw (row, c.segs.ensures.segs) (λ i. omega (arith, few_taken s c.args.worker c.args.desk c.in-Some.packet t c.requires.low h.high here h.full i, t.limited i, t.pool.refs))
+
+pub set_owner-requires : goal.set_owner-requires
+set_owner-requires c =
+    let s : Lists = lists_of c.self.inside in
+    let t : IsTable s = c.self.invariant.table in
+    let here : c.args.desk < length s.desks = omega (arith, c.if-desk-len.false, c.len.ensures, c.self.inside.desks.ok) in
+    let h = taken_in s c.args.self.now c.args.worker c.args.desk c.in-Some.packet c.index_mut.result.now c.self.view_is t c.requires.low c.requires.high here c.index_mut.ensures.value (sym c.take.ensures.value ∙ c.in-Some.is) in
+    let row = c.index_mut-in-Some.ensures.value ∙ get_or_default s.holds (c.args.worker - 1) c.index_mut-in-Some.result.now [] h.row in
+    rw c.segs-in-Some.ensures.segs (λ k d l. omega (arith, own_on_desk s c.args.desk c.in-Some.packet t here h.full k d l, c.self.inside.headers.ok))
+
+pub invariant_of-self-in-Some : goal.invariant_of-self-in-Some
+invariant_of-self-in-Some c =
+    let s : Lists = lists_of c.self.inside in
+    let t : IsTable s = c.self.invariant.table in
+    let here : c.args.desk < length s.desks = omega (arith, c.if-desk-len.false, c.len.ensures, c.self.inside.desks.ok) in
+    let h = taken_in s c.args.self.now c.args.worker c.args.desk c.in-Some.packet c.index_mut.result.now c.self.view_is t c.requires.low c.requires.high here c.index_mut.ensures.value (sym c.take.ensures.value ∙ c.in-Some.is) in
+    let row = c.index_mut-in-Some.ensures.value ∙ get_or_default s.holds (c.args.worker - 1) c.index_mut-in-Some.result.now [] h.row in
+    let sum = rw (row, c.segs.ensures.segs) at c.add_holds.ensures.holds in
+    let len = rw row at c.add_holds.ensures.len in
+    record {
+      table = rw (c.take.ensures.after, c.set_owner.ensures.items, c.segs-in-Some.ensures.segs) (table_taken s c.args.worker c.args.desk c.in-Some.packet c.add_holds.new.row t c.requires.low h.high sum len here h.full);
+      room = c.self.invariant.room;
+    }
+
+pub returns-in-Some-clause-did : goal.returns-in-Some-clause-did
+returns-in-Some-clause-did c =
+    let s : Lists = lists_of c.self.inside in
+    let t : IsTable s = c.self.invariant.table in
+    let here : c.args.desk < length s.desks = omega (arith, c.if-desk-len.false, c.len.ensures, c.self.inside.desks.ok) in
+    let h = taken_in s c.args.self.now c.args.worker c.args.desk c.in-Some.packet c.index_mut.result.now c.self.view_is t c.requires.low c.requires.high here c.index_mut.ensures.value (sym c.take.ensures.value ∙ c.in-Some.is) in
+    let row = c.index_mut-in-Some.ensures.value ∙ get_or_default s.holds (c.args.worker - 1) c.index_mut-in-Some.result.now [] h.row in
+    let sum = rw (row, c.segs.ensures.segs) at c.add_holds.ensures.holds in
+    let len = rw row at c.add_holds.ensures.len in
+    rw (sym c.self.view_is, c.take.ensures.after, c.set_owner.ensures.items, c.segs-in-Some.ensures.segs) (omega (arith, here, t.desks), h.full, refl, more_taken s c.args.worker c.args.desk c.in-Some.packet c.add_holds.new.row t c.requires.low h.high sum len here h.full)
+
+pub returns-in-Some-clause-kept : goal.returns-in-Some-clause-kept
+returns-in-Some-clause-kept c =
+    let s : Lists = lists_of c.self.inside in
+    let t : IsTable s = c.self.invariant.table in
+    let here : c.args.desk < length s.desks = omega (arith, c.if-desk-len.false, c.len.ensures, c.self.inside.desks.ok) in
+    let h = taken_in s c.args.self.now c.args.worker c.args.desk c.in-Some.packet c.index_mut.result.now c.self.view_is t c.requires.low c.requires.high here c.index_mut.ensures.value (sym c.take.ensures.value ∙ c.in-Some.is) in
+    let row = c.index_mut-in-Some.ensures.value ∙ get_or_default s.holds (c.args.worker - 1) c.index_mut-in-Some.result.now [] h.row in
+    let sum = rw (row, c.segs.ensures.segs) at c.add_holds.ensures.holds in
+    let len = rw row at c.add_holds.ensures.len in
+    rw (c.take.ensures.after, c.set_owner.ensures.items, c.segs-in-Some.ensures.segs) (table_taken s c.args.worker c.args.desk c.in-Some.packet c.add_holds.new.row t c.requires.low h.high sum len here h.full)
+
+pub returns-in-Some-clause-others : goal.returns-in-Some-clause-others
+returns-in-Some-clause-others c =
+    let s : Lists = lists_of c.self.inside in
+    let t : IsTable s = c.self.invariant.table in
+    let here : c.args.desk < length s.desks = omega (arith, c.if-desk-len.false, c.len.ensures, c.self.inside.desks.ok) in
+    let h = taken_in s c.args.self.now c.args.worker c.args.desk c.in-Some.packet c.index_mut.result.now c.self.view_is t c.requires.low c.requires.high here c.index_mut.ensures.value (sym c.take.ensures.value ∙ c.in-Some.is) in
+    let row = c.index_mut-in-Some.ensures.value ∙ get_or_default s.holds (c.args.worker - 1) c.index_mut-in-Some.result.now [] h.row in
+    let sum = rw (row, c.segs.ensures.segs) at c.add_holds.ensures.holds in
+    let len = rw row at c.add_holds.ensures.len in
+    rw (sym c.self.view_is, c.take.ensures.after, c.set_owner.ensures.items, c.segs-in-Some.ensures.segs) (others_taken s c.args.worker c.args.desk c.in-Some.packet c.add_holds.new.row t c.requires.low h.high sum len here h.full)
