@@ -32,6 +32,9 @@ own_in-set table k new i l = sum_by-set (λ (slot : Option (List Seg)). bag (own
 pub held_in-slot : (table : List (Option (List Seg))) (k : ℕ) (i : ℕ) → k < length table → bag (holds_in_slot (get_or table k None)) i ≤ held_in table i
 held_in-slot table k i l = get_or-le-sum_by (λ (slot : Option (List Seg)). bag (holds_in_slot slot) i) table k None l
 
+pub own_in-slot : (table : List (Option (List Seg))) (k : ℕ) (i : ℕ) → k < length table → bag (own_in_slot (get_or table k None)) i ≤ own_in table i
+own_in-slot table k i l = get_or-le-sum_by (λ (slot : Option (List Seg)). bag (own_in_slot slot) i) table k None l
+
 -- a packet holds its own elements
 pub own_held : (segs : List Seg) (i : ℕ) → bag (own_of_packet segs) i ≤ bag (holds_of_packet segs) i
 own_held [] i = omega arith

@@ -8,6 +8,7 @@ use Rattle.commons.specs.declared.packet.Seg.{Seg}
 use Rattle.commons.specs.declared.refusal.Refusal.{Refusal}
 use Rattle.mbuf.specs.Members.{Member}
 use Rattle.mbuf.specs.PacketRules.{Allocs, Full, NotGot, Fresh, AllocsBulk, TooFull, BulkNotGot, FreshBulk, fresh_seg, free_slot, free_slots}
+use Rattle.mbuf.specs.Desks.{Takes, NoDesk, NoSlot, NotTaken, WasTaken}
 use Rattle.mbuf.specs.Sharing.{Clones, NotClonable, WasGivenUp, WasCloned, clonable}
 use Rattle.mbuf.proofs.FreeLemmas.{stood_there}
 use Rattle.mbuf.proofs.OwnLemmas.{free_slot-is}
@@ -54,3 +55,12 @@ cloned_there m after p calls slot (WasCloned segs s f new left g a k) =
     let same : slot ≡ s = cc in
     some_there (get_or after.table slot None) new
     (ap (λ (x : Member). get_or x.table slot None) k ∙ rw same (get_or-set_same m.table s (Some new) None (free_slot-is m.table s (clonable_free (get_or m.table p None) (free_slot m.table) segs s f)).0))
+
+-- a packet that was taken is there
+pub taken_there : (m after : Member) (desk : ℕ) (calls : List Call) (slot : ℕ) → Takes m desk calls (Ok slot) after → IsSome (get_or after.table slot None)
+taken_there m after desk calls slot (NoDesk h c a k) = absurd cc
+taken_there m after desk calls slot (NoSlot h f c a k) = absurd cc
+taken_there m after desk calls slot (NotTaken h s f cause c a k) = absurd cc
+taken_there m after desk calls slot (WasTaken h s f segs c a k) =
+    let same : slot ≡ s = cc in
+    some_there (get_or after.table slot None) segs (ap (λ (x : Member). get_or x.table slot None) k ∙ rw same (get_or-set_same m.table s (Some segs) None (free_slot-is m.table s f).0))

@@ -1,15 +1,9 @@
 -- Holds that end one after another.
-use Rattle.std.proofs.Common.{◌≡◌, ℕ, ◌+◌, ◌<◌, ◌≤◌, suc, List, [], ◌∷◌, ◌++◌, length, take, drop, get_or, refl, sym, ap, ◌∙◌, subst, append_assoc, arith}
-use Rattle.std.proofs.Math.Seq.{take-suc}
-use Rattle.std.proofs.lemmas.List.{append-nil, take-append-drop}
-use Rattle.std.proofs.lemmas.Grind.{flat_map-append}
-use Rattle.commons.specs.Bag.{bag}
+use Rattle.std.proofs.Common.{ℕ, List, [], ◌∷◌, ◌++◌, refl, sym, ap, ◌∙◌, subst, append_assoc}
+use Rattle.std.proofs.lemmas.List.{append-nil}
 use Rattle.commons.specs.declared.limits.Limits.{Limits}
-use Rattle.commons.specs.declared.packet.Seg.{Seg}
 use Rattle.commons.specs.Calls.{Reading, Call, Made, calls_of, Leads}
-use Rattle.commons.proofs.Bags.{bag-append}
 use Rattle.commons.proofs.Leading.{calls_of-append, Leads-append}
-use Rattle.commons.specs.Packets.{holds_of_seg, holds_of_packet}
 use Rattle.mbuf.specs.PacketRules.{EndsHold, EndsHolds}
 use Rattle.mbuf.specs.declared.freed.Freed.{Freed}
 
@@ -41,18 +35,3 @@ both_ended did limits s t u l es fs cache freed between so_far left done h k = (
   subst (λ (calls : List Call). EndsHolds l (es ++ fs) cache freed calls left done) (sym (calls_of-append h.0 k.0))
       (EndsHolds-append l es fs cache freed (calls_of h.0) between so_far (calls_of k.0) left done h.2 k.2),
 )
-
--- ---- the segments so far
-
--- one segment more
-pub holds-suc : (segs : List Seg) (k : ℕ) (d : Seg) → k < length segs → holds_of_packet (take (k + 1) segs) ≡ holds_of_packet (take k segs) ++ holds_of_seg (get_or segs k d)
-holds-suc segs k d within =
-    let e : k + 1 ≡ suc k = omega arith in
-    ap (λ (n : ℕ). holds_of_packet (take n segs)) e ∙ ap holds_of_packet (take-suc segs k d within)
-    ∙ flat_map-append holds_of_seg (take k segs) (get_or segs k d ∷ []) ∙ ap (λ (es : List ℕ). holds_of_packet (take k segs) ++ es) (append-nil (holds_of_seg (get_or segs k d)))
-
--- the segments so far hold no more than all
-pub holds_so_far : (segs : List Seg) (k i : ℕ) → bag (holds_of_packet (take k segs)) i ≤ bag (holds_of_packet segs) i
-holds_so_far segs k i =
-    let whole = ap (λ (es : List ℕ). bag es i) (sym (flat_map-append holds_of_seg (take k segs) (drop k segs)) ∙ ap holds_of_packet (take-append-drop k segs)) in
-    omega (arith, whole, bag-append (holds_of_packet (take k segs)) (holds_of_packet (drop k segs)) i)

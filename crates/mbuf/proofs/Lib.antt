@@ -2,6 +2,7 @@ pub mod ActLemmas
 pub mod BitLemmas
 pub mod ChainLemmas
 pub mod CloneLemmas
+pub mod DeskLemmas
 pub mod EndLemmas
 pub mod FreeLemmas
 pub mod ListLemmas

@@ -2,7 +2,7 @@
 use Rattle.std.proofs.Common.{◌≡◌, ℕ, zero, suc, ◌+◌, ◌<◌, ◌≤◌, Bool, true, false, List, [], ◌∷◌, length, get_or, set, replicate, Option, Some, None, refl, sym, ap, ◌∙◌, subst, arith}
 use Rattle.std.specs.Prelude.{is_none, position, IsSome}
 use Rattle.std.specs.List.{position_or_len}
-use Rattle.std.proofs.lemmas.List.{get_or_past, get_or_default}
+use Rattle.std.proofs.lemmas.List.{get_or_past, get_or_default, set-get_or}
 use Rattle.commons.specs.declared.limits.Limits.{Limits}
 use Rattle.commons.specs.declared.packet.Seg.{Seg}
 use Rattle.mbuf.specs.Members.{Member}
@@ -36,14 +36,18 @@ shown-set (other ∷ flags) (packet ∷ packets) zero free segs within e = refl
 shown-set (other ∷ flags) (packet ∷ packets) (suc k) free segs within e =
     ap (λ (t : List (Option (List Seg))). unless_free other packet ∷ t) (shown-set flags packets k free segs (omega (arith, within)) (omega (arith, e)))
 
--- a slot that is given back
+-- a slot that is given back, whatever is kept in it
+pub shown-emptied : (flags : List Bool) (packets : List (List Seg)) (k : ℕ) (segs : List Seg) → length packets ≡ length flags →
+    shown (set flags k true) (set packets k segs) ≡ set (shown flags packets) k None
+shown-emptied [] packets k segs e = refl
+shown-emptied (other ∷ flags) [] k segs e = absurd (omega (arith, e))
+shown-emptied (other ∷ flags) (packet ∷ packets) zero segs e = refl
+shown-emptied (other ∷ flags) (packet ∷ packets) (suc k) segs e =
+    ap (λ (t : List (Option (List Seg))). unless_free other packet ∷ t) (shown-emptied flags packets k segs (omega (arith, e)))
+
 pub shown-free : (flags : List Bool) (packets : List (List Seg)) (k : ℕ) → length packets ≡ length flags →
     shown (set flags k true) packets ≡ set (shown flags packets) k None
-shown-free [] packets k e = refl
-shown-free (other ∷ flags) [] k e = absurd (omega (arith, e))
-shown-free (other ∷ flags) (packet ∷ packets) zero e = refl
-shown-free (other ∷ flags) (packet ∷ packets) (suc k) e =
-    ap (λ (t : List (Option (List Seg))). unless_free other packet ∷ t) (shown-free flags packets k (omega (arith, e)))
+shown-free flags packets k e = ap (λ (p : List (List Seg)). shown (set flags k true) p) (sym (set-get_or packets k [])) ∙ shown-emptied flags packets k (get_or packets k []) e
 
 -- a packet that changes in its slot
 pub shown-packet : (flags : List Bool) (packets : List (List Seg)) (k : ℕ) (segs : List Seg) → k < length flags → length packets ≡ length flags → IsSome (get_or (shown flags packets) k None) →

@@ -10,6 +10,7 @@ use Rattle.mbuf.specs.Lengths.{no_seg, pkt_len, appended, prepended, adjusted, t
 use Rattle.commons.specs.Packets.{own_in_slot}
 use Rattle.mbuf.specs.Members.{Member}
 use Rattle.mbuf.specs.PacketRules.{Allocs, AllocsBulk, Frees, Resizes, Chains, of_packet}
+use Rattle.mbuf.specs.Desks.{Offers, Takes}
 use Rattle.mbuf.specs.Sharing.{Attaches, Clones, CountsOf, Detaches}
 use Rattle.mbuf.specs.declared.acts.Act.{Act}
 use Rattle.mbuf.specs.declared.acts.Act.TheVariants as act
@@ -68,6 +69,20 @@ abbrev pub cloned : Result ℕ Refusal → List (Option (List Seg)) → Reply
 cloned (Ok slot) table = reply.Cloned slot (record { items = own_in_slot (slice_index_or table slot None) })
 cloned (Err cause) table = reply.Refused cause
 
+abbrev pub offered : Result (Unit {0}) Refusal → Reply
+offered (Ok _) = reply.Offered
+offered (Err cause) = reply.Refused cause
+
+-- how many segments the packet in a slot has, and how long it is
+abbrev pub told_taken : ℕ → Option (List Seg) → Reply
+told_taken slot None = reply.Refused NoSuchPacket
+told_taken slot (Some segs) = reply.Taken slot (length segs) (pkt_len segs)
+
+-- the reply to a take, by its answer and the table afterwards
+abbrev pub taken : Result ℕ Refusal → List (Option (List Seg)) → Reply
+taken (Ok slot) table = told_taken slot (slice_index_or table slot None)
+taken (Err cause) table = reply.Refused cause
+
 abbrev pub told_count : Result ℕ Refusal → Reply
 told_count (Ok count) = reply.Count count
 told_count (Err cause) = reply.Refused cause
@@ -86,6 +101,8 @@ Performs (act.Chain head tail) m calls r after = (answer : Result (Unit {0}) Ref
 Performs (act.Attach mi target) m calls r after = (answer : Result (Unit {0}) Refusal) × Attaches m mi target calls answer after × (r ≡ attached answer)
 Performs (act.Detach p) m calls r after = (answer : Result Freed Refusal) × Detaches m p calls answer after × (r ≡ freed answer)
 Performs (act.ClonePacket p) m calls r after = (answer : Result ℕ Refusal) × Clones m p calls answer after × (r ≡ cloned answer after.table)
+Performs (act.Offer p desk) m calls r after = (answer : Result (Unit {0}) Refusal) × Offers m p desk calls answer after × (r ≡ offered answer)
+Performs (act.Take desk) m calls r after = (answer : Result ℕ Refusal) × Takes m desk calls answer after × (r ≡ taken answer after.table)
 Performs (act.CountOf p) m calls r after = (answer : Result ℕ Refusal) × CountsOf (slice_index_or m.table p None) calls answer × (after ≡ m) × (r ≡ told_count answer)
 Performs (act.PktLen p) m calls r after = (after ≡ m) × (calls ≡ []) × (r ≡ told_len (of_packet pkt_len (slice_index_or m.table p None)))
 Performs (act.NbSegs p) m calls r after = (after ≡ m) × (calls ≡ []) × (r ≡ told_segs (of_packet length (slice_index_or m.table p None)))

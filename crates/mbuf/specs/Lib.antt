@@ -2,6 +2,7 @@ pub mod Acts
 pub mod Bits
 pub mod Changes
 pub mod Cloning
+pub mod Desks
 pub mod Kept
 pub mod Lengths
 pub mod Members

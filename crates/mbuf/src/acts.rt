@@ -2,7 +2,7 @@
 
 ghost use Rattle.std.specs.Prelude.{◌≡◌, ◌≤◌, All, List, IsSome, None, length, map, slice_index_or};
 ghost use Rattle.commons.specs.Calls.{Made, Leads, calls_of};
-ghost use Rattle.mbuf.specs.Acts.{Performs, chained, first_elem, new_packet, told_len as len_reply};
+ghost use Rattle.mbuf.specs.Acts.{Performs, chained, first_elem, new_packet, told_len as len_reply, told_taken as taken_reply};
 ghost use Rattle.commons.specs.Packets.{own_in_slot};
 ghost use Rattle.mbuf.specs.Own.{Own};
 
@@ -40,6 +40,10 @@ pub enum Act {
     Detach(Pid),
     /// Clones a packet, into the lowest free slot.
     ClonePacket(Pid),
+    /// Leaves the packet in this slot on this desk.
+    Offer(Pid, u32),
+    /// Takes the packet off this desk, into the lowest free slot.
+    Take(u32),
     /// Tells the reference count of a packet's first segment's element.
     CountOf(Pid),
     /// Tells how many bytes of data a packet has.
@@ -72,6 +76,10 @@ pub enum Reply {
     Attached,
     /// The clone stands in this slot, and these are its elements in order.
     Cloned(Pid, ArrayVec<u32, MAX_SEGS>),
+    /// The packet is on the desk.
+    Offered,
+    /// The packet stands in this slot; it has so many segments, and so many bytes of data.
+    Taken(Pid, u32, u32),
     /// The reference count that was read.
     Count(u32),
     /// How many bytes of data the packet has now.
@@ -198,6 +206,27 @@ fn clone_packet<C: Commons>(packets: &mut Packets, c: &mut C, p: Pid) -> Reply
     }
 }
 
+/// The reply that tells of the packet in a slot.
+fn told_taken(packets: &Packets, slot: Pid) -> Reply
+    requires { IsSome (slice_index_or packets.now.table slot None) }
+    ensures { result ≡ taken_reply slot (slice_index_or packets.now.table slot None) }
+{
+    let packet = packets.place(slot).unwrap();
+    Reply::Taken(slot, packet.segs().len() as u32, lengths::pkt_len(packet))
+}
+
+/// Takes a packet off a desk, and tells of it.
+fn take<C: Commons>(packets: &mut Packets, c: &mut C, desk: u32) -> Reply
+    requires own { Own packets.old (C.limits c.old) (C.hand c.old) (C.holds c.old) (C.headers c.old) }
+    ensures calls { (made : List Made) × Leads C.did C.limits c.old made c.new × Performs (Act.Take desk) packets.old (calls_of made) result packets.new }
+    ensures own { Own packets.new (C.limits c.new) (C.hand c.new) (C.holds c.new) (C.headers c.new) }
+{
+    match packets.take(c, desk) {
+        Ok(slot) => told_taken(packets, slot),
+        Err(cause) => Reply::Refused(cause),
+    }
+}
+
 /// Lets a worker do this with its packets, and answers what came of it.
 ///
 /// Each act is the call of `Packets` of that name, with its refusals. A count of `AllocBulk` above
@@ -228,6 +257,11 @@ pub fn perform<C: Commons>(packets: &mut Packets, c: &mut C, act: Act) -> Reply
             Err(cause) => Reply::Refused(cause),
         },
         Act::ClonePacket(p) => clone_packet(packets, c, p),
+        Act::Offer(p, desk) => match packets.offer(c, p, desk) {
+            Ok(()) => Reply::Offered,
+            Err(cause) => Reply::Refused(cause),
+        },
+        Act::Take(desk) => take(packets, c, desk),
         Act::CountOf(p) => match packets.count_of(c, p) {
             Ok(count) => Reply::Count(count),
             Err(cause) => Reply::Refused(cause),

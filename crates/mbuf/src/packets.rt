@@ -10,6 +10,7 @@ ghost use Rattle.mbuf.specs.PacketRules.{Allocs, AllocsBulk, Chains, Frees, Resi
 ghost use Rattle.mbuf.specs.Changes.{resized, not_resized};
 ghost use Rattle.mbuf.specs.Lengths.{pkt_len as len_of, appended, prepended, adjusted, trimmed};
 ghost use Rattle.mbuf.specs.Kept.{KeepsHolds};
+ghost use Rattle.mbuf.specs.Desks.{Offers, Takes};
 ghost use Rattle.mbuf.specs.Sharing.{Attaches, Clones, CountsOf, Detaches, detachable, pair_in};
 ghost use Rattle.mbuf.specs.Cloning.{ArePair, IsIndirect};
 ghost use Rattle.commons.specs.Packets.{HasItsData};
@@ -26,6 +27,7 @@ use mempool::put::Put;
 use mempool::worker::Worker;
 use std::alloc::{AllocError, Global};
 use std::marker::Model;
+use std::mem;
 
 /// How many packets a worker holds at most.
 pub const SLOTS: usize = 256;
@@ -522,6 +524,64 @@ impl Packets {
             Ok(()) => {
                 self.free.take(lowest);
                 Ok(lowest as Pid)
+            }
+            Err(cause) => Err(cause),
+        }
+    }
+
+    /// Leaves a packet on a desk, of which the pool has `desks`, numbered from 0, and frees its slot.
+    /// All that the packet holds goes with it.
+    ///
+    /// Refused `NoSuchPacket` where no packet stands there, `NoSuchDesk` where the pool has no such
+    /// desk, and `DeskTaken` where a desk word other than 0, that of an empty desk, was read. The
+    /// packet stays in its slot then, and nothing changes.
+    ///
+    /// Desks are our own; DPDK passes mbufs between lcores over an `rte_ring`.
+    pub fn offer<C: Commons>(&mut self, c: &mut C, p: Pid, desk: u32) -> Result<(), Refusal>
+        requires own { Own self.old (C.limits c.old) (C.hand c.old) (C.holds c.old) (C.headers c.old) }
+        ensures calls { (made : List Made) × Leads C.did C.limits c.old made c.new × Offers self.old p desk (calls_of made) result self.new }
+        ensures own { Own self.new (C.limits c.new) (C.hand c.new) (C.holds c.new) (C.headers c.new) }
+    {
+        let Some(place) = self.slot(p) else {
+            return Err(Refusal::NoSuchPacket);
+        };
+        let packet = mem::replace(&mut self.packets[place], Packet::single(Seg::default()));
+        match c.offer(desk, packet) {
+            Ok(()) => {
+                self.free.give(place);
+                Ok(())
+            }
+            Err((cause, packet)) => {
+                self.packets[place] = packet;
+                Err(cause)
+            }
+        }
+    }
+
+    /// Takes the packet off a desk, of which the pool has `desks`, numbered from 0, with all that it
+    /// holds. It stands in the lowest free slot, which is the answer.
+    ///
+    /// Refused `NoSuchDesk` where the pool has no such desk, `PacketsFull` where no slot is free, and
+    /// `DeskEmpty` where a desk word other than 2, that of a full desk, was read. Nothing changes
+    /// then.
+    ///
+    /// Desks are our own; DPDK passes mbufs between lcores over an `rte_ring`.
+    pub fn take<C: Commons>(&mut self, c: &mut C, desk: u32) -> Result<Pid, Refusal>
+        requires own { Own self.old (C.limits c.old) (C.hand c.old) (C.holds c.old) (C.headers c.old) }
+        ensures calls { (made : List Made) × Leads C.did C.limits c.old made c.new × Takes self.old desk (calls_of made) result self.new }
+        ensures own { Own self.new (C.limits c.new) (C.hand c.new) (C.holds c.new) (C.headers c.new) }
+    {
+        if u64::from(desk) >= self.worker.limits().desks {
+            return Err(Refusal::NoSuchDesk);
+        }
+        let Some(place) = self.free.lowest() else {
+            return Err(Refusal::PacketsFull);
+        };
+        match c.take(desk) {
+            Ok(packet) => {
+                self.packets[place] = packet;
+                self.free.take(place);
+                Ok(place as Pid)
             }
             Err(cause) => Err(cause),
         }

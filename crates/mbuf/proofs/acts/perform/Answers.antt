@@ -33,3 +33,9 @@ returns-in-Err-detach-clause-calls g c = let done = c.in-Err-detach.ensures.call
 
 pub returns-in-Ok-count_of-clause-calls : goal.returns-in-Ok-count_of-clause-calls
 returns-in-Ok-count_of-clause-calls g c = let done = c.in-Ok-count_of.ensures.calls in rw c.in-CountOf.is (done.0, done.1, (Ok c.in-Ok-count_of.count, done.2, refl, refl))
+
+pub returns-in-Ok-offer-clause-calls : goal.returns-in-Ok-offer-clause-calls
+returns-in-Ok-offer-clause-calls g c = let done = c.in-Ok-offer.ensures.calls in rw c.in-Offer.is (done.0, done.1, (Ok tt, done.2, refl))
+
+pub returns-in-Err-offer-clause-calls : goal.returns-in-Err-offer-clause-calls
+returns-in-Err-offer-clause-calls g c = let done = c.in-Err-offer.ensures.calls in rw c.in-Offer.is (done.0, done.1, (Err c.in-Err-offer.cause, done.2, refl))

@@ -1,19 +1,15 @@
-use Rattle.std.proofs.Common.{◌≡◌, ℕ, ◌+◌, ◌<◌, [], List, length, take, get_or, None, refl, sym, ap, ◌∙◌, subst, arith}
-use Rattle.commons.specs.Bag.{bag}
+use Rattle.std.proofs.Common.{ℕ, ◌+◌, [], List, take, get_or, None, refl, sym, ◌∙◌, subst, arith}
 use Rattle.commons.specs.declared.limits.Limits.{Limits}
 use Rattle.commons.specs.declared.packet.Seg.{Seg}
-use Rattle.commons.proofs.Bags.{bag-nil, bag-append}
+use Rattle.commons.proofs.Bags.{bag-nil}
 use Rattle.commons.specs.Packets.{holds_of_seg, holds_of_packet}
 use Rattle.mbuf.specs.PacketRules.{freed_nothing}
-use Rattle.mbuf.proofs.EndLemmas.{Ended, both_ended, holds-suc, holds_so_far}
+use Rattle.commons.proofs.PacketBags.{holds-suc, bag-holds_suc, holds_so_far}
+use Rattle.mbuf.proofs.EndLemmas.{Ended, both_ended}
 use Rattle.mbuf.proofs.steps.end_segs.Goals as goal
 
 abbrev no_seg : Seg
 no_seg = record { elem = 0; base = None; data_off = 0; data_len = 0; buf_len = 0 }
-
--- how often the segments so far and the next hold an element
-bag-suc : (segs : List Seg) (k i : ℕ) → k < length segs → bag (holds_of_packet (take (k + 1) segs)) i ≡ bag (holds_of_packet (take k segs)) i + bag (holds_of_seg (get_or segs k no_seg)) i
-bag-suc segs k i within = ap (λ (es : List ℕ). bag es i) (holds-suc segs k no_seg within) ∙ bag-append (holds_of_packet (take k segs)) (holds_of_seg (get_or segs k no_seg)) i
 
 pub loop-seg-init : goal.loop-seg-init
 loop-seg-init g c = record {
@@ -31,7 +27,7 @@ pub end_seg-freed-requires-clause-held : goal.end_seg-freed-requires-clause-held
 end_seg-freed-requires-clause-held g c = λ i.
     let k = c.loop-seg.seg-index in
     let segs = c.args.segs.now in
-    omega (arith, c.requires.held i, c.loop-seg.invariant.holds i, bag-suc segs k i c.loop-seg-test.true, holds_so_far segs (k + 1) i)
+    omega (arith, c.requires.held i, c.loop-seg.invariant.holds i, bag-holds_suc segs k i no_seg c.loop-seg-test.true, holds_so_far segs (k + 1) i)
 
 pub loop-seg-preserved : goal.loop-seg-preserved
 loop-seg-preserved g c =
@@ -48,7 +44,7 @@ loop-seg-preserved g c =
           (both_ended did limits c.args.c.now so_far.c e.new.c w.limits (holds_of_packet (take k segs)) next w.cache freed_nothing so_far.worker.cache so_far.freed e.new.worker.cache e.result so_far.invariant.ended
           (subst (λ (l : Limits). Ended did limits so_far.c e.new.c l next so_far.worker.cache so_far.freed e.new.worker.cache e.result) so_far.invariant.number.limits e.ensures.calls));
       hand = e.ensures.hand;
-      holds = λ i. omega (arith, so_far.invariant.holds i, e.ensures.holds i, bag-suc segs k i c.loop-seg-test.true);
+      holds = λ i. omega (arith, so_far.invariant.holds i, e.ensures.holds i, bag-holds_suc segs k i no_seg c.loop-seg-test.true);
       headers = λ i some. e.ensures.headers i some ∙ so_far.invariant.headers i (omega (arith, some, e.ensures.holds i));
       limits = e.ensures.limits ∙ so_far.invariant.limits;
       number = record { limits = e.ensures.number.limits ∙ so_far.invariant.number.limits; number = e.ensures.number.number ∙ so_far.invariant.number.number };
