@@ -9,10 +9,6 @@ use Rattle.commons.specs.declared.packet.Seg.{Seg}
 use Rattle.commons.proofs.Bags.{bag-nil, bag-append, bag-single, one-same}
 use Rattle.commons.proofs.Places.{apart_or_same, one-apart}
 
--- a segment holds its base and its own element
-pub bag-seg : (seg : Seg) (i : ℕ) → bag (holds_of_seg seg) i ≡ bag (hold_of seg.base) i + one seg.elem i
-bag-seg seg i = omega (arith, bag-append (hold_of seg.base) (seg.elem ∷ []) i, bag-single seg.elem i)
-
 -- what is chosen where something is counted, and where nothing is
 pub chosen_none : {A : Type 0} (n : ℕ) (x y : A) → n ≡ 0 → cond (nat_lt 0 n) x y ≡ y
 chosen_none n x y h = let e : nat_lt 0 n ≡ false = grind (arith, nat_tests) in rw e refl

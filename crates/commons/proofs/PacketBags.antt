@@ -7,7 +7,7 @@ use Rattle.std.proofs.lemmas.Grind.{flat_map-append}
 use Rattle.std.proofs.lemmas.List.Folds.{sum_by-replicate}
 use Rattle.std.proofs.lemmas.List.Sums.{sum_by-set, sum_by-cons, get_or-le-sum_by}
 use Rattle.std.proofs.lemmas.Option.{none-some}
-use Rattle.commons.specs.Bag.{bag}
+use Rattle.commons.specs.Bag.{bag, one}
 use Rattle.commons.specs.Packets.{hold_of, holds_of_seg, holds_of_packet, own_of_packet, holds_in_slot, own_in_slot, held_in, own_in}
 use Rattle.commons.specs.declared.packet.Seg.{Seg}
 use Rattle.commons.proofs.Bags.{bag-nil, bag-cons, bag-head, bag-append, bag-single}
@@ -34,6 +34,10 @@ held_in-slot table k i l = get_or-le-sum_by (λ (slot : Option (List Seg)). bag 
 
 pub own_in-slot : (table : List (Option (List Seg))) (k : ℕ) (i : ℕ) → k < length table → bag (own_in_slot (get_or table k None)) i ≤ own_in table i
 own_in-slot table k i l = get_or-le-sum_by (λ (slot : Option (List Seg)). bag (own_in_slot slot) i) table k None l
+
+-- a segment holds its base and its own element
+pub bag-seg : (seg : Seg) (i : ℕ) → bag (holds_of_seg seg) i ≡ bag (hold_of seg.base) i + one seg.elem i
+bag-seg seg i = omega (arith, bag-append (hold_of seg.base) (seg.elem ∷ []) i, bag-single seg.elem i)
 
 -- a packet holds its own elements
 pub own_held : (segs : List Seg) (i : ℕ) → bag (own_of_packet segs) i ≤ bag (holds_of_packet segs) i

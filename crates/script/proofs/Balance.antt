@@ -16,22 +16,24 @@ use Rattle.script.specs.declared.commands.Command.{Command}
 use Rattle.script.specs.declared.commands.Command.TheVariants as command
 use Rattle.script.specs.declared.commands.Line.{Line}
 use Rattle.mbuf.specs.declared.acts.Act.{Act}
-use Rattle.mbuf.specs.declared.acts.Act.TheVariants.{Alloc, AllocBulk, Free, Append, Prepend, Adj, Trim, Chain, Attach, Detach, ClonePacket, CountOf, PktLen, NbSegs, Flush}
+use Rattle.mbuf.specs.declared.acts.Act.TheVariants.{Alloc, AllocBulk, Free, Append, Prepend, Adj, Trim, Chain, Attach, Detach, ClonePacket, Offer, Take, CountOf, PktLen, NbSegs, Flush}
 use Rattle.commons.specs.Packets.{holds_in_slot, holds_of_packet, held_in}
 use Rattle.mbuf.specs.Members.{Member, slots}
 use Rattle.mbuf.specs.PacketRules.{fresh_seg, free_slot, free_slots, freed_nothing}
 use Rattle.mbuf.specs.Sharing.{clonable, detachable, pair_in}
 use Rattle.mbuf.specs.Lengths.{appended, prepended, adjusted, trimmed}
-use Rattle.script.specs.Pool.{Stack, Pool, held_by, member_at, with_member, nobody, new_members, new_pool}
+use Rattle.script.specs.Pool.{Stack, Pool, held_by, held_of, member_at, with_member, nobody, new_members, new_pool}
 use Rattle.script.specs.CacheModel.{get}
 use Rattle.script.specs.PacketModel.{fill_slot, alloc_in, fill_slots, alloc_bulk, resize_to, resize_in, chain_in, free_in, flush_member, without_packet, held_elsewhere, act_on, perform}
-use Rattle.script.specs.Replay.{Run, free_as, act_of, act_as, act_as_both, chain_as, clone_as, obey, end_of}
+use Rattle.script.specs.Replay.{Run, free_as, act_of, act_as, act_as_both, chain_as, clone_as, offer_as, obey, end_of}
 use Rattle.script.proofs.CacheBags.{IsGot, get-IsGot, flush-IsPut}
 use Rattle.mbuf.proofs.ChainLemmas.{KeepsHolds-chain}
 use Rattle.mbuf.proofs.FreeLemmas.{holds_stood}
 use Rattle.commons.proofs.PacketBags.{held_in-empty, held_in-set, held_in-slot, stands_within}
 use Rattle.mbuf.proofs.OwnLemmas.{free_slot-is}
 use Rattle.mbuf.proofs.ResizeLemmas.{SamePacketHolds, appended_holds, prepended_holds, adjusted_holds, trimmed_holds}
+use Rattle.script.proofs.DeskNear.{offer_in-near, take_off-near}
+use Rattle.script.proofs.DesksKept.{alloc_in-desks, alloc_bulk-desks, clone_at-desks, detach_from-desks, flush-desks, free_in-desks}
 use Rattle.script.proofs.SharedNear.{attach_to-near, clone_at-near, detach_from-near}
 use Rattle.script.proofs.HeldBags.{add_holds, near, end_holds-bag, held_by-set, cached_by, cached_by-set, IsBalanced}
 
@@ -130,24 +132,37 @@ by_others-add : (members : List Member) (n : ℕ) (d : Member) (i : ℕ) → n <
     by_others members n d i + held_in (get_or members n d).table i ≡ held_by members i
 by_others-add members n d i h = omega (arith, get_or-le-sum_by (λ (m : Member). held_in m.table i) members n d h)
 
--- a member and the stack change so that each element stays in one place
+-- how often the other members' packets and those on desks hold an element
+abbrev outside : Pool → ℕ → ℕ → ℕ
+outside pool n i = by_others pool.members n (nobody pool.limits) i + held_in pool.stack.desks i
+
+outside-add : (pool : Pool) (n i : ℕ) → n < length pool.members → outside pool n i + held_in (member_at pool n).table i ≡ held_of pool.members pool.stack.desks i
+outside-add pool n i h = omega (arith, by_others-add pool.members n (nobody pool.limits) i h)
+
+-- a member and what all share change so that each element stays in one place
 with_member-balanced : (pool : Pool) (n : ℕ) (m : Member) (s : Stack) → IsBalanced pool → n < length pool.members →
-    ((i : ℕ) → near (by_others pool.members n (nobody pool.limits) i) (member_at pool n) pool.stack i ≤ 1 →
-    near (by_others pool.members n (nobody pool.limits) i) m s i ≡ near (by_others pool.members n (nobody pool.limits) i) (member_at pool n) pool.stack i) →
+    ((i : ℕ) → near (outside pool n i) (member_at pool n) pool.stack i ≤ 1 →
+    near (by_others pool.members n (nobody pool.limits) i + held_in s.desks i) m s i ≡ near (outside pool n i) (member_at pool n) pool.stack i) →
     IsBalanced (with_member pool n m s)
 with_member-balanced pool n m s b h same = record {
   placed = λ i.
       let a = by_others-add pool.members n (nobody pool.limits) i h in
       let c = held_by-set pool.members n m (nobody pool.limits) i h in
       let d = cached_by-set pool.members n m (nobody pool.limits) i h in
-      let e : held_by (set pool.members n m) i ≡ by_others pool.members n (nobody pool.limits) i + held_in m.table i = omega (arith, a, c) in
+      let e : held_by (set pool.members n m) i + held_in s.desks i ≡ by_others pool.members n (nobody pool.limits) i + held_in s.desks i + held_in m.table i = omega (arith, a, c) in
       let f : bag (member_at pool n).cache i ≤ cached_by pool.members i = get_or-le-sum_by (λ (m : Member). bag m.cache i) pool.members n (nobody pool.limits) h in
-      let p : bag pool.stack.common i + cached_by pool.members i + min 1 (by_others pool.members n (nobody pool.limits) i + held_in (member_at pool n).table i) ≡ cond (nat_lt i pool.limits.population) 1 0 = rw a (b.placed i) in
+      let p : bag pool.stack.common i + cached_by pool.members i + min 1 (outside pool n i + held_in (member_at pool n).table i) ≡ cond (nat_lt i pool.limits.population) 1 0 = rw (outside-add pool n i h) (b.placed i) in
       rw e (omega (arith, d, f, p, at_most_one i pool.limits.population, same i (omega (arith, f, p, at_most_one i pool.limits.population))));
 }
 
+-- what leaves the desks
+kept-balanced : (pool : Pool) (n : ℕ) (m : Member) (s : Stack) → IsBalanced pool → n < length pool.members → s.desks ≡ pool.stack.desks →
+    ((i : ℕ) → near (outside pool n i) (member_at pool n) pool.stack i ≤ 1 → near (outside pool n i) m s i ≡ near (outside pool n i) (member_at pool n) pool.stack i) →
+    IsBalanced (with_member pool n m s)
+kept-balanced pool n m s b h desks same = with_member-balanced pool n m s b h (λ i k. rw desks (same i k))
+
 -- a member's packet holds no more than all packets do
-held_within : (pool : Pool) (n : ℕ) → n < length pool.members → (slot : ℕ) (segs : List Seg) → get_or (member_at pool n).table slot None ≡ Some segs → (i : ℕ) → bag (holds_of_packet segs) i ≤ held_by pool.members i
+held_within : (pool : Pool) (n : ℕ) → n < length pool.members → (slot : ℕ) (segs : List Seg) → get_or (member_at pool n).table slot None ≡ Some segs → (i : ℕ) → bag (holds_of_packet segs) i ≤ held_of pool.members pool.stack.desks i
 held_within pool n h slot segs there i =
     omega (
       arith,
@@ -159,41 +174,45 @@ held_within pool n h slot segs there i =
 -- what a worker does keeps each element in one place
 act_on-balanced : (pool : Pool) (n : ℕ) (act : Act) → IsBalanced pool → n < length pool.members →
     IsBalanced (with_member pool n (act_on pool n act).1 (act_on pool n act).2)
-act_on-balanced pool n Alloc b h = with_member-balanced pool n (act_on pool n Alloc).1 (act_on pool n Alloc).2 b h
-    (λ i. alloc_in-near (free_slot (member_at pool n).table) (member_at pool n) pool.stack (free_slot-is (member_at pool n).table) (by_others pool.members n (nobody pool.limits) i) i)
-act_on-balanced pool n (Free slot) b h = with_member-balanced pool n (act_on pool n (Free slot)).1 (act_on pool n (Free slot)).2 b h
+act_on-balanced pool n Alloc b h = kept-balanced pool n (act_on pool n Alloc).1 (act_on pool n Alloc).2 b h (alloc_in-desks (free_slot (member_at pool n).table) (member_at pool n) pool.stack)
+    (λ i. alloc_in-near (free_slot (member_at pool n).table) (member_at pool n) pool.stack (free_slot-is (member_at pool n).table) (outside pool n i) i)
+act_on-balanced pool n (Free slot) b h = kept-balanced pool n (act_on pool n (Free slot)).1 (act_on pool n (Free slot)).2 b h (free_in-desks (get_or (member_at pool n).table slot None) (held_elsewhere pool n slot) slot (member_at pool n) pool.stack)
     (λ i k. free_in-near (get_or (member_at pool n).table slot None) (held_elsewhere pool n slot) slot (member_at pool n) pool.stack refl
-    (by_others pool.members n (nobody pool.limits) i) i (λ l. omega (
+    (outside pool n i) i (λ l. omega (
       arith,
-      by_others-add pool.members n (nobody pool.limits) i h,
+      outside-add pool n i h,
       held_by-set pool.members n (without_packet slot (member_at pool n)) (nobody pool.limits) i h,
     )))
-act_on-balanced pool n (AllocBulk count) b h = with_member-balanced pool n (act_on pool n (AllocBulk count)).1 (act_on pool n (AllocBulk count)).2 b h
-    (λ i. alloc_bulk-near count (member_at pool n) pool.stack (by_others pool.members n (nobody pool.limits) i) i)
-act_on-balanced pool n (Append slot count) b h = with_member-balanced pool n (act_on pool n (Append slot count)).1 (act_on pool n (Append slot count)).2 b h
-    (λ i k. resize_in-near (get_or (member_at pool n).table slot None) (appended count) NoRoom slot (member_at pool n) pool.stack (by_others pool.members n (nobody pool.limits) i) i refl (appended_holds count))
-act_on-balanced pool n (Prepend slot count) b h = with_member-balanced pool n (act_on pool n (Prepend slot count)).1 (act_on pool n (Prepend slot count)).2 b h
-    (λ i k. resize_in-near (get_or (member_at pool n).table slot None) (prepended count) NoRoom slot (member_at pool n) pool.stack (by_others pool.members n (nobody pool.limits) i) i refl (prepended_holds count))
-act_on-balanced pool n (Adj slot count) b h = with_member-balanced pool n (act_on pool n (Adj slot count)).1 (act_on pool n (Adj slot count)).2 b h
-    (λ i k. resize_in-near (get_or (member_at pool n).table slot None) (adjusted count) TooShort slot (member_at pool n) pool.stack (by_others pool.members n (nobody pool.limits) i) i refl (adjusted_holds count))
-act_on-balanced pool n (Trim slot count) b h = with_member-balanced pool n (act_on pool n (Trim slot count)).1 (act_on pool n (Trim slot count)).2 b h
-    (λ i k. resize_in-near (get_or (member_at pool n).table slot None) (trimmed count) TooShort slot (member_at pool n) pool.stack (by_others pool.members n (nobody pool.limits) i) i refl (trimmed_holds count))
-act_on-balanced pool n (Chain head tail) b h = with_member-balanced pool n (act_on pool n (Chain head tail)).1 (act_on pool n (Chain head tail)).2 b h
-    (λ i k. chain_in-near (get_or (member_at pool n).table head None) (get_or (member_at pool n).table tail None) head tail (member_at pool n) pool.stack (by_others pool.members n (nobody pool.limits) i) i refl refl)
-act_on-balanced pool n (Attach mi target) b h = with_member-balanced pool n (act_on pool n (Attach mi target)).1 (act_on pool n (Attach mi target)).2 b h
-    (λ i k. attach_to-near (pair_in (member_at pool n) mi target) (held_by pool.members) mi target (member_at pool n) pool.stack refl
-    (by_others pool.members n (nobody pool.limits) i) i (sym (by_others-add pool.members n (nobody pool.limits) i h)) (held_within pool n h))
-act_on-balanced pool n (Detach slot) b h = with_member-balanced pool n (act_on pool n (Detach slot)).1 (act_on pool n (Detach slot)).2 b h
-    (λ i k. detach_from-near (detachable (get_or (member_at pool n).table slot None)) (held_by pool.members) slot (member_at pool n) pool.stack refl
-    (by_others pool.members n (nobody pool.limits) i) i (sym (by_others-add pool.members n (nobody pool.limits) i h)))
-act_on-balanced pool n (ClonePacket source) b h = with_member-balanced pool n (act_on pool n (ClonePacket source)).1 (act_on pool n (ClonePacket source)).2 b h
-    (λ i k. clone_at-near (clonable (get_or (member_at pool n).table source None) (free_slot (member_at pool n).table)) (held_by pool.members) source (member_at pool n) pool.stack refl
-    (by_others pool.members n (nobody pool.limits) i) i (sym (by_others-add pool.members n (nobody pool.limits) i h)) (held_within pool n h) k)
-act_on-balanced pool n (CountOf slot) b h = with_member-balanced pool n (member_at pool n) pool.stack b h (λ i k. refl)
-act_on-balanced pool n (PktLen slot) b h = with_member-balanced pool n (member_at pool n) pool.stack b h (λ i k. refl)
-act_on-balanced pool n (NbSegs slot) b h = with_member-balanced pool n (member_at pool n) pool.stack b h (λ i k. refl)
-act_on-balanced pool n Flush b h = with_member-balanced pool n (act_on pool n Flush).1 (act_on pool n Flush).2 b h
-    (λ i k. flush_member-near (member_at pool n) pool.stack (by_others pool.members n (nobody pool.limits) i) i)
+act_on-balanced pool n (AllocBulk count) b h = kept-balanced pool n (act_on pool n (AllocBulk count)).1 (act_on pool n (AllocBulk count)).2 b h (alloc_bulk-desks count (member_at pool n) pool.stack)
+    (λ i. alloc_bulk-near count (member_at pool n) pool.stack (outside pool n i) i)
+act_on-balanced pool n (Append slot count) b h = kept-balanced pool n (act_on pool n (Append slot count)).1 (act_on pool n (Append slot count)).2 b h refl
+    (λ i k. resize_in-near (get_or (member_at pool n).table slot None) (appended count) NoRoom slot (member_at pool n) pool.stack (outside pool n i) i refl (appended_holds count))
+act_on-balanced pool n (Prepend slot count) b h = kept-balanced pool n (act_on pool n (Prepend slot count)).1 (act_on pool n (Prepend slot count)).2 b h refl
+    (λ i k. resize_in-near (get_or (member_at pool n).table slot None) (prepended count) NoRoom slot (member_at pool n) pool.stack (outside pool n i) i refl (prepended_holds count))
+act_on-balanced pool n (Adj slot count) b h = kept-balanced pool n (act_on pool n (Adj slot count)).1 (act_on pool n (Adj slot count)).2 b h refl
+    (λ i k. resize_in-near (get_or (member_at pool n).table slot None) (adjusted count) TooShort slot (member_at pool n) pool.stack (outside pool n i) i refl (adjusted_holds count))
+act_on-balanced pool n (Trim slot count) b h = kept-balanced pool n (act_on pool n (Trim slot count)).1 (act_on pool n (Trim slot count)).2 b h refl
+    (λ i k. resize_in-near (get_or (member_at pool n).table slot None) (trimmed count) TooShort slot (member_at pool n) pool.stack (outside pool n i) i refl (trimmed_holds count))
+act_on-balanced pool n (Chain head tail) b h = kept-balanced pool n (act_on pool n (Chain head tail)).1 (act_on pool n (Chain head tail)).2 b h refl
+    (λ i k. chain_in-near (get_or (member_at pool n).table head None) (get_or (member_at pool n).table tail None) head tail (member_at pool n) pool.stack (outside pool n i) i refl refl)
+act_on-balanced pool n (Attach mi target) b h = kept-balanced pool n (act_on pool n (Attach mi target)).1 (act_on pool n (Attach mi target)).2 b h refl
+    (λ i k. attach_to-near (pair_in (member_at pool n) mi target) (held_of pool.members pool.stack.desks) mi target (member_at pool n) pool.stack refl
+    (outside pool n i) i (sym (outside-add pool n i h)) (held_within pool n h))
+act_on-balanced pool n (Detach slot) b h = kept-balanced pool n (act_on pool n (Detach slot)).1 (act_on pool n (Detach slot)).2 b h (detach_from-desks (detachable (get_or (member_at pool n).table slot None)) (held_of pool.members pool.stack.desks) slot (member_at pool n) pool.stack)
+    (λ i k. detach_from-near (detachable (get_or (member_at pool n).table slot None)) (held_of pool.members pool.stack.desks) slot (member_at pool n) pool.stack refl
+    (outside pool n i) i (sym (outside-add pool n i h)))
+act_on-balanced pool n (ClonePacket source) b h = kept-balanced pool n (act_on pool n (ClonePacket source)).1 (act_on pool n (ClonePacket source)).2 b h (clone_at-desks (clonable (get_or (member_at pool n).table source None) (free_slot (member_at pool n).table)) (held_of pool.members pool.stack.desks) (member_at pool n) pool.stack)
+    (λ i k. clone_at-near (clonable (get_or (member_at pool n).table source None) (free_slot (member_at pool n).table)) (held_of pool.members pool.stack.desks) source (member_at pool n) pool.stack refl
+    (outside pool n i) i (sym (outside-add pool n i h)) (held_within pool n h) k)
+act_on-balanced pool n (Offer slot desk) b h = with_member-balanced pool n (act_on pool n (Offer slot desk)).1 (act_on pool n (Offer slot desk)).2 b h
+    (λ i k. offer_in-near (get_or (member_at pool n).table slot None) slot desk (member_at pool n) pool.stack refl (by_others pool.members n (nobody pool.limits) i) i)
+act_on-balanced pool n (Take desk) b h = with_member-balanced pool n (act_on pool n (Take desk)).1 (act_on pool n (Take desk)).2 b h
+    (λ i k. take_off-near desk (member_at pool n) pool.stack (by_others pool.members n (nobody pool.limits) i) i)
+act_on-balanced pool n (CountOf slot) b h = kept-balanced pool n (member_at pool n) pool.stack b h refl (λ i k. refl)
+act_on-balanced pool n (PktLen slot) b h = kept-balanced pool n (member_at pool n) pool.stack b h refl (λ i k. refl)
+act_on-balanced pool n (NbSegs slot) b h = kept-balanced pool n (member_at pool n) pool.stack b h refl (λ i k. refl)
+act_on-balanced pool n Flush b h = kept-balanced pool n (act_on pool n Flush).1 (act_on pool n Flush).2 b h (flush-desks (member_at pool n).cache pool.stack)
+    (λ i k. flush_member-near (member_at pool n) pool.stack (outside pool n i) i)
 
 -- and so does what a worker outside the pool is asked to do, which is nothing
 perform-balanced : (pool : Pool) (w : ℕ) (act : Act) → IsBalanced pool → IsBalanced (perform pool w act).1
@@ -208,7 +227,7 @@ free_as-balanced : (slot : Option ℕ) (worker : ℕ) (name : List ℕ) (run : R
 free_as-balanced None worker name run b = b
 free_as-balanced (Some slot) worker name run b = perform-balanced run.pool worker (Free slot) b
 
--- so do acts that leave each name as it stands, a chain and a clone
+-- so do acts that leave each name as it stands, a clone, an offer and a chain
 act_as-balanced : (slot : Option ℕ) (act : ℕ → Act) (worker : ℕ) (run : Run) → IsBalanced run.pool → IsBalanced (act_as slot act worker run).1.pool
 act_as-balanced None act worker run b = b
 act_as-balanced (Some slot) act worker run b = perform-balanced run.pool worker (act slot) b
@@ -220,6 +239,10 @@ act_as_both-balanced (Some first) second act worker run b = act_as-balanced seco
 clone_as-balanced : (slot : Option ℕ) (worker : ℕ) (made : List ℕ) (run : Run) → IsBalanced run.pool → IsBalanced (clone_as slot worker made run).1.pool
 clone_as-balanced None worker made run b = b
 clone_as-balanced (Some slot) worker made run b = perform-balanced run.pool worker (ClonePacket slot) b
+
+offer_as-balanced : (slot : Option ℕ) (desk worker : ℕ) (name : List ℕ) (run : Run) → IsBalanced run.pool → IsBalanced (offer_as slot desk worker name run).1.pool
+offer_as-balanced None desk worker name run b = b
+offer_as-balanced (Some slot) desk worker name run b = perform-balanced run.pool worker (Offer slot desk) b
 
 chain_as-balanced : (head tail : Option ℕ) (worker : ℕ) (name : List ℕ) (run : Run) → IsBalanced run.pool → IsBalanced (chain_as head tail worker name run).1.pool
 chain_as-balanced None tail worker name run b = b
@@ -237,6 +260,8 @@ obey-balanced worker (command.Attach name target) run b = act_as_both-balanced (
 obey-balanced worker (command.Detach name) run b = act_as-balanced (run.stands worker name) Detach worker run b
 obey-balanced worker (command.Clone name made) run b = clone_as-balanced (run.stands worker name) worker made run b
 obey-balanced worker (command.Count name) run b = act_as-balanced (run.stands worker name) CountOf worker run b
+obey-balanced worker (command.Offer name desk) run b = offer_as-balanced (run.stands worker name) desk worker name run b
+obey-balanced worker (command.Take desk name) run b = perform-balanced run.pool worker (Take desk) b
 obey-balanced worker command.Flush run b = perform-balanced run.pool worker Flush b
 
 -- all lines keep each element in one place
@@ -267,4 +292,4 @@ range-bag n i = elim (cases_lt i n) [
 
 -- in a new pool each element is in the common list
 pub new_pool-balanced : (l : Limits) → IsBalanced (new_pool l)
-new_pool-balanced l = record { placed = λ i. rw (held_by-new l 1 l.workers i, cached_by-new l 1 l.workers i) (omega (arith, range-bag l.population i)) }
+new_pool-balanced l = record { placed = λ i. rw (held_by-new l 1 l.workers i, cached_by-new l 1 l.workers i, held_in-empty l.desks i) (omega (arith, range-bag l.population i)) }

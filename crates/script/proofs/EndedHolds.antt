@@ -1,13 +1,15 @@
 -- Holds that end over the lists, where the counts are the holds that are left.
-use Rattle.std.proofs.Common.{ℕ, ◌≡◌, ◌≢◌, ◌+◌, ◌-◌, ◌<◌, ◌==◌, inl, inr, cond, List, [], ◌∷◌, length, get_or, set, get_or-set_same, get_or-set_other, Ok, Err, refl, sym, ap, ◌∙◌, subst, arith}
+use Rattle.std.proofs.Common.{ℕ, ◌≡◌, ◌≢◌, ◌+◌, ◌-◌, ◌<◌, ◌==◌, inl, inr, cond, List, [], ◌∷◌, length, get_or, set, get_or-set_same, get_or-set_other, Option, Ok, Err, refl, sym, ap, ◌∙◌, subst, arith}
 use Rattle.std.proofs.lemmas.Bool.{cases_lt, cases_eq, cond-true, cond-false, eq-eqb, ne_eqb}
 use Rattle.std.proofs.lemmas.List.{get_or_past}
 use Rattle.commons.specs.Bag.{bag}
 use Rattle.commons.specs.Calls.{Call, GetList, PutList}
 use Rattle.commons.specs.declared.limits.Limits.{Limits}
+use Rattle.commons.specs.declared.packet.Seg.{Seg}
 use Rattle.commons.specs.declared.place.Place.{Place}
 use Rattle.commons.specs.declared.refusal.Refusal.TheVariants.{NoEntries, HeadSpent}
 use Rattle.commons.specs.Lists.{Lists, IsTable, held_count, holds_of_all, place_of, nowhere}
+use Rattle.commons.specs.Packets.{held_in}
 use Rattle.commons.proofs.Bags.{bag-cons, one-same}
 use Rattle.commons.proofs.Places.{one-apart}
 use Rattle.mbuf.specs.declared.freed.Freed.{Freed}
@@ -19,22 +21,26 @@ use Rattle.script.specs.Own.{stack_of, LeadsPlain}
 use Rattle.script.proofs.CacheCalls.{AreRequests, puts_request, was_put}
 use Rattle.script.proofs.PlainCalls.{LeadsPlain-split, LeadsPlain-table}
 
+-- who holds what: each worker, and each desk's packet
+abbrev holding : Lists → List (List ℕ) × List (Option (List Seg))
+holding s = (s.holds, s.desks)
+
 -- requests of the stack leave the holds
-requests_keep : (w : ℕ) (s : Lists) (calls : List Call) (t : Lists) → AreRequests calls → LeadsPlain w s calls t → t.holds ≡ s.holds
-requests_keep w s [] t r h = ap (λ (x : Lists). x.holds) (sym h)
-requests_keep w s (GetList n (Ok xs) ∷ calls) t r h = requests_keep w h.0 calls t r h.4 ∙ ap (λ (x : Lists). x.holds) h.1.3
-requests_keep w s (GetList n (Err NoEntries) ∷ calls) t r h = requests_keep w h.0 calls t r h.4 ∙ ap (λ (x : Lists). x.holds) h.1.1
-requests_keep w s (GetList n (Err HeadSpent) ∷ calls) t r h = requests_keep w h.0 calls t r h.4 ∙ ap (λ (x : Lists). x.holds) h.1.2
+requests_keep : (w : ℕ) (s : Lists) (calls : List Call) (t : Lists) → AreRequests calls → LeadsPlain w s calls t → holding t ≡ holding s
+requests_keep w s [] t r h = ap holding (sym h)
+requests_keep w s (GetList n (Ok xs) ∷ calls) t r h = requests_keep w h.0 calls t r h.4 ∙ ap holding h.1.3
+requests_keep w s (GetList n (Err NoEntries) ∷ calls) t r h = requests_keep w h.0 calls t r h.4 ∙ ap holding h.1.1
+requests_keep w s (GetList n (Err HeadSpent) ∷ calls) t r h = requests_keep w h.0 calls t r h.4 ∙ ap holding h.1.2
 requests_keep w s (GetList n (Err _) ∷ calls) t r h = absurd h.1
-requests_keep w s (PutList list (Ok _) ∷ calls) t r h = requests_keep w h.0 calls t r h.4 ∙ ap (λ (x : Lists). x.holds) h.1.1
-requests_keep w s (PutList list (Err HeadSpent) ∷ calls) t r h = requests_keep w h.0 calls t r h.4 ∙ ap (λ (x : Lists). x.holds) h.1.1
+requests_keep w s (PutList list (Ok _) ∷ calls) t r h = requests_keep w h.0 calls t r h.4 ∙ ap holding h.1.1
+requests_keep w s (PutList list (Err HeadSpent) ∷ calls) t r h = requests_keep w h.0 calls t r h.4 ∙ ap holding h.1.1
 requests_keep w s (PutList list (Err _) ∷ calls) t r h = absurd h.1
 requests_keep w s (_ ∷ calls) t r h = absurd r
 
 -- and so the counts
 pub requests_count : (w : ℕ) (s : Lists) (calls : List Call) (t : Lists) → IsTable s → AreRequests calls → LeadsPlain w s calls t → (i : ℕ) → held_count (place_of t i) ≡ held_count (place_of s i)
 requests_count w s calls t table r h i =
-    (LeadsPlain-table w s calls t table h).counted i ∙ ap (λ (rows : List (List ℕ)). holds_of_all (record s { holds = rows }) i) (requests_keep w s calls t r h) ∙ sym (table.counted i)
+    (LeadsPlain-table w s calls t table h).counted i ∙ ap (λ (x : List (List ℕ) × List (Option (List Seg))). holds_of_all (record s { holds = x.0 }) i + held_in x.1 i) (requests_keep w s calls t r h) ∙ sym (table.counted i)
 
 -- how often the holds that are still to end, and others, hold each element
 abbrev pub Counts : Lists → List ℕ → (ℕ → ℕ) → Type 0

@@ -1,5 +1,5 @@
 -- The parts of a pool's statement.
-use Rattle.std.proofs.Common.{ℕ, suc, ◌≡◌, ◌+◌, ◌-◌, ◌<◌, ◌≤◌, nat_lt, true, cond, List, [], ◌∷◌, ◌++◌, length, get_or, take, map, filter, replicate, refl, sym, ◌∙◌, ap, arith}
+use Rattle.std.proofs.Common.{ℕ, suc, ◌≡◌, ◌+◌, ◌-◌, ◌<◌, ◌≤◌, nat_lt, true, cond, List, [], ◌∷◌, ◌++◌, length, get_or, take, map, filter, replicate, Option, refl, sym, ◌∙◌, ap, arith}
 use Rattle.std.specs.Prelude.{sum_by}
 use Rattle.std.specs.List.{range_with_len}
 use Rattle.std.proofs.lemmas.List.{append-nil, flat_map_more, get_or_default, map_push, take_all, take_more}
@@ -13,12 +13,13 @@ use Rattle.commons.specs.ListLaws.{hand_once_lem, hand_below_lem}
 use Rattle.commons.specs.Lists.{Lists, IsTable, held_count, place_of, nowhere}
 use Rattle.commons.proofs.Bags.{length-le}
 use Rattle.script.specs.declared.statement.Holder.TheVariants.{Worker}
+use Rattle.commons.specs.declared.packet.Seg.{Seg}
 use Rattle.commons.specs.Packets.{held_in}
 use Rattle.mbuf.specs.Members.{Member}
-use Rattle.script.specs.Pool.{held_by, nobody}
+use Rattle.script.specs.Pool.{held_of, nobody}
 use Rattle.script.specs.Own.{Owns}
 use Rattle.script.specs.SitePool.{IsMember}
-use Rattle.script.specs.Statements.{held_entry, holders_of}
+use Rattle.script.specs.Statements.{held_entry, holders_of, workers_of}
 
 -- each worker owns its part of the lists
 abbrev pub AreMembers : Lists → List Member → Type 0
@@ -39,13 +40,13 @@ sums_agree f g (x ∷ xs) (y ∷ ys) c d l h =
 row_of : (s : Lists) (k i : ℕ) (m : Member) → IsMember s k m → get_or (get_or s.holds k []) i 0 ≡ held_in m.table i
 row_of s k i m is = let same : m.number - 1 ≡ k = omega (arith, is.number) in rw same at (is.own.share.held i)
 
--- the count of an element is how often the packets of the members hold it
+-- the count of an element is how often the packets of the members and those on desks hold it
 pub counts_are_holds : (s : Lists) (members : List Member) → IsTable s → length members ≡ s.limits.workers →
-    AreMembers s members → (i : ℕ) → held_count (place_of s i) ≡ held_by members i
+    AreMembers s members → (i : ℕ) → held_count (place_of s i) ≡ held_of members s.desks i
 counts_are_holds s members t l each i =
-    t.counted i ∙
-    sums_agree (λ row. get_or row i 0) (λ (m : Member). held_in m.table i) s.holds members [] (nobody s.limits) (t.workers ∙ sym l)
-    (λ k b. row_of s k i (get_or members k (nobody s.limits)) (each k (omega arith)))
+    let workers = sums_agree (λ row. get_or row i 0) (λ (m : Member). held_in m.table i) s.holds members [] (nobody s.limits) (t.workers ∙ sym l)
+    (λ k b. row_of s k i (get_or members k (nobody s.limits)) (each k (omega arith))) in
+    omega (arith, t.counted i, workers)
 
 -- a cache has at most as many elements as the pool
 cache_short : (s : Lists) (m : Member) → IsTable s → Owns s m → length m.cache ≤ s.limits.population
@@ -57,7 +58,7 @@ cache_short s m t o =
 -- an element whose place is a count is held so often, at least once
 pub count_there : (s : Lists) (members : List Member) (places : List Place) (i count : ℕ) → IsTable s → length members ≡ s.limits.workers →
     AreMembers s members → places ≡ s.places → i < length places → get_or places i Common ≡ Held count →
-    (i < s.limits.population) × (count ≡ held_by members i) × (0 < count)
+    (i < s.limits.population) × (count ≡ held_of members s.desks i) × (0 < count)
 count_there s members places i count t w each same l h =
     let within : i < length s.places = omega (arith, ap length same) in
     let is : place_of s i ≡ Held count = get_or_default s.places i nowhere Common within ∙ rw same at h in
@@ -73,7 +74,7 @@ unheld (Held n) h = absurd (h n refl)
 -- an element whose place is no count isn't held
 pub none_there : (s : Lists) (members : List Member) (places : List Place) (i : ℕ) → IsTable s → length members ≡ s.limits.workers →
     AreMembers s members → places ≡ s.places → i < length places → ((n : ℕ) → get_or places i Common ≡ Held n → ⊥) →
-    (i < s.limits.population) × (held_by members i ≡ 0)
+    (i < s.limits.population) × (held_of members s.desks i ≡ 0)
 none_there s members places i t w each same l h =
     let within : i < length s.places = omega (arith, ap length same) in
     let is : get_or places i Common ≡ place_of s i = ap (λ (ps : List Place). get_or ps i Common) same ∙ get_or_default s.places i Common nowhere within in
@@ -84,41 +85,41 @@ more_than_none : (n : ℕ) → 0 < n → nat_lt 0 n ≡ true
 more_than_none n h = grind (arith, nat_tests)
 
 -- the held elements among one more
-entry_at : (members : List Member) (population i : ℕ) → i < population →
-    filter (λ e. nat_lt 0 (held_by members e)) (take (i + 1) (range_with_len 0 population))
-    ≡ filter (λ e. nat_lt 0 (held_by members e)) (take i (range_with_len 0 population)) ++ cond (nat_lt 0 (held_by members i)) (i ∷ []) []
-entry_at members population i l =
+entry_at : (members : List Member) (desks : List (Option (List Seg))) (population i : ℕ) → i < population →
+    filter (λ e. nat_lt 0 (held_of members desks e)) (take (i + 1) (range_with_len 0 population))
+    ≡ filter (λ e. nat_lt 0 (held_of members desks e)) (take i (range_with_len 0 population)) ++ cond (nat_lt 0 (held_of members desks i)) (i ∷ []) []
+entry_at members desks population i l =
     let here : get_or (range_with_len 0 population) i 0 ≡ i = get_or-range_with_len 0 population i 0 l ∙ omega arith in
     let below : i < length (range_with_len 0 population) = omega (arith, length-range_with_len 0 population) in
-    rw here at (filter_more (λ e. nat_lt 0 (held_by members e)) (range_with_len 0 population) i 0 below)
+    rw here at (filter_more (λ e. nat_lt 0 (held_of members desks e)) (range_with_len 0 population) i 0 below)
 
 -- one more entry, where the element is held
-pub entry_held : (members : List Member) (population i count : ℕ) → i < population → count ≡ held_by members i → 0 < count →
-    map (held_entry members) (filter (λ e. nat_lt 0 (held_by members e)) (take (i + 1) (range_with_len 0 population)))
-    ≡ map (held_entry members) (filter (λ e. nat_lt 0 (held_by members e)) (take i (range_with_len 0 population))) ++ record { elem = i; count = count; holders = holders_of members i } ∷ []
-entry_held members population i count l h p =
-    let b : nat_lt 0 (held_by members i) ≡ true = more_than_none (held_by members i) (omega arith) in
-    rw (entry_at members population i l, b, map_push, h) refl
+pub entry_held : (members : List Member) (desks : List (Option (List Seg))) (population i count : ℕ) → i < population → count ≡ held_of members desks i → 0 < count →
+    map (held_entry members desks) (filter (λ e. nat_lt 0 (held_of members desks e)) (take (i + 1) (range_with_len 0 population)))
+    ≡ map (held_entry members desks) (filter (λ e. nat_lt 0 (held_of members desks e)) (take i (range_with_len 0 population))) ++ record { elem = i; count = count; holders = holders_of members desks i } ∷ []
+entry_held members desks population i count l h p =
+    let b : nat_lt 0 (held_of members desks i) ≡ true = more_than_none (held_of members desks i) (omega arith) in
+    rw (entry_at members desks population i l, b, map_push, h) refl
 
 -- no more entry, where it isn't
-pub entry_none : (members : List Member) (population i : ℕ) → i < population → held_by members i ≡ 0 →
-    map (held_entry members) (filter (λ e. nat_lt 0 (held_by members e)) (take (i + 1) (range_with_len 0 population)))
-    ≡ map (held_entry members) (filter (λ e. nat_lt 0 (held_by members e)) (take i (range_with_len 0 population)))
-entry_none members population i l h = rw (entry_at members population i l, h, append-nil) refl
+pub entry_none : (members : List Member) (desks : List (Option (List Seg))) (population i : ℕ) → i < population → held_of members desks i ≡ 0 →
+    map (held_entry members desks) (filter (λ e. nat_lt 0 (held_of members desks e)) (take (i + 1) (range_with_len 0 population)))
+    ≡ map (held_entry members desks) (filter (λ e. nat_lt 0 (held_of members desks e)) (take i (range_with_len 0 population)))
+entry_none members desks population i l h = rw (entry_at members desks population i l, h, append-nil) refl
 
 -- the entries once all elements are seen
-pub entries_all : (members : List Member) (population n : ℕ) → population ≤ n →
-    map (held_entry members) (filter (λ e. nat_lt 0 (held_by members e)) (take n (range_with_len 0 population)))
-    ≡ map (held_entry members) (filter (λ e. nat_lt 0 (held_by members e)) (range_with_len 0 population))
-entries_all members population n h =
+pub entries_all : (members : List Member) (desks : List (Option (List Seg))) (population n : ℕ) → population ≤ n →
+    map (held_entry members desks) (filter (λ e. nat_lt 0 (held_of members desks e)) (take n (range_with_len 0 population)))
+    ≡ map (held_entry members desks) (filter (λ e. nat_lt 0 (held_of members desks e)) (range_with_len 0 population))
+entries_all members desks population n h =
     let all : take n (range_with_len 0 population) ≡ range_with_len 0 population = take_all n (range_with_len 0 population) (omega (arith, length-range_with_len 0 population)) in
     rw all refl
 
 -- the holders among one more worker
 pub holders_more : (members : List Member) (k i : ℕ) (m : Member) → k < length members → m ≡ get_or members k m →
-    holders_of (take (k + 1) members) i ≡ holders_of (take k members) i ++ replicate (held_in m.table i) (Worker m.number)
+    workers_of (take (k + 1) members) i ≡ workers_of (take k members) i ++ replicate (held_in m.table i) (Worker m.number)
 holders_more members k i m l h =
-    let push : holders_of (take k members ++ m ∷ []) i ≡ holders_of (take k members) i ++ replicate (held_in m.table i) (Worker m.number) =
+    let push : workers_of (take k members ++ m ∷ []) i ≡ workers_of (take k members) i ++ replicate (held_in m.table i) (Worker m.number) =
     sym (flat_map_more (λ (m : Member). replicate (held_in m.table i) (Worker m.number)) [] (take k members) m) in
     rw (take_more members k m l, ← h) push
 

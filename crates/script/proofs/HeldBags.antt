@@ -12,7 +12,7 @@ use Rattle.mempool.specs.declared.put.Put.TheVariants.{Kept, Flushed, PutOff}
 use Rattle.mbuf.specs.declared.freed.Freed.{Freed}
 use Rattle.commons.specs.Packets.{held_in}
 use Rattle.mbuf.specs.Members.{Member}
-use Rattle.script.specs.Pool.{Stack, Pool, held_by}
+use Rattle.script.specs.Pool.{Stack, Pool, held_by, held_of}
 use Rattle.script.specs.CacheModel.{put}
 use Rattle.script.specs.HoldModel.{put_back, end_holds}
 use Rattle.script.proofs.CacheBags.{put-IsPut}
@@ -38,7 +38,7 @@ other_hold e i f g h = elim (cases_eq e i) [
 ]
 
 -- after one hold has ended
-abbrev next_hold : Limits → (ℕ → ℕ) → ℕ → List ℕ → Freed × List ℕ × Stack → Freed × List ℕ × Stack
+abbrev pub next_hold : Limits → (ℕ → ℕ) → ℕ → List ℕ → Freed × List ℕ × Stack → Freed × List ℕ × Stack
 next_hold l others e es so_far = if bag es e + others e == 0 then put_back so_far.0 (put l (e ∷ []) so_far.1 so_far.2) else so_far
 
 -- the end of one hold
@@ -90,4 +90,4 @@ add_holds n a b c d others held h k = omega (arith, h, k)
 
 -- Each element of the pool is in one place, and nothing else is anywhere.
 pub record IsBalanced (pool : Pool) : Type 0 where
-  pub placed : (i : ℕ) → bag pool.stack.common i + cached_by pool.members i + min 1 (held_by pool.members i) ≡ cond (nat_lt i pool.limits.population) 1 0
+  pub placed : (i : ℕ) → bag pool.stack.common i + cached_by pool.members i + min 1 (held_of pool.members pool.stack.desks i) ≡ cond (nat_lt i pool.limits.population) 1 0

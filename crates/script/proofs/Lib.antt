@@ -3,6 +3,9 @@ pub mod CacheBags
 pub mod CacheCalls
 pub mod CommandLemmas
 pub mod CutLemmas
+pub mod DeskCalls
+pub mod DeskNear
+pub mod DesksKept
 pub mod EndedHolds
 pub mod Entries
 pub mod GapLemmas

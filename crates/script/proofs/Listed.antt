@@ -18,22 +18,23 @@ use Rattle.commons.specs.declared.packet.Seg.{Seg}
 use Rattle.commons.proofs.Bags.{bag-nil, bag-cons, bag-append, length-is}
 use Rattle.commons.proofs.Places.{one-apart}
 use Rattle.script.specs.declared.commands.Line.{Line}
+use Rattle.script.specs.declared.statement.DeskPacket.{DeskPacket}
 use Rattle.script.specs.declared.statement.PlacedPacket.{PlacedPacket}
 use Rattle.script.specs.declared.statement.Held.{Held}
 use Rattle.script.specs.declared.statement.Holder.{Holder}
-use Rattle.script.specs.declared.statement.Holder.TheVariants.{Worker}
+use Rattle.script.specs.declared.statement.Holder.TheVariants.{Worker, Desk}
 use Rattle.commons.specs.Packets.{holds_of_packet, holds_in_slot, held_in}
 use Rattle.mbuf.specs.Members.{Member}
-use Rattle.script.specs.Pool.{Pool, held_by}
+use Rattle.script.specs.Pool.{Pool, held_by, held_of}
 use Rattle.script.specs.Replay.{new_run, end_of}
-use Rattle.script.specs.Statements.{packets_from, packets_of, holders_of, held_entry, held_elements, statement_of, listed, packet_holds, is_worker, is_desk, worker_holds, desk_holds, ListsEachOnce}
+use Rattle.script.specs.Statements.{packets_from, packets_of, desks_from, workers_of, desks_of, holders_of, held_entry, held_elements, statement_of, listed, packet_holds, is_worker, is_desk, worker_holds, desk_holds, ListsEachOnce}
 use Rattle.script.proofs.HeldBags.{IsBalanced}
 use Rattle.script.proofs.Balance.{at_most_one, range-bag, end_of-balanced, new_pool-balanced}
 
 -- the elements of the entries
-elems-entries : (members : List Member) (xs : List ℕ) → map (λ (held : Held). held.elem) (map (held_entry members) xs) ≡ xs
-elems-entries members [] = refl
-elems-entries members (x ∷ xs) = ap (λ (ys : List ℕ). x ∷ ys) (elems-entries members xs)
+elems-entries : (members : List Member) (desks : List (Option (List Seg))) (xs : List ℕ) → map (λ (held : Held). held.elem) (map (held_entry members desks) xs) ≡ xs
+elems-entries members desks [] = refl
+elems-entries members desks (x ∷ xs) = ap (λ (ys : List ℕ). x ∷ ys) (elems-entries members desks xs)
 
 -- a sum over what is made of each element
 sum_by-map : {X Y : Type 0} (f : Y → ℕ) (g : X → Y) (xs : List X) → sum_by f (map g xs) ≡ sum_by (λ x. f (g x)) xs
@@ -61,13 +62,13 @@ held_once : (b h i n others : ℕ) → 0 < h → b ≡ cond (nat_lt i n) 1 0 →
 held_once b h i n others p q r = omega (arith, at_most_one i n)
 
 -- a held element is listed once among the held, and no other is
-held_elements-bag : (pool : Pool) → IsBalanced pool → (i : ℕ) → bag (held_elements pool) i ≡ min 1 (held_by pool.members i)
+held_elements-bag : (pool : Pool) → IsBalanced pool → (i : ℕ) → bag (held_elements pool) i ≡ min 1 (held_of pool.members pool.stack.desks i)
 held_elements-bag pool b i =
-    let p = λ (i : ℕ). nat_lt 0 (held_by pool.members i) in
-    elim (cases_Bool (nat_lt 0 (held_by pool.members i))) [
-      | inl e ↦ held_once (bag (held_elements pool) i) (held_by pool.members i) i pool.limits.population _ (ltb-true 0 (held_by pool.members i) e)
+    let p = λ (i : ℕ). nat_lt 0 (held_of pool.members pool.stack.desks i) in
+    elim (cases_Bool (nat_lt 0 (held_of pool.members pool.stack.desks i))) [
+      | inl e ↦ held_once (bag (held_elements pool) i) (held_of pool.members pool.stack.desks i) i pool.limits.population _ (ltb-true 0 (held_of pool.members pool.stack.desks i) e)
           (bag-filter_yes p (range_with_len 0 pool.limits.population) i e ∙ range-bag pool.limits.population i) (b.placed i)
-      | inr e ↦ omega (arith, bag-filter_no p (range_with_len 0 pool.limits.population) i e, ltb-false 0 (held_by pool.members i) e)
+      | inr e ↦ omega (arith, bag-filter_no p (range_with_len 0 pool.limits.population) i e, ltb-false 0 (held_of pool.members pool.stack.desks i) e)
     ]
 
 -- an element of a pool is in the common list, in a cache or held
@@ -107,17 +108,32 @@ whole_pool pool b =
     )
 
 -- an element has a holder for each hold
-length-holders : (members : List Member) (i : ℕ) → length (holders_of members i) ≡ held_by members i
-length-holders [] i = refl
-length-holders (m ∷ members) i =
+length-workers : (members : List Member) (i : ℕ) → length (workers_of members i) ≡ held_by members i
+length-workers [] i = refl
+length-workers (m ∷ members) i =
     let copies : List Holder = replicate (held_in m.table i) (Worker m.number) in
     omega (
       arith,
-      length-append copies (holders_of members i),
+      length-append copies (workers_of members i),
       length-replicate (held_in m.table i) (Worker m.number),
-      length-holders members i,
+      length-workers members i,
       sum_by-cons (λ (m : Member). held_in m.table i) m members,
     )
+
+length-desks : (desk : ℕ) (desks : List (Option (List Seg))) (i : ℕ) → length (desks_of desk desks i) ≡ held_in desks i
+length-desks desk [] i = refl
+length-desks desk (slot ∷ desks) i =
+    let copies : List Holder = replicate (bag (holds_in_slot slot) i) (Desk desk) in
+    omega (
+      arith,
+      length-append copies (desks_of (desk + 1) desks i),
+      length-replicate (bag (holds_in_slot slot) i) (Desk desk),
+      length-desks (desk + 1) desks i,
+      sum_by-cons (λ (s : Option (List Seg)). bag (holds_in_slot s) i) slot desks,
+    )
+
+length-holders : (members : List Member) (desks : List (Option (List Seg))) (i : ℕ) → length (holders_of members desks i) ≡ held_of members desks i
+length-holders members desks i = omega (arith, length-append (workers_of members i) (desks_of 0 desks i), length-workers members i, length-desks 0 desks i)
 
 -- the holds of a table are those of its packets
 packets_from-holds : (worker slot : ℕ) (table : List (Option (List Seg))) (i : ℕ) →
@@ -147,6 +163,20 @@ packets-holds (m ∷ members) i =
       sum_by-cons (λ (m : Member). held_in m.table i) m members,
     )
 
+-- and those of the desks
+desks_from-holds : (desk : ℕ) (desks : List (Option (List Seg))) (i : ℕ) → sum_by (λ (packet : DeskPacket). bag (holds_of_packet packet.segs) i) (desks_from desk desks) ≡ held_in desks i
+desks_from-holds desk [] i = refl
+desks_from-holds desk (None ∷ desks) i =
+    omega (arith, desks_from-holds (desk + 1) desks i, sum_by-cons (λ (s : Option (List Seg)). bag (holds_in_slot s) i) None desks, bag-nil i)
+desks_from-holds desk (Some segs ∷ desks) i =
+    let packet : DeskPacket = record { desk = desk; segs = segs } in
+    omega (
+      arith,
+      desks_from-holds (desk + 1) desks i,
+      sum_by-cons (λ (s : Option (List Seg)). bag (holds_in_slot s) i) (Some segs) desks,
+      sum_by-cons (λ (packet : DeskPacket). bag (holds_of_packet packet.segs) i) packet (desks_from (desk + 1) desks),
+    )
+
 -- copies of a worker, counted
 times_flag : (b : Bool) (n : ℕ) → ◌≡◌ {A = ℕ} (n * cond b 1 0) (cond b n 0)
 times_flag true n = omega arith
@@ -166,29 +196,78 @@ copies-worker n v w = sum_by-replicate (λ (h : Holder). cond (is_worker w h) 1 
 copies-desk : (n v d : ℕ) → ◌≡◌ {A = ℕ} (count_by (is_desk d) (replicate n (Worker v))) 0
 copies-desk n v d = sum_by-replicate (λ (h : Holder). cond (is_desk d h) 1 0) n (Worker v) ∙ omega arith
 
--- how often a worker stands among the holders, and a desk, which never does
-holders-worker : (members : List Member) (i w : ℕ) → count_by (is_worker w) (holders_of members i) ≡ sum_by (λ (m : Member). cond (m.number == w) (held_in m.table i) 0) members
-holders-worker [] i w = refl
-holders-worker (m ∷ members) i w =
+-- and of a desk
+desks-desk : (n v d : ℕ) → ◌≡◌ {A = ℕ} (count_by (is_desk d) (replicate n (Desk v))) (cond (v == d) n 0)
+desks-desk n v d = sum_by-replicate (λ (h : Holder). cond (is_desk d h) 1 0) n (Desk v) ∙ times_flag (v == d) n
+
+desks-worker : (n v w : ℕ) → ◌≡◌ {A = ℕ} (count_by (is_worker w) (replicate n (Desk v))) 0
+desks-worker n v w = sum_by-replicate (λ (h : Holder). cond (is_worker w h) 1 0) n (Desk v) ∙ omega arith
+
+-- how often a worker stands among the holders, and a desk
+workers-worker : (members : List Member) (i w : ℕ) → count_by (is_worker w) (workers_of members i) ≡ sum_by (λ (m : Member). cond (m.number == w) (held_in m.table i) 0) members
+workers-worker [] i w = refl
+workers-worker (m ∷ members) i w =
     let copies : List Holder = replicate (held_in m.table i) (Worker m.number) in
     omega (
       arith,
-      sum_by-append (λ (h : Holder). cond (is_worker w h) 1 0) copies (holders_of members i),
+      sum_by-append (λ (h : Holder). cond (is_worker w h) 1 0) copies (workers_of members i),
       copies-worker (held_in m.table i) m.number w,
-      holders-worker members i w,
+      workers-worker members i w,
       sum_by-cons (λ (m : Member). cond (m.number == w) (held_in m.table i) 0) m members,
     )
 
-holders-desk : (members : List Member) (i d : ℕ) → count_by (is_desk d) (holders_of members i) ≡ 0
-holders-desk [] i d = refl
-holders-desk (m ∷ members) i d =
+workers-desk : (members : List Member) (i d : ℕ) → count_by (is_desk d) (workers_of members i) ≡ 0
+workers-desk [] i d = refl
+workers-desk (m ∷ members) i d =
     let copies : List Holder = replicate (held_in m.table i) (Worker m.number) in
     omega (
       arith,
-      sum_by-append (λ (h : Holder). cond (is_desk d h) 1 0) copies (holders_of members i),
+      sum_by-append (λ (h : Holder). cond (is_desk d h) 1 0) copies (workers_of members i),
       copies-desk (held_in m.table i) m.number d,
-      holders-desk members i d,
+      workers-desk members i d,
     )
+
+no_worker : (desk : ℕ) (desks : List (Option (List Seg))) (i w : ℕ) → count_by (is_worker w) (desks_of desk desks i) ≡ 0
+no_worker desk [] i w = refl
+no_worker desk (slot ∷ desks) i w =
+    let copies : List Holder = replicate (bag (holds_in_slot slot) i) (Desk desk) in
+    omega (
+      arith,
+      sum_by-append (λ (h : Holder). cond (is_worker w h) 1 0) copies (desks_of (desk + 1) desks i),
+      desks-worker (bag (holds_in_slot slot) i) desk w,
+      no_worker (desk + 1) desks i w,
+    )
+
+-- a desk stands there as often as its packet holds the element
+desks_of-desk : (desk : ℕ) (desks : List (Option (List Seg))) (i d : ℕ) →
+    count_by (is_desk d) (desks_of desk desks i) ≡ sum_by (λ (packet : DeskPacket). cond (packet.desk == d) (bag (holds_of_packet packet.segs) i) 0) (desks_from desk desks)
+desks_of-desk desk [] i d = refl
+desks_of-desk desk (None ∷ desks) i d =
+    let copies : List Holder = replicate (bag [] i) (Desk desk) in
+    omega (
+      arith,
+      sum_by-append (λ (h : Holder). cond (is_desk d h) 1 0) copies (desks_of (desk + 1) desks i),
+      desks-desk (bag [] i) desk d,
+      ap (λ (n : ℕ). cond (desk == d) n 0) (bag-nil i) ∙ no_flag (desk == d),
+      desks_of-desk (desk + 1) desks i d,
+    )
+desks_of-desk desk (Some segs ∷ desks) i d =
+    let copies : List Holder = replicate (bag (holds_of_packet segs) i) (Desk desk) in
+    let packet : DeskPacket = record { desk = desk; segs = segs } in
+    omega (
+      arith,
+      sum_by-append (λ (h : Holder). cond (is_desk d h) 1 0) copies (desks_of (desk + 1) desks i),
+      desks-desk (bag (holds_of_packet segs) i) desk d,
+      desks_of-desk (desk + 1) desks i d,
+      sum_by-cons (λ (packet : DeskPacket). cond (packet.desk == d) (bag (holds_of_packet packet.segs) i) 0) packet (desks_from (desk + 1) desks),
+    )
+
+holders-worker : (members : List Member) (desks : List (Option (List Seg))) (i w : ℕ) → count_by (is_worker w) (holders_of members desks i) ≡ sum_by (λ (m : Member). cond (m.number == w) (held_in m.table i) 0) members
+holders-worker members desks i w = omega (arith, sum_by-append (λ (h : Holder). cond (is_worker w h) 1 0) (workers_of members i) (desks_of 0 desks i), workers-worker members i w, no_worker 0 desks i w)
+
+holders-desk : (members : List Member) (desks : List (Option (List Seg))) (i d : ℕ) →
+    count_by (is_desk d) (holders_of members desks i) ≡ sum_by (λ (packet : DeskPacket). cond (packet.desk == d) (bag (holds_of_packet packet.segs) i) 0) (desks_from 0 desks)
+holders-desk members desks i d = omega (arith, sum_by-append (λ (h : Holder). cond (is_desk d h) 1 0) (workers_of members i) (desks_of 0 desks i), workers-desk members i d, desks_of-desk 0 desks i d)
 
 -- what a worker's packets hold is what its table does
 packets_from-worker : (worker slot : ℕ) (table : List (Option (List Seg))) (i w : ℕ) →
@@ -227,24 +306,24 @@ range-rises n k h =
 -- where each element is in one place, the statement lists it once
 pub lists_each_once : (pool : Pool) → IsBalanced pool → ListsEachOnce (statement_of pool)
 lists_each_once pool b =
-    let test = λ (i : ℕ). nat_lt 0 (held_by pool.members i) in record {
+    let test = λ (i : ℕ). nat_lt 0 (held_of pool.members pool.stack.desks i) in record {
       once = λ i l. placed_once pool b i ∙ cond-true (nat_lt i pool.limits.population) 1 0 (lt-ltb i pool.limits.population l);
       none_else = λ i l. placed_once pool b i ∙ cond-false (nat_lt i pool.limits.population) 1 0 (le-ltb i pool.limits.population l);
       whole = whole_pool pool b;
       available = omega (arith, sum_by-map (λ (cache : List ℕ). length cache) (λ (m : Member). m.cache) pool.members);
-      in_use = sym (length-map (held_elements pool) (held_entry pool.members));
+      in_use = sym (length-map (held_elements pool) (held_entry pool.members pool.stack.desks));
       ascending = rw elems-entries (IsStrictlyIncreasing-filter test (range_with_len 0 pool.limits.population) (range-rises pool.limits.population));
-      held = All-map (λ (held : Held). 1 ≤ held.count) (held_entry pool.members) (held_elements pool)
-          (λ k d h. ltb-true 0 (held_by pool.members (get_or (held_elements pool) k d)) (filter_passes test (range_with_len 0 pool.limits.population) k d h));
-      holders = All-map (λ (held : Held). length held.holders ≡ held.count) (held_entry pool.members) (held_elements pool)
-          (λ k d h. length-holders pool.members (get_or (held_elements pool) k d));
-      counts = All-map (λ (held : Held). held.count ≡ packet_holds (statement_of pool) held.elem) (held_entry pool.members) (held_elements pool)
-          (λ k d h. omega (arith, packets-holds pool.members (get_or (held_elements pool) k d)));
-      by_worker = All-map (λ (held : Held). (w : ℕ) → count_by (is_worker w) held.holders ≡ worker_holds (statement_of pool) w held.elem) (held_entry pool.members) (held_elements pool)
-          (λ k d h w. holders-worker pool.members (get_or (held_elements pool) k d) w ∙ sym (packets-worker pool.members (get_or (held_elements pool) k d) w));
-      by_desk = All-map (λ (held : Held). (e : ℕ) → count_by (is_desk e) held.holders ≡ desk_holds (statement_of pool) e held.elem) (held_entry pool.members) (held_elements pool)
-          (λ k d h e. holders-desk pool.members (get_or (held_elements pool) k d) e);
-      unheld = λ i h. let none = rw elems-entries at h in omega (arith, none, held_elements-bag pool b i, packets-holds pool.members i, b.placed i);
+      held = All-map (λ (held : Held). 1 ≤ held.count) (held_entry pool.members pool.stack.desks) (held_elements pool)
+          (λ k d h. ltb-true 0 (held_of pool.members pool.stack.desks (get_or (held_elements pool) k d)) (filter_passes test (range_with_len 0 pool.limits.population) k d h));
+      holders = All-map (λ (held : Held). length held.holders ≡ held.count) (held_entry pool.members pool.stack.desks) (held_elements pool)
+          (λ k d h. length-holders pool.members pool.stack.desks (get_or (held_elements pool) k d));
+      counts = All-map (λ (held : Held). held.count ≡ packet_holds (statement_of pool) held.elem) (held_entry pool.members pool.stack.desks) (held_elements pool)
+          (λ k d h. omega (arith, packets-holds pool.members (get_or (held_elements pool) k d), desks_from-holds 0 pool.stack.desks (get_or (held_elements pool) k d)));
+      by_worker = All-map (λ (held : Held). (w : ℕ) → count_by (is_worker w) held.holders ≡ worker_holds (statement_of pool) w held.elem) (held_entry pool.members pool.stack.desks) (held_elements pool)
+          (λ k d h w. holders-worker pool.members pool.stack.desks (get_or (held_elements pool) k d) w ∙ sym (packets-worker pool.members (get_or (held_elements pool) k d) w));
+      by_desk = All-map (λ (held : Held). (e : ℕ) → count_by (is_desk e) held.holders ≡ desk_holds (statement_of pool) e held.elem) (held_entry pool.members pool.stack.desks) (held_elements pool)
+          (λ k d h e. holders-desk pool.members pool.stack.desks (get_or (held_elements pool) k d) e);
+      unheld = λ i h. let none = rw elems-entries at h in omega (arith, none, held_elements-bag pool b i, packets-holds pool.members i, desks_from-holds 0 pool.stack.desks i, b.placed i);
     }
 
 -- after any commands a new pool's statement lists each element exactly once

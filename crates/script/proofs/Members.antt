@@ -12,7 +12,7 @@ use Rattle.commons.specs.Packets.{held_in}
 use Rattle.mbuf.specs.Members.{Member}
 use Rattle.mbuf.specs.declared.acts.Act.{Act}
 use Rattle.mbuf.specs.declared.acts.Reply.{Reply}
-use Rattle.script.specs.Pool.{Stack, Pool, nobody, held_by}
+use Rattle.script.specs.Pool.{Stack, Pool, nobody, held_of}
 use Rattle.script.specs.PacketModel.{perform, without_packet}
 use Rattle.script.specs.Own.{stack_of, LeadsPlain, Owns, StepsAlone}
 use Rattle.script.proofs.Entries.{AreMembers, counts_are_holds}
@@ -50,7 +50,7 @@ members_after s t members n w m e l len each a number own k b =
 
 -- how often the packets that stay hold an element, where one of them goes: its count without the packet's holds
 elsewhere : (s : Lists) (members : List Member) (n : ℕ) → IsTable s → length members ≡ s.limits.workers → AreMembers s members → n < length members →
-    Elsewhere s (get_or members n (nobody s.limits)) (λ slot i. held_by (set members n (without_packet slot (get_or members n (nobody s.limits)))) i)
+    Elsewhere s (get_or members n (nobody s.limits)) (λ slot i. held_of (set members n (without_packet slot (get_or members n (nobody s.limits)))) s.desks i)
 elsewhere s members n t l each b slot segs there i =
     let m : Member = get_or members n (nobody s.limits) in
     let inner = rw there at (held_in-set m.table slot None i (stands_within m.table slot segs there)) in
@@ -68,7 +68,7 @@ pub performed : (s t : Lists) (members : List Member) (w : ℕ) (act : Act) (cal
     (perform (record { limits = s.limits; stack = stack_of s; members = members }) w act)
 performed s t members w act calls r m table l each first last same did led =
     let old : Member = get_or members (w - 1) (nobody s.limits) in
-    let others : ℕ → ℕ → ℕ = λ slot i. held_by (set members (w - 1) (without_packet slot old)) i in
-    let done = performed_by act w s t old m calls r (held_by members) others did led table (sym (each (w - 1) (omega (arith, last, l))).own.share.limits) (counts_are_holds s members table l each) (elsewhere s members (w - 1) table l each (omega arith)) in
+    let others : ℕ → ℕ → ℕ = λ slot i. held_of (set members (w - 1) (without_packet slot old)) s.desks i in
+    let done = performed_by act w s t old m calls r (held_of members s.desks) others did led table (sym (each (w - 1) (omega (arith, last, l))).own.share.limits) (counts_are_holds s members table l each) (elsewhere s members (w - 1) table l each (omega arith)) in
     rw (in_pool w (length members) first last, same)
     (ap (λ (d : Reply × Member × Stack). let p : Pool = record { limits = s.limits; stack = d.2; members = set members (w - 1) d.1 } in (d.0, p)) done)

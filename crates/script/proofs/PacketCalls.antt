@@ -8,7 +8,7 @@ use Rattle.commons.specs.declared.refusal.Refusal.{Refusal}
 use Rattle.commons.specs.declared.refusal.Refusal.TheVariants.{NoRoom, NoSuchPacket, TooShort, PacketsFull, SamePacket, TooManySegs}
 use Rattle.commons.specs.Lists.{Lists, IsTable, held_count, place_of}
 use Rattle.mbuf.specs.declared.acts.Act.{Act}
-use Rattle.mbuf.specs.declared.acts.Act.TheVariants.{Alloc, AllocBulk, Free, Append, Prepend, Adj, Trim, Chain, Attach, Detach, ClonePacket, CountOf, PktLen, NbSegs, Flush}
+use Rattle.mbuf.specs.declared.acts.Act.TheVariants.{Alloc, AllocBulk, Free, Append, Prepend, Adj, Trim, Chain, Attach, Detach, ClonePacket, Offer, Take, CountOf, PktLen, NbSegs, Flush}
 use Rattle.mbuf.specs.declared.acts.Reply.{Reply}
 use Rattle.mbuf.specs.declared.acts.Reply.TheVariants as reply
 use Rattle.mbuf.specs.declared.freed.Freed.{Freed}
@@ -16,6 +16,7 @@ use Rattle.mbuf.specs.Acts.{Performs, allocated, allocated_bulk, freed as freed_
 use Rattle.mbuf.specs.Lengths.{pkt_len, appended, prepended, adjusted, trimmed}
 use Rattle.commons.specs.Packets.{holds_of_packet}
 use Rattle.mbuf.specs.Members.{Member}
+use Rattle.mbuf.specs.Desks.{Offers, NothingThere, NotOffered, WasOffered, Takes, NoDesk, NoSlot, NotTaken, WasTaken}
 use Rattle.mbuf.specs.Sharing.{Attaches, NotAttachable, HeldElsewhere, NotRaised, WasAttached, Detaches, NotDetachable, WasDetached, Clones, NotClonable, WasGivenUp, WasCloned}
 use Rattle.mbuf.specs.PacketRules.{Allocs, Full, NotGot, Fresh, AllocsBulk, TooFull, BulkNotGot, FreshBulk, Frees, NoPacket, WasFreed, Resizes, NoneThere, NotResized, WasResized, Chains, NoHead, NoTail, Same, TooLong, WasChained, fresh_seg, free_slots, freed_nothing}
 use Rattle.script.specs.Pool.{Stack}
@@ -27,6 +28,7 @@ use Rattle.script.proofs.EndedHolds.{ended}
 use Rattle.commons.proofs.PacketBags.{stands_within}
 use Rattle.mbuf.proofs.OwnLemmas.{free_slot-is}
 use Rattle.script.proofs.PlainCalls.{LeadsPlain-split}
+use Rattle.script.proofs.DeskCalls.{offer_by, take_by}
 use Rattle.script.proofs.SharedBuffers.{AreHeld, attach_by, clone_by, count_by, detach_by, nothing}
 
 -- claims move no element of the stack
@@ -149,6 +151,8 @@ performed_by (Chain head tail) w s t m after calls r all others p h table same c
 performed_by (Attach mi target) w s t m after calls r all others p h table same counts held = rw p.2 (attach_by w s t m after mi target all calls p.0 p.1 h same counts)
 performed_by (Detach slot) w s t m after calls r all others p h table same counts held = rw p.2 (detach_by w s t m after slot all calls p.0 p.1 h counts (held_within s m all others counts held))
 performed_by (ClonePacket source) w s t m after calls r all others p h table same counts held = rw p.2 (clone_by w s t m after source all calls p.0 p.1 h table same counts (held_within s m all others counts held))
+performed_by (Offer slot desk) w s t m after calls r all others p h table same counts held = rw p.2 (offer_by w s t m after slot desk calls p.0 p.1 h table)
+performed_by (Take desk) w s t m after calls r all others p h table same counts held = rw p.2 (take_by w s t m after desk calls p.0 p.1 h table same)
 performed_by (CountOf slot) w s t m after calls r all others p h table same counts held = rw (p.2, p.3) (count_by w s t m slot all calls p.0 (get_or m.table slot None) refl p.1 h counts)
 performed_by (PktLen slot) w s t m after calls r all others p h table same counts held = rw (p.0, p.2, nothing w s t calls p.1 h) refl
 performed_by (NbSegs slot) w s t m after calls r all others p h table same counts held = rw (p.0, p.2, nothing w s t calls p.1 h) refl
@@ -199,6 +203,17 @@ clones_number m after source calls answer (NotClonable cause f c a k) = ap (λ (
 clones_number m after source calls answer (WasGivenUp segs slot f cause left g a k) = ap (λ (x : Member). x.number) k
 clones_number m after source calls answer (WasCloned segs slot f new left g a k) = ap (λ (x : Member). x.number) k
 
+offers_number : (m after : Member) (slot desk : ℕ) (calls : List Call) (answer : Result (Unit {0}) Refusal) → Offers m slot desk calls answer after → after.number ≡ m.number
+offers_number m after slot desk calls answer (NothingThere f c a k) = ap (λ (x : Member). x.number) k
+offers_number m after slot desk calls answer (NotOffered segs f cause c a k) = ap (λ (x : Member). x.number) k
+offers_number m after slot desk calls answer (WasOffered segs f c a k) = ap (λ (x : Member). x.number) k
+
+takes_number : (m after : Member) (desk : ℕ) (calls : List Call) (answer : Result ℕ Refusal) → Takes m desk calls answer after → after.number ≡ m.number
+takes_number m after desk calls answer (NoDesk h c a k) = ap (λ (x : Member). x.number) k
+takes_number m after desk calls answer (NoSlot h f c a k) = ap (λ (x : Member). x.number) k
+takes_number m after desk calls answer (NotTaken h slot f cause c a k) = ap (λ (x : Member). x.number) k
+takes_number m after desk calls answer (WasTaken h slot f segs c a k) = ap (λ (x : Member). x.number) k
+
 pub performs_number : (act : Act) (m after : Member) (calls : List Call) (r : Reply) → Performs act m calls r after → after.number ≡ m.number
 performs_number Alloc m after calls r p = allocs_number m after calls p.0 p.1
 performs_number (AllocBulk n) m after calls r p = bulk_number m after n calls p.0 p.1
@@ -211,6 +226,8 @@ performs_number (Chain head tail) m after calls r p = chains_number m after head
 performs_number (Attach mi target) m after calls r p = attaches_number m after mi target calls p.0 p.1
 performs_number (Detach slot) m after calls r p = detaches_number m after slot calls p.0 p.1
 performs_number (ClonePacket source) m after calls r p = clones_number m after source calls p.0 p.1
+performs_number (Offer slot desk) m after calls r p = offers_number m after slot desk calls p.0 p.1
+performs_number (Take desk) m after calls r p = takes_number m after desk calls p.0 p.1
 performs_number (CountOf slot) m after calls r p = ap (λ (x : Member). x.number) p.2
 performs_number (PktLen slot) m after calls r p = ap (λ (x : Member). x.number) p.0
 performs_number (NbSegs slot) m after calls r p = ap (λ (x : Member). x.number) p.0

@@ -2,8 +2,8 @@
 use Rattle.std.proofs.Common.{ℕ, ◌≡◌, List, [], ◌∷◌, ◌++◌, Ok, Err, refl, sym, ◌∙◌, ap, subst}
 use Rattle.commons.specs.declared.plain.PlainCommons.{PlainCommons}
 use Rattle.commons.specs.declared.limits.Limits.{Limits}
-use Rattle.commons.specs.declared.refusal.Refusal.TheVariants.{NoEntries, HeadSpent, RefSpent}
-use Rattle.commons.specs.Calls.{Call, GetList, PutList, Claim, CountOf, Raise, Lower, CommonCount, Reading, Made, Leads, calls_of}
+use Rattle.commons.specs.declared.refusal.Refusal.TheVariants.{NoEntries, HeadSpent, RefSpent, DeskTaken, DeskEmpty, NoSuchDesk}
+use Rattle.commons.specs.Calls.{Call, GetList, PutList, Claim, CountOf, Raise, Lower, Offer, Take, CommonCount, Reading, Made, Leads, calls_of}
 use Rattle.commons.specs.Lists.{Lists, IsTable, KeepsOthers, DidPlain, DidOnLists}
 use Rattle.script.specs.Own.{LeadsPlain, StepsAlone}
 
@@ -74,6 +74,14 @@ did_limits w s (Raise i (Ok _)) t d = ap (λ (x : Lists). x.limits) d.1
 did_limits w s (Raise i (Err RefSpent)) t d = ap (λ (x : Lists). x.limits) d.1
 did_limits w s (Raise i (Err _)) t d = absurd d
 did_limits w s (Lower i answer) t d = ap (λ (x : Lists). x.limits) d.2
+did_limits w s (Offer desk packet (Ok _)) t d = ap (λ (x : Lists). x.limits) d.2
+did_limits w s (Offer desk packet (Err NoSuchDesk)) t d = ap (λ (x : Lists). x.limits) d.1
+did_limits w s (Offer desk packet (Err DeskTaken)) t d = ap (λ (x : Lists). x.limits) d.2
+did_limits w s (Offer desk packet (Err _)) t d = absurd d
+did_limits w s (Take desk (Ok packet)) t d = ap (λ (x : Lists). x.limits) d.2
+did_limits w s (Take desk (Err NoSuchDesk)) t d = ap (λ (x : Lists). x.limits) d.1
+did_limits w s (Take desk (Err DeskEmpty)) t d = ap (λ (x : Lists). x.limits) d.2
+did_limits w s (Take desk (Err _)) t d = absurd d
 did_limits w s (CommonCount n) t d = ap (λ (x : Lists). x.limits) d.1
 
 pub LeadsPlain-limits : (w : ℕ) (s : Lists) (calls : List Call) (t : Lists) → LeadsPlain w s calls t → t.limits ≡ s.limits

@@ -14,13 +14,13 @@ abbrev pub ask : ℕ → Stack → Result (List ℕ) Refusal × Stack
 ask n s =
     if nat_lt (length s.common) n then (Err NoEntries, s)
     else if s.changes == spent then (Err HeadSpent, s)
-    else (Ok (take n s.common), record { common = drop n s.common; changes = s.changes + 1 })
+    else (Ok (take n s.common), record s { common = drop n s.common; changes = s.changes + 1 })
 
 -- a push puts the list before the common list, its last element on top
 abbrev pub push : List ℕ → Stack → Result (Unit {0}) Refusal × Stack
 push xs s =
     if s.changes == spent then (Err HeadSpent, s)
-    else (Ok tt, record { common = reverse xs ++ s.common; changes = s.changes + 1 })
+    else (Ok tt, record s { common = reverse xs ++ s.common; changes = s.changes + 1 })
 
 abbrev pub get_direct : List ℕ → Result (List ℕ) Refusal × Stack → Result (List ℕ) Refusal × List ℕ × Stack
 get_direct cache r = (r.0, cache, r.1)

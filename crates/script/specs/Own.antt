@@ -6,9 +6,9 @@ use Rattle.mbuf.specs.Members.{Member}
 use Rattle.mbuf.specs.Own.{Own}
 use Rattle.script.specs.Pool.{Stack}
 
--- the common list and the number of changes
+-- what all workers share of the lists
 abbrev pub stack_of : Lists → Stack
-stack_of s = record { common = s.common; changes = s.changes }
+stack_of s = record { common = s.common; changes = s.changes; desks = s.desks }
 
 -- the packets of a worker of the pool are its own with its part of the lists
 pub record Owns (s : Lists) (m : Member) : Type 0 where

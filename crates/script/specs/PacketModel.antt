@@ -2,10 +2,10 @@
 use Rattle.std.specs.Prelude.{ℕ, ◌+◌, ◌-◌, ◌==◌, ◌&&◌, nat_lt, nat_le, if◌then◌else◌, List, [], ◌∷◌, ◌++◌, length, take, slice_index_or, slice_set, Option, Some, None, Result, Ok, Err}
 use Rattle.commons.specs.declared.packet.Seg.{Seg}
 use Rattle.commons.specs.declared.refusal.Refusal.{Refusal}
-use Rattle.commons.specs.declared.refusal.Refusal.TheVariants.{NoEntries, NoRoom, NoSuchPacket, PacketsFull, SamePacket, StrangerShare, TooManySegs, TooShort}
+use Rattle.commons.specs.declared.refusal.Refusal.TheVariants.{DeskEmpty, DeskTaken, NoEntries, NoRoom, NoSuchDesk, NoSuchPacket, PacketsFull, SamePacket, StrangerShare, TooManySegs, TooShort}
 use Rattle.mempool.specs.declared.put.Put.{Put}
 use Rattle.mbuf.specs.declared.acts.Act.{Act}
-use Rattle.mbuf.specs.declared.acts.Act.TheVariants.{Alloc, AllocBulk, Free, Append, Prepend, Adj, Trim, Chain, Attach, Detach, ClonePacket, CountOf, PktLen, NbSegs, Flush}
+use Rattle.mbuf.specs.declared.acts.Act.TheVariants.{Alloc, AllocBulk, Free, Append, Prepend, Adj, Trim, Chain, Attach, Detach, ClonePacket, Offer, Take, CountOf, PktLen, NbSegs, Flush}
 use Rattle.mbuf.specs.declared.acts.Reply.{Reply}
 use Rattle.mbuf.specs.declared.acts.Reply.TheVariants as reply
 use Rattle.mbuf.specs.Acts.{allocated_bulk, told_len, told_segs}
@@ -13,7 +13,7 @@ use Rattle.mbuf.specs.Lengths.{pkt_len, appended, prepended, adjusted, trimmed}
 use Rattle.commons.specs.Packets.{holds_in_slot}
 use Rattle.mbuf.specs.Members.{Member}
 use Rattle.mbuf.specs.PacketRules.{fresh_seg, free_slot, free_slots, stood, freed_nothing, of_packet}
-use Rattle.script.specs.Pool.{Stack, Pool, held_by, member_at, with_member}
+use Rattle.script.specs.Pool.{Stack, Pool, held_of, member_at, with_member}
 use Rattle.script.specs.CacheModel.{get, flush}
 use Rattle.script.specs.HoldModel.{end_holds}
 use Rattle.script.specs.SharingModel.{attach, clone, count, detach}
@@ -87,6 +87,35 @@ chain head tail m = chain_in (slice_index_or m.table head None) (slice_index_or 
 abbrev pub beside : Stack → Reply × Member → Reply × Member × Stack
 beside s done = (done.0, done.1, s)
 
+-- a packet goes onto a desk that is empty, and leaves its slot
+abbrev pub offer_onto : Option (List Seg) → List Seg → ℕ → ℕ → Member → Stack → Reply × Member × Stack
+offer_onto (Some other) segs slot desk m s = (reply.Refused DeskTaken, m, s)
+offer_onto None segs slot desk m s = (reply.Offered, record m { table = slice_set m.table slot None }, record s { desks = slice_set s.desks desk (Some segs) })
+
+abbrev pub offer_in : Option (List Seg) → ℕ → ℕ → Member → Stack → Reply × Member × Stack
+offer_in None slot desk m s = (reply.Refused NoSuchPacket, m, s)
+offer_in (Some segs) slot desk m s =
+    if nat_le (length s.desks) desk then (reply.Refused NoSuchDesk, m, s)
+    else offer_onto (slice_index_or s.desks desk None) segs slot desk m s
+
+abbrev pub offer : ℕ → ℕ → Member → Stack → Reply × Member × Stack
+offer slot desk m s = offer_in (slice_index_or m.table slot None) slot desk m s
+
+-- the packet of a desk goes into the slot
+abbrev pub take_from : Option (List Seg) → ℕ → ℕ → Member → Stack → Reply × Member × Stack
+take_from None slot desk m s = (reply.Refused DeskEmpty, m, s)
+take_from (Some segs) slot desk m s =
+    (reply.Taken slot (length segs) (pkt_len segs), record m { table = slice_set m.table slot (Some segs) }, record s { desks = slice_set s.desks desk None })
+
+abbrev pub take_into : Option ℕ → ℕ → Member → Stack → Reply × Member × Stack
+take_into None desk m s = (reply.Refused PacketsFull, m, s)
+take_into (Some slot) desk m s = take_from (slice_index_or s.desks desk None) slot desk m s
+
+abbrev pub take_off : ℕ → Member → Stack → Reply × Member × Stack
+take_off desk m s =
+    if nat_le (length s.desks) desk then (reply.Refused NoSuchDesk, m, s)
+    else take_into (free_slot m.table) desk m s
+
 -- a flush changes the worker's cache, and none of its packets
 abbrev pub flushed : Member → Put × List ℕ × Stack → Reply × Member × Stack
 flushed m done = (reply.Put done.0, record m { cache = done.1 }, done.2)
@@ -98,9 +127,9 @@ flush_member m s = flushed m (flush m.cache s)
 abbrev pub without_packet : ℕ → Member → Member
 without_packet slot m = record m { table = slice_set m.table slot None }
 
--- how often all packets but the one in a worker's slot hold each element
+-- how often all packets but the one in a worker's slot hold each element, those on desks among them
 abbrev pub held_elsewhere : Pool → ℕ → ℕ → ℕ → ℕ
-held_elsewhere pool n slot i = held_by (slice_set pool.members n (without_packet slot (member_at pool n))) i
+held_elsewhere pool n slot i = held_of (slice_set pool.members n (without_packet slot (member_at pool n))) pool.stack.desks i
 
 -- What a worker does. Of all packets of the pool, held is how often they hold each element, and others slot how often
 -- those hold it that stay where the one in this slot is freed; most acts ask for neither.
@@ -116,13 +145,15 @@ member_act (Chain head tail) held others m s = beside s (chain head tail m)
 member_act (Attach mi target) held others m s = beside s (attach held mi target m)
 member_act (Detach slot) held others m s = detach held slot m s
 member_act (ClonePacket source) held others m s = clone held source m s
+member_act (Offer slot desk) held others m s = offer slot desk m s
+member_act (Take desk) held others m s = take_off desk m s
 member_act (CountOf slot) held others m s = (count held slot m, m, s)
 member_act (PktLen slot) held others m s = (told_len (of_packet pkt_len (slice_index_or m.table slot None)), m, s)
 member_act (NbSegs slot) held others m s = (told_segs (of_packet length (slice_index_or m.table slot None)), m, s)
 member_act Flush held others m s = flush_member m s
 
 abbrev pub act_on : Pool → ℕ → Act → Reply × Member × Stack
-act_on pool n act = member_act act (held_by pool.members) (held_elsewhere pool n) (member_at pool n) pool.stack
+act_on pool n act = member_act act (held_of pool.members pool.stack.desks) (held_elsewhere pool n) (member_at pool n) pool.stack
 
 -- the reply to what a worker is asked to do, and the pool afterwards; a worker outside the pool does nothing
 abbrev pub perform : Pool → ℕ → Act → Reply × Pool

@@ -7,12 +7,12 @@ use Rattle.script.specs.declared.commands.Command.{Command}
 use Rattle.script.specs.declared.commands.Command.TheVariants as command
 use Rattle.script.specs.declared.commands.Line.{Line}
 use Rattle.mbuf.specs.declared.acts.Act.{Act}
-use Rattle.mbuf.specs.declared.acts.Act.TheVariants.{Alloc, AllocBulk, Free, Append, Prepend, Adj, Trim, Chain, Attach, Detach, ClonePacket, CountOf, Flush}
+use Rattle.mbuf.specs.declared.acts.Act.TheVariants.{Alloc, AllocBulk, Free, Append, Prepend, Adj, Trim, Chain, Attach, Detach, ClonePacket, Offer, Take, CountOf, Flush}
 use Rattle.mbuf.specs.declared.lengths.Change.{Change}
 use Rattle.mbuf.specs.declared.lengths.Change.TheVariants as change
 use Rattle.mbuf.specs.declared.acts.NewPacket.{NewPacket}
 use Rattle.mbuf.specs.declared.acts.Reply.{Reply}
-use Rattle.mbuf.specs.declared.acts.Reply.TheVariants.{Allocated, Bulk as WasBulk, Chained, Cloned, Freed as WasFreed, Refused}
+use Rattle.mbuf.specs.declared.acts.Reply.TheVariants.{Allocated, Bulk as WasBulk, Chained, Cloned, Freed as WasFreed, Offered, Refused, Taken}
 use Rattle.script.specs.Pool.{Pool, new_pool}
 use Rattle.script.specs.PacketModel.{perform}
 
@@ -108,6 +108,27 @@ clone_as (Some slot) worker made run =
     let done = perform run.pool worker (ClonePacket slot) in
     (done.0, record { pool = done.1; stands = stands_after_clone worker made done.0 run.stands })
 
+-- an offer that is met takes its name away
+abbrev pub stands_after_offer : ℕ → List ℕ → Reply → (ℕ → List ℕ → Option ℕ) → ℕ → List ℕ → Option ℕ
+stands_after_offer worker name Offered stands = named worker name None stands
+stands_after_offer worker name _ stands = stands
+
+abbrev pub offer_as : Option ℕ → ℕ → ℕ → List ℕ → Run → Reply × Run
+offer_as None desk worker name run = (Refused NoSuchPacket, run)
+offer_as (Some slot) desk worker name run =
+    let done = perform run.pool worker (Offer slot desk) in
+    (done.0, record { pool = done.1; stands = stands_after_offer worker name done.0 run.stands })
+
+-- and a take that is met gives its name the packet's slot
+abbrev pub stands_after_take : ℕ → List ℕ → Reply → (ℕ → List ℕ → Option ℕ) → ℕ → List ℕ → Option ℕ
+stands_after_take worker name (Taken slot segs len) stands = named worker name (Some slot) stands
+stands_after_take worker name _ stands = stands
+
+abbrev pub take_as : ℕ → ℕ → List ℕ → Run → Reply × Run
+take_as desk worker name run =
+    let done = perform run.pool worker (Take desk) in
+    (done.0, record { pool = done.1; stands = stands_after_take worker name done.0 run.stands })
+
 -- a flush leaves each name as it stands
 abbrev pub flush_as : ℕ → Run → Reply × Run
 flush_as worker run = let done = perform run.pool worker Flush in (done.0, record { pool = done.1; stands = run.stands })
@@ -123,6 +144,8 @@ obey worker (command.Attach name target) run = act_as_both (run.stands worker na
 obey worker (command.Detach name) run = act_as (run.stands worker name) Detach worker run
 obey worker (command.Clone name made) run = clone_as (run.stands worker name) worker made run
 obey worker (command.Count name) run = act_as (run.stands worker name) CountOf worker run
+obey worker (command.Offer name desk) run = offer_as (run.stands worker name) desk worker name run
+obey worker (command.Take desk name) run = take_as desk worker name run
 obey worker command.Flush run = flush_as worker run
 
 -- the reply to each line, with its number

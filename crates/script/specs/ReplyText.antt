@@ -32,13 +32,15 @@ abbrev pub elements_text : List NewPacket → List ℕ
 elements_text packets = flat_map (λ packet. codes " " ++ decimal packet.elem) packets
 
 -- A reply: the elements of the new packets or of a clone, what freeing or a flush did, a count, a length in bytes, a
--- number of segments, of a chain both, or the refusal's number and name.
+-- number of segments, of a chain and of a packet that was taken both, or the refusal's number and name.
 unfoldable pub reply_text : Reply → List ℕ
 reply_text (replies.Allocated slot elem) = codes "ok " ++ decimal elem
 reply_text (replies.Bulk packets) = codes "ok" ++ elements_text packets.items
 reply_text (replies.Freed freed) = freed_text freed
 reply_text replies.Attached = codes "ok"
 reply_text (replies.Cloned slot elems) = codes "ok" ++ joined decimal elems.items
+reply_text replies.Offered = codes "ok"
+reply_text (replies.Taken slot segs len) = codes "ok " ++ decimal segs ++ codes " " ++ decimal len
 reply_text (replies.Count count) = codes "ok " ++ decimal count
 reply_text (replies.Len len) = codes "ok " ++ decimal len
 reply_text (replies.Segs segs) = codes "ok " ++ decimal segs

@@ -1,17 +1,18 @@
 -- What a statement says: of a pool in the reference model, and of any pool.
-use Rattle.std.specs.Prelude.{ℕ, ◌≡◌, ◌+◌, ◌<◌, ◌≤◌, nat_lt, List, [], ◌∷◌, length, replicate, filter, map, flat_map, sum_by, All, Option, Some, None, ◌==◌, Bool, false, cond, count_by}
+use Rattle.std.specs.Prelude.{ℕ, ◌≡◌, ◌+◌, ◌<◌, ◌≤◌, nat_lt, List, [], ◌∷◌, ◌++◌, length, replicate, filter, map, flat_map, sum_by, All, Option, Some, None, ◌==◌, Bool, false, cond, count_by}
 use Rattle.std.specs.List.{range_with_len}
 use Rattle.std.specs.List.Sorted.{IsStrictlyIncreasing}
 use Rattle.commons.specs.Bag.{bag}
 use Rattle.commons.specs.declared.packet.Seg.{Seg}
 use Rattle.script.specs.declared.statement.Statement.{Statement}
+use Rattle.script.specs.declared.statement.DeskPacket.{DeskPacket}
 use Rattle.script.specs.declared.statement.PlacedPacket.{PlacedPacket}
 use Rattle.script.specs.declared.statement.Held.{Held}
 use Rattle.script.specs.declared.statement.Holder.{Holder}
 use Rattle.script.specs.declared.statement.Holder.TheVariants.{Worker, Desk}
-use Rattle.commons.specs.Packets.{holds_of_packet, held_in}
+use Rattle.commons.specs.Packets.{holds_of_packet, holds_in_slot, held_in}
 use Rattle.mbuf.specs.Members.{Member}
-use Rattle.script.specs.Pool.{Pool, held_by}
+use Rattle.script.specs.Pool.{Pool, held_of}
 
 -- the packets of a worker's table, the first of its slots having this number
 abbrev pub packets_from : ℕ → ℕ → List (Option (List Seg)) → List PlacedPacket
@@ -23,18 +24,33 @@ packets_from worker slot (Some segs ∷ table) = record { worker = worker; slot 
 abbrev pub packets_of : Member → List PlacedPacket
 packets_of member = packets_from member.number 0 member.table
 
--- who holds an element, each as often as it does
-abbrev pub holders_of : List Member → ℕ → List Holder
-holders_of members i = flat_map (λ member. replicate (held_in member.table i) (Worker member.number)) members
+-- the packets on desks, the first of which has this number
+abbrev pub desks_from : ℕ → List (Option (List Seg)) → List DeskPacket
+desks_from desk [] = []
+desks_from desk (None ∷ desks) = desks_from (desk + 1) desks
+desks_from desk (Some segs ∷ desks) = record { desk = desk; segs = segs } ∷ desks_from (desk + 1) desks
 
-abbrev pub held_entry : List Member → ℕ → Held
-held_entry members i = record { elem = i; count = held_by members i; holders = holders_of members i }
+-- which workers hold an element, each as often as it does
+abbrev pub workers_of : List Member → ℕ → List Holder
+workers_of members i = flat_map (λ member. replicate (held_in member.table i) (Worker member.number)) members
+
+-- and which desks, the first of which has this number
+abbrev pub desks_of : ℕ → List (Option (List Seg)) → ℕ → List Holder
+desks_of desk [] i = []
+desks_of desk (slot ∷ desks) i = replicate (bag (holds_in_slot slot) i) (Desk desk) ++ desks_of (desk + 1) desks i
+
+-- who holds it: workers, then desks
+abbrev pub holders_of : List Member → List (Option (List Seg)) → ℕ → List Holder
+holders_of members desks i = workers_of members i ++ desks_of 0 desks i
+
+abbrev pub held_entry : List Member → List (Option (List Seg)) → ℕ → Held
+held_entry members desks i = record { elem = i; count = held_of members desks i; holders = holders_of members desks i }
 
 -- the elements below the population that packets hold, ascending
 abbrev pub held_elements : Pool → List ℕ
-held_elements pool = filter (λ i. nat_lt 0 (held_by pool.members i)) (range_with_len 0 pool.limits.population)
+held_elements pool = filter (λ i. nat_lt 0 (held_of pool.members pool.stack.desks i)) (range_with_len 0 pool.limits.population)
 
--- the statement of a pool that has no desks
+-- the statement of a pool
 abbrev pub statement_of : Pool → Statement
 statement_of pool = record {
   population = pool.limits.population;
@@ -43,8 +59,8 @@ statement_of pool = record {
   common = pool.stack.common;
   caches = map (λ member. member.cache) pool.members;
   packets = flat_map packets_of pool.members;
-  desks = [];
-  held = map (held_entry pool.members) (held_elements pool);
+  desks = desks_from 0 pool.stack.desks;
+  held = map (held_entry pool.members pool.stack.desks) (held_elements pool);
 }
 
 -- how often a statement lists an element: in the common list, in caches, and as a held one

@@ -1,13 +1,17 @@
 //! Where each element of a pool is.
 
-ghost use Rattle.std.specs.Prelude.{◌≡◌, ◌<◌, ◌≤◌, ◌++◌, ℕ, IfOk, filter, flat_map, length, map, nat_lt, replicate, slice_index_or, sum_by};
+ghost use Rattle.std.specs.Prelude.{◌≡◌, ◌<◌, ◌≤◌, ◌++◌, ℕ, IfOk, cond, filter, flat_map, length, map, nat_lt, replicate, slice_index_or, sum_by};
 ghost use Rattle.std.specs.List.{range_with_len};
 ghost use Rattle.script.specs.Own.{stack_of};
-ghost use Rattle.script.specs.Pool.{held_by, nobody};
+ghost use Rattle.commons.specs.Bag.{bag};
+ghost use Rattle.commons.specs.Lists.{IsTable};
+ghost use Rattle.commons.specs.Packets.{hold_of, holds_of_packet, holds_of_seg};
+ghost use Rattle.script.specs.Pool.{held_of, nobody};
 ghost use Rattle.script.specs.SitePool.{IsMember};
-ghost use Rattle.script.specs.Statements.{held_entry, holders_of, packets_of, statement_of};
+ghost use Rattle.script.specs.Statements.{desks_from, desks_of, held_entry, holders_of, packets_of, statement_of, workers_of};
 
-use crate::statement::{Held, Holder, PlacedPacket, Statement};
+use crate::statement::{DeskPacket, Held, Holder, PlacedPacket, Statement};
+use commons::packet::{Packet, Seg};
 use commons::place::Place;
 use commons::seq::Seq;
 use commons::site::PlainSite;
@@ -32,7 +36,7 @@ pub(crate) fn statement(
         common: common_list(alloc, site)?,
         caches: caches(alloc, members)?,
         packets: packets(alloc, members)?,
-        desks: Seq::new(Vec::new(alloc)),
+        desks: desks(alloc, site)?,
         held,
     })
 }
@@ -109,11 +113,28 @@ fn place_packets(
     Ok(())
 }
 
+/// The packets on desks, ascending.
+fn desks(alloc: Global, site: &PlainSite) -> Result<Seq<DeskPacket>, AllocError>
+    ensures { IfOk result (λ s. s ≡ desks_from 0 site.now.desks) }
+{
+    let mut placed = Vec::new(alloc);
+    for (desk, place) in site.desks().iter().enumerate() {
+        if let Some(packet) = place {
+            let segs = copied(alloc, packet.segs())?;
+            placed.push(DeskPacket {
+                desk: desk as u32,
+                segs,
+            })?;
+        }
+    }
+    Ok(Seq::new(placed))
+}
+
 /// The held elements, ascending.
 fn held(alloc: Global, site: &PlainSite, members: &[Packets]) -> Result<Seq<Held>, AllocError>
     requires workers { length members.now ≡ site.now.limits.workers }
     requires each { (n : ℕ) → n < site.now.limits.workers → IsMember site.now n (slice_index_or members.now n (nobody site.now.limits)) }
-    ensures { IfOk result (λ s. s ≡ map (held_entry members.now) (filter (λ i. nat_lt 0 (held_by members.now i)) (range_with_len 0 site.now.limits.population))) }
+    ensures { IfOk result (λ s. s ≡ map (held_entry members.now site.now.desks) (filter (λ i. nat_lt 0 (held_of members.now site.now.desks i)) (range_with_len 0 site.now.limits.population))) }
 {
     let mut held = Vec::new(alloc);
     for (i, place) in site.places().iter().enumerate() {
@@ -140,7 +161,24 @@ fn holders(
     requires below { elem < site.now.limits.population }
     requires workers { length members.now ≡ site.now.limits.workers }
     requires each { (n : ℕ) → n < site.now.limits.workers → IsMember site.now n (slice_index_or members.now n (nobody site.now.limits)) }
-    ensures { IfOk result (λ s. s ≡ holders_of members.now elem) }
+    ensures { IfOk result (λ s. s ≡ holders_of members.now site.now.desks elem) }
+{
+    let mut holders = workers(alloc, site, members, elem)?;
+    add_desks(&mut holders, site.desks(), elem)?;
+    Ok(Seq::new(holders))
+}
+
+/// Which workers hold an element, each as often as it does.
+fn workers(
+    alloc: Global,
+    site: &PlainSite,
+    members: &[Packets],
+    elem: u32,
+) -> Result<Vec<Holder>, AllocError>
+    requires below { elem < site.now.limits.population }
+    requires workers { length members.now ≡ site.now.limits.workers }
+    requires each { (n : ℕ) → n < site.now.limits.workers → IsMember site.now n (slice_index_or members.now n (nobody site.now.limits)) }
+    ensures { IfOk result (λ v. v.items ≡ workers_of members.now elem) }
 {
     let mut holders = Vec::new(alloc);
     for member in members {
@@ -151,7 +189,57 @@ fn holders(
             site.hold(number, elem),
         )?;
     }
-    Ok(Seq::new(holders))
+    Ok(holders)
+}
+
+/// Adds the desks whose packets hold an element, each as often as its packet does.
+fn add_desks(holders: &mut Vec<Holder>, desks: &[Option<Packet>], elem: u32) -> Result<(), AllocError>
+    requires { length desks.now ≤ 64 }
+    ensures { IfOk result (λ _. holders.new.items ≡ holders.old.items ++ desks_of 0 desks.now elem) }
+{
+    for (desk, place) in desks.iter().enumerate() {
+        if let Some(packet) = place {
+            hold_often(holders, Holder::Desk(desk as u32), holds_in(packet, elem))?;
+        }
+    }
+    Ok(())
+}
+
+/// How often a packet holds an element.
+fn holds_in(packet: &Packet, elem: u32) -> u32
+    ensures { result ≡ bag (holds_of_packet packet.now) elem }
+{
+    let mut count = 0;
+    for seg in packet.segs() {
+        count += holds_in_seg(*seg, elem);
+    }
+    count
+}
+
+/// How often a segment holds an element.
+fn holds_in_seg(seg: Seg, elem: u32) -> u32
+    ensures count { result ≡ bag (holds_of_seg seg) elem }
+    ensures few { result ≤ 2 }
+{
+    holds_in_base(seg.base, elem) + one_if(seg.elem == elem)
+}
+
+/// 1 where it is so.
+fn one_if(yes: bool) -> u32
+    ensures { result ≡ cond yes 1 0 }
+{
+    if yes { 1 } else { 0 }
+}
+
+/// How often the base is this element.
+fn holds_in_base(base: Option<u32>, elem: u32) -> u32
+    ensures count { result ≡ bag (hold_of base) elem }
+    ensures few { result ≤ 1 }
+{
+    match base {
+        Some(base) => one_if(base == elem),
+        None => 0,
+    }
 }
 
 /// Adds a holder so often.

@@ -195,6 +195,24 @@ fn obey<'a>(pool: &mut SitePool, names: &mut Names<'a>, line: &'a Line) -> Resul
             }
             Ok(reply)
         }
+        Command::Offer(name, desk) => {
+            let name = name.as_slice();
+            let Some(slot) = names.get(worker, name) else {
+                return Ok(Reply::Refused(Refusal::NoSuchPacket));
+            };
+            let reply = pool.perform(worker, Act::Offer(slot, u32::from(*desk)));
+            if let Reply::Offered = reply {
+                names.forget(worker, name);
+            }
+            Ok(reply)
+        }
+        Command::Take(desk, name) => {
+            let reply = pool.perform(worker, Act::Take(u32::from(*desk)));
+            if let Reply::Taken(slot, _, _) = reply {
+                names.set(worker, name.as_slice(), slot)?;
+            }
+            Ok(reply)
+        }
         Command::Count(name) => {
             let Some(slot) = names.get(worker, name.as_slice()) else {
                 return Ok(Reply::Refused(Refusal::NoSuchPacket));

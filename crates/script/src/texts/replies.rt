@@ -43,6 +43,8 @@ fn write_reply(out: &mut Vec<u8>, reply: &Reply) -> io::Result<()>
         Reply::Freed(freed) => write_freed(out, *freed),
         Reply::Attached => write!(out, "ok"),
         Reply::Cloned(_, elems) => write_cloned(out, elems.as_slice()),
+        Reply::Offered => write!(out, "ok"),
+        Reply::Taken(_, segs, len) => write!(out, "ok {segs} {len}"),
         Reply::Count(count) => write!(out, "ok {count}"),
         Reply::Len(len) => write!(out, "ok {len}"),
         Reply::Segs(segs) => write!(out, "ok {segs}"),

@@ -1,6 +1,6 @@
 use Rattle.std.proofs.Common.{arith}
 use Rattle.commons.proofs.Bags.{one-same}
-use Rattle.commons.proofs.EndedRows.{bag-seg}
+use Rattle.commons.proofs.PacketBags.{bag-seg}
 use Rattle.commons.proofs.passing.add_seg.Goals as goal
 
 pub add_base-requires-clause-below : goal.add_base-requires-clause-below

@@ -1,7 +1,8 @@
 use Rattle.std.proofs.Common.{◌∷◌, [], arith}
 use Rattle.commons.specs.Packets.{hold_of}
 use Rattle.commons.proofs.Bags.{one-same}
-use Rattle.commons.proofs.EndedRows.{bag-seg, ended-append}
+use Rattle.commons.proofs.EndedRows.{ended-append}
+use Rattle.commons.proofs.PacketBags.{bag-seg}
 use Rattle.commons.proofs.passing.end_seg.Goals as goal
 
 pub end_base-requires-clause-held : goal.end_base-requires-clause-held

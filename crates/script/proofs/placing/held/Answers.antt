@@ -11,15 +11,15 @@ loop-i-preserved c =
     elim c.match-place.branch [
       | in-Held+in_ok-holders+in_ok-push w ↦
           let there = count_there s members places.result.now c.loop-i.i w.in-Held.count places.ensures.table c.requires.workers c.requires.each places.ensures.places c.loop-i-test.true w.in-Held.is in
-          let more = entry_held members s.limits.population c.loop-i.i w.in-Held.count there.0 there.1 there.2 in
+          let more = entry_held members s.desks s.limits.population c.loop-i.i w.in-Held.count there.0 there.1 there.2 in
           rw (w.held-is, w.in_ok-push.ensures.items, c.loop-i.invariant, w.in_ok-holders.ensures) (sym more)
       | in_default w ↦
           let there = none_there s members places.result.now c.loop-i.i places.ensures.table c.requires.workers c.requires.each places.ensures.places c.loop-i-test.true w.in_default.not-Held in
-          rw (w.held-is, c.loop-i.invariant) (sym (entry_none members s.limits.population c.loop-i.i there.0 there.1))
+          rw (w.held-is, c.loop-i.invariant) (sym (entry_none members s.desks s.limits.population c.loop-i.i there.0 there.1))
     ]
 
 pub returns : goal.returns
 returns c =
     let table = c.places-place-items.ensures.table in
     c.new.ensures ∙ c.loop-i.invariant ∙
-    entries_all c.args.members.now c.args.site.now.limits.population c.loop-i.i (omega (arith, table.elements, ap length c.places-place-items.ensures.places))
+    entries_all c.args.members.now c.args.site.now.desks c.args.site.now.limits.population c.loop-i.i (omega (arith, table.elements, ap length c.places-place-items.ensures.places))

@@ -1,6 +1,6 @@
 use Rattle.std.proofs.Common.{sym}
 use Rattle.script.proofs.Entries.{holders_more, member_there}
-use Rattle.script.proofs.placing.holders.Goals as goal
+use Rattle.script.proofs.placing.workers.Goals as goal
 
 pub loop-member-preserved : goal.loop-member-preserved
 loop-member-preserved c =
