@@ -8,17 +8,16 @@ use Rattle.std.proofs.lemmas.Option.{cond_some}
 use Rattle.std.proofs.Math.Seq.{take-append_seam, drop-append_seam}
 use Rattle.std.proofs.lemmas.List.{take-append-drop}
 use Rattle.std.proofs.lemmas.Slice.Eq.{bytes_eq-Decides}
-use Rattle.mbuf.specs.declared.lengths.Change.{Change}
 use Rattle.mbuf.specs.declared.lengths.Change.TheVariants.{Append, Prepend, Adj, Trim}
 use Rattle.script.specs.declared.command_line.Verb.{Verb}
 use Rattle.script.specs.declared.command_line.Verb.TheVariants as verbs
 use Rattle.script.specs.declared.commands.Command.{Command}
-use Rattle.script.specs.declared.commands.Command.TheVariants.{Alloc, Bulk, Free, Resize, Chain, Attach, Detach, Clone, Count, Flush}
+use Rattle.script.specs.declared.commands.Command.TheVariants.{Alloc, Bulk, Free, Resize, Chain, Attach, Detach, Clone, Count, Offer, Take, Flush}
 use Rattle.script.specs.declared.commands.Line.{Line}
 use Rattle.script.specs.Names.{IsName}
 use Rattle.script.specs.Numbers.{IsNumber}
-use Rattle.script.specs.CommandLine.{AreNames, AreVerbAndName, AreVerbAndNames, IsOneOf, AreApart, change_word, bytes_of, IsResize, IsCommand, IsPrefix, IsCommandLine, alone, prefixed, Makes, IsMade, MakesAnew}
-use Rattle.script.specs.Reading.{is_name_word, number_at, are_names, names_with, is_one_of, with_name, repeats_some, both_of, name_at, short_length, length_at, name_and_length, both_names, name_with, both_with, resize_with, verb_word, all_verbs, verb_at, only_name_of, bare, command_with, command_from, before_colon, of_workers, worker_at, order_of, order_by, order_from, makes, is_made, repeats}
+use Rattle.script.specs.CommandLine.{AreNames, AreVerbAndName, AreVerbAndNames, AreWithNumber, IsOneOf, AreApart, IsCommand, IsPrefix, IsCommandLine, alone, prefixed, Makes, IsMade, MakesAnew}
+use Rattle.script.specs.Reading.{is_name_word, number_at, are_names, names_with, is_one_of, with_name, repeats_some, both_of, name_at, short_number, short_number_at, numbered_name, name_and_number, number_and_name, both_names, name_with, both_with, numbered_with, verb_word, all_verbs, verb_at, only_name_of, bare, command_with, command_from, before_colon, of_workers, worker_at, order_of, order_by, order_from, makes, is_made, repeats}
 use Rattle.script.specs.Told.{IsNamed, IsAmong}
 use Rattle.script.proofs.NumberLemmas.{all_from, all_to, name_from, name_is, number_from, number_is}
 use Rattle.script.proofs.KeptLemmas.{and_then_some, only_name_is, found_is}
@@ -52,16 +51,16 @@ both_is (word ∷ other ∷ third ∷ words) both e = absurd cc
 name_is_at : (word name : List ℕ) → name_at word ≡ Some name → (word ≡ name) × IsName name
 name_is_at word name e = let h = cond_some (is_name_word word) word name e in (h.1, name_from name (sym (ap is_name_word h.1) ∙ h.0))
 
--- a length that a word spells
-length_from : (word : List ℕ) (n : ℕ) → length_at word ≡ Some n → IsNumber word n × (n ≤ 65535)
-length_from word n e =
-    let h = and_then_some short_length (number_at word) n e in
+-- a number of at most 65535 that a word spells
+short_number_from : (word : List ℕ) (n : ℕ) → short_number_at word ≡ Some n → IsNumber word n × (n ≤ 65535)
+short_number_from word n e =
+    let h = and_then_some short_number (number_at word) n e in
     let c = if_some (leb h.0 65535) (Some h.0) n h.2 in
     let same = found_is h.0 n c.1 in
     (subst (λ (k : ℕ). IsNumber word k) same (number_from word h.0 h.1), subst (λ (k : ℕ). k ≤ 65535) same (leb-true h.0 65535 c.0))
 
-length_is : (word : List ℕ) (n : ℕ) → IsNumber word n → n ≤ 65535 → length_at word ≡ Some n
-length_is word n h short = ap (option_and_then short_length) (number_is word n h) ∙ cond-true (leb n 65535) (Some n) None (le-leb n 65535 short)
+short_number_is : (word : List ℕ) (n : ℕ) → IsNumber word n → n ≤ 65535 → short_number_at word ≡ Some n
+short_number_is word n h short = ap (option_and_then short_number) (number_is word n h) ∙ cond-true (leb n 65535) (Some n) None (le-leb n 65535 short)
 
 -- the only two words are those names
 both_names_are : (words : List (List ℕ)) (found : List ℕ × List ℕ) → both_names words ≡ Some found → (words ≡ found.0 ∷ found.1 ∷ []) × IsName found.0 × IsName found.1
@@ -86,29 +85,43 @@ both_named_is verb make by words command e =
 name_at_is : (name : List ℕ) → IsName name → name_at name ≡ Some name
 name_at_is name h = cond-true (is_name_word name) (Some name) None (name_is name h)
 
--- a packet's change of lengths
-resize_from : (make : ℕ → Change) (words : List (List ℕ)) (command : Command) → ((n : ℕ) → bytes_of (make n) ≡ n) → ((n m : ℕ) → change_word (make n) ≡ change_word (make m)) → resize_with make words ≡ Some command →
-    IsCommand (change_word (make 0) ∷ words) command
-resize_from make words command by same e =
-    let f = and_then_some (λ found. Some (Resize found.0 (make found.1))) (name_and_length words) command e in
-    let found = f.0 in
-    let b = and_then_some (λ both. option_and_then (λ name. option_and_then (λ len. Some (name, len)) (length_at both.1)) (name_at both.0)) (both_of words) found f.1 in
-    let n = and_then_some (λ name. option_and_then (λ len. Some (name, len)) (length_at b.0.1)) (name_at b.0.0) found b.2 in
-    let l = and_then_some (λ len. Some (n.0, len)) (length_at b.0.1) found n.2 in
-    let pair : ◌≡◌ {A = List ℕ × ℕ} (n.0, l.0) found = found_is (n.0, l.0) found l.2 in
-    let name = name_is_at b.0.0 n.0 n.1 in
-    let len = length_from b.0.1 l.0 l.1 in
-    let is : IsResize (change_word (make 0) ∷ words) n.0 (make l.0) = record {
-      number = b.0.1;
-      words_are = ap (λ (ws : List (List ℕ)). change_word (make 0) ∷ ws) (both_is words b.0 b.1) ∙ ap (λ (w : List ℕ). change_word (make 0) ∷ w ∷ b.0.1 ∷ []) name.0 ∙ ap (λ (w : List ℕ). w ∷ n.0 ∷ b.0.1 ∷ []) (same 0 l.0);
-      is_name = name.1;
-      is_number = subst (λ (k : ℕ). IsNumber b.0.1 k) (sym (by l.0)) len.0;
-      short = subst (λ (k : ℕ). k ≤ 65535) (sym (by l.0)) len.1;
-    } in
-    subst (λ (c : Command). IsCommand (change_word (make 0) ∷ words) c) (ap (λ (p : List ℕ × ℕ). Resize p.0 (make p.1)) pair ∙ found_is (Resize found.0 (make found.1)) command f.2) is
+-- a name and a number, whichever comes first
+numbered_name_from : (words : List (List ℕ)) (order : List ℕ → List ℕ → List (List ℕ)) (word other : List ℕ) (found : List ℕ × ℕ) → words ≡ order word other → numbered_name word other ≡ Some found →
+    AreWithNumber words (order found.0) found.0 found.1
+numbered_name_from words order word other found words_are e =
+    let n = and_then_some (λ name. option_and_then (λ k. Some (name, k)) (short_number_at other)) (name_at word) found e in
+    let k = and_then_some (λ number. Some (n.0, number)) (short_number_at other) found n.2 in
+    let name = name_is_at word n.0 n.1 in
+    let number = short_number_from other k.0 k.1 in
+    subst (λ (p : List ℕ × ℕ). AreWithNumber words (order p.0) p.0 p.1) (found_is (n.0, k.0) found k.2)
+    (record { number = other; words_are = words_are ∙ ap (λ (w : List ℕ). order w other) name.0; is_name = name.1; is_number = number.0; short = number.1 })
 
-resize_by_words : (make : ℕ → Change) (name number : List ℕ) (n : ℕ) → IsName name → IsNumber number n → n ≤ 65535 → resize_with make (name ∷ number ∷ []) ≡ Some (Resize name (make n))
-resize_by_words make name number n h k short = rw (name_at_is name h, length_is number n k short) refl
+-- the two orders
+abbrev name_first : List ℕ → List ℕ → List (List ℕ)
+name_first name number = name ∷ number ∷ []
+
+abbrev number_first : List ℕ → List ℕ → List (List ℕ)
+number_first name number = number ∷ name ∷ []
+
+name_and_number_from : (words : List (List ℕ)) (found : List ℕ × ℕ) → name_and_number words ≡ Some found → AreWithNumber words (name_first found.0) found.0 found.1
+name_and_number_from words found e =
+    let b = and_then_some (λ both. numbered_name both.0 both.1) (both_of words) found e in
+    numbered_name_from words name_first b.0.0 b.0.1 found (both_is words b.0 b.1) b.2
+
+number_and_name_from : (words : List (List ℕ)) (found : List ℕ × ℕ) → number_and_name words ≡ Some found → AreWithNumber words (number_first found.0) found.0 found.1
+number_and_name_from words found e =
+    let b = and_then_some (λ both. numbered_name both.1 both.0) (both_of words) found e in
+    numbered_name_from words number_first b.0.1 b.0.0 found (both_is words b.0 b.1) b.2
+
+-- the command of a verb, a name and a number
+numbered_is : (verb : Verb) (order : List ℕ → List ℕ → List (List ℕ)) (make : List ℕ → ℕ → Command) → ((all : List (List ℕ)) (name : List ℕ) (n : ℕ) → AreWithNumber all (λ number. verb_word verb ∷ order name number) name n → IsCommand all (make name n)) →
+    (words : List (List ℕ)) (o : Option (List ℕ × ℕ)) → ((found : List ℕ × ℕ) → o ≡ Some found → AreWithNumber words (order found.0) found.0 found.1) → (command : Command) → numbered_with make o ≡ Some command →
+    IsCommand (verb_word verb ∷ words) command
+numbered_is verb order make by words o from command e =
+    let f = and_then_some (λ named. Some (make named.0 named.1)) o command e in
+    let h = from f.0 f.1 in
+    subst (λ (c : Command). IsCommand (verb_word verb ∷ words) c) (found_is (make f.0.0 f.0.1) command f.2)
+    (by (verb_word verb ∷ words) f.0.0 f.0.1 (record { number = h.number; words_are = ap (λ (ws : List (List ℕ)). verb_word verb ∷ ws) h.words_are; is_name = h.is_name; is_number = h.is_number; short = h.short }))
 
 -- 1 to 256 names
 names_from : (words : List (List ℕ)) → are_names words ≡ true → AreNames words
@@ -132,15 +145,17 @@ command_of_verb verbs.Bulk words command e =
     subst (λ (c : Command). IsCommand (verb_word verbs.Bulk ∷ words) c) (found_is (Bulk n.0) command n.2)
     (ap (λ (ws : List (List ℕ)). codes "bulk" ∷ ws) same, subst AreNames same (names_from words c.0))
 command_of_verb verbs.Free words command e = named_is verbs.Free (λ name. Free name) (λ all name h. h) words command e
-command_of_verb verbs.Append words command e = resize_from (λ n. Append n) words command (λ n. refl) (λ n m. refl) e
-command_of_verb verbs.Prepend words command e = resize_from (λ n. Prepend n) words command (λ n. refl) (λ n m. refl) e
-command_of_verb verbs.Adj words command e = resize_from (λ n. Adj n) words command (λ n. refl) (λ n m. refl) e
-command_of_verb verbs.Trim words command e = resize_from (λ n. Trim n) words command (λ n. refl) (λ n m. refl) e
+command_of_verb verbs.Append words command e = numbered_is verbs.Append name_first (λ name n. Resize name (Append n)) (λ all name n h. h) words (name_and_number words) (name_and_number_from words) command e
+command_of_verb verbs.Prepend words command e = numbered_is verbs.Prepend name_first (λ name n. Resize name (Prepend n)) (λ all name n h. h) words (name_and_number words) (name_and_number_from words) command e
+command_of_verb verbs.Adj words command e = numbered_is verbs.Adj name_first (λ name n. Resize name (Adj n)) (λ all name n h. h) words (name_and_number words) (name_and_number_from words) command e
+command_of_verb verbs.Trim words command e = numbered_is verbs.Trim name_first (λ name n. Resize name (Trim n)) (λ all name n h. h) words (name_and_number words) (name_and_number_from words) command e
 command_of_verb verbs.Chain words command e = both_named_is verbs.Chain (λ head tail. Chain head tail) (λ all head tail h. h) words command e
 command_of_verb verbs.Attach words command e = both_named_is verbs.Attach (λ first second. Attach first second) (λ all first second h. h) words command e
 command_of_verb verbs.Detach words command e = named_is verbs.Detach (λ packet. Detach packet) (λ all packet h. h) words command e
 command_of_verb verbs.Clone words command e = both_named_is verbs.Clone (λ packet made. Clone packet made) (λ all packet made h. h) words command e
 command_of_verb verbs.Count words command e = named_is verbs.Count (λ packet. Count packet) (λ all packet h. h) words command e
+command_of_verb verbs.Offer words command e = numbered_is verbs.Offer name_first (λ packet desk. Offer packet desk) (λ all packet desk h. h) words (name_and_number words) (name_and_number_from words) command e
+command_of_verb verbs.Take words command e = numbered_is verbs.Take number_first (λ made desk. Take desk made) (λ all made desk h. h) words (number_and_name words) (number_and_name_from words) command e
 command_of_verb verbs.Flush words command e =
     let b = bare_is Flush command words e in
     subst (λ (c : Command). IsCommand (verb_word verbs.Flush ∷ words) c) b.1 (ap (λ (ws : List (List ℕ)). verb_word verbs.Flush ∷ ws) b.0)
@@ -160,19 +175,24 @@ name_by_words make name h = ap (option_and_then (λ n. Some (make n))) (only_nam
 both_by_words : (make : List ℕ → List ℕ → Command) (first second : List ℕ) → IsName first → IsName second → both_with make (first ∷ second ∷ []) ≡ Some (make first second)
 both_by_words make first second h k = rw (name_at_is first h, name_at_is second k) refl
 
+numbered_by_words : (make : List ℕ → ℕ → Command) (name number : List ℕ) (n : ℕ) → IsName name → IsNumber number n → n ≤ 65535 → numbered_with make (numbered_name name number) ≡ Some (make name n)
+numbered_by_words make name number n h k short = rw (name_at_is name h, short_number_is number n k short) refl
+
 pub command_is : (words : List (List ℕ)) (command : Command) → IsCommand words command → command_from words ≡ Some command
 command_is words (Alloc name) h = ap command_from h.0 ∙ name_by_words (λ n. Alloc n) name h.1
 command_is words (Bulk names) h = ap command_from h.0 ∙ ap (option_and_then (λ ns. Some (Bulk ns))) (cond-true (are_names names) (Some names) None (names_are names h.1))
 command_is words (Free name) h = ap command_from h.0 ∙ name_by_words (λ n. Free n) name h.1
-command_is words (Resize name (Append n)) h = ap command_from h.words_are ∙ resize_by_words (λ k. Append k) name h.number n h.is_name h.is_number h.short
-command_is words (Resize name (Prepend n)) h = ap command_from h.words_are ∙ resize_by_words (λ k. Prepend k) name h.number n h.is_name h.is_number h.short
-command_is words (Resize name (Adj n)) h = ap command_from h.words_are ∙ resize_by_words (λ k. Adj k) name h.number n h.is_name h.is_number h.short
-command_is words (Resize name (Trim n)) h = ap command_from h.words_are ∙ resize_by_words (λ k. Trim k) name h.number n h.is_name h.is_number h.short
+command_is words (Resize name (Append n)) h = ap command_from h.words_are ∙ numbered_by_words (λ m k. Resize m (Append k)) name h.number n h.is_name h.is_number h.short
+command_is words (Resize name (Prepend n)) h = ap command_from h.words_are ∙ numbered_by_words (λ m k. Resize m (Prepend k)) name h.number n h.is_name h.is_number h.short
+command_is words (Resize name (Adj n)) h = ap command_from h.words_are ∙ numbered_by_words (λ m k. Resize m (Adj k)) name h.number n h.is_name h.is_number h.short
+command_is words (Resize name (Trim n)) h = ap command_from h.words_are ∙ numbered_by_words (λ m k. Resize m (Trim k)) name h.number n h.is_name h.is_number h.short
 command_is words (Chain head tail) h = ap command_from h.0 ∙ both_by_words (λ n k. Chain n k) head tail h.1 h.2
 command_is words (Attach first second) h = ap command_from h.0 ∙ both_by_words (λ n k. Attach n k) first second h.1 h.2
 command_is words (Detach packet) h = ap command_from h.0 ∙ name_by_words (λ n. Detach n) packet h.1
 command_is words (Clone packet made) h = ap command_from h.0 ∙ both_by_words (λ n k. Clone n k) packet made h.1 h.2
 command_is words (Count packet) h = ap command_from h.0 ∙ name_by_words (λ n. Count n) packet h.1
+command_is words (Offer packet desk) h = ap command_from h.words_are ∙ numbered_by_words (λ m k. Offer m k) packet h.number desk h.is_name h.is_number h.short
+command_is words (Take desk made) h = ap command_from h.words_are ∙ numbered_by_words (λ m k. Take k m) made h.number desk h.is_name h.is_number h.short
 command_is words Flush h = ap command_from h
 
 -- ---- the worker in front of a command
@@ -238,6 +258,8 @@ no_prefix words (Attach first second) workers h = ap (order_from workers) h.0 �
 no_prefix words (Detach packet) workers h = ap (order_from workers) h.0 ∙ ap (order_of 1) (sym h.0)
 no_prefix words (Clone packet made) workers h = ap (order_from workers) h.0 ∙ ap (order_of 1) (sym h.0)
 no_prefix words (Count packet) workers h = ap (order_from workers) h.0 ∙ ap (order_of 1) (sym h.0)
+no_prefix words (Offer packet desk) workers h = ap (order_from workers) h.words_are ∙ ap (order_of 1) (sym h.words_are)
+no_prefix words (Take desk made) workers h = ap (order_from workers) h.words_are ∙ ap (order_of 1) (sym h.words_are)
 no_prefix words Flush workers h = ap (order_from workers) h ∙ ap (order_of 1) (sym h)
 
 order_as : (worker : ℕ) (words : List (List ℕ)) (command : Command) → IsCommand words command → order_of worker words ≡ Some (worker, command)
@@ -263,6 +285,8 @@ named_by words (Attach first second) h = (h.1, h.2)
 named_by words (Detach packet) h = h.1
 named_by words (Clone packet made) h = (h.1, h.2)
 named_by words (Count packet) h = h.1
+named_by words (Offer packet desk) h = h.is_name
+named_by words (Take desk made) h = h.is_name
 named_by words Flush h = tt
 
 line_names : (workers : ℕ) (words : List (List ℕ)) (worker : ℕ) (command : Command) → IsCommandLine workers words worker command → IsNamed command
@@ -304,6 +328,8 @@ makes_from (Attach first second) name e = absurd (false≢true e)
 makes_from (Detach packet) name e = absurd (false≢true e)
 makes_from (Clone packet made) name e = sym ((bytes_eq-Decides name made).0 e)
 makes_from (Count packet) name e = absurd (false≢true e)
+makes_from (Offer packet desk) name e = absurd (false≢true e)
+makes_from (Take desk made) name e = sym ((bytes_eq-Decides name made).0 e)
 makes_from Flush name e = absurd (false≢true e)
 
 makes_is : (command : Command) (name : List ℕ) → Makes command name → makes command name ≡ true
@@ -316,6 +342,8 @@ makes_is (Attach first second) name h = absurd h
 makes_is (Detach packet) name h = absurd h
 makes_is (Clone packet made) name h = (bytes_eq-Decides name made).1 (sym h)
 makes_is (Count packet) name h = absurd h
+makes_is (Offer packet desk) name h = absurd h
+makes_is (Take desk made) name h = (bytes_eq-Decides name made).1 (sym h)
 makes_is Flush name h = absurd h
 
 made_from : (lines : List Line) (worker : ℕ) (name : List ℕ) → is_made lines worker name ≡ true → IsMade lines worker name
@@ -375,6 +403,8 @@ anew_is lines worker (Attach first second) h = refl
 anew_is lines worker (Detach packet) h = refl
 anew_is lines worker (Clone packet made) h = one_is lines worker made h.new
 anew_is lines worker (Count packet) h = refl
+anew_is lines worker (Offer packet desk) h = refl
+anew_is lines worker (Take desk made) h = one_is lines worker made h.new
 anew_is lines worker Flush h = refl
 
 pub anew_from : (lines : List Line) (worker : ℕ) (command : Command) → repeats lines worker command ≡ false → MakesAnew lines worker command
@@ -387,4 +417,6 @@ anew_from lines worker (Attach first second) e = record { new = λ name makes_it
 anew_from lines worker (Detach packet) e = record { new = λ name makes_it h. makes_it; once = tt }
 anew_from lines worker (Clone packet made) e = record { new = one_from lines worker made e; once = tt }
 anew_from lines worker (Count packet) e = record { new = λ name makes_it h. makes_it; once = tt }
+anew_from lines worker (Offer packet desk) e = record { new = λ name makes_it h. makes_it; once = tt }
+anew_from lines worker (Take desk made) e = record { new = one_from lines worker made e; once = tt }
 anew_from lines worker Flush e = record { new = λ name makes_it h. makes_it; once = tt }

@@ -6,7 +6,7 @@ use Rattle.std.proofs.lemmas.Bool.{cond-true, cond-false, cases_Bool, leb-true, 
 use Rattle.commons.specs.declared.limits.Limits.{Limits}
 use Rattle.mbuf.specs.declared.lengths.Change.TheVariants.{Append, Prepend, Adj, Trim}
 use Rattle.script.specs.declared.commands.Command.{Command}
-use Rattle.script.specs.declared.commands.Command.TheVariants.{Alloc, Bulk, Free, Resize, Chain, Attach, Detach, Clone, Count, Flush}
+use Rattle.script.specs.declared.commands.Command.TheVariants.{Alloc, Bulk, Free, Resize, Chain, Attach, Detach, Clone, Count, Offer, Take, Flush}
 use Rattle.script.specs.Numbers.{IsNumber}
 use Rattle.script.specs.CommandLine.{IsCommand, IsCommandLine, alone, prefixed}
 use Rattle.script.specs.Text.{IsPrinted, IsPlain}
@@ -96,6 +96,8 @@ counted_command words (Attach first second) h = ap is_skipped h.0
 counted_command words (Detach packet) h = ap is_skipped h.0
 counted_command words (Clone packet made) h = ap is_skipped h.0
 counted_command words (Count packet) h = ap is_skipped h.0
+counted_command words (Offer packet desk) h = ap is_skipped h.words_are
+counted_command words (Take desk made) h = ap is_skipped h.words_are
 counted_command words Flush h = ap is_skipped h
 
 -- a number begins with a digit, and not with `#`

@@ -7,7 +7,7 @@ use Rattle.std.proofs.lemmas.Bool.{cond-true, cond-false, cases_Bool, false≢tr
 use Rattle.std.proofs.lemmas.Slice.Eq.{bytes_eq-Decides}
 use Rattle.commons.specs.declared.limits.Limits.{Limits}
 use Rattle.script.specs.declared.commands.Key.{Key}
-use Rattle.script.specs.declared.commands.Key.TheVariants.{Cache, Workers, Buf, Refs, Tries, Start}
+use Rattle.script.specs.declared.commands.Key.TheVariants.{Cache, Workers, Desks, Buf, Refs, Tries, Start}
 use Rattle.script.specs.declared.pool_line.Settings.{Settings}
 use Rattle.script.specs.Numbers.{IsNumber}
 use Rattle.script.specs.PoolLine.{spelled, same_key, ArePairs, given, AreOnce, limits_with, IsPoolLine}
@@ -44,6 +44,7 @@ key_from word key e = spelled_from spelled keys word key e
 key_at-spelled : (key : Key) → key_at (spelled key) ≡ Some key
 key_at-spelled Cache = refl
 key_at-spelled Workers = refl
+key_at-spelled Desks = refl
 key_at-spelled Buf = refl
 key_at-spelled Refs = refl
 key_at-spelled Tries = refl
@@ -58,6 +59,7 @@ same_key-refl a = (bytes_eq-Decides (spelled a) (spelled a)).1 refl
 with-each : (settings : Settings) (key other : Key) (value : ℕ) → value_of (with_value settings key value) other ≡ value_with settings key value other
 with-each settings key Cache value = refl
 with-each settings key Workers value = refl
+with-each settings key Desks value = refl
 with-each settings key Buf value = refl
 with-each settings key Refs value = refl
 with-each settings key Tries value = refl
@@ -196,6 +198,7 @@ or_none (Some x) = refl
 none_value : (key : Key) → value_of none_given key ≡ None
 none_value Cache = refl
 none_value Workers = refl
+none_value Desks = refl
 none_value Buf = refl
 none_value Refs = refl
 none_value Tries = refl
@@ -205,11 +208,12 @@ limits_same : (population : ℕ) (pairs : List (Key × ℕ)) (settings : Setting
 limits_same population pairs settings h =
     let cache : settings.cache ≡ given Cache pairs = h Cache ∙ or_none (given Cache pairs) in
     let workers : settings.workers ≡ given Workers pairs = h Workers ∙ or_none (given Workers pairs) in
+    let desks : settings.desks ≡ given Desks pairs = h Desks ∙ or_none (given Desks pairs) in
     let buf : settings.buf ≡ given Buf pairs = h Buf ∙ or_none (given Buf pairs) in
     let refs : settings.refs ≡ given Refs pairs = h Refs ∙ or_none (given Refs pairs) in
     let tries : settings.tries ≡ given Tries pairs = h Tries ∙ or_none (given Tries pairs) in
     let start : settings.start ≡ given Start pairs = h Start ∙ or_none (given Start pairs) in
-    rw (cache, workers, buf, refs, tries, start) refl
+    rw (cache, workers, desks, buf, refs, tries, start) refl
 
 pool_from_words : (word : List ℕ) (words : List (List ℕ)) (limits : Limits) → word ≡ codes "pool" → pool_with words ≡ Some limits → IsPoolLine (word ∷ words) limits
 pool_from_words word [] limits e f = absurd cc

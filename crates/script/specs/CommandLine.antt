@@ -4,7 +4,7 @@ use Rattle.std.specs.List.{AllByRecursion}
 use Rattle.mbuf.specs.declared.lengths.Change.{Change}
 use Rattle.mbuf.specs.declared.lengths.Change.TheVariants.{Append, Prepend, Adj, Trim}
 use Rattle.script.specs.declared.commands.Command.{Command}
-use Rattle.script.specs.declared.commands.Command.TheVariants.{Alloc, Bulk, Free, Resize, Chain, Attach, Detach, Clone, Count, Flush}
+use Rattle.script.specs.declared.commands.Command.TheVariants.{Alloc, Bulk, Free, Resize, Chain, Attach, Detach, Clone, Count, Offer, Take, Flush}
 use Rattle.script.specs.declared.commands.Line.{Line}
 use Rattle.script.specs.Names.{IsName}
 use Rattle.script.specs.Numbers.{IsNumber}
@@ -23,14 +23,6 @@ bytes_of (Prepend n) = n
 bytes_of (Adj n) = n
 bytes_of (Trim n) = n
 
--- the words are a packet's change by so many bytes, at most 65535
-pub record IsResize (words : List (List ℕ)) (name : List ℕ) (change : Change) : Type 0 where
-  pub number : List ℕ
-  pub words_are : words ≡ change_word change ∷ name ∷ number ∷ []
-  pub is_name : IsName name
-  pub is_number : IsNumber number (bytes_of change)
-  pub short : bytes_of change ≤ 65535
-
 -- the words are 1 to 256 names
 pub record AreNames (words : List (List ℕ)) : Type 0 where
   pub some : 1 ≤ length words
@@ -45,17 +37,27 @@ AreVerbAndName words verb name = (words ≡ verb ∷ name ∷ []) × IsName name
 abbrev pub AreVerbAndNames : List (List ℕ) → List ℕ → List ℕ → List ℕ → Type 0
 AreVerbAndNames words verb first second = (words ≡ verb ∷ first ∷ second ∷ []) × IsName first × IsName second
 
+-- the words are these, with a word for the number among them; the name is one, and the number, of bytes or of a desk, is at most 65535
+pub record AreWithNumber (words : List (List ℕ)) (around : List ℕ → List (List ℕ)) (name : List ℕ) (n : ℕ) : Type 0 where
+  pub number : List ℕ
+  pub words_are : words ≡ around number
+  pub is_name : IsName name
+  pub is_number : IsNumber number n
+  pub short : n ≤ 65535
+
 -- the words are this command
 abbrev pub IsCommand : List (List ℕ) → Command → Type 0
 IsCommand words (Alloc name) = AreVerbAndName words (codes "alloc") name
 IsCommand words (Bulk names) = (words ≡ codes "bulk" ∷ names) × AreNames names
 IsCommand words (Free name) = AreVerbAndName words (codes "free") name
-IsCommand words (Resize name change) = IsResize words name change
+IsCommand words (Resize name change) = AreWithNumber words (λ number. change_word change ∷ name ∷ number ∷ []) name (bytes_of change)
 IsCommand words (Chain head tail) = AreVerbAndNames words (codes "chain") head tail
 IsCommand words (Attach first second) = AreVerbAndNames words (codes "attach") first second
 IsCommand words (Detach packet) = AreVerbAndName words (codes "detach") packet
 IsCommand words (Clone packet made) = AreVerbAndNames words (codes "clone") packet made
 IsCommand words (Count packet) = AreVerbAndName words (codes "count") packet
+IsCommand words (Offer packet desk) = AreWithNumber words (λ number. codes "offer" ∷ packet ∷ number ∷ []) packet desk
+IsCommand words (Take desk made) = AreWithNumber words (λ number. codes "take" ∷ number ∷ made ∷ []) made desk
 IsCommand words Flush = words ≡ codes "flush" ∷ []
 
 -- the word is a worker's number, from 1 to that of the last, with a colon behind it
@@ -94,6 +96,8 @@ Makes (Attach first second) name = ⊥
 Makes (Detach packet) name = ⊥
 Makes (Clone packet made) name = made ≡ name
 Makes (Count packet) name = ⊥
+Makes (Offer packet desk) name = ⊥
+Makes (Take desk made) name = made ≡ name
 Makes Flush name = ⊥
 
 -- one of the lines makes the worker's name
@@ -112,6 +116,8 @@ MakesOnce (Attach first second) = Unit {0}
 MakesOnce (Detach packet) = Unit {0}
 MakesOnce (Clone packet made) = Unit {0}
 MakesOnce (Count packet) = Unit {0}
+MakesOnce (Offer packet desk) = Unit {0}
+MakesOnce (Take desk made) = Unit {0}
 MakesOnce Flush = Unit {0}
 
 -- no line has made before what the worker's command makes, and it makes it once

@@ -3,13 +3,14 @@ use Rattle.std.specs.Prelude.{◌≡◌, ℕ, Bool, if◌then◌else◌, List, [
 use Rattle.std.specs.Str.{bytes_eq}
 use Rattle.commons.specs.declared.limits.Limits.{Limits}
 use Rattle.script.specs.declared.commands.Key.{Key}
-use Rattle.script.specs.declared.commands.Key.TheVariants.{Cache, Workers, Buf, Refs, Tries, Start}
+use Rattle.script.specs.declared.commands.Key.TheVariants.{Cache, Workers, Desks, Buf, Refs, Tries, Start}
 use Rattle.script.specs.Numbers.{IsNumber}
 
 -- how a key is written
 abbrev pub spelled : Key → List ℕ
 spelled Cache = codes "cache"
 spelled Workers = codes "workers"
+spelled Desks = codes "desks"
 spelled Buf = codes "buf"
 spelled Refs = codes "refs"
 spelled Tries = codes "tries"
@@ -41,7 +42,7 @@ limits_with population pairs = record {
   population = population;
   cache = unwrap_or (given Cache pairs) 0;
   workers = unwrap_or (given Workers pairs) 1;
-  desks = 0;
+  desks = unwrap_or (given Desks pairs) 0;
   buf = unwrap_or (given Buf pairs) 2048;
   ref_limit = unwrap_or (given Refs pairs) 65535;
   tries = unwrap_or (given Tries pairs) 64;

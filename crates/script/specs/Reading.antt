@@ -8,12 +8,12 @@ use Rattle.commons.specs.declared.refusal.Refusal.TheVariants.{BadPool, ScriptFa
 use Rattle.mbuf.specs.declared.lengths.Change.{Change}
 use Rattle.mbuf.specs.declared.lengths.Change.TheVariants.{Append, Prepend, Adj, Trim}
 use Rattle.script.specs.declared.commands.Command.{Command}
-use Rattle.script.specs.declared.commands.Command.TheVariants.{Alloc, Bulk, Free, Resize, Chain, Attach, Detach, Clone, Count, Flush}
+use Rattle.script.specs.declared.commands.Command.TheVariants.{Alloc, Bulk, Free, Resize, Chain, Attach, Detach, Clone, Count, Offer, Take, Flush}
 use Rattle.script.specs.declared.commands.Line.{Line}
 use Rattle.script.specs.declared.command_line.Verb.{Verb}
 use Rattle.script.specs.declared.command_line.Verb.TheVariants as verbs
 use Rattle.script.specs.declared.commands.Key.{Key}
-use Rattle.script.specs.declared.commands.Key.TheVariants.{Cache, Workers, Buf, Refs, Tries, Start}
+use Rattle.script.specs.declared.commands.Key.TheVariants.{Cache, Workers, Desks, Buf, Refs, Tries, Start}
 use Rattle.script.specs.declared.pool_line.Settings.{Settings}
 use Rattle.script.specs.Numbers.{decimal}
 use Rattle.script.specs.PoolLine.{spelled, same_key}
@@ -105,7 +105,7 @@ is_name_word word =
 
 -- all keys
 abbrev pub keys : List Key
-keys = Cache ∷ Workers ∷ Buf ∷ Refs ∷ Tries ∷ Start ∷ []
+keys = Cache ∷ Workers ∷ Desks ∷ Buf ∷ Refs ∷ Tries ∷ Start ∷ []
 
 -- the key that a word spells
 abbrev pub key_at : List ℕ → Option Key
@@ -115,6 +115,7 @@ key_at word = find (λ key. bytes_eq word (spelled key)) keys
 abbrev pub value_of : Settings → Key → Option ℕ
 value_of settings Cache = settings.cache
 value_of settings Workers = settings.workers
+value_of settings Desks = settings.desks
 value_of settings Buf = settings.buf
 value_of settings Refs = settings.refs
 value_of settings Tries = settings.tries
@@ -129,6 +130,7 @@ abbrev pub with_value : Settings → Key → ℕ → Settings
 with_value settings key value = record {
   cache = value_with settings key value Cache;
   workers = value_with settings key value Workers;
+  desks = value_with settings key value Desks;
   buf = value_with settings key value Buf;
   refs = value_with settings key value Refs;
   tries = value_with settings key value Tries;
@@ -137,7 +139,7 @@ with_value settings key value = record {
 
 -- no key was given a value
 abbrev pub none_given : Settings
-none_given = record { cache = None; workers = None; buf = None; refs = None; tries = None; start = None }
+none_given = record { cache = None; workers = None; desks = None; buf = None; refs = None; tries = None; start = None }
 
 -- a new value of a key
 abbrev pub add_value : Settings → Key → ℕ → Option Settings
@@ -161,7 +163,7 @@ limits_by population settings = record {
   population = population;
   cache = unwrap_or settings.cache 0;
   workers = unwrap_or settings.workers 1;
-  desks = 0;
+  desks = unwrap_or settings.desks 0;
   buf = unwrap_or settings.buf 2048;
   ref_limit = unwrap_or settings.refs 65535;
   tries = unwrap_or settings.tries 64;
@@ -203,11 +205,13 @@ verb_word verbs.Attach = codes "attach"
 verb_word verbs.Detach = codes "detach"
 verb_word verbs.Clone = codes "clone"
 verb_word verbs.Count = codes "count"
+verb_word verbs.Offer = codes "offer"
+verb_word verbs.Take = codes "take"
 verb_word verbs.Flush = codes "flush"
 
 -- all verbs
 abbrev pub all_verbs : List Verb
-all_verbs = verbs.Alloc ∷ verbs.Bulk ∷ verbs.Free ∷ verbs.Append ∷ verbs.Prepend ∷ verbs.Adj ∷ verbs.Trim ∷ verbs.Chain ∷ verbs.Attach ∷ verbs.Detach ∷ verbs.Clone ∷ verbs.Count ∷ verbs.Flush ∷ []
+all_verbs = verbs.Alloc ∷ verbs.Bulk ∷ verbs.Free ∷ verbs.Append ∷ verbs.Prepend ∷ verbs.Adj ∷ verbs.Trim ∷ verbs.Chain ∷ verbs.Attach ∷ verbs.Detach ∷ verbs.Clone ∷ verbs.Count ∷ verbs.Offer ∷ verbs.Take ∷ verbs.Flush ∷ []
 
 -- the verb that a word spells
 abbrev pub verb_at : List ℕ → Option Verb
@@ -237,17 +241,25 @@ both_of (word ∷ other ∷ third ∷ words) = None
 abbrev pub name_at : List ℕ → Option (List ℕ)
 name_at word = if is_name_word word then Some word else None
 
--- the number, where it is a length in bytes of at most 65535
-abbrev pub short_length : ℕ → Option ℕ
-short_length n = if nat_le n 65535 then Some n else None
+-- the number, where it is at most 65535, as of a length or of a desk
+abbrev pub short_number : ℕ → Option ℕ
+short_number n = if nat_le n 65535 then Some n else None
 
-abbrev pub length_at : List ℕ → Option ℕ
-length_at word = option_and_then short_length (number_at word)
+abbrev pub short_number_at : List ℕ → Option ℕ
+short_number_at word = option_and_then short_number (number_at word)
 
--- a name and a length
-abbrev pub name_and_length : List (List ℕ) → Option (List ℕ × ℕ)
-name_and_length words =
-    option_and_then (λ both. option_and_then (λ name. option_and_then (λ len. Some (name, len)) (length_at both.1)) (name_at both.0)) (both_of words)
+-- the name that one word is, and the number that the other spells
+abbrev pub numbered_name : List ℕ → List ℕ → Option (List ℕ × ℕ)
+numbered_name word other =
+    option_and_then (λ name. option_and_then (λ n. Some (name, n)) (short_number_at other)) (name_at word)
+
+-- a name and the number behind it
+abbrev pub name_and_number : List (List ℕ) → Option (List ℕ × ℕ)
+name_and_number words = option_and_then (λ both. numbered_name both.0 both.1) (both_of words)
+
+-- a name and the number in front of it
+abbrev pub number_and_name : List (List ℕ) → Option (List ℕ × ℕ)
+number_and_name words = option_and_then (λ both. numbered_name both.1 both.0) (both_of words)
 
 -- two names
 abbrev pub both_names : List (List ℕ) → Option (List ℕ × List ℕ)
@@ -262,9 +274,13 @@ name_with make words = option_and_then (λ name. Some (make name)) (only_name_of
 abbrev pub both_with : (List ℕ → List ℕ → Command) → List (List ℕ) → Option Command
 both_with make words = option_and_then (λ names. Some (make names.0 names.1)) (both_names words)
 
+-- the command of a verb, a name and a number
+abbrev pub numbered_with : (List ℕ → ℕ → Command) → Option (List ℕ × ℕ) → Option Command
+numbered_with make found = option_and_then (λ named. Some (make named.0 named.1)) found
+
 -- the command of a change of lengths
 abbrev pub resize_with : (ℕ → Change) → List (List ℕ) → Option Command
-resize_with change words = option_and_then (λ found. Some (Resize found.0 (change found.1))) (name_and_length words)
+resize_with change words = numbered_with (λ name n. Resize name (change n)) (name_and_number words)
 
 -- the command of a verb that has no words behind it
 abbrev pub bare : Command → List (List ℕ) → Option Command
@@ -285,6 +301,8 @@ command_with verbs.Attach words = both_with Attach words
 command_with verbs.Detach words = name_with Detach words
 command_with verbs.Clone words = both_with Clone words
 command_with verbs.Count words = name_with Count words
+command_with verbs.Offer words = numbered_with Offer (name_and_number words)
+command_with verbs.Take words = numbered_with (λ made desk. Take desk made) (number_and_name words)
 command_with verbs.Flush words = bare Flush words
 
 -- the command that words are
@@ -334,6 +352,8 @@ makes (Attach first second) name = false
 makes (Detach packet) name = false
 makes (Clone packet made) name = bytes_eq name made
 makes (Count packet) name = false
+makes (Offer packet desk) name = false
+makes (Take desk made) name = bytes_eq name made
 makes Flush name = false
 
 -- whether one of the lines makes the worker's name
@@ -361,6 +381,8 @@ repeats lines worker (Attach first second) = false
 repeats lines worker (Detach packet) = false
 repeats lines worker (Clone packet made) = is_made lines worker made
 repeats lines worker (Count packet) = false
+repeats lines worker (Offer packet desk) = false
+repeats lines worker (Take desk made) = is_made lines worker made
 repeats lines worker Flush = false
 
 -- ---- a line, and lines one after another

@@ -123,6 +123,9 @@ obey worker (command.Attach name target) run = act_as_both (run.stands worker na
 obey worker (command.Detach name) run = act_as (run.stands worker name) Detach worker run
 obey worker (command.Clone name made) run = clone_as (run.stands worker name) worker made run
 obey worker (command.Count name) run = act_as (run.stands worker name) CountOf worker run
+-- replayed later
+obey worker (command.Offer packet desk) run = (Refused NoSuchPacket, run)
+obey worker (command.Take desk made) run = (Refused NoSuchPacket, run)
 obey worker command.Flush run = flush_as worker run
 
 -- the reply to each line, with its number

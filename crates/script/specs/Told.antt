@@ -7,7 +7,7 @@ use Rattle.commons.specs.declared.limits.Limits.{Limits}
 use Rattle.commons.specs.declared.refusal.Refusal.{Refusal}
 use Rattle.commons.specs.declared.refusal.Refusal.TheVariants as refusals
 use Rattle.script.specs.declared.commands.Command.{Command}
-use Rattle.script.specs.declared.commands.Command.TheVariants.{Alloc, Bulk, Free, Resize, Chain, Attach, Detach, Clone, Count, Flush}
+use Rattle.script.specs.declared.commands.Command.TheVariants.{Alloc, Bulk, Free, Resize, Chain, Attach, Detach, Clone, Count, Offer, Take, Flush}
 use Rattle.script.specs.declared.commands.Line.{Line}
 use Rattle.script.specs.declared.commands.Script.{Script}
 use Rattle.script.specs.declared.made_names.MadeNames.{MadeNames}
@@ -70,6 +70,8 @@ IsNamed (Attach first second) = IsName first × IsName second
 IsNamed (Detach packet) = IsName packet
 IsNamed (Clone packet made) = IsName packet × IsName made
 IsNamed (Count packet) = IsName packet
+IsNamed (Offer packet desk) = IsName packet
+IsNamed (Take desk made) = IsName made
 IsNamed Flush = Unit {0}
 
 -- why a pool line wasn't read

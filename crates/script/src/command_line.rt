@@ -3,7 +3,7 @@
 ghost use Rattle.std.specs.Prelude.{◌≡◌, ◌≤◌, [], ◌∷◌, codes, IfOk, MatchOption, if◌then◌else◌, Option, None, Some};
 ghost use Rattle.std.specs.Str.{bytes_eq};
 ghost use Rattle.std.specs.Option.{option_copied};
-ghost use Rattle.script.specs.Reading.{before_colon, both_names, both_of, command_from, command_with as command_by, length_at, name_and_length as name_and_length_of, name_at, names_with, only_name_of, order_from, verb_at, words_of, worker_at};
+ghost use Rattle.script.specs.Reading.{before_colon, both_names, both_of, command_from, command_with as command_by, name_and_number as name_and_number_of, name_at, names_with, number_and_name as number_and_name_of, numbered_name as numbered_name_of, only_name_of, order_from, short_number_at, verb_at, words_of, worker_at};
 
 use crate::commands::{Command, Name};
 use crate::line::next_word;
@@ -31,6 +31,8 @@ enum Verb {
     Detach,
     Clone,
     Count,
+    Offer,
+    Take,
     Flush,
 }
 
@@ -62,6 +64,10 @@ fn verb_of(word: &[u8]) -> Option<Verb>
         Some(Verb::Clone)
     } else if word == b"count".as_slice() {
         Some(Verb::Count)
+    } else if word == b"offer".as_slice() {
+        Some(Verb::Offer)
+    } else if word == b"take".as_slice() {
+        Some(Verb::Take)
     } else if word == b"flush".as_slice() {
         Some(Verb::Flush)
     } else {
@@ -140,30 +146,51 @@ fn name_of(alloc: Global, word: &[u8]) -> Result<Option<Name>, AllocError>
     }
 }
 
-/// The length in bytes that a word spells, at most 65,535.
-fn length_of(word: &[u8]) -> Option<u16>
-    ensures { result ≡ length_at word.now }
+/// The number that a word spells, at most 65,535, as of a length in bytes or of a desk.
+fn short_number_of(word: &[u8]) -> Option<u16>
+    ensures { result ≡ short_number_at word.now }
 {
-    let len = number_of(word)?;
-    if len <= 65_535 {
-        Some(len as u16)
+    let number = number_of(word)?;
+    if number <= 65_535 {
+        Some(number as u16)
     } else {
         None
     }
 }
 
-/// The name and the length that are the only words of a rest of a line.
-fn name_and_length(alloc: Global, rest: &[u8]) -> Result<Option<(Name, u16)>, AllocError>
-    ensures { IfOk result (λ found. found ≡ name_and_length_of (words_of rest.now)) }
+/// A copy of a word that is a name, and the number, at most 65,535, that another word spells.
+fn numbered_name(
+    alloc: Global,
+    word: &[u8],
+    other: &[u8],
+) -> Result<Option<(Name, u16)>, AllocError>
+    ensures { IfOk result (λ found. found ≡ numbered_name_of word.now other.now) }
 {
-    let Some((word, number)) = both_words(rest) else {
-        return Ok(None);
-    };
-    let Some(len) = length_of(number) else {
+    let Some(number) = short_number_of(other) else {
         return Ok(None);
     };
     match name_of(alloc, word)? {
-        Some(name) => Ok(Some((name, len))),
+        Some(name) => Ok(Some((name, number))),
+        None => Ok(None),
+    }
+}
+
+/// The name and the number behind it that are the only words of a rest of a line.
+fn name_and_number(alloc: Global, rest: &[u8]) -> Result<Option<(Name, u16)>, AllocError>
+    ensures { IfOk result (λ found. found ≡ name_and_number_of (words_of rest.now)) }
+{
+    match both_words(rest) {
+        Some((word, other)) => numbered_name(alloc, word, other),
+        None => Ok(None),
+    }
+}
+
+/// The name and the number in front of it that are the only words of a rest of a line.
+fn number_and_name(alloc: Global, rest: &[u8]) -> Result<Option<(Name, u16)>, AllocError>
+    ensures { IfOk result (λ found. found ≡ number_and_name_of (words_of rest.now)) }
+{
+    match both_words(rest) {
+        Some((word, other)) => numbered_name(alloc, other, word),
         None => Ok(None),
     }
 }
@@ -201,19 +228,19 @@ fn command_with(alloc: Global, verb: Verb, rest: &[u8]) -> Result<Option<Command
             Some(name) => Ok(Some(Command::Free(name))),
             None => Ok(None),
         },
-        Verb::Append => match name_and_length(alloc, rest)? {
+        Verb::Append => match name_and_number(alloc, rest)? {
             Some((name, len)) => Ok(Some(Command::Resize(name, Change::Append(len)))),
             None => Ok(None),
         },
-        Verb::Prepend => match name_and_length(alloc, rest)? {
+        Verb::Prepend => match name_and_number(alloc, rest)? {
             Some((name, len)) => Ok(Some(Command::Resize(name, Change::Prepend(len)))),
             None => Ok(None),
         },
-        Verb::Adj => match name_and_length(alloc, rest)? {
+        Verb::Adj => match name_and_number(alloc, rest)? {
             Some((name, len)) => Ok(Some(Command::Resize(name, Change::Adj(len)))),
             None => Ok(None),
         },
-        Verb::Trim => match name_and_length(alloc, rest)? {
+        Verb::Trim => match name_and_number(alloc, rest)? {
             Some((name, len)) => Ok(Some(Command::Resize(name, Change::Trim(len)))),
             None => Ok(None),
         },
@@ -235,6 +262,14 @@ fn command_with(alloc: Global, verb: Verb, rest: &[u8]) -> Result<Option<Command
         },
         Verb::Count => match copied_name(alloc, rest)? {
             Some(name) => Ok(Some(Command::Count(name))),
+            None => Ok(None),
+        },
+        Verb::Offer => match name_and_number(alloc, rest)? {
+            Some((packet, desk)) => Ok(Some(Command::Offer(packet, desk))),
+            None => Ok(None),
+        },
+        Verb::Take => match number_and_name(alloc, rest)? {
+            Some((made, desk)) => Ok(Some(Command::Take(desk, made))),
             None => Ok(None),
         },
         Verb::Flush => match next_word(rest) {

@@ -29,6 +29,10 @@ pub enum Command {
     Clone(Name, Name),
     /// Tells the reference count of a packet's first segment's element.
     Count(Name),
+    /// Leaves a packet on the desk of this number.
+    Offer(Name, u16),
+    /// Takes the packet off the desk of this number, under this name.
+    Take(u16, Name),
     /// Puts the worker's whole cache onto the common stack.
     Flush,
 }
@@ -51,6 +55,8 @@ pub enum Key {
     Cache,
     /// How many workers the pool has.
     Workers,
+    /// How many desks the pool has.
+    Desks,
     /// Bytes in an element's buffer.
     Buf,
     /// The greatest reference count.

@@ -17,6 +17,8 @@ fn key_of(word: &[u8]) -> Option<Key>
         Some(Key::Cache)
     } else if word == b"workers".as_slice() {
         Some(Key::Workers)
+    } else if word == b"desks".as_slice() {
+        Some(Key::Desks)
     } else if word == b"buf".as_slice() {
         Some(Key::Buf)
     } else if word == b"refs".as_slice() {
@@ -35,6 +37,7 @@ fn key_of(word: &[u8]) -> Option<Key>
 pub(crate) struct Settings {
     cache: Option<u64>,
     workers: Option<u64>,
+    desks: Option<u64>,
     buf: Option<u64>,
     refs: Option<u64>,
     tries: Option<u64>,
@@ -45,6 +48,7 @@ pub(crate) struct Settings {
 const NONE_GIVEN: Settings = Settings {
     cache: None,
     workers: None,
+    desks: None,
     buf: None,
     refs: None,
     tries: None,
@@ -59,6 +63,7 @@ impl Settings {
         match key {
             Key::Cache => self.cache,
             Key::Workers => self.workers,
+            Key::Desks => self.desks,
             Key::Buf => self.buf,
             Key::Refs => self.refs,
             Key::Tries => self.tries,
@@ -78,6 +83,7 @@ impl Settings {
         match key {
             Key::Cache => settings.cache = value,
             Key::Workers => settings.workers = value,
+            Key::Desks => settings.desks = value,
             Key::Buf => settings.buf = value,
             Key::Refs => settings.refs = value,
             Key::Tries => settings.tries = value,
@@ -94,7 +100,7 @@ impl Settings {
             population,
             cache: self.cache.unwrap_or(0),
             workers: self.workers.unwrap_or(1),
-            desks: 0,
+            desks: self.desks.unwrap_or(0),
             buf: self.buf.unwrap_or(2_048),
             ref_limit: self.refs.unwrap_or(65_535),
             tries: self.tries.unwrap_or(64),

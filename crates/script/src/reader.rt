@@ -155,7 +155,7 @@ impl Reader {
         ensures lines { self.new.lines ≡ self.old.lines }
     {
         match command {
-            Command::Alloc(name) | Command::Clone(_, name) => {
+            Command::Alloc(name) | Command::Clone(_, name) | Command::Take(_, name) => {
                 self.made.add(worker, name.as_slice())
             }
             Command::Bulk(names) => self.claim_all(worker, names.as_slice()),
@@ -165,6 +165,7 @@ impl Reader {
             | Command::Attach(_, _)
             | Command::Detach(_)
             | Command::Count(_)
+            | Command::Offer(_, _)
             | Command::Flush => Ok(true),
         }
     }

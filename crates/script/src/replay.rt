@@ -201,6 +201,8 @@ fn obey<'a>(pool: &mut SitePool, names: &mut Names<'a>, line: &'a Line) -> Resul
             };
             Ok(pool.perform(worker, Act::CountOf(slot)))
         }
+        // replayed later
+        Command::Offer(_, _) | Command::Take(_, _) => Ok(Reply::Refused(Refusal::NoSuchPacket)),
         Command::Flush => Ok(pool.perform(worker, Act::Flush)),
     }
 }

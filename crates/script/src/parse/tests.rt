@@ -82,6 +82,15 @@ fn shown(alloc: Global, line: &Line) -> Result<String, Fail> {
             text.push_str("count")?;
             push_word(&mut text, name.as_slice())?;
         }
+        Command::Offer(packet, desk) => {
+            text.push_str("offer")?;
+            push_word(&mut text, packet.as_slice())?;
+            write!(text, " {desk}")?;
+        }
+        Command::Take(desk, made) => {
+            write!(text, "take {desk}")?;
+            push_word(&mut text, made.as_slice())?;
+        }
         Command::Flush => text.push_str("flush")?,
     }
     Ok(text)
@@ -100,12 +109,12 @@ fn shown_lines(alloc: Global, script: &Script) -> Result<String, Fail> {
 #[test]
 fn a_good_script_is_read(rt: HostRuntime) -> Result<(), Fail> {
     let text =
-        b"# a pool\n\n  pool 12 tries 7 buf 0100  start 3 workers 2 refs 9 cache 08 \n   \nalloc a\n  free   b9 \n#x\nalloc b9\n2: free a\n 002:  flush\n1: alloc c\n";
+        b"# a pool\n\n  pool 12 tries 7 buf 0100  start 3 workers 2 refs 9 desks 4 cache 08 \n   \nalloc a\n  free   b9 \n#x\nalloc b9\n2: free a\n 002:  flush\n1: alloc c\n";
     let script = read(&rt, rt.alloc(), text);
     assert_eq!(rt; script.limits.population, 12);
     assert_eq!(rt; script.limits.cache, 8);
     assert_eq!(rt; script.limits.workers, 2);
-    assert_eq!(rt; script.limits.desks, 0);
+    assert_eq!(rt; script.limits.desks, 4);
     assert_eq!(rt; script.limits.buf, 100);
     assert_eq!(rt; script.limits.ref_limit, 9);
     assert_eq!(rt; script.limits.tries, 7);
@@ -146,9 +155,23 @@ fn the_commands_of_shared_buffers_are_read(rt: HostRuntime) -> Result<(), Fail> 
     Ok(())
 }
 
+// The number of a desk is read whether the pool has so many or not.
+#[test]
+fn the_commands_of_desks_are_read(rt: HostRuntime) -> Result<(), Fail> {
+    let text =
+        b"pool 9 workers 2\noffer a 0\ntake 0 b\n 2:  offer  a1  007 \n2: take 65535 a\noffer b 65535\n";
+    let script = read(&rt, rt.alloc(), text);
+    let lines = shown_lines(rt.alloc(), &script)?;
+    assert_eq!(rt;
+        lines.as_str(),
+        "2 1 offer a 0; 3 1 take 0 b; 4 2 offer a1 7; 5 2 take 65535 a; 6 1 offer b 65535; "
+    );
+    Ok(())
+}
+
 #[test]
 fn wrong_words_behind_a_command_are_a_fault(rt: HostRuntime) {
-    let lines: [&[u8]; 31] = [
+    let lines: [&[u8]; 49] = [
         b"bulk",
         b"bulk a b a",
         b"bulk a B",
@@ -180,6 +203,24 @@ fn wrong_words_behind_a_command_are_a_fault(rt: HostRuntime) {
         b"count a b",
         b"count 1",
         b"counts a",
+        b"offer",
+        b"offer a",
+        b"offer a 0 0",
+        b"offer 0 a",
+        b"offer a 65536",
+        b"offer a 18446744073709551616",
+        b"offer a -1",
+        b"offer a b",
+        b"offer A 0",
+        b"offers a 0",
+        b"take",
+        b"take 0",
+        b"take 0 a b",
+        b"take a 0",
+        b"take 65536 a",
+        b"take 0 1",
+        b"take 0 abcdefghijklmnopq",
+        b"takes 0 a",
     ];
     for line in lines {
         let mut text = Vec::from_slice(rt.alloc(), b"pool 3\n").expect(&rt, "memory");
@@ -234,12 +275,39 @@ fn a_clone_makes_its_second_name(rt: HostRuntime) {
     }
 }
 
+// A take makes its name, and an offer, which has one too, makes none.
+#[test]
+fn a_take_makes_its_name(rt: HostRuntime) {
+    let bad: [&[u8]; 6] = [
+        b"pool 9\nalloc a\ntake 0 a\n",
+        b"pool 9\ntake 0 a\nalloc a\n",
+        b"pool 9\ntake 0 a\ntake 1 a\n",
+        b"pool 9\nclone b a\ntake 0 a\n",
+        b"pool 9\ntake 0 a\nbulk b a\n",
+        b"pool 9 workers 2\n2: take 0 a\n2: alloc a\n",
+    ];
+    for text in bad {
+        assert_eq!(rt; refusal_of(rt.alloc(), text), Some(Refusal::ScriptFault(3)));
+    }
+    let good: [&[u8]; 5] = [
+        b"pool 9\ntake 0 a\ntake 0 b\n",
+        b"pool 9 workers 2\ntake 0 a\n2: alloc a\n",
+        b"pool 9 workers 2\n2: take 0 a\ntake 0 a\n",
+        b"pool 9\noffer a 0\noffer a 0\nalloc a\n",
+        b"pool 9\nalloc a\noffer a 0\n",
+    ];
+    for text in good {
+        assert_eq!(rt; refusal_of(rt.alloc(), text), None);
+    }
+}
+
 #[test]
 fn a_pool_line_alone_is_a_script_with_the_defaults(rt: HostRuntime) {
     let script = read(&rt, rt.alloc(), b"pool 3\n");
     assert_eq!(rt; script.limits.population, 3);
     assert_eq!(rt; script.limits.cache, 0);
     assert_eq!(rt; script.limits.workers, 1);
+    assert_eq!(rt; script.limits.desks, 0);
     assert_eq!(rt; script.limits.buf, 2_048);
     assert_eq!(rt; script.limits.ref_limit, 65_535);
     assert_eq!(rt; script.limits.tries, 64);
@@ -452,13 +520,32 @@ fn reference_counts_have_a_limit_from_1_to_65535(rt: HostRuntime) {
 }
 
 #[test]
+fn a_pool_has_64_desks_at_most(rt: HostRuntime) {
+    let script = read(&rt, rt.alloc(), b"pool 3 desks 64\n");
+    assert_eq!(rt; script.limits.desks, 64);
+    assert_eq!(rt; refusal_of(rt.alloc(), b"pool 3 desks 0\n"), None);
+    assert_eq!(rt;
+        refusal_of(rt.alloc(), b"pool 3 desks 65\n"),
+        Some(Refusal::BadPool)
+    );
+    assert_eq!(rt;
+        refusal_of(rt.alloc(), b"pool 3 desks 1 desks 1\n"),
+        Some(Refusal::ScriptFault(1))
+    );
+    assert_eq!(rt;
+        refusal_of(rt.alloc(), b"pool 0 desks\n"),
+        Some(Refusal::ScriptFault(1))
+    );
+}
+
+#[test]
 fn a_fault_of_the_pool_line_comes_before_its_limits(rt: HostRuntime) {
     assert_eq!(rt;
         refusal_of(rt.alloc(), b"pool 0 cache\n"),
         Some(Refusal::ScriptFault(1))
     );
     assert_eq!(rt;
-        refusal_of(rt.alloc(), b"pool 0 desks 1\n"),
+        refusal_of(rt.alloc(), b"pool 0 desk 1\n"),
         Some(Refusal::ScriptFault(1))
     );
     assert_eq!(rt;
