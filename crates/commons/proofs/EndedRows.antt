@@ -1,11 +1,9 @@
 -- Holds that end in a worker's row, and the headers that go with them.
 use Rattle.std.proofs.Common.{◌≡◌, ℕ, zero, suc, ◌+◌, ◌-◌, ◌<◌, ◌≤◌, ◌==◌, inl, inr, Bool, true, false, cond, nat_lt, List, [], ◌∷◌, ◌++◌, length, get_or, set, length-set, get_or-set_same, get_or-set_other, Option, Some, None, refl, sym, ◌∙◌, arith}
 use Rattle.std.proofs.lemmas.Bool.Decides.{nat_tests}
-use Rattle.commons.specs.Bag.{bag, one}
+use Rattle.commons.specs.Bag.{bag}
 use Rattle.commons.specs.Lists.{disowned, owner_left}
-use Rattle.commons.specs.Packets.{hold_of, holds_of_seg}
 use Rattle.commons.specs.Site.{HasEnded}
-use Rattle.commons.specs.declared.packet.Seg.{Seg}
 use Rattle.commons.proofs.Bags.{bag-nil, bag-append, bag-single, one-same}
 use Rattle.commons.proofs.Places.{apart_or_same, one-apart}
 

@@ -22,7 +22,7 @@ use Rattle.mbuf.specs.Members.{Member, slots}
 use Rattle.mbuf.specs.PacketRules.{fresh_seg, free_slot, free_slots, freed_nothing}
 use Rattle.mbuf.specs.Sharing.{clonable, detachable, pair_in}
 use Rattle.mbuf.specs.Lengths.{appended, prepended, adjusted, trimmed}
-use Rattle.script.specs.Pool.{Stack, Pool, held_by, held_of, member_at, with_member, nobody, new_members, new_pool}
+use Rattle.script.specs.Pool.{Shared, Pool, held_by, held_of, member_at, with_member, nobody, new_members, new_pool}
 use Rattle.script.specs.CacheModel.{get}
 use Rattle.script.specs.PacketModel.{fill_slot, alloc_in, fill_slots, alloc_bulk, resize_to, resize_in, chain_in, free_in, flush_member, without_packet, held_elsewhere, act_on, perform}
 use Rattle.script.specs.Replay.{Run, free_as, act_of, act_as, act_as_both, chain_as, clone_as, offer_as, obey, end_of}
@@ -42,7 +42,7 @@ pub at_most_one : (i n : ℕ) → ◌≤◌ (cond (nat_lt i n) 1 0) 1
 at_most_one i n = grind (arith, nat_tests)
 
 -- making a packet moves its element from the cache or the common list
-fill_slot-near : (slot : ℕ) (m : Member) (s : Stack) (r : Result (List ℕ) Refusal × List ℕ × Stack) → slot < length m.table → get_or m.table slot None ≡ None →
+fill_slot-near : (slot : ℕ) (m : Member) (s : Shared) (r : Result (List ℕ) Refusal × List ℕ × Shared) → slot < length m.table → get_or m.table slot None ≡ None →
     IsGot 1 m.cache s r → (others i : ℕ) → near others m s i ≤ 1 → near others (fill_slot slot m r).1 (fill_slot slot m r).2 i ≡ near others m s i
 fill_slot-near slot m s (Ok [], cache, t) h e g others i k = absurd (omega (arith, g.long))
 fill_slot-near slot m s (Ok (x ∷ xs), cache, t) h e g others i k =
@@ -54,7 +54,7 @@ fill_slot-near slot m s (Ok (x ∷ xs), cache, t) h e g others i k =
 fill_slot-near slot m s (Err cause, cache, t) h e g others i k = omega (arith, g.moved i)
 
 -- so does making one in a free slot, and where there is none nothing changes
-alloc_in-near : (slot : Option ℕ) (m : Member) (s : Stack) → ((n : ℕ) → slot ≡ Some n → (n < length m.table) × (get_or m.table n None ≡ None)) →
+alloc_in-near : (slot : Option ℕ) (m : Member) (s : Shared) → ((n : ℕ) → slot ≡ Some n → (n < length m.table) × (get_or m.table n None ≡ None)) →
     (others i : ℕ) → near others m s i ≤ 1 → near others (alloc_in slot m s).1 (alloc_in slot m s).2 i ≡ near others m s i
 alloc_in-near None m s h others i k = refl
 alloc_in-near (Some slot) m s h others i k =
@@ -62,7 +62,7 @@ alloc_in-near (Some slot) m s h others i k =
     fill_slot-near slot m s (get m.limits 1 m.cache s) empty.0 empty.1 (get-IsGot m.limits 1 m.cache s) others i k
 
 -- freeing a packet moves its elements to the cache or the common list, but those that are held elsewhere
-free_in-near : (content : Option (List Seg)) (elsewhere : ℕ → ℕ) (slot : ℕ) (m : Member) (s : Stack) → get_or m.table slot None ≡ content → (others i : ℕ) →
+free_in-near : (content : Option (List Seg)) (elsewhere : ℕ → ℕ) (slot : ℕ) (m : Member) (s : Shared) → get_or m.table slot None ≡ content → (others i : ℕ) →
     (slot < length m.table → elsewhere i ≡ others + held_in (set m.table slot None) i) →
     near others (free_in content elsewhere slot m s).1 (free_in content elsewhere slot m s).2 i ≡ near others m s i
 free_in-near None elsewhere slot m s e others i h = refl
@@ -76,7 +76,7 @@ free_in-near (Some segs) elsewhere slot m s e others i h =
     rw (k, ← (h l)) f
 
 -- making several moves theirs
-fill_slots-near : (n : ℕ) (m : Member) (s : Stack) (r : Result (List ℕ) Refusal × List ℕ × Stack) → n ≤ length (free_slots m.table) → IsGot n m.cache s r →
+fill_slots-near : (n : ℕ) (m : Member) (s : Shared) (r : Result (List ℕ) Refusal × List ℕ × Shared) → n ≤ length (free_slots m.table) → IsGot n m.cache s r →
     (others i : ℕ) → near others m s i ≤ 1 → near others (fill_slots (take n (free_slots m.table)) m r).1 (fill_slots (take n (free_slots m.table)) m r).2 i ≡ near others m s i
 fill_slots-near n m s (Ok es, cache, t) room g others i k =
     let long : n ≡ length es = sym g.long in
@@ -84,14 +84,14 @@ fill_slots-near n m s (Ok es, cache, t) room g others i k =
     rw (long, d) (add_holds (bag es i) (bag cache i) (bag t.common i) (bag m.cache i) (bag s.common i) others (held_in m.table i) (g.moved i) k)
 fill_slots-near n m s (Err cause, cache, t) room g others i k = omega (arith, g.moved i)
 
-alloc_bulk-near : (n : ℕ) (m : Member) (s : Stack) (others i : ℕ) → near others m s i ≤ 1 → near others (alloc_bulk n m s).1 (alloc_bulk n m s).2 i ≡ near others m s i
+alloc_bulk-near : (n : ℕ) (m : Member) (s : Shared) (others i : ℕ) → near others m s i ≤ 1 → near others (alloc_bulk n m s).1 (alloc_bulk n m s).2 i ≡ near others m s i
 alloc_bulk-near n m s others i k = elim (cases_Bool (nat_lt (length (free_slots m.table)) n)) [
   | inl e ↦ rw e refl
   | inr e ↦ rw e (fill_slots-near n m s (get m.limits n m.cache s) (ltb-false (length (free_slots m.table)) n e) (get-IsGot m.limits n m.cache s) others i k)
 ]
 
 -- a change of lengths moves none
-resize_to-near : (o : Option (List Seg)) (segs : List Seg) (cause : Refusal) (slot : ℕ) (m : Member) (s : Stack) (others i : ℕ) → get_or m.table slot None ≡ Some segs → ((new : List Seg) → o ≡ Some new → SamePacketHolds new segs) →
+resize_to-near : (o : Option (List Seg)) (segs : List Seg) (cause : Refusal) (slot : ℕ) (m : Member) (s : Shared) (others i : ℕ) → get_or m.table slot None ≡ Some segs → ((new : List Seg) → o ≡ Some new → SamePacketHolds new segs) →
     near others (resize_to o cause slot m).1 s i ≡ near others m s i
 resize_to-near None segs cause slot m s others i e h = refl
 resize_to-near (Some new) segs cause slot m s others i e h =
@@ -99,13 +99,13 @@ resize_to-near (Some new) segs cause slot m s others i e h =
     let d : held_in (set m.table slot (Some new)) i ≡ held_in m.table i = omega (arith, b, ap (λ (es : List ℕ). bag es i) (h new refl).0) in
     rw d refl
 
-resize_in-near : (o : Option (List Seg)) (change : List Seg → Option (List Seg)) (cause : Refusal) (slot : ℕ) (m : Member) (s : Stack) (others i : ℕ) → get_or m.table slot None ≡ o →
+resize_in-near : (o : Option (List Seg)) (change : List Seg → Option (List Seg)) (cause : Refusal) (slot : ℕ) (m : Member) (s : Shared) (others i : ℕ) → get_or m.table slot None ≡ o →
     ((segs new : List Seg) → change segs ≡ Some new → SamePacketHolds new segs) → near others (resize_in o change cause slot m).1 s i ≡ near others m s i
 resize_in-near None change cause slot m s others i e h = refl
 resize_in-near (Some segs) change cause slot m s others i e h = resize_to-near (change segs) segs cause slot m s others i e (λ new f. h segs new f)
 
 -- nor does a chain
-chain_in-near : (one two : Option (List Seg)) (head tail : ℕ) (m : Member) (s : Stack) (others i : ℕ) → get_or m.table head None ≡ one → get_or m.table tail None ≡ two →
+chain_in-near : (one two : Option (List Seg)) (head tail : ℕ) (m : Member) (s : Shared) (others i : ℕ) → get_or m.table head None ≡ one → get_or m.table tail None ≡ two →
     near others (chain_in one two head tail m).1 s i ≡ near others m s i
 chain_in-near None two head tail m s others i e f = refl
 chain_in-near (Some first) None head tail m s others i e f = refl
@@ -120,7 +120,7 @@ chain_in-near (Some first) (Some second) head tail m s others i e f = elim (case
 ]
 
 -- a flush moves elements from the cache to the common list
-flush_member-near : (m : Member) (s : Stack) (others i : ℕ) → near others (flush_member m s).1 (flush_member m s).2 i ≡ near others m s i
+flush_member-near : (m : Member) (s : Shared) (others i : ℕ) → near others (flush_member m s).1 (flush_member m s).2 i ≡ near others m s i
 flush_member-near m s others i = omega (arith, flush-IsPut m.cache s i, bag-nil i)
 
 -- how often the other members' packets hold an element
@@ -134,15 +134,15 @@ by_others-add members n d i h = omega (arith, get_or-le-sum_by (λ (m : Member).
 
 -- how often the other members' packets and those on desks hold an element
 abbrev outside : Pool → ℕ → ℕ → ℕ
-outside pool n i = by_others pool.members n (nobody pool.limits) i + held_in pool.stack.desks i
+outside pool n i = by_others pool.members n (nobody pool.limits) i + held_in pool.shared.desks i
 
-outside-add : (pool : Pool) (n i : ℕ) → n < length pool.members → outside pool n i + held_in (member_at pool n).table i ≡ held_of pool.members pool.stack.desks i
+outside-add : (pool : Pool) (n i : ℕ) → n < length pool.members → outside pool n i + held_in (member_at pool n).table i ≡ held_of pool.members pool.shared.desks i
 outside-add pool n i h = omega (arith, by_others-add pool.members n (nobody pool.limits) i h)
 
 -- a member and what all share change so that each element stays in one place
-with_member-balanced : (pool : Pool) (n : ℕ) (m : Member) (s : Stack) → IsBalanced pool → n < length pool.members →
-    ((i : ℕ) → near (outside pool n i) (member_at pool n) pool.stack i ≤ 1 →
-    near (by_others pool.members n (nobody pool.limits) i + held_in s.desks i) m s i ≡ near (outside pool n i) (member_at pool n) pool.stack i) →
+with_member-balanced : (pool : Pool) (n : ℕ) (m : Member) (s : Shared) → IsBalanced pool → n < length pool.members →
+    ((i : ℕ) → near (outside pool n i) (member_at pool n) pool.shared i ≤ 1 →
+    near (by_others pool.members n (nobody pool.limits) i + held_in s.desks i) m s i ≡ near (outside pool n i) (member_at pool n) pool.shared i) →
     IsBalanced (with_member pool n m s)
 with_member-balanced pool n m s b h same = record {
   placed = λ i.
@@ -151,18 +151,18 @@ with_member-balanced pool n m s b h same = record {
       let d = cached_by-set pool.members n m (nobody pool.limits) i h in
       let e : held_by (set pool.members n m) i + held_in s.desks i ≡ by_others pool.members n (nobody pool.limits) i + held_in s.desks i + held_in m.table i = omega (arith, a, c) in
       let f : bag (member_at pool n).cache i ≤ cached_by pool.members i = get_or-le-sum_by (λ (m : Member). bag m.cache i) pool.members n (nobody pool.limits) h in
-      let p : bag pool.stack.common i + cached_by pool.members i + min 1 (outside pool n i + held_in (member_at pool n).table i) ≡ cond (nat_lt i pool.limits.population) 1 0 = rw (outside-add pool n i h) (b.placed i) in
+      let p : bag pool.shared.common i + cached_by pool.members i + min 1 (outside pool n i + held_in (member_at pool n).table i) ≡ cond (nat_lt i pool.limits.population) 1 0 = rw (outside-add pool n i h) (b.placed i) in
       rw e (omega (arith, d, f, p, at_most_one i pool.limits.population, same i (omega (arith, f, p, at_most_one i pool.limits.population))));
 }
 
 -- what leaves the desks
-kept-balanced : (pool : Pool) (n : ℕ) (m : Member) (s : Stack) → IsBalanced pool → n < length pool.members → s.desks ≡ pool.stack.desks →
-    ((i : ℕ) → near (outside pool n i) (member_at pool n) pool.stack i ≤ 1 → near (outside pool n i) m s i ≡ near (outside pool n i) (member_at pool n) pool.stack i) →
+kept-balanced : (pool : Pool) (n : ℕ) (m : Member) (s : Shared) → IsBalanced pool → n < length pool.members → s.desks ≡ pool.shared.desks →
+    ((i : ℕ) → near (outside pool n i) (member_at pool n) pool.shared i ≤ 1 → near (outside pool n i) m s i ≡ near (outside pool n i) (member_at pool n) pool.shared i) →
     IsBalanced (with_member pool n m s)
 kept-balanced pool n m s b h desks same = with_member-balanced pool n m s b h (λ i k. rw desks (same i k))
 
 -- a member's packet holds no more than all packets do
-held_within : (pool : Pool) (n : ℕ) → n < length pool.members → (slot : ℕ) (segs : List Seg) → get_or (member_at pool n).table slot None ≡ Some segs → (i : ℕ) → bag (holds_of_packet segs) i ≤ held_of pool.members pool.stack.desks i
+held_within : (pool : Pool) (n : ℕ) → n < length pool.members → (slot : ℕ) (segs : List Seg) → get_or (member_at pool n).table slot None ≡ Some segs → (i : ℕ) → bag (holds_of_packet segs) i ≤ held_of pool.members pool.shared.desks i
 held_within pool n h slot segs there i =
     omega (
       arith,
@@ -174,45 +174,45 @@ held_within pool n h slot segs there i =
 -- what a worker does keeps each element in one place
 act_on-balanced : (pool : Pool) (n : ℕ) (act : Act) → IsBalanced pool → n < length pool.members →
     IsBalanced (with_member pool n (act_on pool n act).1 (act_on pool n act).2)
-act_on-balanced pool n Alloc b h = kept-balanced pool n (act_on pool n Alloc).1 (act_on pool n Alloc).2 b h (alloc_in-desks (free_slot (member_at pool n).table) (member_at pool n) pool.stack)
-    (λ i. alloc_in-near (free_slot (member_at pool n).table) (member_at pool n) pool.stack (free_slot-is (member_at pool n).table) (outside pool n i) i)
-act_on-balanced pool n (Free slot) b h = kept-balanced pool n (act_on pool n (Free slot)).1 (act_on pool n (Free slot)).2 b h (free_in-desks (get_or (member_at pool n).table slot None) (held_elsewhere pool n slot) slot (member_at pool n) pool.stack)
-    (λ i k. free_in-near (get_or (member_at pool n).table slot None) (held_elsewhere pool n slot) slot (member_at pool n) pool.stack refl
+act_on-balanced pool n Alloc b h = kept-balanced pool n (act_on pool n Alloc).1 (act_on pool n Alloc).2 b h (alloc_in-desks (free_slot (member_at pool n).table) (member_at pool n) pool.shared)
+    (λ i. alloc_in-near (free_slot (member_at pool n).table) (member_at pool n) pool.shared (free_slot-is (member_at pool n).table) (outside pool n i) i)
+act_on-balanced pool n (Free slot) b h = kept-balanced pool n (act_on pool n (Free slot)).1 (act_on pool n (Free slot)).2 b h (free_in-desks (get_or (member_at pool n).table slot None) (held_elsewhere pool n slot) slot (member_at pool n) pool.shared)
+    (λ i k. free_in-near (get_or (member_at pool n).table slot None) (held_elsewhere pool n slot) slot (member_at pool n) pool.shared refl
     (outside pool n i) i (λ l. omega (
       arith,
       outside-add pool n i h,
       held_by-set pool.members n (without_packet slot (member_at pool n)) (nobody pool.limits) i h,
     )))
-act_on-balanced pool n (AllocBulk count) b h = kept-balanced pool n (act_on pool n (AllocBulk count)).1 (act_on pool n (AllocBulk count)).2 b h (alloc_bulk-desks count (member_at pool n) pool.stack)
-    (λ i. alloc_bulk-near count (member_at pool n) pool.stack (outside pool n i) i)
+act_on-balanced pool n (AllocBulk count) b h = kept-balanced pool n (act_on pool n (AllocBulk count)).1 (act_on pool n (AllocBulk count)).2 b h (alloc_bulk-desks count (member_at pool n) pool.shared)
+    (λ i. alloc_bulk-near count (member_at pool n) pool.shared (outside pool n i) i)
 act_on-balanced pool n (Append slot count) b h = kept-balanced pool n (act_on pool n (Append slot count)).1 (act_on pool n (Append slot count)).2 b h refl
-    (λ i k. resize_in-near (get_or (member_at pool n).table slot None) (appended count) NoRoom slot (member_at pool n) pool.stack (outside pool n i) i refl (appended_holds count))
+    (λ i k. resize_in-near (get_or (member_at pool n).table slot None) (appended count) NoRoom slot (member_at pool n) pool.shared (outside pool n i) i refl (appended_holds count))
 act_on-balanced pool n (Prepend slot count) b h = kept-balanced pool n (act_on pool n (Prepend slot count)).1 (act_on pool n (Prepend slot count)).2 b h refl
-    (λ i k. resize_in-near (get_or (member_at pool n).table slot None) (prepended count) NoRoom slot (member_at pool n) pool.stack (outside pool n i) i refl (prepended_holds count))
+    (λ i k. resize_in-near (get_or (member_at pool n).table slot None) (prepended count) NoRoom slot (member_at pool n) pool.shared (outside pool n i) i refl (prepended_holds count))
 act_on-balanced pool n (Adj slot count) b h = kept-balanced pool n (act_on pool n (Adj slot count)).1 (act_on pool n (Adj slot count)).2 b h refl
-    (λ i k. resize_in-near (get_or (member_at pool n).table slot None) (adjusted count) TooShort slot (member_at pool n) pool.stack (outside pool n i) i refl (adjusted_holds count))
+    (λ i k. resize_in-near (get_or (member_at pool n).table slot None) (adjusted count) TooShort slot (member_at pool n) pool.shared (outside pool n i) i refl (adjusted_holds count))
 act_on-balanced pool n (Trim slot count) b h = kept-balanced pool n (act_on pool n (Trim slot count)).1 (act_on pool n (Trim slot count)).2 b h refl
-    (λ i k. resize_in-near (get_or (member_at pool n).table slot None) (trimmed count) TooShort slot (member_at pool n) pool.stack (outside pool n i) i refl (trimmed_holds count))
+    (λ i k. resize_in-near (get_or (member_at pool n).table slot None) (trimmed count) TooShort slot (member_at pool n) pool.shared (outside pool n i) i refl (trimmed_holds count))
 act_on-balanced pool n (Chain head tail) b h = kept-balanced pool n (act_on pool n (Chain head tail)).1 (act_on pool n (Chain head tail)).2 b h refl
-    (λ i k. chain_in-near (get_or (member_at pool n).table head None) (get_or (member_at pool n).table tail None) head tail (member_at pool n) pool.stack (outside pool n i) i refl refl)
+    (λ i k. chain_in-near (get_or (member_at pool n).table head None) (get_or (member_at pool n).table tail None) head tail (member_at pool n) pool.shared (outside pool n i) i refl refl)
 act_on-balanced pool n (Attach mi target) b h = kept-balanced pool n (act_on pool n (Attach mi target)).1 (act_on pool n (Attach mi target)).2 b h refl
-    (λ i k. attach_to-near (pair_in (member_at pool n) mi target) (held_of pool.members pool.stack.desks) mi target (member_at pool n) pool.stack refl
+    (λ i k. attach_to-near (pair_in (member_at pool n) mi target) (held_of pool.members pool.shared.desks) mi target (member_at pool n) pool.shared refl
     (outside pool n i) i (sym (outside-add pool n i h)) (held_within pool n h))
-act_on-balanced pool n (Detach slot) b h = kept-balanced pool n (act_on pool n (Detach slot)).1 (act_on pool n (Detach slot)).2 b h (detach_from-desks (detachable (get_or (member_at pool n).table slot None)) (held_of pool.members pool.stack.desks) slot (member_at pool n) pool.stack)
-    (λ i k. detach_from-near (detachable (get_or (member_at pool n).table slot None)) (held_of pool.members pool.stack.desks) slot (member_at pool n) pool.stack refl
+act_on-balanced pool n (Detach slot) b h = kept-balanced pool n (act_on pool n (Detach slot)).1 (act_on pool n (Detach slot)).2 b h (detach_from-desks (detachable (get_or (member_at pool n).table slot None)) (held_of pool.members pool.shared.desks) slot (member_at pool n) pool.shared)
+    (λ i k. detach_from-near (detachable (get_or (member_at pool n).table slot None)) (held_of pool.members pool.shared.desks) slot (member_at pool n) pool.shared refl
     (outside pool n i) i (sym (outside-add pool n i h)))
-act_on-balanced pool n (ClonePacket source) b h = kept-balanced pool n (act_on pool n (ClonePacket source)).1 (act_on pool n (ClonePacket source)).2 b h (clone_at-desks (clonable (get_or (member_at pool n).table source None) (free_slot (member_at pool n).table)) (held_of pool.members pool.stack.desks) (member_at pool n) pool.stack)
-    (λ i k. clone_at-near (clonable (get_or (member_at pool n).table source None) (free_slot (member_at pool n).table)) (held_of pool.members pool.stack.desks) source (member_at pool n) pool.stack refl
+act_on-balanced pool n (ClonePacket source) b h = kept-balanced pool n (act_on pool n (ClonePacket source)).1 (act_on pool n (ClonePacket source)).2 b h (clone_at-desks (clonable (get_or (member_at pool n).table source None) (free_slot (member_at pool n).table)) (held_of pool.members pool.shared.desks) (member_at pool n) pool.shared)
+    (λ i k. clone_at-near (clonable (get_or (member_at pool n).table source None) (free_slot (member_at pool n).table)) (held_of pool.members pool.shared.desks) source (member_at pool n) pool.shared refl
     (outside pool n i) i (sym (outside-add pool n i h)) (held_within pool n h) k)
 act_on-balanced pool n (Offer slot desk) b h = with_member-balanced pool n (act_on pool n (Offer slot desk)).1 (act_on pool n (Offer slot desk)).2 b h
-    (λ i k. offer_in-near (get_or (member_at pool n).table slot None) slot desk (member_at pool n) pool.stack refl (by_others pool.members n (nobody pool.limits) i) i)
+    (λ i k. offer_in-near (get_or (member_at pool n).table slot None) slot desk (member_at pool n) pool.shared refl (by_others pool.members n (nobody pool.limits) i) i)
 act_on-balanced pool n (Take desk) b h = with_member-balanced pool n (act_on pool n (Take desk)).1 (act_on pool n (Take desk)).2 b h
-    (λ i k. take_off-near desk (member_at pool n) pool.stack (by_others pool.members n (nobody pool.limits) i) i)
-act_on-balanced pool n (CountOf slot) b h = kept-balanced pool n (member_at pool n) pool.stack b h refl (λ i k. refl)
-act_on-balanced pool n (PktLen slot) b h = kept-balanced pool n (member_at pool n) pool.stack b h refl (λ i k. refl)
-act_on-balanced pool n (NbSegs slot) b h = kept-balanced pool n (member_at pool n) pool.stack b h refl (λ i k. refl)
-act_on-balanced pool n Flush b h = kept-balanced pool n (act_on pool n Flush).1 (act_on pool n Flush).2 b h (flush-desks (member_at pool n).cache pool.stack)
-    (λ i k. flush_member-near (member_at pool n) pool.stack (outside pool n i) i)
+    (λ i k. take_off-near desk (member_at pool n) pool.shared (by_others pool.members n (nobody pool.limits) i) i)
+act_on-balanced pool n (CountOf slot) b h = kept-balanced pool n (member_at pool n) pool.shared b h refl (λ i k. refl)
+act_on-balanced pool n (PktLen slot) b h = kept-balanced pool n (member_at pool n) pool.shared b h refl (λ i k. refl)
+act_on-balanced pool n (NbSegs slot) b h = kept-balanced pool n (member_at pool n) pool.shared b h refl (λ i k. refl)
+act_on-balanced pool n Flush b h = kept-balanced pool n (act_on pool n Flush).1 (act_on pool n Flush).2 b h (flush-desks (member_at pool n).cache pool.shared)
+    (λ i k. flush_member-near (member_at pool n) pool.shared (outside pool n i) i)
 
 -- and so does what a worker outside the pool is asked to do, which is nothing
 perform-balanced : (pool : Pool) (w : ℕ) (act : Act) → IsBalanced pool → IsBalanced (perform pool w act).1

@@ -9,10 +9,10 @@ use Rattle.commons.specs.Lists.{Lists, DidGet, DidPut}
 use Rattle.mempool.specs.declared.put.Put.{Put}
 use Rattle.mempool.specs.declared.put.Put.TheVariants.{Kept}
 use Rattle.mempool.specs.Caches.{threshold, Gets, Nothing, Direct, FromCache, Refill, RefillRefused, NoRefill, Puts, NothingPut, Bypass, BypassPutOff, Flush, FlushPutOff, Keep, Flushes, Empty, Whole, WholePutOff}
-use Rattle.script.specs.Pool.{Stack}
+use Rattle.script.specs.Pool.{Shared}
 use Rattle.script.specs.CacheModel.{ask, push, get, put, put_beyond, flush}
 use Rattle.script.specs.CacheLaw.{Meets}
-use Rattle.script.specs.Own.{stack_of, LeadsPlain}
+use Rattle.script.specs.Own.{shared_of, LeadsPlain}
 
 lt_yes : (a b : ℕ) → a < b → nat_lt a b ≡ true
 lt_yes a b h = grind (arith, nat_tests)
@@ -33,28 +33,28 @@ eq_no : (a b : ℕ) → a ≢ b → (a == b) ≡ false
 eq_no a b h = grind (arith, nat_tests)
 
 -- a request that was met or refused is the model's
-asked : (w : ℕ) (s : Lists) (n : ℕ) (a : Result (List ℕ) Refusal) (t : Lists) → DidGet w s n a t → (a, stack_of t) ≡ ask n (stack_of s)
+asked : (w : ℕ) (s : Lists) (n : ℕ) (a : Result (List ℕ) Refusal) (t : Lists) → DidGet w s n a t → (a, shared_of t) ≡ ask n (shared_of s)
 asked w s n (Ok xs) t d = rw (lt_no (length s.common) n d.0, eq_no s.changes spent (omega (arith, d.1)), d.2, d.3) refl
 asked w s n (Err NoEntries) t d = rw (lt_yes (length s.common) n d.0, d.1) refl
 asked w s n (Err HeadSpent) t d = rw (lt_no (length s.common) n d.0, eq_yes s.changes spent d.1, d.2) refl
 asked w s n (Err Contended) t d = absurd d
 asked w s n (Err _) t d = absurd d
 
-pushed : (s : Lists) (xs : List ℕ) (a : Result (Unit {0}) Refusal) (t : Lists) → DidPut s xs a t → (a, stack_of t) ≡ push xs (stack_of s)
+pushed : (s : Lists) (xs : List ℕ) (a : Result (Unit {0}) Refusal) (t : Lists) → DidPut s xs a t → (a, shared_of t) ≡ push xs (shared_of s)
 pushed s xs (Ok tt) t d = rw (eq_no s.changes spent (omega (arith, d.0)), d.1) refl
 pushed s xs (Err HeadSpent) t d = rw (eq_yes s.changes spent d.0, d.1) refl
 pushed s xs (Err Contended) t d = absurd d
 pushed s xs (Err _) t d = absurd d
 
 -- the stack's answer to the one call
-answered_get : (s t : Stack) (n : ℕ) (answer : Result (List ℕ) Refusal) (calls : List Call) → calls ≡ GetList n answer ∷ [] → Meets s calls t → (answer, t) ≡ ask n s
-answered_get s t n answer calls c h = let e = subst (λ cs. Meets s cs t) c h in subst (λ (u : Stack). (answer, u) ≡ ask n s) e.2 e.1
+answered_get : (s t : Shared) (n : ℕ) (answer : Result (List ℕ) Refusal) (calls : List Call) → calls ≡ GetList n answer ∷ [] → Meets s calls t → (answer, t) ≡ ask n s
+answered_get s t n answer calls c h = let e = subst (λ cs. Meets s cs t) c h in subst (λ (u : Shared). (answer, u) ≡ ask n s) e.2 e.1
 
-answered_put : (s t : Stack) (list : List ℕ) (answer : Result (Unit {0}) Refusal) (calls : List Call) → calls ≡ PutList list answer ∷ [] → Meets s calls t → (answer, t) ≡ push list s
-answered_put s t list answer calls c h = let e = subst (λ cs. Meets s cs t) c h in subst (λ (u : Stack). (answer, u) ≡ push list s) e.2 e.1
+answered_put : (s t : Shared) (list : List ℕ) (answer : Result (Unit {0}) Refusal) (calls : List Call) → calls ≡ PutList list answer ∷ [] → Meets s calls t → (answer, t) ≡ push list s
+answered_put s t list answer calls c h = let e = subst (λ cs. Meets s cs t) c h in subst (λ (u : Shared). (answer, u) ≡ push list s) e.2 e.1
 
 -- a get by the rules, whose calls the stack answers, is the model's
-pub got_by : (s t : Stack) (l : Limits) (cache : List ℕ) (n : ℕ) (calls : List Call) (answer : Result (List ℕ) Refusal) (left : List ℕ) →
+pub got_by : (s t : Shared) (l : Limits) (cache : List ℕ) (n : ℕ) (calls : List Call) (answer : Result (List ℕ) Refusal) (left : List ℕ) →
     Gets l cache n calls answer left → Meets s calls t → (answer, left, t) ≡ get l n cache s
 got_by s t l cache n calls answer left (Nothing z c a k) h =
     let e = subst (λ cs. Meets s cs t) c h in
@@ -86,7 +86,7 @@ kept_below : {X : Type 0} (n threshold size : ℕ) (x y z : X) → (n < threshol
 kept_below n threshold size x y z b e = elim b [ inl h ↦ rw (lt_yes n threshold h) e | inr h ↦ rw (le_yes n size h) (e ∙ sym (either (nat_lt n threshold) y)) ]
 
 -- a put by the rules, whose calls the stack answers, is the model's
-pub put_by : (s t : Stack) (l : Limits) (cache list : List ℕ) (calls : List Call) (answer : Put) (left : List ℕ) →
+pub put_by : (s t : Shared) (l : Limits) (cache list : List ℕ) (calls : List Call) (answer : Put) (left : List ℕ) →
     Puts l cache list calls answer left → Meets s calls t → (answer, left, t) ≡ put l list cache s
 put_by s t l cache list calls answer left (NothingPut z c a k) h =
     let e = subst (λ cs. Meets s cs t) c h in
@@ -109,7 +109,7 @@ put_by s t l cache list calls answer left (Keep p q b c a k) h =
     rw (eq_no (length list) 0 (omega arith), lt_no 512 (length list) q) kept
 
 -- a flush by the rules, whose calls the stack answers, is the model's
-pub flushed_by : (s t : Stack) (cache : List ℕ) (calls : List Call) (answer : Put) (left : List ℕ) →
+pub flushed_by : (s t : Shared) (cache : List ℕ) (calls : List Call) (answer : Put) (left : List ℕ) →
     Flushes cache calls answer left → Meets s calls t → (answer, left, t) ≡ flush cache s
 flushed_by s t cache calls answer left (Empty z c a k) h =
     let e = subst (λ cs. Meets s cs t) c h in
@@ -131,10 +131,10 @@ AreRequests (PutList list answer ∷ calls) = AreRequests calls
 AreRequests (_ ∷ calls) = ⊥
 
 -- requests on the lists are answered by their stack
-meets : (w : ℕ) (s : Lists) (calls : List Call) (t : Lists) → AreRequests calls → LeadsPlain w s calls t → Meets (stack_of s) calls (stack_of t)
-meets w s [] t r h = ap stack_of h
-meets w s (GetList n answer ∷ calls) t r h = (stack_of h.0, asked w s n answer h.0 h.1, meets w h.0 calls t r h.4)
-meets w s (PutList list answer ∷ calls) t r h = (stack_of h.0, pushed s list answer h.0 h.1, meets w h.0 calls t r h.4)
+meets : (w : ℕ) (s : Lists) (calls : List Call) (t : Lists) → AreRequests calls → LeadsPlain w s calls t → Meets (shared_of s) calls (shared_of t)
+meets w s [] t r h = ap shared_of h
+meets w s (GetList n answer ∷ calls) t r h = (shared_of h.0, asked w s n answer h.0 h.1, meets w h.0 calls t r h.4)
+meets w s (PutList list answer ∷ calls) t r h = (shared_of h.0, pushed s list answer h.0 h.1, meets w h.0 calls t r h.4)
 meets w s (_ ∷ calls) t r h = absurd r
 
 requests : (calls known : List Call) → calls ≡ known → AreRequests known → AreRequests calls
@@ -163,15 +163,15 @@ flushes_request cache calls answer left (WholePutOff p cause c a k) = requests c
 
 -- a get by these calls is the model's
 pub got : (w : ℕ) (s : Lists) (l : Limits) (cache : List ℕ) (n : ℕ) (calls : List Call) (answer : Result (List ℕ) Refusal) (left : List ℕ) (t : Lists) →
-    Gets l cache n calls answer left → LeadsPlain w s calls t → (answer, left, stack_of t) ≡ get l n cache (stack_of s)
-got w s l cache n calls answer left t g h = got_by (stack_of s) (stack_of t) l cache n calls answer left g (meets w s calls t (gets_request l cache n calls answer left g) h)
+    Gets l cache n calls answer left → LeadsPlain w s calls t → (answer, left, shared_of t) ≡ get l n cache (shared_of s)
+got w s l cache n calls answer left t g h = got_by (shared_of s) (shared_of t) l cache n calls answer left g (meets w s calls t (gets_request l cache n calls answer left g) h)
 
 -- and so is a put
 pub was_put : (w : ℕ) (s : Lists) (l : Limits) (cache list : List ℕ) (calls : List Call) (answer : Put) (left : List ℕ) (t : Lists) →
-    Puts l cache list calls answer left → LeadsPlain w s calls t → (answer, left, stack_of t) ≡ put l list cache (stack_of s)
-was_put w s l cache list calls answer left t p h = put_by (stack_of s) (stack_of t) l cache list calls answer left p (meets w s calls t (puts_request l cache list calls answer left p) h)
+    Puts l cache list calls answer left → LeadsPlain w s calls t → (answer, left, shared_of t) ≡ put l list cache (shared_of s)
+was_put w s l cache list calls answer left t p h = put_by (shared_of s) (shared_of t) l cache list calls answer left p (meets w s calls t (puts_request l cache list calls answer left p) h)
 
 -- and a flush
 pub was_flushed : (w : ℕ) (s : Lists) (cache : List ℕ) (calls : List Call) (answer : Put) (left : List ℕ) (t : Lists) →
-    Flushes cache calls answer left → LeadsPlain w s calls t → (answer, left, stack_of t) ≡ flush cache (stack_of s)
-was_flushed w s cache calls answer left t f h = flushed_by (stack_of s) (stack_of t) cache calls answer left f (meets w s calls t (flushes_request cache calls answer left f) h)
+    Flushes cache calls answer left → LeadsPlain w s calls t → (answer, left, shared_of t) ≡ flush cache (shared_of s)
+was_flushed w s cache calls answer left t f h = flushed_by (shared_of s) (shared_of t) cache calls answer left f (meets w s calls t (flushes_request cache calls answer left f) h)

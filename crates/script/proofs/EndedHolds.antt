@@ -14,10 +14,10 @@ use Rattle.commons.proofs.Bags.{bag-cons, one-same}
 use Rattle.commons.proofs.Places.{one-apart}
 use Rattle.mbuf.specs.declared.freed.Freed.{Freed}
 use Rattle.mbuf.specs.PacketRules.{EndsHold, Stays, GoesBack, EndsHolds}
-use Rattle.script.specs.Pool.{Stack}
+use Rattle.script.specs.Pool.{Shared}
 use Rattle.script.specs.CacheModel.{put}
 use Rattle.script.specs.HoldModel.{put_back, end_holds}
-use Rattle.script.specs.Own.{stack_of, LeadsPlain}
+use Rattle.script.specs.Own.{shared_of, LeadsPlain}
 use Rattle.script.proofs.CacheCalls.{AreRequests, puts_request, was_put}
 use Rattle.script.proofs.PlainCalls.{LeadsPlain-split, LeadsPlain-table}
 
@@ -65,19 +65,19 @@ counts_less places e place es others less h i = elim (cases_eq i e) [
 ]
 
 -- the model, once one hold of an element has ended
-abbrev next_hold : Limits → (ℕ → ℕ) → ℕ → List ℕ → Freed × List ℕ × Stack → Freed × List ℕ × Stack
+abbrev next_hold : Limits → (ℕ → ℕ) → ℕ → List ℕ → Freed × List ℕ × Shared → Freed × List ℕ × Shared
 next_hold l others e es so_far = cond (bag es e + others e == 0) (put_back so_far.0 (put l (e ∷ []) so_far.1 so_far.2)) so_far
 
 -- the end of one hold is the model's, and leaves the counts of the others
 end_one : (w : ℕ) (l : Limits) (others : ℕ → ℕ) (e : ℕ) (es : List ℕ) (s t : Lists) (cache : List ℕ) (freed : Freed) (calls : List Call) (left : List ℕ) (done : Freed) →
     EndsHold l e cache freed calls left done → LeadsPlain w s calls t → Counts s (e ∷ es) others →
-    ((done, left, stack_of t) ≡ next_hold l others e es (freed, cache, stack_of s)) × Counts t es others
+    ((done, left, shared_of t) ≡ next_hold l others e es (freed, cache, shared_of s)) × Counts t es others
 end_one w l others e es s t cache freed calls left done (Stays c k d) led counts =
     let h = subst (λ (cs : List Call). LeadsPlain w s cs t) c led in
     let was = h.1.1 in
     let some : bag es e + others e ≢ 0 = λ z. omega (arith, z, was.0, counts e, bag-cons e es e, one-same e) in
-    let stack : stack_of t ≡ stack_of s = ap stack_of (sym h.4) ∙ ap stack_of h.1.2 in (
-      rw (k, d, stack) (sym (cond-false (bag es e + others e == 0) (put_back freed (put l (e ∷ []) cache (stack_of s))) (freed, cache, stack_of s) (ne_eqb (bag es e + others e) 0 some))),
+    let stack : shared_of t ≡ shared_of s = ap shared_of (sym h.4) ∙ ap shared_of h.1.2 in (
+      rw (k, d, stack) (sym (cond-false (bag es e + others e == 0) (put_back freed (put l (e ∷ []) cache (shared_of s))) (freed, cache, shared_of s) (ne_eqb (bag es e + others e) 0 some))),
       λ i. ap (λ (x : Lists). held_count (place_of x i)) (sym h.4 ∙ h.1.2) ∙ counts_less s.places e h.1.0 es others (ap held_count was.1) counts i,
     )
 end_one w l others e es s t cache freed calls left done (GoesBack puts answer p c d) led counts =
@@ -85,9 +85,9 @@ end_one w l others e es s t cache freed calls left done (GoesBack puts answer p 
     let was = h.1.1 in
     let one : held_count (place_of s e) ≡ 1 = ap held_count was.0 in
     let none : bag es e + others e ≡ 0 = omega (arith, one, counts e, bag-cons e es e, one-same e) in
-    let put_is = was_put w h.0 l cache (e ∷ []) puts answer left t p h.4 ∙ ap (λ (x : Stack). put l (e ∷ []) cache x) (ap stack_of h.1.2) in
+    let put_is = was_put w h.0 l cache (e ∷ []) puts answer left t p h.4 ∙ ap (λ (x : Shared). put l (e ∷ []) cache x) (ap shared_of h.1.2) in
     let less : held_count h.1.0 ≡ held_count (place_of s e) - 1 = ap held_count was.1 ∙ sym (ap (λ (n : ℕ). n - 1) one) in (
-      rw d (ap (put_back freed) put_is ∙ sym (cond-true (bag es e + others e == 0) (put_back freed (put l (e ∷ []) cache (stack_of s))) (freed, cache, stack_of s) (eq-eqb (bag es e + others e) 0 none))),
+      rw d (ap (put_back freed) put_is ∙ sym (cond-true (bag es e + others e == 0) (put_back freed (put l (e ∷ []) cache (shared_of s))) (freed, cache, shared_of s) (eq-eqb (bag es e + others e) 0 none))),
       λ i. requests_count w h.0 puts t h.3 (puts_request l cache (e ∷ []) puts answer left p) h.4 i
           ∙ ap (λ (x : Lists). held_count (place_of x i)) h.1.2 ∙ counts_less s.places e h.1.0 es others less counts i,
     )
@@ -95,7 +95,7 @@ end_one w l others e es s t cache freed calls left done (GoesBack puts answer p 
 -- holds that end one after another are the model's
 pub ended : (w : ℕ) (l : Limits) (others : ℕ → ℕ) (es : List ℕ) (s t : Lists) (cache : List ℕ) (freed : Freed) (calls : List Call) (left : List ℕ) (done : Freed) →
     EndsHolds l es cache freed calls left done → LeadsPlain w s calls t → Counts s es others →
-    (done, left, stack_of t) ≡ end_holds l others es (freed, cache, stack_of s)
+    (done, left, shared_of t) ≡ end_holds l others es (freed, cache, shared_of s)
 ended w l others [] s t cache freed calls left done ends led counts =
     let h = subst (λ (cs : List Call). LeadsPlain w s cs t) ends.0 led in
     rw (ends.1, ends.2, ← h) refl

@@ -12,13 +12,13 @@ use Rattle.mempool.specs.declared.put.Put.TheVariants.{Kept, Flushed, PutOff}
 use Rattle.mbuf.specs.declared.freed.Freed.{Freed}
 use Rattle.commons.specs.Packets.{held_in}
 use Rattle.mbuf.specs.Members.{Member}
-use Rattle.script.specs.Pool.{Stack, Pool, held_by, held_of}
+use Rattle.script.specs.Pool.{Shared, Pool, held_by, held_of}
 use Rattle.script.specs.CacheModel.{put}
 use Rattle.script.specs.HoldModel.{put_back, end_holds}
 use Rattle.script.proofs.CacheBags.{put-IsPut}
 
 -- what freeing counts changes nothing of the cache and the stack
-put_back-bag : (freed : Freed) (r : Put × List ℕ × Stack) (i : ℕ) → bag (put_back freed r).1 i + bag (put_back freed r).2.common i ≡ bag r.1 i + bag r.2.common i
+put_back-bag : (freed : Freed) (r : Put × List ℕ × Shared) (i : ℕ) → bag (put_back freed r).1 i + bag (put_back freed r).2.common i ≡ bag r.1 i + bag r.2.common i
 put_back-bag freed (Kept, cache, s) i = refl
 put_back-bag freed (Flushed k, cache, s) i = refl
 put_back-bag freed (PutOff k e, cache, s) i = refl
@@ -38,11 +38,11 @@ other_hold e i f g h = elim (cases_eq e i) [
 ]
 
 -- after one hold has ended
-abbrev pub next_hold : Limits → (ℕ → ℕ) → ℕ → List ℕ → Freed × List ℕ × Stack → Freed × List ℕ × Stack
+abbrev pub next_hold : Limits → (ℕ → ℕ) → ℕ → List ℕ → Freed × List ℕ × Shared → Freed × List ℕ × Shared
 next_hold l others e es so_far = if bag es e + others e == 0 then put_back so_far.0 (put l (e ∷ []) so_far.1 so_far.2) else so_far
 
 -- the end of one hold
-next_hold-bag : (l : Limits) (others : ℕ → ℕ) (e : ℕ) (es : List ℕ) (so_far : Freed × List ℕ × Stack) (i : ℕ) →
+next_hold-bag : (l : Limits) (others : ℕ → ℕ) (e : ℕ) (es : List ℕ) (so_far : Freed × List ℕ × Shared) (i : ℕ) →
     bag (next_hold l others e es so_far).1 i + bag (next_hold l others e es so_far).2.common i + min 1 (others i + bag es i)
     ≡ bag so_far.1 i + bag so_far.2.common i + min 1 (others i + (one e i + bag es i))
 next_hold-bag l others e es so_far i = elim (cases_Bool (bag es e + others e == 0)) [
@@ -59,7 +59,7 @@ next_hold-bag l others e es so_far i = elim (cases_Bool (bag es e + others e == 
 ]
 
 -- what the holds' ends leave in the cache and the common list is there with what is still held
-pub end_holds-bag : (l : Limits) (others : ℕ → ℕ) (es : List ℕ) (so_far : Freed × List ℕ × Stack) (i : ℕ) →
+pub end_holds-bag : (l : Limits) (others : ℕ → ℕ) (es : List ℕ) (so_far : Freed × List ℕ × Shared) (i : ℕ) →
     bag (end_holds l others es so_far).1 i + bag (end_holds l others es so_far).2.common i + min 1 (others i)
     ≡ bag so_far.1 i + bag so_far.2.common i + min 1 (others i + bag es i)
 end_holds-bag l others [] so_far i = omega (arith, bag-nil i)
@@ -81,7 +81,7 @@ pub cached_by-set : (members : List Member) (n : ℕ) (m d : Member) (i : ℕ) �
 cached_by-set members n m d i h = sum_by-set (λ (m : Member). bag m.cache i) members n m d h
 
 -- how often an element is in a member's cache, in the common list, and held there or by this many others
-abbrev pub near : ℕ → Member → Stack → ℕ → ℕ
+abbrev pub near : ℕ → Member → Shared → ℕ → ℕ
 near others m s i = bag m.cache i + bag s.common i + min 1 (others + held_in m.table i)
 
 -- elements that were in no other place, and are held
@@ -90,4 +90,4 @@ add_holds n a b c d others held h k = omega (arith, h, k)
 
 -- Each element of the pool is in one place, and nothing else is anywhere.
 pub record IsBalanced (pool : Pool) : Type 0 where
-  pub placed : (i : ℕ) → bag pool.stack.common i + cached_by pool.members i + min 1 (held_of pool.members pool.stack.desks i) ≡ cond (nat_lt i pool.limits.population) 1 0
+  pub placed : (i : ℕ) → bag pool.shared.common i + cached_by pool.members i + min 1 (held_of pool.members pool.shared.desks i) ≡ cond (nat_lt i pool.limits.population) 1 0

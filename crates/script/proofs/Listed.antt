@@ -62,13 +62,13 @@ held_once : (b h i n others : ℕ) → 0 < h → b ≡ cond (nat_lt i n) 1 0 →
 held_once b h i n others p q r = omega (arith, at_most_one i n)
 
 -- a held element is listed once among the held, and no other is
-held_elements-bag : (pool : Pool) → IsBalanced pool → (i : ℕ) → bag (held_elements pool) i ≡ min 1 (held_of pool.members pool.stack.desks i)
+held_elements-bag : (pool : Pool) → IsBalanced pool → (i : ℕ) → bag (held_elements pool) i ≡ min 1 (held_of pool.members pool.shared.desks i)
 held_elements-bag pool b i =
-    let p = λ (i : ℕ). nat_lt 0 (held_of pool.members pool.stack.desks i) in
-    elim (cases_Bool (nat_lt 0 (held_of pool.members pool.stack.desks i))) [
-      | inl e ↦ held_once (bag (held_elements pool) i) (held_of pool.members pool.stack.desks i) i pool.limits.population _ (ltb-true 0 (held_of pool.members pool.stack.desks i) e)
+    let p = λ (i : ℕ). nat_lt 0 (held_of pool.members pool.shared.desks i) in
+    elim (cases_Bool (nat_lt 0 (held_of pool.members pool.shared.desks i))) [
+      | inl e ↦ held_once (bag (held_elements pool) i) (held_of pool.members pool.shared.desks i) i pool.limits.population _ (ltb-true 0 (held_of pool.members pool.shared.desks i) e)
           (bag-filter_yes p (range_with_len 0 pool.limits.population) i e ∙ range-bag pool.limits.population i) (b.placed i)
-      | inr e ↦ omega (arith, bag-filter_no p (range_with_len 0 pool.limits.population) i e, ltb-false 0 (held_of pool.members pool.stack.desks i) e)
+      | inr e ↦ omega (arith, bag-filter_no p (range_with_len 0 pool.limits.population) i e, ltb-false 0 (held_of pool.members pool.shared.desks i) e)
     ]
 
 -- an element of a pool is in the common list, in a cache or held
@@ -88,12 +88,12 @@ bag-flat_map f (x ∷ xs) i = omega (arith, bag-append (f x) (flat_map f xs) i, 
 
 -- what is available and what is in use are the population
 whole_pool : (pool : Pool) → IsBalanced pool →
-    length pool.stack.common + sum_by (λ member. length member.cache) pool.members + length (held_elements pool) ≡ pool.limits.population
+    length pool.shared.common + sum_by (λ member. length member.cache) pool.members + length (held_elements pool) ≡ pool.limits.population
 whole_pool pool b =
     let caches = flat_map (λ (m : Member). m.cache) pool.members in
-    let n = length-each pool.limits.population (pool.stack.common ++ (caches ++ held_elements pool)) (λ i. omega (
+    let n = length-each pool.limits.population (pool.shared.common ++ (caches ++ held_elements pool)) (λ i. omega (
       arith,
-      bag-append pool.stack.common (caches ++ held_elements pool) i,
+      bag-append pool.shared.common (caches ++ held_elements pool) i,
       bag-append caches (held_elements pool) i,
       bag-flat_map (λ (m : Member). m.cache) pool.members i,
       held_elements-bag pool b i,
@@ -102,7 +102,7 @@ whole_pool pool b =
     omega (
       arith,
       n,
-      length-append pool.stack.common (caches ++ held_elements pool),
+      length-append pool.shared.common (caches ++ held_elements pool),
       length-append caches (held_elements pool),
       length-flat_map (λ (m : Member). m.cache) pool.members,
     )
@@ -306,24 +306,24 @@ range-rises n k h =
 -- where each element is in one place, the statement lists it once
 pub lists_each_once : (pool : Pool) → IsBalanced pool → ListsEachOnce (statement_of pool)
 lists_each_once pool b =
-    let test = λ (i : ℕ). nat_lt 0 (held_of pool.members pool.stack.desks i) in record {
+    let test = λ (i : ℕ). nat_lt 0 (held_of pool.members pool.shared.desks i) in record {
       once = λ i l. placed_once pool b i ∙ cond-true (nat_lt i pool.limits.population) 1 0 (lt-ltb i pool.limits.population l);
       none_else = λ i l. placed_once pool b i ∙ cond-false (nat_lt i pool.limits.population) 1 0 (le-ltb i pool.limits.population l);
       whole = whole_pool pool b;
       available = omega (arith, sum_by-map (λ (cache : List ℕ). length cache) (λ (m : Member). m.cache) pool.members);
-      in_use = sym (length-map (held_elements pool) (held_entry pool.members pool.stack.desks));
+      in_use = sym (length-map (held_elements pool) (held_entry pool.members pool.shared.desks));
       ascending = rw elems-entries (IsStrictlyIncreasing-filter test (range_with_len 0 pool.limits.population) (range-rises pool.limits.population));
-      held = All-map (λ (held : Held). 1 ≤ held.count) (held_entry pool.members pool.stack.desks) (held_elements pool)
-          (λ k d h. ltb-true 0 (held_of pool.members pool.stack.desks (get_or (held_elements pool) k d)) (filter_passes test (range_with_len 0 pool.limits.population) k d h));
-      holders = All-map (λ (held : Held). length held.holders ≡ held.count) (held_entry pool.members pool.stack.desks) (held_elements pool)
-          (λ k d h. length-holders pool.members pool.stack.desks (get_or (held_elements pool) k d));
-      counts = All-map (λ (held : Held). held.count ≡ packet_holds (statement_of pool) held.elem) (held_entry pool.members pool.stack.desks) (held_elements pool)
-          (λ k d h. omega (arith, packets-holds pool.members (get_or (held_elements pool) k d), desks_from-holds 0 pool.stack.desks (get_or (held_elements pool) k d)));
-      by_worker = All-map (λ (held : Held). (w : ℕ) → count_by (is_worker w) held.holders ≡ worker_holds (statement_of pool) w held.elem) (held_entry pool.members pool.stack.desks) (held_elements pool)
-          (λ k d h w. holders-worker pool.members pool.stack.desks (get_or (held_elements pool) k d) w ∙ sym (packets-worker pool.members (get_or (held_elements pool) k d) w));
-      by_desk = All-map (λ (held : Held). (e : ℕ) → count_by (is_desk e) held.holders ≡ desk_holds (statement_of pool) e held.elem) (held_entry pool.members pool.stack.desks) (held_elements pool)
-          (λ k d h e. holders-desk pool.members pool.stack.desks (get_or (held_elements pool) k d) e);
-      unheld = λ i h. let none = rw elems-entries at h in omega (arith, none, held_elements-bag pool b i, packets-holds pool.members i, desks_from-holds 0 pool.stack.desks i, b.placed i);
+      held = All-map (λ (held : Held). 1 ≤ held.count) (held_entry pool.members pool.shared.desks) (held_elements pool)
+          (λ k d h. ltb-true 0 (held_of pool.members pool.shared.desks (get_or (held_elements pool) k d)) (filter_passes test (range_with_len 0 pool.limits.population) k d h));
+      holders = All-map (λ (held : Held). length held.holders ≡ held.count) (held_entry pool.members pool.shared.desks) (held_elements pool)
+          (λ k d h. length-holders pool.members pool.shared.desks (get_or (held_elements pool) k d));
+      counts = All-map (λ (held : Held). held.count ≡ packet_holds (statement_of pool) held.elem) (held_entry pool.members pool.shared.desks) (held_elements pool)
+          (λ k d h. omega (arith, packets-holds pool.members (get_or (held_elements pool) k d), desks_from-holds 0 pool.shared.desks (get_or (held_elements pool) k d)));
+      by_worker = All-map (λ (held : Held). (w : ℕ) → count_by (is_worker w) held.holders ≡ worker_holds (statement_of pool) w held.elem) (held_entry pool.members pool.shared.desks) (held_elements pool)
+          (λ k d h w. holders-worker pool.members pool.shared.desks (get_or (held_elements pool) k d) w ∙ sym (packets-worker pool.members (get_or (held_elements pool) k d) w));
+      by_desk = All-map (λ (held : Held). (e : ℕ) → count_by (is_desk e) held.holders ≡ desk_holds (statement_of pool) e held.elem) (held_entry pool.members pool.shared.desks) (held_elements pool)
+          (λ k d h e. holders-desk pool.members pool.shared.desks (get_or (held_elements pool) k d) e);
+      unheld = λ i h. let none = rw elems-entries at h in omega (arith, none, held_elements-bag pool b i, packets-holds pool.members i, desks_from-holds 0 pool.shared.desks i, b.placed i);
     }
 
 -- after any commands a new pool's statement lists each element exactly once

@@ -12,9 +12,9 @@ use Rattle.commons.specs.Packets.{held_in}
 use Rattle.mbuf.specs.Members.{Member}
 use Rattle.mbuf.specs.declared.acts.Act.{Act}
 use Rattle.mbuf.specs.declared.acts.Reply.{Reply}
-use Rattle.script.specs.Pool.{Stack, Pool, nobody, held_of}
+use Rattle.script.specs.Pool.{Shared, Pool, nobody, held_of}
 use Rattle.script.specs.PacketModel.{perform, without_packet}
-use Rattle.script.specs.Own.{stack_of, LeadsPlain, Owns, StepsAlone}
+use Rattle.script.specs.Own.{shared_of, LeadsPlain, Owns, StepsAlone}
 use Rattle.script.proofs.Entries.{AreMembers, counts_are_holds}
 use Rattle.commons.proofs.PacketBags.{held_in-set, stands_within}
 use Rattle.script.proofs.PacketCalls.{Elsewhere, performed_by}
@@ -64,11 +64,11 @@ in_pool w n l b = grind (arith, nat_tests)
 pub performed : (s t : Lists) (members : List Member) (w : ℕ) (act : Act) (calls : List Call) (r : Reply) (m : Member) → IsTable s → length members ≡ s.limits.workers →
     AreMembers s members → 1 ≤ w → w ≤ length members → t.limits ≡ s.limits →
     Performs act (get_or members (w - 1) (nobody s.limits)) calls r m → LeadsPlain w s calls t →
-    ◌≡◌ {A = Reply × Pool} (r, record { limits = t.limits; stack = stack_of t; members = set members (w - 1) m })
-    (perform (record { limits = s.limits; stack = stack_of s; members = members }) w act)
+    ◌≡◌ {A = Reply × Pool} (r, record { limits = t.limits; shared = shared_of t; members = set members (w - 1) m })
+    (perform (record { limits = s.limits; shared = shared_of s; members = members }) w act)
 performed s t members w act calls r m table l each first last same did led =
     let old : Member = get_or members (w - 1) (nobody s.limits) in
     let others : ℕ → ℕ → ℕ = λ slot i. held_of (set members (w - 1) (without_packet slot old)) s.desks i in
     let done = performed_by act w s t old m calls r (held_of members s.desks) others did led table (sym (each (w - 1) (omega (arith, last, l))).own.share.limits) (counts_are_holds s members table l each) (elsewhere s members (w - 1) table l each (omega arith)) in
     rw (in_pool w (length members) first last, same)
-    (ap (λ (d : Reply × Member × Stack). let p : Pool = record { limits = s.limits; stack = d.2; members = set members (w - 1) d.1 } in (d.0, p)) done)
+    (ap (λ (d : Reply × Member × Shared). let p : Pool = record { limits = s.limits; shared = d.2; members = set members (w - 1) d.1 } in (d.0, p)) done)

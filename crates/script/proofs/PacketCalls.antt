@@ -19,10 +19,10 @@ use Rattle.mbuf.specs.Members.{Member}
 use Rattle.mbuf.specs.Desks.{Offers, NothingThere, NotOffered, WasOffered, Takes, NoDesk, NoSlot, NotTaken, WasTaken}
 use Rattle.mbuf.specs.Sharing.{Attaches, NotAttachable, HeldElsewhere, NotRaised, WasAttached, Detaches, NotDetachable, WasDetached, Clones, NotClonable, WasGivenUp, WasCloned}
 use Rattle.mbuf.specs.PacketRules.{Allocs, Full, NotGot, Fresh, AllocsBulk, TooFull, BulkNotGot, FreshBulk, Frees, NoPacket, WasFreed, Resizes, NoneThere, NotResized, WasResized, Chains, NoHead, NoTail, Same, TooLong, WasChained, fresh_seg, free_slots, freed_nothing}
-use Rattle.script.specs.Pool.{Stack}
+use Rattle.script.specs.Pool.{Shared}
 use Rattle.script.specs.CacheModel.{get}
 use Rattle.script.specs.PacketModel.{fill_slot, alloc_in, alloc, fill_slots, alloc_bulk, free_in, free, resize_to, resize_in, resize, chain_in, chain, beside, flushed, member_act}
-use Rattle.script.specs.Own.{stack_of, LeadsPlain}
+use Rattle.script.specs.Own.{shared_of, LeadsPlain}
 use Rattle.script.proofs.CacheCalls.{got, was_flushed}
 use Rattle.script.proofs.EndedHolds.{ended}
 use Rattle.commons.proofs.PacketBags.{stands_within}
@@ -32,54 +32,54 @@ use Rattle.script.proofs.DeskCalls.{offer_by, take_by}
 use Rattle.script.proofs.SharedBuffers.{AreHeld, attach_by, clone_by, count_by, detach_by, nothing}
 
 -- claims move no element of the stack
-claimed : (w : ℕ) (s : Lists) (es : List ℕ) (t : Lists) → LeadsPlain w s (map Claim es) t → stack_of t ≡ stack_of s
-claimed w s [] t h = ap stack_of (sym h)
-claimed w s (e ∷ es) t h = claimed w h.0 es t h.4 ∙ ap stack_of h.1.1
+claimed : (w : ℕ) (s : Lists) (es : List ℕ) (t : Lists) → LeadsPlain w s (map Claim es) t → shared_of t ≡ shared_of s
+claimed w s [] t h = ap shared_of (sym h)
+claimed w s (e ∷ es) t h = claimed w h.0 es t h.4 ∙ ap shared_of h.1.1
 
 abbrev Outcome : Type 0
-Outcome = Reply × Member × Stack
+Outcome = Reply × Member × Shared
 
 alloc_by : (w : ℕ) (s t : Lists) (m after : Member) (calls : List Call) (answer : Result ℕ Refusal) → Allocs m calls answer after → LeadsPlain w s calls t →
-    ◌≡◌ {A = Outcome} (allocated answer after.table, after, stack_of t) (alloc m (stack_of s))
+    ◌≡◌ {A = Outcome} (allocated answer after.table, after, shared_of t) (alloc m (shared_of s))
 alloc_by w s t m after calls answer (Full f c a k) h =
-    rw (a, k, nothing w s t calls c h) (sym (ap (λ (o : Option ℕ). alloc_in o m (stack_of s)) f))
+    rw (a, k, nothing w s t calls c h) (sym (ap (λ (o : Option ℕ). alloc_in o m (shared_of s)) f))
 alloc_by w s t m after calls answer (NotGot slot f cause g a k) h =
     let r = got w s m.limits m.cache 1 calls (Err cause) m.cache t g h in
-    rw (a, k) (ap (fill_slot slot m) r ∙ sym (ap (λ (o : Option ℕ). alloc_in o m (stack_of s)) f))
+    rw (a, k) (ap (fill_slot slot m) r ∙ sym (ap (λ (o : Option ℕ). alloc_in o m (shared_of s)) f))
 alloc_by w s t m after calls answer (Fresh slot e f by left g c a k) h =
     let p = LeadsPlain-split w s by (Claim e ∷ []) t (subst (λ (cs : List Call). LeadsPlain w s cs t) c h) in
     let r = got w s m.limits m.cache 1 by (Ok (e ∷ [])) left p.0 g p.1 in
     let there = get_or-set_same m.table slot (Some (fresh_seg m.limits e ∷ [])) None (free_slot-is m.table slot f).0 in
-    rw (a, k, claimed w p.0 (e ∷ []) t p.2, there) (ap (fill_slot slot m) r ∙ sym (ap (λ (o : Option ℕ). alloc_in o m (stack_of s)) f))
+    rw (a, k, claimed w p.0 (e ∷ []) t p.2, there) (ap (fill_slot slot m) r ∙ sym (ap (λ (o : Option ℕ). alloc_in o m (shared_of s)) f))
 
 bulk_by : (w : ℕ) (s t : Lists) (m after : Member) (n : ℕ) (calls : List Call) (answer : Result (List ℕ) Refusal) → AllocsBulk m n calls answer after → LeadsPlain w s calls t →
-    ◌≡◌ {A = Outcome} (allocated_bulk answer after.table, after, stack_of t) (alloc_bulk n m (stack_of s))
+    ◌≡◌ {A = Outcome} (allocated_bulk answer after.table, after, shared_of t) (alloc_bulk n m (shared_of s))
 bulk_by w s t m after n calls answer (TooFull few c a k) h =
-    rw (a, k, nothing w s t calls c h) (sym (cond-true (nat_lt (length (free_slots m.table)) n) (reply.Refused PacketsFull, m, stack_of s) (fill_slots (take n (free_slots m.table)) m (get m.limits n m.cache (stack_of s))) (lt-ltb (length (free_slots m.table)) n few)))
+    rw (a, k, nothing w s t calls c h) (sym (cond-true (nat_lt (length (free_slots m.table)) n) (reply.Refused PacketsFull, m, shared_of s) (fill_slots (take n (free_slots m.table)) m (get m.limits n m.cache (shared_of s))) (lt-ltb (length (free_slots m.table)) n few)))
 bulk_by w s t m after n calls answer (BulkNotGot room cause g a k) h =
     let r = got w s m.limits m.cache n calls (Err cause) m.cache t g h in
     rw (a, k) (ap (fill_slots (take n (free_slots m.table)) m) r
-    ∙ sym (cond-false (nat_lt (length (free_slots m.table)) n) (reply.Refused PacketsFull, m, stack_of s) (fill_slots (take n (free_slots m.table)) m (get m.limits n m.cache (stack_of s))) (le-ltb (length (free_slots m.table)) n room)))
+    ∙ sym (cond-false (nat_lt (length (free_slots m.table)) n) (reply.Refused PacketsFull, m, shared_of s) (fill_slots (take n (free_slots m.table)) m (get m.limits n m.cache (shared_of s))) (le-ltb (length (free_slots m.table)) n room)))
 bulk_by w s t m after n calls answer (FreshBulk es long room by left g c a k) h =
     let p = LeadsPlain-split w s by (map Claim es) t (subst (λ (cs : List Call). LeadsPlain w s cs t) c h) in
     let r = got w s m.limits m.cache n by (Ok es) left p.0 g p.1 in
     rw (a, k, claimed w p.0 es t p.2) (ap (fill_slots (take n (free_slots m.table)) m) r
-    ∙ sym (cond-false (nat_lt (length (free_slots m.table)) n) (reply.Refused PacketsFull, m, stack_of s) (fill_slots (take n (free_slots m.table)) m (get m.limits n m.cache (stack_of s))) (le-ltb (length (free_slots m.table)) n room)))
+    ∙ sym (cond-false (nat_lt (length (free_slots m.table)) n) (reply.Refused PacketsFull, m, shared_of s) (fill_slots (take n (free_slots m.table)) m (get m.limits n m.cache (shared_of s))) (le-ltb (length (free_slots m.table)) n room)))
 
 -- how often the packets that stay hold each element, where a packet is freed
 abbrev pub Elsewhere : Lists → Member → (ℕ → ℕ → ℕ) → Type 0
 Elsewhere s m others = (slot : ℕ) (segs : List Seg) → get_or m.table slot None ≡ Some segs → (i : ℕ) → held_count (place_of s i) ≡ bag (holds_of_packet segs) i + others slot i
 
-abbrev freed_with : ℕ → Member → Freed × List ℕ × Stack → Outcome
+abbrev freed_with : ℕ → Member → Freed × List ℕ × Shared → Outcome
 freed_with slot m d = (reply.Freed d.0, record m { cache = d.1; table = set m.table slot None }, d.2)
 
 free_by : (w : ℕ) (s t : Lists) (m after : Member) (slot : ℕ) (others : ℕ → ℕ → ℕ) (calls : List Call) (answer : Result Freed Refusal) → Frees m slot calls answer after → LeadsPlain w s calls t → Elsewhere s m others →
-    ◌≡◌ {A = Outcome} (freed_reply answer, after, stack_of t) (free (others slot) slot m (stack_of s))
+    ◌≡◌ {A = Outcome} (freed_reply answer, after, shared_of t) (free (others slot) slot m (shared_of s))
 free_by w s t m after slot others calls answer (NoPacket f c a k) h held =
-    rw (a, k, nothing w s t calls c h) (sym (ap (λ (o : Option (List Seg)). free_in o (others slot) slot m (stack_of s)) f))
+    rw (a, k, nothing w s t calls c h) (sym (ap (λ (o : Option (List Seg)). free_in o (others slot) slot m (shared_of s)) f))
 free_by w s t m after slot others calls answer (WasFreed segs left done f ends a k) h held =
     let r = ended w m.limits (others slot) (holds_of_packet segs) s t m.cache freed_nothing calls left done ends h (held slot segs f) in
-    rw (a, k) (ap (freed_with slot m) r ∙ sym (ap (λ (o : Option (List Seg)). free_in o (others slot) slot m (stack_of s)) f))
+    rw (a, k) (ap (freed_with slot m) r ∙ sym (ap (λ (o : Option (List Seg)). free_in o (others slot) slot m (shared_of s)) f))
 
 resize_by : (m after : Member) (change : List Seg → Option (List Seg)) (cause : Refusal) (slot : ℕ) (answer : Result ℕ Refusal) → Resizes change cause m slot answer after →
     ◌≡◌ {A = Reply × Member} (told_len answer, after) (resize change cause slot m)
@@ -125,8 +125,8 @@ chain_by m after head tail answer (WasChained first second f g apart few a k) =
 
 -- what asks nothing of the stack leaves it
 beside_is : (w : ℕ) (s t : Lists) (calls : List Call) (r : Reply) (after : Member) (done : Reply × Member) → calls ≡ [] → LeadsPlain w s calls t → ◌≡◌ {A = Reply × Member} (r, after) done →
-    ◌≡◌ {A = Outcome} (r, after, stack_of t) (beside (stack_of s) done)
-beside_is w s t calls r after done e h same = rw (nothing w s t calls e h) (ap (beside (stack_of s)) same)
+    ◌≡◌ {A = Outcome} (r, after, shared_of t) (beside (shared_of s) done)
+beside_is w s t calls r after done e h same = rw (nothing w s t calls e h) (ap (beside (shared_of s)) same)
 
 -- a packet holds no more than all packets
 held_within : (s : Lists) (m : Member) (all : ℕ → ℕ) (others : ℕ → ℕ → ℕ) → AreHeld s all → Elsewhere s m others → (slot : ℕ) (segs : List Seg) → get_or m.table slot None ≡ Some segs → (i : ℕ) → bag (holds_of_packet segs) i ≤ all i
@@ -134,7 +134,7 @@ held_within s m all others counts held slot segs there i = omega (arith, counts 
 
 -- what an act does by these calls is the model's
 pub performed_by : (act : Act) (w : ℕ) (s t : Lists) (m after : Member) (calls : List Call) (r : Reply) (all : ℕ → ℕ) (others : ℕ → ℕ → ℕ) →
-    Performs act m calls r after → LeadsPlain w s calls t → IsTable s → s.limits ≡ m.limits → AreHeld s all → Elsewhere s m others → ◌≡◌ {A = Outcome} (r, after, stack_of t) (member_act act all others m (stack_of s))
+    Performs act m calls r after → LeadsPlain w s calls t → IsTable s → s.limits ≡ m.limits → AreHeld s all → Elsewhere s m others → ◌≡◌ {A = Outcome} (r, after, shared_of t) (member_act act all others m (shared_of s))
 performed_by Alloc w s t m after calls r all others p h table same counts held = rw p.2 (alloc_by w s t m after calls p.0 p.1 h)
 performed_by (AllocBulk n) w s t m after calls r all others p h table same counts held = rw p.2 (bulk_by w s t m after n calls p.0 p.1 h)
 performed_by (Free slot) w s t m after calls r all others p h table same counts held = rw p.2 (free_by w s t m after slot others calls p.0 p.1 h held)
@@ -158,7 +158,7 @@ performed_by (PktLen slot) w s t m after calls r all others p h table same count
 performed_by (NbSegs slot) w s t m after calls r all others p h table same counts held = rw (p.0, p.2, nothing w s t calls p.1 h) refl
 performed_by Flush w s t m after calls r all others p h table same counts held =
     let f = was_flushed w s m.cache calls p.0 after.cache t p.1 h in
-    rw p.3 (ap (λ (x : Member). let o : Outcome = (reply.Put p.0, x, stack_of t) in o) p.2 ∙ ap (flushed m) f)
+    rw p.3 (ap (λ (x : Member). let o : Outcome = (reply.Put p.0, x, shared_of t) in o) p.2 ∙ ap (flushed m) f)
 
 -- ---- a worker keeps its number
 

@@ -18,7 +18,7 @@ use Rattle.mbuf.proofs.CloneLemmas.{attached_holds, buffer_held, holds-more}
 use Rattle.commons.proofs.PacketBags.{held_in-set, stands_within}
 use Rattle.mbuf.proofs.OwnLemmas.{free_slot-is}
 use Rattle.mbuf.proofs.SharingLemmas.{found_base, found_pair, holds_alone}
-use Rattle.script.specs.Pool.{Stack}
+use Rattle.script.specs.Pool.{Shared}
 use Rattle.script.specs.CacheModel.{get}
 use Rattle.script.specs.SharingModel.{Cloned, attach_to, clone_at, clone_segs, clone_to, detach_from, give_up, with_element}
 use Rattle.script.proofs.CacheBags.{IsGot, get-IsGot}
@@ -40,7 +40,7 @@ one_is b i h = elim (cases_eq i b) [
 ]
 
 -- an attach moves no element
-pub attach_to-near : (found : Result (ℕ × Seg) Refusal) (held : ℕ → ℕ) (mi target : ℕ) (m : Member) (s : Stack) → pair_in m mi target ≡ found → (others i : ℕ) → held i ≡ others + held_in m.table i →
+pub attach_to-near : (found : Result (ℕ × Seg) Refusal) (held : ℕ → ℕ) (mi target : ℕ) (m : Member) (s : Shared) → pair_in m mi target ≡ found → (others i : ℕ) → held i ≡ others + held_in m.table i →
     ((slot : ℕ) (segs : List Seg) → get_or m.table slot None ≡ Some segs → (j : ℕ) → bag (holds_of_packet segs) j ≤ held j) →
     near others (attach_to found held mi m).1 s i ≡ near others m s i
 attach_to-near (Err cause) held mi target m s f others i all within = refl
@@ -61,7 +61,7 @@ attach_to-near (Ok (e, seg)) held mi target m s f others i all within = elim (ca
 ]
 
 -- a detach moves a base whose last hold ends
-pub detach_from-near : (found : Result (ℕ × ℕ) Refusal) (held : ℕ → ℕ) (slot : ℕ) (m : Member) (s : Stack) → detachable (get_or m.table slot None) ≡ found → (others i : ℕ) → held i ≡ others + held_in m.table i →
+pub detach_from-near : (found : Result (ℕ × ℕ) Refusal) (held : ℕ → ℕ) (slot : ℕ) (m : Member) (s : Shared) → detachable (get_or m.table slot None) ≡ found → (others i : ℕ) → held i ≡ others + held_in m.table i →
     near others (detach_from found held slot m s).1 (detach_from found held slot m s).2 i ≡ near others m s i
 detach_from-near (Err cause) held slot m s f others i all = refl
 detach_from-near (Ok (e, base)) held slot m s f others i all =
@@ -80,15 +80,15 @@ NearTo held i (Ok new, cache, s) q = bag cache i + bag s.common i + min 1 (held 
 NearTo held i (Err cause, cache, s) q = bag cache i + bag s.common i + min 1 (held i) ≡ q
 
 -- what follows a get of one element
-element-near : (held : ℕ → ℕ) (i q : ℕ) (cache : List ℕ) (s : Stack) (r : Result (List ℕ) Refusal × List ℕ × Stack) (met : ℕ → List ℕ → Stack → Cloned) (refused : Refusal → List ℕ → Stack → Cloned) → IsGot 1 cache s r →
-    ((e : ℕ) (left : List ℕ) (t : Stack) → one e i + (bag left i + bag t.common i) ≡ bag cache i + bag s.common i → NearTo held i (met e left t) q) →
-    ((cause : Refusal) (left : List ℕ) (t : Stack) → bag left i + bag t.common i ≡ bag cache i + bag s.common i → NearTo held i (refused cause left t) q) → NearTo held i (with_element r met refused) q
+element-near : (held : ℕ → ℕ) (i q : ℕ) (cache : List ℕ) (s : Shared) (r : Result (List ℕ) Refusal × List ℕ × Shared) (met : ℕ → List ℕ → Shared → Cloned) (refused : Refusal → List ℕ → Shared → Cloned) → IsGot 1 cache s r →
+    ((e : ℕ) (left : List ℕ) (t : Shared) → one e i + (bag left i + bag t.common i) ≡ bag cache i + bag s.common i → NearTo held i (met e left t) q) →
+    ((cause : Refusal) (left : List ℕ) (t : Shared) → bag left i + bag t.common i ≡ bag cache i + bag s.common i → NearTo held i (refused cause left t) q) → NearTo held i (with_element r met refused) q
 element-near held i q cache s (Ok [], left, t) met refused g a b = absurd (omega (arith, g.long))
 element-near held i q cache s (Ok (e ∷ es), left, t) met refused g a b = a e left t (omega (arith, bag-of_one (e ∷ es) i g.long, g.moved i))
 element-near held i q cache s (Err cause, left, t) met refused g a b = b cause left t (omega (arith, g.moved i))
 
 -- cloning moves elements from the cache or the common list, or leaves them there
-clone_segs-near : (l : Limits) (held : ℕ → ℕ) (segs new : List Seg) (cache : List ℕ) (s : Stack) (i : ℕ) → bag cache i + bag s.common i + min 1 (held i + bag (holds_of_packet new) i) ≤ 1 → ((j : ℕ) → bag (holds_of_packet segs) j ≤ held j) →
+clone_segs-near : (l : Limits) (held : ℕ → ℕ) (segs new : List Seg) (cache : List ℕ) (s : Shared) (i : ℕ) → bag cache i + bag s.common i + min 1 (held i + bag (holds_of_packet new) i) ≤ 1 → ((j : ℕ) → bag (holds_of_packet segs) j ≤ held j) →
     NearTo held i (clone_segs l held segs new cache s) (bag cache i + bag s.common i + min 1 (held i + bag (holds_of_packet new) i))
 clone_segs-near l held [] new cache s i few within = refl
 clone_segs-near l held (seg ∷ segs) new cache s i few within =
@@ -113,7 +113,7 @@ clone_segs-near l held (seg ∷ segs) new cache s i few within =
     (λ cause left t moved. omega (arith, end_holds-bag l held (holds_of_packet new) (freed_nothing, left, t) i, moved))
 
 -- the clone's elements are held where it stands
-clone_to-near : (r : Cloned) (held : ℕ → ℕ) (slot : ℕ) (m : Member) (s : Stack) (others i : ℕ) → free_slot m.table ≡ Some slot → held i ≡ others + held_in m.table i → NearTo held i r (near others m s i) →
+clone_to-near : (r : Cloned) (held : ℕ → ℕ) (slot : ℕ) (m : Member) (s : Shared) (others i : ℕ) → free_slot m.table ≡ Some slot → held i ≡ others + held_in m.table i → NearTo held i r (near others m s i) →
     near others (clone_to slot m r).1 (clone_to slot m r).2 i ≡ near others m s i
 clone_to-near (Ok new, cache, t) held slot m s others i free all h =
     let empty = free_slot-is m.table slot free in
@@ -122,7 +122,7 @@ clone_to-near (Ok new, cache, t) held slot m s others i free all h =
     rw more h
 clone_to-near (Err cause, cache, t) held slot m s others i free all h = rw (← all) (h ∙ ap (λ (n : ℕ). bag m.cache i + bag s.common i + min 1 n) (sym all))
 
-pub clone_at-near : (found : Result (List Seg × ℕ) Refusal) (held : ℕ → ℕ) (source : ℕ) (m : Member) (s : Stack) → clonable (get_or m.table source None) (free_slot m.table) ≡ found → (others i : ℕ) → held i ≡ others + held_in m.table i →
+pub clone_at-near : (found : Result (List Seg × ℕ) Refusal) (held : ℕ → ℕ) (source : ℕ) (m : Member) (s : Shared) → clonable (get_or m.table source None) (free_slot m.table) ≡ found → (others i : ℕ) → held i ≡ others + held_in m.table i →
     ((slot : ℕ) (segs : List Seg) → get_or m.table slot None ≡ Some segs → (j : ℕ) → bag (holds_of_packet segs) j ≤ held j) → near others m s i ≤ 1 →
     near others (clone_at found held m s).1 (clone_at found held m s).2 i ≡ near others m s i
 clone_at-near (Err cause) held source m s f others i all within few = refl

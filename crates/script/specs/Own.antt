@@ -4,11 +4,11 @@ use Rattle.commons.specs.Calls.{Call}
 use Rattle.commons.specs.Lists.{Lists, IsTable, DidPlain, KeepsOthers, hand_of, holds_of, header_of}
 use Rattle.mbuf.specs.Members.{Member}
 use Rattle.mbuf.specs.Own.{Own}
-use Rattle.script.specs.Pool.{Stack}
+use Rattle.script.specs.Pool.{Shared}
 
 -- what all workers share of the lists
-abbrev pub stack_of : Lists → Stack
-stack_of s = record { common = s.common; changes = s.changes; desks = s.desks }
+abbrev pub shared_of : Lists → Shared
+shared_of s = record { common = s.common; changes = s.changes; desks = s.desks }
 
 -- the packets of a worker of the pool are its own with its part of the lists
 pub record Owns (s : Lists) (m : Member) : Type 0 where

@@ -13,46 +13,46 @@ use Rattle.mbuf.specs.Lengths.{pkt_len, appended, prepended, adjusted, trimmed}
 use Rattle.commons.specs.Packets.{holds_in_slot}
 use Rattle.mbuf.specs.Members.{Member}
 use Rattle.mbuf.specs.PacketRules.{fresh_seg, free_slot, free_slots, stood, freed_nothing, of_packet}
-use Rattle.script.specs.Pool.{Stack, Pool, held_of, member_at, with_member}
+use Rattle.script.specs.Pool.{Shared, Pool, held_of, member_at, with_member}
 use Rattle.script.specs.CacheModel.{get, flush}
 use Rattle.script.specs.HoldModel.{end_holds}
 use Rattle.script.specs.SharingModel.{attach, clone, count, detach}
 
 -- A get of one element fills the slot. (A get that is met gives as many elements as were asked for, so its list
 -- isn't empty.)
-abbrev pub fill_slot : ℕ → Member → Result (List ℕ) Refusal × List ℕ × Stack → Reply × Member × Stack
+abbrev pub fill_slot : ℕ → Member → Result (List ℕ) Refusal × List ℕ × Shared → Reply × Member × Shared
 fill_slot slot m (Ok [], cache, s) = (reply.Refused NoEntries, m, s)
 fill_slot slot m (Ok (e ∷ _), cache, s) =
     (reply.Allocated slot e, record m { cache = cache; table = slice_set m.table slot (Some (fresh_seg m.limits e ∷ [])) }, s)
 fill_slot slot m (Err cause, cache, s) = (reply.Refused cause, record m { cache = cache }, s)
 
-abbrev pub alloc_in : Option ℕ → Member → Stack → Reply × Member × Stack
+abbrev pub alloc_in : Option ℕ → Member → Shared → Reply × Member × Shared
 alloc_in None m s = (reply.Refused PacketsFull, m, s)
 alloc_in (Some slot) m s = fill_slot slot m (get m.limits 1 m.cache s)
 
-abbrev pub alloc : Member → Stack → Reply × Member × Stack
+abbrev pub alloc : Member → Shared → Reply × Member × Shared
 alloc m s = alloc_in (free_slot m.table) m s
 
 -- a get of several elements fills so many slots
-abbrev pub fill_slots : List ℕ → Member → Result (List ℕ) Refusal × List ℕ × Stack → Reply × Member × Stack
+abbrev pub fill_slots : List ℕ → Member → Result (List ℕ) Refusal × List ℕ × Shared → Reply × Member × Shared
 fill_slots slots m (Ok es, cache, s) =
     (allocated_bulk (Ok slots) (stood m.limits es slots m.table), record m { cache = cache; table = stood m.limits es slots m.table }, s)
 fill_slots slots m (Err cause, cache, s) = (reply.Refused cause, record m { cache = cache }, s)
 
 -- the lowest free slots are filled in the order of the get, where there are so many
-abbrev pub alloc_bulk : ℕ → Member → Stack → Reply × Member × Stack
+abbrev pub alloc_bulk : ℕ → Member → Shared → Reply × Member × Shared
 alloc_bulk n m s =
     if nat_lt (length (free_slots m.table)) n then (reply.Refused PacketsFull, m, s)
     else fill_slots (take n (free_slots m.table)) m (get m.limits n m.cache s)
 
-abbrev pub free_in : Option (List Seg) → (ℕ → ℕ) → ℕ → Member → Stack → Reply × Member × Stack
+abbrev pub free_in : Option (List Seg) → (ℕ → ℕ) → ℕ → Member → Shared → Reply × Member × Shared
 free_in None others slot m s = (reply.Refused NoSuchPacket, m, s)
 free_in (Some segs) others slot m s =
     let done = end_holds m.limits others (holds_in_slot (Some segs)) (freed_nothing, m.cache, s) in
     (reply.Freed done.0, record m { cache = done.1; table = slice_set m.table slot None }, done.2)
 
 -- others is how often other packets hold each element
-abbrev pub free : (ℕ → ℕ) → ℕ → Member → Stack → Reply × Member × Stack
+abbrev pub free : (ℕ → ℕ) → ℕ → Member → Shared → Reply × Member × Shared
 free others slot m s = free_in (slice_index_or m.table slot None) others slot m s
 
 -- a packet takes the place of the one in the slot, if it could be made
@@ -84,43 +84,43 @@ abbrev pub chain : ℕ → ℕ → Member → Reply × Member
 chain head tail m = chain_in (slice_index_or m.table head None) (slice_index_or m.table tail None) head tail m
 
 -- what changes no element's place leaves the stack
-abbrev pub beside : Stack → Reply × Member → Reply × Member × Stack
+abbrev pub beside : Shared → Reply × Member → Reply × Member × Shared
 beside s done = (done.0, done.1, s)
 
 -- a packet goes onto a desk that is empty, and leaves its slot
-abbrev pub offer_onto : Option (List Seg) → List Seg → ℕ → ℕ → Member → Stack → Reply × Member × Stack
+abbrev pub offer_onto : Option (List Seg) → List Seg → ℕ → ℕ → Member → Shared → Reply × Member × Shared
 offer_onto (Some other) segs slot desk m s = (reply.Refused DeskTaken, m, s)
 offer_onto None segs slot desk m s = (reply.Offered, record m { table = slice_set m.table slot None }, record s { desks = slice_set s.desks desk (Some segs) })
 
-abbrev pub offer_in : Option (List Seg) → ℕ → ℕ → Member → Stack → Reply × Member × Stack
+abbrev pub offer_in : Option (List Seg) → ℕ → ℕ → Member → Shared → Reply × Member × Shared
 offer_in None slot desk m s = (reply.Refused NoSuchPacket, m, s)
 offer_in (Some segs) slot desk m s =
     if nat_le (length s.desks) desk then (reply.Refused NoSuchDesk, m, s)
     else offer_onto (slice_index_or s.desks desk None) segs slot desk m s
 
-abbrev pub offer : ℕ → ℕ → Member → Stack → Reply × Member × Stack
+abbrev pub offer : ℕ → ℕ → Member → Shared → Reply × Member × Shared
 offer slot desk m s = offer_in (slice_index_or m.table slot None) slot desk m s
 
 -- the packet of a desk goes into the slot
-abbrev pub take_from : Option (List Seg) → ℕ → ℕ → Member → Stack → Reply × Member × Stack
+abbrev pub take_from : Option (List Seg) → ℕ → ℕ → Member → Shared → Reply × Member × Shared
 take_from None slot desk m s = (reply.Refused DeskEmpty, m, s)
 take_from (Some segs) slot desk m s =
     (reply.Taken slot (length segs) (pkt_len segs), record m { table = slice_set m.table slot (Some segs) }, record s { desks = slice_set s.desks desk None })
 
-abbrev pub take_into : Option ℕ → ℕ → Member → Stack → Reply × Member × Stack
+abbrev pub take_into : Option ℕ → ℕ → Member → Shared → Reply × Member × Shared
 take_into None desk m s = (reply.Refused PacketsFull, m, s)
 take_into (Some slot) desk m s = take_from (slice_index_or s.desks desk None) slot desk m s
 
-abbrev pub take_off : ℕ → Member → Stack → Reply × Member × Stack
+abbrev pub take_off : ℕ → Member → Shared → Reply × Member × Shared
 take_off desk m s =
     if nat_le (length s.desks) desk then (reply.Refused NoSuchDesk, m, s)
     else take_into (free_slot m.table) desk m s
 
 -- a flush changes the worker's cache, and none of its packets
-abbrev pub flushed : Member → Put × List ℕ × Stack → Reply × Member × Stack
+abbrev pub flushed : Member → Put × List ℕ × Shared → Reply × Member × Shared
 flushed m done = (reply.Put done.0, record m { cache = done.1 }, done.2)
 
-abbrev pub flush_member : Member → Stack → Reply × Member × Stack
+abbrev pub flush_member : Member → Shared → Reply × Member × Shared
 flush_member m s = flushed m (flush m.cache s)
 
 -- the worker without the packet in this slot
@@ -129,11 +129,11 @@ without_packet slot m = record m { table = slice_set m.table slot None }
 
 -- how often all packets but the one in a worker's slot hold each element, those on desks among them
 abbrev pub held_elsewhere : Pool → ℕ → ℕ → ℕ → ℕ
-held_elsewhere pool n slot i = held_of (slice_set pool.members n (without_packet slot (member_at pool n))) pool.stack.desks i
+held_elsewhere pool n slot i = held_of (slice_set pool.members n (without_packet slot (member_at pool n))) pool.shared.desks i
 
 -- What a worker does. Of all packets of the pool, held is how often they hold each element, and others slot how often
 -- those hold it that stay where the one in this slot is freed; most acts ask for neither.
-abbrev pub member_act : Act → (ℕ → ℕ) → (ℕ → ℕ → ℕ) → Member → Stack → Reply × Member × Stack
+abbrev pub member_act : Act → (ℕ → ℕ) → (ℕ → ℕ → ℕ) → Member → Shared → Reply × Member × Shared
 member_act Alloc held others m s = alloc m s
 member_act (AllocBulk n) held others m s = alloc_bulk n m s
 member_act (Free slot) held others m s = free (others slot) slot m s
@@ -152,8 +152,8 @@ member_act (PktLen slot) held others m s = (told_len (of_packet pkt_len (slice_i
 member_act (NbSegs slot) held others m s = (told_segs (of_packet length (slice_index_or m.table slot None)), m, s)
 member_act Flush held others m s = flush_member m s
 
-abbrev pub act_on : Pool → ℕ → Act → Reply × Member × Stack
-act_on pool n act = member_act act (held_of pool.members pool.stack.desks) (held_elsewhere pool n) (member_at pool n) pool.stack
+abbrev pub act_on : Pool → ℕ → Act → Reply × Member × Shared
+act_on pool n act = member_act act (held_of pool.members pool.shared.desks) (held_elsewhere pool n) (member_at pool n) pool.shared
 
 -- the reply to what a worker is asked to do, and the pool afterwards; a worker outside the pool does nothing
 abbrev pub perform : Pool → ℕ → Act → Reply × Pool

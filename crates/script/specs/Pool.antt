@@ -7,7 +7,7 @@ use Rattle.commons.specs.Packets.{held_in}
 use Rattle.mbuf.specs.Members.{Member, slots}
 
 -- what all workers share: the common list from the top, the number of changes of the stack, and what is on each desk
-pub record Stack : Type 0 where
+pub record Shared : Type 0 where
   pub common : List ℕ
   pub changes : ℕ
   pub desks : List (Option (List Seg))
@@ -15,7 +15,7 @@ pub record Stack : Type 0 where
 -- a pool: the worker of number w is the one at w - 1
 pub record Pool : Type 0 where
   pub limits : Limits
-  pub stack : Stack
+  pub shared : Shared
   pub members : List Member
 
 -- how often all packets of the members hold an element
@@ -35,8 +35,8 @@ abbrev pub member_at : Pool → ℕ → Member
 member_at pool n = slice_index_or pool.members n (nobody pool.limits)
 
 -- the pool once that worker and the stack are these
-abbrev pub with_member : Pool → ℕ → Member → Stack → Pool
-with_member pool n member stack = record pool { stack = stack; members = slice_set pool.members n member }
+abbrev pub with_member : Pool → ℕ → Member → Shared → Pool
+with_member pool n member shared = record pool { shared = shared; members = slice_set pool.members n member }
 
 -- the workers from this number on, with empty caches and empty tables
 abbrev pub new_members : Limits → ℕ → ℕ → List Member
@@ -47,6 +47,6 @@ new_members l number (suc n) = record { limits = l; number = number; cache = [];
 abbrev pub new_pool : Limits → Pool
 new_pool l = record {
   limits = l;
-  stack = record { common = range_with_len 0 l.population; changes = l.start_count; desks = replicate l.desks None };
+  shared = record { common = range_with_len 0 l.population; changes = l.start_count; desks = replicate l.desks None };
   members = new_members l 1 l.workers;
 }

@@ -3,11 +3,11 @@ use Rattle.std.specs.Prelude.{ℕ, ◌≡◌, ◌+◌, ◌<◌, length, slice_in
 use Rattle.commons.specs.Lists.{Lists, IsTable}
 use Rattle.mbuf.specs.Members.{Member}
 use Rattle.script.specs.Pool.{Pool, nobody}
-use Rattle.script.specs.Own.{stack_of, Owns}
+use Rattle.script.specs.Own.{shared_of, Owns}
 use Rattle.script.specs.declared.site_pool.SitePool.TheInside.{Inside}
 
 abbrev pub pool_of : Inside → Pool
-pool_of p = record { limits = p.site.limits; stack = stack_of p.site; members = p.members.items }
+pool_of p = record { limits = p.site.limits; shared = shared_of p.site; members = p.members.items }
 
 -- the worker at n has the number n + 1 and owns its part of the lists
 pub record IsMember (s : Lists) (n : ℕ) (m : Member) : Type 0 where

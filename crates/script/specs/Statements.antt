@@ -48,19 +48,19 @@ held_entry members desks i = record { elem = i; count = held_of members desks i;
 
 -- the elements below the population that packets hold, ascending
 abbrev pub held_elements : Pool → List ℕ
-held_elements pool = filter (λ i. nat_lt 0 (held_of pool.members pool.stack.desks i)) (range_with_len 0 pool.limits.population)
+held_elements pool = filter (λ i. nat_lt 0 (held_of pool.members pool.shared.desks i)) (range_with_len 0 pool.limits.population)
 
 -- the statement of a pool
 abbrev pub statement_of : Pool → Statement
 statement_of pool = record {
   population = pool.limits.population;
-  available = length pool.stack.common + sum_by (λ member. length member.cache) pool.members;
+  available = length pool.shared.common + sum_by (λ member. length member.cache) pool.members;
   in_use = length (held_elements pool);
-  common = pool.stack.common;
+  common = pool.shared.common;
   caches = map (λ member. member.cache) pool.members;
   packets = flat_map packets_of pool.members;
-  desks = desks_from 0 pool.stack.desks;
-  held = map (held_entry pool.members pool.stack.desks) (held_elements pool);
+  desks = desks_from 0 pool.shared.desks;
+  held = map (held_entry pool.members pool.shared.desks) (held_elements pool);
 }
 
 -- how often a statement lists an element: in the common list, in caches, and as a held one

@@ -9,7 +9,7 @@ ghost use Rattle.mempool.specs.Caches.{Gets, Puts, Flushes};
 ghost use Rattle.mempool.specs.declared.put.Put.{Put};
 ghost use Rattle.script.specs.CacheLaw.{Meets};
 ghost use Rattle.script.specs.CacheModel.{get as cache_get, put as cache_put, flush as cache_flush};
-ghost use Rattle.script.specs.Pool.{Stack};
+ghost use Rattle.script.specs.Pool.{Shared};
 ghost use Rattle.script.specs.declared.commands.Line.{Line};
 ghost use Rattle.script.specs.Grammar.{IsScript, IsFirstFault, HasBadPool, IsSomeScript, HasSomeFault};
 ghost use Rattle.script.specs.Replay.{new_run, end_of};
@@ -46,11 +46,11 @@ pub fn no_gap()
 /// The reference model's caches keep the rules that a worker's cache keeps over any shared pool:
 /// where the model's stack answers the calls of a rule, the rule's reply and cache are the model's.
 pub fn the_model_keeps_the_cache_rules()
-    ensures get { (l : Limits) (cache : List ℕ) (n : ℕ) (calls : List Call) (answer : Result (List ℕ) Refusal) (left : List ℕ) (s t : Stack) →
+    ensures get { (l : Limits) (cache : List ℕ) (n : ℕ) (calls : List Call) (answer : Result (List ℕ) Refusal) (left : List ℕ) (s t : Shared) →
         Gets l cache n calls answer left → Meets s calls t → (answer, left, t) ≡ cache_get l n cache s }
-    ensures put { (l : Limits) (cache list : List ℕ) (calls : List Call) (answer : Put) (left : List ℕ) (s t : Stack) →
+    ensures put { (l : Limits) (cache list : List ℕ) (calls : List Call) (answer : Put) (left : List ℕ) (s t : Shared) →
         Puts l cache list calls answer left → Meets s calls t → (answer, left, t) ≡ cache_put l list cache s }
-    ensures flush { (cache : List ℕ) (calls : List Call) (answer : Put) (left : List ℕ) (s t : Stack) →
+    ensures flush { (cache : List ℕ) (calls : List Call) (answer : Put) (left : List ℕ) (s t : Shared) →
         Flushes cache calls answer left → Meets s calls t → (answer, left, t) ≡ cache_flush cache s }
 {}
 

@@ -2,7 +2,7 @@
 
 ghost use Rattle.std.specs.Prelude.{◌≡◌, ◌<◌, ◌≤◌, ◌++◌, ℕ, IfOk, cond, filter, flat_map, length, map, nat_lt, replicate, slice_index_or, sum_by};
 ghost use Rattle.std.specs.List.{range_with_len};
-ghost use Rattle.script.specs.Own.{stack_of};
+ghost use Rattle.script.specs.Own.{shared_of};
 ghost use Rattle.commons.specs.Bag.{bag};
 ghost use Rattle.commons.specs.Lists.{IsTable};
 ghost use Rattle.commons.specs.Packets.{hold_of, holds_of_packet, holds_of_seg};
@@ -26,7 +26,7 @@ pub(crate) fn statement(
 ) -> Result<Statement, AllocError>
     requires workers { length members.now ≡ site.now.limits.workers }
     requires each { (n : ℕ) → n < site.now.limits.workers → IsMember site.now n (slice_index_or members.now n (nobody site.now.limits)) }
-    ensures { IfOk result (λ s. s ≡ statement_of (record { limits = site.now.limits; stack = stack_of site.now; members = members.now })) }
+    ensures { IfOk result (λ s. s ≡ statement_of (record { limits = site.now.limits; shared = shared_of site.now; members = members.now })) }
 {
     let held = held(alloc, site, members)?;
     Ok(Statement {
@@ -193,7 +193,11 @@ fn workers(
 }
 
 /// Adds the desks whose packets hold an element, each as often as its packet does.
-fn add_desks(holders: &mut Vec<Holder>, desks: &[Option<Packet>], elem: u32) -> Result<(), AllocError>
+fn add_desks(
+    holders: &mut Vec<Holder>,
+    desks: &[Option<Packet>],
+    elem: u32,
+) -> Result<(), AllocError>
     requires { length desks.now ≤ 64 }
     ensures { IfOk result (λ _. holders.new.items ≡ holders.old.items ++ desks_of 0 desks.now elem) }
 {

@@ -195,21 +195,21 @@ fn obey<'a>(pool: &mut SitePool, names: &mut Names<'a>, line: &'a Line) -> Resul
             }
             Ok(reply)
         }
-        Command::Offer(name, desk) => {
-            let name = name.as_slice();
-            let Some(slot) = names.get(worker, name) else {
+        Command::Offer(packet, desk) => {
+            let packet = packet.as_slice();
+            let Some(slot) = names.get(worker, packet) else {
                 return Ok(Reply::Refused(Refusal::NoSuchPacket));
             };
             let reply = pool.perform(worker, Act::Offer(slot, u32::from(*desk)));
             if let Reply::Offered = reply {
-                names.forget(worker, name);
+                names.forget(worker, packet);
             }
             Ok(reply)
         }
-        Command::Take(desk, name) => {
+        Command::Take(desk, made) => {
             let reply = pool.perform(worker, Act::Take(u32::from(*desk)));
             if let Reply::Taken(slot, _, _) = reply {
-                names.set(worker, name.as_slice(), slot)?;
+                names.set(worker, made.as_slice(), slot)?;
             }
             Ok(reply)
         }

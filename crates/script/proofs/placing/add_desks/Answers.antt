@@ -1,4 +1,4 @@
-use Rattle.std.proofs.Common.{◌≡◌, ◌++◌, ◌+◌, ℕ, List, ◌∷◌, drop, replicate, Option, None, append_assoc, sym, ap, ◌∙◌, arith}
+use Rattle.std.proofs.Common.{◌≡◌, ◌++◌, ◌+◌, ℕ, List, ◌∷◌, drop, replicate, Option, None, append_assoc, sym, ap, ◌∙◌}
 use Rattle.std.proofs.lemmas.List.{append-nil, drop_more}
 use Rattle.commons.specs.Bag.{bag}
 use Rattle.commons.specs.declared.packet.Seg.{Seg}

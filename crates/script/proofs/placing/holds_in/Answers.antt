@@ -1,4 +1,4 @@
-use Rattle.std.proofs.Common.{◌≡◌, ◌+◌, ◌*◌, ◌≤◌, None, length, ap, List, arith}
+use Rattle.std.proofs.Common.{None, arith}
 use Rattle.commons.specs.declared.packet.Seg.{Seg}
 use Rattle.commons.proofs.Bags.{bag-nil}
 use Rattle.commons.proofs.PacketBags.{bag-holds_suc}

@@ -1,4 +1,4 @@
-use Rattle.std.proofs.Common.{◌≡◌, arith, sym, ◌∙◌}
+use Rattle.std.proofs.Common.{sym, ◌∙◌}
 use Rattle.commons.proofs.Bags.{bag-nil, bag-single}
 use Rattle.script.proofs.placing.holds_in_base.Goals as goal
 

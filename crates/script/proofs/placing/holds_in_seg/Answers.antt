@@ -1,4 +1,4 @@
-use Rattle.std.proofs.Common.{◌≡◌, ◌+◌, arith}
+use Rattle.std.proofs.Common.{arith}
 use Rattle.commons.proofs.PacketBags.{bag-seg}
 use Rattle.script.proofs.placing.holds_in_seg.Goals as goal
 
