@@ -8,5 +8,6 @@ pub mod Opening
 pub mod PacketBags
 pub mod Places
 pub mod Raising
+pub mod Sames
 pub mod Single
 pub mod Tables

@@ -19,7 +19,7 @@ apart_or_same i j = grind arith
 one-other : (x i : ℕ) → one x i ≡ 0 → i ≢ x
 one-other x i h = grind (arith, nat_tests)
 
-one-is : (x i : ℕ) → 0 < one x i → x ≡ i
+pub one-is : (x i : ℕ) → 0 < one x i → x ≡ i
 one-is x i h = grind (arith, nat_tests)
 
 pub one-apart : (x i : ℕ) → i ≢ x → one x i ≡ 0

@@ -3,6 +3,10 @@ use Rattle.std.specs.Prelude.{ℕ, ◌≤◌, ◌+◌, List, [], ◌∷◌, ◌+
 use Rattle.commons.specs.Bag.{bag}
 use Rattle.commons.specs.declared.packet.Seg.{Seg}
 
+-- stands for a segment where there is none
+abbrev pub no_seg : Seg
+no_seg = record { elem = 0; base = None; data_off = 0; data_len = 0; buf_len = 0 }
+
 -- the data of the segment is within its buffer
 abbrev pub HasItsData : Seg → Type 0
 HasItsData seg = seg.data_off + seg.data_len ≤ seg.buf_len

@@ -103,8 +103,8 @@ pub trait Commons {
         ensures headers { headers self.new ≡ headers self.old }
         ensures limits { limits self.new ≡ limits self.old };
 
-    /// Ends one hold that this worker has of an element. `Last` where it was the only one: the element is then in the
-    /// hand, with count 1. `Still` where another hold was left at that step.
+    /// Ends one hold that this worker has of an element. `Last` where it was the only one: the
+    /// element is then in the hand, with count 1. `Still` where another hold was left at that step.
     ///
     /// After rte_mbuf.h, `rte_pktmbuf_prefree_seg` (DPDK 21.11).
     fn lower(&mut self, element: u32) -> Lowered
@@ -116,12 +116,13 @@ pub trait Commons {
         ensures headers { (i : ℕ) → headers self.new i ≡ (if nat_lt 0 (holds self.new i) then headers self.old i else 0) }
         ensures limits { limits self.new ≡ limits self.old };
 
-    /// Leaves a packet on a desk, of which the pool has `desks`, numbered from 0. The worker holds all that
-    /// the packet holds, and its own elements are distinct headers of the worker; both are gone
-    /// afterwards.
+    /// Leaves a packet on a desk, of which the pool has `desks`, numbered from 0. The worker holds
+    /// all that the packet holds, and the packet's own elements are distinct headers of the worker;
+    /// both are gone afterwards.
     ///
-    /// Refused `NoSuchDesk` exactly where the pool has no such desk, and `DeskTaken` where a desk word
-    /// other than 0, that of an empty desk, was read. The packet comes back then, and hand, holds and headers are as before.
+    /// Refused `NoSuchDesk` exactly where the pool has no such desk, and `DeskTaken` where a desk
+    /// word other than 0, that of an empty desk, was read. The packet comes back then, and hand,
+    /// holds and headers are as before.
     ///
     /// Desks are our own; DPDK passes mbufs between lcores over an `rte_ring`.
     fn offer(&mut self, desk: u32, packet: Packet) -> Result<(), (Refusal, Packet)>
@@ -137,12 +138,12 @@ pub trait Commons {
         ensures headers_err { OnErr result (headers self.new ≡ headers self.old) }
         ensures limits { limits self.new ≡ limits self.old };
 
-    /// Takes the packet off a desk, of which the pool has `desks`, numbered from 0. The worker then holds all that
-    /// the packet holds; its own elements, which are distinct and were no headers of the worker,
-    /// are headers of the worker.
+    /// Takes the packet off a desk, of which the pool has `desks`, numbered from 0. The worker then
+    /// holds all that the packet holds; the packet's own elements, which are distinct and were no
+    /// headers of the worker, are headers of it.
     ///
-    /// Refused `NoSuchDesk` exactly where the pool has no such desk, and `DeskEmpty` where a desk word
-    /// other than 2, that of a full desk, was read. Hand, holds and headers are then as before.
+    /// Refused `NoSuchDesk` exactly where the pool has no such desk, and `DeskEmpty` where a desk
+    /// word other than 2, that of a full desk, was read. Hand, holds and headers are then as before.
     ///
     /// Desks are our own; DPDK passes mbufs between lcores over an `rte_ring`.
     fn take(&mut self, desk: u32) -> Result<Packet, Refusal>

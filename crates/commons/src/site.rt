@@ -106,6 +106,14 @@ impl PlainSite {
         hold(&self.holds, worker as usize - 1, element as usize)
     }
 
+    /// What is on each desk.
+    pub fn desks(&self) -> &[Option<Packet>]
+        ensures desks { result.now ≡ self.now.desks }
+        ensures table { IsTable self.now }
+    {
+        self.desks.as_slice()
+    }
+
     /// Moves elements from the top of the common list into a worker's hand, the top first.
     ///
     /// Refused `NoEntries` where the list is shorter, else `HeadSpent` where the modification
@@ -217,14 +225,6 @@ impl PlainSite {
         set_hold(&mut self.holds, worker as usize - 1, i, left);
         self.headers[i] = owner_left(self.headers[i], worker, left);
         answer
-    }
-
-    /// What is on each desk.
-    pub fn desks(&self) -> &[Option<Packet>]
-        ensures desks { result.now ≡ self.now.desks }
-        ensures table { IsTable self.now }
-    {
-        self.desks.as_slice()
     }
 
     /// Leaves a worker's packet on a desk, with all its holds.

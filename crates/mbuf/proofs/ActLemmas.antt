@@ -1,11 +1,11 @@
 -- What was made is there to be told of.
-use Rattle.std.proofs.Common.{◌≡◌, ℕ, List, [], ◌∷◌, length, get_or, get_or-set_same, take, Option, Some, None, Result, Ok, refl, sym, ap, ◌∙◌, subst, All, arith}
+use Rattle.std.proofs.Common.{◌≡◌, ℕ, List, [], ◌∷◌, length, get_or, get_or-set_same, take, Option, Some, None, Ok, refl, sym, ap, ◌∙◌, subst, All, arith}
 use Rattle.std.specs.Prelude.{IsSome}
 use Rattle.std.proofs.lemmas.List.{length-take}
 use Rattle.arrayvec.specs.ArrayVec.{ArrayVec}
+use Rattle.commons.proofs.Sames.{ok-is}
 use Rattle.commons.specs.Calls.{Call}
 use Rattle.commons.specs.declared.packet.Seg.{Seg}
-use Rattle.commons.specs.declared.refusal.Refusal.{Refusal}
 use Rattle.mbuf.specs.Members.{Member}
 use Rattle.mbuf.specs.PacketRules.{Allocs, Full, NotGot, Fresh, AllocsBulk, TooFull, BulkNotGot, FreshBulk, fresh_seg, free_slot, free_slots}
 use Rattle.mbuf.specs.Desks.{Takes, NoDesk, NoSlot, NotTaken, WasTaken}
@@ -16,14 +16,11 @@ use Rattle.mbuf.proofs.OwnLemmas.{free_slot-is}
 some_there : (slot : Option (List Seg)) (segs : List Seg) → slot ≡ Some segs → IsSome slot
 some_there slot segs e = subst (λ (o : Option (List Seg)). IsSome o) (sym e) refl
 
-found_is : (p q : List Seg × ℕ) → ◌≡◌ {A = Result (List Seg × ℕ) Refusal} (Ok p) (Ok q) → p ≡ q
-found_is p q e = cc
-
 -- the slot of a clone is free
 pub clonable_free : (source : Option (List Seg)) (free : Option ℕ) (segs : List Seg) (slot : ℕ) → clonable source free ≡ Ok (segs, slot) → free ≡ Some slot
 clonable_free None free segs slot e = absurd cc
 clonable_free (Some x) None segs slot e = absurd cc
-clonable_free (Some x) (Some s) segs slot e = ap (λ (p : List Seg × ℕ). Some p.1) (found_is (x, s) (segs, slot) e)
+clonable_free (Some x) (Some s) segs slot e = ap (λ (p : List Seg × ℕ). Some p.1) (ok-is (x, s) (segs, slot) e)
 
 pub allocated_there : (m after : Member) (calls : List Call) (slot : ℕ) → Allocs m calls (Ok slot) after → IsSome (get_or after.table slot None)
 allocated_there m after calls slot (Full f c a k) = absurd cc

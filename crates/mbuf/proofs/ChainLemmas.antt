@@ -8,8 +8,7 @@ use Rattle.commons.specs.Bag.{bag}
 use Rattle.commons.specs.declared.packet.Seg.{Seg}
 use Rattle.commons.proofs.Bags.{bag-nil, bag-append}
 use Rattle.mbuf.specs.Kept.{shown, KeepsHolds}
-use Rattle.mbuf.specs.Lengths.{no_seg}
-use Rattle.commons.specs.Packets.{holds_of_seg, holds_of_packet}
+use Rattle.commons.specs.Packets.{no_seg, holds_of_seg, holds_of_packet}
 use Rattle.mbuf.specs.Members.{Member}
 use Rattle.commons.proofs.PacketBags.{held_in-set, own_in-set}
 use Rattle.mbuf.proofs.TableLemmas.{shown-free, shown-packet}

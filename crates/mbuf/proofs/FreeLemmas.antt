@@ -6,6 +6,7 @@ use Rattle.std.proofs.lemmas.List.{length-take, get_or-drop, take_more, take_mor
 use Rattle.std.proofs.lemmas.Grind.{drop_more_same}
 use Rattle.std.proofs.lemmas.List.Sums.{sum_by-cons}
 use Rattle.std.proofs.lemmas.Bool.{cases_lt, cond-true, cond-false, lt-ltb, le-ltb}
+use Rattle.commons.proofs.Sames.{some-is}
 use Rattle.commons.specs.Bag.{bag}
 use Rattle.commons.specs.declared.limits.Limits.{Limits}
 use Rattle.commons.specs.declared.packet.Seg.{Seg}
@@ -43,13 +44,10 @@ none_within slot (Some segs ∷ table) e = omega (arith, none_within (slot + 1) 
 pub none_free : (table : List (Option (List Seg))) → length (free_slots table) ≡ 0 → free_slot table ≡ None
 none_free table e = cond-false (nat_lt (position_or_len is_none table) (length table)) (Some (position_or_len is_none table)) None (le-ltb (position_or_len is_none table) (length table) (omega (arith, none_within 0 table e)))
 
-found_is : (x y : ℕ) → Some x ≡ Some y → x ≡ y
-found_is x y e = cc
-
 -- a slot that was found is the first
 found_first : (table : List (Option (List Seg))) (slot : ℕ) → free_slot table ≡ Some slot → position_or_len is_none table ≡ slot
 found_first table slot e = elim (cases_lt (position_or_len is_none table) (length table)) [
-  | inl l ↦ found_is (position_or_len is_none table) slot (sym (cond-true (nat_lt (position_or_len is_none table) (length table)) (Some (position_or_len is_none table)) None (lt-ltb (position_or_len is_none table) (length table) l)) ∙ e)
+  | inl l ↦ some-is (position_or_len is_none table) slot (sym (cond-true (nat_lt (position_or_len is_none table) (length table)) (Some (position_or_len is_none table)) None (lt-ltb (position_or_len is_none table) (length table) l)) ∙ e)
   | inr l ↦ absurd (let none = sym (cond-false (nat_lt (position_or_len is_none table) (length table)) (Some (position_or_len is_none table)) None (le-ltb (position_or_len is_none table) (length table) l)) ∙ e in cc)
 ]
 

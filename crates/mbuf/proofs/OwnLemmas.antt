@@ -1,5 +1,5 @@
 -- What the packets hold, and what of it stays a worker's own.
-use Rattle.std.proofs.Common.{◌≡◌, ℕ, ◌+◌, ◌<◌, ◌≤◌, List, length, get_or, set, Option, Some, None, refl, sym, ◌∙◌, true, inl, inr, arith}
+use Rattle.std.proofs.Common.{◌≡◌, ℕ, ◌+◌, ◌<◌, ◌≤◌, List, [], length, replicate, get_or, set, Option, Some, None, refl, sym, ◌∙◌, true, inl, inr, arith}
 use Rattle.std.specs.Prelude.{is_none}
 use Rattle.std.proofs.lemmas.Bool.{cases_lt}
 use Rattle.std.proofs.lemmas.List.Quantifiers.{position-Some}
@@ -8,8 +8,8 @@ use Rattle.commons.specs.declared.limits.Limits.{Limits}
 use Rattle.commons.specs.declared.packet.Seg.{Seg}
 use Rattle.commons.proofs.Bags.{bag-nil}
 use Rattle.commons.specs.Packets.{holds_of_packet, held_in, own_in}
-use Rattle.mbuf.specs.Members.{Member}
-use Rattle.commons.proofs.PacketBags.{held_in-set, own_in-set, own_in-held}
+use Rattle.mbuf.specs.Members.{Member, slots}
+use Rattle.commons.proofs.PacketBags.{held_in-empty, held_in-set, own_in-empty, own_in-set, own_in-held}
 use Rattle.mbuf.specs.Own.{Own}
 use Rattle.mbuf.specs.PacketRules.{free_slot}
 
@@ -27,6 +27,16 @@ own_headed own before held holds d1 d0 a b c e f = elim (cases_lt 0 holds) [
   | inl some ↦ omega (arith, a, b, f some)
   | inr none ↦ omega (arith, c, e, none)
 ]
+
+-- a new worker's packets are its own where it has nothing
+pub own_new : (l : Limits) (number : ℕ) (hand holds headers : ℕ → ℕ) → ((i : ℕ) → hand i ≡ 0) → ((i : ℕ) → holds i ≡ 0) →
+    Own (record { limits = l; number = number; cache = []; table = replicate slots None }) l hand holds headers
+own_new l number hand holds headers no_hand no_hold = record {
+  limits = refl;
+  cached = λ i. omega (arith, no_hand i, bag-nil i);
+  held = λ i. omega (arith, no_hold i, held_in-empty slots i);
+  headed = λ i. omega (arith, own_in-empty slots i);
+}
 
 -- a packet's holds have ended, and its slot is free
 pub own_free : (m : Member) (l later : Limits) (h0 h1 o0 o1 d0 d1 : ℕ → ℕ) (cache : List ℕ) (slot : ℕ) (segs : List Seg) →

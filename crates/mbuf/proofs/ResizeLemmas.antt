@@ -1,12 +1,13 @@
 -- A change of a packet's lengths keeps what it holds.
 use Rattle.std.proofs.Common.{◌≡◌, ℕ, zero, suc, ◌+◌, ◌-◌, ◌<◌, Bool, true, false, cond, nat_le, List, [], ◌∷◌, ◌++◌, length, get_or, set, map, Option, Some, None, refl, sym, ap, ◌∙◌, arith}
+use Rattle.commons.proofs.Sames.{some-is}
 use Rattle.commons.specs.Bag.{bag}
 use Rattle.commons.specs.declared.limits.Limits.{Limits}
 use Rattle.commons.specs.declared.packet.Seg.{Seg}
 use Rattle.mbuf.specs.Changes.{resized}
 use Rattle.mbuf.specs.Kept.{KeepsHolds}
-use Rattle.mbuf.specs.Lengths.{no_seg, with_seg, appended, prepended, adjusted, trimmed, grown_behind, grown_in_front, cut_in_front, cut_behind}
-use Rattle.commons.specs.Packets.{hold_of, holds_of_seg, holds_of_packet}
+use Rattle.mbuf.specs.Lengths.{with_seg, appended, prepended, adjusted, trimmed, grown_behind, grown_in_front, cut_in_front, cut_behind}
+use Rattle.commons.specs.Packets.{no_seg, hold_of, holds_of_seg, holds_of_packet}
 use Rattle.mbuf.specs.Members.{Member}
 use Rattle.mbuf.specs.Own.{Own}
 use Rattle.mbuf.specs.declared.lengths.Change.{Change}
@@ -17,11 +18,8 @@ use Rattle.commons.proofs.PacketBags.{held_in-set, own_in-set}
 abbrev SameHolds : Seg → Seg → Type 0
 SameHolds seg other = (seg.elem ≡ other.elem) × (seg.base ≡ other.base)
 
-found_is : {A : Type 0} (x y : A) → Some x ≡ Some y → x ≡ y
-found_is x y e = cc
-
 chosen : (b : Bool) (seg new other : Seg) → cond b (Some new) None ≡ Some seg → SameHolds new other → SameHolds seg other
-chosen true seg new other e h = let same = found_is new seg e in (sym (ap (λ (s : Seg). s.elem) same) ∙ h.0, sym (ap (λ (s : Seg). s.base) same) ∙ h.1)
+chosen true seg new other e h = let same = some-is new seg e in (sym (ap (λ (s : Seg). s.elem) same) ∙ h.0, sym (ap (λ (s : Seg). s.base) same) ∙ h.1)
 chosen false seg new other e h = absurd cc
 
 holds-set : (segs : List Seg) (k : ℕ) (seg : Seg) → SameHolds seg (get_or segs k no_seg) → holds_of_packet (set segs k seg) ≡ holds_of_packet segs
@@ -41,7 +39,7 @@ SamePacketHolds new segs = (holds_of_packet new ≡ holds_of_packet segs) × (ma
 replaced_holds : (segs new : List Seg) (k : ℕ) (o : Option Seg) → ((seg : Seg) → o ≡ Some seg → SameHolds seg (get_or segs k no_seg)) → with_seg k segs o ≡ Some new → SamePacketHolds new segs
 replaced_holds segs new k None h e = absurd cc
 replaced_holds segs new k (Some seg) h e =
-    let same = sym (found_is (set segs k seg) new e) in
+    let same = sym (some-is (set segs k seg) new e) in
     (ap holds_of_packet same ∙ holds-set segs k seg (h seg refl), ap (λ (s : List Seg). map (λ (x : Seg). x.elem) s) same ∙ elems-set segs k seg (h seg refl))
 
 pub resized_holds : (change : Change) (segs new : List Seg) → resized change segs ≡ Some new → SamePacketHolds new segs

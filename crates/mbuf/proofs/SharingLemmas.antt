@@ -1,9 +1,9 @@
 -- What calls on shared buffers find in the table, and what of it stays a worker's own.
-use Rattle.std.proofs.Common.{◌≡◌, ℕ, ◌+◌, ◌<◌, ◌≤◌, Bool, true, false, List, [], ◌∷◌, length, drop, map, get_or, set, Option, Some, None, Result, Ok, Err, refl, sym, ap, ◌∙◌, arith}
+use Rattle.std.proofs.Common.{◌≡◌, ℕ, ◌+◌, ◌<◌, ◌≤◌, Bool, true, false, List, [], ◌∷◌, length, drop, map, get_or, set, Option, Some, None, Ok, Err, refl, sym, ap, ◌∙◌, arith}
+use Rattle.commons.proofs.Sames.{ok-is}
 use Rattle.commons.specs.Bag.{bag, one}
 use Rattle.commons.specs.declared.limits.Limits.{Limits}
 use Rattle.commons.specs.declared.packet.Seg.{Seg}
-use Rattle.commons.specs.declared.refusal.Refusal.{Refusal}
 use Rattle.commons.specs.declared.refusal.Refusal.TheVariants.{TooManySegs}
 use Rattle.commons.proofs.Bags.{bag-nil, bag-append, bag-single, one-same}
 use Rattle.mbuf.specs.Cloning.{ArePair, IsIndirect}
@@ -51,12 +51,6 @@ one_there a (seg ∷ []) base e some few h = rw e (ap (λ (o : Option ℕ). if_i
 one_there a (seg ∷ (other ∷ segs)) base e some few h = absurd (omega (arith, few))
 
 -- what was found stands there
-pair_parts : (x y : ℕ × Seg) → ◌≡◌ {A = Result (ℕ × Seg) Refusal} (Ok x) (Ok y) → x ≡ y
-pair_parts x y e = cc
-
-base_parts : (x y : ℕ × ℕ) → ◌≡◌ {A = Result (ℕ × ℕ) Refusal} (Ok x) (Ok y) → x ≡ y
-base_parts x y e = cc
-
 -- a packet of one direct segment, and another's first segment
 pub record Found (one other : Option (List Seg)) (e : ℕ) (target : Seg) : Type 0 where
   pub own : Seg
@@ -69,7 +63,7 @@ pub record Found (one other : Option (List Seg)) (e : ℕ) (target : Seg) : Type
 found_direct : (base : Option ℕ) (own first : Seg) (others : List Seg) (one other : Option (List Seg)) (e : ℕ) (target : Seg) → own.base ≡ base → one ≡ Some (own ∷ []) → other ≡ Some (first ∷ others) →
     if_direct base own.elem first ≡ Ok (e, target) → Found one other e target
 found_direct None own first others one other e target b h k f =
-    let p = pair_parts (own.elem, first) (e, target) f in
+    let p = ok-is (own.elem, first) (e, target) f in
     record { own = own; others = others; here = h; elem = ap (λ (x : ℕ × Seg). x.0) p; direct = b; there = k ∙ ap (λ (x : ℕ × Seg). Some (x.1 ∷ others)) p }
 found_direct (Some base) own first others one other e target b h k f = absurd cc
 
@@ -95,7 +89,7 @@ pub record FoundBase (one : Option (List Seg)) (e base : ℕ) : Type 0 where
 found_indirect : (b : Option ℕ) (own : Seg) (e base : ℕ) → own.base ≡ b → if_indirect b own.elem ≡ Ok (e, base) → FoundBase (Some (own ∷ [])) e base
 found_indirect None own e base h f = absurd cc
 found_indirect (Some x) own e base h f =
-    let p = base_parts (own.elem, x) (e, base) f in
+    let p = ok-is (own.elem, x) (e, base) f in
     record { own = own; here = refl; elem = ap (λ (y : ℕ × ℕ). y.0) p; base_is = h ∙ ap (λ (y : ℕ × ℕ). Some y.1) p }
 
 pub found_base : (one : Option (List Seg)) (e base : ℕ) → detachable one ≡ Ok (e, base) → FoundBase one e base

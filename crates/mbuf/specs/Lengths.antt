@@ -1,5 +1,6 @@
 -- The lengths of a packet, and how calls change them.
 use Rattle.std.specs.Prelude.{ℕ, ◌+◌, ◌-◌, nat_le, if◌then◌else◌, List, length, slice_index_or, slice_set, sum_by, Option, Some, None}
+use Rattle.commons.specs.Packets.{no_seg}
 use Rattle.commons.specs.declared.packet.Seg.{Seg}
 
 -- how many bytes of data the packet has
@@ -21,9 +22,6 @@ cut_in_front n seg = if nat_le n seg.data_len then Some (record seg { data_off =
 -- n bytes fewer at their end
 abbrev pub cut_behind : ℕ → Seg → Option Seg
 cut_behind n seg = if nat_le n seg.data_len then Some (record seg { data_len = seg.data_len - n }) else None
-
-abbrev pub no_seg : Seg
-no_seg = record { elem = 0; base = None; data_off = 0; data_len = 0; buf_len = 0 }
 
 -- a packet with another segment at this place, if there is one
 abbrev pub with_seg : ℕ → List Seg → Option Seg → Option (List Seg)

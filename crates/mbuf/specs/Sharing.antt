@@ -8,8 +8,7 @@ use Rattle.commons.specs.declared.refusal.Refusal.{Refusal}
 use Rattle.commons.specs.declared.refusal.Refusal.TheVariants.{InUse, NoSuchPacket, NotDirect, NotIndirect, PacketsFull, SamePacket, TooManySegs}
 use Rattle.commons.specs.Calls.{Call, Claim, CountOf, Raise}
 use Rattle.mempool.specs.Caches.{Gets}
-use Rattle.mbuf.specs.Lengths.{no_seg}
-use Rattle.commons.specs.Packets.{hold_of, holds_of_packet}
+use Rattle.commons.specs.Packets.{no_seg, hold_of, holds_of_packet}
 use Rattle.mbuf.specs.Members.{Member}
 use Rattle.mbuf.specs.PacketRules.{EndsHold, EndsHolds, free_slot, freed_nothing, fresh_seg}
 use Rattle.mbuf.specs.declared.freed.Freed.{Freed}

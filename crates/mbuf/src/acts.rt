@@ -230,7 +230,8 @@ fn take<C: Commons>(packets: &mut Packets, c: &mut C, desk: u32) -> Reply
 /// Lets a worker do this with its packets, and answers what came of it.
 ///
 /// Each act is the call of `Packets` of that name, with its refusals. A count of `AllocBulk` above
-/// 256 is refused `PacketsFull`. After a refusal packets, cache and holds are as before.
+/// 256 is refused `PacketsFull`. After a refusal packets, cache and holds are as before, but that a
+/// refused clone may share out the free elements otherwise between cache and stack.
 pub fn perform<C: Commons>(packets: &mut Packets, c: &mut C, act: Act) -> Reply
     requires own { Own packets.old (C.limits c.old) (C.hand c.old) (C.holds c.old) (C.headers c.old) }
     ensures calls { (made : List Made) × Leads C.did C.limits c.old made c.new × Performs act packets.old (calls_of made) result packets.new }

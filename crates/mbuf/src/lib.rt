@@ -1,10 +1,12 @@
-//! Packets of one worker over any shared pool: mbufs with lengths and chains.
+//! Packets of one worker over any shared pool: mbufs with lengths, chains, counts and clones, which
+//! pass to other workers over desks.
 #![tactic(auto)]
 
 pub mod acts;
 mod clones;
 mod free_slots;
 pub mod freed;
+pub mod laws;
 pub mod lengths;
 pub mod packets;
 mod steps;

@@ -4,10 +4,9 @@ use Rattle.commons.specs.Bounds.{IsPool}
 use Rattle.commons.specs.declared.limits.Limits.{Limits}
 use Rattle.commons.specs.declared.refusal.Refusal.{Refusal}
 use Rattle.commons.specs.declared.refusal.Refusal.TheVariants.{BadPool, OutOfMemory}
-use Rattle.commons.specs.Lists.{opening}
-use Rattle.commons.proofs.Bags.{bag-nil}
+use Rattle.commons.specs.Lists.{opening, hand_of, holds_of, header_of}
 use Rattle.commons.proofs.Opening.{nothing_held, nothing_in_hand}
-use Rattle.commons.proofs.PacketBags.{held_in-empty, own_in-empty}
+use Rattle.mbuf.proofs.OwnLemmas.{own_new}
 use Rattle.mempool.specs.WorkerCache.{IsWorkerCause}
 use Rattle.mbuf.specs.Members.{Member, slots}
 use Rattle.script.specs.Pool.{new_members, nobody}
@@ -54,11 +53,6 @@ new_member_owns l n b =
       own = record {
         first = omega arith;
         last = omega arith;
-        share = record {
-          limits = refl;
-          cached = λ i. nothing_in_hand l.population (n + 1) i ∙ sym (bag-nil i);
-          held = λ i. nothing_held l.workers l.population (n + 1 - 1) i ∙ sym (held_in-empty slots i);
-          headed = λ i. omega (arith, own_in-empty slots i);
-        };
+        share = own_new l (n + 1) (λ i. hand_of (opening l) (n + 1) i) (λ i. holds_of (opening l) (n + 1) i) (λ i. header_of (opening l) (n + 1) i) (nothing_in_hand l.population (n + 1)) (nothing_held l.workers l.population (n + 1 - 1));
       };
     })

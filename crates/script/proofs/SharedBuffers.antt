@@ -3,6 +3,7 @@ use Rattle.std.proofs.Common.{ℕ, ◌≡◌, ◌≢◌, ◌+◌, ◌-◌, ◌<�
 use Rattle.std.proofs.lemmas.Bool.{cases_eq, cond-true, cond-false, eq-eqb, ne_eqb}
 use Rattle.std.proofs.lemmas.List.{append-nil}
 use Rattle.std.proofs.lemmas.Grind.{flat_map-append}
+use Rattle.commons.proofs.Sames.{ok-is}
 use Rattle.commons.specs.Bag.{bag, one}
 use Rattle.commons.specs.Calls.{Call, Claim, Raise}
 use Rattle.commons.specs.declared.limits.Limits.{Limits}
@@ -183,14 +184,11 @@ stopped_by w l held seg segs new cache s t calls cause over left (NoRaise e gets
 abbrev Outcome : Type 0
 Outcome = Reply × Member × Shared
 
-parts_are : (p q : List Seg × ℕ) → ◌≡◌ {A = Result (List Seg × ℕ) Refusal} (Ok p) (Ok q) → p ≡ q
-parts_are p q e = cc
-
 -- what is to be cloned stands there
 pub clonable_there : (source : Option (List Seg)) (free : Option ℕ) (segs : List Seg) (slot : ℕ) → clonable source free ≡ Ok (segs, slot) → source ≡ Some segs
 clonable_there None free segs slot e = absurd cc
 clonable_there (Some x) None segs slot e = absurd cc
-clonable_there (Some x) (Some n) segs slot e = ap (λ (p : List Seg × ℕ). Some p.0) (parts_are (x, n) (segs, slot) e)
+clonable_there (Some x) (Some n) segs slot e = ap (λ (p : List Seg × ℕ). Some p.0) (ok-is (x, n) (segs, slot) e)
 
 pub clone_by : (w : ℕ) (s t : Lists) (m after : Member) (source : ℕ) (held : ℕ → ℕ) (calls : List Call) (answer : Result ℕ Refusal) → Clones m source calls answer after → LeadsPlain w s calls t → IsTable s → s.limits ≡ m.limits → AreHeld s held →
     ((slot : ℕ) (segs : List Seg) → get_or m.table slot None ≡ Some segs → (i : ℕ) → bag (holds_of_packet segs) i ≤ held i) →

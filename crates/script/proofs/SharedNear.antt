@@ -1,14 +1,14 @@
 -- Where elements are while packets attach to buffers, get their own back and are cloned.
 use Rattle.std.proofs.Common.{ℕ, ◌≡◌, ◌+◌, ◌-◌, ◌<◌, ◌≤◌, ◌==◌, inl, inr, List, [], ◌∷◌, ◌++◌, get_or, set, Some, None, Result, Ok, Err, refl, sym, ap, subst, ◌∙◌, arith}
 use Rattle.std.specs.Prelude.{min, if◌then◌else◌}
-use Rattle.std.proofs.lemmas.Bool.{cases_Bool, cases_eq, cases_lt}
+use Rattle.std.proofs.lemmas.Bool.{cases_Bool, cases_lt}
 use Rattle.commons.specs.Bag.{bag, one}
 use Rattle.commons.specs.declared.limits.Limits.{Limits}
 use Rattle.commons.specs.declared.packet.Seg.{Seg}
 use Rattle.commons.specs.declared.refusal.Refusal.{Refusal}
 use Rattle.commons.specs.declared.refusal.Refusal.TheVariants.{RefSpent}
 use Rattle.commons.proofs.Bags.{bag-nil, bag-append, bag-single, bag-of_one}
-use Rattle.commons.proofs.Places.{one-apart}
+use Rattle.commons.proofs.Places.{one-is}
 use Rattle.commons.specs.Packets.{holds_of_packet, holds_of_seg, held_in}
 use Rattle.mbuf.specs.Members.{Member}
 use Rattle.mbuf.specs.PacketRules.{fresh_seg, free_slot, freed_nothing}
@@ -32,13 +32,6 @@ raise_min n add h = elim (cases_lt 0 add) [
   | inr none ↦ omega (arith, none)
 ]
 
--- an element that is counted in the bag of one is the one
-one_is : (b i : ℕ) → 0 < one b i → i ≡ b
-one_is b i h = elim (cases_eq i b) [
-  | inl same ↦ same
-  | inr other ↦ absurd (omega (arith, h, one-apart b i other))
-]
-
 -- an attach moves no element
 pub attach_to-near : (found : Result (ℕ × Seg) Refusal) (held : ℕ → ℕ) (mi target : ℕ) (m : Member) (s : Shared) → pair_in m mi target ≡ found → (others i : ℕ) → held i ≡ others + held_in m.table i →
     ((slot : ℕ) (segs : List Seg) → get_or m.table slot None ≡ Some segs → (j : ℕ) → bag (holds_of_packet segs) j ≤ held j) →
@@ -54,7 +47,7 @@ attach_to-near (Ok (e, seg)) held mi target m s f others i all within = elim (ca
         let t = rw found.here at (held_in-set m.table mi (Some (attached e seg ∷ [])) i (stands_within m.table mi (found.own ∷ []) found.here)) in
         let more : held_in (set m.table mi (Some (attached e seg ∷ []))) i ≡ held_in m.table i + one b i =
         omega (arith, t, holds_alone None found.own i found.direct, holds_alone (Some b) (attached e seg) i refl, bag-nil i, bag-single b i, ap (λ (x : ℕ). one x i) found.elem) in
-        let same = raise_min (held i) (one b i) (λ here. rw (one_is b i here) some) in
+        let same = raise_min (held i) (one b i) (λ here. rw (← (one-is b i here)) some) in
         rw (alone, below, more) (omega (arith, same, all))
   ]
   | inr used ↦ rw used refl
@@ -106,7 +99,7 @@ clone_segs-near l held (seg ∷ segs) new cache s i few within =
       | inr below ↦
           let more : bag (holds_of_packet (new ++ attached e seg ∷ [])) i ≡ bag (holds_of_packet new) i + (one b i + one e i) =
           omega (arith, ap (λ (es : List ℕ). bag es i) (holds-more new (attached e seg)), bag-append (holds_of_packet new) (holds_of_seg (attached e seg)) i, attached_holds e seg (attached e seg) i refl) in
-          let same = raise_min (held i + (bag (holds_of_packet new) i + one e i)) (one b i) (λ here. omega (arith, ap held (one_is b i here), some)) in
+          let same = raise_min (held i + (bag (holds_of_packet new) i + one e i)) (one b i) (λ here. omega (arith, ap held (one-is b i here), some)) in
           let now : bag left i + bag t.common i + min 1 (held i + bag (holds_of_packet (new ++ attached e seg ∷ [])) i) ≡ q = rw more (omega (arith, same, add)) in
           rw (below, ← now) (clone_segs-near l held segs (new ++ attached e seg ∷ []) left t i (omega (arith, now, few)) later)
     ])

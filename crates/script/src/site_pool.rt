@@ -67,14 +67,20 @@ impl SitePool {
     /// Refused `StrangerShare` for a worker outside the pool, else as the worker's packets are. A
     /// new packet is refused `PacketsFull` where the worker has too few free slots, else as its
     /// cache's get is: `NoEntries` or `HeadSpent`. An act on a slot that is empty or above 255 is
-    /// refused `NoSuchPacket`; else a change of lengths is refused `NoRoom` or `TooShort`, and a
-    /// chain `SamePacket` or `TooManySegs`. Nothing changes then. A push that the stack refuses is
-    /// no refusal of a free or a flush: `put_off` and `PutOff` tell of it, and the elements stay in
-    /// the cache. A flush is never refused.
+    /// refused `NoSuchPacket`; else a change of lengths is refused `NoRoom` or `TooShort`, a chain
+    /// `SamePacket` or `TooManySegs`, an attach these or `NotDirect`, `InUse` or `RefSpent`, a
+    /// detach `TooManySegs` or `NotIndirect`, a clone as a new packet is or `RefSpent`, and an offer
+    /// `NoSuchDesk` or `DeskTaken`. A take is refused `NoSuchDesk`, `PacketsFull` or `DeskEmpty`.
+    /// Nothing changes then, but that after a refused clone the free elements may be shared out
+    /// otherwise between cache and stack. A push that the stack refuses is no refusal of a free, a
+    /// detach or a flush: `put_off` and `PutOff` tell of it, and the elements stay in the cache. A
+    /// flush is never refused.
     ///
     /// After rte_mbuf.h, `rte_pktmbuf_alloc`, `rte_pktmbuf_alloc_bulk`, `rte_pktmbuf_free`,
-    /// `rte_pktmbuf_append`, `rte_pktmbuf_prepend`, `rte_pktmbuf_adj`, `rte_pktmbuf_trim` and
-    /// `rte_pktmbuf_chain`, and rte_mempool.h, `rte_mempool_cache_flush` (DPDK 21.11).
+    /// `rte_pktmbuf_append`, `rte_pktmbuf_prepend`, `rte_pktmbuf_adj`, `rte_pktmbuf_trim`,
+    /// `rte_pktmbuf_chain`, `rte_pktmbuf_attach`, `rte_pktmbuf_detach`, `rte_pktmbuf_clone` and
+    /// `rte_mbuf_refcnt_read`, and rte_mempool.h, `rte_mempool_cache_flush` (DPDK 21.11). Desks are
+    /// our own.
     pub fn perform(&mut self, worker: u32, act: Act) -> Reply
         ensures { (result, self.new) ≡ perform self.old worker act }
     {

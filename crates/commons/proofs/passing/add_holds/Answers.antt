@@ -1,11 +1,8 @@
-use Rattle.std.proofs.Common.{◌+◌, ◌∙◌, None, arith, refl}
-use Rattle.commons.specs.declared.packet.Seg.{Seg}
+use Rattle.std.proofs.Common.{◌+◌, ◌∙◌, arith, refl}
+use Rattle.commons.specs.Packets.{no_seg}
 use Rattle.commons.proofs.Bags.{bag-nil}
 use Rattle.commons.proofs.PacketBags.{bag-holds_suc, holds_so_far}
 use Rattle.commons.proofs.passing.add_holds.Goals as goal
-
-abbrev no_seg : Seg
-no_seg = record { elem = 0; base = None; data_off = 0; data_len = 0; buf_len = 0 }
 
 pub loop-seg-init : goal.loop-seg-init
 loop-seg-init c = record { holds = λ i. omega (arith, bag-nil i); len = refl }

@@ -1,13 +1,9 @@
-use Rattle.std.proofs.Common.{◌+◌, None, List, ℕ, take, get_or, subst, sym, arith}
-use Rattle.commons.specs.declared.packet.Seg.{Seg}
-use Rattle.commons.specs.Packets.{holds_of_seg, holds_of_packet}
+use Rattle.std.proofs.Common.{◌+◌, List, ℕ, take, get_or, subst, sym, arith}
+use Rattle.commons.specs.Packets.{no_seg, holds_of_seg, holds_of_packet}
 use Rattle.commons.specs.Site.{HasEnded}
 use Rattle.commons.proofs.PacketBags.{bag-holds_suc, holds-suc, holds_so_far}
 use Rattle.commons.proofs.EndedRows.{ended-none, ended-append}
 use Rattle.commons.proofs.passing.end_holds.Goals as goal
-
-abbrev no_seg : Seg
-no_seg = record { elem = 0; base = None; data_off = 0; data_len = 0; buf_len = 0 }
 
 pub loop-seg-init : goal.loop-seg-init
 loop-seg-init c = ended-none c.args.worker c.args.row.now c.args.headers.now.items

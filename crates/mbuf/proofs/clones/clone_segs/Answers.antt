@@ -6,8 +6,7 @@ use Rattle.commons.specs.Calls.{Made, Leads, calls_of}
 use Rattle.commons.specs.declared.limits.Limits.{Limits}
 use Rattle.commons.specs.declared.packet.Seg.{Seg}
 use Rattle.commons.proofs.Bags.{bag-nil, bag-append}
-use Rattle.mbuf.specs.Lengths.{no_seg}
-use Rattle.commons.specs.Packets.{hold_of, holds_of_packet, holds_of_seg}
+use Rattle.commons.specs.Packets.{no_seg, hold_of, holds_of_packet, holds_of_seg}
 use Rattle.mbuf.specs.PacketRules.{freed_nothing}
 use Rattle.mbuf.specs.Sharing.{buffer_of, ClonesSeg, StopsCloning}
 use Rattle.mbuf.proofs.CloneLemmas.{buffer_held, cloned_more, followed, given_up, holds-more, same_headers}

@@ -1,15 +1,11 @@
-use Rattle.std.proofs.Common.{ℕ, ◌+◌, [], List, take, get_or, None, refl, sym, ◌∙◌, subst, arith}
+use Rattle.std.proofs.Common.{ℕ, ◌+◌, [], List, take, get_or, refl, sym, ◌∙◌, subst, arith}
 use Rattle.commons.specs.declared.limits.Limits.{Limits}
-use Rattle.commons.specs.declared.packet.Seg.{Seg}
 use Rattle.commons.proofs.Bags.{bag-nil}
-use Rattle.commons.specs.Packets.{holds_of_seg, holds_of_packet}
+use Rattle.commons.specs.Packets.{no_seg, holds_of_seg, holds_of_packet}
 use Rattle.mbuf.specs.PacketRules.{freed_nothing}
 use Rattle.commons.proofs.PacketBags.{holds-suc, bag-holds_suc, holds_so_far}
 use Rattle.mbuf.proofs.EndLemmas.{Ended, both_ended}
 use Rattle.mbuf.proofs.steps.end_segs.Goals as goal
-
-abbrev no_seg : Seg
-no_seg = record { elem = 0; base = None; data_off = 0; data_len = 0; buf_len = 0 }
 
 pub loop-seg-init : goal.loop-seg-init
 loop-seg-init g c = record {

@@ -1,9 +1,8 @@
 -- In a new pool nothing is in a hand, and nothing is held.
-use Rattle.std.proofs.Common.{◌-◌, refl, sym, ◌∙◌, arith}
-use Rattle.commons.proofs.Bags.{bag-nil}
+use Rattle.std.proofs.Common.{◌-◌}
 use Rattle.commons.proofs.Opening.{nothing_held, nothing_in_hand}
-use Rattle.commons.proofs.PacketBags.{held_in-empty, own_in-empty}
-use Rattle.mbuf.specs.Members.{slots}
+use Rattle.commons.specs.Lists.{opening, hand_of, holds_of, header_of}
+use Rattle.mbuf.proofs.OwnLemmas.{own_new}
 use Rattle.mbuf.proofs.tests.begin.Goals as goal
 
 pub returns : goal.returns
@@ -11,10 +10,6 @@ returns c =
     let l = c.args.packets.now.limits in
     let w = c.args.c.now.worker in
     record {
-      own = rw (c.requires.site) (record {
-        limits = refl;
-        cached = λ i. nothing_in_hand l.population w i ∙ sym (rw c.requires.cache (bag-nil i));
-        held = λ i. nothing_held l.workers l.population (w - 1) i ∙ sym (rw c.requires.table (held_in-empty slots i));
-        headed = λ i. rw c.requires.table (omega (arith, own_in-empty slots i));
-      });
+      own = rw (c.requires.site, c.requires.cache, c.requires.table)
+          (own_new l c.args.packets.now.number (λ i. hand_of (opening l) w i) (λ i. holds_of (opening l) w i) (λ i. header_of (opening l) w i) (nothing_in_hand l.population w) (nothing_held l.workers l.population (w - 1)));
     }

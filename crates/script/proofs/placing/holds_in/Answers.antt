@@ -1,11 +1,9 @@
 use Rattle.std.proofs.Common.{None, arith}
+use Rattle.commons.specs.Packets.{no_seg}
 use Rattle.commons.specs.declared.packet.Seg.{Seg}
 use Rattle.commons.proofs.Bags.{bag-nil}
 use Rattle.commons.proofs.PacketBags.{bag-holds_suc}
 use Rattle.script.proofs.placing.holds_in.Goals as goal
-
-abbrev no_seg : Seg
-no_seg = record { elem = 0; base = None; data_off = 0; data_len = 0; buf_len = 0 }
 
 pub loop-seg-init : goal.loop-seg-init
 loop-seg-init c = record { counted = omega (arith, bag-nil c.args.elem); few = omega arith }
