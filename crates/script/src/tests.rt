@@ -6,6 +6,7 @@ use std::test::Fail;
 
 mod caches;
 mod calls;
+mod desks;
 mod full;
 mod many;
 mod memory;

@@ -199,3 +199,99 @@ fn each_worker_has_its_own_cache_and_its_own_packets(rt: HostRuntime) -> Result<
     assert_eq!(rt; shown(rt.alloc(), &statement?)?.as_str(), wanted);
     Ok(())
 }
+
+/// A pool with a desk.
+fn with_a_desk(population: u64) -> Limits {
+    Limits {
+        desks: 1,
+        ..limits(population, 0, 2)
+    }
+}
+
+#[test]
+fn a_packet_passes_over_a_desk(rt: HostRuntime) -> Result<(), Fail> {
+    let mut pool = SitePool::make(rt.alloc(), &with_a_desk(4))?;
+    let first = pool.perform(1, Act::Alloc);
+    let second = pool.perform(1, Act::Alloc);
+    let longer = pool.perform(1, Act::Append(0, 9));
+    let offered = pool.perform(1, Act::Offer(0, 0));
+    let on_desk = pool.statement(rt.alloc());
+    let taken = pool.perform(2, Act::Take(0));
+    let statement = pool.statement(rt.alloc());
+    pool.lose();
+    assert_eq!(rt; first, Reply::Allocated(0, 0));
+    assert_eq!(rt; second, Reply::Allocated(1, 1));
+    assert_eq!(rt; longer, Reply::Len(9));
+    assert_eq!(rt; offered, Reply::Offered);
+    assert_eq!(rt; taken, Reply::Taken(0, 1, 9));
+    let before = "population 4\navailable 2\nin use 2\ncommon 2: 2 3\ncache 1 0:\ncache 2 0:\n\
+        packet 1 1 segs 1 len 0: 1@128+0/2048\ndesk 0 segs 1 len 9: 0@128+9/2048\n\
+        held 0 count 1: d0\nheld 1 count 1: 1\n";
+    assert_eq!(rt; shown(rt.alloc(), &on_desk?)?.as_str(), before);
+    let after = "population 4\navailable 2\nin use 2\ncommon 2: 2 3\ncache 1 0:\ncache 2 0:\n\
+        packet 1 1 segs 1 len 0: 1@128+0/2048\npacket 2 0 segs 1 len 9: 0@128+9/2048\n\
+        held 0 count 1: 2\nheld 1 count 1: 1\n";
+    assert_eq!(rt; shown(rt.alloc(), &statement?)?.as_str(), after);
+    Ok(())
+}
+
+/// Whether a worker's act is refused so.
+fn assert_refused(rt: &impl Abort, pool: &mut SitePool, worker: u32, act: Act, refusal: Refusal) {
+    let reply = pool.perform(worker, act);
+    assert_eq!(rt; reply, Reply::Refused(refusal), "worker {worker}");
+}
+
+// The first refusal that applies is the answer, and changes nothing.
+#[test]
+fn offers_and_takes_are_refused_in_their_order(rt: HostRuntime) -> Result<(), Fail> {
+    let mut pool = SitePool::make(rt.alloc(), &with_a_desk(4))?;
+    assert_refused(&rt, &mut pool, 2, Act::Take(0), Refusal::DeskEmpty);
+    let first = pool.perform(1, Act::Alloc);
+    let second = pool.perform(1, Act::Alloc);
+    let offered = pool.perform(1, Act::Offer(0, 0));
+    let before = pool.statement(rt.alloc());
+    for slot in [0, 2, 256, 4_294_967_295] {
+        for desk in [0, 1] {
+            let act = Act::Offer(slot, desk);
+            assert_refused(&rt, &mut pool, 1, act, Refusal::NoSuchPacket);
+        }
+    }
+    for desk in [1, 64, 4_294_967_295] {
+        let act = Act::Offer(1, desk);
+        assert_refused(&rt, &mut pool, 1, act, Refusal::NoSuchDesk);
+        assert_refused(&rt, &mut pool, 2, Act::Take(desk), Refusal::NoSuchDesk);
+    }
+    assert_refused(&rt, &mut pool, 1, Act::Offer(1, 0), Refusal::DeskTaken);
+    for worker in [0, 3, 4_294_967_295] {
+        for act in [Act::Offer(1, 0), Act::Take(0), Act::Take(1)] {
+            assert_refused(&rt, &mut pool, worker, act, Refusal::StrangerShare);
+        }
+    }
+    let after = pool.statement(rt.alloc());
+    pool.lose();
+    assert_eq!(rt; first, Reply::Allocated(0, 0));
+    assert_eq!(rt; second, Reply::Allocated(1, 1));
+    assert_eq!(rt; offered, Reply::Offered);
+    let text = "population 4\navailable 2\nin use 2\ncommon 2: 2 3\ncache 1 0:\ncache 2 0:\n\
+        packet 1 1 segs 1 len 0: 1@128+0/2048\ndesk 0 segs 1 len 0: 0@128+0/2048\n\
+        held 0 count 1: d0\nheld 1 count 1: 1\n";
+    assert_eq!(rt; shown(rt.alloc(), &before?)?.as_str(), text);
+    assert_eq!(rt; shown(rt.alloc(), &after?)?.as_str(), text);
+    Ok(())
+}
+
+// A desk that isn't there is told of before a full table, and that before an empty desk.
+#[test]
+fn a_full_table_takes_no_packet(rt: HostRuntime) -> Result<(), Fail> {
+    let mut pool = SitePool::make(rt.alloc(), &with_a_desk(300))?;
+    let made = pool.perform(1, Act::AllocBulk(256));
+    assert_refused(&rt, &mut pool, 1, Act::Take(1), Refusal::NoSuchDesk);
+    assert_refused(&rt, &mut pool, 1, Act::Take(0), Refusal::PacketsFull);
+    let offered = pool.perform(1, Act::Offer(7, 0));
+    let taken = pool.perform(1, Act::Take(0));
+    pool.lose();
+    assert!(rt; matches!(&made, Reply::Bulk(_)));
+    assert_eq!(rt; offered, Reply::Offered);
+    assert_eq!(rt; taken, Reply::Taken(7, 1, 0));
+    Ok(())
+}
