@@ -1,6 +1,9 @@
-ghost use Rattle.std.specs.Prelude.{◌≡◌};
+ghost use Rattle.std.specs.Prelude.{◌≡◌, ◌≤◌, ◌+◌, ℕ, IfOk};
+ghost use Rattle.commons.specs.Bag.{bag, one};
+ghost use Rattle.commons.specs.Packets.{holds_of_packet, own_of_packet};
 
 use crate::limits::Limits;
+use crate::packet::{Packet, Seg};
 use crate::place::Place;
 use crate::plain::PlainCommons;
 use crate::refusal::{Lowered, Refusal};
@@ -142,5 +145,133 @@ fn a_count_is_raised_to_its_limit_and_lowered(rt: HostRuntime) -> Result<(), Fai
     assert_eq!(rt; c.count(element), 1);
     assert_eq!(rt; c.lower(element), Lowered::Last);
     assert_eq!(rt; site.places()[0], Place::Hand(1));
+    Ok(())
+}
+
+// Gets an element and claims it.
+fn claimed<C: Commons>(c: &mut C) -> Result<u32, Refusal>
+    ensures holds { IfOk result (λ e. (i : ℕ) → C.holds c.new i ≡ C.holds c.old i + one e i) }
+    ensures headers { IfOk result (λ e. (i : ℕ) → C.headers c.new i ≡ C.headers c.old i + one e i) }
+{
+    let mut one = [0; 1];
+    c.get_list(&mut one)?;
+    c.claim(one[0]);
+    Ok(one[0])
+}
+
+// A packet with the buffer of its own element.
+fn direct<C: Commons>(c: &mut C) -> Result<Packet, Refusal>
+    ensures held { IfOk result (λ packet. (i : ℕ) → bag (holds_of_packet packet) i ≤ C.holds c.new i) }
+    ensures own { IfOk result (λ packet. (i : ℕ) → bag (own_of_packet packet) i ≤ C.headers c.new i) }
+{
+    let elem = claimed(c)?;
+    Ok(Packet::single(Seg {
+        elem,
+        base: None,
+        data_off: 128,
+        data_len: 0,
+        buf_len: 2_048,
+    }))
+}
+
+// A packet with the buffer of another element, which has a hold beside that of the packet.
+fn indirect<C: Commons>(c: &mut C) -> Result<Packet, Refusal>
+    ensures held { IfOk result (λ packet. (i : ℕ) → bag (holds_of_packet packet) i ≤ C.holds c.new i) }
+    ensures own { IfOk result (λ packet. (i : ℕ) → bag (own_of_packet packet) i ≤ C.headers c.new i) }
+{
+    let base = claimed(c)?;
+    let elem = claimed(c)?;
+    c.raise(base)?;
+    Ok(Packet::single(Seg {
+        elem,
+        base: Some(base),
+        data_off: 128,
+        data_len: 60,
+        buf_len: 2_048,
+    }))
+}
+
+// The segment of the packet that `indirect` makes of two elements.
+fn wanted(elem: u32, base: u32) -> Seg {
+    Seg {
+        elem,
+        base: Some(base),
+        data_off: 128,
+        data_len: 60,
+        buf_len: 2_048,
+    }
+}
+
+// How often an element is held by worker 1 and by worker 2, and its place.
+fn held(site: &PlainSite, element: u32) -> Option<(u32, u32, Place)> {
+    let limits = site.limits();
+    if limits.workers < 2 || u64::from(element) >= limits.population {
+        return None;
+    }
+    let place = site.places().get(element as usize).copied()?;
+    Some((site.hold(1, element), site.hold(2, element), place))
+}
+
+#[test]
+fn a_packet_passes_over_a_desk_with_all_its_holds(rt: HostRuntime) -> Result<(), Fail> {
+    let mut site = PlainSite::make(rt.alloc(), &three(0))?;
+    let mut first = PlainCommons::new(&mut site, 1);
+    let packet = indirect(&mut first)?;
+    assert_eq!(rt; packet.segs(), [wanted(1, 0)].as_slice());
+    assert!(rt; first.offer(0, packet).is_ok());
+    assert_eq!(rt; held(&site, 0), Some((1, 0, Place::Held(2))));
+    assert_eq!(rt; held(&site, 1), Some((0, 0, Place::Held(1))));
+    let there = match site.desks() {
+        [Some(packet)] => packet.segs() == [wanted(1, 0)].as_slice(),
+        _ => false,
+    };
+    assert!(rt; there);
+    let workers = site.limits().workers;
+    assert_eq!(rt; workers, 2);
+    let mut second = PlainCommons::new(&mut site, 2);
+    let taken = second.take(0)?;
+    assert_eq!(rt; taken.segs(), [wanted(1, 0)].as_slice());
+    assert_eq!(rt; held(&site, 0), Some((1, 1, Place::Held(2))));
+    assert_eq!(rt; held(&site, 1), Some((0, 1, Place::Held(1))));
+    let empty = match site.desks() {
+        [desk] => desk.is_none(),
+        _ => false,
+    };
+    assert!(rt; empty);
+    Ok(())
+}
+
+#[test]
+fn an_offer_refused_gives_the_packet_back(rt: HostRuntime) -> Result<(), Fail> {
+    let mut site = PlainSite::make(rt.alloc(), &three(0))?;
+    let mut c = PlainCommons::new(&mut site, 1);
+    let first = direct(&mut c)?;
+    assert!(rt; c.offer(0, first).is_ok());
+    let second = indirect(&mut c)?;
+    let (missing, packet) = match c.offer(1, second) {
+        Ok(()) => return Err(Refusal::DeskEmpty.into()),
+        Err(refused) => refused,
+    };
+    assert_eq!(rt; packet.segs(), [wanted(2, 1)].as_slice());
+    let (taken, packet) = match c.offer(0, packet) {
+        Ok(()) => return Err(Refusal::DeskEmpty.into()),
+        Err(refused) => refused,
+    };
+    assert_eq!(rt; packet.segs(), [wanted(2, 1)].as_slice());
+    assert_eq!(rt; missing, Refusal::NoSuchDesk);
+    assert_eq!(rt; taken, Refusal::DeskTaken);
+    assert_eq!(rt; held(&site, 1), Some((2, 0, Place::Held(2))));
+    assert_eq!(rt; held(&site, 2), Some((1, 0, Place::Held(1))));
+    Ok(())
+}
+
+#[test]
+fn a_take_is_refused_where_no_packet_is(rt: HostRuntime) -> Result<(), Fail> {
+    let mut site = PlainSite::make(rt.alloc(), &three(0))?;
+    let mut c = PlainCommons::new(&mut site, 2);
+    let missing = c.take(1).err();
+    let empty = c.take(0).err();
+    assert_eq!(rt; missing, Some(Refusal::NoSuchDesk));
+    assert_eq!(rt; empty, Some(Refusal::DeskEmpty));
     Ok(())
 }

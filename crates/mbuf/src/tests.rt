@@ -16,6 +16,7 @@ use std::process::Abort;
 use std::test::Fail;
 
 mod acts;
+mod desks;
 mod sharing;
 
 fn limits(population: u64, cache: u64) -> Limits {
