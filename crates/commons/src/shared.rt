@@ -118,7 +118,8 @@ pub trait Commons {
 
     /// Leaves a packet on a desk, of which the pool has `desks`, numbered from 0. The worker holds
     /// all that the packet holds, and the packet's own elements are distinct headers of the worker;
-    /// both are gone afterwards.
+    /// both are gone afterwards, and an element of which the worker has no hold left then is no
+    /// header of it.
     ///
     /// Refused `NoSuchDesk` exactly where the pool has no such desk, and `DeskTaken` where a desk
     /// word other than 0, that of an empty desk, was read. The packet comes back then, and hand,
@@ -133,7 +134,6 @@ pub trait Commons {
         ensures hand { hand self.new ≡ hand self.old }
         ensures holds { OnOk result ((i : ℕ) → holds self.old i ≡ holds self.new i + bag (holds_of_packet packet) i) }
         ensures holds_err { OnErr result (holds self.new ≡ holds self.old) }
-        // A header of another packet is gone too where this packet had the worker's last hold of it.
         ensures headers { OnOk result ((i : ℕ) → headers self.new i ≡ (if nat_lt 0 (holds self.new i) then headers self.old i - bag (own_of_packet packet) i else 0)) }
         ensures headers_err { OnErr result (headers self.new ≡ headers self.old) }
         ensures limits { limits self.new ≡ limits self.old };

@@ -561,9 +561,9 @@ impl Packets {
     /// Takes the packet off a desk, of which the pool has `desks`, numbered from 0, with all that it
     /// holds. It stands in the lowest free slot, which is the answer.
     ///
-    /// Refused `NoSuchDesk` where the pool has no such desk, `PacketsFull` where no slot is free, and
-    /// `DeskEmpty` where a desk word other than 2, that of a full desk, was read. Nothing changes
-    /// then.
+    /// Refused `NoSuchDesk` where the pool has no such desk and `PacketsFull` where no slot is free,
+    /// both before anything is asked of the shared pool, and `DeskEmpty` where a desk word other
+    /// than 2, that of a full desk, was read. Nothing changes then.
     ///
     /// Desks are our own; DPDK passes mbufs between lcores over an `rte_ring`.
     pub fn take<C: Commons>(&mut self, c: &mut C, desk: u32) -> Result<Pid, Refusal>
