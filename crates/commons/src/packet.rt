@@ -1,5 +1,6 @@
 use arrayvec::ArrayVec;
 use std::marker::Model;
+use std::mem;
 
 /// The most segments that a packet has.
 /// (rte_mbuf_core.h, `RTE_MBUF_MAX_NB_SEGS`, DPDK 21.11, is 65,535)
@@ -40,7 +41,7 @@ impl Model for Packet {
 
 impl Packet {
     ghost use Rattle.std.specs.Prelude.{◌≡◌, ◌<◌, [], ◌∷◌, ◌++◌, length, slice_set};
-    ghost use Rattle.commons.specs.Packets.{HasItsData, IsPacket};
+    ghost use Rattle.commons.specs.Packets.{HasItsData, IsPacket, no_seg};
 
     /// The packet of one segment.
     pub fn single(seg: Seg) -> Packet
@@ -59,6 +60,16 @@ impl Packet {
     {
         self.segs.truncate(1);
         self.segs.as_mut_slice()[0] = seg;
+    }
+
+    /// Moves the packet out, and leaves one segment without data in its place.
+    pub fn take(&mut self) -> Packet
+        ensures out { result ≡ self.old }
+        ensures left { self.new ≡ no_seg ∷ [] }
+    {
+        let segs = mem::take(&mut self.segs);
+        self.segs.push(Seg::default());
+        Packet { segs }
     }
 
     /// Puts a segment behind the last. The packet has fewer than 32.

@@ -57,19 +57,20 @@ pub enum Refusal {
     /// There is no such desk.
     #[error("NoSuchDesk")]
     NoSuchDesk,
-    /// The least worker whose share wasn't handed in.
+    /// The least worker whose part, what it has of the pool, wasn't handed in at the end. No call on
+    /// lists gives it.
     #[error("MissingShare worker {0}")]
     MissingShare(u32),
-    /// The worker isn't of this pool, or its share is there already.
+    /// The worker isn't of this pool, or its part was handed in already.
     #[error("StrangerShare")]
     StrangerShare,
     /// The script's first faulty line.
     #[error("ScriptFault line {0}")]
     ScriptFault(u32),
-    /// A step's condition failed.
+    /// A step of a call was named whose condition doesn't hold. No call on lists gives it.
     #[error("StepRefused")]
     StepRefused,
-    /// The packet is of two pools.
+    /// The packet is of two pools. No call on lists gives it.
     #[error("Foreign")]
     Foreign,
     /// Both packets are the same.

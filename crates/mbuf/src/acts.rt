@@ -90,7 +90,7 @@ pub enum Reply {
     Chained(u32, u32),
     /// What a flush did with the cache.
     Put(Put),
-    /// Nothing was done.
+    /// The call was refused. Packets and holds are as before.
     Refused(Refusal),
 }
 

@@ -27,7 +27,6 @@ use mempool::put::Put;
 use mempool::worker::Worker;
 use std::alloc::{AllocError, Global};
 use std::marker::Model;
-use std::mem;
 
 /// How many packets a worker holds at most.
 pub const SLOTS: usize = 256;
@@ -545,7 +544,7 @@ impl Packets {
         let Some(place) = self.slot(p) else {
             return Err(Refusal::NoSuchPacket);
         };
-        let packet = mem::replace(&mut self.packets[place], Packet::single(Seg::default()));
+        let packet = self.packets[place].take();
         match c.offer(desk, packet) {
             Ok(()) => {
                 self.free.give(place);
