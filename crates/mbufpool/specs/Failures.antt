@@ -39,7 +39,7 @@ status_of_kind DisplayHelp = 0
 status_of_kind DisplayVersion = 0
 status_of_kind _ = 2
 
--- the status that the program ends with
+-- the status of the program, where its text can be written
 abbrev pub status_of : Failure → ℕ
 status_of (CommandLine error) = status_of_kind (kind_of error)
 status_of (Unreadable file) = 1

@@ -11,6 +11,8 @@ use std::env::Env;
 use std::{env, io};
 
 /// The words of the command line, the program's name first.
+///
+/// `CommandLine` where a word isn't text, and `Fault` with `OutOfMemory` where memory was refused.
 pub fn words<R: Env + AllocGlobal>(rt: &R) -> Result<Vec<String>, Failure<'static>>
     ensures { IfErr result IsOfWords }
 {
@@ -27,6 +29,9 @@ pub fn words<R: Env + AllocGlobal>(rt: &R) -> Result<Vec<String>, Failure<'stati
 }
 
 /// The file whose replay the words ask for.
+///
+/// `CommandLine` where the words are wrong or ask for help, and `Fault` with `OutOfMemory` where memory
+/// was refused.
 pub fn file<'a>(alloc: Global, words: &'a [String]) -> Result<&'a str, Failure<'a>>
     ensures { IfErr result IsOfWords }
 {

@@ -14,12 +14,13 @@ pub enum Failure<'a> {
     CommandLine(Error),
     /// This file can't be read.
     Unreadable(&'a str),
-    /// The script or its replay has a fault.
+    /// The script has a fault, or memory was refused.
     Fault(Refusal),
 }
 
 impl Failure<'_> {
-    /// The status that the program ends with.
+    /// The status of the program: 0 where help or the version was asked for, 2 where the words are wrong,
+    /// else 1. It is 1 for 0 where the text can't be written.
     pub fn status(&self) -> u8
         ensures { result ≡ status_of self.now }
     {

@@ -1,5 +1,6 @@
 //! The replay of a script in a file.
-ghost use Rattle.std.specs.Prelude.{IfErr};
+ghost use Rattle.std.specs.Prelude.{ℕ, List, IfErr, IfOk};
+ghost use Rattle.script.specs.Printed.{IsPrintedFor};
 ghost use Rattle.mbufpool.specs.Failures.{IsOfReplay};
 
 use crate::failures::Failure;
@@ -15,8 +16,12 @@ use std::rt::Files;
 const BYTES_READ: u64 = MAX_BYTES as u64 + 1;
 
 /// What the replay of the script in `file` prints.
+///
+/// `Unreadable` where the file can't be read, and `Fault` where the bytes are no script (`ScriptFault`),
+/// where no pool can be made within the script's limits (`BadPool`), or where memory was refused.
 pub fn text<'a, R: Files + AllocGlobal>(rt: &R, file: &'a str) -> Result<Vec<u8>, Failure<'a>>
-    ensures { IfErr result (IsOfReplay file.entry.now) }
+    ensures printed { IfOk result (λ out. (bytes : List ℕ) × IsPrintedFor bytes out.items) }
+    ensures cause { IfErr result (IsOfReplay file.entry.now) }
 {
     let script = match read(rt, file) {
         Ok(script) => script,
@@ -28,7 +33,8 @@ pub fn text<'a, R: Files + AllocGlobal>(rt: &R, file: &'a str) -> Result<Vec<u8>
     }
 }
 
-/// The bytes of a file, or as many of them as show that they are too many for a script.
+/// The bytes of a file, or as many of them as show that they are too many for a script. The error of the
+/// first call that fails: to open the file, to read it, or to take memory.
 pub fn read<R: Files + AllocGlobal>(rt: &R, file: &str) -> io::Result<Vec<u8>> {
     let mut bytes = Vec::new(rt.alloc());
     File::open(rt, file)?

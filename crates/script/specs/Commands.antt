@@ -1,4 +1,4 @@
--- What a script's commands are.
+-- Whose commands a script has.
 use Rattle.std.specs.Prelude.{ℕ, ◌≤◌, List, All}
 use Rattle.script.specs.declared.commands.Line.{Line}
 

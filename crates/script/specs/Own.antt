@@ -1,4 +1,4 @@
--- A worker's part of the lists: what a `PlainSite` keeps for it is what the worker has. No public clause cites this module.
+-- A worker's part of the lists: what a `PlainSite` keeps for it is what the worker has. Only the invariant of `SitePool` cites this module.
 use Rattle.std.specs.Prelude.{ℕ, ◌≡◌, ◌≤◌, List, [], ◌∷◌}
 use Rattle.commons.specs.Calls.{Call}
 use Rattle.commons.specs.Lists.{Lists, IsTable, DidPlain, KeepsOthers, hand_of, holds_of, header_of}

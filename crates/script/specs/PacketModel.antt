@@ -83,7 +83,7 @@ chain_in (Some first) (Some second) head tail m =
 abbrev pub chain : ℕ → ℕ → Member → Reply × Member
 chain head tail m = chain_in (slice_index_or m.table head None) (slice_index_or m.table tail None) head tail m
 
--- what changes no element's place leaves the stack
+-- what changes a member alone leaves what is shared
 abbrev pub beside : Shared → Reply × Member → Reply × Member × Shared
 beside s done = (done.0, done.1, s)
 

@@ -34,7 +34,7 @@ nobody l = record { limits = l; number = 0; cache = []; table = [] }
 abbrev pub member_at : Pool → ℕ → Member
 member_at pool n = slice_index_or pool.members n (nobody pool.limits)
 
--- the pool once that worker and the stack are these
+-- the pool once that worker and what is shared are these
 abbrev pub with_member : Pool → ℕ → Member → Shared → Pool
 with_member pool n member shared = record pool { shared = shared; members = slice_set pool.members n member }
 

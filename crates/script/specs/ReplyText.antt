@@ -28,14 +28,14 @@ put_text (puts.Flushed count) = codes "ok flushed " ++ decimal count
 put_text (puts.PutOff count refusal) = codes "ok putoff " ++ decimal count ++ codes " " ++ name_of refusal
 
 -- the elements of new packets, a space before each
-abbrev pub elements_text : List NewPacket → List ℕ
-elements_text packets = flat_map (λ packet. codes " " ++ decimal packet.elem) packets
+abbrev pub new_elements_text : List NewPacket → List ℕ
+new_elements_text packets = flat_map (λ packet. codes " " ++ decimal packet.elem) packets
 
 -- A reply: the elements of the new packets or of a clone, what freeing or a flush did, a count, a length in bytes, a
 -- number of segments, of a chain and of a packet that was taken both, or the refusal's number and name.
 unfoldable pub reply_text : Reply → List ℕ
 reply_text (replies.Allocated slot elem) = codes "ok " ++ decimal elem
-reply_text (replies.Bulk packets) = codes "ok" ++ elements_text packets.items
+reply_text (replies.Bulk packets) = codes "ok" ++ new_elements_text packets.items
 reply_text (replies.Freed freed) = freed_text freed
 reply_text replies.Attached = codes "ok"
 reply_text (replies.Cloned slot elems) = codes "ok" ++ joined decimal elems.items

@@ -1,7 +1,8 @@
 -- The text of a statement, line by line.
-use Rattle.std.specs.Prelude.{ℕ, ◌+◌, List, [], ◌∷◌, ◌++◌, Option, Some, None, length, sum_by, codes, decimal}
+use Rattle.std.specs.Prelude.{ℕ, ◌+◌, List, [], ◌∷◌, ◌++◌, Option, Some, None, length, codes, decimal}
 use Rattle.std.specs.List.{flat_map}
 use Rattle.commons.specs.declared.packet.Seg.{Seg}
+use Rattle.mbuf.specs.Lengths.{pkt_len}
 use Rattle.script.specs.declared.statement.Holder.{Holder}
 use Rattle.script.specs.declared.statement.Holder.TheVariants.{Worker, Desk}
 use Rattle.script.specs.declared.statement.Held.{Held}
@@ -28,14 +29,14 @@ segment_text seg =
 unfoldable pub segments_text : List Seg → List ℕ
 segments_text segs =
     codes " segs " ++ decimal (length segs)
-    ++ codes " len " ++ decimal (sum_by (λ seg. seg.data_len) segs)
+    ++ codes " len " ++ decimal (pkt_len segs)
     ++ codes ":" ++ joined segment_text segs ++ codes "\n"
 
 -- a line of what is counted and how many there are
 unfoldable pub total_line : List ℕ → ℕ → List ℕ
 total_line name count = name ++ codes " " ++ decimal count ++ codes "\n"
 
--- how many elements there are, in common and held
+-- the population, how many elements are available, and how many are in use
 unfoldable pub totals_text : Statement → List ℕ
 totals_text s =
     total_line (codes "population") s.population ++ total_line (codes "available") s.available

@@ -4,10 +4,18 @@
 //! 8,192 bytes before its end, each a space or a printed ASCII character. Lines of spaces alone and
 //! lines whose first word begins with `#` are skipped. The first other line is the pool line, `pool`
 //! with the number of elements and then, in any order, keys with their numbers: `cache`, `workers`,
-//! `buf`, `tries` and `start`. Behind it come at most 10,000 command lines: `alloc NAME`, `free NAME` or
-//! `flush`, each of the first worker, or of the one whose number stands in front with a colon behind it,
-//! as `2: flush`. A number is 1 to 20 digits, and a name 1 to 16 of `a` to `z` and `0` to `9` that begin
-//! with a letter. Names are each worker's own, and no two lines make the same name of one worker.
+//! `desks`, `buf`, `refs`, `tries` and `start`, each at most once. Behind it come at most 10,000 command
+//! lines:
+//!
+//! - `alloc P`, `bulk P ..` of 1 to 256 names, `clone Q P` and `take D P` make the names P;
+//! - `free P`, `append P L`, `prepend P L`, `adj P L`, `trim P L`, `chain P Q`, `attach P Q`, `detach P`,
+//!   `count P` and `offer P D` name any packets, with a length L or a desk D of at most 65,535;
+//! - `flush` names nothing.
+//!
+//! Each is the first worker's, or that of the one whose number stands in front with a colon behind it, as
+//! `2: flush`. A number is 1 to 20 digits below 2^64, and a name 1 to 16 of `a` to `z` and `0` to `9` that
+//! begin with a letter. Names are each worker's own; a name is made by at most one line of its worker, and
+//! once in that line.
 
 ghost use Rattle.std.specs.Prelude.{◌≡◌, List, IfOk, IfErr, MatchResult};
 ghost use Rattle.commons.specs.declared.limits.Limits.{Limits};

@@ -18,7 +18,8 @@ use std::alloc::Global;
 /// statement that places every element.
 ///
 /// Refused as reading the script is: `BadPool` where no pool can be made within the limits of its
-/// pool line, and `ScriptFault` with the number of the first faulty line. `OutOfMemory` comes only
+/// pool line, and `ScriptFault` with the number of the first faulty line, or 0 where the bytes are more
+/// than a script has. `OutOfMemory` comes only
 /// where memory was refused.
 pub fn run_replay(alloc: Global, bytes: &[u8]) -> Result<Vec<u8>, Refusal>
     // What is printed is what the reference model prints for the script that the bytes are.

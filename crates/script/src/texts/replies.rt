@@ -1,6 +1,6 @@
 //! The lines that answer commands.
 ghost use Rattle.std.specs.Prelude.{◌≡◌, ◌++◌, codes, decimal, IfErr, OnOk};
-ghost use Rattle.script.specs.ReplyText.{elements_text, freed_text, put_off_text, put_text, reply_line, reply_text};
+ghost use Rattle.script.specs.ReplyText.{new_elements_text, freed_text, put_off_text, put_text, reply_line, reply_text};
 ghost use Rattle.script.specs.StatementText.{joined};
 
 use super::elements::write_joined;
@@ -58,7 +58,7 @@ fn write_reply(out: &mut Vec<u8>, reply: &Reply) -> io::Result<()>
 
 // The elements of new packets.
 fn write_bulk(out: &mut Vec<u8>, packets: &[NewPacket]) -> io::Result<()>
-    ensures { OnOk result (out.new.items ≡ out.old.items ++ codes "ok" ++ elements_text packets.now) }
+    ensures { OnOk result (out.new.items ≡ out.old.items ++ codes "ok" ++ new_elements_text packets.now) }
 {
     write!(out, "ok")?;
     for packet in packets {

@@ -1,6 +1,7 @@
 //! Segments, and the packets that are made of them.
-ghost use Rattle.std.specs.Prelude.{◌≡◌, ◌++◌, OnOk, sum_by};
+ghost use Rattle.std.specs.Prelude.{◌≡◌, ◌++◌, OnOk};
 ghost use Rattle.std.specs.List.{flat_map};
+ghost use Rattle.mbuf.specs.Lengths.{pkt_len};
 ghost use Rattle.script.specs.StatementText.{base_text, desk_text, joined, packet_text, segment_text, segments_text};
 
 use crate::statement::{DeskPacket, PlacedPacket};
@@ -56,7 +57,7 @@ fn write_segments(out: &mut Vec<u8>, segs: &[Seg]) -> io::Result<()>
 
 // How long the data of these segments is. A sum of so many lengths fits 128 bits.
 fn data_len(segs: &[Seg]) -> u128
-    ensures { result ≡ sum_by (λ seg. seg.data_len) segs.now }
+    ensures { result ≡ pkt_len segs.now }
 {
     segs.iter().map(|seg| u128::from(seg.data_len)).sum()
 }

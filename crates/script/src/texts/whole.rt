@@ -12,7 +12,7 @@ use std::io;
 use std::io::Write;
 
 /// The text of a statement: its totals, the common list from the top, and then a line for each
-/// cache, packet, desk and held element.
+/// cache, packet, desk with a packet, and held element.
 ///
 /// Refused `OutOfMemory` where there is no room for it.
 pub fn statement_text(alloc: Global, statement: &Statement) -> Result<Vec<u8>, Refusal>
@@ -39,7 +39,7 @@ fn write_statement(out: &mut Vec<u8>, statement: &Statement) -> io::Result<()>
     write_held(out, statement.held.as_slice())
 }
 
-// How many elements there are, in common and held.
+// The population, how many elements are available, and how many are in use.
 #[tactic(auto, unfolding(crate::specs::StatementText::totals_text))]
 fn write_totals(out: &mut Vec<u8>, statement: &Statement) -> io::Result<()>
     ensures { OnOk result (out.new.items ≡ out.old.items ++ totals_text statement.now) }
