@@ -4,6 +4,7 @@ pub mod CacheCalls
 pub mod CommandLemmas
 pub mod CutLemmas
 pub mod DeskCalls
+pub mod DeskLemmas
 pub mod DeskNear
 pub mod DesksKept
 pub mod EndedHolds

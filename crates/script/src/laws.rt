@@ -1,14 +1,21 @@
-//! Laws of the grammar of scripts, of the reference model's caches, and of each replay.
+//! Laws of the grammar of scripts, of the reference model's caches and desks, and of each replay.
 
-ghost use Rattle.std.specs.Prelude.{◌≡◌, ℕ, ◌⊎◌, List, Result};
+ghost use Rattle.std.specs.Prelude.{◌≡◌, ℕ, ◌⊎◌, List, length, slice_index_or, slice_set, None, Some, Result};
 ghost use Rattle.commons.specs.Bounds.{IsPool};
 ghost use Rattle.commons.specs.Calls.{Call};
 ghost use Rattle.commons.specs.declared.limits.Limits.{Limits};
+ghost use Rattle.commons.specs.declared.packet.Seg.{Seg};
 ghost use Rattle.commons.specs.declared.refusal.Refusal.{Refusal};
+ghost use Rattle.commons.specs.declared.refusal.Refusal.TheVariants.{PacketsFull};
 ghost use Rattle.mempool.specs.Caches.{Gets, Puts, Flushes};
 ghost use Rattle.mempool.specs.declared.put.Put.{Put};
+ghost use Rattle.mbuf.specs.declared.acts.Reply.TheVariants.{Offered, Refused, Taken};
+ghost use Rattle.mbuf.specs.Lengths.{pkt_len};
+ghost use Rattle.mbuf.specs.Members.{Member};
+ghost use Rattle.mbuf.specs.PacketRules.{free_slot};
 ghost use Rattle.script.specs.CacheLaw.{Meets};
 ghost use Rattle.script.specs.CacheModel.{get as cache_get, put as cache_put, flush as cache_flush};
+ghost use Rattle.script.specs.PacketModel.{offer, take_off};
 ghost use Rattle.script.specs.Pool.{Shared};
 ghost use Rattle.script.specs.declared.commands.Line.{Line};
 ghost use Rattle.script.specs.Grammar.{IsScript, IsFirstFault, HasBadPool, IsSomeScript, HasSomeFault};
@@ -52,6 +59,20 @@ pub fn the_model_keeps_the_cache_rules()
         Puts l cache list calls answer left → Meets s calls t → (answer, left, t) ≡ cache_put l list cache s }
     ensures flush { (cache : List ℕ) (calls : List Call) (answer : Put) (left : List ℕ) (s t : Shared) →
         Flushes cache calls answer left → Meets s calls t → (answer, left, t) ≡ cache_flush cache s }
+{}
+
+/// A desk gives what was left on it. Where an offer is met, the slot is free afterwards, and the packet that stood in
+/// it is on the desk. The next take off this desk, by whatever worker, is met where the worker has a free slot: it
+/// gives the very segments that were offered, into the lowest free slot, and leaves the stack and all desks as they
+/// were before the offer. To a worker that has none it is refused `PacketsFull`, and nothing changes.
+pub fn a_desk_gives_what_was_left_on_it()
+    ensures left { (slot desk : ℕ) (m after : Member) (s t : Shared) → offer slot desk m s ≡ (Offered, after, t) →
+        (packet : List Seg) × (slice_index_or m.table slot None ≡ Some packet) × (slice_index_or after.table slot None ≡ None) × (slice_index_or t.desks desk None ≡ Some packet) }
+    ensures taken { (slot desk free : ℕ) (packet : List Seg) (m after taker : Member) (s t : Shared) → offer slot desk m s ≡ (Offered, after, t) →
+        slice_index_or m.table slot None ≡ Some packet → free_slot taker.table ≡ Some free →
+        take_off desk taker t ≡ (Taken free (length packet) (pkt_len packet), record taker { table = slice_set taker.table free (Some packet) }, s) }
+    ensures full { (slot desk : ℕ) (m after taker : Member) (s t : Shared) → offer slot desk m s ≡ (Offered, after, t) →
+        free_slot taker.table ≡ None → take_off desk taker t ≡ (Refused PacketsFull, taker, t) }
 {}
 
 /// After any commands a new pool's statement lists each element exactly once, and what is available and what
