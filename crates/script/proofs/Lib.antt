@@ -2,10 +2,12 @@ pub mod Balance
 pub mod CacheBags
 pub mod CacheCalls
 pub mod CommandLemmas
+pub mod CommandsKeep
 pub mod CutLemmas
 pub mod DeskCalls
 pub mod DeskLemmas
 pub mod DeskNear
+pub mod DeskStays
 pub mod DesksKept
 pub mod EndedHolds
 pub mod Entries
@@ -21,7 +23,9 @@ pub mod NameLemmas
 pub mod NameRuns
 pub mod NewPools
 pub mod NumberLemmas
+pub mod Numbered
 pub mod PacketCalls
+pub mod Placed
 pub mod PlainCalls
 pub mod PoolLemmas
 pub mod PoolLineLemmas
@@ -29,5 +33,6 @@ pub mod ScriptLemmas
 pub mod SharedBuffers
 pub mod SharedNear
 pub mod SettingsLemmas
+pub mod SlotsKept
 pub mod StepLemmas
 pub mod WordLemmas

@@ -1,8 +1,9 @@
 -- What a statement says: of a pool in the reference model, and of any pool.
-use Rattle.std.specs.Prelude.{ℕ, ◌≡◌, ◌+◌, ◌<◌, ◌≤◌, nat_lt, List, [], ◌∷◌, ◌++◌, length, replicate, filter, map, flat_map, sum_by, All, Option, Some, None, ◌==◌, Bool, false, cond, count_by}
+use Rattle.std.specs.Prelude.{ℕ, ◌≡◌, ◌⊎◌, ◌+◌, ◌<◌, ◌≤◌, nat_lt, List, [], ◌∷◌, ◌++◌, length, replicate, filter, map, flat_map, sum_by, All, AllPairs, Option, Some, None, ◌==◌, Bool, false, cond, count_by}
 use Rattle.std.specs.List.{range_with_len}
 use Rattle.std.specs.List.Sorted.{IsStrictlyIncreasing}
 use Rattle.commons.specs.Bag.{bag}
+use Rattle.commons.specs.declared.limits.Limits.{Limits}
 use Rattle.commons.specs.declared.packet.Seg.{Seg}
 use Rattle.script.specs.declared.statement.Statement.{Statement}
 use Rattle.script.specs.declared.statement.DeskPacket.{DeskPacket}
@@ -11,7 +12,7 @@ use Rattle.script.specs.declared.statement.Held.{Held}
 use Rattle.script.specs.declared.statement.Holder.{Holder}
 use Rattle.script.specs.declared.statement.Holder.TheVariants.{Worker, Desk}
 use Rattle.commons.specs.Packets.{holds_of_packet, holds_in_slot, held_in}
-use Rattle.mbuf.specs.Members.{Member}
+use Rattle.mbuf.specs.Members.{Member, slots}
 use Rattle.script.specs.Pool.{Pool, held_of}
 
 -- the packets of a worker's table, the first of its slots having this number
@@ -103,3 +104,18 @@ pub record ListsEachOnce (s : Statement) : Type 0 where
   pub by_worker : All (λ held. (w : ℕ) → count_by (is_worker w) held.holders ≡ worker_holds s w held.elem) s.held
   pub by_desk : All (λ held. (d : ℕ) → count_by (is_desk d) held.holders ≡ desk_holds s d held.elem) s.held
   pub unheld : (i : ℕ) → bag (map (λ held. held.elem) s.held) i ≡ 0 → packet_holds s i ≡ 0
+
+-- one packet is before another: its worker has the lower number, or it stands in a lower slot of the same one
+abbrev pub StandsBefore : PlacedPacket → PlacedPacket → Type 0
+StandsBefore one other = (one.worker < other.worker) ⊎ ((one.worker ≡ other.worker) × (one.slot < other.slot))
+
+-- The statement of a pool within these limits has as many elements as they say, and a cache for each worker. Its
+-- packets ascend by worker and slot, and those on desks by desk, so that no two stand in one slot or on one desk;
+-- and each of these slots and desks is one of the pool's.
+pub record PlacesEachOnce (l : Limits) (s : Statement) : Type 0 where
+  pub population : s.population ≡ l.population
+  pub caches : length s.caches ≡ l.workers
+  pub packets : AllPairs StandsBefore s.packets
+  pub slots : All (λ placed. (1 ≤ placed.worker) × (placed.worker ≤ l.workers) × (placed.slot < slots)) s.packets
+  pub desks : AllPairs (λ one other. one.desk < other.desk) s.desks
+  pub on_desks : All (λ packet. packet.desk < l.desks) s.desks

@@ -20,7 +20,7 @@ ghost use Rattle.script.specs.Pool.{Shared};
 ghost use Rattle.script.specs.declared.commands.Line.{Line};
 ghost use Rattle.script.specs.Grammar.{IsScript, IsFirstFault, HasBadPool, IsSomeScript, HasSomeFault};
 ghost use Rattle.script.specs.Replay.{new_run, end_of};
-ghost use Rattle.script.specs.Statements.{statement_of, ListsEachOnce};
+ghost use Rattle.script.specs.Statements.{statement_of, ListsEachOnce, PlacesEachOnce};
 
 /// No text is two scripts.
 pub fn one_reading()
@@ -79,4 +79,10 @@ pub fn a_desk_gives_what_was_left_on_it()
 /// is in use are the population.
 pub fn each_element_is_listed_once()
     ensures { (l : Limits) (lines : List Line) → IsPool l → ListsEachOnce (statement_of (end_of lines (new_run l)).pool) }
+{}
+
+/// After any commands the packets in a new pool's statement ascend by worker and slot, and those on desks by desk:
+/// no two stand in one slot or on one desk, and each stands in a slot or on a desk of the pool.
+pub fn each_packet_has_a_place_of_its_own()
+    ensures { (l : Limits) (lines : List Line) → PlacesEachOnce l (statement_of (end_of lines (new_run l)).pool) }
 {}
