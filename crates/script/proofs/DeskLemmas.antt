@@ -3,7 +3,7 @@ use Rattle.std.proofs.Common.{ℕ, ◌≡◌, ◌<◌, nat_le, inl, inr, List, l
 use Rattle.std.proofs.lemmas.Bool.{cases_Bool, leb-false, lt-leb}
 use Rattle.std.proofs.lemmas.List.{set-set, set-get_or}
 use Rattle.commons.specs.declared.packet.Seg.{Seg}
-use Rattle.commons.specs.declared.refusal.Refusal.TheVariants.{PacketsFull}
+use Rattle.commons.specs.declared.refusal.Refusal.TheVariants.{DeskTaken, PacketsFull}
 use Rattle.commons.proofs.PacketBags.{stands_within}
 use Rattle.mbuf.specs.declared.acts.Reply.{Reply}
 use Rattle.mbuf.specs.declared.acts.Reply.TheVariants.{Offered, Refused, Taken}
@@ -39,11 +39,15 @@ offer_in-met (Some packet) slot desk m after s t met = elim (cases_Bool (nat_le 
 ]
 
 -- a take off a desk of the pool that has this packet
-pub take_off-met : (desk free : ℕ) (packet : List Seg) (taker : Member) (t : Shared) → desk < length t.desks → get_or t.desks desk None ≡ Some packet → free_slot taker.table ≡ Some free →
+pub take_off-met : (desk free : ℕ) (packet : List Seg) (taker : Member) (t : Shared) → get_or t.desks desk None ≡ Some packet → free_slot taker.table ≡ Some free →
     take_off desk taker t ≡ (Taken free (length packet) (pkt_len packet), record taker { table = set taker.table free (Some packet) }, record t { desks = set t.desks desk None })
-take_off-met desk free packet taker t here there e = rw (lt-leb (length t.desks) desk here, e, there) refl
+take_off-met desk free packet taker t there e = rw (lt-leb (length t.desks) desk (stands_within t.desks desk packet there), e, there) refl
 
--- and one by a worker with no free slot
+-- and an offer on it
+pub offer-taken : (slot desk : ℕ) (packet other : List Seg) (m : Member) (s : Shared) → get_or s.desks desk None ≡ Some packet → get_or m.table slot None ≡ Some other → offer slot desk m s ≡ (Refused DeskTaken, m, s)
+offer-taken slot desk packet other m s there e = rw (e, lt-leb (length s.desks) desk (stands_within s.desks desk packet there), there) refl
+
+-- a take by a worker with no free slot
 pub take_off-full : (desk : ℕ) (taker : Member) (t : Shared) → desk < length t.desks → free_slot taker.table ≡ None → take_off desk taker t ≡ (Refused PacketsFull, taker, t)
 take_off-full desk taker t here e = rw (lt-leb (length t.desks) desk here, e) refl
 
@@ -82,7 +86,7 @@ pub taken_again : (slot desk free : ℕ) (packet : List Seg) (m after taker : Me
 taken_again slot desk free packet m after taker s t met there e =
     let did = offer_in-met (get_or m.table slot None) slot desk m after s t met in
     let has : get_or t.desks desk None ≡ Some packet = desk_has did.0 slot desk m after s t did.2 ∙ sym did.1 ∙ there in
-    take_off-met desk free packet taker t (desk_within did.0 slot desk m after s t did.2) has e
+    take_off-met desk free packet taker t has e
     ∙ ap (λ (u : Shared). let r : Reply × Member × Shared = (Taken free (length packet) (pkt_len packet), record taker { table = set taker.table free (Some packet) }, u) in r) (desk_emptied did.0 slot desk m after s t did.2)
 
 -- and what it answers a worker with no free slot
