@@ -14,6 +14,7 @@ pub mod Entries
 pub mod GapLemmas
 pub mod GrammarLemmas
 pub mod HeldBags
+pub mod HoldersOrder
 pub mod KeptLemmas
 pub mod LineLemmas
 pub mod Listed
@@ -25,6 +26,7 @@ pub mod NewPools
 pub mod NumberLemmas
 pub mod Numbered
 pub mod PacketCalls
+pub mod Pairs
 pub mod Placed
 pub mod PlainCalls
 pub mod PoolLemmas

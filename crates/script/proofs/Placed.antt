@@ -1,8 +1,8 @@
 -- The statement of a numbered pool has each packet in a place of its own.
-use Rattle.std.proofs.Common.{ℕ, suc, ◌≡◌, ◌+◌, ◌<◌, ◌≤◌, inl, inr, List, [], ◌∷◌, ◌++◌, length, Option, Some, None, refl, sym, ◌∙◌, ap, arith}
+use Rattle.std.proofs.Common.{ℕ, ◌≡◌, ◌+◌, ◌<◌, ◌≤◌, inl, inr, List, [], ◌∷◌, length, Option, Some, None, refl, sym, ◌∙◌, ap, arith}
 use Rattle.std.specs.Prelude.{All, AllPairs, flat_map}
 use Rattle.std.proofs.lemmas.List.{length-map}
-use Rattle.std.proofs.lemmas.List.Elements.{All-nil, All-cons, All-head, All-tail, All-append, All-weaker}
+use Rattle.std.proofs.lemmas.List.Elements.{All-nil, All-cons, All-append, All-weaker}
 use Rattle.std.proofs.lemmas.List.Kept.{AllPairs-cons}
 use Rattle.commons.specs.declared.limits.Limits.{Limits}
 use Rattle.commons.specs.declared.packet.Seg.{Seg}
@@ -14,18 +14,7 @@ use Rattle.script.specs.Pool.{Pool}
 use Rattle.script.specs.Replay.{new_run, end_of}
 use Rattle.script.specs.Statements.{packets_from, packets_of, desks_from, statement_of, StandsBefore, PlacesEachOnce}
 use Rattle.script.proofs.Numbered.{AreNumbered, IsNumbered, replay-numbered}
-
--- two lists of which each is in order, and the first before the second
-module _ {X : Type 0} (R : X → X → Type 0) where
-  AllPairs-append : (xs ys : List X) → AllPairs R xs → AllPairs R ys → All (λ x. All (R x) ys) xs → AllPairs R (xs ++ ys)
-  AllPairs-append [] ys first second before = second
-  AllPairs-append (x ∷ xs) ys first second before =
-      AllPairs-cons R x (xs ++ ys)
-      (All-append (R x) xs ys (λ k d within. first 0 (suc k) d (omega arith) (omega arith)) (All-head (λ x. All (R x) ys) x xs before))
-      (AllPairs-append xs ys (λ i j d lt within. first (suc i) (suc j) d (omega arith) (omega arith)) second (All-tail (λ x. All (R x) ys) x xs before))
-
-  AllPairs-nil : AllPairs R []
-  AllPairs-nil i j d lt within = absurd (omega arith)
+use Rattle.script.proofs.Pairs.{AllPairs-append, AllPairs-nil}
 
 -- the packet of a worker in a slot from this one up to that one
 abbrev InSlots : ℕ → ℕ → ℕ → PlacedPacket → Type 0

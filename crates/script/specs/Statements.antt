@@ -87,10 +87,17 @@ abbrev pub is_desk : ℕ → Holder → Bool
 is_desk d (Worker v) = false
 is_desk d (Desk e) = e == d
 
+-- a holder that may stand before another: workers ascend, and behind them desks
+abbrev pub IsNotAfter : Holder → Holder → Type 0
+IsNotAfter (Worker v) (Worker w) = v ≤ w
+IsNotAfter (Worker v) (Desk d) = Unit {0}
+IsNotAfter (Desk d) (Worker w) = ⊥
+IsNotAfter (Desk d) (Desk e) = d ≤ e
+
 -- Each element of the pool is listed exactly once, and nothing else is; what is available and what is in use
 -- are the population; the count of a held element is the number of its holders, which is that of the holds of
--- all packets, and each holder stands there as often as its own packets hold the element; and no packet holds
--- an element that isn't listed as held.
+-- all packets, and each holder stands there as often as its own packets hold the element, workers before desks and
+-- both ascending; and no packet holds an element that isn't listed as held.
 pub record ListsEachOnce (s : Statement) : Type 0 where
   pub once : (i : ℕ) → i < s.population → listed s i ≡ 1
   pub none_else : (i : ℕ) → s.population ≤ i → listed s i ≡ 0
@@ -100,6 +107,7 @@ pub record ListsEachOnce (s : Statement) : Type 0 where
   pub ascending : IsStrictlyIncreasing (map (λ held. held.elem) s.held)
   pub held : All (λ held. 1 ≤ held.count) s.held
   pub holders : All (λ held. length held.holders ≡ held.count) s.held
+  pub in_order : All (λ held. AllPairs IsNotAfter held.holders) s.held
   pub counts : All (λ held. held.count ≡ packet_holds s held.elem) s.held
   pub by_worker : All (λ held. (w : ℕ) → count_by (is_worker w) held.holders ≡ worker_holds s w held.elem) s.held
   pub by_desk : All (λ held. (d : ℕ) → count_by (is_desk d) held.holders ≡ desk_holds s d held.elem) s.held
