@@ -12,8 +12,6 @@ use Rattle.commons.specs.declared.refusal.Refusal.{Refusal}
 use Rattle.commons.specs.declared.refusal.Refusal.TheVariants.{NoRoom, TooShort}
 use Rattle.commons.proofs.Bags.{bag-nil, bag-single, bag-of_one}
 use Rattle.commons.proofs.Opening.{bag-range_in, bag-range_high}
-use Rattle.script.specs.declared.commands.Command.{Command}
-use Rattle.script.specs.declared.commands.Command.TheVariants as command
 use Rattle.script.specs.declared.commands.Line.{Line}
 use Rattle.mbuf.specs.declared.acts.Act.{Act}
 use Rattle.mbuf.specs.declared.acts.Act.TheVariants.{Alloc, AllocBulk, Free, Append, Prepend, Adj, Trim, Chain, Attach, Detach, ClonePacket, Offer, Take, CountOf, PktLen, NbSegs, Flush}
@@ -25,13 +23,14 @@ use Rattle.mbuf.specs.Lengths.{appended, prepended, adjusted, trimmed}
 use Rattle.script.specs.Pool.{Shared, Pool, held_by, held_of, member_at, with_member, nobody, new_members, new_pool}
 use Rattle.script.specs.CacheModel.{get}
 use Rattle.script.specs.PacketModel.{fill_slot, alloc_in, fill_slots, alloc_bulk, resize_to, resize_in, chain_in, free_in, flush_member, without_packet, held_elsewhere, act_on, perform}
-use Rattle.script.specs.Replay.{Run, free_as, act_of, act_as, act_as_both, chain_as, clone_as, offer_as, obey, end_of}
+use Rattle.script.specs.Replay.{Run, end_of}
 use Rattle.script.proofs.CacheBags.{IsGot, get-IsGot, flush-IsPut}
 use Rattle.mbuf.proofs.ChainLemmas.{KeepsHolds-chain}
 use Rattle.mbuf.proofs.FreeLemmas.{holds_stood}
 use Rattle.commons.proofs.PacketBags.{held_in-empty, held_in-set, held_in-slot, stands_within}
 use Rattle.mbuf.proofs.OwnLemmas.{free_slot-is}
 use Rattle.mbuf.proofs.ResizeLemmas.{SamePacketHolds, appended_holds, prepended_holds, adjusted_holds, trimmed_holds}
+use Rattle.script.proofs.CommandsKeep.{end_of-keeps}
 use Rattle.script.proofs.DeskNear.{offer_in-near, take_off-near}
 use Rattle.script.proofs.DesksKept.{alloc_in-desks, alloc_bulk-desks, clone_at-desks, detach_from-desks, flush-desks, free_in-desks}
 use Rattle.script.proofs.SharedNear.{attach_to-near, clone_at-near, detach_from-near}
@@ -222,52 +221,9 @@ perform-balanced pool w act b = elim (cases_Bool (nat_le 1 w && nat_le w (length
   | inr e ↦ rw e b
 ]
 
--- a free by name keeps each element in one place, also where the name stands for none
-free_as-balanced : (slot : Option ℕ) (worker : ℕ) (name : List ℕ) (run : Run) → IsBalanced run.pool → IsBalanced (free_as slot worker name run).1.pool
-free_as-balanced None worker name run b = b
-free_as-balanced (Some slot) worker name run b = perform-balanced run.pool worker (Free slot) b
-
--- so do acts that leave each name as it stands, a clone, an offer and a chain
-act_as-balanced : (slot : Option ℕ) (act : ℕ → Act) (worker : ℕ) (run : Run) → IsBalanced run.pool → IsBalanced (act_as slot act worker run).1.pool
-act_as-balanced None act worker run b = b
-act_as-balanced (Some slot) act worker run b = perform-balanced run.pool worker (act slot) b
-
-act_as_both-balanced : (first second : Option ℕ) (act : ℕ → ℕ → Act) (worker : ℕ) (run : Run) → IsBalanced run.pool → IsBalanced (act_as_both first second act worker run).1.pool
-act_as_both-balanced None second act worker run b = b
-act_as_both-balanced (Some first) second act worker run b = act_as-balanced second (act first) worker run b
-
-clone_as-balanced : (slot : Option ℕ) (worker : ℕ) (made : List ℕ) (run : Run) → IsBalanced run.pool → IsBalanced (clone_as slot worker made run).1.pool
-clone_as-balanced None worker made run b = b
-clone_as-balanced (Some slot) worker made run b = perform-balanced run.pool worker (ClonePacket slot) b
-
-offer_as-balanced : (slot : Option ℕ) (desk worker : ℕ) (name : List ℕ) (run : Run) → IsBalanced run.pool → IsBalanced (offer_as slot desk worker name run).1.pool
-offer_as-balanced None desk worker name run b = b
-offer_as-balanced (Some slot) desk worker name run b = perform-balanced run.pool worker (Offer slot desk) b
-
-chain_as-balanced : (head tail : Option ℕ) (worker : ℕ) (name : List ℕ) (run : Run) → IsBalanced run.pool → IsBalanced (chain_as head tail worker name run).1.pool
-chain_as-balanced None tail worker name run b = b
-chain_as-balanced (Some head) None worker name run b = b
-chain_as-balanced (Some head) (Some tail) worker name run b = perform-balanced run.pool worker (Chain head tail) b
-
--- each command keeps each element in one place
-obey-balanced : (worker : ℕ) (c : Command) (run : Run) → IsBalanced run.pool → IsBalanced (obey worker c run).1.pool
-obey-balanced worker (command.Alloc name) run b = perform-balanced run.pool worker Alloc b
-obey-balanced worker (command.Bulk names) run b = perform-balanced run.pool worker (AllocBulk (length names)) b
-obey-balanced worker (command.Free name) run b = free_as-balanced (run.stands worker name) worker name run b
-obey-balanced worker (command.Resize name change) run b = act_as-balanced (run.stands worker name) (λ slot. act_of slot change) worker run b
-obey-balanced worker (command.Chain head tail) run b = chain_as-balanced (run.stands worker head) (run.stands worker tail) worker tail run b
-obey-balanced worker (command.Attach name target) run b = act_as_both-balanced (run.stands worker name) (run.stands worker target) Attach worker run b
-obey-balanced worker (command.Detach name) run b = act_as-balanced (run.stands worker name) Detach worker run b
-obey-balanced worker (command.Clone name made) run b = clone_as-balanced (run.stands worker name) worker made run b
-obey-balanced worker (command.Count name) run b = act_as-balanced (run.stands worker name) CountOf worker run b
-obey-balanced worker (command.Offer name desk) run b = offer_as-balanced (run.stands worker name) desk worker name run b
-obey-balanced worker (command.Take desk name) run b = perform-balanced run.pool worker (Take desk) b
-obey-balanced worker command.Flush run b = perform-balanced run.pool worker Flush b
-
--- all lines keep each element in one place
+-- so do all lines
 pub end_of-balanced : (lines : List Line) (run : Run) → IsBalanced run.pool → IsBalanced (end_of lines run).pool
-end_of-balanced [] run b = b
-end_of-balanced (line ∷ lines) run b = end_of-balanced lines (obey line.worker line.command run).1 (obey-balanced line.worker line.command run b)
+end_of-balanced = end_of-keeps IsBalanced perform-balanced
 
 -- new members hold nothing
 held_by-new : (l : Limits) (number n i : ℕ) → held_by (new_members l number n) i ≡ 0

@@ -2,15 +2,19 @@ pub mod Balance
 pub mod CacheBags
 pub mod CacheCalls
 pub mod CommandLemmas
+pub mod CommandsKeep
 pub mod CutLemmas
 pub mod DeskCalls
+pub mod DeskLemmas
 pub mod DeskNear
+pub mod DeskStays
 pub mod DesksKept
 pub mod EndedHolds
 pub mod Entries
 pub mod GapLemmas
 pub mod GrammarLemmas
 pub mod HeldBags
+pub mod HoldersOrder
 pub mod KeptLemmas
 pub mod LineLemmas
 pub mod Listed
@@ -20,7 +24,10 @@ pub mod NameLemmas
 pub mod NameRuns
 pub mod NewPools
 pub mod NumberLemmas
+pub mod Numbered
 pub mod PacketCalls
+pub mod Pairs
+pub mod Placed
 pub mod PlainCalls
 pub mod PoolLemmas
 pub mod PoolLineLemmas
@@ -28,5 +35,6 @@ pub mod ScriptLemmas
 pub mod SharedBuffers
 pub mod SharedNear
 pub mod SettingsLemmas
+pub mod SlotsKept
 pub mod StepLemmas
 pub mod WordLemmas

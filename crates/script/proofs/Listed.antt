@@ -1,6 +1,6 @@
 -- The statement of a pool in the reference model lists each element exactly once.
 use Rattle.std.proofs.Common.{ℕ, ◌≡◌, ◌+◌, ◌<◌, ◌≤◌, inl, inr, nat_lt, Bool, true, false, cond, List, [], ◌∷◌, ◌++◌, length, length-append, get_or, map, replicate, filter, Option, Some, None, refl, sym, ◌∙◌, ap, arith}
-use Rattle.std.specs.Prelude.{min, sum_by, count_by, flat_map, ◌==◌, ◌*◌}
+use Rattle.std.specs.Prelude.{AllPairs, min, sum_by, count_by, flat_map, ◌==◌, ◌*◌}
 use Rattle.std.specs.List.{range_with_len}
 use Rattle.std.specs.List.Sorted.{IsStrictlyIncreasing}
 use Rattle.std.proofs.lemmas.List.{length-map, length-replicate}
@@ -27,9 +27,11 @@ use Rattle.commons.specs.Packets.{holds_of_packet, holds_in_slot, held_in}
 use Rattle.mbuf.specs.Members.{Member}
 use Rattle.script.specs.Pool.{Pool, held_by, held_of}
 use Rattle.script.specs.Replay.{new_run, end_of}
-use Rattle.script.specs.Statements.{packets_from, packets_of, desks_from, workers_of, desks_of, holders_of, held_entry, held_elements, statement_of, listed, packet_holds, is_worker, is_desk, worker_holds, desk_holds, ListsEachOnce}
+use Rattle.script.specs.Statements.{packets_from, packets_of, desks_from, workers_of, desks_of, holders_of, held_entry, held_elements, statement_of, listed, packet_holds, is_worker, is_desk, worker_holds, desk_holds, IsNotAfter, ListsEachOnce}
 use Rattle.script.proofs.HeldBags.{IsBalanced}
 use Rattle.script.proofs.Balance.{at_most_one, range-bag, end_of-balanced, new_pool-balanced}
+use Rattle.script.proofs.HoldersOrder.{holders_of-order}
+use Rattle.script.proofs.Numbered.{AreNumbered, replay-numbered}
 
 -- the elements of the entries
 elems-entries : (members : List Member) (desks : List (Option (List Seg))) (xs : List ℕ) → map (λ (held : Held). held.elem) (map (held_entry members desks) xs) ≡ xs
@@ -304,8 +306,8 @@ range-rises n k h =
     omega (arith, get_or-range_with_len 0 n k 0 (omega arith), get_or-range_with_len 0 n (k + 1) 0 l)
 
 -- where each element is in one place, the statement lists it once
-pub lists_each_once : (pool : Pool) → IsBalanced pool → ListsEachOnce (statement_of pool)
-lists_each_once pool b =
+pub lists_each_once : (pool : Pool) → IsBalanced pool → AreNumbered 1 pool.members → ListsEachOnce (statement_of pool)
+lists_each_once pool b numbers =
     let test = λ (i : ℕ). nat_lt 0 (held_of pool.members pool.shared.desks i) in record {
       once = λ i l. placed_once pool b i ∙ cond-true (nat_lt i pool.limits.population) 1 0 (lt-ltb i pool.limits.population l);
       none_else = λ i l. placed_once pool b i ∙ cond-false (nat_lt i pool.limits.population) 1 0 (le-ltb i pool.limits.population l);
@@ -317,6 +319,8 @@ lists_each_once pool b =
           (λ k d h. ltb-true 0 (held_of pool.members pool.shared.desks (get_or (held_elements pool) k d)) (filter_passes test (range_with_len 0 pool.limits.population) k d h));
       holders = All-map (λ (held : Held). length held.holders ≡ held.count) (held_entry pool.members pool.shared.desks) (held_elements pool)
           (λ k d h. length-holders pool.members pool.shared.desks (get_or (held_elements pool) k d));
+      in_order = All-map (λ (held : Held). AllPairs IsNotAfter held.holders) (held_entry pool.members pool.shared.desks) (held_elements pool)
+          (λ k d h. holders_of-order pool.members pool.shared.desks (get_or (held_elements pool) k d) numbers);
       counts = All-map (λ (held : Held). held.count ≡ packet_holds (statement_of pool) held.elem) (held_entry pool.members pool.shared.desks) (held_elements pool)
           (λ k d h. omega (arith, packets-holds pool.members (get_or (held_elements pool) k d), desks_from-holds 0 pool.shared.desks (get_or (held_elements pool) k d)));
       by_worker = All-map (λ (held : Held). (w : ℕ) → count_by (is_worker w) held.holders ≡ worker_holds (statement_of pool) w held.elem) (held_entry pool.members pool.shared.desks) (held_elements pool)
@@ -328,4 +332,4 @@ lists_each_once pool b =
 
 -- after any commands a new pool's statement lists each element exactly once
 pub replay_lists_each_once : (l : Limits) → IsPool l → (lines : List Line) → ListsEachOnce (statement_of (end_of lines (new_run l)).pool)
-replay_lists_each_once l p lines = lists_each_once (end_of lines (new_run l)).pool (end_of-balanced lines (new_run l) (new_pool-balanced l))
+replay_lists_each_once l p lines = lists_each_once (end_of lines (new_run l)).pool (end_of-balanced lines (new_run l) (new_pool-balanced l)) (replay-numbered l lines).numbers

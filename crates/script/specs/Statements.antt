@@ -1,8 +1,9 @@
 -- What a statement says: of a pool in the reference model, and of any pool.
-use Rattle.std.specs.Prelude.{ℕ, ◌≡◌, ◌+◌, ◌<◌, ◌≤◌, nat_lt, List, [], ◌∷◌, ◌++◌, length, replicate, filter, map, flat_map, sum_by, All, Option, Some, None, ◌==◌, Bool, false, cond, count_by}
+use Rattle.std.specs.Prelude.{ℕ, ◌≡◌, ◌⊎◌, ◌+◌, ◌<◌, ◌≤◌, nat_lt, List, [], ◌∷◌, ◌++◌, length, replicate, filter, map, flat_map, sum_by, All, AllPairs, Option, Some, None, ◌==◌, Bool, false, cond, count_by}
 use Rattle.std.specs.List.{range_with_len}
 use Rattle.std.specs.List.Sorted.{IsStrictlyIncreasing}
 use Rattle.commons.specs.Bag.{bag}
+use Rattle.commons.specs.declared.limits.Limits.{Limits}
 use Rattle.commons.specs.declared.packet.Seg.{Seg}
 use Rattle.script.specs.declared.statement.Statement.{Statement}
 use Rattle.script.specs.declared.statement.DeskPacket.{DeskPacket}
@@ -11,7 +12,7 @@ use Rattle.script.specs.declared.statement.Held.{Held}
 use Rattle.script.specs.declared.statement.Holder.{Holder}
 use Rattle.script.specs.declared.statement.Holder.TheVariants.{Worker, Desk}
 use Rattle.commons.specs.Packets.{holds_of_packet, holds_in_slot, held_in}
-use Rattle.mbuf.specs.Members.{Member}
+use Rattle.mbuf.specs.Members.{Member, slots}
 use Rattle.script.specs.Pool.{Pool, held_of}
 
 -- the packets of a worker's table, the first of its slots having this number
@@ -86,10 +87,17 @@ abbrev pub is_desk : ℕ → Holder → Bool
 is_desk d (Worker v) = false
 is_desk d (Desk e) = e == d
 
+-- a holder that may stand before another: workers ascend, and behind them desks
+abbrev pub IsNotAfter : Holder → Holder → Type 0
+IsNotAfter (Worker v) (Worker w) = v ≤ w
+IsNotAfter (Worker v) (Desk d) = Unit {0}
+IsNotAfter (Desk d) (Worker w) = ⊥
+IsNotAfter (Desk d) (Desk e) = d ≤ e
+
 -- Each element of the pool is listed exactly once, and nothing else is; what is available and what is in use
 -- are the population; the count of a held element is the number of its holders, which is that of the holds of
--- all packets, and each holder stands there as often as its own packets hold the element; and no packet holds
--- an element that isn't listed as held.
+-- all packets, and each holder stands there as often as its own packets hold the element, workers before desks and
+-- both ascending; and no packet holds an element that isn't listed as held.
 pub record ListsEachOnce (s : Statement) : Type 0 where
   pub once : (i : ℕ) → i < s.population → listed s i ≡ 1
   pub none_else : (i : ℕ) → s.population ≤ i → listed s i ≡ 0
@@ -99,7 +107,23 @@ pub record ListsEachOnce (s : Statement) : Type 0 where
   pub ascending : IsStrictlyIncreasing (map (λ held. held.elem) s.held)
   pub held : All (λ held. 1 ≤ held.count) s.held
   pub holders : All (λ held. length held.holders ≡ held.count) s.held
+  pub in_order : All (λ held. AllPairs IsNotAfter held.holders) s.held
   pub counts : All (λ held. held.count ≡ packet_holds s held.elem) s.held
   pub by_worker : All (λ held. (w : ℕ) → count_by (is_worker w) held.holders ≡ worker_holds s w held.elem) s.held
   pub by_desk : All (λ held. (d : ℕ) → count_by (is_desk d) held.holders ≡ desk_holds s d held.elem) s.held
   pub unheld : (i : ℕ) → bag (map (λ held. held.elem) s.held) i ≡ 0 → packet_holds s i ≡ 0
+
+-- one packet is before another: its worker has the lower number, or it stands in a lower slot of the same one
+abbrev pub StandsBefore : PlacedPacket → PlacedPacket → Type 0
+StandsBefore one other = (one.worker < other.worker) ⊎ ((one.worker ≡ other.worker) × (one.slot < other.slot))
+
+-- The statement of a pool within these limits has as many elements as they say, and a cache for each worker. Its
+-- packets ascend by worker and slot, and those on desks by desk, so that no two stand in one slot or on one desk;
+-- and each of these slots and desks is one of the pool's.
+pub record PlacesEachOnce (l : Limits) (s : Statement) : Type 0 where
+  pub population : s.population ≡ l.population
+  pub caches : length s.caches ≡ l.workers
+  pub packets : AllPairs StandsBefore s.packets
+  pub slots : All (λ placed. (1 ≤ placed.worker) × (placed.worker ≤ l.workers) × (placed.slot < slots)) s.packets
+  pub desks : AllPairs (λ one other. one.desk < other.desk) s.desks
+  pub on_desks : All (λ packet. packet.desk < l.desks) s.desks

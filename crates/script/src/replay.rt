@@ -2,7 +2,7 @@ ghost use Rattle.std.specs.Prelude.{◌≡◌, None, IfOk, IfErr, OnOk};
 ghost use Rattle.script.specs.Replay.{replies_to, end_of, new_run, act_as_both, act_of as changes_to, all_named, chain_as, obey as obeyed};
 ghost use Rattle.script.specs.Standing.{run_of, fresh_run};
 ghost use Rattle.script.specs.Stands.{stands_in};
-ghost use Rattle.script.specs.Statements.{statement_of, ListsEachOnce};
+ghost use Rattle.script.specs.Statements.{statement_of, ListsEachOnce, PlacesEachOnce};
 
 use crate::commands::{Command, Line, Name, Script};
 use crate::names::Names;
@@ -22,8 +22,9 @@ use std::alloc::{AllocError, Global};
 pub fn replay(alloc: Global, script: &Script) -> Result<(Vec<(u32, Reply)>, Statement), Refusal>
     ensures replies { IfOk result (λ r. r.0.items ≡ replies_to script.now.lines (new_run script.now.limits)) }
     ensures statement { IfOk result (λ r. r.1 ≡ statement_of (end_of script.now.lines (new_run script.now.limits)).pool) }
-    // Above the model: no element is missing, and none is anywhere twice.
+    // Above the model: no element is missing, and none is anywhere twice; and no two packets stand in one place.
     ensures once { IfOk result (λ r. ListsEachOnce r.1) }
+    ensures places { IfOk result (λ r. PlacesEachOnce script.now.limits r.1) }
     ensures memory { IfErr result (λ e. e ≡ Refusal.OutOfMemory) }
 {
     let mut pool = SitePool::make(alloc, &script.limits)?;

@@ -1,4 +1,4 @@
-ghost use Rattle.std.specs.Prelude.{◌≡◌, ◌≤◌, ◌+◌, List, IfOk, IfErr};
+ghost use Rattle.std.specs.Prelude.{ℕ, ◌≡◌, ◌<◌, ◌≤◌, ◌+◌, List, length, IfOk, IfErr};
 ghost use Rattle.commons.specs.Bounds.{IsPool};
 ghost use Rattle.commons.specs.Lists.{IsMakeCause};
 ghost use Rattle.commons.specs.Calls.{Call};
@@ -38,7 +38,7 @@ impl Model for SitePool {
 }
 
 impl SitePool {
-    ghost use Rattle.script.specs.Pool.{new_pool};
+    ghost use Rattle.script.specs.Pool.{member_at, new_pool};
     ghost use Rattle.script.specs.PacketModel.{perform};
     ghost use Rattle.script.specs.Statements.{statement_of};
 
@@ -53,6 +53,17 @@ impl SitePool {
         let site = PlainSite::make(alloc, limits)?;
         let members = no_packets(alloc, limits)?;
         Ok(SitePool { site, members })
+    }
+
+    /// A law of each pool: its limits are in range, it has as many workers and as many desks as they
+    /// say, and the workers are numbered from 1. It does nothing.
+    pub fn fits_its_limits(&self)
+        ensures range { IsPool self.now.limits }
+        ensures workers { length self.now.members ≡ self.now.limits.workers }
+        ensures numbers { (n : ℕ) → n < self.now.limits.workers → (member_at self.now n).number ≡ n + 1 }
+        ensures desks { length self.now.shared.desks ≡ self.now.limits.desks }
+    {
+        let _known = &self.members;
     }
 
     /// Ends the pool and gives nothing back.

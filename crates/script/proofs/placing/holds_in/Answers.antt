@@ -1,6 +1,5 @@
-use Rattle.std.proofs.Common.{None, arith}
+use Rattle.std.proofs.Common.{arith}
 use Rattle.commons.specs.Packets.{no_seg}
-use Rattle.commons.specs.declared.packet.Seg.{Seg}
 use Rattle.commons.proofs.Bags.{bag-nil}
 use Rattle.commons.proofs.PacketBags.{bag-holds_suc}
 use Rattle.script.proofs.placing.holds_in.Goals as goal
