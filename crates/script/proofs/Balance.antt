@@ -22,7 +22,7 @@ use Rattle.mbuf.specs.Sharing.{clonable, detachable, pair_in}
 use Rattle.mbuf.specs.Lengths.{appended, prepended, adjusted, trimmed}
 use Rattle.script.specs.Pool.{Shared, Pool, held_by, held_of, member_at, with_member, nobody, new_members, new_pool}
 use Rattle.script.specs.CacheModel.{get}
-use Rattle.script.specs.PacketModel.{fill_slot, alloc_in, fill_slots, alloc_bulk, resize_to, resize_in, chain_in, free_in, flush_member, without_packet, held_elsewhere, act_on, perform}
+use Rattle.script.specs.PacketModel.{fill_slot, alloc_in, fill_slots, alloc_bulk, resize_to, resize_in, chain_in, free_in, flush_member, without_packet, held_elsewhere, act_on, after_acts, perform}
 use Rattle.script.specs.Replay.{Run, end_of}
 use Rattle.script.proofs.CacheBags.{IsGot, get-IsGot, flush-IsPut}
 use Rattle.mbuf.proofs.ChainLemmas.{KeepsHolds-chain}
@@ -30,7 +30,7 @@ use Rattle.mbuf.proofs.FreeLemmas.{holds_stood}
 use Rattle.commons.proofs.PacketBags.{held_in-empty, held_in-set, held_in-slot, stands_within}
 use Rattle.mbuf.proofs.OwnLemmas.{free_slot-is}
 use Rattle.mbuf.proofs.ResizeLemmas.{SamePacketHolds, appended_holds, prepended_holds, adjusted_holds, trimmed_holds}
-use Rattle.script.proofs.CommandsKeep.{end_of-keeps}
+use Rattle.script.proofs.CommandsKeep.{after_acts-keeps, end_of-keeps}
 use Rattle.script.proofs.DeskNear.{offer_in-near, take_off-near}
 use Rattle.script.proofs.DesksKept.{alloc_in-desks, alloc_bulk-desks, clone_at-desks, detach_from-desks, flush-desks, free_in-desks}
 use Rattle.script.proofs.SharedNear.{attach_to-near, clone_at-near, detach_from-near}
@@ -224,6 +224,10 @@ perform-balanced pool w act b = elim (cases_Bool (nat_le 1 w && nat_le w (length
 -- so do all lines
 pub end_of-balanced : (lines : List Line) (run : Run) → IsBalanced run.pool → IsBalanced (end_of lines run).pool
 end_of-balanced = end_of-keeps IsBalanced perform-balanced
+
+-- and acts that no script commands
+pub after_acts-balanced : (acts : List (ℕ × Act)) (pool : Pool) → IsBalanced pool → IsBalanced (after_acts acts pool)
+after_acts-balanced = after_acts-keeps IsBalanced perform-balanced
 
 -- new members hold nothing
 held_by-new : (l : Limits) (number n i : ℕ) → held_by (new_members l number n) i ≡ 0

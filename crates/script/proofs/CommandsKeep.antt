@@ -6,7 +6,7 @@ use Rattle.script.specs.declared.commands.Command.{Command}
 use Rattle.script.specs.declared.commands.Command.TheVariants as command
 use Rattle.script.specs.declared.commands.Line.{Line}
 use Rattle.script.specs.Pool.{Pool}
-use Rattle.script.specs.PacketModel.{perform}
+use Rattle.script.specs.PacketModel.{perform, after_acts}
 use Rattle.script.specs.Replay.{Run, free_as, act_of, act_as, act_as_both, chain_as, clone_as, offer_as, obey, end_of}
 
 module _ (P : Pool → Type 0) (kept : (pool : Pool) (w : ℕ) (act : Act) → P pool → P (perform pool w act).1) where
@@ -55,3 +55,8 @@ module _ (P : Pool → Type 0) (kept : (pool : Pool) (w : ℕ) (act : Act) → P
   pub end_of-keeps : (lines : List Line) (run : Run) → P run.pool → P (end_of lines run).pool
   end_of-keeps [] run p = p
   end_of-keeps (line ∷ lines) run p = end_of-keeps lines (obey line.worker line.command run).1 (obey-keeps line.worker line.command run p)
+
+  -- so do acts that no script commands
+  pub after_acts-keeps : (acts : List (ℕ × Act)) (pool : Pool) → P pool → P (after_acts acts pool)
+  after_acts-keeps [] pool p = p
+  after_acts-keeps (done ∷ more) pool p = after_acts-keeps more (perform pool done.0 done.1).1 (kept pool done.0 done.1 p)

@@ -25,13 +25,15 @@ use Rattle.script.specs.declared.statement.Holder.{Holder}
 use Rattle.script.specs.declared.statement.Holder.TheVariants.{Worker, Desk}
 use Rattle.commons.specs.Packets.{holds_of_packet, holds_in_slot, held_in}
 use Rattle.mbuf.specs.Members.{Member}
-use Rattle.script.specs.Pool.{Pool, held_by, held_of}
+use Rattle.mbuf.specs.declared.acts.Act.{Act}
+use Rattle.script.specs.Pool.{Pool, held_by, held_of, new_pool}
+use Rattle.script.specs.PacketModel.{after_acts}
 use Rattle.script.specs.Replay.{new_run, end_of}
 use Rattle.script.specs.Statements.{packets_from, packets_of, desks_from, workers_of, desks_of, holders_of, held_entry, held_elements, statement_of, listed, packet_holds, is_worker, is_desk, worker_holds, desk_holds, IsNotAfter, ListsEachOnce}
 use Rattle.script.proofs.HeldBags.{IsBalanced}
-use Rattle.script.proofs.Balance.{at_most_one, range-bag, end_of-balanced, new_pool-balanced}
+use Rattle.script.proofs.Balance.{after_acts-balanced, at_most_one, range-bag, end_of-balanced, new_pool-balanced}
 use Rattle.script.proofs.HoldersOrder.{holders_of-order}
-use Rattle.script.proofs.Numbered.{AreNumbered, replay-numbered}
+use Rattle.script.proofs.Numbered.{AreNumbered, acts-numbered, replay-numbered}
 
 -- the elements of the entries
 elems-entries : (members : List Member) (desks : List (Option (List Seg))) (xs : List ℕ) → map (λ (held : Held). held.elem) (map (held_entry members desks) xs) ≡ xs
@@ -333,3 +335,7 @@ lists_each_once pool b numbers =
 -- after any commands a new pool's statement lists each element exactly once
 pub replay_lists_each_once : (l : Limits) → IsPool l → (lines : List Line) → ListsEachOnce (statement_of (end_of lines (new_run l)).pool)
 replay_lists_each_once l p lines = lists_each_once (end_of lines (new_run l)).pool (end_of-balanced lines (new_run l) (new_pool-balanced l)) (replay-numbered l lines).numbers
+
+-- and so does that of a new pool after any acts
+pub acts_list_each_once : (l : Limits) → IsPool l → (acts : List (ℕ × Act)) → ListsEachOnce (statement_of (after_acts acts (new_pool l)))
+acts_list_each_once l p acts = lists_each_once (after_acts acts (new_pool l)) (after_acts-balanced acts (new_pool l) (new_pool-balanced l)) (acts-numbered l acts).numbers

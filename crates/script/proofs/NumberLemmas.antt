@@ -7,7 +7,7 @@ use Rattle.std.proofs.lemmas.Option.{cond_some}
 use Rattle.std.proofs.lemmas.List.{length-append, length_push, take_more, take_all, take-append-drop}
 use Rattle.std.proofs.lemmas.List.Folds.{list_all_at}
 use Rattle.std.proofs.Math.Nat.{mul-le-mul_left, pow-suc, pow-le-pow_right}
-use Rattle.script.specs.Numbers.{IsDigit, value_of, IsNumber}
+use Rattle.script.specs.Numbers.{IsDigit, digits_value, IsNumber}
 use Rattle.script.specs.Names.{IsLetter, IsName}
 use Rattle.script.specs.Reading.{is_digit, is_number, number_at, is_letter, is_name_word}
 
@@ -42,11 +42,11 @@ front_tests word = leb 1 (length word) && leb (length word) 20
 pub number_from : (word : List ℕ) (value : ℕ) → number_at word ≡ Some value → IsNumber word value
 unfolding number_at
 number_from word value e =
-    let got = cond_some (is_number word) (value_of word) value e in
-    let a = and_parts (front_tests word && list_all is_digit word) (ltb (value_of word) (2 ^ 64)) got.0 in
+    let got = cond_some (is_number word) (digits_value word) value e in
+    let a = and_parts (front_tests word && list_all is_digit word) (ltb (digits_value word) (2 ^ 64)) got.0 in
     let b = and_parts (front_tests word) (list_all is_digit word) a.0 in
     let c = and_parts (leb 1 (length word)) (leb (length word) 20) b.0 in
-    let below = ltb-true (value_of word) (2 ^ 64) a.1 in
+    let below = ltb-true (digits_value word) (2 ^ 64) a.1 in
     record {
       some = leb-true 1 (length word) c.0;
       few = leb-true (length word) 20 c.1;
@@ -58,51 +58,51 @@ number_from word value e =
 pub number_is : (word : List ℕ) (value : ℕ) → IsNumber word value → number_at word ≡ Some value
 unfolding number_at
 number_is word value h =
-    let below : value_of word < 2 ^ 64 = rw (← h.value_is) h.fits in
+    let below : digits_value word < 2 ^ 64 = rw (← h.value_is) h.fits in
     let c = and_from (leb 1 (length word)) (leb (length word) 20) (le-leb 1 (length word) h.some) (le-leb (length word) 20 h.few) in
     let b = and_from (front_tests word) (list_all is_digit word) c (all_to is_digit IsDigit (λ byte d. within_to 48 57 byte d) word h.digits) in
-    let a = and_from (front_tests word && list_all is_digit word) (ltb (value_of word) (2 ^ 64)) b (lt-ltb (value_of word) (2 ^ 64) below) in
-    cond-true (is_number word) (Some (value_of word)) None a ∙ ap (λ (n : ℕ). Some n) (sym h.value_is)
+    let a = and_from (front_tests word && list_all is_digit word) (ltb (digits_value word) (2 ^ 64)) b (lt-ltb (digits_value word) (2 ^ 64) below) in
+    cond-true (is_number word) (Some (digits_value word)) None a ∙ ap (λ (n : ℕ). Some n) (sym h.value_is)
 
 -- one digit more
-value_of-push : (digits : List ℕ) (digit : ℕ) → value_of (digits ++ digit ∷ []) ≡ value_of digits * 10 + (digit - 48)
-value_of-push [] digit = omega arith
-value_of-push (d ∷ digits) digit =
+digits_value-push : (digits : List ℕ) (digit : ℕ) → digits_value (digits ++ digit ∷ []) ≡ digits_value digits * 10 + (digit - 48)
+digits_value-push [] digit = omega arith
+digits_value-push (d ∷ digits) digit =
     let more : length (digits ++ digit ∷ []) ≡ suc (length digits) = omega (arith, length_push digits digit) in
     let wide : 10 ^ suc (length digits) ≡ 10 ^ length digits * 10 = pow-suc 10 (length digits) in
-    rw (more, wide, value_of-push digits digit) (regroup (d - 48) (10 ^ length digits) (value_of digits) (digit - 48))
+    rw (more, wide, digits_value-push digits digit) (regroup (d - 48) (10 ^ length digits) (digits_value digits) (digit - 48))
 
-pub value_of-more : (word : List ℕ) (i : ℕ) → i < length word → value_of (take (i + 1) word) ≡ value_of (take i word) * 10 + (get_or word i 0 - 48)
-value_of-more word i lt = ap value_of (take_more word i 0 lt) ∙ value_of-push (take i word) (get_or word i 0)
+pub digits_value-more : (word : List ℕ) (i : ℕ) → i < length word → digits_value (take (i + 1) word) ≡ digits_value (take i word) * 10 + (get_or word i 0 - 48)
+digits_value-more word i lt = ap digits_value (take_more word i 0 lt) ∙ digits_value-push (take i word) (get_or word i 0)
 
 -- more digits make no less
-value_of-front : (front back : List ℕ) → value_of front ≤ value_of (front ++ back)
-value_of-front [] back = omega arith
-value_of-front (d ∷ front) back =
+digits_value-front : (front back : List ℕ) → digits_value front ≤ digits_value (front ++ back)
+digits_value-front [] back = omega arith
+digits_value-front (d ∷ front) back =
     let long : length front ≤ length (front ++ back) = omega (arith, length-append front back) in
-    front_le (d - 48) (10 ^ length front) (10 ^ length (front ++ back)) (value_of front) (value_of (front ++ back)) (pow-le-pow_right (let ten : 0 < 10 = omega arith in ten) long) (value_of-front front back)
+    front_le (d - 48) (10 ^ length front) (10 ^ length (front ++ back)) (digits_value front) (digits_value (front ++ back)) (pow-le-pow_right (let ten : 0 < 10 = omega arith in ten) long) (digits_value-front front back)
 
-pub value_of-take : (word : List ℕ) (i : ℕ) → value_of (take i word) ≤ value_of word
-value_of-take word i = let h = value_of-front (take i word) (drop i word) in rw (take-append-drop i word) at h
+pub digits_value-take : (word : List ℕ) (i : ℕ) → digits_value (take i word) ≤ digits_value word
+digits_value-take word i = let h = digits_value-front (take i word) (drop i word) in rw (take-append-drop i word) at h
 
 -- a number too great has no value
-pub number_too_great : (word : List ℕ) (i : ℕ) → 2 ^ 64 ≤ value_of (take i word) → number_at word ≡ None
+pub number_too_great : (word : List ℕ) (i : ℕ) → 2 ^ 64 ≤ digits_value (take i word) → number_at word ≡ None
 unfolding number_at
 number_too_great word i great =
-    cond-false (is_number word) (Some (value_of word)) None (and_right (front_tests word && list_all is_digit word) (ltb (value_of word) (2 ^ 64)) (le-ltb (value_of word) (2 ^ 64) (omega (arith, value_of-take word i, great))))
+    cond-false (is_number word) (Some (digits_value word)) None (and_right (front_tests word && list_all is_digit word) (ltb (digits_value word) (2 ^ 64)) (le-ltb (digits_value word) (2 ^ 64) (omega (arith, digits_value-take word i, great))))
 
 pub number_with_other : (word : List ℕ) (i : ℕ) → i < length word → is_digit (get_or word i 0) ≡ false → number_at word ≡ None
 unfolding number_at
 number_with_other word i lt other =
-    cond-false (is_number word) (Some (value_of word)) None (and_left (front_tests word && list_all is_digit word) (ltb (value_of word) (2 ^ 64)) (and_right (front_tests word) (list_all is_digit word) (list_all_at is_digit word i 0 lt other)))
+    cond-false (is_number word) (Some (digits_value word)) None (and_left (front_tests word && list_all is_digit word) (ltb (digits_value word) (2 ^ 64)) (and_right (front_tests word) (list_all is_digit word) (list_all_at is_digit word i 0 lt other)))
 
 pub number_of_length : (word : List ℕ) → (leb 1 (length word) && leb (length word) 20) ≡ false → number_at word ≡ None
 unfolding number_at
 number_of_length word e =
-    cond-false (is_number word) (Some (value_of word)) None (and_left (front_tests word && list_all is_digit word) (ltb (value_of word) (2 ^ 64)) (and_left (front_tests word) (list_all is_digit word) e))
+    cond-false (is_number word) (Some (digits_value word)) None (and_left (front_tests word && list_all is_digit word) (ltb (digits_value word) (2 ^ 64)) (and_left (front_tests word) (list_all is_digit word) e))
 
 -- a word of digits, as they were read one after another
-pub number_whole : (word : List ℕ) (value n : ℕ) → 1 ≤ length word → length word ≤ 20 → n ≡ length word → value < 2 ^ 64 → value ≡ value_of (take n word) → list_all is_digit (take n word) ≡ true → number_at word ≡ Some value
+pub number_whole : (word : List ℕ) (value n : ℕ) → 1 ≤ length word → length word ≤ 20 → n ≡ length word → value < 2 ^ 64 → value ≡ digits_value (take n word) → list_all is_digit (take n word) ≡ true → number_at word ≡ Some value
 number_whole word value n some few n_is fits value_is digits =
     let all : take n word ≡ word = take_all n word (omega (arith, n_is)) in
     number_is word value (record {

@@ -8,9 +8,9 @@ use Rattle.mbuf.specs.declared.acts.Act.{Act}
 use Rattle.mbuf.specs.Members.{Member, slots}
 use Rattle.script.specs.declared.commands.Line.{Line}
 use Rattle.script.specs.Pool.{Pool, held_of, member_at, nobody, new_members, new_pool}
-use Rattle.script.specs.PacketModel.{act_on, held_elsewhere, perform}
+use Rattle.script.specs.PacketModel.{act_on, after_acts, held_elsewhere, perform}
 use Rattle.script.specs.Replay.{new_run, end_of}
-use Rattle.script.proofs.CommandsKeep.{end_of-keeps}
+use Rattle.script.proofs.CommandsKeep.{after_acts-keeps, end_of-keeps}
 use Rattle.script.proofs.DeskStays.{desks_as_many}
 use Rattle.script.proofs.NewPools.{length-new_members}
 use Rattle.script.proofs.SlotsKept.{SameSlots, member_act-slots}
@@ -64,3 +64,6 @@ new_pool-numbered l = record {
 -- after any commands
 pub replay-numbered : (l : Limits) (lines : List Line) → IsNumbered l (end_of lines (new_run l)).pool
 replay-numbered l lines = end_of-keeps (IsNumbered l) (perform-numbered l) lines (new_run l) (new_pool-numbered l)
+
+pub acts-numbered : (l : Limits) (acts : List (ℕ × Act)) → IsNumbered l (after_acts acts (new_pool l))
+acts-numbered l acts = after_acts-keeps (IsNumbered l) (perform-numbered l) acts (new_pool l) (new_pool-numbered l)

@@ -10,10 +10,12 @@ use Rattle.mbuf.specs.Members.{Member, slots}
 use Rattle.script.specs.declared.commands.Line.{Line}
 use Rattle.script.specs.declared.statement.DeskPacket.{DeskPacket}
 use Rattle.script.specs.declared.statement.PlacedPacket.{PlacedPacket}
-use Rattle.script.specs.Pool.{Pool}
+use Rattle.mbuf.specs.declared.acts.Act.{Act}
+use Rattle.script.specs.Pool.{Pool, new_pool}
+use Rattle.script.specs.PacketModel.{after_acts}
 use Rattle.script.specs.Replay.{new_run, end_of}
 use Rattle.script.specs.Statements.{packets_from, packets_of, desks_from, statement_of, StandsBefore, PlacesEachOnce}
-use Rattle.script.proofs.Numbered.{AreNumbered, IsNumbered, replay-numbered}
+use Rattle.script.proofs.Numbered.{AreNumbered, IsNumbered, acts-numbered, replay-numbered}
 use Rattle.script.proofs.Pairs.{AllPairs-append, AllPairs-nil}
 
 -- the packet of a worker in a slot from this one up to that one
@@ -99,3 +101,7 @@ places_each_once l pool b = record {
 -- after any commands a new pool's statement has each packet in a place of its own
 pub replay_places_each_once : (l : Limits) (lines : List Line) → PlacesEachOnce l (statement_of (end_of lines (new_run l)).pool)
 replay_places_each_once l lines = places_each_once l (end_of lines (new_run l)).pool (replay-numbered l lines)
+
+-- and so does that of a new pool after any acts
+pub acts_place_each_once : (l : Limits) (acts : List (ℕ × Act)) → PlacesEachOnce l (statement_of (after_acts acts (new_pool l)))
+acts_place_each_once l acts = places_each_once l (after_acts acts (new_pool l)) (acts-numbered l acts)

@@ -161,3 +161,8 @@ perform pool w act =
     if nat_le 1 w && nat_le w (length pool.members)
     then (let done = act_on pool (w - 1) act in (done.0, with_member pool (w - 1) done.1 done.2))
     else (reply.Refused StrangerShare, pool)
+
+-- the pool once workers of these numbers have done these acts, one after another
+abbrev pub after_acts : List (ℕ × Act) → Pool → Pool
+after_acts [] pool = pool
+after_acts (done ∷ more) pool = after_acts more (perform pool done.0 done.1).1

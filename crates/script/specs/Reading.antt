@@ -15,7 +15,7 @@ use Rattle.script.specs.declared.command_line.Verb.TheVariants as verbs
 use Rattle.script.specs.declared.commands.Key.{Key}
 use Rattle.script.specs.declared.commands.Key.TheVariants.{Cache, Workers, Desks, Buf, Refs, Tries, Start}
 use Rattle.script.specs.declared.pool_line.Settings.{Settings}
-use Rattle.script.specs.Numbers.{value_of}
+use Rattle.script.specs.Numbers.{digits_value}
 use Rattle.script.specs.PoolLine.{spelled, same_key}
 use Rattle.script.specs.Grammar.{State, start, with_command}
 
@@ -81,11 +81,11 @@ is_digit byte = nat_le 48 byte && nat_le byte 57
 -- whether a word is 1 to 20 digits with a value below 2^64
 abbrev pub is_number : List ℕ → Bool
 is_number word =
-    nat_le 1 (length word) && nat_le (length word) 20 && list_all is_digit word && nat_lt (value_of word) (2 ^ 64)
+    nat_le 1 (length word) && nat_le (length word) 20 && list_all is_digit word && nat_lt (digits_value word) (2 ^ 64)
 
 -- the number that a word spells
 unfoldable pub number_at : List ℕ → Option ℕ
-number_at word = if is_number word then Some (value_of word) else None
+number_at word = if is_number word then Some (digits_value word) else None
 
 -- whether a byte is `a` to `z`
 abbrev pub is_letter : ℕ → Bool

@@ -17,8 +17,8 @@ ghost use Rattle.mbuf.specs.Members.{Member};
 ghost use Rattle.mbuf.specs.PacketRules.{free_slot};
 ghost use Rattle.script.specs.CacheLaw.{Meets};
 ghost use Rattle.script.specs.CacheModel.{get as cache_get, put as cache_put, flush as cache_flush};
-ghost use Rattle.script.specs.PacketModel.{offer, perform, take_off};
-ghost use Rattle.script.specs.Pool.{Pool, Shared};
+ghost use Rattle.script.specs.PacketModel.{after_acts, offer, perform, take_off};
+ghost use Rattle.script.specs.Pool.{Pool, Shared, new_pool};
 ghost use Rattle.script.specs.declared.commands.Line.{Line};
 ghost use Rattle.script.specs.Grammar.{IsScript, IsFirstFault, HasBadPool, IsSomeScript, HasSomeFault};
 ghost use Rattle.script.specs.Replay.{new_run, end_of};
@@ -101,4 +101,11 @@ pub fn each_element_is_listed_once()
 /// no two stand in one slot or on one desk, and each stands in a slot or on a desk of the pool.
 pub fn each_packet_has_a_place_of_its_own()
     ensures { (l : Limits) (lines : List Line) → PlacesEachOnce l (statement_of (end_of lines (new_run l)).pool) }
+{}
+
+/// For whoever lets workers act on a `SitePool` without a script: after any acts, by workers of any numbers, a
+/// new pool's statement lists each element exactly once, and each packet has a place of its own.
+pub fn acts_leave_each_element_in_one_place()
+    ensures once { (l : Limits) (acts : List (ℕ × Act)) → IsPool l → ListsEachOnce (statement_of (after_acts acts (new_pool l))) }
+    ensures places { (l : Limits) (acts : List (ℕ × Act)) → PlacesEachOnce l (statement_of (after_acts acts (new_pool l))) }
 {}

@@ -4,9 +4,9 @@ use Rattle.std.specs.List.{list_all}
 use Rattle.std.proofs.lemmas.Bool.{and_from}
 use Rattle.std.proofs.lemmas.Bool.Decides.{nat_tests}
 use Rattle.std.proofs.lemmas.List.Folds.{list_all_more}
-use Rattle.script.specs.Numbers.{value_of}
+use Rattle.script.specs.Numbers.{digits_value}
 use Rattle.script.specs.Reading.{is_digit}
-use Rattle.script.proofs.NumberLemmas.{number_too_great, number_with_other, number_of_length, number_whole, value_of-more}
+use Rattle.script.proofs.NumberLemmas.{number_too_great, number_with_other, number_of_length, number_whole, digits_value-more}
 use Rattle.script.proofs.number.number_of.Goals as goal
 
 pub returns-then-is_empty : goal.returns-then-is_empty
@@ -22,21 +22,21 @@ returns-in_err-digit c =
 pub returns-in_err-checked_mul : goal.returns-in_err-checked_mul
 returns-in_err-checked_mul c =
     let i = c.loop-byte.byte-index in
-    let more = value_of-more c.args.word.now i c.loop-byte-test.true in
-    let great : 2 ^ 64 ≤ value_of (take (i + 1) c.args.word.now) = omega (arith, more, c.loop-byte.invariant.value_is, c.in_err-checked_mul.ensures) in
+    let more = digits_value-more c.args.word.now i c.loop-byte-test.true in
+    let great : 2 ^ 64 ≤ digits_value (take (i + 1) c.args.word.now) = omega (arith, more, c.loop-byte.invariant.value_is, c.in_err-checked_mul.ensures) in
     c.from_residual-in_err-checked_mul.ensures ∙ sym (number_too_great c.args.word.now (i + 1) great)
 
 pub returns-in_err-value : goal.returns-in_err-value
 returns-in_err-value c =
     let i = c.loop-byte.byte-index in
-    let more = value_of-more c.args.word.now i c.loop-byte-test.true in
-    let great : 2 ^ 64 ≤ value_of (take (i + 1) c.args.word.now) = omega (arith, more, c.loop-byte.invariant.value_is, c.in_ok-checked_mul.ensures, c.in_ok-digit.ensures.value, c.in_err-value.ensures) in
+    let more = digits_value-more c.args.word.now i c.loop-byte-test.true in
+    let great : 2 ^ 64 ≤ digits_value (take (i + 1) c.args.word.now) = omega (arith, more, c.loop-byte.invariant.value_is, c.in_ok-checked_mul.ensures, c.in_ok-digit.ensures.value, c.in_err-value.ensures) in
     c.from_residual-in_err-value.ensures ∙ sym (number_too_great c.args.word.now (i + 1) great)
 
 pub loop-byte-preserved : goal.loop-byte-preserved
 loop-byte-preserved c =
     let i = c.loop-byte.byte-index in
-    let more = value_of-more c.args.word.now i c.loop-byte-test.true in
+    let more = digits_value-more c.args.word.now i c.loop-byte-test.true in
     record {
       fits = omega (arith, c.in_ok-value.ensures);
       value_is = omega (arith, more, c.loop-byte.invariant.value_is, c.in_ok-checked_mul.ensures, c.in_ok-digit.ensures.value, c.in_ok-value.ensures);
