@@ -38,12 +38,16 @@ offer_in-met (Some packet) slot desk m after s t met = elim (cases_Bool (nat_le 
   | inr here ↦ (packet, refl, offer_onto-met (get_or s.desks desk None) packet slot desk m after s t refl (leb-false (length s.desks) desk here) (rw here at met))
 ]
 
+-- an offer on an empty desk of the pool
+pub offer-met : (slot desk : ℕ) (packet : List Seg) (m : Member) (s : Shared) → get_or m.table slot None ≡ Some packet → desk < length s.desks → get_or s.desks desk None ≡ None → (offer slot desk m s).0 ≡ Offered
+offer-met slot desk packet m s there here empty = rw (there, lt-leb (length s.desks) desk here, empty) refl
+
 -- a take off a desk of the pool that has this packet
 pub take_off-met : (desk free : ℕ) (packet : List Seg) (taker : Member) (t : Shared) → get_or t.desks desk None ≡ Some packet → free_slot taker.table ≡ Some free →
     take_off desk taker t ≡ (Taken free (length packet) (pkt_len packet), record taker { table = set taker.table free (Some packet) }, record t { desks = set t.desks desk None })
 take_off-met desk free packet taker t there e = rw (lt-leb (length t.desks) desk (stands_within t.desks desk packet there), e, there) refl
 
--- and an offer on it
+-- an offer on a desk that has one
 pub offer-taken : (slot desk : ℕ) (packet other : List Seg) (m : Member) (s : Shared) → get_or s.desks desk None ≡ Some packet → get_or m.table slot None ≡ Some other → offer slot desk m s ≡ (Refused DeskTaken, m, s)
 offer-taken slot desk packet other m s there e = rw (e, lt-leb (length s.desks) desk (stands_within s.desks desk packet there), there) refl
 

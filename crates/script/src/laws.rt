@@ -1,6 +1,6 @@
 //! Laws of the grammar of scripts, of the reference model's caches and desks, and of each replay.
 
-ghost use Rattle.std.specs.Prelude.{◌≡◌, ◌≢◌, ℕ, ◌⊎◌, List, length, slice_index_or, slice_set, None, Some, Result};
+ghost use Rattle.std.specs.Prelude.{◌≡◌, ◌≢◌, ◌<◌, ℕ, ◌⊎◌, List, length, slice_index_or, slice_set, None, Some, Result};
 ghost use Rattle.commons.specs.Bounds.{IsPool};
 ghost use Rattle.commons.specs.Calls.{Call};
 ghost use Rattle.commons.specs.declared.limits.Limits.{Limits};
@@ -63,11 +63,14 @@ pub fn the_model_keeps_the_cache_rules()
         Flushes cache calls answer left → Meets s calls t → (answer, left, t) ≡ cache_flush cache s }
 {}
 
-/// A desk gives what was left on it. Where an offer is met, the slot is free afterwards, and the packet that stood in
-/// it is on the desk. The next take off this desk, by whatever worker, is met where the worker has a free slot: it
-/// gives the very segments that were offered, into the lowest free slot, and leaves the stack and all desks as they
-/// were before the offer. To a worker that has none it is refused `PacketsFull`, and nothing changes.
+/// A desk gives what was left on it. An offer of a packet on an empty desk of the pool is met. Where an offer is met,
+/// the slot is free afterwards, and the packet that stood in it is on the desk. The next take off this desk, by
+/// whatever worker, is met where the worker has a free slot: it gives the very segments that were offered, into the
+/// lowest free slot, and leaves the stack and all desks as they were before the offer. To a worker that has none it is
+/// refused `PacketsFull`, and nothing changes.
 pub fn a_desk_gives_what_was_left_on_it()
+    ensures met { (slot desk : ℕ) (packet : List Seg) (m : Member) (s : Shared) → slice_index_or m.table slot None ≡ Some packet →
+        desk < length s.desks → slice_index_or s.desks desk None ≡ None → (offer slot desk m s).0 ≡ Offered }
     ensures left { (slot desk : ℕ) (m after : Member) (s t : Shared) → offer slot desk m s ≡ (Offered, after, t) →
         (packet : List Seg) × (slice_index_or m.table slot None ≡ Some packet) × (slice_index_or after.table slot None ≡ None) × (slice_index_or t.desks desk None ≡ Some packet) }
     ensures taken { (slot desk free : ℕ) (packet : List Seg) (m after taker : Member) (s t : Shared) → offer slot desk m s ≡ (Offered, after, t) →
