@@ -42,7 +42,7 @@ impl SitePool {
     ghost use Rattle.script.specs.PacketModel.{perform};
     ghost use Rattle.script.specs.Statements.{statement_of};
 
-    /// A new pool: all elements in the common list, and its workers have nothing.
+    /// A new pool: all elements in the common list; its workers have nothing, and its desks are empty.
     ///
     /// Refused `BadPool` where the limits are out of range, and `OutOfMemory` where memory was
     /// refused.
@@ -82,16 +82,17 @@ impl SitePool {
     /// `SamePacket` or `TooManySegs`, an attach these or `NotDirect`, `InUse` or `RefSpent`, a
     /// detach `TooManySegs` or `NotIndirect`, a clone as a new packet is or `RefSpent`, and an offer
     /// `NoSuchDesk` or `DeskTaken`. A take is refused `NoSuchDesk`, `PacketsFull` or `DeskEmpty`.
-    /// Nothing changes then, but that after a refused clone the free elements may be shared out
-    /// otherwise between cache and stack. A push that the stack refuses is no refusal of a free, a
+    /// Nothing changes then, but that after a refused clone the free elements may stand in another
+    /// order, or be shared out otherwise between cache and stack, and the modification count may be
+    /// higher. A push that the stack refuses is no refusal of a free, a
     /// detach or a flush: `put_off` and `PutOff` tell of it, and the elements stay in the cache. A
     /// flush is never refused.
     ///
     /// After rte_mbuf.h, `rte_pktmbuf_alloc`, `rte_pktmbuf_alloc_bulk`, `rte_pktmbuf_free`,
     /// `rte_pktmbuf_append`, `rte_pktmbuf_prepend`, `rte_pktmbuf_adj`, `rte_pktmbuf_trim`,
     /// `rte_pktmbuf_chain`, `rte_pktmbuf_attach`, `rte_pktmbuf_detach`, `rte_pktmbuf_clone` and
-    /// `rte_mbuf_refcnt_read`, and rte_mempool.h, `rte_mempool_cache_flush` (DPDK 21.11). Desks are
-    /// our own.
+    /// `rte_mbuf_refcnt_read`, `rte_pktmbuf_pkt_len`, the field `nb_segs`, and rte_mempool.h,
+    /// `rte_mempool_cache_flush` (DPDK 21.11). Desks are our own.
     pub fn perform(&mut self, worker: u32, act: Act) -> Reply
         ensures { (result, self.new) ≡ perform self.old worker act }
     {
