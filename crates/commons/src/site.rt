@@ -11,7 +11,6 @@ use crate::refusal::{Lowered, Refusal};
 use crate::seq::Seq;
 use std::alloc::{AllocError, Global};
 use std::marker::Model;
-use std::mem;
 
 /// The modification count at which the head is spent: the greatest of 48 bits.
 pub const SPENT: u64 = 281_474_976_710_655;
@@ -254,10 +253,10 @@ impl PlainSite {
         if self.desks[desk].is_some() {
             return Err((Refusal::DeskTaken, packet));
         }
+        let packet = self.desks[desk].insert(packet);
         let row = &mut self.holds[worker as usize - 1];
         end_holds(row, &mut self.headers, worker, packet.segs());
         set_owner(&mut self.headers, packet.segs(), None);
-        self.desks[desk] = Some(packet);
         Ok(())
     }
 
@@ -277,14 +276,12 @@ impl PlainSite {
         if desk >= self.desks.len() {
             return Err(Refusal::NoSuchDesk);
         }
-        match mem::take(&mut self.desks[desk]) {
-            None => Err(Refusal::DeskEmpty),
-            Some(packet) => {
-                add_holds(&mut self.holds[worker as usize - 1], packet.segs());
-                set_owner(&mut self.headers, packet.segs(), Some(worker));
-                Ok(packet)
-            }
-        }
+        let Some(packet) = &self.desks[desk] else {
+            return Err(Refusal::DeskEmpty);
+        };
+        add_holds(&mut self.holds[worker as usize - 1], packet.segs());
+        set_owner(&mut self.headers, packet.segs(), Some(worker));
+        self.desks[desk].take().ok_or(Refusal::DeskEmpty)
     }
 }
 

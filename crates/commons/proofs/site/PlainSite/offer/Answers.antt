@@ -39,7 +39,7 @@ set_owner-requires c =
     let t : IsTable s = c.self.invariant.table in
     let here : c.args.desk < length s.desks = omega (arith, c.if-desk-len.false, c.len.ensures, c.self.inside.desks.ok) in
     let h = offered_in s c.args.self.now c.args.worker c.args.desk c.args.packet c.index.result.now c.self.view_is t c.requires.low c.requires.high c.requires.own here c.index.ensures (sym c.is_some.ensures ∙ c.if-is_some.false) in
-    rw c.segs-2.ensures.segs (λ k d l. omega (arith, is_below s c.args.worker c.args.packet t c.requires.low h.high h.own k d l, c.end_holds.ensures.headers_len, c.end_holds.new.headers.ok))
+    rw (c.segs-2.ensures.segs ∙ c.insert-packet.ensures.value) (λ k d l. omega (arith, is_below s c.args.worker c.args.packet t c.requires.low h.high h.own k d l, c.end_holds.ensures.headers_len, c.end_holds.new.headers.ok))
 
 pub invariant_of-self : goal.invariant_of-self
 invariant_of-self c =
@@ -48,9 +48,9 @@ invariant_of-self c =
     let here : c.args.desk < length s.desks = omega (arith, c.if-desk-len.false, c.len.ensures, c.self.inside.desks.ok) in
     let h = offered_in s c.args.self.now c.args.worker c.args.desk c.args.packet c.index.result.now c.self.view_is t c.requires.low c.requires.high c.requires.own here c.index.ensures (sym c.is_some.ensures ∙ c.if-is_some.false) in
     let row = c.index_mut-row.ensures.value ∙ get_or_default s.holds (c.args.worker - 1) c.index_mut-row.result.now [] h.row in
-    let ended = rw (row, c.segs.ensures.segs) at c.end_holds.ensures in
+    let ended = rw (row, c.segs.ensures.segs ∙ c.insert-packet.ensures.value) at c.end_holds.ensures in
     record {
-      table = rw (c.set_owner.ensures.items, c.segs-2.ensures.segs)
+      table = rw (c.insert-packet.ensures.value, c.set_owner.ensures.items, c.segs-2.ensures.segs ∙ c.insert-packet.ensures.value)
           (table_offered s c.args.worker c.args.desk c.args.packet c.end_holds.new.row c.end_holds.new.headers.items t c.requires.low h.high ended h.own h.here h.empty);
       room = c.self.invariant.room;
     }
@@ -62,8 +62,8 @@ returns-clause-did c =
     let here : c.args.desk < length s.desks = omega (arith, c.if-desk-len.false, c.len.ensures, c.self.inside.desks.ok) in
     let h = offered_in s c.args.self.now c.args.worker c.args.desk c.args.packet c.index.result.now c.self.view_is t c.requires.low c.requires.high c.requires.own here c.index.ensures (sym c.is_some.ensures ∙ c.if-is_some.false) in
     let row = c.index_mut-row.ensures.value ∙ get_or_default s.holds (c.args.worker - 1) c.index_mut-row.result.now [] h.row in
-    let ended = rw (row, c.segs.ensures.segs) at c.end_holds.ensures in
-    rw (sym c.self.view_is, c.set_owner.ensures.items, c.segs-2.ensures.segs)
+    let ended = rw (row, c.segs.ensures.segs ∙ c.insert-packet.ensures.value) at c.end_holds.ensures in
+    rw (sym c.self.view_is, c.insert-packet.ensures.value, c.set_owner.ensures.items, c.segs-2.ensures.segs ∙ c.insert-packet.ensures.value)
     (omega (arith, here, t.desks), h.empty, refl, less_offered s c.args.worker c.args.desk c.args.packet c.end_holds.new.row c.end_holds.new.headers.items t c.requires.low h.high ended h.own h.here h.empty)
 
 pub returns-clause-kept : goal.returns-clause-kept
@@ -73,8 +73,8 @@ returns-clause-kept c =
     let here : c.args.desk < length s.desks = omega (arith, c.if-desk-len.false, c.len.ensures, c.self.inside.desks.ok) in
     let h = offered_in s c.args.self.now c.args.worker c.args.desk c.args.packet c.index.result.now c.self.view_is t c.requires.low c.requires.high c.requires.own here c.index.ensures (sym c.is_some.ensures ∙ c.if-is_some.false) in
     let row = c.index_mut-row.ensures.value ∙ get_or_default s.holds (c.args.worker - 1) c.index_mut-row.result.now [] h.row in
-    let ended = rw (row, c.segs.ensures.segs) at c.end_holds.ensures in
-    rw (c.set_owner.ensures.items, c.segs-2.ensures.segs)
+    let ended = rw (row, c.segs.ensures.segs ∙ c.insert-packet.ensures.value) at c.end_holds.ensures in
+    rw (c.insert-packet.ensures.value, c.set_owner.ensures.items, c.segs-2.ensures.segs ∙ c.insert-packet.ensures.value)
     (table_offered s c.args.worker c.args.desk c.args.packet c.end_holds.new.row c.end_holds.new.headers.items t c.requires.low h.high ended h.own h.here h.empty)
 
 pub returns-clause-others : goal.returns-clause-others
@@ -84,6 +84,6 @@ returns-clause-others c =
     let here : c.args.desk < length s.desks = omega (arith, c.if-desk-len.false, c.len.ensures, c.self.inside.desks.ok) in
     let h = offered_in s c.args.self.now c.args.worker c.args.desk c.args.packet c.index.result.now c.self.view_is t c.requires.low c.requires.high c.requires.own here c.index.ensures (sym c.is_some.ensures ∙ c.if-is_some.false) in
     let row = c.index_mut-row.ensures.value ∙ get_or_default s.holds (c.args.worker - 1) c.index_mut-row.result.now [] h.row in
-    let ended = rw (row, c.segs.ensures.segs) at c.end_holds.ensures in
-    rw (sym c.self.view_is, c.set_owner.ensures.items, c.segs-2.ensures.segs)
+    let ended = rw (row, c.segs.ensures.segs ∙ c.insert-packet.ensures.value) at c.end_holds.ensures in
+    rw (sym c.self.view_is, c.insert-packet.ensures.value, c.set_owner.ensures.items, c.segs-2.ensures.segs ∙ c.insert-packet.ensures.value)
     (others_offered s c.args.worker c.args.desk c.args.packet c.end_holds.new.row c.end_holds.new.headers.items t c.requires.low h.high ended h.own h.here h.empty)

@@ -29,8 +29,8 @@ add_holds-requires-clause-below c =
     let s : Lists = lists_of c.self.inside in
     let t : IsTable s = c.self.invariant.table in
     let here : c.args.desk < length s.desks = omega (arith, c.if-desk-len.false, c.len.ensures, c.self.inside.desks.ok) in
-    let h = taken_in s c.args.self.now c.args.worker c.args.desk c.in-Some.packet c.index_mut.result.now c.self.view_is t c.requires.low c.requires.high here c.index_mut.ensures.value (sym c.take.ensures.value ∙ c.in-Some.is) in
-    let row = c.index_mut-in-Some.ensures.value ∙ get_or_default s.holds (c.args.worker - 1) c.index_mut-in-Some.result.now [] h.row in
+    let h = taken_in s c.args.self.now c.args.worker c.args.desk c.in-Some.packet c.index.result.now c.self.view_is t c.requires.low c.requires.high here c.index.ensures c.in-Some.is in
+    let row = c.index_mut.ensures.value ∙ get_or_default s.holds (c.args.worker - 1) c.index_mut.result.now [] h.row in
     rw (row, c.segs.ensures.segs) (λ i p. omega (arith, held_on_desk s c.args.desk c.in-Some.packet t here h.full i p, h.size))
 
 pub add_holds-requires-clause-few : goal.add_holds-requires-clause-few
@@ -38,8 +38,8 @@ add_holds-requires-clause-few c =
     let s : Lists = lists_of c.self.inside in
     let t : IsTable s = c.self.invariant.table in
     let here : c.args.desk < length s.desks = omega (arith, c.if-desk-len.false, c.len.ensures, c.self.inside.desks.ok) in
-    let h = taken_in s c.args.self.now c.args.worker c.args.desk c.in-Some.packet c.index_mut.result.now c.self.view_is t c.requires.low c.requires.high here c.index_mut.ensures.value (sym c.take.ensures.value ∙ c.in-Some.is) in
-    let row = c.index_mut-in-Some.ensures.value ∙ get_or_default s.holds (c.args.worker - 1) c.index_mut-in-Some.result.now [] h.row in
+    let h = taken_in s c.args.self.now c.args.worker c.args.desk c.in-Some.packet c.index.result.now c.self.view_is t c.requires.low c.requires.high here c.index.ensures c.in-Some.is in
+    let row = c.index_mut.ensures.value ∙ get_or_default s.holds (c.args.worker - 1) c.index_mut.result.now [] h.row in
     rw (row, c.segs.ensures.segs) (λ i. omega (arith, few_taken s c.args.worker c.args.desk c.in-Some.packet t c.requires.low h.high here h.full i, t.limited i, t.pool.refs))
 
 pub set_owner-requires : goal.set_owner-requires
@@ -47,53 +47,54 @@ set_owner-requires c =
     let s : Lists = lists_of c.self.inside in
     let t : IsTable s = c.self.invariant.table in
     let here : c.args.desk < length s.desks = omega (arith, c.if-desk-len.false, c.len.ensures, c.self.inside.desks.ok) in
-    let h = taken_in s c.args.self.now c.args.worker c.args.desk c.in-Some.packet c.index_mut.result.now c.self.view_is t c.requires.low c.requires.high here c.index_mut.ensures.value (sym c.take.ensures.value ∙ c.in-Some.is) in
-    let row = c.index_mut-in-Some.ensures.value ∙ get_or_default s.holds (c.args.worker - 1) c.index_mut-in-Some.result.now [] h.row in
-    rw c.segs-in-Some.ensures.segs (λ k d l. omega (arith, own_on_desk s c.args.desk c.in-Some.packet t here h.full k d l, c.self.inside.headers.ok))
+    let h = taken_in s c.args.self.now c.args.worker c.args.desk c.in-Some.packet c.index.result.now c.self.view_is t c.requires.low c.requires.high here c.index.ensures c.in-Some.is in
+    let row = c.index_mut.ensures.value ∙ get_or_default s.holds (c.args.worker - 1) c.index_mut.result.now [] h.row in
+    rw c.segs-2.ensures.segs (λ k d l. omega (arith, own_on_desk s c.args.desk c.in-Some.packet t here h.full k d l, c.self.inside.headers.ok))
 
-pub invariant_of-self-in-Some : goal.invariant_of-self-in-Some
-invariant_of-self-in-Some c =
+pub invariant_of-self : goal.invariant_of-self
+invariant_of-self c =
     let s : Lists = lists_of c.self.inside in
     let t : IsTable s = c.self.invariant.table in
     let here : c.args.desk < length s.desks = omega (arith, c.if-desk-len.false, c.len.ensures, c.self.inside.desks.ok) in
-    let h = taken_in s c.args.self.now c.args.worker c.args.desk c.in-Some.packet c.index_mut.result.now c.self.view_is t c.requires.low c.requires.high here c.index_mut.ensures.value (sym c.take.ensures.value ∙ c.in-Some.is) in
-    let row = c.index_mut-in-Some.ensures.value ∙ get_or_default s.holds (c.args.worker - 1) c.index_mut-in-Some.result.now [] h.row in
+    let h = taken_in s c.args.self.now c.args.worker c.args.desk c.in-Some.packet c.index.result.now c.self.view_is t c.requires.low c.requires.high here c.index.ensures c.in-Some.is in
+    let row = c.index_mut.ensures.value ∙ get_or_default s.holds (c.args.worker - 1) c.index_mut.result.now [] h.row in
     let sum = rw (row, c.segs.ensures.segs) at c.add_holds.ensures.holds in
     let len = rw row at c.add_holds.ensures.len in
     record {
-      table = rw (c.take.ensures.after, c.set_owner.ensures.items, c.segs-in-Some.ensures.segs) (table_taken s c.args.worker c.args.desk c.in-Some.packet c.add_holds.new.row t c.requires.low h.high sum len here h.full);
+      table = rw (c.take.ensures.after, c.set_owner.ensures.items, c.segs-2.ensures.segs) (table_taken s c.args.worker c.args.desk c.in-Some.packet c.add_holds.new.row t c.requires.low h.high sum len here h.full);
       room = c.self.invariant.room;
     }
 
-pub returns-in-Some-clause-did : goal.returns-in-Some-clause-did
-returns-in-Some-clause-did c =
+pub returns-clause-did : goal.returns-clause-did
+returns-clause-did c =
     let s : Lists = lists_of c.self.inside in
     let t : IsTable s = c.self.invariant.table in
     let here : c.args.desk < length s.desks = omega (arith, c.if-desk-len.false, c.len.ensures, c.self.inside.desks.ok) in
-    let h = taken_in s c.args.self.now c.args.worker c.args.desk c.in-Some.packet c.index_mut.result.now c.self.view_is t c.requires.low c.requires.high here c.index_mut.ensures.value (sym c.take.ensures.value ∙ c.in-Some.is) in
-    let row = c.index_mut-in-Some.ensures.value ∙ get_or_default s.holds (c.args.worker - 1) c.index_mut-in-Some.result.now [] h.row in
+    let h = taken_in s c.args.self.now c.args.worker c.args.desk c.in-Some.packet c.index.result.now c.self.view_is t c.requires.low c.requires.high here c.index.ensures c.in-Some.is in
+    let row = c.index_mut.ensures.value ∙ get_or_default s.holds (c.args.worker - 1) c.index_mut.result.now [] h.row in
     let sum = rw (row, c.segs.ensures.segs) at c.add_holds.ensures.holds in
     let len = rw row at c.add_holds.ensures.len in
-    rw (sym c.self.view_is, c.take.ensures.after, c.set_owner.ensures.items, c.segs-in-Some.ensures.segs) (omega (arith, here, t.desks), h.full, refl, more_taken s c.args.worker c.args.desk c.in-Some.packet c.add_holds.new.row t c.requires.low h.high sum len here h.full)
+    let there : c.take.result ≡ Some c.in-Some.packet = c.take.ensures.value ∙ c.index_mut-2.ensures.value ∙ get_or_default s.desks c.args.desk c.index_mut-2.result.now None here ∙ h.full in
+    rw (sym c.self.view_is, c.ok_or.ensures.value, there, c.take.ensures.after, c.set_owner.ensures.items, c.segs-2.ensures.segs) (omega (arith, here, t.desks), h.full, refl, more_taken s c.args.worker c.args.desk c.in-Some.packet c.add_holds.new.row t c.requires.low h.high sum len here h.full)
 
-pub returns-in-Some-clause-kept : goal.returns-in-Some-clause-kept
-returns-in-Some-clause-kept c =
+pub returns-clause-kept : goal.returns-clause-kept
+returns-clause-kept c =
     let s : Lists = lists_of c.self.inside in
     let t : IsTable s = c.self.invariant.table in
     let here : c.args.desk < length s.desks = omega (arith, c.if-desk-len.false, c.len.ensures, c.self.inside.desks.ok) in
-    let h = taken_in s c.args.self.now c.args.worker c.args.desk c.in-Some.packet c.index_mut.result.now c.self.view_is t c.requires.low c.requires.high here c.index_mut.ensures.value (sym c.take.ensures.value ∙ c.in-Some.is) in
-    let row = c.index_mut-in-Some.ensures.value ∙ get_or_default s.holds (c.args.worker - 1) c.index_mut-in-Some.result.now [] h.row in
+    let h = taken_in s c.args.self.now c.args.worker c.args.desk c.in-Some.packet c.index.result.now c.self.view_is t c.requires.low c.requires.high here c.index.ensures c.in-Some.is in
+    let row = c.index_mut.ensures.value ∙ get_or_default s.holds (c.args.worker - 1) c.index_mut.result.now [] h.row in
     let sum = rw (row, c.segs.ensures.segs) at c.add_holds.ensures.holds in
     let len = rw row at c.add_holds.ensures.len in
-    rw (c.take.ensures.after, c.set_owner.ensures.items, c.segs-in-Some.ensures.segs) (table_taken s c.args.worker c.args.desk c.in-Some.packet c.add_holds.new.row t c.requires.low h.high sum len here h.full)
+    rw (c.take.ensures.after, c.set_owner.ensures.items, c.segs-2.ensures.segs) (table_taken s c.args.worker c.args.desk c.in-Some.packet c.add_holds.new.row t c.requires.low h.high sum len here h.full)
 
-pub returns-in-Some-clause-others : goal.returns-in-Some-clause-others
-returns-in-Some-clause-others c =
+pub returns-clause-others : goal.returns-clause-others
+returns-clause-others c =
     let s : Lists = lists_of c.self.inside in
     let t : IsTable s = c.self.invariant.table in
     let here : c.args.desk < length s.desks = omega (arith, c.if-desk-len.false, c.len.ensures, c.self.inside.desks.ok) in
-    let h = taken_in s c.args.self.now c.args.worker c.args.desk c.in-Some.packet c.index_mut.result.now c.self.view_is t c.requires.low c.requires.high here c.index_mut.ensures.value (sym c.take.ensures.value ∙ c.in-Some.is) in
-    let row = c.index_mut-in-Some.ensures.value ∙ get_or_default s.holds (c.args.worker - 1) c.index_mut-in-Some.result.now [] h.row in
+    let h = taken_in s c.args.self.now c.args.worker c.args.desk c.in-Some.packet c.index.result.now c.self.view_is t c.requires.low c.requires.high here c.index.ensures c.in-Some.is in
+    let row = c.index_mut.ensures.value ∙ get_or_default s.holds (c.args.worker - 1) c.index_mut.result.now [] h.row in
     let sum = rw (row, c.segs.ensures.segs) at c.add_holds.ensures.holds in
     let len = rw row at c.add_holds.ensures.len in
-    rw (sym c.self.view_is, c.take.ensures.after, c.set_owner.ensures.items, c.segs-in-Some.ensures.segs) (others_taken s c.args.worker c.args.desk c.in-Some.packet c.add_holds.new.row t c.requires.low h.high sum len here h.full)
+    rw (sym c.self.view_is, c.take.ensures.after, c.set_owner.ensures.items, c.segs-2.ensures.segs) (others_taken s c.args.worker c.args.desk c.in-Some.packet c.add_holds.new.row t c.requires.low h.high sum len here h.full)
