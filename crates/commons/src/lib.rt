@@ -1,6 +1,7 @@
 //! The shared part of a packet pool, as one worker sees it.
 #![tactic(auto)]
 
+pub mod change;
 pub mod laws;
 pub mod limits;
 pub mod packet;

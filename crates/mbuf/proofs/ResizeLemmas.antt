@@ -10,8 +10,8 @@ use Rattle.mbuf.specs.Lengths.{with_seg, appended, prepended, adjusted, trimmed,
 use Rattle.commons.specs.Packets.{no_seg, hold_of, holds_of_seg, holds_of_packet}
 use Rattle.mbuf.specs.Members.{Member}
 use Rattle.mbuf.specs.Own.{Own}
-use Rattle.mbuf.specs.declared.lengths.Change.{Change}
-use Rattle.mbuf.specs.declared.lengths.Change.TheVariants.{Append, Prepend, Adj, Trim}
+use Rattle.commons.specs.declared.change.Change.{Change}
+use Rattle.commons.specs.declared.change.Change.TheVariants.{Append, Prepend, Adj, Trim}
 use Rattle.commons.proofs.PacketBags.{held_in-set, own_in-set}
 
 -- two segments hold the same

@@ -3,8 +3,8 @@ use Rattle.std.specs.Prelude.{List, Option}
 use Rattle.commons.specs.declared.packet.Seg.{Seg}
 use Rattle.commons.specs.declared.refusal.Refusal.{Refusal}
 use Rattle.commons.specs.declared.refusal.Refusal.TheVariants.{NoRoom, TooShort}
-use Rattle.mbuf.specs.declared.lengths.Change.{Change}
-use Rattle.mbuf.specs.declared.lengths.Change.TheVariants.{Append, Prepend, Adj, Trim}
+use Rattle.commons.specs.declared.change.Change.{Change}
+use Rattle.commons.specs.declared.change.Change.TheVariants.{Append, Prepend, Adj, Trim}
 use Rattle.mbuf.specs.Lengths.{appended, prepended, adjusted, trimmed}
 
 -- the packet once it is changed, if it has the room or the data

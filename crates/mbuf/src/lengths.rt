@@ -5,21 +5,9 @@ ghost use Rattle.commons.specs.Packets.{HasItsData};
 ghost use Rattle.mbuf.specs.Changes.{resized, not_resized};
 ghost use Rattle.mbuf.specs.Lengths.{pkt_len as len_of, appended, prepended, adjusted, trimmed, grown_behind, grown_in_front, cut_in_front, cut_behind, with_seg};
 
+pub use commons::change::Change;
 use commons::packet::{Packet, Seg};
 use commons::refusal::Refusal;
-
-/// A change of a packet's lengths, by so many bytes.
-#[derive(Clone, Copy, PartialEq, Eq, Debug)]
-pub enum Change {
-    /// More at the end of the last segment's data.
-    Append(u16),
-    /// More in front of the first segment's data.
-    Prepend(u16),
-    /// Fewer at the front of the first segment's data.
-    Adj(u16),
-    /// Fewer at the end of the last segment's data.
-    Trim(u16),
-}
 
 /// How many bytes of data a packet has.
 pub(crate) fn pkt_len(packet: &Packet) -> u32

@@ -8,8 +8,8 @@ use Rattle.script.specs.declared.commands.Command.TheVariants as command
 use Rattle.script.specs.declared.commands.Line.{Line}
 use Rattle.mbuf.specs.declared.acts.Act.{Act}
 use Rattle.mbuf.specs.declared.acts.Act.TheVariants.{Alloc, AllocBulk, Free, Append, Prepend, Adj, Trim, Chain, Attach, Detach, ClonePacket, Offer, Take, CountOf, Flush}
-use Rattle.mbuf.specs.declared.lengths.Change.{Change}
-use Rattle.mbuf.specs.declared.lengths.Change.TheVariants as change
+use Rattle.commons.specs.declared.change.Change.{Change}
+use Rattle.commons.specs.declared.change.Change.TheVariants as change
 use Rattle.mbuf.specs.declared.acts.NewPacket.{NewPacket}
 use Rattle.mbuf.specs.declared.acts.Reply.{Reply}
 use Rattle.mbuf.specs.declared.acts.Reply.TheVariants.{Allocated, Bulk as WasBulk, Chained, Cloned, Freed as WasFreed, Offered, Refused, Taken}

@@ -10,7 +10,7 @@ use crate::line::next_word;
 use crate::name::is_name;
 use crate::number::number_of;
 use commons::seq::Seq;
-use mbuf::lengths::Change;
+use commons::change::Change;
 use std::alloc::{AllocError, Global};
 
 /// The most names that a bulk has.

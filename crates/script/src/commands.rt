@@ -3,7 +3,7 @@ ghost use Rattle.script.specs.Commands.{AreOfPool};
 
 use commons::limits::Limits;
 use commons::seq::Seq;
-use mbuf::lengths::Change;
+use commons::change::Change;
 
 /// A packet's name: 1 to 16 of `a` to `z` and `0` to `9`, beginning with a letter.
 pub type Name = Seq<u8>;

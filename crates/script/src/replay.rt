@@ -10,7 +10,7 @@ use crate::site_pool::SitePool;
 use crate::statement::Statement;
 use commons::refusal::Refusal;
 use mbuf::acts::{Act, NewPacket, Reply};
-use mbuf::lengths::Change;
+use commons::change::Change;
 use mbuf::packets::Pid;
 use std::alloc::{AllocError, Global};
 

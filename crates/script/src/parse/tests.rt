@@ -1,7 +1,7 @@
 use super::parse;
 use crate::commands::{Command, Line, Script};
 use commons::refusal::Refusal;
-use mbuf::lengths::Change;
+use commons::change::Change;
 use std::alloc::Global;
 use std::process::Abort;
 use std::test::Fail;

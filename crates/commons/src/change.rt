@@ -1,0 +1,12 @@
+/// A change of a packet's lengths, by so many bytes.
+#[derive(Clone, Copy, PartialEq, Eq, Debug)]
+pub enum Change {
+    /// More at the end of the last segment's data.
+    Append(u16),
+    /// More in front of the first segment's data.
+    Prepend(u16),
+    /// Fewer at the front of the first segment's data.
+    Adj(u16),
+    /// Fewer at the end of the last segment's data.
+    Trim(u16),
+}
