@@ -17,7 +17,7 @@ ghost use Rattle.commons.specs.Packets.{HasItsData};
 
 use crate::free_slots::FreeSlots;
 use crate::freed::Freed;
-use crate::lengths::Change;
+use commons::change::Change;
 use crate::{clones, lengths, steps};
 use commons::limits::Limits;
 use commons::packet::{MAX_SEGS, Packet, Seg};
