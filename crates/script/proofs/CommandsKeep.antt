@@ -1,12 +1,13 @@
--- What each act of a worker keeps of a pool, each command keeps.
-use Rattle.std.proofs.Common.{ℕ, List, [], ◌∷◌, length, Option, Some, None}
+-- What each act of a worker keeps of a pool, each command keeps; so what commands make of it, acts make of it.
+use Rattle.std.proofs.Common.{ℕ, ◌≡◌, List, [], ◌∷◌, ◌++◌, length, Option, Some, None, refl, sym, ap, ◌∙◌}
 use Rattle.mbuf.specs.declared.acts.Act.{Act}
 use Rattle.mbuf.specs.declared.acts.Act.TheVariants.{Alloc, AllocBulk, Free, Chain, Attach, Detach, ClonePacket, Offer, Take, CountOf, Flush}
-use Rattle.script.specs.declared.commands.Command.{Command}
-use Rattle.script.specs.declared.commands.Command.TheVariants as command
-use Rattle.script.specs.declared.commands.Line.{Line}
-use Rattle.script.specs.Pool.{Pool}
-use Rattle.script.specs.PacketModel.{perform, after_acts}
+use Rattle.script_text.specs.declared.commands.Command.{Command}
+use Rattle.script_text.specs.declared.commands.Command.TheVariants as command
+use Rattle.script_text.specs.declared.commands.Line.{Line}
+use Rattle.pool_model.specs.Pool.{Pool}
+use Rattle.pool_model.specs.PacketModel.{perform, after_acts}
+use Rattle.pool_model.proofs.Acts.{after_one_more}
 use Rattle.script.specs.Replay.{Run, free_as, act_of, act_as, act_as_both, chain_as, clone_as, offer_as, obey, end_of}
 
 module _ (P : Pool → Type 0) (kept : (pool : Pool) (w : ℕ) (act : Act) → P pool → P (perform pool w act).1) where
@@ -56,7 +57,13 @@ module _ (P : Pool → Type 0) (kept : (pool : Pool) (w : ℕ) (act : Act) → P
   end_of-keeps [] run p = p
   end_of-keeps (line ∷ lines) run p = end_of-keeps lines (obey line.worker line.command run).1 (obey-keeps line.worker line.command run p)
 
-  -- so do acts that no script commands
-  pub after_acts-keeps : (acts : List (ℕ × Act)) (pool : Pool) → P pool → P (after_acts acts pool)
-  after_acts-keeps [] pool p = p
-  after_acts-keeps (done ∷ more) pool p = after_acts-keeps more (perform pool done.0 done.1).1 (kept pool done.0 done.1 p)
+-- A script's end is reached by acts: those that its lines ask of the pool, one after another.
+Reached : Pool → Pool → Type 0
+Reached start pool = (acts : List (ℕ × Act)) × (pool ≡ after_acts acts start)
+
+one_act_more : (start pool : Pool) (w : ℕ) (act : Act) → Reached start pool → Reached start (perform pool w act).1
+one_act_more start pool w act (acts, is) =
+    (acts ++ (w, act) ∷ [], ap (λ (p : Pool). (perform p w act).1) is ∙ sym (after_one_more acts start w act))
+
+pub end_is_reached : (lines : List Line) (run : Run) → (acts : List (ℕ × Act)) × ((end_of lines run).pool ≡ after_acts acts run.pool)
+end_is_reached lines run = end_of-keeps (Reached run.pool) (one_act_more run.pool) lines run ([], refl)

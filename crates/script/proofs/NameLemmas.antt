@@ -9,7 +9,7 @@ use Rattle.std.proofs.lemmas.Bool.Decides.{same_from_decides, Decides-and, Decid
 use Rattle.std.proofs.lemmas.Slice.Eq.{bytes_eq-Decides}
 use Rattle.script.specs.declared.names.Names.{Names}
 use Rattle.script.specs.Replay.{named}
-use Rattle.script.specs.Stands.{same_key, stands_in}
+use Rattle.script.specs.inside.Stands.{same_key, stands_in}
 
 -- it doesn't matter which of two keys comes first
 same_key-flip : (a b : ℕ) (x y : List ℕ) → (eqb a b && bytes_eq x y) ≡ (eqb b a && bytes_eq y x)
@@ -26,3 +26,9 @@ pub is_named : (old new : Names) (worker : ℕ) (name : Bor (List ℕ)) (slot : 
     (w : ℕ) (other : List ℕ) → stands_in new w other ≡ named worker name.now slot (stands_in old) w other
 is_named old new worker name slot updates w other =
     updates (w, record { ref_ptr = (0, 0); now = other }) ∙ ap (λ b. cond b slot (stands_in old w other)) (same_key-flip worker w name.now other)
+
+-- where no name or no packet is left, each name stands as it did
+pub all_named-end : (worker : ℕ) (names : List (List ℕ)) (packets : List NewPacket) (stands : ℕ → List ℕ → Option ℕ) → min (length names) (length packets) ≡ 0 → all_named worker names packets stands ≡ stands
+all_named-end worker [] packets stands e = refl
+all_named-end worker (name ∷ names) [] stands e = refl
+all_named-end worker (name ∷ names) (packet ∷ packets) stands e = absurd (omega (arith, e))

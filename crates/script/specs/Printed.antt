@@ -1,12 +1,12 @@
 -- All that the replay of a script prints.
 use Rattle.std.specs.Prelude.{ℕ, ◌≡◌, List, ◌++◌, flat_map}
 use Rattle.commons.specs.declared.limits.Limits.{Limits}
-use Rattle.script.specs.declared.commands.Line.{Line}
-use Rattle.script.specs.Grammar.{IsScript}
+use Rattle.script_text.specs.declared.commands.Line.{Line}
+use Rattle.script_text.specs.Grammar.{IsScript}
 use Rattle.script.specs.Replay.{replies_to, end_of, new_run}
 use Rattle.script.specs.ReplyText.{reply_line}
 use Rattle.script.specs.StatementText.{text_of}
-use Rattle.script.specs.Statements.{statement_of}
+use Rattle.pool_model.specs.Statements.{statement_of}
 
 -- the reference model's reply to each line, and the statement of its end
 abbrev pub printed_for : Limits → List Line → List ℕ

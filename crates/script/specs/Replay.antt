@@ -3,9 +3,9 @@ use Rattle.std.specs.Prelude.{ℕ, ◌==◌, ◌&&◌, if◌then◌else◌, List
 use Rattle.std.specs.Str.{bytes_eq}
 use Rattle.commons.specs.declared.limits.Limits.{Limits}
 use Rattle.commons.specs.declared.refusal.Refusal.TheVariants.{NoSuchPacket}
-use Rattle.script.specs.declared.commands.Command.{Command}
-use Rattle.script.specs.declared.commands.Command.TheVariants as command
-use Rattle.script.specs.declared.commands.Line.{Line}
+use Rattle.script_text.specs.declared.commands.Command.{Command}
+use Rattle.script_text.specs.declared.commands.Command.TheVariants as command
+use Rattle.script_text.specs.declared.commands.Line.{Line}
 use Rattle.mbuf.specs.declared.acts.Act.{Act}
 use Rattle.mbuf.specs.declared.acts.Act.TheVariants.{Alloc, AllocBulk, Free, Append, Prepend, Adj, Trim, Chain, Attach, Detach, ClonePacket, Offer, Take, CountOf, Flush}
 use Rattle.commons.specs.declared.change.Change.{Change}
@@ -13,8 +13,8 @@ use Rattle.commons.specs.declared.change.Change.TheVariants as change
 use Rattle.mbuf.specs.declared.acts.NewPacket.{NewPacket}
 use Rattle.mbuf.specs.declared.acts.Reply.{Reply}
 use Rattle.mbuf.specs.declared.acts.Reply.TheVariants.{Allocated, Bulk as WasBulk, Chained, Cloned, Freed as WasFreed, Offered, Refused, Taken}
-use Rattle.script.specs.Pool.{Pool, new_pool}
-use Rattle.script.specs.PacketModel.{perform}
+use Rattle.pool_model.specs.Pool.{Pool, new_pool}
+use Rattle.pool_model.specs.PacketModel.{perform}
 
 -- a pool, and the slot of the packet that each worker's name stands for
 pub record Run : Type 0 where

@@ -3,12 +3,12 @@ use Rattle.std.specs.Prelude.{ℕ, ◌+◌, List, [], ◌∷◌, ◌++◌, Optio
 use Rattle.std.specs.List.{flat_map}
 use Rattle.commons.specs.declared.packet.Seg.{Seg}
 use Rattle.mbuf.specs.Lengths.{pkt_len}
-use Rattle.script.specs.declared.statement.Holder.{Holder}
-use Rattle.script.specs.declared.statement.Holder.TheVariants.{Worker, Desk}
-use Rattle.script.specs.declared.statement.Held.{Held}
-use Rattle.script.specs.declared.statement.PlacedPacket.{PlacedPacket}
-use Rattle.script.specs.declared.statement.DeskPacket.{DeskPacket}
-use Rattle.script.specs.declared.statement.Statement.{Statement}
+use Rattle.pool_model.specs.declared.statement.Holder.{Holder}
+use Rattle.pool_model.specs.declared.statement.Holder.TheVariants.{Worker, Desk}
+use Rattle.pool_model.specs.declared.statement.Held.{Held}
+use Rattle.pool_model.specs.declared.statement.PlacedPacket.{PlacedPacket}
+use Rattle.pool_model.specs.declared.statement.DeskPacket.{DeskPacket}
+use Rattle.pool_model.specs.declared.statement.Statement.{Statement}
 
 -- each item's text behind a space
 abbrev pub joined : {T : Type 0} → (T → List ℕ) → List T → List ℕ

@@ -1,26 +1,13 @@
-//! Scripts of a packet pool, their replay and its statement.
+//! Scripts of a packet pool: their replay, and what it prints.
 #![tactic(auto)]
 
-mod command_line;
-pub mod commands;
 pub mod laws;
-mod line;
-mod made_names;
-mod name;
 mod names;
-mod number;
-pub mod parse;
-mod placing;
-mod pool_line;
-mod reader;
-pub mod replay;
-pub mod replies;
-pub mod run;
-pub mod site_pool;
-pub mod statement;
+pub mod playing;
+pub mod printing;
 pub mod texts;
 
-pub use run::run_replay;
-
-#[cfg(test)]
-mod tests;
+pub use playing::replay;
+pub use printing::run_replay;
+pub use script_text::parse;
+pub use texts::statement_text;

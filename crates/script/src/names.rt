@@ -14,7 +14,7 @@ pub(crate) struct Names<'a> {
 }
 
 impl<'a> Names<'a> {
-    ghost use Rattle.script.specs.Stands.{stands_in};
+    ghost use Rattle.script.specs.inside.Stands.{stands_in};
 
     /// No name stands for a packet.
     pub(crate) fn new(alloc: Global) -> Names<'a>

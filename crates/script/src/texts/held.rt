@@ -3,7 +3,7 @@ ghost use Rattle.std.specs.Prelude.{◌≡◌, ◌++◌, OnOk};
 ghost use Rattle.std.specs.List.{flat_map};
 ghost use Rattle.script.specs.StatementText.{held_text, holder_text, joined};
 
-use crate::statement::{Held, Holder};
+use pool_model::statement::{Held, Holder};
 use std::io;
 use std::io::Write;
 

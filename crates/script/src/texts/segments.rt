@@ -4,7 +4,7 @@ ghost use Rattle.std.specs.List.{flat_map};
 ghost use Rattle.mbuf.specs.Lengths.{pkt_len};
 ghost use Rattle.script.specs.StatementText.{base_text, desk_text, joined, packet_text, segment_text, segments_text};
 
-use crate::statement::{DeskPacket, PlacedPacket};
+use pool_model::statement::{DeskPacket, PlacedPacket};
 use commons::packet::Seg;
 use std::io;
 use std::io::Write;

@@ -5,7 +5,7 @@ ghost use Rattle.script.specs.StatementText.{text_of, total_line, totals_text};
 use super::elements::{write_caches, write_elements};
 use super::held::write_held;
 use super::segments::{write_desks, write_packets};
-use crate::statement::Statement;
+use pool_model::statement::Statement;
 use commons::refusal::Refusal;
 use std::alloc::Global;
 use std::io;

@@ -1,5 +1,0 @@
-use Rattle.script.proofs.ScriptLemmas.{one_script}
-use Rattle.script.proofs.laws.one_reading.Goals as goal
-
-pub returns : goal.returns
-returns c = one_script

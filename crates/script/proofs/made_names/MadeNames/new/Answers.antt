@@ -1,5 +1,0 @@
-use Rattle.script.proofs.MadeLemmas.{none_made}
-use Rattle.script.proofs.made_names.MadeNames.new.Goals as goal
-
-pub returns : goal.returns
-returns c = none_made (record { keys = c.new.result }) c.new.ensures.empty

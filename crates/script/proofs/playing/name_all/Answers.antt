@@ -1,0 +1,34 @@
+use Rattle.std.proofs.Common.{◌≡◌, ℕ, ◌+◌, ◌<◌, List, ◌∷◌, length, get_or, drop, Some, sym, ap, ◌∙◌, arith}
+use Rattle.std.specs.Prelude.{min}
+use Rattle.std.proofs.lemmas.List.{drop_more, length-drop}
+use Rattle.mbuf.specs.declared.acts.NewPacket.{NewPacket}
+use Rattle.script.specs.Replay.{named, all_named}
+use Rattle.script.specs.inside.Stands.{stands_in}
+use Rattle.script.proofs.NameRuns.{all_named-end}
+use Rattle.script.proofs.playing.name_all.Goals as goal
+
+pub loop-index-preserved : goal.loop-index-preserved
+loop-index-preserved c =
+    let made = c.args.made.now in
+    let packets = c.args.packets.now in
+    let k = c.loop-index.index in
+    let name = c.index-made-index.result in
+    let nothing : NewPacket = record { slot = 0; elem = 0 } in
+    let packet = get_or packets k nothing in
+    let within : k < min (length made) (length packets) = omega (arith, c.loop-index-test.true, c.min-index-end.ensures) in
+    let first : drop k made ≡ name ∷ drop (k + 1) made = drop_more made k name (omega (arith, within)) ∙ ap (λ (n : List ℕ). n ∷ drop (k + 1) made) (sym c.index-made-index.is) in
+    let second : drop k packets ≡ packet ∷ drop (k + 1) packets = drop_more packets k nothing (omega (arith, within)) in
+    let set = rw c.as_slice.ensures at c.in_ok-set.ensures in
+    let same : stands_in c.set.new.self ≡ named c.args.worker name (Some packet.slot) (stands_in c.loop-index.names) = λ i w other. set w other i in
+    ap (all_named c.args.worker (drop (k + 1) made) (drop (k + 1) packets)) same
+    ∙ sym (ap (λ (ns : List (List ℕ)). all_named c.args.worker ns (packet ∷ drop (k + 1) packets) (stands_in c.loop-index.names)) first)
+    ∙ sym (ap (λ (ps : List NewPacket). all_named c.args.worker (drop k made) ps (stands_in c.loop-index.names)) second)
+    ∙ c.loop-index.invariant
+
+pub returns : goal.returns
+returns c =
+    let made = c.args.made.now in
+    let packets = c.args.packets.now in
+    let k = c.loop-index.index in
+    let none : min (length (drop k made)) (length (drop k packets)) ≡ 0 = omega (arith, length-drop k made, length-drop k packets, c.min-index-end.ensures, c.loop-index-test.false) in
+    sym (all_named-end c.args.worker (drop k made) (drop k packets) (stands_in c.loop-index.names) none) ∙ c.loop-index.invariant

@@ -1,5 +1,0 @@
-use Rattle.std.proofs.Common.{vec_len}
-use Rattle.script.proofs.site_pool.lose_all.Given as goal
-
-abbrev pub decreases-loop-packets : goal.decreases-loop-packets
-decreases-loop-packets l = vec_len l.members
