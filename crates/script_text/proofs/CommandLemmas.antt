@@ -1,0 +1,422 @@
+-- A command line's worker and command are what the reading function gives, and the names that were made are what its test says.
+use Rattle.std.proofs.Common.{◌≡◌, ℕ, ◌-◌, ◌≤◌, leb, Bool, true, false, List, [], ◌∷◌, ◌++◌, length, length-append, take, drop, Option, Some, None, refl, sym, ap, ◌∙◌, subst, arith, inl, inr}
+use Rattle.std.specs.Prelude.{◌&&◌, ◌||◌, ◌==◌, option_and_then, codes}
+use Rattle.std.specs.List.{list_all}
+use Rattle.std.specs.Str.{bytes_eq}
+use Rattle.std.proofs.lemmas.Bool.{eqb-true, eq-eqb, leb-true, le-leb, cond-true, and_parts, and_from, or_cases, or_left, or_right, both_ways, false≢true, false_from_ne_true}
+use Rattle.std.proofs.lemmas.Option.{cond_some}
+use Rattle.std.proofs.Math.Seq.{take-append_seam, drop-append_seam}
+use Rattle.std.proofs.lemmas.List.{take-append-drop}
+use Rattle.std.proofs.lemmas.Slice.Eq.{bytes_eq-Decides}
+use Rattle.commons.specs.declared.change.Change.TheVariants.{Append, Prepend, Adj, Trim}
+use Rattle.script_text.specs.declared.command_line.Verb.{Verb}
+use Rattle.script_text.specs.declared.command_line.Verb.TheVariants as verbs
+use Rattle.script_text.specs.declared.commands.Command.{Command}
+use Rattle.script_text.specs.declared.commands.Command.TheVariants.{Alloc, Bulk, Free, Resize, Chain, Attach, Detach, Clone, Count, Offer, Take, Flush}
+use Rattle.script_text.specs.declared.commands.Line.{Line}
+use Rattle.script_text.specs.Names.{IsName}
+use Rattle.script_text.specs.Numbers.{IsNumber}
+use Rattle.script_text.specs.CommandLine.{AreNames, AreVerbAndName, AreVerbAndNames, AreWithNumber, IsOneOf, AreApart, IsCommand, IsPrefix, IsCommandLine, alone, prefixed, Makes, IsMade, MakesAnew}
+use Rattle.script_text.specs.inside.Reading.{is_name_word, number_at, are_names, names_with, is_one_of, with_name, repeats_some, both_of, name_at, short_number, short_number_at, numbered_name, name_and_number, number_and_name, both_names, name_with, both_with, numbered_with, verb_word, all_verbs, verb_at, only_name_of, bare, command_with, command_from, before_colon, of_workers, worker_at, order_of, order_by, order_from, makes, is_made, repeats}
+use Rattle.script_text.specs.inside.Agreement.{IsNamed, IsAmong}
+use Rattle.script_text.proofs.NumberLemmas.{all_from, all_to, name_from, name_is, number_from, number_is}
+use Rattle.script_text.proofs.KeptLemmas.{and_then_some, only_name_is, found_is}
+use Rattle.script_text.proofs.PoolLineLemmas.{if_some, spelled_from}
+
+-- ---- commands
+
+verb_from : (word : List ℕ) (verb : Verb) → verb_at word ≡ Some verb → word ≡ verb_word verb
+verb_from word verb e = spelled_from verb_word all_verbs word verb e
+
+bare_is : (command given : Command) (words : List (List ℕ)) → bare command words ≡ Some given → (words ≡ []) × (command ≡ given)
+bare_is command given [] e = (refl, found_is command given e)
+bare_is command given (word ∷ words) e = absurd cc
+
+-- the command of a verb and one name
+named_is : (verb : Verb) (make : List ℕ → Command) → ((all : List (List ℕ)) (name : List ℕ) → AreVerbAndName all (verb_word verb) name → IsCommand all (make name)) → (words : List (List ℕ)) (command : Command) → name_with make words ≡ Some command →
+    IsCommand (verb_word verb ∷ words) command
+named_is verb make by words command e =
+    let n = and_then_some (λ name. Some (make name)) (only_name_of words) command e in
+    let only = only_name_is words n.0 n.1 in
+    subst (λ (c : Command). IsCommand (verb_word verb ∷ words) c) (found_is (make n.0) command n.2)
+    (by (verb_word verb ∷ words) n.0 (ap (λ (ws : List (List ℕ)). verb_word verb ∷ ws) only.0, name_from n.0 only.1))
+
+-- the only two words are those
+both_is : (words : List (List ℕ)) (both : List ℕ × List ℕ) → both_of words ≡ Some both → words ≡ both.0 ∷ both.1 ∷ []
+both_is [] both e = absurd cc
+both_is (word ∷ []) both e = absurd cc
+both_is (word ∷ other ∷ []) both e = let same = found_is (word, other) both e in rw (← same) refl
+both_is (word ∷ other ∷ third ∷ words) both e = absurd cc
+
+name_is_at : (word name : List ℕ) → name_at word ≡ Some name → (word ≡ name) × IsName name
+name_is_at word name e = let h = cond_some (is_name_word word) word name e in (h.1, name_from name (sym (ap is_name_word h.1) ∙ h.0))
+
+-- a number of at most 65535 that a word spells
+short_number_from : (word : List ℕ) (n : ℕ) → short_number_at word ≡ Some n → IsNumber word n × (n ≤ 65535)
+short_number_from word n e =
+    let h = and_then_some short_number (number_at word) n e in
+    let c = if_some (leb h.0 65535) (Some h.0) n h.2 in
+    let same = found_is h.0 n c.1 in
+    (subst (λ (k : ℕ). IsNumber word k) same (number_from word h.0 h.1), subst (λ (k : ℕ). k ≤ 65535) same (leb-true h.0 65535 c.0))
+
+short_number_is : (word : List ℕ) (n : ℕ) → IsNumber word n → n ≤ 65535 → short_number_at word ≡ Some n
+short_number_is word n h short = ap (option_and_then short_number) (number_is word n h) ∙ cond-true (leb n 65535) (Some n) None (le-leb n 65535 short)
+
+-- the only two words are those names
+both_names_are : (words : List (List ℕ)) (found : List ℕ × List ℕ) → both_names words ≡ Some found → (words ≡ found.0 ∷ found.1 ∷ []) × IsName found.0 × IsName found.1
+both_names_are words found e =
+    let b = and_then_some (λ both. option_and_then (λ first. option_and_then (λ second. Some (first, second)) (name_at both.1)) (name_at both.0)) (both_of words) found e in
+    let n = and_then_some (λ first. option_and_then (λ second. Some (first, second)) (name_at b.0.1)) (name_at b.0.0) found b.2 in
+    let l = and_then_some (λ second. Some (n.0, second)) (name_at b.0.1) found n.2 in
+    let first = name_is_at b.0.0 n.0 n.1 in
+    let second = name_is_at b.0.1 l.0 l.1 in
+    let words_are : words ≡ n.0 ∷ l.0 ∷ [] = both_is words b.0 b.1 ∙ ap (λ (w : List ℕ). w ∷ b.0.1 ∷ []) first.0 ∙ ap (λ (w : List ℕ). n.0 ∷ w ∷ []) second.0 in
+    subst (λ (p : List ℕ × List ℕ). (words ≡ p.0 ∷ p.1 ∷ []) × IsName p.0 × IsName p.1) (found_is (n.0, l.0) found l.2) (words_are, first.1, second.1)
+
+-- the command of a verb and two names
+both_named_is : (verb : Verb) (make : List ℕ → List ℕ → Command) → ((all : List (List ℕ)) (first second : List ℕ) → AreVerbAndNames all (verb_word verb) first second → IsCommand all (make first second)) → (words : List (List ℕ)) (command : Command) → both_with make words ≡ Some command →
+    IsCommand (verb_word verb ∷ words) command
+both_named_is verb make by words command e =
+    let n = and_then_some (λ names. Some (make names.0 names.1)) (both_names words) command e in
+    let both = both_names_are words n.0 n.1 in
+    subst (λ (c : Command). IsCommand (verb_word verb ∷ words) c) (found_is (make n.0.0 n.0.1) command n.2)
+    (by (verb_word verb ∷ words) n.0.0 n.0.1 (ap (λ (ws : List (List ℕ)). verb_word verb ∷ ws) both.0, both.1, both.2))
+
+name_at_is : (name : List ℕ) → IsName name → name_at name ≡ Some name
+name_at_is name h = cond-true (is_name_word name) (Some name) None (name_is name h)
+
+-- a name and a number, whichever comes first
+numbered_name_from : (words : List (List ℕ)) (order : List ℕ → List ℕ → List (List ℕ)) (word other : List ℕ) (found : List ℕ × ℕ) → words ≡ order word other → numbered_name word other ≡ Some found →
+    AreWithNumber words (order found.0) found.0 found.1
+numbered_name_from words order word other found words_are e =
+    let n = and_then_some (λ name. option_and_then (λ k. Some (name, k)) (short_number_at other)) (name_at word) found e in
+    let k = and_then_some (λ number. Some (n.0, number)) (short_number_at other) found n.2 in
+    let name = name_is_at word n.0 n.1 in
+    let number = short_number_from other k.0 k.1 in
+    subst (λ (p : List ℕ × ℕ). AreWithNumber words (order p.0) p.0 p.1) (found_is (n.0, k.0) found k.2)
+    (record { number = other; words_are = words_are ∙ ap (λ (w : List ℕ). order w other) name.0; is_name = name.1; is_number = number.0; short = number.1 })
+
+-- the two orders
+abbrev name_first : List ℕ → List ℕ → List (List ℕ)
+name_first name number = name ∷ number ∷ []
+
+abbrev number_first : List ℕ → List ℕ → List (List ℕ)
+number_first name number = number ∷ name ∷ []
+
+name_and_number_from : (words : List (List ℕ)) (found : List ℕ × ℕ) → name_and_number words ≡ Some found → AreWithNumber words (name_first found.0) found.0 found.1
+name_and_number_from words found e =
+    let b = and_then_some (λ both. numbered_name both.0 both.1) (both_of words) found e in
+    numbered_name_from words name_first b.0.0 b.0.1 found (both_is words b.0 b.1) b.2
+
+number_and_name_from : (words : List (List ℕ)) (found : List ℕ × ℕ) → number_and_name words ≡ Some found → AreWithNumber words (number_first found.0) found.0 found.1
+number_and_name_from words found e =
+    let b = and_then_some (λ both. numbered_name both.1 both.0) (both_of words) found e in
+    numbered_name_from words number_first b.0.1 b.0.0 found (both_is words b.0 b.1) b.2
+
+-- the command of a verb, a name and a number
+numbered_is : (verb : Verb) (order : List ℕ → List ℕ → List (List ℕ)) (make : List ℕ → ℕ → Command) → ((all : List (List ℕ)) (name : List ℕ) (n : ℕ) → AreWithNumber all (λ number. verb_word verb ∷ order name number) name n → IsCommand all (make name n)) →
+    (words : List (List ℕ)) (o : Option (List ℕ × ℕ)) → ((found : List ℕ × ℕ) → o ≡ Some found → AreWithNumber words (order found.0) found.0 found.1) → (command : Command) → numbered_with make o ≡ Some command →
+    IsCommand (verb_word verb ∷ words) command
+numbered_is verb order make by words o from command e =
+    let f = and_then_some (λ named. Some (make named.0 named.1)) o command e in
+    let h = from f.0 f.1 in
+    subst (λ (c : Command). IsCommand (verb_word verb ∷ words) c) (found_is (make f.0.0 f.0.1) command f.2)
+    (by (verb_word verb ∷ words) f.0.0 f.0.1 (record { number = h.number; words_are = ap (λ (ws : List (List ℕ)). verb_word verb ∷ ws) h.words_are; is_name = h.is_name; is_number = h.is_number; short = h.short }))
+
+-- 1 to 256 names
+names_from : (words : List (List ℕ)) → are_names words ≡ true → AreNames words
+names_from words e =
+    let a = and_parts (leb 1 (length words) && leb (length words) 256) (list_all is_name_word words) e in
+    let b = and_parts (leb 1 (length words)) (leb (length words) 256) a.0 in
+    record { some = leb-true 1 (length words) b.0; few = leb-true (length words) 256 b.1; each = all_from is_name_word IsName (λ word h. name_from word h) words a.1 }
+
+names_are : (words : List (List ℕ)) → AreNames words → are_names words ≡ true
+names_are words h =
+    and_from (leb 1 (length words) && leb (length words) 256) (list_all is_name_word words)
+    (and_from (leb 1 (length words)) (leb (length words) 256) (le-leb 1 (length words) h.some) (le-leb (length words) 256 h.few))
+    (all_to is_name_word IsName (λ word k. name_is word k) words h.each)
+
+command_of_verb : (verb : Verb) (words : List (List ℕ)) (command : Command) → command_with verb words ≡ Some command → IsCommand (verb_word verb ∷ words) command
+command_of_verb verbs.Alloc words command e = named_is verbs.Alloc (λ name. Alloc name) (λ all name h. h) words command e
+command_of_verb verbs.Bulk words command e =
+    let n = and_then_some (λ names. Some (Bulk names)) (names_with words) command e in
+    let c = if_some (are_names words) (Some words) n.0 n.1 in
+    let same = found_is words n.0 c.1 in
+    subst (λ (c : Command). IsCommand (verb_word verbs.Bulk ∷ words) c) (found_is (Bulk n.0) command n.2)
+    (ap (λ (ws : List (List ℕ)). codes "bulk" ∷ ws) same, subst AreNames same (names_from words c.0))
+command_of_verb verbs.Free words command e = named_is verbs.Free (λ name. Free name) (λ all name h. h) words command e
+command_of_verb verbs.Append words command e = numbered_is verbs.Append name_first (λ name n. Resize name (Append n)) (λ all name n h. h) words (name_and_number words) (name_and_number_from words) command e
+command_of_verb verbs.Prepend words command e = numbered_is verbs.Prepend name_first (λ name n. Resize name (Prepend n)) (λ all name n h. h) words (name_and_number words) (name_and_number_from words) command e
+command_of_verb verbs.Adj words command e = numbered_is verbs.Adj name_first (λ name n. Resize name (Adj n)) (λ all name n h. h) words (name_and_number words) (name_and_number_from words) command e
+command_of_verb verbs.Trim words command e = numbered_is verbs.Trim name_first (λ name n. Resize name (Trim n)) (λ all name n h. h) words (name_and_number words) (name_and_number_from words) command e
+command_of_verb verbs.Chain words command e = both_named_is verbs.Chain (λ head tail. Chain head tail) (λ all head tail h. h) words command e
+command_of_verb verbs.Attach words command e = both_named_is verbs.Attach (λ first second. Attach first second) (λ all first second h. h) words command e
+command_of_verb verbs.Detach words command e = named_is verbs.Detach (λ packet. Detach packet) (λ all packet h. h) words command e
+command_of_verb verbs.Clone words command e = both_named_is verbs.Clone (λ packet made. Clone packet made) (λ all packet made h. h) words command e
+command_of_verb verbs.Count words command e = named_is verbs.Count (λ packet. Count packet) (λ all packet h. h) words command e
+command_of_verb verbs.Offer words command e = numbered_is verbs.Offer name_first (λ packet desk. Offer packet desk) (λ all packet desk h. h) words (name_and_number words) (name_and_number_from words) command e
+command_of_verb verbs.Take words command e = numbered_is verbs.Take number_first (λ made desk. Take desk made) (λ all made desk h. h) words (number_and_name words) (number_and_name_from words) command e
+command_of_verb verbs.Flush words command e =
+    let b = bare_is Flush command words e in
+    subst (λ (c : Command). IsCommand (verb_word verbs.Flush ∷ words) c) b.1 (ap (λ (ws : List (List ℕ)). verb_word verbs.Flush ∷ ws) b.0)
+
+pub command_comes : (words : List (List ℕ)) (command : Command) → command_from words ≡ Some command → IsCommand words command
+command_comes [] command e = absurd cc
+command_comes (word ∷ words) command e =
+    let v = and_then_some (λ verb. command_with verb words) (verb_at word) command e in
+    subst (λ (w : List ℕ). IsCommand (w ∷ words) command) (sym (verb_from word v.0 v.1)) (command_of_verb v.0 words command v.2)
+
+only_name : (name : List ℕ) → IsName name → only_name_of (name ∷ []) ≡ Some name
+only_name name h = cond-true (is_name_word name) (Some name) None (name_is name h)
+
+name_by_words : (make : List ℕ → Command) (name : List ℕ) → IsName name → name_with make (name ∷ []) ≡ Some (make name)
+name_by_words make name h = ap (option_and_then (λ n. Some (make n))) (only_name name h)
+
+both_by_words : (make : List ℕ → List ℕ → Command) (first second : List ℕ) → IsName first → IsName second → both_with make (first ∷ second ∷ []) ≡ Some (make first second)
+both_by_words make first second h k = rw (name_at_is first h, name_at_is second k) refl
+
+numbered_by_words : (make : List ℕ → ℕ → Command) (name number : List ℕ) (n : ℕ) → IsName name → IsNumber number n → n ≤ 65535 → numbered_with make (numbered_name name number) ≡ Some (make name n)
+numbered_by_words make name number n h k short = rw (name_at_is name h, short_number_is number n k short) refl
+
+pub command_is : (words : List (List ℕ)) (command : Command) → IsCommand words command → command_from words ≡ Some command
+command_is words (Alloc name) h = ap command_from h.0 ∙ name_by_words (λ n. Alloc n) name h.1
+command_is words (Bulk names) h = ap command_from h.0 ∙ ap (option_and_then (λ ns. Some (Bulk ns))) (cond-true (are_names names) (Some names) None (names_are names h.1))
+command_is words (Free name) h = ap command_from h.0 ∙ name_by_words (λ n. Free n) name h.1
+command_is words (Resize name (Append n)) h = ap command_from h.words_are ∙ numbered_by_words (λ m k. Resize m (Append k)) name h.number n h.is_name h.is_number h.short
+command_is words (Resize name (Prepend n)) h = ap command_from h.words_are ∙ numbered_by_words (λ m k. Resize m (Prepend k)) name h.number n h.is_name h.is_number h.short
+command_is words (Resize name (Adj n)) h = ap command_from h.words_are ∙ numbered_by_words (λ m k. Resize m (Adj k)) name h.number n h.is_name h.is_number h.short
+command_is words (Resize name (Trim n)) h = ap command_from h.words_are ∙ numbered_by_words (λ m k. Resize m (Trim k)) name h.number n h.is_name h.is_number h.short
+command_is words (Chain head tail) h = ap command_from h.0 ∙ both_by_words (λ n k. Chain n k) head tail h.1 h.2
+command_is words (Attach first second) h = ap command_from h.0 ∙ both_by_words (λ n k. Attach n k) first second h.1 h.2
+command_is words (Detach packet) h = ap command_from h.0 ∙ name_by_words (λ n. Detach n) packet h.1
+command_is words (Clone packet made) h = ap command_from h.0 ∙ both_by_words (λ n k. Clone n k) packet made h.1 h.2
+command_is words (Count packet) h = ap command_from h.0 ∙ name_by_words (λ n. Count n) packet h.1
+command_is words (Offer packet desk) h = ap command_from h.words_are ∙ numbered_by_words (λ m k. Offer m k) packet h.number desk h.is_name h.is_number h.short
+command_is words (Take desk made) h = ap command_from h.words_are ∙ numbered_by_words (λ m k. Take k m) made h.number desk h.is_name h.is_number h.short
+command_is words Flush h = ap command_from h
+
+-- ---- the worker in front of a command
+
+colon_from : (word number : List ℕ) → before_colon word ≡ Some number → word ≡ number ++ codes ":"
+colon_from word number e =
+    let at = length word - 1 in
+    let c = if_some (bytes_eq (drop at word) (codes ":")) (Some (take at word)) number e in
+    sym (take-append-drop at word) ∙ ap (λ (front : List ℕ). front ++ drop at word) (found_is (take at word) number c.1) ∙ ap (λ (back : List ℕ). number ++ back) ((bytes_eq-Decides (drop at word) (codes ":")).0 c.0)
+
+colon_is : (number : List ℕ) → before_colon (number ++ codes ":") ≡ Some number
+colon_is number =
+    let at : length (number ++ codes ":") - 1 ≡ length number = omega (arith, length-append number (codes ":")) in
+    rw (at, drop-append_seam number (codes ":"), take-append_seam number (codes ":")) refl
+
+among : (workers worker given : ℕ) → of_workers workers worker ≡ Some given → (1 ≤ worker) × (worker ≤ workers) × (worker ≡ given)
+among workers worker given e =
+    let c = if_some (leb 1 worker && leb worker workers) (Some worker) given e in
+    let both = and_parts (leb 1 worker) (leb worker workers) c.0 in
+    (leb-true 1 worker both.0, leb-true worker workers both.1, found_is worker given c.1)
+
+prefix_from : (word number : List ℕ) (workers worker : ℕ) → before_colon word ≡ Some number → worker_at workers number ≡ Some worker → IsPrefix word workers worker
+prefix_from word number workers worker e f =
+    let n = and_then_some (of_workers workers) (number_at number) worker f in
+    let a = among workers n.0 worker n.2 in
+    subst (λ (w : ℕ). IsPrefix word workers w) a.2
+    (record { number = number; whole = colon_from word number e; is_number = number_from number n.0 n.1; first = a.0; last = a.1 })
+
+worker_is : (number : List ℕ) (workers worker : ℕ) → IsNumber number worker → 1 ≤ worker → worker ≤ workers → worker_at workers number ≡ Some worker
+worker_is number workers worker h first last =
+    ap (option_and_then (of_workers workers)) (number_is number worker h)
+    ∙ cond-true (leb 1 worker && leb worker workers) (Some worker) None (and_from (leb 1 worker) (leb worker workers) (le-leb 1 worker first) (le-leb worker workers last))
+
+order_is_of : (worker : ℕ) (words : List (List ℕ)) (order : ℕ × Command) → order_of worker words ≡ Some order → (worker ≡ order.0) × IsCommand words order.1
+order_is_of worker words order e =
+    let c = and_then_some (λ command. Some (worker, command)) (command_from words) order e in
+    let same : ◌≡◌ {A = ℕ × Command} (worker, c.0) order = found_is (worker, c.0) order c.2 in
+    (ap (λ (o : ℕ × Command). o.0) same, subst (λ (command : Command). IsCommand words command) (ap (λ (o : ℕ × Command). o.1) same) (command_comes words c.0 c.1))
+
+order_comes_by : (workers : ℕ) (o : Option (List ℕ)) (word : List ℕ) (words : List (List ℕ)) (order : ℕ × Command) → before_colon word ≡ o → order_by workers o (word ∷ words) words ≡ Some order → IsCommandLine workers (word ∷ words) order.0 order.1
+order_comes_by workers None word words order e f =
+    let c = order_is_of 1 (word ∷ words) order f in alone (sym c.0) c.1
+order_comes_by workers (Some number) word words order e f =
+    let w = and_then_some (λ worker. order_of worker words) (worker_at workers number) order f in
+    let c = order_is_of w.0 words order w.2 in
+    prefixed word words refl (subst (λ (worker : ℕ). IsPrefix word workers worker) c.0 (prefix_from word number workers w.0 e w.1)) c.1
+
+pub order_comes : (workers : ℕ) (words : List (List ℕ)) (order : ℕ × Command) → order_from workers words ≡ Some order → IsCommandLine workers words order.0 order.1
+order_comes workers [] order e = absurd cc
+order_comes workers (word ∷ words) order e = order_comes_by workers (before_colon word) word words order refl e
+
+-- a verb has no colon at its end
+no_prefix : (words : List (List ℕ)) (command : Command) (workers : ℕ) → IsCommand words command → order_from workers words ≡ order_of 1 words
+no_prefix words (Alloc name) workers h = ap (order_from workers) h.0 ∙ ap (order_of 1) (sym h.0)
+no_prefix words (Bulk names) workers h = ap (order_from workers) h.0 ∙ ap (order_of 1) (sym h.0)
+no_prefix words (Free name) workers h = ap (order_from workers) h.0 ∙ ap (order_of 1) (sym h.0)
+no_prefix words (Resize name (Append n)) workers h = ap (order_from workers) h.words_are ∙ ap (order_of 1) (sym h.words_are)
+no_prefix words (Resize name (Prepend n)) workers h = ap (order_from workers) h.words_are ∙ ap (order_of 1) (sym h.words_are)
+no_prefix words (Resize name (Adj n)) workers h = ap (order_from workers) h.words_are ∙ ap (order_of 1) (sym h.words_are)
+no_prefix words (Resize name (Trim n)) workers h = ap (order_from workers) h.words_are ∙ ap (order_of 1) (sym h.words_are)
+no_prefix words (Chain head tail) workers h = ap (order_from workers) h.0 ∙ ap (order_of 1) (sym h.0)
+no_prefix words (Attach first second) workers h = ap (order_from workers) h.0 ∙ ap (order_of 1) (sym h.0)
+no_prefix words (Detach packet) workers h = ap (order_from workers) h.0 ∙ ap (order_of 1) (sym h.0)
+no_prefix words (Clone packet made) workers h = ap (order_from workers) h.0 ∙ ap (order_of 1) (sym h.0)
+no_prefix words (Count packet) workers h = ap (order_from workers) h.0 ∙ ap (order_of 1) (sym h.0)
+no_prefix words (Offer packet desk) workers h = ap (order_from workers) h.words_are ∙ ap (order_of 1) (sym h.words_are)
+no_prefix words (Take desk made) workers h = ap (order_from workers) h.words_are ∙ ap (order_of 1) (sym h.words_are)
+no_prefix words Flush workers h = ap (order_from workers) h ∙ ap (order_of 1) (sym h)
+
+order_as : (worker : ℕ) (words : List (List ℕ)) (command : Command) → IsCommand words command → order_of worker words ≡ Some (worker, command)
+order_as worker words command h = ap (option_and_then (λ c. Some (worker, c))) (command_is words command h)
+
+pub order_is : (workers : ℕ) (words : List (List ℕ)) (worker : ℕ) (command : Command) → IsCommandLine workers words worker command → order_from workers words ≡ Some (worker, command)
+order_is workers words worker command (alone one h) =
+    no_prefix words command workers h ∙ ap (λ (w : ℕ). order_of w words) (sym one) ∙ order_as worker words command h
+order_is workers words worker command (prefixed word rest e p h) =
+    ap (order_from workers) e
+    ∙ ap (λ (o : Option (List ℕ)). order_by workers o (word ∷ rest) rest) (ap before_colon p.whole ∙ colon_is p.number)
+    ∙ ap (option_and_then (λ w. order_of w rest)) (worker_is p.number workers worker p.is_number p.first p.last)
+    ∙ order_as worker rest command h
+
+-- the name of a command is a name
+named_by : (words : List (List ℕ)) (command : Command) → IsCommand words command → IsNamed command
+named_by words (Alloc name) h = h.1
+named_by words (Bulk names) h = h.1.each
+named_by words (Free name) h = h.1
+named_by words (Resize name change) h = h.is_name
+named_by words (Chain head tail) h = (h.1, h.2)
+named_by words (Attach first second) h = (h.1, h.2)
+named_by words (Detach packet) h = h.1
+named_by words (Clone packet made) h = (h.1, h.2)
+named_by words (Count packet) h = h.1
+named_by words (Offer packet desk) h = h.is_name
+named_by words (Take desk made) h = h.is_name
+named_by words Flush h = tt
+
+line_names : (workers : ℕ) (words : List (List ℕ)) (worker : ℕ) (command : Command) → IsCommandLine workers words worker command → IsNamed command
+line_names workers words worker command (alone one h) = named_by words command h
+line_names workers words worker command (prefixed word rest e p h) = named_by rest command h
+
+pub order_named : (workers : ℕ) (words : List (List ℕ)) (order : ℕ × Command) → order_from workers words ≡ Some order → IsNamed order.1
+order_named workers words order e = line_names workers words order.0 order.1 (order_comes workers words order e)
+
+line_among : (workers : ℕ) (words : List (List ℕ)) (worker : ℕ) (command : Command) → 1 ≤ workers → IsCommandLine workers words worker command → IsAmong workers worker
+line_among workers words worker command some (alone one h) = rw one (omega arith, some)
+line_among workers words worker command some (prefixed word rest e p h) = (p.first, p.last)
+
+pub order_among : (workers : ℕ) (words : List (List ℕ)) (order : ℕ × Command) → 1 ≤ workers → order_from workers words ≡ Some order → IsAmong workers order.0
+order_among workers words order some e = line_among workers words order.0 order.1 some (order_comes workers words order e)
+
+-- ---- names that were made
+
+one_of_from : (names : List (List ℕ)) (name : List ℕ) → is_one_of names name ≡ true → IsOneOf names name
+one_of_from [] name e = absurd (false≢true e)
+one_of_from (first ∷ names) name e =
+    elim (or_cases (bytes_eq name first) (is_one_of names name) e) [
+      | inl h ↦ inl (sym ((bytes_eq-Decides name first).0 h))
+      | inr h ↦ inr (one_of_from names name h)
+    ]
+
+one_of_is : (names : List (List ℕ)) (name : List ℕ) → IsOneOf names name → is_one_of names name ≡ true
+one_of_is [] name h = absurd h
+one_of_is (first ∷ names) name (inl h) = or_left (bytes_eq name first) (is_one_of names name) ((bytes_eq-Decides name first).1 (sym h))
+one_of_is (first ∷ names) name (inr h) = or_right (bytes_eq name first) (is_one_of names name) (one_of_is names name h)
+
+makes_from : (command : Command) (name : List ℕ) → makes command name ≡ true → Makes command name
+makes_from (Alloc made) name e = sym ((bytes_eq-Decides name made).0 e)
+makes_from (Bulk names) name e = one_of_from names name e
+makes_from (Free freed) name e = absurd (false≢true e)
+makes_from (Resize packet change) name e = absurd (false≢true e)
+makes_from (Chain head tail) name e = absurd (false≢true e)
+makes_from (Attach first second) name e = absurd (false≢true e)
+makes_from (Detach packet) name e = absurd (false≢true e)
+makes_from (Clone packet made) name e = sym ((bytes_eq-Decides name made).0 e)
+makes_from (Count packet) name e = absurd (false≢true e)
+makes_from (Offer packet desk) name e = absurd (false≢true e)
+makes_from (Take desk made) name e = sym ((bytes_eq-Decides name made).0 e)
+makes_from Flush name e = absurd (false≢true e)
+
+makes_is : (command : Command) (name : List ℕ) → Makes command name → makes command name ≡ true
+makes_is (Alloc made) name h = (bytes_eq-Decides name made).1 (sym h)
+makes_is (Bulk names) name h = one_of_is names name h
+makes_is (Free freed) name h = absurd h
+makes_is (Resize packet change) name h = absurd h
+makes_is (Chain head tail) name h = absurd h
+makes_is (Attach first second) name h = absurd h
+makes_is (Detach packet) name h = absurd h
+makes_is (Clone packet made) name h = (bytes_eq-Decides name made).1 (sym h)
+makes_is (Count packet) name h = absurd h
+makes_is (Offer packet desk) name h = absurd h
+makes_is (Take desk made) name h = (bytes_eq-Decides name made).1 (sym h)
+makes_is Flush name h = absurd h
+
+made_from : (lines : List Line) (worker : ℕ) (name : List ℕ) → is_made lines worker name ≡ true → IsMade lines worker name
+made_from [] worker name e = absurd (false≢true e)
+made_from (line ∷ lines) worker name e =
+    elim (or_cases (worker == line.worker && makes line.command name) (is_made lines worker name) e) [
+      | inl h ↦ let both = and_parts (worker == line.worker) (makes line.command name) h in inl (sym (eqb-true worker line.worker both.0), makes_from line.command name both.1)
+      | inr h ↦ inr (made_from lines worker name h)
+    ]
+
+made_is : (lines : List Line) (worker : ℕ) (name : List ℕ) → IsMade lines worker name → is_made lines worker name ≡ true
+made_is [] worker name h = absurd h
+made_is (line ∷ lines) worker name (inl h) = or_left (worker == line.worker && makes line.command name) (is_made lines worker name) (and_from (worker == line.worker) (makes line.command name) (eq-eqb worker line.worker (sym h.0)) (makes_is line.command name h.1))
+made_is (line ∷ lines) worker name (inr h) = or_right (worker == line.worker && makes line.command name) (is_made lines worker name) (made_is lines worker name h)
+
+-- a name that no line made
+one_is : (lines : List Line) (worker : ℕ) (made : List ℕ) → ((name : List ℕ) → made ≡ name → IsMade lines worker name → ⊥) → is_made lines worker made ≡ false
+one_is lines worker made new = false_from_ne_true (is_made lines worker made) (λ e. new made refl (made_from lines worker made e))
+
+one_from : (lines : List Line) (worker : ℕ) (made : List ℕ) → is_made lines worker made ≡ false → (name : List ℕ) → made ≡ name → IsMade lines worker name → ⊥
+one_from lines worker made e name same h = both_ways (is_made lines worker made) e (ap (is_made lines worker) same ∙ made_is lines worker name h)
+
+-- names that no line made and that stand once each
+some_is : (lines : List Line) (worker : ℕ) (names : List (List ℕ)) → ((name : List ℕ) → IsOneOf names name → IsMade lines worker name → ⊥) → AreApart names → repeats_some lines worker names ≡ false
+some_is lines worker [] new once = refl
+some_is lines worker (name ∷ names) new once =
+    let first = false_from_ne_true (is_made lines worker name) (λ e. new name (inl refl) (made_from lines worker name e)) in
+    ap (λ (b : Bool). b || repeats_some (with_name lines worker name) worker names) first
+    ∙ some_is (with_name lines worker name) worker names (λ other h made. elim made [
+      | inl same ↦ once.0 (subst (IsOneOf names) (sym same.1) h)
+      | inr before ↦ new other (inr h) before
+    ]) once.1
+
+either_false : (a b : Bool) → (a || b) ≡ false → (a ≡ false) × (b ≡ false)
+either_false true b e = absurd (false≢true (sym e))
+either_false false b e = (refl, e)
+
+some_from : (lines : List Line) (worker : ℕ) (names : List (List ℕ)) → repeats_some lines worker names ≡ false → ((name : List ℕ) → IsOneOf names name → IsMade lines worker name → ⊥) × AreApart names
+some_from lines worker [] e = (λ name h made. h, tt)
+some_from lines worker (name ∷ names) e =
+    let both = either_false (is_made lines worker name) (repeats_some (with_name lines worker name) worker names) e in
+    let rest = some_from (with_name lines worker name) worker names both.1 in (
+      λ other h made. elim h [
+        | inl same ↦ both_ways (is_made lines worker name) both.0 (ap (is_made lines worker) same ∙ made_is lines worker other made)
+        | inr behind ↦ rest.0 other behind (inr made)
+      ],
+      (λ h. rest.0 name h (inl (refl, refl)), rest.1),
+    )
+
+pub anew_is : (lines : List Line) (worker : ℕ) (command : Command) → MakesAnew lines worker command → repeats lines worker command ≡ false
+anew_is lines worker (Alloc made) h = one_is lines worker made h.new
+anew_is lines worker (Bulk names) h = some_is lines worker names h.new h.once
+anew_is lines worker (Free name) h = refl
+anew_is lines worker (Resize name change) h = refl
+anew_is lines worker (Chain head tail) h = refl
+anew_is lines worker (Attach first second) h = refl
+anew_is lines worker (Detach packet) h = refl
+anew_is lines worker (Clone packet made) h = one_is lines worker made h.new
+anew_is lines worker (Count packet) h = refl
+anew_is lines worker (Offer packet desk) h = refl
+anew_is lines worker (Take desk made) h = one_is lines worker made h.new
+anew_is lines worker Flush h = refl
+
+pub anew_from : (lines : List Line) (worker : ℕ) (command : Command) → repeats lines worker command ≡ false → MakesAnew lines worker command
+anew_from lines worker (Alloc made) e = record { new = one_from lines worker made e; once = tt }
+anew_from lines worker (Bulk names) e = let r = some_from lines worker names e in record { new = r.0; once = r.1 }
+anew_from lines worker (Free freed) e = record { new = λ name makes_it h. makes_it; once = tt }
+anew_from lines worker (Resize packet change) e = record { new = λ name makes_it h. makes_it; once = tt }
+anew_from lines worker (Chain head tail) e = record { new = λ name makes_it h. makes_it; once = tt }
+anew_from lines worker (Attach first second) e = record { new = λ name makes_it h. makes_it; once = tt }
+anew_from lines worker (Detach packet) e = record { new = λ name makes_it h. makes_it; once = tt }
+anew_from lines worker (Clone packet made) e = record { new = one_from lines worker made e; once = tt }
+anew_from lines worker (Count packet) e = record { new = λ name makes_it h. makes_it; once = tt }
+anew_from lines worker (Offer packet desk) e = record { new = λ name makes_it h. makes_it; once = tt }
+anew_from lines worker (Take desk made) e = record { new = one_from lines worker made e; once = tt }
+anew_from lines worker Flush e = record { new = λ name makes_it h. makes_it; once = tt }

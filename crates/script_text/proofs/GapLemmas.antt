@@ -1,0 +1,70 @@
+-- Each text is a script of the grammar, or has a first faulty line, or has a bad pool.
+use Rattle.std.proofs.Common.{◌≡◌, ◌≢◌, ℕ, ◌+◌, ◌-◌, max, ltb, Bool, true, false, cond, List, [], ◌∷◌, length, Option, Some, None, Result, Ok, Err, refl, ap, ◌∙◌, inl, inr}
+use Rattle.std.specs.Prelude.{◌⊎◌}
+use Rattle.commons.specs.declared.limits.Limits.{Limits}
+use Rattle.commons.specs.declared.refusal.Refusal.{Refusal}
+use Rattle.commons.specs.declared.refusal.Refusal.TheVariants as refusals
+use Rattle.script_text.specs.Grammar.{State, start, HasBadPool, IsCause, IsSomeScript, HasSomeFault}
+use Rattle.script_text.specs.inside.Reading.{parts, are_ready, read_line, step_with, step, finish, goes_on, read_lines, read_from, read_text}
+use Rattle.script_text.proofs.ScriptLemmas.{script_from, cause_from}
+
+abbrev wants_memory : Result State Refusal
+wants_memory = Err refusals.OutOfMemory
+
+-- what was read has limits, or was refused, but not for want of memory
+abbrev IsAnswer : Result State Refusal → Type 0
+IsAnswer (Ok state) = (limits : Limits) × (state.limits ≡ Some limits)
+IsAnswer (Err refusal) = refusal ≢ refusals.OutOfMemory
+
+fault_answers : (number : ℕ) → refusals.ScriptFault number ≢ refusals.OutOfMemory
+fault_answers number e = cc
+
+ready_answers : (b : Bool) (next : State) → cond b (Ok next) (Err refusals.BadPool) ≢ wants_memory
+ready_answers true next e = cc
+ready_answers false next e = cc
+
+step_answers : (o : Option State) (number : ℕ) → step_with number o ≢ wants_memory
+step_answers None number e = cc
+step_answers (Some next) number e = ready_answers (are_ready next.limits) next e
+
+finish_answers : (o : Option Limits) (state : State) (number : ℕ) (rest : List ℕ) → state.limits ≡ o → IsAnswer (finish o state number rest)
+finish_answers None state number [] e = fault_answers (max 1 (number - 1))
+finish_answers (Some limits) state number [] e = (limits, e)
+finish_answers None state number (byte ∷ rest) e = fault_answers number
+finish_answers (Some limits) state number (byte ∷ rest) e = fault_answers number
+
+goes_answers : (r : Result State Refusal) (f : State → Result State Refusal) → r ≢ wants_memory → ((next : State) → IsAnswer (f next)) → IsAnswer (goes_on r f)
+goes_answers (Ok next) f h k = k next
+goes_answers (Err refusal) f h k = λ e. h (ap (λ (x : Refusal). Err x) e)
+
+lines_answer : (lines : List (List ℕ)) (state : State) (number : ℕ) (rest : List ℕ) → IsAnswer (read_lines state number lines rest)
+unfolding read_lines step
+lines_answer [] state number rest = finish_answers state.limits state number rest refl
+lines_answer (line ∷ lines) state number rest =
+    goes_answers (step state number line) (λ next. read_lines next (number + 1) lines rest) (step_answers (read_line state number line) number) (λ next. lines_answer lines next (number + 1) rest)
+
+short_answers : (b : Bool) (read : Result State Refusal) → IsAnswer read → IsAnswer (cond b (Err (refusals.ScriptFault 0)) read)
+short_answers true read h = fault_answers 0
+short_answers false read h = h
+
+text_answers : (bytes : List ℕ) → IsAnswer (read_text bytes)
+unfolding read_text read_from
+text_answers bytes = short_answers (ltb 1048576 (length bytes)) (read_from start 1 bytes) (lines_answer (parts bytes).lines start 1 (parts bytes).rest)
+
+-- a cause other than want of memory is a faulty line or a bad pool
+fault_or_pool : (refusal : Refusal) (bytes : List ℕ) → refusal ≢ refusals.OutOfMemory → IsCause bytes refusal → HasSomeFault bytes ⊎ HasBadPool bytes
+fault_or_pool refusals.BadPool bytes h cause = inr cause
+fault_or_pool (refusals.ScriptFault number) bytes h cause = inl (record { number = number; fault = cause })
+fault_or_pool refusals.OutOfMemory bytes h cause = absurd (h refl)
+fault_or_pool refusal bytes h cause = absurd cause
+
+read_by : (read : Result State Refusal) (bytes : List ℕ) → read_text bytes ≡ read → IsAnswer read → IsSomeScript bytes ⊎ (HasSomeFault bytes ⊎ HasBadPool bytes)
+read_by (Ok state) bytes e h = inl (record {
+  limits = h.0;
+  lines = state.lines;
+  script = script_from bytes h.0 state.lines (e ∙ ap (λ (o : Option Limits). Ok (record { limits = o; lines = state.lines })) h.1);
+})
+read_by (Err refusal) bytes e h = inr (fault_or_pool refusal bytes h (cause_from bytes refusal e))
+
+pub script_or_fault : (bytes : List ℕ) → IsSomeScript bytes ⊎ (HasSomeFault bytes ⊎ HasBadPool bytes)
+script_or_fault bytes = read_by (read_text bytes) bytes refl (text_answers bytes)

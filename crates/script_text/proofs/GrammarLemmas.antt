@@ -1,0 +1,130 @@
+-- A line's reading in the grammar is what the reading function gives, and so are the lines' one after another.
+use Rattle.std.proofs.Common.{◌≡◌, ℕ, true, false, cond, eqb, ltb, leb, List, [], ◌∷◌, ◌++◌, length, Option, Some, None, refl, sym, ap, ◌∙◌, arith, inl, inr}
+use Rattle.std.specs.Prelude.{option_and_then, codes}
+use Rattle.std.specs.List.{list_all}
+use Rattle.std.proofs.lemmas.Bool.{cond-true, cond-false, cases_Bool, leb-true, le-leb, ltb-true, lt-ltb, and_parts, and_from, eqb-true, false_from_ne_true}
+use Rattle.commons.specs.declared.limits.Limits.{Limits}
+use Rattle.commons.specs.declared.change.Change.TheVariants.{Append, Prepend, Adj, Trim}
+use Rattle.script_text.specs.declared.commands.Command.{Command}
+use Rattle.script_text.specs.declared.commands.Command.TheVariants.{Alloc, Bulk, Free, Resize, Chain, Attach, Detach, Clone, Count, Offer, Take, Flush}
+use Rattle.script_text.specs.Numbers.{IsNumber}
+use Rattle.script_text.specs.CommandLine.{IsCommand, IsCommandLine, alone, prefixed}
+use Rattle.script_text.specs.Text.{IsPrinted, IsPlain}
+use Rattle.script_text.specs.Grammar.{State, with_command, ReadsPool, ReadsCommand, Takes, skips, gives_pool, commands, Reads}
+use Rattle.script_text.specs.inside.Reading.{words_of, is_printed, is_plain, is_skipped, repeats, order_from, limits_from, with_limits, add_command, read_command, read_pool, read_words, read_line}
+use Rattle.script_text.proofs.WordLemmas.{spelled_once, words_are, skipped_is, skipped_from}
+use Rattle.script_text.proofs.NumberLemmas.{all_from, all_to, within_from, within_to}
+use Rattle.script_text.proofs.KeptLemmas.{and_then_some, found_is}
+use Rattle.script_text.proofs.PoolLineLemmas.{if_some, if_none, pool_line_from, pool_line_is}
+use Rattle.script_text.proofs.CommandLemmas.{order_comes, order_is, anew_is, anew_from}
+use Rattle.script_text.proofs.StepLemmas.{read_skipped, read_as}
+
+-- ---- one line
+
+plain_from : (line : List ℕ) → is_plain line ≡ true → IsPlain line
+plain_from line e =
+    let h = and_parts (leb (length line) 8192) (list_all is_printed line) e in
+    record { short = leb-true (length line) 8192 h.0; printed = all_from is_printed IsPrinted (λ byte p. within_from 32 126 byte p) line h.1 }
+
+plain_is : (line : List ℕ) → IsPlain line → is_plain line ≡ true
+plain_is line h = and_from (leb (length line) 8192) (list_all is_printed line) (le-leb (length line) 8192 h.short) (all_to is_printed IsPrinted (λ byte p. within_to 32 126 byte p) line h.printed)
+
+pool_takes : (state after : State) (number : ℕ) (line : List ℕ) → state.limits ≡ None → read_pool state (words_of line) ≡ Some after → Takes state number line after
+pool_takes state after number line none e =
+    let l = and_then_some (λ limits. Some (with_limits state limits)) (limits_from (words_of line)) after e in
+    gives_pool (record {
+      first = none;
+      words = words_of line;
+      spelled = words_are line;
+      limits = l.0;
+      is_pool_line = pool_line_from (words_of line) l.0 l.1;
+      after_is = sym (found_is (with_limits state l.0) after l.2);
+    })
+
+command_takes : (state after : State) (number : ℕ) (line : List ℕ) (limits : Limits) → state.limits ≡ Some limits → read_command limits.workers state number (words_of line) ≡ Some after → Takes state number line after
+command_takes state after number line limits some e =
+    let few = if_some (ltb (length state.lines) 10000) (option_and_then (add_command state number) (order_from limits.workers (words_of line))) after e in
+    let c = and_then_some (add_command state number) (order_from limits.workers (words_of line)) after few.1 in
+    let anew = if_none (repeats state.lines c.0.0 c.0.1) (Some (with_command state number c.0.0 c.0.1)) after c.2 in
+    commands (record {
+      limits = limits;
+      behind_pool = some;
+      few = ltb-true (length state.lines) 10000 few.0;
+      words = words_of line;
+      spelled = words_are line;
+      worker = c.0.0;
+      command = c.0.1;
+      is_command_line = order_comes limits.workers (words_of line) c.0 c.1;
+      anew = anew_from state.lines c.0.0 c.0.1 anew.0;
+      after_is = sym (found_is (with_command state number c.0.0 c.0.1) after anew.1);
+    })
+
+words_take : (limits : Option Limits) (state after : State) (number : ℕ) (line : List ℕ) → state.limits ≡ limits → read_words limits state number (words_of line) ≡ Some after → Takes state number line after
+words_take None state after number line e h = pool_takes state after number line e h
+words_take (Some limits) state after number line e h = command_takes state after number line limits e h
+
+pub reads_from : (state after : State) (number : ℕ) (line : List ℕ) → read_line state number line ≡ Some after → Reads state number line after
+unfolding read_line
+reads_from state after number line e =
+    let plain = if_some (is_plain line) (cond (is_skipped (words_of line)) (Some state) (read_words state.limits state number (words_of line))) after e in
+    record {
+      plain = plain_from line plain.0;
+      takes = elim (cases_Bool (is_skipped (words_of line))) [
+        | inl skipped ↦ skips (skipped_from line skipped) (sym (found_is state after (sym (cond-true (is_skipped (words_of line)) (Some state) (read_words state.limits state number (words_of line)) skipped) ∙ plain.1)))
+        | inr counted ↦ words_take state.limits state after number line refl (sym (cond-false (is_skipped (words_of line)) (Some state) (read_words state.limits state number (words_of line)) counted) ∙ plain.1)
+      ];
+    }
+
+pool_is_read : (state after : State) (number : ℕ) (line : List ℕ) → IsPlain line → ReadsPool state line after → read_line state number line ≡ Some after
+pool_is_read state after number line plain h =
+    let words : words_of line ≡ h.words = spelled_once h.words line h.spelled in
+    let counted : is_skipped (words_of line) ≡ false = ap is_skipped (words ∙ h.is_pool_line.words_are) in
+    read_as state number line None (plain_is line plain) counted h.first
+    ∙ ap (option_and_then (λ limits. Some (with_limits state limits))) (ap limits_from words ∙ pool_line_is h.words h.limits h.is_pool_line)
+    ∙ ap (λ (s : State). Some s) (sym h.after_is)
+
+counted_command : (words : List (List ℕ)) (command : Command) → IsCommand words command → is_skipped words ≡ false
+counted_command words (Alloc name) h = ap is_skipped h.0
+counted_command words (Bulk names) h = ap is_skipped h.0
+counted_command words (Free name) h = ap is_skipped h.0
+counted_command words (Resize name (Append n)) h = ap is_skipped h.words_are
+counted_command words (Resize name (Prepend n)) h = ap is_skipped h.words_are
+counted_command words (Resize name (Adj n)) h = ap is_skipped h.words_are
+counted_command words (Resize name (Trim n)) h = ap is_skipped h.words_are
+counted_command words (Chain head tail) h = ap is_skipped h.0
+counted_command words (Attach first second) h = ap is_skipped h.0
+counted_command words (Detach packet) h = ap is_skipped h.0
+counted_command words (Clone packet made) h = ap is_skipped h.0
+counted_command words (Count packet) h = ap is_skipped h.0
+counted_command words (Offer packet desk) h = ap is_skipped h.words_are
+counted_command words (Take desk made) h = ap is_skipped h.words_are
+counted_command words Flush h = ap is_skipped h
+
+-- a number begins with a digit, and not with `#`
+counted_prefix : (word number : List ℕ) (workers worker : ℕ) (rest : List (List ℕ)) → word ≡ number ++ codes ":" → IsNumber number worker → is_skipped (word ∷ rest) ≡ false
+counted_prefix word [] workers worker rest e h = absurd (omega (arith, h.some))
+counted_prefix word (byte ∷ number) workers worker rest e h =
+    ap (λ (w : List ℕ). is_skipped (w ∷ rest)) e ∙ false_from_ne_true (eqb byte 35) (λ same. let digit = h.digits.0 in omega (arith, digit.0, eqb-true byte 35 same))
+
+counted_line : (workers : ℕ) (words : List (List ℕ)) (worker : ℕ) (command : Command) → IsCommandLine workers words worker command → is_skipped words ≡ false
+counted_line workers words worker command (alone one h) = counted_command words command h
+counted_line workers words worker command (prefixed word rest e p h) = ap is_skipped e ∙ counted_prefix word p.number workers worker rest p.whole p.is_number
+
+command_is_read : (state after : State) (number : ℕ) (line : List ℕ) → IsPlain line → ReadsCommand state number line after → read_line state number line ≡ Some after
+command_is_read state after number line plain h =
+    let words : words_of line ≡ h.words = spelled_once h.words line h.spelled in
+    let order : order_from h.limits.workers (words_of line) ≡ Some (h.worker, h.command) = ap (order_from h.limits.workers) words ∙ order_is h.limits.workers h.words h.worker h.command h.is_command_line in
+    let counted : is_skipped (words_of line) ≡ false = ap is_skipped words ∙ counted_line h.limits.workers h.words h.worker h.command h.is_command_line in
+    read_as state number line (Some h.limits) (plain_is line plain) counted h.behind_pool
+    ∙ cond-true (ltb (length state.lines) 10000) (option_and_then (add_command state number) (order_from h.limits.workers (words_of line))) None (lt-ltb (length state.lines) 10000 h.few)
+    ∙ ap (option_and_then (add_command state number)) order
+    ∙ cond-false (repeats state.lines h.worker h.command) None (Some (with_command state number h.worker h.command)) (anew_is state.lines h.worker h.command h.anew)
+    ∙ ap (λ (s : State). Some s) (sym h.after_is)
+
+takes_is_read : (state after : State) (number : ℕ) (line : List ℕ) → IsPlain line → Takes state number line after → read_line state number line ≡ Some after
+takes_is_read state after number line plain (skips skipped after_is) = read_skipped state number line (plain_is line plain) (skipped_is line skipped) ∙ ap (λ (s : State). Some s) (sym after_is)
+takes_is_read state after number line plain (gives_pool h) = pool_is_read state after number line plain h
+takes_is_read state after number line plain (commands h) = command_is_read state after number line plain h
+
+pub reads_is : (state after : State) (number : ℕ) (line : List ℕ) → Reads state number line after → read_line state number line ≡ Some after
+reads_is state after number line h = takes_is_read state after number line h.plain h.takes

@@ -1,0 +1,15 @@
+pub mod CommandLemmas
+pub mod CutLemmas
+pub mod GapLemmas
+pub mod GrammarLemmas
+pub mod KeptLemmas
+pub mod LineLemmas
+pub mod MadeLemmas
+pub mod NameRuns
+pub mod NumberLemmas
+pub mod PoolLemmas
+pub mod PoolLineLemmas
+pub mod ScriptLemmas
+pub mod SettingsLemmas
+pub mod StepLemmas
+pub mod WordLemmas

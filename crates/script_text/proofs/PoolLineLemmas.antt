@@ -1,0 +1,248 @@
+-- The pool line's limits are those that the reading function gives, and no others.
+use Rattle.std.proofs.Common.{◌≡◌, ℕ, Bool, true, false, cond, List, [], ◌∷◌, Option, Some, None, refl, sym, ap, ◌∙◌, subst, inl, inr}
+use Rattle.std.specs.Prelude.{option_and_then, is_some, codes}
+use Rattle.std.specs.List.{find}
+use Rattle.std.specs.Str.{bytes_eq}
+use Rattle.std.proofs.lemmas.Bool.{cond-true, cond-false, cases_Bool, false≢true}
+use Rattle.std.proofs.lemmas.Slice.Eq.{bytes_eq-Decides}
+use Rattle.commons.specs.declared.limits.Limits.{Limits}
+use Rattle.script_text.specs.declared.commands.Key.{Key}
+use Rattle.script_text.specs.declared.commands.Key.TheVariants.{Cache, Workers, Desks, Buf, Refs, Tries, Start}
+use Rattle.script_text.specs.declared.pool_line.Settings.{Settings}
+use Rattle.script_text.specs.Numbers.{IsNumber}
+use Rattle.script_text.specs.PoolLine.{spelled, same_key, ArePairs, given, AreOnce, limits_with, IsPoolLine}
+use Rattle.script_text.specs.inside.Reading.{number_at, keys, key_at, value_of, value_with, with_value, none_given, add_value, add_pair, settings_from, limits_by, pool_with, limits_from}
+use Rattle.script_text.proofs.NumberLemmas.{number_from, number_is}
+use Rattle.script_text.proofs.SettingsLemmas.{no_settings, no_number, one_pair, with_pair}
+use Rattle.script_text.proofs.KeptLemmas.{and_then_some, found_is}
+
+-- ---- a test that chose
+
+pub if_some : {A : Type 0} (b : Bool) (o : Option A) (y : A) → cond b o None ≡ Some y → (b ≡ true) × (o ≡ Some y)
+if_some true o y e = (refl, e)
+if_some false o y e = absurd cc
+
+-- what is found by its spelling is spelled so
+pub spelled_from : {A : Type 0} (spelling : A → List ℕ) (all : List A) (word : List ℕ) (one : A) → find (λ a. bytes_eq word (spelling a)) all ≡ Some one → word ≡ spelling one
+spelled_from spelling [] word one e = absurd cc
+spelled_from spelling (first ∷ others) word one e = elim (cases_Bool (bytes_eq word (spelling first))) [
+  | inl same ↦
+      let found : first ≡ one = found_is first one (sym (cond-true (bytes_eq word (spelling first)) (Some first) (find (λ a. bytes_eq word (spelling a)) others) same) ∙ e) in
+      (bytes_eq-Decides word (spelling first)).0 same ∙ ap spelling found
+  | inr other ↦ spelled_from spelling others word one (sym (cond-false (bytes_eq word (spelling first)) (Some first) (find (λ a. bytes_eq word (spelling a)) others) other) ∙ e)
+]
+
+pub if_none : {A : Type 0} (b : Bool) (o : Option A) (y : A) → cond b None o ≡ Some y → (b ≡ false) × (o ≡ Some y)
+if_none true o y e = absurd cc
+if_none false o y e = (refl, e)
+
+-- ---- keys
+
+key_from : (word : List ℕ) (key : Key) → key_at word ≡ Some key → word ≡ spelled key
+key_from word key e = spelled_from spelled keys word key e
+
+key_at-spelled : (key : Key) → key_at (spelled key) ≡ Some key
+key_at-spelled Cache = refl
+key_at-spelled Workers = refl
+key_at-spelled Desks = refl
+key_at-spelled Buf = refl
+key_at-spelled Refs = refl
+key_at-spelled Tries = refl
+key_at-spelled Start = refl
+
+same_key-true : (a b : Key) → same_key a b ≡ true → a ≡ b
+same_key-true a b e = found_is a b (sym (key_at-spelled a) ∙ ap key_at ((bytes_eq-Decides (spelled a) (spelled b)).0 e) ∙ key_at-spelled b)
+
+same_key-refl : (a : Key) → same_key a a ≡ true
+same_key-refl a = (bytes_eq-Decides (spelled a) (spelled a)).1 refl
+
+with-each : (settings : Settings) (key other : Key) (value : ℕ) → value_of (with_value settings key value) other ≡ value_with settings key value other
+with-each settings key Cache value = refl
+with-each settings key Workers value = refl
+with-each settings key Desks value = refl
+with-each settings key Buf value = refl
+with-each settings key Refs value = refl
+with-each settings key Tries value = refl
+with-each settings key Start value = refl
+
+with-same : (settings : Settings) (key : Key) (value : ℕ) → value_of (with_value settings key value) key ≡ Some value
+with-same settings key value = with-each settings key key value ∙ cond-true (same_key key key) (Some value) (value_of settings key) (same_key-refl key)
+
+with-other : (settings : Settings) (key other : Key) (value : ℕ) → same_key other key ≡ false → value_of (with_value settings key value) other ≡ value_of settings other
+with-other settings key other value e = with-each settings key other value ∙ cond-false (same_key other key) (Some value) (value_of settings other) e
+
+-- ---- pairs
+
+abbrev or_else : Option ℕ → Option ℕ → Option ℕ
+or_else None other = other
+or_else (Some value) other = Some value
+
+-- no key of the pairs has a value before
+abbrev AreFree : Settings → List (Key × ℕ) → Type 0
+AreFree settings pairs = (key : Key) (value : ℕ) → given key pairs ≡ Some value → value_of settings key ≡ None
+
+-- the later settings are the earlier ones with the pairs
+abbrev AreWith : Settings → List (Key × ℕ) → Settings → Type 0
+AreWith settings pairs later = (key : Key) → value_of later key ≡ or_else (given key pairs) (value_of settings key)
+
+given-same : (key : Key) (value : ℕ) (pairs : List (Key × ℕ)) → given key ((key, value) ∷ pairs) ≡ Some value
+given-same key value pairs = cond-true (same_key key key) (Some value) (given key pairs) (same_key-refl key)
+
+given-other : (other key : Key) (value : ℕ) (pairs : List (Key × ℕ)) → same_key other key ≡ false → given other ((key, value) ∷ pairs) ≡ given other pairs
+given-other other key value pairs e = cond-false (same_key other key) (Some value) (given other pairs) e
+
+AreWith-more : (settings : Settings) (key : Key) (value : ℕ) (pairs : List (Key × ℕ)) (later : Settings) → given key pairs ≡ None → AreWith (with_value settings key value) pairs later → AreWith settings ((key, value) ∷ pairs) later
+AreWith-more settings key value pairs later none h other =
+    elim (cases_Bool (same_key other key)) [
+      | inl e ↦
+          let same : key ≡ other = sym (same_key-true other key e) in
+          subst (λ (k : Key). value_of later k ≡ or_else (given k ((key, value) ∷ pairs)) (value_of settings k)) same
+          (h key ∙ ap (λ (o : Option ℕ). or_else o (value_of (with_value settings key value) key)) none ∙ with-same settings key value ∙ sym (ap (λ (o : Option ℕ). or_else o (value_of settings key)) (given-same key value pairs)))
+      | inr e ↦
+          h other ∙ ap (or_else (given other pairs)) (with-other settings key other value e) ∙ sym (ap (λ (o : Option ℕ). or_else o (value_of settings other)) (given-other other key value pairs e))
+    ]
+
+none_or : {A : Type 0} (o : Option A) → ((x : A) → o ≡ Some x → ⊥) → o ≡ None
+none_or None h = refl
+none_or (Some x) h = absurd (h x refl)
+
+not_some : {A : Type 0} (o : Option A) → is_some o ≡ false → o ≡ None
+not_some None e = refl
+not_some (Some x) e = absurd (false≢true (sym e))
+
+-- what settings from words say
+record ComeFrom (settings : Settings) (words : List (List ℕ)) (later : Settings) : Type 0 where
+  pairs : List (Key × ℕ)
+  are_pairs : ArePairs words pairs
+  once : AreOnce pairs
+  free : AreFree settings pairs
+  are_with : AreWith settings pairs later
+
+-- a key that is new, before settings that come from the words behind it
+settings_with : (settings later : Settings) (key : Key) (value : ℕ) (word number : List ℕ) (words : List (List ℕ)) → word ≡ spelled key → IsNumber number value → value_of settings key ≡ None → ComeFrom (with_value settings key value) words later → ComeFrom settings (word ∷ number ∷ words) later
+settings_with settings later key value word number words spells_key is_number before rest =
+    let none : given key rest.pairs ≡ None = none_or (given key rest.pairs) (λ v f. let clash = sym (with-same settings key value) ∙ rest.free key v f in absurd cc) in
+    record {
+      pairs = (key, value) ∷ rest.pairs;
+      are_pairs = (number, words, ap (λ (w : List ℕ). w ∷ number ∷ words) spells_key, is_number, rest.are_pairs);
+      once = (none, rest.once);
+      free = λ other v f. elim (cases_Bool (same_key other key)) [
+        | inl s ↦ ap (value_of settings) (same_key-true other key s) ∙ before
+        | inr s ↦ sym (with-other settings key other value s) ∙ rest.free other v (sym (given-other other key value rest.pairs s) ∙ f)
+      ];
+      are_with = AreWith-more settings key value rest.pairs later none rest.are_with;
+    }
+
+-- what it takes to read a pair
+record IsPair (settings next : Settings) (word number : List ℕ) : Type 0 where
+  key : Key
+  value : ℕ
+  spells_key : word ≡ spelled key
+  is_number : IsNumber number value
+  before : value_of settings key ≡ None
+  next_is : with_value settings key value ≡ next
+
+pair_comes : (settings next : Settings) (word number : List ℕ) → add_pair settings word number ≡ Some next → IsPair settings next word number
+pair_comes settings next word number e =
+    let k = and_then_some (λ key. option_and_then (λ value. add_value settings key value) (number_at number)) (key_at word) next e in
+    let v = and_then_some (λ value. add_value settings k.0 value) (number_at number) next k.2 in
+    let added = if_none (is_some (value_of settings k.0)) (Some (with_value settings k.0 v.0)) next v.2 in
+    record {
+      key = k.0;
+      value = v.0;
+      spells_key = key_from word k.0 k.1;
+      is_number = number_from number v.0 v.1;
+      before = not_some (value_of settings k.0) added.0;
+      next_is = found_is (with_value settings k.0 v.0) next added.1;
+    }
+
+settings_come : (words : List (List ℕ)) (settings later : Settings) → settings_from settings words ≡ Some later → ComeFrom settings words later
+settings_come [] settings later e = record {
+  pairs = [];
+  are_pairs = refl;
+  once = tt;
+  free = λ key value f. absurd cc;
+  are_with = λ key. ap (λ (s : Settings). value_of s key) (sym (found_is settings later (sym (no_settings settings) ∙ e)));
+}
+settings_come (word ∷ []) settings later e = let none = sym (no_number settings word) ∙ e in absurd cc
+settings_come (word ∷ number ∷ words) settings later e =
+    let a = and_then_some (λ more. settings_from more words) (add_pair settings word number) later (sym (one_pair settings word number words) ∙ e) in
+    let p = pair_comes settings a.0 word number a.1 in
+    settings_with settings later p.key p.value word number words p.spells_key p.is_number p.before
+    (settings_come words (with_value settings p.key p.value) later (ap (λ (s : Settings). settings_from s words) p.next_is ∙ a.2))
+
+settings_go : (pairs : List (Key × ℕ)) (words : List (List ℕ)) (settings : Settings) → ArePairs words pairs → AreOnce pairs → AreFree settings pairs → (later : Settings) × (settings_from settings words ≡ Some later) × AreWith settings pairs later
+settings_go [] words settings p once free = (settings, ap (settings_from settings) p ∙ no_settings settings, λ key. refl)
+settings_go ((key, value) ∷ pairs) words settings p once free =
+    let number = p.0 in
+    let rest = p.1 in
+    let next = with_value settings key value in
+    let before : value_of settings key ≡ None = free key value (given-same key value pairs) in
+    let added : add_value settings key value ≡ Some next = cond-false (is_some (value_of settings key)) None (Some next) (ap is_some before) in
+    let free_next : AreFree next pairs = λ other v f. elim (cases_Bool (same_key other key)) [
+      | inl s ↦ let clash = sym once.0 ∙ ap (λ (k : Key). given k pairs) (sym (same_key-true other key s)) ∙ f in absurd cc
+      | inr s ↦ with-other settings key other value s ∙ free other v (given-other other key value pairs s ∙ f)
+    ] in
+    let more = settings_go pairs rest next p.4 once.1 free_next in (
+      more.0,
+      ap (settings_from settings) p.2 ∙ with_pair settings (spelled key) number rest key (Some value) (key_at-spelled key) (number_is number value p.3) ∙ ap (option_and_then (λ s. settings_from s rest)) added ∙ more.1,
+      AreWith-more settings key value pairs more.0 once.0 more.2,
+    )
+
+-- ---- the limits
+
+or_none : (o : Option ℕ) → or_else o None ≡ o
+or_none None = refl
+or_none (Some x) = refl
+
+none_value : (key : Key) → value_of none_given key ≡ None
+none_value Cache = refl
+none_value Workers = refl
+none_value Desks = refl
+none_value Buf = refl
+none_value Refs = refl
+none_value Tries = refl
+none_value Start = refl
+
+limits_same : (population : ℕ) (pairs : List (Key × ℕ)) (settings : Settings) → AreWith none_given pairs settings → limits_by population settings ≡ limits_with population pairs
+limits_same population pairs settings h =
+    let cache : settings.cache ≡ given Cache pairs = h Cache ∙ or_none (given Cache pairs) in
+    let workers : settings.workers ≡ given Workers pairs = h Workers ∙ or_none (given Workers pairs) in
+    let desks : settings.desks ≡ given Desks pairs = h Desks ∙ or_none (given Desks pairs) in
+    let buf : settings.buf ≡ given Buf pairs = h Buf ∙ or_none (given Buf pairs) in
+    let refs : settings.refs ≡ given Refs pairs = h Refs ∙ or_none (given Refs pairs) in
+    let tries : settings.tries ≡ given Tries pairs = h Tries ∙ or_none (given Tries pairs) in
+    let start : settings.start ≡ given Start pairs = h Start ∙ or_none (given Start pairs) in
+    rw (cache, workers, desks, buf, refs, tries, start) refl
+
+pool_from_words : (word : List ℕ) (words : List (List ℕ)) (limits : Limits) → word ≡ codes "pool" → pool_with words ≡ Some limits → IsPoolLine (word ∷ words) limits
+pool_from_words word [] limits e f = absurd cc
+pool_from_words word (number ∷ words) limits e f =
+    let a = and_then_some (λ population. option_and_then (λ settings. Some (limits_by population settings)) (settings_from none_given words)) (number_at number) limits f in
+    let b = and_then_some (λ settings. Some (limits_by a.0 settings)) (settings_from none_given words) limits a.2 in
+    let c = settings_come words none_given b.0 b.1 in
+    record {
+      number = number;
+      population = a.0;
+      rest = words;
+      pairs = c.pairs;
+      words_are = ap (λ (w : List ℕ). w ∷ number ∷ words) e;
+      population_is = number_from number a.0 a.1;
+      pairs_are = c.are_pairs;
+      once = c.once;
+      limits_are = sym (found_is (limits_by a.0 b.0) limits b.2) ∙ limits_same a.0 c.pairs b.0 c.are_with;
+    }
+
+pub pool_line_from : (words : List (List ℕ)) (limits : Limits) → limits_from words ≡ Some limits → IsPoolLine words limits
+pool_line_from [] limits e = absurd cc
+pool_line_from (word ∷ words) limits e =
+    let a = if_some (bytes_eq word (codes "pool")) (pool_with words) limits e in
+    pool_from_words word words limits ((bytes_eq-Decides word (codes "pool")).0 a.0) a.1
+
+pub pool_line_is : (words : List (List ℕ)) (limits : Limits) → IsPoolLine words limits → limits_from words ≡ Some limits
+pool_line_is words limits h =
+    let s = settings_go h.pairs h.rest none_given h.pairs_are h.once (λ key value f. none_value key) in
+    ap limits_from h.words_are
+    ∙ ap (option_and_then (λ population. option_and_then (λ settings. Some (limits_by population settings)) (settings_from none_given h.rest))) (number_is h.number h.population h.population_is)
+    ∙ ap (option_and_then (λ settings. Some (limits_by h.population settings))) s.1
+    ∙ ap (λ (l : Limits). Some l) (limits_same h.population h.pairs s.0 s.2 ∙ sym h.limits_are)

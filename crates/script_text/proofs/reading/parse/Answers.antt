@@ -1,0 +1,11 @@
+use Rattle.script_text.proofs.ScriptLemmas.{is_read, is_caused, only_one}
+use Rattle.script_text.proofs.reading.parse.Goals as goal
+
+pub returns-clause-read : goal.returns-clause-read
+returns-clause-read c = is_read c.script_of.result c.args.bytes.now c.script_of.ensures
+
+pub returns-clause-faults : goal.returns-clause-faults
+returns-clause-faults c = is_caused c.script_of.result c.args.bytes.now c.script_of.ensures
+
+pub returns-clause-only : goal.returns-clause-only
+returns-clause-only c = λ limits lines h. only_one c.script_of.result c.args.bytes.now limits lines h c.script_of.ensures

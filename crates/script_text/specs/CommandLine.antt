@@ -1,0 +1,126 @@
+-- Command lines: which words are a command of which worker, and which names commands make.
+use Rattle.std.specs.Prelude.{◌≡◌, ℕ, ◌≤◌, ◌⊎◌, List, [], ◌∷◌, ◌++◌, length, codes}
+use Rattle.std.specs.List.{AllByRecursion}
+use Rattle.commons.specs.declared.change.Change.{Change}
+use Rattle.commons.specs.declared.change.Change.TheVariants.{Append, Prepend, Adj, Trim}
+use Rattle.script_text.specs.declared.commands.Command.{Command}
+use Rattle.script_text.specs.declared.commands.Command.TheVariants.{Alloc, Bulk, Free, Resize, Chain, Attach, Detach, Clone, Count, Offer, Take, Flush}
+use Rattle.script_text.specs.declared.commands.Line.{Line}
+use Rattle.script_text.specs.Names.{IsName}
+use Rattle.script_text.specs.Numbers.{IsNumber}
+
+-- how a change of lengths is written
+abbrev pub change_word : Change → List ℕ
+change_word (Append n) = codes "append"
+change_word (Prepend n) = codes "prepend"
+change_word (Adj n) = codes "adj"
+change_word (Trim n) = codes "trim"
+
+-- by how many bytes it is
+abbrev pub bytes_of : Change → ℕ
+bytes_of (Append n) = n
+bytes_of (Prepend n) = n
+bytes_of (Adj n) = n
+bytes_of (Trim n) = n
+
+-- the words are 1 to 256 names
+pub record AreNames (words : List (List ℕ)) : Type 0 where
+  pub some : 1 ≤ length words
+  pub few : length words ≤ 256
+  pub each : AllByRecursion IsName words
+
+-- the words are this verb and a name
+abbrev pub AreVerbAndName : List (List ℕ) → List ℕ → List ℕ → Type 0
+AreVerbAndName words verb name = (words ≡ verb ∷ name ∷ []) × IsName name
+
+-- the words are this verb and two names
+abbrev pub AreVerbAndNames : List (List ℕ) → List ℕ → List ℕ → List ℕ → Type 0
+AreVerbAndNames words verb first second = (words ≡ verb ∷ first ∷ second ∷ []) × IsName first × IsName second
+
+-- the words are these, with a word for the number among them; the name is one, and the number, of bytes or of a desk, is at most 65535
+pub record AreWithNumber (words : List (List ℕ)) (around : List ℕ → List (List ℕ)) (name : List ℕ) (n : ℕ) : Type 0 where
+  pub number : List ℕ
+  pub words_are : words ≡ around number
+  pub is_name : IsName name
+  pub is_number : IsNumber number n
+  pub short : n ≤ 65535
+
+-- the words are this command
+abbrev pub IsCommand : List (List ℕ) → Command → Type 0
+IsCommand words (Alloc name) = AreVerbAndName words (codes "alloc") name
+IsCommand words (Bulk names) = (words ≡ codes "bulk" ∷ names) × AreNames names
+IsCommand words (Free name) = AreVerbAndName words (codes "free") name
+IsCommand words (Resize name change) = AreWithNumber words (λ number. change_word change ∷ name ∷ number ∷ []) name (bytes_of change)
+IsCommand words (Chain head tail) = AreVerbAndNames words (codes "chain") head tail
+IsCommand words (Attach first second) = AreVerbAndNames words (codes "attach") first second
+IsCommand words (Detach packet) = AreVerbAndName words (codes "detach") packet
+IsCommand words (Clone packet made) = AreVerbAndNames words (codes "clone") packet made
+IsCommand words (Count packet) = AreVerbAndName words (codes "count") packet
+IsCommand words (Offer packet desk) = AreWithNumber words (λ number. codes "offer" ∷ packet ∷ number ∷ []) packet desk
+IsCommand words (Take desk made) = AreWithNumber words (λ number. codes "take" ∷ number ∷ made ∷ []) made desk
+IsCommand words Flush = words ≡ codes "flush" ∷ []
+
+-- the word is a worker's number, from 1 to that of the last, with a colon behind it
+pub record IsPrefix (word : List ℕ) (workers worker : ℕ) : Type 0 where
+  pub number : List ℕ
+  pub whole : word ≡ number ++ codes ":"
+  pub is_number : IsNumber number worker
+  pub first : 1 ≤ worker
+  pub last : worker ≤ workers
+
+-- the words are a line of this worker, in a pool of so many, with this command
+pub data IsCommandLine (workers : ℕ) (words : List (List ℕ)) (worker : ℕ) (command : Command) : Type 0 where
+  -- a line that names no worker is of the first
+  alone : worker ≡ 1 → IsCommand words command → IsCommandLine workers words worker command
+  -- and one that does is of the worker that stands in front of the command
+  prefixed : (word : List ℕ) → (rest : List (List ℕ)) → words ≡ word ∷ rest → IsPrefix word workers worker → IsCommand rest command → IsCommandLine workers words worker command
+
+-- the name is one of these
+abbrev pub IsOneOf : List (List ℕ) → List ℕ → Type 0
+IsOneOf [] name = ⊥
+IsOneOf (first ∷ names) name = (first ≡ name) ⊎ IsOneOf names name
+
+-- none of these stands twice
+abbrev pub AreApart : List (List ℕ) → Type 0
+AreApart [] = Unit {0}
+AreApart (name ∷ names) = (IsOneOf names name → ⊥) × AreApart names
+
+-- the command makes the name
+abbrev pub Makes : Command → List ℕ → Type 0
+Makes (Alloc made) name = made ≡ name
+Makes (Bulk names) name = IsOneOf names name
+Makes (Free freed) name = ⊥
+Makes (Resize packet change) name = ⊥
+Makes (Chain head tail) name = ⊥
+Makes (Attach first second) name = ⊥
+Makes (Detach packet) name = ⊥
+Makes (Clone packet made) name = made ≡ name
+Makes (Count packet) name = ⊥
+Makes (Offer packet desk) name = ⊥
+Makes (Take desk made) name = made ≡ name
+Makes Flush name = ⊥
+
+-- one of the lines makes the worker's name
+abbrev pub IsMade : List Line → ℕ → List ℕ → Type 0
+IsMade [] worker name = ⊥
+IsMade (line ∷ lines) worker name = ((line.worker ≡ worker) × Makes line.command name) ⊎ IsMade lines worker name
+
+-- the command makes each of its names once
+abbrev pub MakesOnce : Command → Type 0
+MakesOnce (Alloc name) = Unit {0}
+MakesOnce (Bulk names) = AreApart names
+MakesOnce (Free name) = Unit {0}
+MakesOnce (Resize name change) = Unit {0}
+MakesOnce (Chain head tail) = Unit {0}
+MakesOnce (Attach first second) = Unit {0}
+MakesOnce (Detach packet) = Unit {0}
+MakesOnce (Clone packet made) = Unit {0}
+MakesOnce (Count packet) = Unit {0}
+MakesOnce (Offer packet desk) = Unit {0}
+MakesOnce (Take desk made) = Unit {0}
+MakesOnce Flush = Unit {0}
+
+-- no line has made before what the worker's command makes, and it makes it once
+pub record MakesAnew (lines : List Line) (worker : ℕ) (command : Command) : Type 0 where
+  pub new : (name : List ℕ) → Makes command name → IsMade lines worker name → ⊥
+  pub once : MakesOnce command

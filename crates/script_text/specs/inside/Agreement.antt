@@ -1,0 +1,111 @@
+-- How what the crate's own functions return agrees with the functions on lists. No public clause cites this module.
+use Rattle.std.specs.Prelude.{◌≡◌, ◌≤◌, ℕ, zero, suc, Bool, true, false, ◌&&◌, ◌==◌, nat_eq, List, [], ◌∷◌, Option, Some, None, Result, Ok, Err}
+use Rattle.std.specs.List.{AllByRecursion}
+use Rattle.std.specs.Cmp.Lexicographic.{pointwise}
+use Rattle.std.specs.HashSet.{contains}
+use Rattle.commons.specs.declared.limits.Limits.{Limits}
+use Rattle.commons.specs.declared.refusal.Refusal.{Refusal}
+use Rattle.commons.specs.declared.refusal.Refusal.TheVariants as refusals
+use Rattle.script_text.specs.declared.commands.Command.{Command}
+use Rattle.script_text.specs.declared.commands.Command.TheVariants.{Alloc, Bulk, Free, Resize, Chain, Attach, Detach, Clone, Count, Offer, Take, Flush}
+use Rattle.script_text.specs.declared.commands.Line.{Line}
+use Rattle.script_text.specs.declared.commands.Script.{Script}
+use Rattle.script_text.specs.declared.made_names.MadeNames.{MadeNames}
+use Rattle.script_text.specs.declared.reader.Reader.{Reader}
+use Rattle.script_text.specs.declared.reader.Stop.{Stop}
+use Rattle.script_text.specs.declared.reader.Stop.TheVariants.{Fault, BadPool, OutOfMemory}
+use Rattle.script_text.specs.Names.{IsName}
+use Rattle.script_text.specs.Grammar.{State}
+use Rattle.script_text.specs.inside.Reading.{is_made, are_ready, is_pool}
+
+-- ---- names that were made
+
+-- a name with zeros behind it
+unfoldable pub padded_to : ℕ → List ℕ → List ℕ
+padded_to zero name = []
+padded_to (suc n) [] = 0 ∷ padded_to n []
+padded_to (suc n) (byte ∷ name) = byte ∷ padded_to n name
+
+-- whether two keys are the same
+abbrev pub same_made : ℕ × List ℕ → ℕ × List ℕ → Bool
+same_made one other = one.0 == other.0 && pointwise nat_eq one.1 other.1
+
+-- whether the worker's name is there
+unfoldable pub has_made : MadeNames → ℕ → List ℕ → Bool
+has_made made worker name = contains same_made made.keys (worker, padded_to 16 name)
+
+-- the names are those that the lines make
+abbrev pub AreMade : MadeNames → List Line → Type 0
+AreMade made lines = (worker : ℕ) (name : List ℕ) → IsName name → has_made made worker name ≡ is_made lines worker name
+
+-- ---- a reader
+
+-- what the lines so far have told
+abbrev pub state_of : Reader → State
+state_of reader = record { limits = reader.limits; lines = reader.lines.items }
+
+-- the worker is one of so many
+abbrev pub IsAmong : ℕ → ℕ → Type 0
+IsAmong workers worker = (1 ≤ worker) × (worker ≤ workers)
+
+-- no line comes before the limits, and then each is of one of their workers
+abbrev pub AreWithin : Option Limits → List Line → Type 0
+AreWithin None lines = lines ≡ []
+AreWithin (Some limits) lines = AllByRecursion (λ line. IsAmong limits.workers line.worker) lines
+
+-- what each reader keeps
+pub record IsKept (reader : Reader) : Type 0 where
+  pub ready : are_ready reader.limits ≡ true
+  pub workers : AreWithin reader.limits reader.lines.items
+  pub made : AreMade reader.made reader.lines.items
+
+-- a name is what the command has as its name
+abbrev pub IsNamed : Command → Type 0
+IsNamed (Alloc name) = IsName name
+IsNamed (Bulk names) = AllByRecursion IsName names
+IsNamed (Free name) = IsName name
+IsNamed (Resize name change) = IsName name
+IsNamed (Chain head tail) = IsName head × IsName tail
+IsNamed (Attach first second) = IsName first × IsName second
+IsNamed (Detach packet) = IsName packet
+IsNamed (Clone packet made) = IsName packet × IsName made
+IsNamed (Count packet) = IsName packet
+IsNamed (Offer packet desk) = IsName packet
+IsNamed (Take desk made) = IsName made
+IsNamed Flush = Unit {0}
+
+-- why a pool line wasn't read
+abbrev pub StopsPool : Stop → Option Limits → Type 0
+StopsPool Fault read = read ≡ None
+StopsPool BadPool read = (limits : Limits) × (read ≡ Some limits) × (is_pool limits ≡ false)
+StopsPool OutOfMemory read = ⊥
+
+-- why a command line wasn't read
+abbrev pub StopsCommand : Stop → Option State → Type 0
+StopsCommand Fault read = read ≡ None
+StopsCommand BadPool read = ⊥
+StopsCommand OutOfMemory read = Unit {0}
+
+-- why the line with this number wasn't read
+abbrev pub StopsLine : Stop → ℕ → Result State Refusal → Type 0
+StopsLine Fault number read = read ≡ Err (refusals.ScriptFault number)
+StopsLine BadPool number read = read ≡ Err refusals.BadPool
+StopsLine OutOfMemory number read = Unit {0}
+
+-- the refusal for the line with this number
+abbrev pub refusal_at : Stop → ℕ → Refusal
+refusal_at Fault number = refusals.ScriptFault number
+refusal_at BadPool number = refusals.BadPool
+refusal_at OutOfMemory number = refusals.OutOfMemory
+
+-- ---- a script
+
+-- the reading was refused likewise; of a refusal for want of memory nothing is said
+abbrev pub Fails : Refusal → Result State Refusal → Type 0
+Fails refusals.OutOfMemory read = Unit {0}
+Fails refusal read = read ≡ Err refusal
+
+-- what was returned is what the bytes are read as, unless memory was refused
+abbrev pub Gives : Result Script Refusal → Result State Refusal → Type 0
+Gives (Ok script) read = read ≡ Ok (record { limits = Some script.limits; lines = script.lines })
+Gives (Err refusal) read = Fails refusal read

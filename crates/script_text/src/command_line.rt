@@ -1,0 +1,339 @@
+//! The words of a command line.
+
+ghost use Rattle.std.specs.Prelude.{◌≡◌, ◌≤◌, [], ◌∷◌, codes, IfOk, MatchOption, if◌then◌else◌, Option, None, Some};
+ghost use Rattle.std.specs.Str.{bytes_eq};
+ghost use Rattle.std.specs.Option.{option_copied};
+ghost use Rattle.script_text.specs.inside.Reading.{before_colon, both_names, both_of, command_from, command_with as command_by, name_and_number as name_and_number_of, name_at, names_with, number_and_name as number_and_name_of, numbered_name as numbered_name_of, only_name_of, order_from, short_number_at, verb_at, words_of, worker_at};
+
+use crate::commands::{Command, Name};
+use crate::line::next_word;
+use crate::name::is_name;
+use crate::number::number_of;
+use commons::change::Change;
+use commons::seq::Seq;
+use std::alloc::{AllocError, Global};
+
+/// The most names that a bulk has.
+const MAX_NAMES: usize = 256;
+
+/// The first word of a command.
+#[derive(Clone, Copy, PartialEq, Eq, Debug)]
+enum Verb {
+    Alloc,
+    Bulk,
+    Free,
+    Append,
+    Prepend,
+    Adj,
+    Trim,
+    Chain,
+    Attach,
+    Detach,
+    Clone,
+    Count,
+    Offer,
+    Take,
+    Flush,
+}
+
+/// The verb that a word spells.
+fn verb_of(word: &[u8]) -> Option<Verb>
+    ensures { result ≡ verb_at word.now }
+{
+    if word == b"alloc".as_slice() {
+        Some(Verb::Alloc)
+    } else if word == b"bulk".as_slice() {
+        Some(Verb::Bulk)
+    } else if word == b"free".as_slice() {
+        Some(Verb::Free)
+    } else if word == b"append".as_slice() {
+        Some(Verb::Append)
+    } else if word == b"prepend".as_slice() {
+        Some(Verb::Prepend)
+    } else if word == b"adj".as_slice() {
+        Some(Verb::Adj)
+    } else if word == b"trim".as_slice() {
+        Some(Verb::Trim)
+    } else if word == b"chain".as_slice() {
+        Some(Verb::Chain)
+    } else if word == b"attach".as_slice() {
+        Some(Verb::Attach)
+    } else if word == b"detach".as_slice() {
+        Some(Verb::Detach)
+    } else if word == b"clone".as_slice() {
+        Some(Verb::Clone)
+    } else if word == b"count".as_slice() {
+        Some(Verb::Count)
+    } else if word == b"offer".as_slice() {
+        Some(Verb::Offer)
+    } else if word == b"take".as_slice() {
+        Some(Verb::Take)
+    } else if word == b"flush".as_slice() {
+        Some(Verb::Flush)
+    } else {
+        None
+    }
+}
+
+/// The only word of a rest of a line, where it is a name.
+fn only_name(rest: &[u8]) -> Option<&[u8]>
+    ensures { option_copied result ≡ only_name_of (words_of rest.now) }
+{
+    let (word, after) = next_word(rest)?;
+    if is_name(word) && next_word(after).is_none() {
+        Some(word)
+    } else {
+        None
+    }
+}
+
+/// A copy of the only word of a rest of a line, where it is a name.
+fn copied_name(alloc: Global, rest: &[u8]) -> Result<Option<Name>, AllocError>
+    ensures { IfOk result (λ name. name ≡ only_name_of (words_of rest.now)) }
+{
+    match only_name(rest) {
+        Some(name) => Ok(Some(Seq::new(Vec::from_slice(alloc, name)?))),
+        None => Ok(None),
+    }
+}
+
+/// Copies of the words of a rest of a line, where they are 1 to 256 names.
+fn names_of(alloc: Global, rest: &[u8]) -> Result<Option<Seq<Name>>, AllocError>
+    ensures { IfOk result (λ names. names ≡ names_with (words_of rest.now)) }
+{
+    let mut names = Vec::new(alloc);
+    let mut left = rest;
+    while let Some((word, after)) = next_word(left) {
+        if names.len() == MAX_NAMES {
+            return Ok(None);
+        }
+        let Some(name) = name_of(alloc, word)? else {
+            return Ok(None);
+        };
+        names.push(name)?;
+        left = after;
+    }
+    if names.is_empty() {
+        Ok(None)
+    } else {
+        Ok(Some(Seq::new(names)))
+    }
+}
+
+/// The only two words of a rest of a line.
+fn both_words(rest: &[u8]) -> Option<(&[u8], &[u8])>
+    ensures { MatchOption result
+        (both_of (words_of rest.now) ≡ None)
+        (λ found. both_of (words_of rest.now) ≡ Some (found.0.now, found.1.now)) }
+{
+    let (first, after) = next_word(rest)?;
+    let (second, behind) = next_word(after)?;
+    if next_word(behind).is_none() {
+        Some((first, second))
+    } else {
+        None
+    }
+}
+
+/// A copy of a word, where it is a name.
+fn name_of(alloc: Global, word: &[u8]) -> Result<Option<Name>, AllocError>
+    ensures { IfOk result (λ name. name ≡ name_at word.now) }
+{
+    if is_name(word) {
+        Ok(Some(Seq::new(Vec::from_slice(alloc, word)?)))
+    } else {
+        Ok(None)
+    }
+}
+
+/// The number that a word spells, at most 65,535, as of a length in bytes or of a desk.
+fn short_number_of(word: &[u8]) -> Option<u16>
+    ensures { result ≡ short_number_at word.now }
+{
+    let number = number_of(word)?;
+    if number <= 65_535 {
+        Some(number as u16)
+    } else {
+        None
+    }
+}
+
+/// A copy of a word that is a name, and the number, at most 65,535, that another word spells.
+fn numbered_name(
+    alloc: Global,
+    word: &[u8],
+    other: &[u8],
+) -> Result<Option<(Name, u16)>, AllocError>
+    ensures { IfOk result (λ found. found ≡ numbered_name_of word.now other.now) }
+{
+    let Some(number) = short_number_of(other) else {
+        return Ok(None);
+    };
+    match name_of(alloc, word)? {
+        Some(name) => Ok(Some((name, number))),
+        None => Ok(None),
+    }
+}
+
+/// The name and the number behind it that are the only words of a rest of a line.
+fn name_and_number(alloc: Global, rest: &[u8]) -> Result<Option<(Name, u16)>, AllocError>
+    ensures { IfOk result (λ found. found ≡ name_and_number_of (words_of rest.now)) }
+{
+    match both_words(rest) {
+        Some((word, other)) => numbered_name(alloc, word, other),
+        None => Ok(None),
+    }
+}
+
+/// The name and the number in front of it that are the only words of a rest of a line.
+fn number_and_name(alloc: Global, rest: &[u8]) -> Result<Option<(Name, u16)>, AllocError>
+    ensures { IfOk result (λ found. found ≡ number_and_name_of (words_of rest.now)) }
+{
+    match both_words(rest) {
+        Some((word, other)) => numbered_name(alloc, other, word),
+        None => Ok(None),
+    }
+}
+
+/// Copies of the only two words of a rest of a line, where they are names.
+fn two_names(alloc: Global, rest: &[u8]) -> Result<Option<(Name, Name)>, AllocError>
+    ensures { IfOk result (λ names. names ≡ both_names (words_of rest.now)) }
+{
+    let Some((word, other)) = both_words(rest) else {
+        return Ok(None);
+    };
+    let Some(first) = name_of(alloc, word)? else {
+        return Ok(None);
+    };
+    match name_of(alloc, other)? {
+        Some(second) => Ok(Some((first, second))),
+        None => Ok(None),
+    }
+}
+
+/// The command of a verb and the words behind it, or `None` where they are none.
+fn command_with(alloc: Global, verb: Verb, rest: &[u8]) -> Result<Option<Command>, AllocError>
+    ensures { IfOk result (λ command. command ≡ command_by verb (words_of rest.now)) }
+{
+    match verb {
+        Verb::Alloc => match copied_name(alloc, rest)? {
+            Some(name) => Ok(Some(Command::Alloc(name))),
+            None => Ok(None),
+        },
+        Verb::Bulk => match names_of(alloc, rest)? {
+            Some(names) => Ok(Some(Command::Bulk(names))),
+            None => Ok(None),
+        },
+        Verb::Free => match copied_name(alloc, rest)? {
+            Some(name) => Ok(Some(Command::Free(name))),
+            None => Ok(None),
+        },
+        Verb::Append => match name_and_number(alloc, rest)? {
+            Some((name, len)) => Ok(Some(Command::Resize(name, Change::Append(len)))),
+            None => Ok(None),
+        },
+        Verb::Prepend => match name_and_number(alloc, rest)? {
+            Some((name, len)) => Ok(Some(Command::Resize(name, Change::Prepend(len)))),
+            None => Ok(None),
+        },
+        Verb::Adj => match name_and_number(alloc, rest)? {
+            Some((name, len)) => Ok(Some(Command::Resize(name, Change::Adj(len)))),
+            None => Ok(None),
+        },
+        Verb::Trim => match name_and_number(alloc, rest)? {
+            Some((name, len)) => Ok(Some(Command::Resize(name, Change::Trim(len)))),
+            None => Ok(None),
+        },
+        Verb::Chain => match two_names(alloc, rest)? {
+            Some((head, tail)) => Ok(Some(Command::Chain(head, tail))),
+            None => Ok(None),
+        },
+        Verb::Attach => match two_names(alloc, rest)? {
+            Some((first, second)) => Ok(Some(Command::Attach(first, second))),
+            None => Ok(None),
+        },
+        Verb::Detach => match copied_name(alloc, rest)? {
+            Some(name) => Ok(Some(Command::Detach(name))),
+            None => Ok(None),
+        },
+        Verb::Clone => match two_names(alloc, rest)? {
+            Some((packet, made)) => Ok(Some(Command::Clone(packet, made))),
+            None => Ok(None),
+        },
+        Verb::Count => match copied_name(alloc, rest)? {
+            Some(name) => Ok(Some(Command::Count(name))),
+            None => Ok(None),
+        },
+        Verb::Offer => match name_and_number(alloc, rest)? {
+            Some((packet, desk)) => Ok(Some(Command::Offer(packet, desk))),
+            None => Ok(None),
+        },
+        Verb::Take => match number_and_name(alloc, rest)? {
+            Some((made, desk)) => Ok(Some(Command::Take(desk, made))),
+            None => Ok(None),
+        },
+        Verb::Flush => match next_word(rest) {
+            Some(_) => Ok(None),
+            None => Ok(Some(Command::Flush)),
+        },
+    }
+}
+
+/// The command that words spell, or `None` where they spell none.
+fn command_of(alloc: Global, words: &[u8]) -> Result<Option<Command>, AllocError>
+    ensures { IfOk result (λ command. command ≡ command_from (words_of words.now)) }
+{
+    let Some((word, rest)) = next_word(words) else {
+        return Ok(None);
+    };
+    let Some(verb) = verb_of(word) else {
+        return Ok(None);
+    };
+    command_with(alloc, verb, rest)
+}
+
+/// The part of a word before a colon at its end.
+fn prefix_of(word: &[u8]) -> Option<&[u8]>
+    ensures { option_copied result ≡ before_colon word.now }
+{
+    word.strip_suffix(b":".as_slice())
+}
+
+/// The worker whose number a word spells, in a pool of so many.
+fn worker_of(workers: u64, number: &[u8]) -> Option<u32>
+    requires { workers ≤ 64 }
+    ensures { result ≡ worker_at workers number.now }
+{
+    let worker = number_of(number)?;
+    if 1 <= worker && worker <= workers {
+        Some(worker as u32)
+    } else {
+        None
+    }
+}
+
+/// The worker and the command that a line spells in a pool of so many workers, or `None` where it
+/// spells none. A line that names no worker is of the first.
+pub(crate) fn order_of(
+    alloc: Global,
+    workers: u64,
+    line: &[u8],
+) -> Result<Option<(u32, Command)>, AllocError>
+    requires { workers ≤ 64 }
+    ensures { IfOk result (λ order. order ≡ order_from workers (words_of line.now)) }
+{
+    let Some((word, rest)) = next_word(line) else {
+        return Ok(None);
+    };
+    let (worker, words) = match prefix_of(word) {
+        None => (1, line),
+        Some(number) => match worker_of(workers, number) {
+            None => return Ok(None),
+            Some(worker) => (worker, rest),
+        },
+    };
+    match command_of(alloc, words)? {
+        None => Ok(None),
+        Some(command) => Ok(Some((worker, command))),
+    }
+}

@@ -1,0 +1,82 @@
+//! The commands of a script, and the script itself.
+
+ghost use Rattle.commons.specs.Bounds.{IsPool};
+ghost use Rattle.script_text.specs.Commands.{AreOfPool};
+
+use commons::change::Change;
+use commons::limits::Limits;
+use commons::seq::Seq;
+
+/// A packet's name: 1 to 16 of `a` to `z` and `0` to `9`, beginning with a letter.
+pub type Name = Seq<u8>;
+
+/// What a line asks a worker to do.
+#[derive(Debug, Drop)]
+pub enum Command {
+    /// Makes a packet of one element.
+    Alloc(Name),
+    /// Makes a packet of one element for each of these names, 1 to 256, all or none.
+    Bulk(Seq<Name>),
+    /// Frees a packet.
+    Free(Name),
+    /// Changes a packet's lengths.
+    Resize(Name, Change),
+    /// Puts the second packet's segments behind those of the first.
+    Chain(Name, Name),
+    /// Lets the first packet, of one segment, use the buffer of the second's first segment.
+    Attach(Name, Name),
+    /// Gives a packet its own buffer back.
+    Detach(Name),
+    /// Makes a clone of the first packet, under the second name.
+    Clone(Name, Name),
+    /// Tells the reference count of a packet's first segment's element.
+    Count(Name),
+    /// Leaves a packet on the desk of this number.
+    Offer(Name, u16),
+    /// Takes the packet off the desk of this number, under this name.
+    Take(u16, Name),
+    /// Puts the worker's whole cache onto the common stack.
+    Flush,
+}
+
+/// A command with the number of its line, from 1, and the worker that performs it, from 1.
+#[derive(Debug, Drop)]
+pub struct Line {
+    /// The line's number in the script, from 1.
+    pub number: u32,
+    /// The worker, from 1.
+    pub worker: u32,
+    /// What it is to do.
+    pub command: Command,
+}
+
+/// A key of the pool line.
+#[derive(Clone, Copy, PartialEq, Eq, Debug)]
+pub enum Key {
+    /// How many elements a worker's cache keeps.
+    Cache,
+    /// How many workers the pool has.
+    Workers,
+    /// How many desks the pool has.
+    Desks,
+    /// Bytes in an element's buffer.
+    Buf,
+    /// The greatest reference count.
+    Refs,
+    /// Lost tries after which a call gives up.
+    Tries,
+    /// The modification count at the start.
+    Start,
+}
+
+/// A script: the limits of its pool, which can be made, and its commands in the order of the lines,
+/// each by a worker of the pool.
+#[derive(Debug, Drop)]
+pub struct Script {
+    /// The limits that the pool line gives.
+    pub limits: Limits,
+    /// The command lines in order.
+    pub lines: Seq<Line>,
+    pub ghost pool: { IsPool limits },
+    pub ghost workers: { AreOfPool limits.workers lines },
+}

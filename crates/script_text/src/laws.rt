@@ -1,0 +1,34 @@
+//! Laws of the grammar of scripts.
+
+ghost use Rattle.std.specs.Prelude.{◌≡◌, ℕ, ◌⊎◌, List};
+ghost use Rattle.commons.specs.declared.limits.Limits.{Limits};
+ghost use Rattle.script_text.specs.declared.commands.Line.{Line};
+ghost use Rattle.script_text.specs.Grammar.{IsScript, IsFirstFault, HasBadPool, IsSomeScript, HasSomeFault};
+
+/// No text is two scripts.
+pub fn one_reading()
+    ensures { (bytes : List ℕ) (limits other_limits : Limits) (lines other_lines : List Line) →
+        IsScript bytes limits lines → IsScript bytes other_limits other_lines →
+        (limits ≡ other_limits) × (lines ≡ other_lines) }
+{}
+
+/// No text has two first faulty lines, and none has both a faulty line and a bad pool.
+pub fn one_fault()
+    ensures line { (bytes : List ℕ) (number other : ℕ) →
+        IsFirstFault bytes number → IsFirstFault bytes other → number ≡ other }
+    ensures pool { (bytes : List ℕ) (number : ℕ) →
+        IsFirstFault bytes number → HasBadPool bytes → ⊥ }
+{}
+
+/// No text with a faulty line or a bad pool is a script.
+pub fn no_faulty_script()
+    ensures line { (bytes : List ℕ) (number : ℕ) (limits : Limits) (lines : List Line) →
+        IsFirstFault bytes number → IsScript bytes limits lines → ⊥ }
+    ensures pool { (bytes : List ℕ) (limits : Limits) (lines : List Line) →
+        HasBadPool bytes → IsScript bytes limits lines → ⊥ }
+{}
+
+/// Every text is a script, or has a first faulty line, or has a bad pool.
+pub fn no_gap()
+    ensures { (bytes : List ℕ) → IsSomeScript bytes ⊎ (HasSomeFault bytes ⊎ HasBadPool bytes) }
+{}

@@ -1,0 +1,53 @@
+//! The names that the lines of a script have made so far.
+
+ghost use Rattle.std.specs.Prelude.{◌≡◌, ◌≤◌, ◌&&◌, ◌||◌, ◌==◌, ℕ, List, false, not, length, slice_index, EachIndex, IfOk, OnOk};
+ghost use Rattle.std.specs.Str.{bytes_eq};
+ghost use Rattle.script_text.specs.Names.{IsName};
+
+use crate::name::MAX_NAME;
+use std::alloc::{AllocError, Global};
+use std::collections::HashSet;
+
+/// The names that were made, each with the worker whose name it is.
+#[derive(Drop)]
+pub(crate) struct MadeNames {
+    keys: HashSet<(u32, [u8; MAX_NAME])>,
+}
+
+/// The name with zeros behind it.
+fn padded(name: &[u8]) -> [u8; MAX_NAME]
+    requires { length name.now ≤ 16 }
+    ensures sized { length result ≡ 16 }
+    ensures bytes { EachIndex result (λ k. slice_index result k ≡ slice_index name.now k) }
+{
+    let mut key = [0; MAX_NAME];
+    for (i, byte) in name.iter().enumerate() {
+        key[i] = *byte;
+    }
+    key
+}
+
+impl MadeNames {
+    ghost use Rattle.script_text.specs.inside.Agreement.{has_made};
+
+    /// No name was made.
+    pub(crate) fn new(alloc: Global) -> MadeNames
+        ensures { (worker : ℕ) (name : List ℕ) → has_made result worker name ≡ false }
+    {
+        MadeNames {
+            keys: HashSet::new(alloc),
+        }
+    }
+
+    /// Adds a worker's name, and says whether it wasn't there.
+    pub(crate) fn add(&mut self, worker: u32, name: &[u8]) -> Result<bool, AllocError>
+        requires { IsName name.now }
+        ensures added { IfOk result (λ added. added ≡ not (has_made self.old worker name.now)) }
+        ensures more { OnOk result ((w : ℕ) (other : List ℕ) → IsName other →
+            has_made self.new w other
+            ≡ ((w == worker && bytes_eq other name.now) || has_made self.old w other)) }
+    {
+        let added = self.keys.insert((worker, padded(name)))?;
+        Ok(added)
+    }
+}

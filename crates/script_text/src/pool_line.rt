@@ -1,0 +1,147 @@
+//! The pool line.
+
+ghost use Rattle.std.specs.Prelude.{◌≡◌, codes};
+ghost use Rattle.std.specs.Str.{bytes_eq};
+ghost use Rattle.script_text.specs.inside.Reading.{words_of, key_at, add_value, value_of, settings_from, none_given, limits_by, limits_from};
+
+use crate::commands::Key;
+use crate::line::next_word;
+use crate::number::number_of;
+use commons::limits::Limits;
+
+/// The key that a word spells.
+fn key_of(word: &[u8]) -> Option<Key>
+    ensures { result ≡ key_at word.now }
+{
+    if word == b"cache".as_slice() {
+        Some(Key::Cache)
+    } else if word == b"workers".as_slice() {
+        Some(Key::Workers)
+    } else if word == b"desks".as_slice() {
+        Some(Key::Desks)
+    } else if word == b"buf".as_slice() {
+        Some(Key::Buf)
+    } else if word == b"refs".as_slice() {
+        Some(Key::Refs)
+    } else if word == b"tries".as_slice() {
+        Some(Key::Tries)
+    } else if word == b"start".as_slice() {
+        Some(Key::Start)
+    } else {
+        None
+    }
+}
+
+/// The values that the keys of a pool line were given so far.
+#[derive(Clone, Copy, PartialEq, Eq, Debug)]
+pub(crate) struct Settings {
+    cache: Option<u64>,
+    workers: Option<u64>,
+    desks: Option<u64>,
+    buf: Option<u64>,
+    refs: Option<u64>,
+    tries: Option<u64>,
+    start: Option<u64>,
+}
+
+/// No key was given a value.
+const NONE_GIVEN: Settings = Settings {
+    cache: None,
+    workers: None,
+    desks: None,
+    buf: None,
+    refs: None,
+    tries: None,
+    start: None,
+};
+
+impl Settings {
+    /// The value that a key was given.
+    fn value(&self, key: Key) -> Option<u64>
+        ensures { result ≡ value_of self.now key }
+    {
+        match key {
+            Key::Cache => self.cache,
+            Key::Workers => self.workers,
+            Key::Desks => self.desks,
+            Key::Buf => self.buf,
+            Key::Refs => self.refs,
+            Key::Tries => self.tries,
+            Key::Start => self.start,
+        }
+    }
+
+    /// The same settings, with this value of this key, or `None` where the key has a value.
+    fn with(self, key: Key, value: u64) -> Option<Settings>
+        ensures { result ≡ add_value self key value }
+    {
+        if self.value(key).is_some() {
+            return None;
+        }
+        let value = Some(value);
+        let mut settings = self;
+        match key {
+            Key::Cache => settings.cache = value,
+            Key::Workers => settings.workers = value,
+            Key::Desks => settings.desks = value,
+            Key::Buf => settings.buf = value,
+            Key::Refs => settings.refs = value,
+            Key::Tries => settings.tries = value,
+            Key::Start => settings.start = value,
+        }
+        Some(settings)
+    }
+
+    /// The limits of a pool with these settings.
+    fn limits(&self, population: u64) -> Limits
+        ensures { result ≡ limits_by population self.now }
+    {
+        Limits {
+            population,
+            cache: self.cache.unwrap_or(0),
+            workers: self.workers.unwrap_or(1),
+            desks: self.desks.unwrap_or(0),
+            buf: self.buf.unwrap_or(2_048),
+            ref_limit: self.refs.unwrap_or(65_535),
+            tries: self.tries.unwrap_or(64),
+            start_count: self.start.unwrap_or(0),
+        }
+    }
+}
+
+/// The settings that the rest of a pool line spells.
+fn settings_of(rest: &[u8]) -> Option<Settings>
+    ensures { result ≡ settings_from none_given (words_of rest.now) }
+{
+    let mut settings = NONE_GIVEN;
+    let mut left = rest;
+    while let Some((word, after)) = next_word(left) {
+        let key = key_of(word)?;
+        let (word, after) = next_word(after)?;
+        let value = number_of(word)?;
+        settings = settings.with(key, value)?;
+        left = after;
+    }
+    Some(settings)
+}
+
+/// Whether a word is `pool`.
+fn is_pool_word(word: &[u8]) -> bool
+    ensures { result ≡ bytes_eq word.now (codes "pool") }
+{
+    word == b"pool".as_slice()
+}
+
+/// The limits that a pool line spells, or `None` where it spells none.
+pub(crate) fn limits_of(line: &[u8]) -> Option<Limits>
+    ensures { result ≡ limits_from (words_of line.now) }
+{
+    let (word, rest) = next_word(line)?;
+    if !is_pool_word(word) {
+        return None;
+    }
+    let (word, rest) = next_word(rest)?;
+    let population = number_of(word)?;
+    let settings = settings_of(rest)?;
+    Some(settings.limits(population))
+}
