@@ -1,0 +1,64 @@
+-- The workers of a pool stay numbered from 1, each with all its slots, and the desks as many.
+use Rattle.std.proofs.Common.{ℕ, zero, suc, ◌≡◌, ◌+◌, ◌-◌, ◌&&◌, nat_le, inl, inr, List, [], ◌∷◌, length, length-set, get_or, set, Option, None, refl, ◌∙◌}
+use Rattle.std.proofs.lemmas.List.{length-replicate}
+use Rattle.std.proofs.lemmas.Bool.{cases_Bool}
+use Rattle.commons.specs.declared.limits.Limits.{Limits}
+use Rattle.commons.specs.declared.packet.Seg.{Seg}
+use Rattle.mbuf.specs.declared.acts.Act.{Act}
+use Rattle.mbuf.specs.Members.{Member, slots}
+use Rattle.pool_model.specs.Pool.{Pool, held_of, member_at, nobody, new_members, new_pool}
+use Rattle.pool_model.specs.PacketModel.{act_on, after_acts, held_elsewhere, perform}
+use Rattle.pool_model.proofs.ActsKeep.{after_acts-keeps}
+use Rattle.pool_model.proofs.DeskStays.{desks_as_many}
+use Rattle.pool_model.proofs.NewMembers.{length-new_members}
+use Rattle.pool_model.proofs.SlotsKept.{SameSlots, member_act-slots}
+
+-- workers with numbers in a row from this one on, each with all its slots
+abbrev pub AreNumbered : ℕ → List Member → Type 0
+AreNumbered number [] = Unit {0}
+AreNumbered number (m ∷ members) = (m.number ≡ number) × (length m.table ≡ slots) × AreNumbered (number + 1) members
+
+-- a pool within these limits, with a worker for each number and a place for each desk
+pub record IsNumbered (l : Limits) (pool : Pool) : Type 0 where
+  pub limits : pool.limits ≡ l
+  pub workers : length pool.members ≡ l.workers
+  pub numbers : AreNumbered 1 pool.members
+  pub desks : length pool.shared.desks ≡ l.desks
+
+-- one of the workers changes
+numbered-set : (number : ℕ) (members : List Member) (n : ℕ) (m d : Member) → SameSlots m (get_or members n d) → AreNumbered number members → AreNumbered number (set members n m)
+numbered-set number [] n m d same a = a
+numbered-set number (x ∷ members) zero m d same a = (same.0 ∙ a.0, same.1 ∙ a.1, a.2)
+numbered-set number (x ∷ members) (suc n) m d same a = (a.0, a.1, numbered-set (number + 1) members n m d same a.2)
+
+-- what a worker does
+perform-numbered : (l : Limits) (pool : Pool) (w : ℕ) (act : Act) → IsNumbered l pool → IsNumbered l (perform pool w act).1
+perform-numbered l pool w act b = elim (cases_Bool (nat_le 1 w && nat_le w (length pool.members))) [
+  | inl e ↦
+      let held = held_of pool.members pool.shared.desks in
+      let others = held_elsewhere pool (w - 1) in
+      rw e (record {
+        limits = b.limits;
+        workers = length-set pool.members (w - 1) (act_on pool (w - 1) act).1 ∙ b.workers;
+        numbers = numbered-set 1 pool.members (w - 1) (act_on pool (w - 1) act).1 (nobody pool.limits) (member_act-slots act held others (member_at pool (w - 1)) pool.shared) b.numbers;
+        desks = desks_as_many act held others (member_at pool (w - 1)) pool.shared ∙ b.desks;
+      })
+  | inr e ↦ rw e b
+]
+
+-- a new pool
+numbered-new : (l : Limits) (number n : ℕ) → AreNumbered number (new_members l number n)
+numbered-new l number zero = tt
+numbered-new l number (suc n) = (refl, length-replicate {A = Option (List Seg)} slots None, numbered-new l (number + 1) n)
+
+new_pool-numbered : (l : Limits) → IsNumbered l (new_pool l)
+new_pool-numbered l = record {
+  limits = refl;
+  workers = length-new_members l 1 l.workers;
+  numbers = numbered-new l 1 l.workers;
+  desks = length-replicate {A = Option (List Seg)} l.desks None;
+}
+
+-- after any acts
+pub acts-numbered : (l : Limits) (acts : List (ℕ × Act)) → IsNumbered l (after_acts acts (new_pool l))
+acts-numbered l acts = after_acts-keeps (IsNumbered l) (perform-numbered l) acts (new_pool l) (new_pool-numbered l)

@@ -1,0 +1,71 @@
+//! Laws of the reference model: of its caches, of its desks, and of a pool after any acts.
+
+ghost use Rattle.std.specs.Prelude.{◌≡◌, ◌≢◌, ◌<◌, ℕ, ◌⊎◌, List, length, slice_index_or, slice_set, None, Some, Result};
+ghost use Rattle.commons.specs.Bounds.{IsPool};
+ghost use Rattle.commons.specs.Calls.{Call};
+ghost use Rattle.commons.specs.declared.limits.Limits.{Limits};
+ghost use Rattle.commons.specs.declared.packet.Seg.{Seg};
+ghost use Rattle.commons.specs.declared.refusal.Refusal.{Refusal};
+ghost use Rattle.commons.specs.declared.refusal.Refusal.TheVariants.{DeskTaken, PacketsFull};
+ghost use Rattle.mempool.specs.Caches.{Gets, Puts, Flushes};
+ghost use Rattle.mempool.specs.declared.put.Put.{Put};
+ghost use Rattle.mbuf.specs.declared.acts.Act.{Act};
+ghost use Rattle.mbuf.specs.declared.acts.Act.TheVariants.{Take};
+ghost use Rattle.mbuf.specs.declared.acts.Reply.TheVariants.{Offered, Refused, Taken};
+ghost use Rattle.mbuf.specs.Lengths.{pkt_len};
+ghost use Rattle.mbuf.specs.Members.{Member};
+ghost use Rattle.mbuf.specs.PacketRules.{free_slot};
+ghost use Rattle.pool_model.specs.CacheLaw.{Meets};
+ghost use Rattle.pool_model.specs.CacheModel.{get as cache_get, put as cache_put, flush as cache_flush};
+ghost use Rattle.pool_model.specs.PacketModel.{after_acts, offer, perform, take_off};
+ghost use Rattle.pool_model.specs.Pool.{Pool, Shared, new_pool};
+ghost use Rattle.pool_model.specs.Statements.{statement_of, ListsEachOnce, PlacesEachOnce};
+
+/// The reference model's caches keep the rules that a worker's cache keeps over any shared pool:
+/// where the model's stack answers the calls of a rule, the rule's reply and cache are the model's.
+pub fn the_model_keeps_the_cache_rules()
+    ensures get { (l : Limits) (cache : List ℕ) (n : ℕ) (calls : List Call) (answer : Result (List ℕ) Refusal) (left : List ℕ) (s t : Shared) →
+        Gets l cache n calls answer left → Meets s calls t → (answer, left, t) ≡ cache_get l n cache s }
+    ensures put { (l : Limits) (cache list : List ℕ) (calls : List Call) (answer : Put) (left : List ℕ) (s t : Shared) →
+        Puts l cache list calls answer left → Meets s calls t → (answer, left, t) ≡ cache_put l list cache s }
+    ensures flush { (cache : List ℕ) (calls : List Call) (answer : Put) (left : List ℕ) (s t : Shared) →
+        Flushes cache calls answer left → Meets s calls t → (answer, left, t) ≡ cache_flush cache s }
+{}
+
+/// A desk gives what was left on it. An offer of a packet on an empty desk of the pool is met. Where an offer is met,
+/// the slot is free afterwards, and the packet that stood in it is on the desk. The next take off this desk, by
+/// whatever worker, is met where the worker has a free slot: it gives the very segments that were offered, into the
+/// lowest free slot, and leaves the stack and all desks as they were before the offer. To a worker that has none it is
+/// refused `PacketsFull`, and nothing changes.
+pub fn a_desk_gives_what_was_left_on_it()
+    ensures met { (slot desk : ℕ) (packet : List Seg) (m : Member) (s : Shared) → slice_index_or m.table slot None ≡ Some packet →
+        desk < length s.desks → slice_index_or s.desks desk None ≡ None → (offer slot desk m s).0 ≡ Offered }
+    ensures left { (slot desk : ℕ) (m after : Member) (s t : Shared) → offer slot desk m s ≡ (Offered, after, t) →
+        (packet : List Seg) × (slice_index_or m.table slot None ≡ Some packet) × (slice_index_or after.table slot None ≡ None) × (slice_index_or t.desks desk None ≡ Some packet) }
+    ensures taken { (slot desk free : ℕ) (packet : List Seg) (m after taker : Member) (s t : Shared) → offer slot desk m s ≡ (Offered, after, t) →
+        slice_index_or m.table slot None ≡ Some packet → free_slot taker.table ≡ Some free →
+        take_off desk taker t ≡ (Taken free (length packet) (pkt_len packet), record taker { table = slice_set taker.table free (Some packet) }, s) }
+    ensures full { (slot desk : ℕ) (m after taker : Member) (s t : Shared) → offer slot desk m s ≡ (Offered, after, t) →
+        free_slot taker.table ≡ None → take_off desk taker t ≡ (Refused PacketsFull, taker, t) }
+{}
+
+/// A packet stays on its desk, with the segments that it has, whatever any worker does, until it is taken off. An
+/// offer of another packet on this desk is refused `DeskTaken`, and nothing changes. A take off it, by a worker that
+/// has a free slot, gives the packet, into the lowest free slot, and empties the desk; the stack and the other desks
+/// stay as they are.
+pub fn a_packet_stays_on_its_desk()
+    ensures stays { (pool : Pool) (worker desk : ℕ) (act : Act) (packet : List Seg) → act ≢ Take desk →
+        slice_index_or pool.shared.desks desk None ≡ Some packet → slice_index_or (perform pool worker act).1.shared.desks desk None ≡ Some packet }
+    ensures refused { (slot desk : ℕ) (packet other : List Seg) (m : Member) (s : Shared) →
+        slice_index_or s.desks desk None ≡ Some packet → slice_index_or m.table slot None ≡ Some other → offer slot desk m s ≡ (Refused DeskTaken, m, s) }
+    ensures taken { (desk free : ℕ) (packet : List Seg) (taker : Member) (s : Shared) →
+        slice_index_or s.desks desk None ≡ Some packet → free_slot taker.table ≡ Some free →
+        take_off desk taker s ≡ (Taken free (length packet) (pkt_len packet), record taker { table = slice_set taker.table free (Some packet) }, record s { desks = slice_set s.desks desk None }) }
+{}
+
+/// For whoever lets workers act on a `SitePool` without a script: after any acts, by workers of any numbers, a
+/// new pool's statement lists each element exactly once, and each packet has a place of its own.
+pub fn acts_leave_each_element_in_one_place()
+    ensures once { (l : Limits) (acts : List (ℕ × Act)) → IsPool l → ListsEachOnce (statement_of (after_acts acts (new_pool l))) }
+    ensures places { (l : Limits) (acts : List (ℕ × Act)) → PlacesEachOnce l (statement_of (after_acts acts (new_pool l))) }
+{}

@@ -1,0 +1,9 @@
+mod CacheCalls
+mod DeskCalls
+mod EndedHolds
+mod Entries
+mod Members
+mod NewPools
+mod PacketCalls
+mod PlainCalls
+mod SharedBuffers

@@ -1,0 +1,234 @@
+-- What a worker's packets do over the lists is what the reference model does.
+use Rattle.std.proofs.Common.{ℕ, ◌≡◌, ◌+◌, ◌==◌, nat_lt, cond, ◌≤◌, arith, List, [], ◌∷◌, ◌++◌, length, get_or, set, get_or-set_same, get_or-set_other, map, take, Option, Some, None, Result, Ok, Err, refl, sym, ap, ◌∙◌, subst}
+use Rattle.std.proofs.lemmas.Bool.{cond-true, cond-false, lt-ltb, le-ltb, eq-eqb, ne_eqb}
+use Rattle.commons.specs.Bag.{bag}
+use Rattle.commons.specs.Calls.{Call, Claim}
+use Rattle.commons.specs.declared.packet.Seg.{Seg}
+use Rattle.commons.specs.declared.refusal.Refusal.{Refusal}
+use Rattle.commons.specs.declared.refusal.Refusal.TheVariants.{NoRoom, NoSuchPacket, TooShort, PacketsFull, SamePacket, TooManySegs}
+use Rattle.commons.specs.Lists.{Lists, IsTable, held_count, place_of}
+use Rattle.mbuf.specs.declared.acts.Act.{Act}
+use Rattle.mbuf.specs.declared.acts.Act.TheVariants.{Alloc, AllocBulk, Free, Append, Prepend, Adj, Trim, Chain, Attach, Detach, ClonePacket, Offer, Take, CountOf, PktLen, NbSegs, Flush}
+use Rattle.mbuf.specs.declared.acts.Reply.{Reply}
+use Rattle.mbuf.specs.declared.acts.Reply.TheVariants as reply
+use Rattle.mbuf.specs.declared.freed.Freed.{Freed}
+use Rattle.mbuf.specs.Acts.{Performs, allocated, allocated_bulk, freed as freed_reply, told_len, chained}
+use Rattle.mbuf.specs.Lengths.{pkt_len, appended, prepended, adjusted, trimmed}
+use Rattle.commons.specs.Packets.{holds_of_packet}
+use Rattle.mbuf.specs.Members.{Member}
+use Rattle.mbuf.specs.Desks.{Offers, NothingThere, NotOffered, WasOffered, Takes, NoDesk, NoSlot, NotTaken, WasTaken}
+use Rattle.mbuf.specs.Sharing.{Attaches, NotAttachable, HeldElsewhere, NotRaised, WasAttached, Detaches, NotDetachable, WasDetached, Clones, NotClonable, WasGivenUp, WasCloned}
+use Rattle.mbuf.specs.PacketRules.{Allocs, Full, NotGot, Fresh, AllocsBulk, TooFull, BulkNotGot, FreshBulk, Frees, NoPacket, WasFreed, Resizes, NoneThere, NotResized, WasResized, Chains, NoHead, NoTail, Same, TooLong, WasChained, fresh_seg, free_slots, freed_nothing}
+use Rattle.pool_model.specs.Pool.{Shared}
+use Rattle.pool_model.specs.CacheModel.{get}
+use Rattle.pool_model.specs.PacketModel.{fill_slot, alloc_in, alloc, fill_slots, alloc_bulk, free_in, free, resize_to, resize_in, resize, chain_in, chain, beside, flushed, member_act}
+use Rattle.share_book.specs.Own.{shared_of, LeadsPlain}
+use Rattle.share_book.proofs.CacheCalls.{got, was_flushed}
+use Rattle.share_book.proofs.EndedHolds.{ended}
+use Rattle.commons.proofs.PacketBags.{stands_within}
+use Rattle.mbuf.proofs.OwnLemmas.{free_slot-is}
+use Rattle.share_book.proofs.PlainCalls.{LeadsPlain-split}
+use Rattle.share_book.proofs.DeskCalls.{offer_by, take_by}
+use Rattle.share_book.proofs.SharedBuffers.{AreHeld, attach_by, clone_by, count_by, detach_by, nothing}
+
+-- claims move no element of the stack
+claimed : (w : ℕ) (s : Lists) (es : List ℕ) (t : Lists) → LeadsPlain w s (map Claim es) t → shared_of t ≡ shared_of s
+claimed w s [] t h = ap shared_of (sym h)
+claimed w s (e ∷ es) t h = claimed w h.0 es t h.4 ∙ ap shared_of h.1.1
+
+abbrev Outcome : Type 0
+Outcome = Reply × Member × Shared
+
+alloc_by : (w : ℕ) (s t : Lists) (m after : Member) (calls : List Call) (answer : Result ℕ Refusal) → Allocs m calls answer after → LeadsPlain w s calls t →
+    ◌≡◌ {A = Outcome} (allocated answer after.table, after, shared_of t) (alloc m (shared_of s))
+alloc_by w s t m after calls answer (Full f c a k) h =
+    rw (a, k, nothing w s t calls c h) (sym (ap (λ (o : Option ℕ). alloc_in o m (shared_of s)) f))
+alloc_by w s t m after calls answer (NotGot slot f cause g a k) h =
+    let r = got w s m.limits m.cache 1 calls (Err cause) m.cache t g h in
+    rw (a, k) (ap (fill_slot slot m) r ∙ sym (ap (λ (o : Option ℕ). alloc_in o m (shared_of s)) f))
+alloc_by w s t m after calls answer (Fresh slot e f by left g c a k) h =
+    let p = LeadsPlain-split w s by (Claim e ∷ []) t (subst (λ (cs : List Call). LeadsPlain w s cs t) c h) in
+    let r = got w s m.limits m.cache 1 by (Ok (e ∷ [])) left p.0 g p.1 in
+    let there = get_or-set_same m.table slot (Some (fresh_seg m.limits e ∷ [])) None (free_slot-is m.table slot f).0 in
+    rw (a, k, claimed w p.0 (e ∷ []) t p.2, there) (ap (fill_slot slot m) r ∙ sym (ap (λ (o : Option ℕ). alloc_in o m (shared_of s)) f))
+
+bulk_by : (w : ℕ) (s t : Lists) (m after : Member) (n : ℕ) (calls : List Call) (answer : Result (List ℕ) Refusal) → AllocsBulk m n calls answer after → LeadsPlain w s calls t →
+    ◌≡◌ {A = Outcome} (allocated_bulk answer after.table, after, shared_of t) (alloc_bulk n m (shared_of s))
+bulk_by w s t m after n calls answer (TooFull few c a k) h =
+    rw (a, k, nothing w s t calls c h) (sym (cond-true (nat_lt (length (free_slots m.table)) n) (reply.Refused PacketsFull, m, shared_of s) (fill_slots (take n (free_slots m.table)) m (get m.limits n m.cache (shared_of s))) (lt-ltb (length (free_slots m.table)) n few)))
+bulk_by w s t m after n calls answer (BulkNotGot room cause g a k) h =
+    let r = got w s m.limits m.cache n calls (Err cause) m.cache t g h in
+    rw (a, k) (ap (fill_slots (take n (free_slots m.table)) m) r
+    ∙ sym (cond-false (nat_lt (length (free_slots m.table)) n) (reply.Refused PacketsFull, m, shared_of s) (fill_slots (take n (free_slots m.table)) m (get m.limits n m.cache (shared_of s))) (le-ltb (length (free_slots m.table)) n room)))
+bulk_by w s t m after n calls answer (FreshBulk es long room by left g c a k) h =
+    let p = LeadsPlain-split w s by (map Claim es) t (subst (λ (cs : List Call). LeadsPlain w s cs t) c h) in
+    let r = got w s m.limits m.cache n by (Ok es) left p.0 g p.1 in
+    rw (a, k, claimed w p.0 es t p.2) (ap (fill_slots (take n (free_slots m.table)) m) r
+    ∙ sym (cond-false (nat_lt (length (free_slots m.table)) n) (reply.Refused PacketsFull, m, shared_of s) (fill_slots (take n (free_slots m.table)) m (get m.limits n m.cache (shared_of s))) (le-ltb (length (free_slots m.table)) n room)))
+
+-- how often the packets that stay hold each element, where a packet is freed
+abbrev pub Elsewhere : Lists → Member → (ℕ → ℕ → ℕ) → Type 0
+Elsewhere s m others = (slot : ℕ) (segs : List Seg) → get_or m.table slot None ≡ Some segs → (i : ℕ) → held_count (place_of s i) ≡ bag (holds_of_packet segs) i + others slot i
+
+abbrev freed_with : ℕ → Member → Freed × List ℕ × Shared → Outcome
+freed_with slot m d = (reply.Freed d.0, record m { cache = d.1; table = set m.table slot None }, d.2)
+
+free_by : (w : ℕ) (s t : Lists) (m after : Member) (slot : ℕ) (others : ℕ → ℕ → ℕ) (calls : List Call) (answer : Result Freed Refusal) → Frees m slot calls answer after → LeadsPlain w s calls t → Elsewhere s m others →
+    ◌≡◌ {A = Outcome} (freed_reply answer, after, shared_of t) (free (others slot) slot m (shared_of s))
+free_by w s t m after slot others calls answer (NoPacket f c a k) h held =
+    rw (a, k, nothing w s t calls c h) (sym (ap (λ (o : Option (List Seg)). free_in o (others slot) slot m (shared_of s)) f))
+free_by w s t m after slot others calls answer (WasFreed segs left done f ends a k) h held =
+    let r = ended w m.limits (others slot) (holds_of_packet segs) s t m.cache freed_nothing calls left done ends h (held slot segs f) in
+    rw (a, k) (ap (freed_with slot m) r ∙ sym (ap (λ (o : Option (List Seg)). free_in o (others slot) slot m (shared_of s)) f))
+
+resize_by : (m after : Member) (change : List Seg → Option (List Seg)) (cause : Refusal) (slot : ℕ) (answer : Result ℕ Refusal) → Resizes change cause m slot answer after →
+    ◌≡◌ {A = Reply × Member} (told_len answer, after) (resize change cause slot m)
+resize_by m after change cause slot answer (NoneThere f a k) = rw (a, k) (sym (ap (λ (o : Option (List Seg)). resize_in o change cause slot m) f))
+resize_by m after change cause slot answer (NotResized segs f r a k) =
+    rw (a, k) (sym (ap (λ (o : Option (List Seg)). resize_in o change cause slot m) f ∙ ap (λ (o : Option (List Seg)). resize_to o cause slot m) r))
+resize_by m after change cause slot answer (WasResized segs new f r a k) =
+    rw (a, k) (sym (ap (λ (o : Option (List Seg)). resize_in o change cause slot m) f ∙ ap (λ (o : Option (List Seg)). resize_to o cause slot m) r))
+
+-- a chain by what is in the two slots
+chain_at : (m : Member) (head tail : ℕ) (one two : Option (List Seg)) → get_or m.table head None ≡ one → get_or m.table tail None ≡ two → chain head tail m ≡ chain_in one two head tail m
+chain_at m head tail one two e f = rw (e, f) refl
+
+abbrev joined : List Seg → List Seg → ℕ → ℕ → Member → Reply × Member
+joined first second head tail m = (reply.Chained (length (first ++ second)) (pkt_len (first ++ second)), record m { table = set (set m.table head (Some (first ++ second))) tail None })
+
+abbrev joined_if_short : List Seg → List Seg → ℕ → ℕ → Member → Reply × Member
+joined_if_short first second head tail m = cond (nat_lt 32 (length first + length second)) (reply.Refused TooManySegs, m) (joined first second head tail m)
+
+no_tail : (m : Member) (head tail : ℕ) (one : Option (List Seg)) → chain_in one None head tail m ≡ (reply.Refused NoSuchPacket, m)
+no_tail m head tail None = refl
+no_tail m head tail (Some segs) = refl
+
+chain_by : (m after : Member) (head tail : ℕ) (answer : Result (Unit {0}) Refusal) → Chains m head tail answer after →
+    ◌≡◌ {A = Reply × Member} (chained answer (get_or after.table head None), after) (chain head tail m)
+chain_by m after head tail answer (NoHead f a k) = rw (a, k) (sym (chain_at m head tail None (get_or m.table tail None) f refl))
+chain_by m after head tail answer (NoTail f a k) =
+    rw (a, k) (sym (chain_at m head tail (get_or m.table head None) None refl f ∙ no_tail m head tail (get_or m.table head None)))
+chain_by m after head tail answer (Same segs f e a k) =
+    let g = sym (ap (λ (n : ℕ). get_or m.table n None) e) ∙ f in
+    rw (a, k) (sym (chain_at m head tail (Some segs) (Some segs) f g ∙ cond-true (head == tail) (reply.Refused SamePacket, m) (joined_if_short segs segs head tail m) (eq-eqb head tail e)))
+chain_by m after head tail answer (TooLong first second f g apart long a k) =
+    rw (a, k) (sym (chain_at m head tail (Some first) (Some second) f g
+    ∙ cond-false (head == tail) (reply.Refused SamePacket, m) (joined_if_short first second head tail m) (ne_eqb head tail apart)
+    ∙ cond-true (nat_lt 32 (length first + length second)) (reply.Refused TooManySegs, m) (joined first second head tail m) (lt-ltb 32 (length first + length second) long)))
+chain_by m after head tail answer (WasChained first second f g apart few a k) =
+    let one = set m.table head (Some (first ++ second)) in
+    let there : get_or (set one tail None) head None ≡ Some (first ++ second) =
+    get_or-set_other one tail head None None apart ∙ get_or-set_same m.table head (Some (first ++ second)) None (stands_within m.table head first f) in
+    rw (a, k, there) (sym (chain_at m head tail (Some first) (Some second) f g
+    ∙ cond-false (head == tail) (reply.Refused SamePacket, m) (joined_if_short first second head tail m) (ne_eqb head tail apart)
+    ∙ cond-false (nat_lt 32 (length first + length second)) (reply.Refused TooManySegs, m) (joined first second head tail m) (le-ltb 32 (length first + length second) few)))
+
+-- what asks nothing of the stack leaves it
+beside_is : (w : ℕ) (s t : Lists) (calls : List Call) (r : Reply) (after : Member) (done : Reply × Member) → calls ≡ [] → LeadsPlain w s calls t → ◌≡◌ {A = Reply × Member} (r, after) done →
+    ◌≡◌ {A = Outcome} (r, after, shared_of t) (beside (shared_of s) done)
+beside_is w s t calls r after done e h same = rw (nothing w s t calls e h) (ap (beside (shared_of s)) same)
+
+-- a packet holds no more than all packets
+held_within : (s : Lists) (m : Member) (all : ℕ → ℕ) (others : ℕ → ℕ → ℕ) → AreHeld s all → Elsewhere s m others → (slot : ℕ) (segs : List Seg) → get_or m.table slot None ≡ Some segs → (i : ℕ) → bag (holds_of_packet segs) i ≤ all i
+held_within s m all others counts held slot segs there i = omega (arith, counts i, held slot segs there i)
+
+-- what an act does by these calls is the model's
+pub performed_by : (act : Act) (w : ℕ) (s t : Lists) (m after : Member) (calls : List Call) (r : Reply) (all : ℕ → ℕ) (others : ℕ → ℕ → ℕ) →
+    Performs act m calls r after → LeadsPlain w s calls t → IsTable s → s.limits ≡ m.limits → AreHeld s all → Elsewhere s m others → ◌≡◌ {A = Outcome} (r, after, shared_of t) (member_act act all others m (shared_of s))
+performed_by Alloc w s t m after calls r all others p h table same counts held = rw p.2 (alloc_by w s t m after calls p.0 p.1 h)
+performed_by (AllocBulk n) w s t m after calls r all others p h table same counts held = rw p.2 (bulk_by w s t m after n calls p.0 p.1 h)
+performed_by (Free slot) w s t m after calls r all others p h table same counts held = rw p.2 (free_by w s t m after slot others calls p.0 p.1 h held)
+performed_by (Append slot n) w s t m after calls r all others p h table same counts held =
+    rw p.3 (beside_is w s t calls (told_len p.0) after (resize (appended n) NoRoom slot m) p.2 h (resize_by m after (appended n) NoRoom slot p.0 p.1))
+performed_by (Prepend slot n) w s t m after calls r all others p h table same counts held =
+    rw p.3 (beside_is w s t calls (told_len p.0) after (resize (prepended n) NoRoom slot m) p.2 h (resize_by m after (prepended n) NoRoom slot p.0 p.1))
+performed_by (Adj slot n) w s t m after calls r all others p h table same counts held =
+    rw p.3 (beside_is w s t calls (told_len p.0) after (resize (adjusted n) TooShort slot m) p.2 h (resize_by m after (adjusted n) TooShort slot p.0 p.1))
+performed_by (Trim slot n) w s t m after calls r all others p h table same counts held =
+    rw p.3 (beside_is w s t calls (told_len p.0) after (resize (trimmed n) TooShort slot m) p.2 h (resize_by m after (trimmed n) TooShort slot p.0 p.1))
+performed_by (Chain head tail) w s t m after calls r all others p h table same counts held =
+    rw p.3 (beside_is w s t calls (chained p.0 (get_or after.table head None)) after (chain head tail m) p.2 h (chain_by m after head tail p.0 p.1))
+performed_by (Attach mi target) w s t m after calls r all others p h table same counts held = rw p.2 (attach_by w s t m after mi target all calls p.0 p.1 h same counts)
+performed_by (Detach slot) w s t m after calls r all others p h table same counts held = rw p.2 (detach_by w s t m after slot all calls p.0 p.1 h counts (held_within s m all others counts held))
+performed_by (ClonePacket source) w s t m after calls r all others p h table same counts held = rw p.2 (clone_by w s t m after source all calls p.0 p.1 h table same counts (held_within s m all others counts held))
+performed_by (Offer slot desk) w s t m after calls r all others p h table same counts held = rw p.2 (offer_by w s t m after slot desk calls p.0 p.1 h table)
+performed_by (Take desk) w s t m after calls r all others p h table same counts held = rw p.2 (take_by w s t m after desk calls p.0 p.1 h table same)
+performed_by (CountOf slot) w s t m after calls r all others p h table same counts held = rw (p.2, p.3) (count_by w s t m slot all calls p.0 (get_or m.table slot None) refl p.1 h counts)
+performed_by (PktLen slot) w s t m after calls r all others p h table same counts held = rw (p.0, p.2, nothing w s t calls p.1 h) refl
+performed_by (NbSegs slot) w s t m after calls r all others p h table same counts held = rw (p.0, p.2, nothing w s t calls p.1 h) refl
+performed_by Flush w s t m after calls r all others p h table same counts held =
+    let f = was_flushed w s m.cache calls p.0 after.cache t p.1 h in
+    rw p.3 (ap (λ (x : Member). let o : Outcome = (reply.Put p.0, x, shared_of t) in o) p.2 ∙ ap (flushed m) f)
+
+-- ---- a worker keeps its number
+
+allocs_number : (m after : Member) (calls : List Call) (answer : Result ℕ Refusal) → Allocs m calls answer after → after.number ≡ m.number
+allocs_number m after calls answer (Full f c a k) = ap (λ (x : Member). x.number) k
+allocs_number m after calls answer (NotGot slot f cause g a k) = ap (λ (x : Member). x.number) k
+allocs_number m after calls answer (Fresh slot e f by left g c a k) = ap (λ (x : Member). x.number) k
+
+bulk_number : (m after : Member) (n : ℕ) (calls : List Call) (answer : Result (List ℕ) Refusal) → AllocsBulk m n calls answer after → after.number ≡ m.number
+bulk_number m after n calls answer (TooFull few c a k) = ap (λ (x : Member). x.number) k
+bulk_number m after n calls answer (BulkNotGot room cause g a k) = ap (λ (x : Member). x.number) k
+bulk_number m after n calls answer (FreshBulk es long room by left g c a k) = ap (λ (x : Member). x.number) k
+
+frees_number : (m after : Member) (slot : ℕ) (calls : List Call) (answer : Result Freed Refusal) → Frees m slot calls answer after → after.number ≡ m.number
+frees_number m after slot calls answer (NoPacket f c a k) = ap (λ (x : Member). x.number) k
+frees_number m after slot calls answer (WasFreed segs left done f ends a k) = ap (λ (x : Member). x.number) k
+
+resizes_number : (m after : Member) (change : List Seg → Option (List Seg)) (cause : Refusal) (slot : ℕ) (answer : Result ℕ Refusal) → Resizes change cause m slot answer after → after.number ≡ m.number
+resizes_number m after change cause slot answer (NoneThere f a k) = ap (λ (x : Member). x.number) k
+resizes_number m after change cause slot answer (NotResized segs f r a k) = ap (λ (x : Member). x.number) k
+resizes_number m after change cause slot answer (WasResized segs new f r a k) = ap (λ (x : Member). x.number) k
+
+chains_number : (m after : Member) (head tail : ℕ) (answer : Result (Unit {0}) Refusal) → Chains m head tail answer after → after.number ≡ m.number
+chains_number m after head tail answer (NoHead f a k) = ap (λ (x : Member). x.number) k
+chains_number m after head tail answer (NoTail f a k) = ap (λ (x : Member). x.number) k
+chains_number m after head tail answer (Same segs f e a k) = ap (λ (x : Member). x.number) k
+chains_number m after head tail answer (TooLong first second f g apart long a k) = ap (λ (x : Member). x.number) k
+chains_number m after head tail answer (WasChained first second f g apart few a k) = ap (λ (x : Member). x.number) k
+
+attaches_number : (m after : Member) (mi target : ℕ) (calls : List Call) (answer : Result (Unit {0}) Refusal) → Attaches m mi target calls answer after → after.number ≡ m.number
+attaches_number m after mi target calls answer (NotAttachable cause f c a k) = ap (λ (x : Member). x.number) k
+attaches_number m after mi target calls answer (HeldElsewhere e n seg f other c a k) = ap (λ (x : Member). x.number) k
+attaches_number m after mi target calls answer (NotRaised e seg f cause c a k) = ap (λ (x : Member). x.number) k
+attaches_number m after mi target calls answer (WasAttached e seg f c a k) = ap (λ (x : Member). x.number) k
+
+detaches_number : (m after : Member) (slot : ℕ) (calls : List Call) (answer : Result Freed Refusal) → Detaches m slot calls answer after → after.number ≡ m.number
+detaches_number m after slot calls answer (NotDetachable cause f c a k) = ap (λ (x : Member). x.number) k
+detaches_number m after slot calls answer (WasDetached e base f left done g a k) = ap (λ (x : Member). x.number) k
+
+clones_number : (m after : Member) (source : ℕ) (calls : List Call) (answer : Result ℕ Refusal) → Clones m source calls answer after → after.number ≡ m.number
+clones_number m after source calls answer (NotClonable cause f c a k) = ap (λ (x : Member). x.number) k
+clones_number m after source calls answer (WasGivenUp segs slot f cause left g a k) = ap (λ (x : Member). x.number) k
+clones_number m after source calls answer (WasCloned segs slot f new left g a k) = ap (λ (x : Member). x.number) k
+
+offers_number : (m after : Member) (slot desk : ℕ) (calls : List Call) (answer : Result (Unit {0}) Refusal) → Offers m slot desk calls answer after → after.number ≡ m.number
+offers_number m after slot desk calls answer (NothingThere f c a k) = ap (λ (x : Member). x.number) k
+offers_number m after slot desk calls answer (NotOffered segs f cause c a k) = ap (λ (x : Member). x.number) k
+offers_number m after slot desk calls answer (WasOffered segs f c a k) = ap (λ (x : Member). x.number) k
+
+takes_number : (m after : Member) (desk : ℕ) (calls : List Call) (answer : Result ℕ Refusal) → Takes m desk calls answer after → after.number ≡ m.number
+takes_number m after desk calls answer (NoDesk h c a k) = ap (λ (x : Member). x.number) k
+takes_number m after desk calls answer (NoSlot h f c a k) = ap (λ (x : Member). x.number) k
+takes_number m after desk calls answer (NotTaken h slot f cause c a k) = ap (λ (x : Member). x.number) k
+takes_number m after desk calls answer (WasTaken h slot f segs c a k) = ap (λ (x : Member). x.number) k
+
+pub performs_number : (act : Act) (m after : Member) (calls : List Call) (r : Reply) → Performs act m calls r after → after.number ≡ m.number
+performs_number Alloc m after calls r p = allocs_number m after calls p.0 p.1
+performs_number (AllocBulk n) m after calls r p = bulk_number m after n calls p.0 p.1
+performs_number (Free slot) m after calls r p = frees_number m after slot calls p.0 p.1
+performs_number (Append slot n) m after calls r p = resizes_number m after (appended n) NoRoom slot p.0 p.1
+performs_number (Prepend slot n) m after calls r p = resizes_number m after (prepended n) NoRoom slot p.0 p.1
+performs_number (Adj slot n) m after calls r p = resizes_number m after (adjusted n) TooShort slot p.0 p.1
+performs_number (Trim slot n) m after calls r p = resizes_number m after (trimmed n) TooShort slot p.0 p.1
+performs_number (Chain head tail) m after calls r p = chains_number m after head tail p.0 p.1
+performs_number (Attach mi target) m after calls r p = attaches_number m after mi target calls p.0 p.1
+performs_number (Detach slot) m after calls r p = detaches_number m after slot calls p.0 p.1
+performs_number (ClonePacket source) m after calls r p = clones_number m after source calls p.0 p.1
+performs_number (Offer slot desk) m after calls r p = offers_number m after slot desk calls p.0 p.1
+performs_number (Take desk) m after calls r p = takes_number m after desk calls p.0 p.1
+performs_number (CountOf slot) m after calls r p = ap (λ (x : Member). x.number) p.2
+performs_number (PktLen slot) m after calls r p = ap (λ (x : Member). x.number) p.0
+performs_number (NbSegs slot) m after calls r p = ap (λ (x : Member). x.number) p.0
+performs_number Flush m after calls r p = ap (λ (x : Member). x.number) p.2

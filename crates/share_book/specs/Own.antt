@@ -1,0 +1,28 @@
+-- A worker's part of the lists: what a `PlainSite` keeps for it is what the worker has. Only the invariant of `SitePool` cites this module.
+use Rattle.std.specs.Prelude.{ℕ, ◌≡◌, ◌≤◌, List, [], ◌∷◌}
+use Rattle.commons.specs.Calls.{Call}
+use Rattle.commons.specs.Lists.{Lists, IsTable, DidPlain, KeepsOthers, hand_of, holds_of, header_of}
+use Rattle.mbuf.specs.Members.{Member}
+use Rattle.mbuf.specs.Own.{Own}
+use Rattle.pool_model.specs.Pool.{Shared}
+
+-- what all workers share of the lists
+abbrev pub shared_of : Lists → Shared
+shared_of s = record { common = s.common; changes = s.changes; desks = s.desks }
+
+-- the packets of a worker of the pool are its own with its part of the lists
+pub record Owns (s : Lists) (m : Member) : Type 0 where
+  pub first : 1 ≤ m.number
+  pub last : m.number ≤ s.limits.workers
+  pub share : Own m s.limits (λ i. hand_of s m.number i) (λ i. holds_of s m.number i) (λ i. header_of s m.number i)
+
+-- the calls lead a worker's lists, which are a table before and after each, from one state to the other
+abbrev pub LeadsPlain : ℕ → Lists → List Call → Lists → Type 0
+LeadsPlain w before [] after = before ≡ after
+LeadsPlain w before (call ∷ calls) after = (between : Lists) × DidPlain w before call between × IsTable before × IsTable between × LeadsPlain w between calls after
+
+-- what one worker's calls leave: the same pool, still a table, and what the others have
+pub record StepsAlone (w : ℕ) (s t : Lists) : Type 0 where
+  pub limits : t.limits ≡ s.limits
+  pub after : IsTable t
+  pub others : KeepsOthers w s t

@@ -1,0 +1,175 @@
+ghost use Rattle.std.specs.Prelude.{ℕ, ◌≡◌, ◌<◌, ◌≤◌, ◌+◌, List, length, IfOk, IfErr};
+ghost use Rattle.commons.specs.Bounds.{IsPool};
+ghost use Rattle.commons.specs.Lists.{IsMakeCause};
+ghost use Rattle.commons.specs.Calls.{Call};
+ghost use Rattle.mbuf.specs.Acts.{Performs};
+ghost use Rattle.share_book.specs.Own.{LeadsPlain, Owns, StepsAlone};
+ghost use Rattle.pool_model.specs.Pool.{new_members};
+
+use crate::placing;
+use commons::limits::Limits;
+use commons::plain::PlainCommons;
+use commons::refusal::Refusal;
+use commons::site::PlainSite;
+use mbuf::acts;
+use mbuf::acts::{Act, Reply};
+use mbuf::packets::Packets;
+use pool_model::statement::Statement;
+use std::alloc::Global;
+use std::marker::Model;
+
+/// A pool as lists, with the packets of all its workers, for one thread. It can't be dropped:
+/// `lose` ends it.
+pub struct SitePool {
+    site: PlainSite,
+    members: Vec<Packets>,
+}
+
+impl Model for SitePool {
+    ghost use Rattle.pool_model.specs.Pool.{Pool};
+
+    ghost Value = { Pool };
+
+    ghost use Rattle.share_book.specs.SitePool.{pool_of, IsSitePool};
+
+    ghost view = { pool_of };
+
+    ghost invariant = { IsSitePool };
+}
+
+impl SitePool {
+    ghost use Rattle.pool_model.specs.Pool.{member_at, new_pool};
+    ghost use Rattle.pool_model.specs.PacketModel.{perform};
+    ghost use Rattle.pool_model.specs.Statements.{statement_of};
+
+    /// A new pool: all elements in the common list; its workers have nothing, and its desks are empty.
+    ///
+    /// Refused `BadPool` where the limits are out of range, and `OutOfMemory` where memory was
+    /// refused.
+    pub fn make(alloc: Global, limits: &Limits) -> Result<SitePool, Refusal>
+        ensures ok { IfOk result (λ p. p ≡ new_pool limits.now) }
+        ensures cause { IfErr result (IsMakeCause limits.now) }
+    {
+        let site = PlainSite::make(alloc, limits)?;
+        let members = no_packets(alloc, limits)?;
+        Ok(SitePool { site, members })
+    }
+
+    /// A law of each pool: its limits are in range, it has as many workers and as many desks as they
+    /// say, and the workers are numbered from 1. It does nothing.
+    pub fn fits_its_limits(&self)
+        ensures range { IsPool self.now.limits }
+        ensures workers { length self.now.members ≡ self.now.limits.workers }
+        ensures numbers { (n : ℕ) → n < self.now.limits.workers → (member_at self.now n).number ≡ n + 1 }
+        ensures desks { length self.now.shared.desks ≡ self.now.limits.desks }
+    {
+        let _known = &self.members;
+    }
+
+    /// Ends the pool and gives nothing back.
+    pub fn lose(self) {
+        let SitePool { site: _, members } = self;
+        lose_all(members);
+    }
+
+    /// Lets a worker, numbered from 1, do this with its packets and its cache, and answers what
+    /// came of it.
+    ///
+    /// Refused `StrangerShare` for a worker outside the pool, else as the worker's packets are. A
+    /// new packet is refused `PacketsFull` where the worker has too few free slots, else as its
+    /// cache's get is: `NoEntries` or `HeadSpent`. An act on a slot that is empty or above 255 is
+    /// refused `NoSuchPacket`; else a change of lengths is refused `NoRoom` or `TooShort`, a chain
+    /// `SamePacket` or `TooManySegs`, an attach these or `NotDirect`, `InUse` or `RefSpent`, a
+    /// detach `TooManySegs` or `NotIndirect`, a clone as a new packet is or `RefSpent`, and an offer
+    /// `NoSuchDesk` or `DeskTaken`. A take is refused `NoSuchDesk`, `PacketsFull` or `DeskEmpty`.
+    /// Nothing changes then, but that after a refused clone the free elements may stand in another
+    /// order, or be shared out otherwise between cache and stack, and the modification count may be
+    /// higher. A push that the stack refuses is no refusal of a free, a
+    /// detach or a flush: `put_off` and `PutOff` tell of it, and the elements stay in the cache. A
+    /// flush is never refused.
+    ///
+    /// After rte_mbuf.h, `rte_pktmbuf_alloc`, `rte_pktmbuf_alloc_bulk`, `rte_pktmbuf_free`,
+    /// `rte_pktmbuf_append`, `rte_pktmbuf_prepend`, `rte_pktmbuf_adj`, `rte_pktmbuf_trim`,
+    /// `rte_pktmbuf_chain`, `rte_pktmbuf_attach`, `rte_pktmbuf_detach`, `rte_pktmbuf_clone` and
+    /// `rte_mbuf_refcnt_read`, `rte_pktmbuf_pkt_len`, the field `nb_segs`, and rte_mempool.h,
+    /// `rte_mempool_cache_flush` (DPDK 21.11). Desks are our own.
+    pub fn perform(&mut self, worker: u32, act: Act) -> Reply
+        ensures { (result, self.new) ≡ perform self.old worker act }
+    {
+        if worker == 0 || worker as usize > self.members.len() {
+            return Reply::Refused(Refusal::StrangerShare);
+        }
+        let packets = &mut self.members[worker as usize - 1];
+        act_alone(&mut self.site, packets, worker, act)
+    }
+
+    /// Where each element of the pool is. The pool stays as it was.
+    ///
+    /// Refused `OutOfMemory` where memory was refused.
+    pub fn statement(&self, alloc: Global) -> Result<Statement, Refusal>
+        ensures ok { IfOk result (λ s. s ≡ statement_of self.now) }
+        ensures memory { IfErr result (λ e. e ≡ Refusal.OutOfMemory) }
+    {
+        match placing::statement(alloc, &self.site, &self.members) {
+            Ok(statement) => Ok(statement),
+            Err(_) => Err(Refusal::OutOfMemory),
+        }
+    }
+}
+
+/// Lets a worker's packets act on its part of the lists.
+fn act_plain(packets: &mut Packets, c: &mut PlainCommons, act: Act) -> Reply
+    requires worker { c.old.worker ≡ packets.old.number }
+    requires own { Owns c.old.site.now packets.old }
+    ensures same { c.new.site.ghost_name ≡ c.old.site.ghost_name }
+    ensures calls { (calls : List Call) × LeadsPlain c.old.worker c.old.site.now calls c.new.site.now × Performs act packets.old calls result packets.new }
+    ensures own { Owns c.new.site.now packets.new }
+    ensures alone { StepsAlone c.old.worker c.old.site.now c.new.site.now }
+{
+    acts::perform(packets, c, act)
+}
+
+/// Lets one worker act on the lists.
+fn act_alone(site: &mut PlainSite, packets: &mut Packets, worker: u32, act: Act) -> Reply
+    requires number { packets.old.number ≡ worker }
+    requires own { Owns site.old packets.old }
+    ensures calls { (calls : List Call) × LeadsPlain worker site.old calls site.new × Performs act packets.old calls result packets.new }
+    ensures own { Owns site.new packets.new }
+    ensures alone { StepsAlone worker site.old site.new }
+{
+    let mut c = PlainCommons::new(site, worker);
+    act_plain(packets, &mut c, act)
+}
+
+/// For each worker of a pool an empty cache and an empty table.
+fn no_packets(alloc: Global, limits: &Limits) -> Result<Vec<Packets>, Refusal>
+    requires { IsPool limits.now }
+    ensures ok { IfOk result (λ v. v.items ≡ new_members limits.now 1 limits.now.workers) }
+    ensures memory { IfErr result (λ e. e ≡ Refusal.OutOfMemory) }
+{
+    let mut members = Vec::new(alloc);
+    for number in 1..limits.workers as u32 + 1 {
+        match Packets::make(alloc, limits, number) {
+            Ok(packets) => {
+                if let Err(failed) = members.push(packets) {
+                    failed.value.lose();
+                    lose_all(members);
+                    return Err(Refusal::OutOfMemory);
+                }
+            }
+            Err(cause) => {
+                lose_all(members);
+                return Err(cause);
+            }
+        }
+    }
+    Ok(members)
+}
+
+/// Ends each worker.
+fn lose_all(mut members: Vec<Packets>) {
+    while let Some(packets) = members.pop() {
+        packets.lose();
+    }
+    members.destroy_empty();
+}
