@@ -7,7 +7,7 @@ use Rattle.script_text.specs.declared.commands.Command.TheVariants as command
 use Rattle.script_text.specs.declared.commands.Line.{Line}
 use Rattle.pool_model.specs.Pool.{Pool}
 use Rattle.pool_model.specs.PacketModel.{perform, after_acts}
-use Rattle.pool_model.proofs.Acts.{after_one_more}
+use Rattle.pool_model.proofs.ActsKeep.{after_one_more}
 use Rattle.script.specs.Replay.{Run, free_as, act_of, act_as, act_as_both, chain_as, clone_as, offer_as, obey, end_of}
 
 module _ (P : Pool → Type 0) (kept : (pool : Pool) (w : ℕ) (act : Act) → P pool → P (perform pool w act).1) where
@@ -58,7 +58,7 @@ module _ (P : Pool → Type 0) (kept : (pool : Pool) (w : ℕ) (act : Act) → P
   end_of-keeps (line ∷ lines) run p = end_of-keeps lines (obey line.worker line.command run).1 (obey-keeps line.worker line.command run p)
 
 -- A script's end is reached by acts: those that its lines ask of the pool, one after another.
-Reached : Pool → Pool → Type 0
+abbrev Reached : Pool → Pool → Type 0
 Reached start pool = (acts : List (ℕ × Act)) × (pool ≡ after_acts acts start)
 
 one_act_more : (start pool : Pool) (w : ℕ) (act : Act) → Reached start pool → Reached start (perform pool w act).1

@@ -1,6 +1,6 @@
 -- Which packet a name stands for, once a name was set or forgotten.
-use Rattle.std.proofs.Common.{◌≡◌, ℕ, cond, List, Option, sym, ap, ◌∙◌, eqb}
-use Rattle.std.specs.Prelude.{◌&&◌}
+use Rattle.std.proofs.Common.{◌≡◌, ℕ, cond, List, [], ◌∷◌, length, Option, refl, sym, ap, ◌∙◌, eqb, arith}
+use Rattle.std.specs.Prelude.{◌&&◌, min}
 use Rattle.std.specs.Borrow.{Bor}
 use Rattle.std.specs.Str.{bytes_eq}
 use Rattle.std.specs.HashMap.{get}
@@ -8,7 +8,8 @@ use Rattle.std.specs.Cmp.{unsigned_Decides}
 use Rattle.std.proofs.lemmas.Bool.Decides.{same_from_decides, Decides-and, Decides-like}
 use Rattle.std.proofs.lemmas.Slice.Eq.{bytes_eq-Decides}
 use Rattle.script.specs.declared.names.Names.{Names}
-use Rattle.script.specs.Replay.{named}
+use Rattle.mbuf.specs.declared.acts.NewPacket.{NewPacket}
+use Rattle.script.specs.Replay.{named, all_named}
 use Rattle.script.specs.inside.Stands.{same_key, stands_in}
 
 -- it doesn't matter which of two keys comes first
