@@ -63,8 +63,13 @@ short_number_from word n e =
 short_number_is : (word : List ℕ) (n : ℕ) → IsNumber word n → n ≤ 65535 → short_number_at word ≡ Some n
 short_number_is word n h short = ap (option_and_then short_number) (number_is word n h) ∙ cond-true (leb n 65535) (Some n) None (le-leb n 65535 short)
 
-as_names : (words : List (List ℕ)) (both : List ℕ × List ℕ) (first second : List ℕ) → words ≡ both.0 ∷ both.1 ∷ [] → both.0 ≡ first → both.1 ≡ second → words ≡ first ∷ second ∷ []
-as_names words both first second e f g = rw (f, g) at e
+-- two words that are names
+names_found : (words : List (List ℕ)) (both found : List ℕ × List ℕ) (first second : List ℕ) → words ≡ both.0 ∷ both.1 ∷ [] → name_at both.0 ≡ Some first → name_at both.1 ≡ Some second → (first, second) ≡ found →
+    (words ≡ found.0 ∷ found.1 ∷ []) × IsName found.0 × IsName found.1
+names_found words both found first second e f g same =
+    let one = name_is_at both.0 first f in
+    let other = name_is_at both.1 second g in
+    subst (λ (p : List ℕ × List ℕ). (words ≡ p.0 ∷ p.1 ∷ []) × IsName p.0 × IsName p.1) same (rw (one.0, other.0) at e, one.1, other.1)
 
 -- the only two words are those names
 both_names_are : (words : List (List ℕ)) (found : List ℕ × List ℕ) → both_names words ≡ Some found → (words ≡ found.0 ∷ found.1 ∷ []) × IsName found.0 × IsName found.1
@@ -72,10 +77,7 @@ both_names_are words found e =
     let b = and_then_some (λ both. option_and_then (λ first. option_and_then (λ second. Some (first, second)) (name_at both.1)) (name_at both.0)) (both_of words) found e in
     let n = and_then_some (λ first. option_and_then (λ second. Some (first, second)) (name_at b.0.1)) (name_at b.0.0) found b.2 in
     let l = and_then_some (λ second. Some (n.0, second)) (name_at b.0.1) found n.2 in
-    let first = name_is_at b.0.0 n.0 n.1 in
-    let second = name_is_at b.0.1 l.0 l.1 in
-    let words_are : words ≡ n.0 ∷ l.0 ∷ [] = as_names words b.0 n.0 l.0 (both_is words b.0 b.1) first.0 second.0 in
-    subst (λ (p : List ℕ × List ℕ). (words ≡ p.0 ∷ p.1 ∷ []) × IsName p.0 × IsName p.1) (found_is (n.0, l.0) found l.2) (words_are, first.1, second.1)
+    names_found words b.0 found n.0 l.0 (both_is words b.0 b.1) n.1 l.1 (found_is (n.0, l.0) found l.2)
 
 -- the command of a verb and two names
 both_named_is : (verb : Verb) (make : List ℕ → List ℕ → Command) → ((all : List (List ℕ)) (first second : List ℕ) → AreVerbAndNames all (verb_word verb) first second → IsCommand all (make first second)) → (words : List (List ℕ)) (command : Command) → both_with make words ≡ Some command →

@@ -182,13 +182,15 @@ abbrev pub limits_from : List (List ℕ) → Option Limits
 limits_from [] = None
 limits_from (word ∷ words) = if bytes_eq word (codes "pool") then pool_with words else None
 
+-- of each two numbers the first is at most the second in the limits of a pool
+abbrev pub pool_bounds : Limits → List (ℕ × ℕ)
+pool_bounds l =
+    (1, l.population) ∷ (l.population, 65534) ∷ (l.cache, 512) ∷ (l.cache * 3 / 2, l.population) ∷ (1, l.workers) ∷ (l.workers, 64) ∷ (l.desks, 64)
+    ∷ (l.buf, 65535) ∷ (1, l.ref_limit) ∷ (l.ref_limit, 65535) ∷ (1, l.tries) ∷ (l.tries, 1000000) ∷ (l.start_count, 281474976710655) ∷ []
+
 -- whether a pool can be made within the limits
 abbrev pub is_pool : Limits → Bool
-is_pool l =
-    nat_le 1 l.population && nat_le l.population 65534 && nat_le l.cache 512 && nat_le (l.cache * 3 / 2) l.population
-    && nat_le 1 l.workers && nat_le l.workers 64 && nat_le l.desks 64 && nat_le l.buf 65535
-    && nat_le 1 l.ref_limit && nat_le l.ref_limit 65535 && nat_le 1 l.tries && nat_le l.tries 1000000
-    && nat_le l.start_count 281474976710655
+is_pool l = list_all (λ bound. nat_le bound.0 bound.1) (pool_bounds l)
 
 -- ---- commands
 
