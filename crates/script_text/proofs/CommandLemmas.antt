@@ -1,7 +1,7 @@
 -- A command line's worker and command are what the reading function gives, and the names that were made are what its test says.
 use Rattle.std.proofs.Common.{◌≡◌, ℕ, ◌-◌, ◌≤◌, leb, Bool, true, false, List, [], ◌∷◌, ◌++◌, length, length-append, take, drop, Option, Some, None, refl, sym, ap, ◌∙◌, subst, arith, inl, inr}
 use Rattle.std.specs.Prelude.{◌&&◌, ◌||◌, ◌==◌, option_and_then, codes}
-use Rattle.std.specs.List.{list_all}
+use Rattle.std.specs.List.{AllByRecursion, list_all}
 use Rattle.std.specs.Str.{bytes_eq}
 use Rattle.std.proofs.lemmas.Bool.{eqb-true, eq-eqb, leb-true, le-leb, cond-true, and_parts, and_from, or_cases, or_left, or_right, both_ways, false≢true, false_from_ne_true}
 use Rattle.std.proofs.lemmas.Option.{cond_some}
@@ -14,11 +14,12 @@ use Rattle.script_text.specs.declared.command_line.Verb.TheVariants as verbs
 use Rattle.script_text.specs.declared.commands.Command.{Command}
 use Rattle.script_text.specs.declared.commands.Command.TheVariants.{Alloc, Bulk, Free, Resize, Chain, Attach, Detach, Clone, Count, Offer, Take, Flush}
 use Rattle.script_text.specs.declared.commands.Line.{Line}
+use Rattle.script_text.specs.Commands.{names_made}
 use Rattle.script_text.specs.Names.{IsName}
 use Rattle.script_text.specs.Numbers.{IsNumber}
-use Rattle.script_text.specs.CommandLine.{AreNames, AreVerbAndName, AreVerbAndNames, AreWithNumber, IsOneOf, AreApart, IsCommand, IsPrefix, IsCommandLine, alone, prefixed, Makes, IsMade, MakesAnew}
-use Rattle.script_text.specs.inside.Reading.{is_name_word, number_at, are_names, names_with, is_one_of, with_name, repeats_some, both_of, name_at, short_number, short_number_at, numbered_name, name_and_number, number_and_name, both_names, name_with, both_with, numbered_with, verb_word, all_verbs, verb_at, only_name_of, bare, command_with, command_from, before_colon, of_workers, worker_at, order_of, order_by, order_from, makes, is_made, repeats}
-use Rattle.script_text.specs.inside.Agreement.{IsNamed, IsAmong}
+use Rattle.script_text.specs.CommandLine.{AreNames, AreVerbAndName, AreVerbAndNames, AreWithNumber, IsOneOf, AreApart, IsCommand, IsPrefix, IsCommandLine, alone, prefixed, IsMade, MakesAnew}
+use Rattle.script_text.specs.inside.Reading.{is_marked, is_skipped, is_name_word, number_at, are_names, names_with, is_one_of, with_name, both_of, name_at, short_number, short_number_at, numbered_name, name_and_number, number_and_name, both_names, name_with, both_with, numbered_with, verb_word, all_verbs, verb_at, only_name_of, without_words, command_with, command_from, before_colon, of_workers, worker_at, order_of, order_by, order_from, is_made, repeats}
+use Rattle.script_text.specs.inside.Agreement.{IsAmong}
 use Rattle.script_text.proofs.NumberLemmas.{all_from, all_to, name_from, name_is, number_from, number_is}
 use Rattle.script_text.proofs.KeptLemmas.{and_then_some, only_name_is, found_is}
 use Rattle.script_text.proofs.PoolLineLemmas.{if_some, spelled_from}
@@ -28,9 +29,9 @@ use Rattle.script_text.proofs.PoolLineLemmas.{if_some, spelled_from}
 verb_from : (word : List ℕ) (verb : Verb) → verb_at word ≡ Some verb → word ≡ verb_word verb
 verb_from word verb e = spelled_from verb_word all_verbs word verb e
 
-bare_is : (command given : Command) (words : List (List ℕ)) → bare command words ≡ Some given → (words ≡ []) × (command ≡ given)
-bare_is command given [] e = (refl, found_is command given e)
-bare_is command given (word ∷ words) e = absurd cc
+without_words_is : (command given : Command) (words : List (List ℕ)) → without_words command words ≡ Some given → (words ≡ []) × (command ≡ given)
+without_words_is command given [] e = (refl, found_is command given e)
+without_words_is command given (word ∷ words) e = absurd cc
 
 -- the command of a verb and one name
 named_is : (verb : Verb) (make : List ℕ → Command) → ((all : List (List ℕ)) (name : List ℕ) → AreVerbAndName all (verb_word verb) name → IsCommand all (make name)) → (words : List (List ℕ)) (command : Command) → name_with make words ≡ Some command →
@@ -62,16 +63,21 @@ short_number_from word n e =
 short_number_is : (word : List ℕ) (n : ℕ) → IsNumber word n → n ≤ 65535 → short_number_at word ≡ Some n
 short_number_is word n h short = ap (option_and_then short_number) (number_is word n h) ∙ cond-true (leb n 65535) (Some n) None (le-leb n 65535 short)
 
+-- two words that are names
+names_found : (words : List (List ℕ)) (both found : List ℕ × List ℕ) (first second : List ℕ) → words ≡ both.0 ∷ both.1 ∷ [] → name_at both.0 ≡ Some first → name_at both.1 ≡ Some second → (first, second) ≡ found →
+    (words ≡ found.0 ∷ found.1 ∷ []) × IsName found.0 × IsName found.1
+names_found words both found first second e f g same =
+    let one = name_is_at both.0 first f in
+    let other = name_is_at both.1 second g in
+    subst (λ (p : List ℕ × List ℕ). (words ≡ p.0 ∷ p.1 ∷ []) × IsName p.0 × IsName p.1) same (rw (one.0, other.0) at e, one.1, other.1)
+
 -- the only two words are those names
 both_names_are : (words : List (List ℕ)) (found : List ℕ × List ℕ) → both_names words ≡ Some found → (words ≡ found.0 ∷ found.1 ∷ []) × IsName found.0 × IsName found.1
 both_names_are words found e =
     let b = and_then_some (λ both. option_and_then (λ first. option_and_then (λ second. Some (first, second)) (name_at both.1)) (name_at both.0)) (both_of words) found e in
     let n = and_then_some (λ first. option_and_then (λ second. Some (first, second)) (name_at b.0.1)) (name_at b.0.0) found b.2 in
     let l = and_then_some (λ second. Some (n.0, second)) (name_at b.0.1) found n.2 in
-    let first = name_is_at b.0.0 n.0 n.1 in
-    let second = name_is_at b.0.1 l.0 l.1 in
-    let words_are : words ≡ n.0 ∷ l.0 ∷ [] = both_is words b.0 b.1 ∙ ap (λ (w : List ℕ). w ∷ b.0.1 ∷ []) first.0 ∙ ap (λ (w : List ℕ). n.0 ∷ w ∷ []) second.0 in
-    subst (λ (p : List ℕ × List ℕ). (words ≡ p.0 ∷ p.1 ∷ []) × IsName p.0 × IsName p.1) (found_is (n.0, l.0) found l.2) (words_are, first.1, second.1)
+    names_found words b.0 found n.0 l.0 (both_is words b.0 b.1) n.1 l.1 (found_is (n.0, l.0) found l.2)
 
 -- the command of a verb and two names
 both_named_is : (verb : Verb) (make : List ℕ → List ℕ → Command) → ((all : List (List ℕ)) (first second : List ℕ) → AreVerbAndNames all (verb_word verb) first second → IsCommand all (make first second)) → (words : List (List ℕ)) (command : Command) → both_with make words ≡ Some command →
@@ -157,7 +163,7 @@ command_of_verb verbs.Count words command e = named_is verbs.Count (λ packet. C
 command_of_verb verbs.Offer words command e = numbered_is verbs.Offer name_first (λ packet desk. Offer packet desk) (λ all packet desk h. h) words (name_and_number words) (name_and_number_from words) command e
 command_of_verb verbs.Take words command e = numbered_is verbs.Take number_first (λ made desk. Take desk made) (λ all made desk h. h) words (number_and_name words) (number_and_name_from words) command e
 command_of_verb verbs.Flush words command e =
-    let b = bare_is Flush command words e in
+    let b = without_words_is Flush command words e in
     subst (λ (c : Command). IsCommand (verb_word verbs.Flush ∷ words) c) b.1 (ap (λ (ws : List (List ℕ)). verb_word verbs.Flush ∷ ws) b.0)
 
 pub command_comes : (words : List (List ℕ)) (command : Command) → command_from words ≡ Some command → IsCommand words command
@@ -244,23 +250,41 @@ pub order_comes : (workers : ℕ) (words : List (List ℕ)) (order : ℕ × Comm
 order_comes workers [] order e = absurd cc
 order_comes workers (word ∷ words) order e = order_comes_by workers (before_colon word) word words order refl e
 
--- a verb has no colon at its end
+-- a command begins with a verb, which has no colon at its end and is not marked
+record BeginsWithVerb (words : List (List ℕ)) : Type 0 where
+  pub word : List ℕ
+  pub rest : List (List ℕ)
+  pub words_are : words ≡ word ∷ rest
+  pub no_colon : before_colon word ≡ None
+  pub unmarked : is_marked word ≡ false
+
+begins : (words : List (List ℕ)) (word : List ℕ) (rest : List (List ℕ)) → words ≡ word ∷ rest → before_colon word ≡ None → is_marked word ≡ false → BeginsWithVerb words
+begins words word rest e no_colon unmarked = record { word = word; rest = rest; words_are = e; no_colon = no_colon; unmarked = unmarked }
+
+verb_first : (words : List (List ℕ)) (command : Command) → IsCommand words command → BeginsWithVerb words
+verb_first words (Alloc name) h = begins words _ _ h.0 refl refl
+verb_first words (Bulk names) h = begins words _ _ h.0 refl refl
+verb_first words (Free name) h = begins words _ _ h.0 refl refl
+verb_first words (Resize name (Append n)) h = begins words _ _ h.words_are refl refl
+verb_first words (Resize name (Prepend n)) h = begins words _ _ h.words_are refl refl
+verb_first words (Resize name (Adj n)) h = begins words _ _ h.words_are refl refl
+verb_first words (Resize name (Trim n)) h = begins words _ _ h.words_are refl refl
+verb_first words (Chain head tail) h = begins words _ _ h.0 refl refl
+verb_first words (Attach first second) h = begins words _ _ h.0 refl refl
+verb_first words (Detach packet) h = begins words _ _ h.0 refl refl
+verb_first words (Clone packet made) h = begins words _ _ h.0 refl refl
+verb_first words (Count packet) h = begins words _ _ h.0 refl refl
+verb_first words (Offer packet desk) h = begins words _ _ h.words_are refl refl
+verb_first words (Take desk made) h = begins words _ _ h.words_are refl refl
+verb_first words Flush h = begins words _ _ h refl refl
+
 no_prefix : (words : List (List ℕ)) (command : Command) (workers : ℕ) → IsCommand words command → order_from workers words ≡ order_of 1 words
-no_prefix words (Alloc name) workers h = ap (order_from workers) h.0 ∙ ap (order_of 1) (sym h.0)
-no_prefix words (Bulk names) workers h = ap (order_from workers) h.0 ∙ ap (order_of 1) (sym h.0)
-no_prefix words (Free name) workers h = ap (order_from workers) h.0 ∙ ap (order_of 1) (sym h.0)
-no_prefix words (Resize name (Append n)) workers h = ap (order_from workers) h.words_are ∙ ap (order_of 1) (sym h.words_are)
-no_prefix words (Resize name (Prepend n)) workers h = ap (order_from workers) h.words_are ∙ ap (order_of 1) (sym h.words_are)
-no_prefix words (Resize name (Adj n)) workers h = ap (order_from workers) h.words_are ∙ ap (order_of 1) (sym h.words_are)
-no_prefix words (Resize name (Trim n)) workers h = ap (order_from workers) h.words_are ∙ ap (order_of 1) (sym h.words_are)
-no_prefix words (Chain head tail) workers h = ap (order_from workers) h.0 ∙ ap (order_of 1) (sym h.0)
-no_prefix words (Attach first second) workers h = ap (order_from workers) h.0 ∙ ap (order_of 1) (sym h.0)
-no_prefix words (Detach packet) workers h = ap (order_from workers) h.0 ∙ ap (order_of 1) (sym h.0)
-no_prefix words (Clone packet made) workers h = ap (order_from workers) h.0 ∙ ap (order_of 1) (sym h.0)
-no_prefix words (Count packet) workers h = ap (order_from workers) h.0 ∙ ap (order_of 1) (sym h.0)
-no_prefix words (Offer packet desk) workers h = ap (order_from workers) h.words_are ∙ ap (order_of 1) (sym h.words_are)
-no_prefix words (Take desk made) workers h = ap (order_from workers) h.words_are ∙ ap (order_of 1) (sym h.words_are)
-no_prefix words Flush workers h = ap (order_from workers) h ∙ ap (order_of 1) (sym h)
+no_prefix words command workers h =
+    let v = verb_first words command h in
+    ap (order_from workers) v.words_are ∙ ap (λ (o : Option (List ℕ)). order_by workers o (v.word ∷ v.rest) v.rest) v.no_colon ∙ ap (order_of 1) (sym v.words_are)
+
+pub counted_command : (words : List (List ℕ)) (command : Command) → IsCommand words command → is_skipped words ≡ false
+counted_command words command h = let v = verb_first words command h in ap is_skipped v.words_are ∙ v.unmarked
 
 order_as : (worker : ℕ) (words : List (List ℕ)) (command : Command) → IsCommand words command → order_of worker words ≡ Some (worker, command)
 order_as worker words command h = ap (option_and_then (λ c. Some (worker, c))) (command_is words command h)
@@ -274,27 +298,20 @@ order_is workers words worker command (prefixed word rest e p h) =
     ∙ ap (option_and_then (λ w. order_of w rest)) (worker_is p.number workers worker p.is_number p.first p.last)
     ∙ order_as worker rest command h
 
--- the name of a command is a name
-named_by : (words : List (List ℕ)) (command : Command) → IsCommand words command → IsNamed command
-named_by words (Alloc name) h = h.1
-named_by words (Bulk names) h = h.1.each
-named_by words (Free name) h = h.1
-named_by words (Resize name change) h = h.is_name
-named_by words (Chain head tail) h = (h.1, h.2)
-named_by words (Attach first second) h = (h.1, h.2)
-named_by words (Detach packet) h = h.1
-named_by words (Clone packet made) h = (h.1, h.2)
-named_by words (Count packet) h = h.1
-named_by words (Offer packet desk) h = h.is_name
-named_by words (Take desk made) h = h.is_name
-named_by words Flush h = tt
+-- the names that a command makes are names
+names_by : (words : List (List ℕ)) (command : Command) → IsCommand words command → AllByRecursion IsName (names_made command)
+names_by words (Alloc packet) h = (h.1, tt)
+names_by words (Bulk packets) h = h.1.each
+names_by words (Clone packet copy) h = (h.2, tt)
+names_by words (Take desk packet) h = (h.is_name, tt)
+names_by words command h = tt
 
-line_names : (workers : ℕ) (words : List (List ℕ)) (worker : ℕ) (command : Command) → IsCommandLine workers words worker command → IsNamed command
-line_names workers words worker command (alone one h) = named_by words command h
-line_names workers words worker command (prefixed word rest e p h) = named_by rest command h
+line_names : (workers : ℕ) (words : List (List ℕ)) (worker : ℕ) (command : Command) → IsCommandLine workers words worker command → AllByRecursion IsName (names_made command)
+line_names workers words worker command (alone one h) = names_by words command h
+line_names workers words worker command (prefixed word rest e p h) = names_by rest command h
 
-pub order_named : (workers : ℕ) (words : List (List ℕ)) (order : ℕ × Command) → order_from workers words ≡ Some order → IsNamed order.1
-order_named workers words order e = line_names workers words order.0 order.1 (order_comes workers words order e)
+pub order_names : (workers : ℕ) (words : List (List ℕ)) (order : ℕ × Command) → order_from workers words ≡ Some order → AllByRecursion IsName (names_made order.1)
+order_names workers words order e = line_names workers words order.0 order.1 (order_comes workers words order e)
 
 line_among : (workers : ℕ) (words : List (List ℕ)) (worker : ℕ) (command : Command) → 1 ≤ workers → IsCommandLine workers words worker command → IsAmong workers worker
 line_among workers words worker command some (alone one h) = rw one (omega arith, some)
@@ -318,62 +335,32 @@ one_of_is [] name h = absurd h
 one_of_is (first ∷ names) name (inl h) = or_left (bytes_eq name first) (is_one_of names name) ((bytes_eq-Decides name first).1 (sym h))
 one_of_is (first ∷ names) name (inr h) = or_right (bytes_eq name first) (is_one_of names name) (one_of_is names name h)
 
-makes_from : (command : Command) (name : List ℕ) → makes command name ≡ true → Makes command name
-makes_from (Alloc made) name e = sym ((bytes_eq-Decides name made).0 e)
-makes_from (Bulk names) name e = one_of_from names name e
-makes_from (Free freed) name e = absurd (false≢true e)
-makes_from (Resize packet change) name e = absurd (false≢true e)
-makes_from (Chain head tail) name e = absurd (false≢true e)
-makes_from (Attach first second) name e = absurd (false≢true e)
-makes_from (Detach packet) name e = absurd (false≢true e)
-makes_from (Clone packet made) name e = sym ((bytes_eq-Decides name made).0 e)
-makes_from (Count packet) name e = absurd (false≢true e)
-makes_from (Offer packet desk) name e = absurd (false≢true e)
-makes_from (Take desk made) name e = sym ((bytes_eq-Decides name made).0 e)
-makes_from Flush name e = absurd (false≢true e)
-
-makes_is : (command : Command) (name : List ℕ) → Makes command name → makes command name ≡ true
-makes_is (Alloc made) name h = (bytes_eq-Decides name made).1 (sym h)
-makes_is (Bulk names) name h = one_of_is names name h
-makes_is (Free freed) name h = absurd h
-makes_is (Resize packet change) name h = absurd h
-makes_is (Chain head tail) name h = absurd h
-makes_is (Attach first second) name h = absurd h
-makes_is (Detach packet) name h = absurd h
-makes_is (Clone packet made) name h = (bytes_eq-Decides name made).1 (sym h)
-makes_is (Count packet) name h = absurd h
-makes_is (Offer packet desk) name h = absurd h
-makes_is (Take desk made) name h = (bytes_eq-Decides name made).1 (sym h)
-makes_is Flush name h = absurd h
-
 made_from : (lines : List Line) (worker : ℕ) (name : List ℕ) → is_made lines worker name ≡ true → IsMade lines worker name
 made_from [] worker name e = absurd (false≢true e)
 made_from (line ∷ lines) worker name e =
-    elim (or_cases (worker == line.worker && makes line.command name) (is_made lines worker name) e) [
-      | inl h ↦ let both = and_parts (worker == line.worker) (makes line.command name) h in inl (sym (eqb-true worker line.worker both.0), makes_from line.command name both.1)
+    elim (or_cases (worker == line.worker && is_one_of (names_made line.command) name) (is_made lines worker name) e) [
+      | inl h ↦ let both = and_parts (worker == line.worker) (is_one_of (names_made line.command) name) h in inl (sym (eqb-true worker line.worker both.0), one_of_from (names_made line.command) name both.1)
       | inr h ↦ inr (made_from lines worker name h)
     ]
 
 made_is : (lines : List Line) (worker : ℕ) (name : List ℕ) → IsMade lines worker name → is_made lines worker name ≡ true
 made_is [] worker name h = absurd h
-made_is (line ∷ lines) worker name (inl h) = or_left (worker == line.worker && makes line.command name) (is_made lines worker name) (and_from (worker == line.worker) (makes line.command name) (eq-eqb worker line.worker (sym h.0)) (makes_is line.command name h.1))
-made_is (line ∷ lines) worker name (inr h) = or_right (worker == line.worker && makes line.command name) (is_made lines worker name) (made_is lines worker name h)
+made_is (line ∷ lines) worker name (inl h) = or_left (worker == line.worker && is_one_of (names_made line.command) name) (is_made lines worker name) (and_from (worker == line.worker) (is_one_of (names_made line.command) name) (eq-eqb worker line.worker (sym h.0)) (one_of_is (names_made line.command) name h.1))
+made_is (line ∷ lines) worker name (inr h) = or_right (worker == line.worker && is_one_of (names_made line.command) name) (is_made lines worker name) (made_is lines worker name h)
 
--- a name that no line made
-one_is : (lines : List Line) (worker : ℕ) (made : List ℕ) → ((name : List ℕ) → made ≡ name → IsMade lines worker name → ⊥) → is_made lines worker made ≡ false
-one_is lines worker made new = false_from_ne_true (is_made lines worker made) (λ e. new made refl (made_from lines worker made e))
-
-one_from : (lines : List Line) (worker : ℕ) (made : List ℕ) → is_made lines worker made ≡ false → (name : List ℕ) → made ≡ name → IsMade lines worker name → ⊥
-one_from lines worker made e name same h = both_ways (is_made lines worker made) e (ap (is_made lines worker) same ∙ made_is lines worker name h)
+-- one name alone
+only_one_of : (made name : List ℕ) → IsOneOf (made ∷ []) name → made ≡ name
+only_one_of made name (inl same) = same
+only_one_of made name (inr none) = absurd none
 
 -- names that no line made and that stand once each
-some_is : (lines : List Line) (worker : ℕ) (names : List (List ℕ)) → ((name : List ℕ) → IsOneOf names name → IsMade lines worker name → ⊥) → AreApart names → repeats_some lines worker names ≡ false
+some_is : (lines : List Line) (worker : ℕ) (names : List (List ℕ)) → ((name : List ℕ) → IsOneOf names name → IsMade lines worker name → ⊥) → AreApart names → repeats lines worker names ≡ false
 some_is lines worker [] new once = refl
 some_is lines worker (name ∷ names) new once =
     let first = false_from_ne_true (is_made lines worker name) (λ e. new name (inl refl) (made_from lines worker name e)) in
-    ap (λ (b : Bool). b || repeats_some (with_name lines worker name) worker names) first
+    ap (λ (b : Bool). b || repeats (with_name lines worker name) worker names) first
     ∙ some_is (with_name lines worker name) worker names (λ other h made. elim made [
-      | inl same ↦ once.0 (subst (IsOneOf names) (sym same.1) h)
+      | inl same ↦ once.0 (subst (IsOneOf names) (sym (only_one_of name other same.1)) h)
       | inr before ↦ new other (inr h) before
     ]) once.1
 
@@ -381,42 +368,20 @@ either_false : (a b : Bool) → (a || b) ≡ false → (a ≡ false) × (b ≡ f
 either_false true b e = absurd (false≢true (sym e))
 either_false false b e = (refl, e)
 
-some_from : (lines : List Line) (worker : ℕ) (names : List (List ℕ)) → repeats_some lines worker names ≡ false → ((name : List ℕ) → IsOneOf names name → IsMade lines worker name → ⊥) × AreApart names
+some_from : (lines : List Line) (worker : ℕ) (names : List (List ℕ)) → repeats lines worker names ≡ false → ((name : List ℕ) → IsOneOf names name → IsMade lines worker name → ⊥) × AreApart names
 some_from lines worker [] e = (λ name h made. h, tt)
 some_from lines worker (name ∷ names) e =
-    let both = either_false (is_made lines worker name) (repeats_some (with_name lines worker name) worker names) e in
+    let both = either_false (is_made lines worker name) (repeats (with_name lines worker name) worker names) e in
     let rest = some_from (with_name lines worker name) worker names both.1 in (
       λ other h made. elim h [
         | inl same ↦ both_ways (is_made lines worker name) both.0 (ap (is_made lines worker) same ∙ made_is lines worker other made)
         | inr behind ↦ rest.0 other behind (inr made)
       ],
-      (λ h. rest.0 name h (inl (refl, refl)), rest.1),
+      (λ h. rest.0 name h (inl (refl, inl refl)), rest.1),
     )
 
-pub anew_is : (lines : List Line) (worker : ℕ) (command : Command) → MakesAnew lines worker command → repeats lines worker command ≡ false
-anew_is lines worker (Alloc made) h = one_is lines worker made h.new
-anew_is lines worker (Bulk names) h = some_is lines worker names h.new h.once
-anew_is lines worker (Free name) h = refl
-anew_is lines worker (Resize name change) h = refl
-anew_is lines worker (Chain head tail) h = refl
-anew_is lines worker (Attach first second) h = refl
-anew_is lines worker (Detach packet) h = refl
-anew_is lines worker (Clone packet made) h = one_is lines worker made h.new
-anew_is lines worker (Count packet) h = refl
-anew_is lines worker (Offer packet desk) h = refl
-anew_is lines worker (Take desk made) h = one_is lines worker made h.new
-anew_is lines worker Flush h = refl
+pub anew_is : (lines : List Line) (worker : ℕ) (command : Command) → MakesAnew lines worker command → repeats lines worker (names_made command) ≡ false
+anew_is lines worker command h = some_is lines worker (names_made command) h.new h.once
 
-pub anew_from : (lines : List Line) (worker : ℕ) (command : Command) → repeats lines worker command ≡ false → MakesAnew lines worker command
-anew_from lines worker (Alloc made) e = record { new = one_from lines worker made e; once = tt }
-anew_from lines worker (Bulk names) e = let r = some_from lines worker names e in record { new = r.0; once = r.1 }
-anew_from lines worker (Free freed) e = record { new = λ name makes_it h. makes_it; once = tt }
-anew_from lines worker (Resize packet change) e = record { new = λ name makes_it h. makes_it; once = tt }
-anew_from lines worker (Chain head tail) e = record { new = λ name makes_it h. makes_it; once = tt }
-anew_from lines worker (Attach first second) e = record { new = λ name makes_it h. makes_it; once = tt }
-anew_from lines worker (Detach packet) e = record { new = λ name makes_it h. makes_it; once = tt }
-anew_from lines worker (Clone packet made) e = record { new = one_from lines worker made e; once = tt }
-anew_from lines worker (Count packet) e = record { new = λ name makes_it h. makes_it; once = tt }
-anew_from lines worker (Offer packet desk) e = record { new = λ name makes_it h. makes_it; once = tt }
-anew_from lines worker (Take desk made) e = record { new = one_from lines worker made e; once = tt }
-anew_from lines worker Flush e = record { new = λ name makes_it h. makes_it; once = tt }
+pub anew_from : (lines : List Line) (worker : ℕ) (command : Command) → repeats lines worker (names_made command) ≡ false → MakesAnew lines worker command
+anew_from lines worker command e = let both = some_from lines worker (names_made command) e in record { new = both.0; once = both.1 }

@@ -4,11 +4,10 @@ use Rattle.std.specs.Prelude.{option_and_then, codes}
 use Rattle.std.specs.List.{list_all}
 use Rattle.std.proofs.lemmas.Bool.{cond-true, cond-false, cases_Bool, leb-true, le-leb, ltb-true, lt-ltb, and_parts, and_from, eqb-true, false_from_ne_true}
 use Rattle.commons.specs.declared.limits.Limits.{Limits}
-use Rattle.commons.specs.declared.change.Change.TheVariants.{Append, Prepend, Adj, Trim}
 use Rattle.script_text.specs.declared.commands.Command.{Command}
-use Rattle.script_text.specs.declared.commands.Command.TheVariants.{Alloc, Bulk, Free, Resize, Chain, Attach, Detach, Clone, Count, Offer, Take, Flush}
 use Rattle.script_text.specs.Numbers.{IsNumber}
-use Rattle.script_text.specs.CommandLine.{IsCommand, IsCommandLine, alone, prefixed}
+use Rattle.script_text.specs.CommandLine.{IsCommandLine, alone, prefixed}
+use Rattle.script_text.specs.Commands.{names_made}
 use Rattle.script_text.specs.Text.{IsPrinted, IsPlain}
 use Rattle.script_text.specs.Grammar.{State, with_command, ReadsPool, ReadsCommand, Takes, skips, gives_pool, commands, Reads}
 use Rattle.script_text.specs.inside.Reading.{words_of, is_printed, is_plain, is_skipped, repeats, order_from, limits_from, with_limits, add_command, read_command, read_pool, read_words, read_line}
@@ -16,7 +15,7 @@ use Rattle.script_text.proofs.WordLemmas.{spelled_once, words_are, skipped_is, s
 use Rattle.script_text.proofs.NumberLemmas.{all_from, all_to, within_from, within_to}
 use Rattle.script_text.proofs.KeptLemmas.{and_then_some, found_is}
 use Rattle.script_text.proofs.PoolLineLemmas.{if_some, if_none, pool_line_from, pool_line_is}
-use Rattle.script_text.proofs.CommandLemmas.{order_comes, order_is, anew_is, anew_from}
+use Rattle.script_text.proofs.CommandLemmas.{counted_command, order_comes, order_is, anew_is, anew_from}
 use Rattle.script_text.proofs.StepLemmas.{read_skipped, read_as}
 
 -- ---- one line
@@ -45,7 +44,7 @@ command_takes : (state after : State) (number : ℕ) (line : List ℕ) (limits :
 command_takes state after number line limits some e =
     let few = if_some (ltb (length state.lines) 10000) (option_and_then (add_command state number) (order_from limits.workers (words_of line))) after e in
     let c = and_then_some (add_command state number) (order_from limits.workers (words_of line)) after few.1 in
-    let anew = if_none (repeats state.lines c.0.0 c.0.1) (Some (with_command state number c.0.0 c.0.1)) after c.2 in
+    let anew = if_none (repeats state.lines c.0.0 (names_made c.0.1)) (Some (with_command state number c.0.0 c.0.1)) after c.2 in
     commands (record {
       limits = limits;
       behind_pool = some;
@@ -83,23 +82,6 @@ pool_is_read state after number line plain h =
     ∙ ap (option_and_then (λ limits. Some (with_limits state limits))) (ap limits_from words ∙ pool_line_is h.words h.limits h.is_pool_line)
     ∙ ap (λ (s : State). Some s) (sym h.after_is)
 
-counted_command : (words : List (List ℕ)) (command : Command) → IsCommand words command → is_skipped words ≡ false
-counted_command words (Alloc name) h = ap is_skipped h.0
-counted_command words (Bulk names) h = ap is_skipped h.0
-counted_command words (Free name) h = ap is_skipped h.0
-counted_command words (Resize name (Append n)) h = ap is_skipped h.words_are
-counted_command words (Resize name (Prepend n)) h = ap is_skipped h.words_are
-counted_command words (Resize name (Adj n)) h = ap is_skipped h.words_are
-counted_command words (Resize name (Trim n)) h = ap is_skipped h.words_are
-counted_command words (Chain head tail) h = ap is_skipped h.0
-counted_command words (Attach first second) h = ap is_skipped h.0
-counted_command words (Detach packet) h = ap is_skipped h.0
-counted_command words (Clone packet made) h = ap is_skipped h.0
-counted_command words (Count packet) h = ap is_skipped h.0
-counted_command words (Offer packet desk) h = ap is_skipped h.words_are
-counted_command words (Take desk made) h = ap is_skipped h.words_are
-counted_command words Flush h = ap is_skipped h
-
 -- a number begins with a digit, and not with `#`
 counted_prefix : (word number : List ℕ) (workers worker : ℕ) (rest : List (List ℕ)) → word ≡ number ++ codes ":" → IsNumber number worker → is_skipped (word ∷ rest) ≡ false
 counted_prefix word [] workers worker rest e h = absurd (omega (arith, h.some))
@@ -118,7 +100,7 @@ command_is_read state after number line plain h =
     read_as state number line (Some h.limits) (plain_is line plain) counted h.behind_pool
     ∙ cond-true (ltb (length state.lines) 10000) (option_and_then (add_command state number) (order_from h.limits.workers (words_of line))) None (lt-ltb (length state.lines) 10000 h.few)
     ∙ ap (option_and_then (add_command state number)) order
-    ∙ cond-false (repeats state.lines h.worker h.command) None (Some (with_command state number h.worker h.command)) (anew_is state.lines h.worker h.command h.anew)
+    ∙ cond-false (repeats state.lines h.worker (names_made h.command)) None (Some (with_command state number h.worker h.command)) (anew_is state.lines h.worker h.command h.anew)
     ∙ ap (λ (s : State). Some s) (sym h.after_is)
 
 takes_is_read : (state after : State) (number : ℕ) (line : List ℕ) → IsPlain line → Takes state number line after → read_line state number line ≡ Some after

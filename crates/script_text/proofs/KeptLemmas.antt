@@ -6,9 +6,9 @@ use Rattle.std.proofs.lemmas.Option.{cond_some}
 use Rattle.std.proofs.lemmas.List.Elements.{All-from_recursion}
 use Rattle.script_text.specs.declared.commands.Line.{Line}
 use Rattle.script_text.specs.declared.made_names.MadeNames.{MadeNames}
-use Rattle.script_text.specs.Commands.{AreOfPool}
+use Rattle.script_text.specs.Commands.{names_made, AreOfPool}
 use Rattle.script_text.specs.Names.{IsName}
-use Rattle.script_text.specs.inside.Reading.{is_name_word, only_name_of, makes, is_made}
+use Rattle.script_text.specs.inside.Reading.{is_name_word, only_name_of, is_one_of, is_made}
 use Rattle.script_text.specs.inside.Agreement.{has_made, AreMade, IsAmong}
 use Rattle.script_text.proofs.MadeLemmas.{is_made-push}
 
@@ -19,8 +19,8 @@ pub workers-push : (workers : ℕ) (lines : List Line) (line : Line) → IsAmong
 workers-push workers [] line e h = (e, tt)
 workers-push workers (first ∷ lines) line e h = (h.0, workers-push workers lines line e h.1)
 
-pub made-push : (made : MadeNames) (lines : List Line) (line : Line) (worker : ℕ) → line.worker ≡ worker → ((other : ℕ) (name : List ℕ) → IsName name → has_made made other name ≡ ((other == worker && makes line.command name) || is_made lines other name)) → AreMade made (lines ++ line ∷ [])
-made-push made lines line worker e h other name k = h other name k ∙ ap (λ (w : ℕ). (other == w && makes line.command name) || is_made lines other name) (sym e) ∙ sym (is_made-push lines line other name)
+pub made-push : (made : MadeNames) (lines : List Line) (line : Line) (worker : ℕ) → line.worker ≡ worker → ((other : ℕ) (name : List ℕ) → IsName name → has_made made other name ≡ ((other == worker && is_one_of (names_made line.command) name) || is_made lines other name)) → AreMade made (lines ++ line ∷ [])
+made-push made lines line worker e h other name k = h other name k ∙ ap (λ (w : ℕ). (other == w && is_one_of (names_made line.command) name) || is_made lines other name) (sym e) ∙ sym (is_made-push lines line other name)
 
 -- ---- what was found
 

@@ -11,9 +11,10 @@ use Rattle.std.proofs.lemmas.List.{ext_get_or}
 use Rattle.std.proofs.lemmas.Slice.Eq.{bytes_eq-Decides}
 use Rattle.script_text.specs.declared.commands.Line.{Line}
 use Rattle.script_text.specs.declared.made_names.MadeNames.{MadeNames}
+use Rattle.script_text.specs.Commands.{names_made}
 use Rattle.script_text.specs.Names.{IsName, IsLetter}
 use Rattle.script_text.specs.Numbers.{IsDigit}
-use Rattle.script_text.specs.inside.Reading.{makes, is_made}
+use Rattle.script_text.specs.inside.Reading.{is_one_of, is_made}
 use Rattle.script_text.specs.inside.Agreement.{padded_to, same_made, has_made}
 
 length-padded : (n : ℕ) (name : List ℕ) → length (padded_to n name) ≡ n
@@ -92,19 +93,15 @@ or_assoc : (a b c : Bool) → (a || (b || c)) ≡ ((a || b) || c)
 or_assoc true b c = refl
 or_assoc false b c = refl
 
-or_nothing : (a : Bool) → (a || false) ≡ a
-or_nothing true = refl
-or_nothing false = refl
-
 or_swap : (a b : Bool) → (a || b) ≡ (b || a)
 or_swap true true = refl
 or_swap true false = refl
 or_swap false true = refl
 or_swap false false = refl
 
-pub is_made-push : (lines : List Line) (line : Line) (worker : ℕ) (name : List ℕ) → is_made (lines ++ line ∷ []) worker name ≡ ((worker == line.worker && makes line.command name) || is_made lines worker name)
+pub is_made-push : (lines : List Line) (line : Line) (worker : ℕ) (name : List ℕ) → is_made (lines ++ line ∷ []) worker name ≡ ((worker == line.worker && is_one_of (names_made line.command) name) || is_made lines worker name)
 is_made-push [] line worker name = refl
 is_made-push (first ∷ lines) line worker name =
-    let one = worker == first.worker && makes first.command name in
-    let new = worker == line.worker && makes line.command name in
+    let one = worker == first.worker && is_one_of (names_made first.command) name in
+    let new = worker == line.worker && is_one_of (names_made line.command) name in
     ap (λ (t : Bool). one || t) (is_made-push lines line worker name) ∙ or_assoc one new (is_made lines worker name) ∙ ap (λ (t : Bool). t || is_made lines worker name) (or_swap one new) ∙ sym (or_assoc new one (is_made lines worker name))

@@ -1,5 +1,5 @@
 -- Names that one command makes, one after another.
-use Rattle.std.proofs.Common.{ℕ, ◌≡◌, Bool, true, false, List, [], ◌∷◌, ◌++◌, refl, ◌∙◌}
+use Rattle.std.proofs.Common.{ℕ, ◌≡◌, Bool, true, false, List, [], ◌∷◌, ◌++◌, refl, ap, ◌∙◌}
 use Rattle.std.specs.Prelude.{not, ◌&&◌, ◌||◌, ◌==◌}
 use Rattle.std.specs.Str.{bytes_eq}
 use Rattle.script_text.specs.declared.commands.Line.{Line}
@@ -13,6 +13,14 @@ with_names lines worker (name ∷ names) = with_names (with_name lines worker na
 pub with_names-more : (lines : List Line) (worker : ℕ) (names : List (List ℕ)) (name : List ℕ) → with_names lines worker (names ++ name ∷ []) ≡ with_name (with_names lines worker names) worker name
 with_names-more lines worker [] name = refl
 with_names-more lines worker (first ∷ names) name = with_names-more (with_name lines worker first) worker names name
+
+or_nothing : (a : Bool) → (a || false) ≡ a
+or_nothing true = refl
+or_nothing false = refl
+
+-- one name more
+pub with_name-made : (lines : List Line) (worker : ℕ) (name : List ℕ) (w : ℕ) (other : List ℕ) → is_made (with_name lines worker name) w other ≡ ((w == worker && bytes_eq other name) || is_made lines w other)
+with_name-made lines worker name w other = ap (λ (b : Bool). (w == worker && b) || is_made lines w other) (or_nothing (bytes_eq other name))
 
 one_more : (a b c d : Bool) → ((a && b) || ((a && c) || d)) ≡ ((a && (c || b)) || d)
 one_more true true true d = refl
@@ -29,7 +37,9 @@ no_more false d = refl
 pub with_names-made : (lines : List Line) (worker : ℕ) (names : List (List ℕ)) (w : ℕ) (other : List ℕ) → is_made (with_names lines worker names) w other ≡ ((w == worker && is_one_of names other) || is_made lines w other)
 with_names-made lines worker [] w other = no_more (w == worker) (is_made lines w other)
 with_names-made lines worker (name ∷ names) w other =
-    with_names-made (with_name lines worker name) worker names w other ∙ one_more (w == worker) (is_one_of names other) (bytes_eq other name) (is_made lines w other)
+    with_names-made (with_name lines worker name) worker names w other
+    ∙ ap (λ (b : Bool). (w == worker && is_one_of names other) || b) (with_name-made lines worker name w other)
+    ∙ one_more (w == worker) (is_one_of names other) (bytes_eq other name) (is_made lines w other)
 
 -- what is denied isn't so
 pub not_so : (b : Bool) → not b ≡ true → b ≡ false

@@ -10,7 +10,7 @@ use Rattle.script_text.specs.declared.commands.Key.{Key}
 use Rattle.script_text.specs.declared.commands.Key.TheVariants.{Cache, Workers, Desks, Buf, Refs, Tries, Start}
 use Rattle.script_text.specs.declared.pool_line.Settings.{Settings}
 use Rattle.script_text.specs.Numbers.{IsNumber}
-use Rattle.script_text.specs.PoolLine.{spelled, same_key, ArePairs, given, AreOnce, limits_with, IsPoolLine}
+use Rattle.script_text.specs.PoolLine.{key_word, same_key, ArePairs, first_number, AreOnce, limits_with, IsPoolLine}
 use Rattle.script_text.specs.inside.Reading.{number_at, keys, key_at, value_of, value_with, with_value, none_given, add_value, add_pair, settings_from, limits_by, pool_with, limits_from}
 use Rattle.script_text.proofs.NumberLemmas.{number_from, number_is}
 use Rattle.script_text.proofs.SettingsLemmas.{no_settings, no_number, one_pair, with_pair}
@@ -38,23 +38,23 @@ if_none false o y e = (refl, e)
 
 -- ---- keys
 
-key_from : (word : List ℕ) (key : Key) → key_at word ≡ Some key → word ≡ spelled key
-key_from word key e = spelled_from spelled keys word key e
+key_from : (word : List ℕ) (key : Key) → key_at word ≡ Some key → word ≡ key_word key
+key_from word key e = spelled_from key_word keys word key e
 
-key_at-spelled : (key : Key) → key_at (spelled key) ≡ Some key
-key_at-spelled Cache = refl
-key_at-spelled Workers = refl
-key_at-spelled Desks = refl
-key_at-spelled Buf = refl
-key_at-spelled Refs = refl
-key_at-spelled Tries = refl
-key_at-spelled Start = refl
+key_at-key_word : (key : Key) → key_at (key_word key) ≡ Some key
+key_at-key_word Cache = refl
+key_at-key_word Workers = refl
+key_at-key_word Desks = refl
+key_at-key_word Buf = refl
+key_at-key_word Refs = refl
+key_at-key_word Tries = refl
+key_at-key_word Start = refl
 
 same_key-true : (a b : Key) → same_key a b ≡ true → a ≡ b
-same_key-true a b e = found_is a b (sym (key_at-spelled a) ∙ ap key_at ((bytes_eq-Decides (spelled a) (spelled b)).0 e) ∙ key_at-spelled b)
+same_key-true a b e = found_is a b (sym (key_at-key_word a) ∙ ap key_at ((bytes_eq-Decides (key_word a) (key_word b)).0 e) ∙ key_at-key_word b)
 
 same_key-refl : (a : Key) → same_key a a ≡ true
-same_key-refl a = (bytes_eq-Decides (spelled a) (spelled a)).1 refl
+same_key-refl a = (bytes_eq-Decides (key_word a) (key_word a)).1 refl
 
 with-each : (settings : Settings) (key other : Key) (value : ℕ) → value_of (with_value settings key value) other ≡ value_with settings key value other
 with-each settings key Cache value = refl
@@ -79,27 +79,27 @@ or_else (Some value) other = Some value
 
 -- no key of the pairs has a value before
 abbrev AreFree : Settings → List (Key × ℕ) → Type 0
-AreFree settings pairs = (key : Key) (value : ℕ) → given key pairs ≡ Some value → value_of settings key ≡ None
+AreFree settings pairs = (key : Key) (value : ℕ) → first_number key pairs ≡ Some value → value_of settings key ≡ None
 
 -- the later settings are the earlier ones with the pairs
 abbrev AreWith : Settings → List (Key × ℕ) → Settings → Type 0
-AreWith settings pairs later = (key : Key) → value_of later key ≡ or_else (given key pairs) (value_of settings key)
+AreWith settings pairs later = (key : Key) → value_of later key ≡ or_else (first_number key pairs) (value_of settings key)
 
-given-same : (key : Key) (value : ℕ) (pairs : List (Key × ℕ)) → given key ((key, value) ∷ pairs) ≡ Some value
-given-same key value pairs = cond-true (same_key key key) (Some value) (given key pairs) (same_key-refl key)
+first_number-same : (key : Key) (value : ℕ) (pairs : List (Key × ℕ)) → first_number key ((key, value) ∷ pairs) ≡ Some value
+first_number-same key value pairs = cond-true (same_key key key) (Some value) (first_number key pairs) (same_key-refl key)
 
-given-other : (other key : Key) (value : ℕ) (pairs : List (Key × ℕ)) → same_key other key ≡ false → given other ((key, value) ∷ pairs) ≡ given other pairs
-given-other other key value pairs e = cond-false (same_key other key) (Some value) (given other pairs) e
+first_number-other : (other key : Key) (value : ℕ) (pairs : List (Key × ℕ)) → same_key other key ≡ false → first_number other ((key, value) ∷ pairs) ≡ first_number other pairs
+first_number-other other key value pairs e = cond-false (same_key other key) (Some value) (first_number other pairs) e
 
-AreWith-more : (settings : Settings) (key : Key) (value : ℕ) (pairs : List (Key × ℕ)) (later : Settings) → given key pairs ≡ None → AreWith (with_value settings key value) pairs later → AreWith settings ((key, value) ∷ pairs) later
+AreWith-more : (settings : Settings) (key : Key) (value : ℕ) (pairs : List (Key × ℕ)) (later : Settings) → first_number key pairs ≡ None → AreWith (with_value settings key value) pairs later → AreWith settings ((key, value) ∷ pairs) later
 AreWith-more settings key value pairs later none h other =
     elim (cases_Bool (same_key other key)) [
       | inl e ↦
           let same : key ≡ other = sym (same_key-true other key e) in
-          subst (λ (k : Key). value_of later k ≡ or_else (given k ((key, value) ∷ pairs)) (value_of settings k)) same
-          (h key ∙ ap (λ (o : Option ℕ). or_else o (value_of (with_value settings key value) key)) none ∙ with-same settings key value ∙ sym (ap (λ (o : Option ℕ). or_else o (value_of settings key)) (given-same key value pairs)))
+          subst (λ (k : Key). value_of later k ≡ or_else (first_number k ((key, value) ∷ pairs)) (value_of settings k)) same
+          (h key ∙ ap (λ (o : Option ℕ). or_else o (value_of (with_value settings key value) key)) none ∙ with-same settings key value ∙ sym (ap (λ (o : Option ℕ). or_else o (value_of settings key)) (first_number-same key value pairs)))
       | inr e ↦
-          h other ∙ ap (or_else (given other pairs)) (with-other settings key other value e) ∙ sym (ap (λ (o : Option ℕ). or_else o (value_of settings other)) (given-other other key value pairs e))
+          h other ∙ ap (or_else (first_number other pairs)) (with-other settings key other value e) ∙ sym (ap (λ (o : Option ℕ). or_else o (value_of settings other)) (first_number-other other key value pairs e))
     ]
 
 none_or : {A : Type 0} (o : Option A) → ((x : A) → o ≡ Some x → ⊥) → o ≡ None
@@ -119,16 +119,16 @@ record ComeFrom (settings : Settings) (words : List (List ℕ)) (later : Setting
   are_with : AreWith settings pairs later
 
 -- a key that is new, before settings that come from the words behind it
-settings_with : (settings later : Settings) (key : Key) (value : ℕ) (word number : List ℕ) (words : List (List ℕ)) → word ≡ spelled key → IsNumber number value → value_of settings key ≡ None → ComeFrom (with_value settings key value) words later → ComeFrom settings (word ∷ number ∷ words) later
+settings_with : (settings later : Settings) (key : Key) (value : ℕ) (word number : List ℕ) (words : List (List ℕ)) → word ≡ key_word key → IsNumber number value → value_of settings key ≡ None → ComeFrom (with_value settings key value) words later → ComeFrom settings (word ∷ number ∷ words) later
 settings_with settings later key value word number words spells_key is_number before rest =
-    let none : given key rest.pairs ≡ None = none_or (given key rest.pairs) (λ v f. let clash = sym (with-same settings key value) ∙ rest.free key v f in absurd cc) in
+    let none : first_number key rest.pairs ≡ None = none_or (first_number key rest.pairs) (λ v f. let clash = sym (with-same settings key value) ∙ rest.free key v f in absurd cc) in
     record {
       pairs = (key, value) ∷ rest.pairs;
       are_pairs = (number, words, ap (λ (w : List ℕ). w ∷ number ∷ words) spells_key, is_number, rest.are_pairs);
       once = (none, rest.once);
       free = λ other v f. elim (cases_Bool (same_key other key)) [
         | inl s ↦ ap (value_of settings) (same_key-true other key s) ∙ before
-        | inr s ↦ sym (with-other settings key other value s) ∙ rest.free other v (sym (given-other other key value rest.pairs s) ∙ f)
+        | inr s ↦ sym (with-other settings key other value s) ∙ rest.free other v (sym (first_number-other other key value rest.pairs s) ∙ f)
       ];
       are_with = AreWith-more settings key value rest.pairs later none rest.are_with;
     }
@@ -137,7 +137,7 @@ settings_with settings later key value word number words spells_key is_number be
 record IsPair (settings next : Settings) (word number : List ℕ) : Type 0 where
   key : Key
   value : ℕ
-  spells_key : word ≡ spelled key
+  spells_key : word ≡ key_word key
   is_number : IsNumber number value
   before : value_of settings key ≡ None
   next_is : with_value settings key value ≡ next
@@ -177,15 +177,15 @@ settings_go ((key, value) ∷ pairs) words settings p once free =
     let number = p.0 in
     let rest = p.1 in
     let next = with_value settings key value in
-    let before : value_of settings key ≡ None = free key value (given-same key value pairs) in
+    let before : value_of settings key ≡ None = free key value (first_number-same key value pairs) in
     let added : add_value settings key value ≡ Some next = cond-false (is_some (value_of settings key)) None (Some next) (ap is_some before) in
     let free_next : AreFree next pairs = λ other v f. elim (cases_Bool (same_key other key)) [
-      | inl s ↦ let clash = sym once.0 ∙ ap (λ (k : Key). given k pairs) (sym (same_key-true other key s)) ∙ f in absurd cc
-      | inr s ↦ with-other settings key other value s ∙ free other v (given-other other key value pairs s ∙ f)
+      | inl s ↦ let clash = sym once.0 ∙ ap (λ (k : Key). first_number k pairs) (sym (same_key-true other key s)) ∙ f in absurd cc
+      | inr s ↦ with-other settings key other value s ∙ free other v (first_number-other other key value pairs s ∙ f)
     ] in
     let more = settings_go pairs rest next p.4 once.1 free_next in (
       more.0,
-      ap (settings_from settings) p.2 ∙ with_pair settings (spelled key) number rest key (Some value) (key_at-spelled key) (number_is number value p.3) ∙ ap (option_and_then (λ s. settings_from s rest)) added ∙ more.1,
+      ap (settings_from settings) p.2 ∙ with_pair settings (key_word key) number rest key (Some value) (key_at-key_word key) (number_is number value p.3) ∙ ap (option_and_then (λ s. settings_from s rest)) added ∙ more.1,
       AreWith-more settings key value pairs more.0 once.0 more.2,
     )
 
@@ -206,13 +206,13 @@ none_value Start = refl
 
 limits_same : (population : ℕ) (pairs : List (Key × ℕ)) (settings : Settings) → AreWith none_given pairs settings → limits_by population settings ≡ limits_with population pairs
 limits_same population pairs settings h =
-    let cache : settings.cache ≡ given Cache pairs = h Cache ∙ or_none (given Cache pairs) in
-    let workers : settings.workers ≡ given Workers pairs = h Workers ∙ or_none (given Workers pairs) in
-    let desks : settings.desks ≡ given Desks pairs = h Desks ∙ or_none (given Desks pairs) in
-    let buf : settings.buf ≡ given Buf pairs = h Buf ∙ or_none (given Buf pairs) in
-    let refs : settings.refs ≡ given Refs pairs = h Refs ∙ or_none (given Refs pairs) in
-    let tries : settings.tries ≡ given Tries pairs = h Tries ∙ or_none (given Tries pairs) in
-    let start : settings.start ≡ given Start pairs = h Start ∙ or_none (given Start pairs) in
+    let cache : settings.cache ≡ first_number Cache pairs = h Cache ∙ or_none (first_number Cache pairs) in
+    let workers : settings.workers ≡ first_number Workers pairs = h Workers ∙ or_none (first_number Workers pairs) in
+    let desks : settings.desks ≡ first_number Desks pairs = h Desks ∙ or_none (first_number Desks pairs) in
+    let buf : settings.buf ≡ first_number Buf pairs = h Buf ∙ or_none (first_number Buf pairs) in
+    let refs : settings.refs ≡ first_number Refs pairs = h Refs ∙ or_none (first_number Refs pairs) in
+    let tries : settings.tries ≡ first_number Tries pairs = h Tries ∙ or_none (first_number Tries pairs) in
+    let start : settings.start ≡ first_number Start pairs = h Start ∙ or_none (first_number Start pairs) in
     rw (cache, workers, desks, buf, refs, tries, start) refl
 
 pool_from_words : (word : List ℕ) (words : List (List ℕ)) (limits : Limits) → word ≡ codes "pool" → pool_with words ≡ Some limits → IsPoolLine (word ∷ words) limits

@@ -6,6 +6,7 @@ use Rattle.commons.specs.declared.change.Change.TheVariants.{Append, Prepend, Ad
 use Rattle.script_text.specs.declared.commands.Command.{Command}
 use Rattle.script_text.specs.declared.commands.Command.TheVariants.{Alloc, Bulk, Free, Resize, Chain, Attach, Detach, Clone, Count, Offer, Take, Flush}
 use Rattle.script_text.specs.declared.commands.Line.{Line}
+use Rattle.script_text.specs.Commands.{names_made}
 use Rattle.script_text.specs.Names.{IsName}
 use Rattle.script_text.specs.Numbers.{IsNumber}
 
@@ -85,42 +86,12 @@ abbrev pub AreApart : List (List ℕ) → Type 0
 AreApart [] = Unit {0}
 AreApart (name ∷ names) = (IsOneOf names name → ⊥) × AreApart names
 
--- the command makes the name
-abbrev pub Makes : Command → List ℕ → Type 0
-Makes (Alloc made) name = made ≡ name
-Makes (Bulk names) name = IsOneOf names name
-Makes (Free freed) name = ⊥
-Makes (Resize packet change) name = ⊥
-Makes (Chain head tail) name = ⊥
-Makes (Attach first second) name = ⊥
-Makes (Detach packet) name = ⊥
-Makes (Clone packet made) name = made ≡ name
-Makes (Count packet) name = ⊥
-Makes (Offer packet desk) name = ⊥
-Makes (Take desk made) name = made ≡ name
-Makes Flush name = ⊥
-
 -- one of the lines makes the worker's name
 abbrev pub IsMade : List Line → ℕ → List ℕ → Type 0
 IsMade [] worker name = ⊥
-IsMade (line ∷ lines) worker name = ((line.worker ≡ worker) × Makes line.command name) ⊎ IsMade lines worker name
+IsMade (line ∷ lines) worker name = ((line.worker ≡ worker) × IsOneOf (names_made line.command) name) ⊎ IsMade lines worker name
 
--- the command makes each of its names once
-abbrev pub MakesOnce : Command → Type 0
-MakesOnce (Alloc name) = Unit {0}
-MakesOnce (Bulk names) = AreApart names
-MakesOnce (Free name) = Unit {0}
-MakesOnce (Resize name change) = Unit {0}
-MakesOnce (Chain head tail) = Unit {0}
-MakesOnce (Attach first second) = Unit {0}
-MakesOnce (Detach packet) = Unit {0}
-MakesOnce (Clone packet made) = Unit {0}
-MakesOnce (Count packet) = Unit {0}
-MakesOnce (Offer packet desk) = Unit {0}
-MakesOnce (Take desk made) = Unit {0}
-MakesOnce Flush = Unit {0}
-
--- no line has made before what the worker's command makes, and it makes it once
+-- no line has made before what the worker's command makes, and it makes each of its names once
 pub record MakesAnew (lines : List Line) (worker : ℕ) (command : Command) : Type 0 where
-  pub new : (name : List ℕ) → Makes command name → IsMade lines worker name → ⊥
-  pub once : MakesOnce command
+  pub new : (name : List ℕ) → IsOneOf (names_made command) name → IsMade lines worker name → ⊥
+  pub once : AreApart (names_made command)

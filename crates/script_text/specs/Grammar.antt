@@ -3,7 +3,7 @@ use Rattle.std.specs.Prelude.{◌≡◌, ◌≢◌, ℕ, ◌+◌, ◌-◌, ◌<�
 use Rattle.commons.specs.Bounds.{IsPool}
 use Rattle.commons.specs.declared.limits.Limits.{Limits}
 use Rattle.commons.specs.declared.refusal.Refusal.{Refusal}
-use Rattle.commons.specs.declared.refusal.Refusal.TheVariants.{BadPool, OutOfMemory, NoEntries, Contended, HeadSpent, RefSpent, TooManySegs, NoRoom, TooShort, NotDirect, NotIndirect, InUse, NoSuchPacket, PacketsFull, DeskTaken, DeskEmpty, NoSuchDesk, MissingShare, StrangerShare, ScriptFault, StepRefused, Foreign, SamePacket}
+use Rattle.commons.specs.declared.refusal.Refusal.TheVariants.{BadPool, OutOfMemory, ScriptFault}
 use Rattle.script_text.specs.declared.commands.Command.{Command}
 use Rattle.script_text.specs.declared.commands.Line.{Line}
 use Rattle.script_text.specs.Text.{AreLines, IsPlain, Spells, IsSkipped}
@@ -133,31 +133,12 @@ pub record HasBadPool (bytes : List ℕ) : Type 0 where
   pub limits_are : next.limits ≡ Some limits
   pub bad : IsPool limits → ⊥
 
--- why the bytes are refused; of a refusal for want of memory nothing is said
+-- why the bytes are refused; of a refusal for want of memory nothing is said, and no other is given
 abbrev pub IsCause : List ℕ → Refusal → Type 0
 IsCause bytes BadPool = HasBadPool bytes
-IsCause bytes OutOfMemory = Unit {0}
-IsCause bytes NoEntries = ⊥
-IsCause bytes Contended = ⊥
-IsCause bytes HeadSpent = ⊥
-IsCause bytes RefSpent = ⊥
-IsCause bytes TooManySegs = ⊥
-IsCause bytes NoRoom = ⊥
-IsCause bytes TooShort = ⊥
-IsCause bytes NotDirect = ⊥
-IsCause bytes NotIndirect = ⊥
-IsCause bytes InUse = ⊥
-IsCause bytes NoSuchPacket = ⊥
-IsCause bytes PacketsFull = ⊥
-IsCause bytes DeskTaken = ⊥
-IsCause bytes DeskEmpty = ⊥
-IsCause bytes NoSuchDesk = ⊥
-IsCause bytes (MissingShare worker) = ⊥
-IsCause bytes StrangerShare = ⊥
 IsCause bytes (ScriptFault number) = IsFirstFault bytes number
-IsCause bytes StepRefused = ⊥
-IsCause bytes Foreign = ⊥
-IsCause bytes SamePacket = ⊥
+IsCause bytes OutOfMemory = Unit {0}
+IsCause bytes _ = ⊥
 
 -- the bytes are some script
 pub record IsSomeScript (bytes : List ℕ) : Type 0 where

@@ -7,12 +7,12 @@ abbrev pub IsUnbroken : List ℕ → Type 0
 IsUnbroken bytes = AllByRecursion (λ byte. byte ≢ 10) bytes
 
 -- a line with its end
-abbrev pub ended : List ℕ → List ℕ
-ended line = line ++ 10 ∷ []
+abbrev pub with_end : List ℕ → List ℕ
+with_end line = line ++ 10 ∷ []
 
--- the text is these lines, each ended, and then a rest in which no line ends
+-- the text is these lines, each with its end, and then a rest in which no line ends
 pub record AreLines (text : List ℕ) (lines : List (List ℕ)) (rest : List ℕ) : Type 0 where
-  pub whole : text ≡ flat_map ended lines ++ rest
+  pub whole : text ≡ flat_map with_end lines ++ rest
   pub each : AllByRecursion IsUnbroken lines
   pub last : IsUnbroken rest
 

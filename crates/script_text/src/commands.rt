@@ -6,6 +6,7 @@ ghost use Rattle.script_text.specs.Commands.{AreOfPool};
 use commons::change::Change;
 use commons::limits::Limits;
 use commons::seq::Seq;
+use std::slice;
 
 /// A packet's name: 1 to 16 of `a` to `z` and `0` to `9`, beginning with a letter.
 pub type Name = Seq<u8>;
@@ -37,6 +38,31 @@ pub enum Command {
     Take(u16, Name),
     /// Puts the worker's whole cache onto the common stack.
     Flush,
+}
+
+impl Command {
+    ghost use Rattle.std.specs.Prelude.{◌≡◌};
+    ghost use Rattle.script_text.specs.Commands.{names_made};
+
+    /// The names that the command makes.
+    pub fn names_made(&self) -> &[Name]
+        ensures { result.now ≡ names_made self.now }
+    {
+        match self {
+            Command::Alloc(name) | Command::Clone(_, name) | Command::Take(_, name) => {
+                slice::from_ref(name)
+            }
+            Command::Bulk(names) => names.as_slice(),
+            Command::Free(_)
+            | Command::Resize(_, _)
+            | Command::Chain(_, _)
+            | Command::Attach(_, _)
+            | Command::Detach(_)
+            | Command::Count(_)
+            | Command::Offer(_, _)
+            | Command::Flush => &[],
+        }
+    }
 }
 
 /// A command with the number of its line, from 1, and the worker that performs it, from 1.

@@ -15,7 +15,7 @@ pub(crate) struct MadeNames {
 }
 
 /// The name with zeros behind it.
-fn padded(name: &[u8]) -> [u8; MAX_NAME]
+fn padded_name(name: &[u8]) -> [u8; MAX_NAME]
     requires { length name.now ≤ 16 }
     ensures sized { length result ≡ 16 }
     ensures bytes { EachIndex result (λ k. slice_index result k ≡ slice_index name.now k) }
@@ -47,7 +47,7 @@ impl MadeNames {
             has_made self.new w other
             ≡ ((w == worker && bytes_eq other name.now) || has_made self.old w other)) }
     {
-        let added = self.keys.insert((worker, padded(name)))?;
+        let added = self.keys.insert((worker, padded_name(name)))?;
         Ok(added)
     }
 }

@@ -5,11 +5,11 @@ ghost use Rattle.std.specs.List.{AllByRecursion};
 ghost use Rattle.script_text.specs.Names.{IsName};
 ghost use Rattle.script_text.specs.inside.Agreement.{StopsPool};
 ghost use Rattle.script_text.specs.Grammar.{start};
-ghost use Rattle.script_text.specs.inside.Reading.{words_of, limits_from, is_pool, repeats, repeats_some, makes, is_made, is_one_of, read_command as read_command_line, step};
+ghost use Rattle.script_text.specs.inside.Reading.{words_of, limits_from, is_pool, repeats, is_made, is_one_of, read_command as read_command_line, step};
 ghost use Rattle.script_text.specs.declared.reader.Stop.TheVariants.{OutOfMemory};
 
 use crate::command_line::order_of;
-use crate::commands::{Command, Line, Name, Script};
+use crate::commands::{Line, Name, Script};
 use crate::line::{is_plain, is_skipped};
 use crate::made_names::MadeNames;
 use crate::pool_line::limits_of;
@@ -71,7 +71,7 @@ fn pool_of(line: &[u8]) -> Result<Limits, Stop>
 }
 
 impl Reader {
-    ghost use Rattle.script_text.specs.inside.Agreement.{state_of, has_made, IsKept, IsNamed, StopsCommand, StopsLine};
+    ghost use Rattle.script_text.specs.inside.Agreement.{state_of, has_made, IsKept, StopsCommand, StopsLine};
 
     /// Before the first line.
     pub(crate) fn new(alloc: Global) -> Reader
@@ -132,7 +132,7 @@ impl Reader {
         let Some((worker, command)) = order_of(alloc, limits.workers, line)? else {
             return Err(Stop::Fault);
         };
-        if !self.claim(worker, &command)? {
+        if !self.claim(worker, command.names_made())? {
             return Err(Stop::Fault);
         }
         self.lines.push(Line {
@@ -143,39 +143,12 @@ impl Reader {
         Ok(())
     }
 
-    /// Notes the name that a worker's command makes, and says whether no line made it before.
-    fn claim(&mut self, worker: u32, command: &Command) -> Result<bool, AllocError>
-        requires kept { IsKept self.old }
-        requires named { IsNamed command.now }
-        ensures first { IfOk result (λ first. first ≡ not (repeats self.old.lines.items worker command.now)) }
-        ensures made { result ≡ Ok true → (other : ℕ) (name : List ℕ) → IsName name →
-            has_made self.new.made other name
-            ≡ ((other == worker && makes command.now name) || is_made self.old.lines.items other name) }
-        ensures limits { self.new.limits ≡ self.old.limits }
-        ensures lines { self.new.lines ≡ self.old.lines }
-    {
-        match command {
-            Command::Alloc(name) | Command::Clone(_, name) | Command::Take(_, name) => {
-                self.made.add(worker, name.as_slice())
-            }
-            Command::Bulk(names) => self.claim_all(worker, names.as_slice()),
-            Command::Free(_)
-            | Command::Resize(_, _)
-            | Command::Chain(_, _)
-            | Command::Attach(_, _)
-            | Command::Detach(_)
-            | Command::Count(_)
-            | Command::Offer(_, _)
-            | Command::Flush => Ok(true),
-        }
-    }
-
-    /// Notes a worker's names, and says whether no line made one of them before and none stands
-    /// twice.
-    fn claim_all(&mut self, worker: u32, names: &[Name]) -> Result<bool, AllocError>
+    /// Notes the names that a worker's command makes, and says whether no line made one of them
+    /// before and none stands twice.
+    fn claim(&mut self, worker: u32, names: &[Name]) -> Result<bool, AllocError>
         requires kept { IsKept self.old }
         requires named { AllByRecursion IsName names.now }
-        ensures first { IfOk result (λ first. first ≡ not (repeats_some self.old.lines.items worker names.now)) }
+        ensures first { IfOk result (λ first. first ≡ not (repeats self.old.lines.items worker names.now)) }
         ensures made { result ≡ Ok true → (other : ℕ) (name : List ℕ) → IsName name →
             has_made self.new.made other name
             ≡ ((other == worker && is_one_of names.now name) || is_made self.old.lines.items other name) }

@@ -6,8 +6,6 @@ use Rattle.std.specs.HashSet.{contains}
 use Rattle.commons.specs.declared.limits.Limits.{Limits}
 use Rattle.commons.specs.declared.refusal.Refusal.{Refusal}
 use Rattle.commons.specs.declared.refusal.Refusal.TheVariants as refusals
-use Rattle.script_text.specs.declared.commands.Command.{Command}
-use Rattle.script_text.specs.declared.commands.Command.TheVariants.{Alloc, Bulk, Free, Resize, Chain, Attach, Detach, Clone, Count, Offer, Take, Flush}
 use Rattle.script_text.specs.declared.commands.Line.{Line}
 use Rattle.script_text.specs.declared.commands.Script.{Script}
 use Rattle.script_text.specs.declared.made_names.MadeNames.{MadeNames}
@@ -58,21 +56,6 @@ pub record IsKept (reader : Reader) : Type 0 where
   pub ready : are_ready reader.limits ≡ true
   pub workers : AreWithin reader.limits reader.lines.items
   pub made : AreMade reader.made reader.lines.items
-
--- a name is what the command has as its name
-abbrev pub IsNamed : Command → Type 0
-IsNamed (Alloc name) = IsName name
-IsNamed (Bulk names) = AllByRecursion IsName names
-IsNamed (Free name) = IsName name
-IsNamed (Resize name change) = IsName name
-IsNamed (Chain head tail) = IsName head × IsName tail
-IsNamed (Attach first second) = IsName first × IsName second
-IsNamed (Detach packet) = IsName packet
-IsNamed (Clone packet made) = IsName packet × IsName made
-IsNamed (Count packet) = IsName packet
-IsNamed (Offer packet desk) = IsName packet
-IsNamed (Take desk made) = IsName made
-IsNamed Flush = Unit {0}
 
 -- why a pool line wasn't read
 abbrev pub StopsPool : Stop → Option Limits → Type 0

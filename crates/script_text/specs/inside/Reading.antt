@@ -15,8 +15,9 @@ use Rattle.script_text.specs.declared.command_line.Verb.TheVariants as verbs
 use Rattle.script_text.specs.declared.commands.Key.{Key}
 use Rattle.script_text.specs.declared.commands.Key.TheVariants.{Cache, Workers, Desks, Buf, Refs, Tries, Start}
 use Rattle.script_text.specs.declared.pool_line.Settings.{Settings}
+use Rattle.script_text.specs.Commands.{names_made}
 use Rattle.script_text.specs.Numbers.{digits_value}
-use Rattle.script_text.specs.PoolLine.{spelled, same_key}
+use Rattle.script_text.specs.PoolLine.{key_word, same_key}
 use Rattle.script_text.specs.Grammar.{State, start, with_command}
 
 -- ---- lines
@@ -27,15 +28,15 @@ pub record Parts : Type 0 where
   pub rest : List ℕ
 
 -- one byte more in front, which ends no line
-abbrev pub grown : ℕ → List (List ℕ) → List ℕ → Parts
-grown byte [] rest = record { lines = []; rest = byte ∷ rest }
-grown byte (line ∷ lines) rest = record { lines = (byte ∷ line) ∷ lines; rest = rest }
+abbrev pub with_byte : ℕ → List (List ℕ) → List ℕ → Parts
+with_byte byte [] rest = record { lines = []; rest = byte ∷ rest }
+with_byte byte (line ∷ lines) rest = record { lines = (byte ∷ line) ∷ lines; rest = rest }
 
 -- the lines of a text and its rest, from the front on
 unfoldable pub parts : List ℕ → Parts
 parts [] = record { lines = []; rest = [] }
 parts (byte ∷ bytes) =
-    if byte == 10 then record { lines = [] ∷ (parts bytes).lines; rest = (parts bytes).rest } else grown byte (parts bytes).lines (parts bytes).rest
+    if byte == 10 then record { lines = [] ∷ (parts bytes).lines; rest = (parts bytes).rest } else with_byte byte (parts bytes).lines (parts bytes).rest
 
 -- whether a byte is a space or a character that is printed
 abbrev pub is_printed : ℕ → Bool
@@ -109,7 +110,7 @@ keys = Cache ∷ Workers ∷ Desks ∷ Buf ∷ Refs ∷ Tries ∷ Start ∷ []
 
 -- the key that a word spells
 abbrev pub key_at : List ℕ → Option Key
-key_at word = find (λ key. bytes_eq word (spelled key)) keys
+key_at word = find (λ key. bytes_eq word (key_word key)) keys
 
 -- the value that a key was given
 abbrev pub value_of : Settings → Key → Option ℕ
@@ -181,13 +182,15 @@ abbrev pub limits_from : List (List ℕ) → Option Limits
 limits_from [] = None
 limits_from (word ∷ words) = if bytes_eq word (codes "pool") then pool_with words else None
 
+-- of each two numbers the first is at most the second in the limits of a pool
+abbrev pub pool_bounds : Limits → List (ℕ × ℕ)
+pool_bounds l =
+    (1, l.population) ∷ (l.population, 65534) ∷ (l.cache, 512) ∷ (l.cache * 3 / 2, l.population) ∷ (1, l.workers) ∷ (l.workers, 64) ∷ (l.desks, 64)
+    ∷ (l.buf, 65535) ∷ (1, l.ref_limit) ∷ (l.ref_limit, 65535) ∷ (1, l.tries) ∷ (l.tries, 1000000) ∷ (l.start_count, 281474976710655) ∷ []
+
 -- whether a pool can be made within the limits
 abbrev pub is_pool : Limits → Bool
-is_pool l =
-    nat_le 1 l.population && nat_le l.population 65534 && nat_le l.cache 512 && nat_le (l.cache * 3 / 2) l.population
-    && nat_le 1 l.workers && nat_le l.workers 64 && nat_le l.desks 64 && nat_le l.buf 65535
-    && nat_le 1 l.ref_limit && nat_le l.ref_limit 65535 && nat_le 1 l.tries && nat_le l.tries 1000000
-    && nat_le l.start_count 281474976710655
+is_pool l = list_all (λ bound. nat_le bound.0 bound.1) (pool_bounds l)
 
 -- ---- commands
 
@@ -283,9 +286,9 @@ abbrev pub resize_with : (ℕ → Change) → List (List ℕ) → Option Command
 resize_with change words = numbered_with (λ name n. Resize name (change n)) (name_and_number words)
 
 -- the command of a verb that has no words behind it
-abbrev pub bare : Command → List (List ℕ) → Option Command
-bare command [] = Some command
-bare command (word ∷ words) = None
+abbrev pub without_words : Command → List (List ℕ) → Option Command
+without_words command [] = Some command
+without_words command (word ∷ words) = None
 
 -- the command of a verb and the words behind it
 abbrev pub command_with : Verb → List (List ℕ) → Option Command
@@ -303,7 +306,7 @@ command_with verbs.Clone words = both_with Clone words
 command_with verbs.Count words = name_with Count words
 command_with verbs.Offer words = numbered_with Offer (name_and_number words)
 command_with verbs.Take words = numbered_with (λ made desk. Take desk made) (number_and_name words)
-command_with verbs.Flush words = bare Flush words
+command_with verbs.Flush words = without_words Flush words
 
 -- the command that words are
 abbrev pub command_from : List (List ℕ) → Option Command
@@ -341,49 +344,19 @@ abbrev pub is_one_of : List (List ℕ) → List ℕ → Bool
 is_one_of [] name = false
 is_one_of (first ∷ names) name = bytes_eq name first || is_one_of names name
 
--- whether the command makes the name
-abbrev pub makes : Command → List ℕ → Bool
-makes (Alloc made) name = bytes_eq name made
-makes (Bulk names) name = is_one_of names name
-makes (Free freed) name = false
-makes (Resize packet change) name = false
-makes (Chain head tail) name = false
-makes (Attach first second) name = false
-makes (Detach packet) name = false
-makes (Clone packet made) name = bytes_eq name made
-makes (Count packet) name = false
-makes (Offer packet desk) name = false
-makes (Take desk made) name = bytes_eq name made
-makes Flush name = false
-
 -- whether one of the lines makes the worker's name
 abbrev pub is_made : List Line → ℕ → List ℕ → Bool
 is_made [] worker name = false
-is_made (line ∷ lines) worker name = (worker == line.worker && makes line.command name) || is_made lines worker name
+is_made (line ∷ lines) worker name = (worker == line.worker && is_one_of (names_made line.command) name) || is_made lines worker name
 
 -- the lines with one more, of no number, that makes the worker's name
 abbrev pub with_name : List Line → ℕ → List ℕ → List Line
 with_name lines worker name = record { number = 0; worker = worker; command = Alloc name } ∷ lines
 
 -- whether one of the names was made before, by one of the lines or by a name in front of it
-abbrev pub repeats_some : List Line → ℕ → List (List ℕ) → Bool
-repeats_some lines worker [] = false
-repeats_some lines worker (name ∷ names) = is_made lines worker name || repeats_some (with_name lines worker name) worker names
-
--- whether the worker's command makes a name that one of the lines made, or one twice
-abbrev pub repeats : List Line → ℕ → Command → Bool
-repeats lines worker (Alloc name) = is_made lines worker name
-repeats lines worker (Bulk names) = repeats_some lines worker names
-repeats lines worker (Free name) = false
-repeats lines worker (Resize name change) = false
-repeats lines worker (Chain head tail) = false
-repeats lines worker (Attach first second) = false
-repeats lines worker (Detach packet) = false
-repeats lines worker (Clone packet made) = is_made lines worker made
-repeats lines worker (Count packet) = false
-repeats lines worker (Offer packet desk) = false
-repeats lines worker (Take desk made) = is_made lines worker made
-repeats lines worker Flush = false
+abbrev pub repeats : List Line → ℕ → List (List ℕ) → Bool
+repeats lines worker [] = false
+repeats lines worker (name ∷ names) = is_made lines worker name || repeats (with_name lines worker name) worker names
 
 -- ---- a line, and lines one after another
 
@@ -393,7 +366,7 @@ with_limits state limits = record { limits = Some limits; lines = state.lines }
 
 -- what is told after the worker's command on the line with this number, if it makes no name that was made before
 abbrev pub add_command : State → ℕ → ℕ × Command → Option State
-add_command state number order = if repeats state.lines order.0 order.1 then None else Some (with_command state number order.0 order.1)
+add_command state number order = if repeats state.lines order.0 (names_made order.1) then None else Some (with_command state number order.0 order.1)
 
 -- what is told after these words, where the limits are told and have so many workers
 abbrev pub read_command : ℕ → State → ℕ → List (List ℕ) → Option State

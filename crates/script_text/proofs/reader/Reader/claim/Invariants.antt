@@ -1,15 +1,15 @@
 use Rattle.std.proofs.Common.{◌≡◌, ℕ, List, take, drop}
 use Rattle.script_text.specs.Names.{IsName}
-use Rattle.script_text.specs.inside.Reading.{is_made, repeats_some}
+use Rattle.script_text.specs.inside.Reading.{is_made, repeats}
 use Rattle.script_text.specs.inside.Agreement.{has_made}
 use Rattle.script_text.proofs.NameRuns.{with_names}
-use Rattle.script_text.proofs.reader.Reader.claim_all.Given as goal
+use Rattle.script_text.proofs.reader.Reader.claim.Given as goal
 
 -- the names so far are made, and the others are still to be looked at
 abbrev pub invariant-loop-name : goal.invariant-loop-name
 invariant-loop-name l = record {
   made : (w : ℕ) (other : List ℕ) → IsName other → has_made l.self.made w other ≡ is_made (with_names l.fn.self.lines.items l.worker (take l.name-index l.names)) w other;
-  left : repeats_some (with_names l.fn.self.lines.items l.worker (take l.name-index l.names)) l.worker (drop l.name-index l.names) ≡ repeats_some l.fn.self.lines.items l.worker l.names;
+  left : repeats (with_names l.fn.self.lines.items l.worker (take l.name-index l.names)) l.worker (drop l.name-index l.names) ≡ repeats l.fn.self.lines.items l.worker l.names;
   limits : l.self.limits ≡ l.fn.self.limits;
   lines : l.self.lines ≡ l.fn.self.lines;
 }

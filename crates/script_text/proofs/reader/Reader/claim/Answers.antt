@@ -5,9 +5,9 @@ use Rattle.std.proofs.lemmas.List.{take_all, take_more, drop_more}
 use Rattle.std.proofs.lemmas.List.Elements.{All-from_recursion}
 use Rattle.script_text.specs.declared.commands.Line.{Line}
 use Rattle.script_text.specs.Names.{IsName}
-use Rattle.script_text.specs.inside.Reading.{is_made, repeats_some, with_name}
-use Rattle.script_text.proofs.NameRuns.{not_so, with_names, with_names-more, with_names-made}
-use Rattle.script_text.proofs.reader.Reader.claim_all.Goals as goal
+use Rattle.script_text.specs.inside.Reading.{is_made, repeats, with_name}
+use Rattle.script_text.proofs.NameRuns.{not_so, with_name-made, with_names, with_names-more, with_names-made}
+use Rattle.script_text.proofs.reader.Reader.claim.Goals as goal
 
 pub loop-name-preserved : goal.loop-name-preserved
 loop-name-preserved c =
@@ -26,10 +26,10 @@ loop-name-preserved c =
     let done = rw c.as_slice.ensures at c.in_ok-add.ensures in
     let anew : is_made so_far worker name ≡ false = sym (inv.made worker name named) ∙ not_so _ (sym done.added ∙ c.if-not-branch.false) in
     record {
-      made = λ w other h. done.more w other h ∙ ap (λ (b : Bool). (w == worker && bytes_eq other name) || b) (inv.made w other h) ∙ sym (ap (λ (ls : List Line). is_made ls w other) next);
-      left = ap (λ (ls : List Line). repeats_some ls worker (drop (i + 1) names)) next
-          ∙ sym (ap (λ (b : Bool). b || repeats_some (with_name so_far worker name) worker (drop (i + 1) names)) anew)
-          ∙ sym (ap (repeats_some so_far worker) here) ∙ inv.left;
+      made = λ w other h. done.more w other h ∙ ap (λ (b : Bool). (w == worker && bytes_eq other name) || b) (inv.made w other h) ∙ sym (ap (λ (ls : List Line). is_made ls w other) next ∙ with_name-made so_far worker name w other);
+      left = ap (λ (ls : List Line). repeats ls worker (drop (i + 1) names)) next
+          ∙ sym (ap (λ (b : Bool). b || repeats (with_name so_far worker name) worker (drop (i + 1) names)) anew)
+          ∙ sym (ap (repeats so_far worker) here) ∙ inv.left;
       limits = inv.limits;
       lines = inv.lines;
     }
