@@ -9,5 +9,5 @@ pub mod texts;
 
 pub use playing::replay;
 pub use printing::run_replay;
-pub use script_text::parse;
+pub use script_text::{MAX_BYTES, parse};
 pub use texts::statement_text;
