@@ -1,5 +1,6 @@
 -- What each act of a worker keeps of a pool, each command keeps; so what commands make of it, acts make of it.
-use Rattle.std.proofs.Common.{ℕ, ◌≡◌, List, [], ◌∷◌, ◌++◌, length, Option, Some, None, refl, sym, ap, ◌∙◌}
+use Rattle.std.proofs.Common.{ℕ, ◌≡◌, List, [], ◌∷◌, ◌++◌, length, Option, Some, None, refl, sym, ap, ◌∙◌, inl, inr, ◌&&◌, nat_le}
+use Rattle.std.proofs.lemmas.Bool.{cases_Bool}
 use Rattle.mbuf.specs.declared.acts.Act.{Act}
 use Rattle.mbuf.specs.declared.acts.Act.TheVariants.{Alloc, AllocBulk, Free, Chain, Attach, Detach, ClonePacket, Offer, Take, CountOf, Flush}
 use Rattle.script_text.specs.declared.commands.Command.{Command}
@@ -67,3 +68,11 @@ one_act_more start pool w act (acts, is) =
 
 pub end_is_reached : (lines : List Line) (run : Run) → (acts : List (ℕ × Act)) × ((end_of lines run).pool ≡ after_acts acts run.pool)
 end_is_reached lines run = end_of-keeps (Reached run.pool) (one_act_more run.pool) lines run ([], refl)
+
+-- no act changes the limits
+perform_limits : (pool : Pool) (w : ℕ) (act : Act) → (perform pool w act).1.limits ≡ pool.limits
+perform_limits pool w act = elim (cases_Bool (nat_le 1 w && nat_le w (length pool.members))) [ | inl e ↦ rw e refl | inr e ↦ rw e refl ]
+
+pub end_of-limits : (lines : List Line) (run : Run) → (end_of lines run).pool.limits ≡ run.pool.limits
+end_of-limits lines run =
+    end_of-keeps (λ (pool : Pool). pool.limits ≡ run.pool.limits) (λ pool w act same. perform_limits pool w act ∙ same) lines run refl
