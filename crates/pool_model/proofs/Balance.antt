@@ -22,7 +22,7 @@ use Rattle.mbuf.specs.Lengths.{appended, prepended, adjusted, trimmed}
 use Rattle.pool_model.specs.Pool.{Shared, Pool, held_by, held_of, member_at, with_member, nobody, new_members, new_pool}
 use Rattle.pool_model.specs.CacheModel.{get}
 use Rattle.pool_model.specs.PacketModel.{fill_slot, alloc_in, fill_slots, alloc_bulk, resize_to, resize_in, chain_in, free_in, flush_member, without_packet, held_elsewhere, act_on, after_acts, perform}
-use Rattle.pool_model.proofs.ActsKeep.{after_acts-keeps}
+use Rattle.pool_model.proofs.AfterActs.{after_acts-keeps}
 use Rattle.pool_model.proofs.CacheBags.{IsGot, get-IsGot, flush-IsPut}
 use Rattle.mbuf.proofs.ChainLemmas.{KeepsHolds-chain}
 use Rattle.mbuf.proofs.FreeLemmas.{holds_stood}

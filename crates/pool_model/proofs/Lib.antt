@@ -1,4 +1,4 @@
-pub mod ActsKeep
+pub mod AfterActs
 mod Balance
 mod CacheBags
 pub mod CacheRules
@@ -10,7 +10,7 @@ mod HeldBags
 mod HoldersOrder
 mod Listed
 pub mod NewMembers
-mod Numbered
+pub mod Numbered
 mod Pairs
 mod Placed
 pub mod SharedNear

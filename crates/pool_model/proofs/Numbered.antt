@@ -1,5 +1,5 @@
 -- The workers of a pool stay numbered from 1, each with all its slots, and the desks as many.
-use Rattle.std.proofs.Common.{ℕ, zero, suc, ◌≡◌, ◌+◌, ◌-◌, ◌&&◌, nat_le, inl, inr, List, [], ◌∷◌, length, length-set, get_or, set, Option, None, refl, ◌∙◌}
+use Rattle.std.proofs.Common.{ℕ, zero, suc, ◌≡◌, ◌+◌, ◌-◌, ◌&&◌, nat_le, inl, inr, List, [], ◌∷◌, length, length-set, get_or, set, Option, None, refl, ◌∙◌, ◌<◌, arith}
 use Rattle.std.proofs.lemmas.List.{length-replicate}
 use Rattle.std.proofs.lemmas.Bool.{cases_Bool}
 use Rattle.commons.specs.declared.limits.Limits.{Limits}
@@ -8,7 +8,7 @@ use Rattle.mbuf.specs.declared.acts.Act.{Act}
 use Rattle.mbuf.specs.Members.{Member, slots}
 use Rattle.pool_model.specs.Pool.{Pool, held_of, member_at, nobody, new_members, new_pool}
 use Rattle.pool_model.specs.PacketModel.{act_on, after_acts, held_elsewhere, perform}
-use Rattle.pool_model.proofs.ActsKeep.{after_acts-keeps}
+use Rattle.pool_model.proofs.AfterActs.{after_acts-keeps}
 use Rattle.pool_model.proofs.DeskStays.{desks_as_many}
 use Rattle.pool_model.proofs.NewMembers.{length-new_members}
 use Rattle.pool_model.proofs.SlotsKept.{SameSlots, member_act-slots}
@@ -62,3 +62,9 @@ new_pool-numbered l = record {
 -- after any acts
 pub acts-numbered : (l : Limits) (acts : List (ℕ × Act)) → IsNumbered l (after_acts acts (new_pool l))
 acts-numbered l acts = after_acts-keeps (IsNumbered l) (perform-numbered l) acts (new_pool l) (new_pool-numbered l)
+
+-- the number of each worker
+pub number_at : (number : ℕ) (members : List Member) (k : ℕ) (d : Member) → AreNumbered number members → k < length members → (get_or members k d).number ≡ number + k
+number_at number [] k d a h = absurd (omega arith)
+number_at number (m ∷ members) zero d a h = omega (arith, a.0)
+number_at number (m ∷ members) (suc k) d a h = omega (arith, number_at (number + 1) members k d a.2 (omega arith))

@@ -8,7 +8,7 @@ use Rattle.script_text.specs.declared.commands.Command.TheVariants as command
 use Rattle.script_text.specs.declared.commands.Line.{Line}
 use Rattle.pool_model.specs.Pool.{Pool}
 use Rattle.pool_model.specs.PacketModel.{perform, after_acts}
-use Rattle.pool_model.proofs.ActsKeep.{after_one_more}
+use Rattle.pool_model.proofs.AfterActs.{after_one_more}
 use Rattle.script.specs.Replay.{Run, free_as, act_of, act_as, act_as_both, chain_as, clone_as, offer_as, obey, end_of}
 
 module _ (P : Pool → Type 0) (kept : (pool : Pool) (w : ℕ) (act : Act) → P pool → P (perform pool w act).1) where

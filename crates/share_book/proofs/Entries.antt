@@ -38,7 +38,7 @@ sums_agree f g (x ∷ xs) (y ∷ ys) c d l h =
 
 -- a worker's row of the lists shows how often its packets hold an element
 row_of : (s : Lists) (k i : ℕ) (m : Member) → IsMember s k m → get_or (get_or s.holds k []) i 0 ≡ held_in m.table i
-row_of s k i m is = let same : m.number - 1 ≡ k = omega (arith, is.number) in rw same at (is.own.share.held i)
+row_of s k i m is = let same : k + 1 - 1 ≡ k = omega arith in rw same at (is.own.share.held i)
 
 -- the count of an element is how often the packets of the members and those on desks hold it
 pub counts_are_holds : (s : Lists) (members : List Member) → IsTable s → length members ≡ s.limits.workers →
@@ -49,11 +49,11 @@ counts_are_holds s members t l each i =
     omega (arith, t.counted i, workers)
 
 -- a cache has at most as many elements as the pool
-cache_short : (s : Lists) (m : Member) → IsTable s → Owns s m → length m.cache ≤ s.limits.population
-cache_short s m t o =
+cache_short : (s : Lists) (w : ℕ) (m : Member) → IsTable s → Owns s w m → length m.cache ≤ s.limits.population
+cache_short s w m t o =
     length-le s.limits.population m.cache
-    (λ i. omega (arith, o.share.cached i, hand_once_lem s m.number i))
-    (λ i h. omega (arith, o.share.cached i, hand_below_lem s m.number i t h))
+    (λ i. omega (arith, o.share.cached i, hand_once_lem s w i))
+    (λ i h. omega (arith, o.share.cached i, hand_below_lem s w i t h))
 
 -- an element whose place is a count is held so often, at least once
 pub count_there : (s : Lists) (members : List Member) (places : List Place) (i count : ℕ) → IsTable s → length members ≡ s.limits.workers →
@@ -133,6 +133,6 @@ pub caches_short : (s : Lists) (members : List Member) → IsTable s → AreMemb
     length members ≡ s.limits.workers → sum_by (λ m. length m.cache) members ≤ 4294967295
 caches_short s members t each w =
     let short : (k : ℕ) → k < length members → length (get_or members k (nobody s.limits)).cache ≤ 65534 =
-    λ k l. omega (arith, cache_short s (get_or members k (nobody s.limits)) t (each k (omega arith)).own, t.pool.population) in
+    λ k l. omega (arith, cache_short s (k + 1) (get_or members k (nobody s.limits)) t (each k (omega arith)).own, t.pool.population) in
     let sum = sum_by-le (λ (m : Member). length m.cache) 65534 members (λ k d l. rw (get_or_default members k d (nobody s.limits) l) (short k l)) in
     omega (arith, sum, t.pool.workers)

@@ -6,4 +6,5 @@ mod Members
 mod NewPools
 mod PacketCalls
 mod PlainCalls
+mod Reaching
 mod SharedBuffers

@@ -1,5 +1,5 @@
 -- The workers of a pool: what one does keeps the others, and is what the reference model does.
-use Rattle.std.proofs.Common.{ℕ, ◌≡◌, ◌≢◌, ◌+◌, ◌-◌, ◌<◌, ◌≤◌, ◌&&◌, ◌⊎◌, inl, inr, nat_le, true, List, length, get_or, set, get_or-set_same, get_or-set_other, None, sym, ◌∙◌, ap, arith}
+use Rattle.std.proofs.Common.{ℕ, ◌≡◌, ◌≢◌, ◌+◌, ◌-◌, ◌<◌, ◌≤◌, ◌&&◌, ◌⊎◌, inl, inr, nat_le, true, List, length, get_or, set, get_or-set_same, get_or-set_other, length-set, None, sym, ◌∙◌, ap, arith}
 use Rattle.std.proofs.lemmas.List.{get_or_default}
 use Rattle.std.proofs.lemmas.List.Sums.{sum_by-set}
 use Rattle.std.proofs.lemmas.Bool.Decides.{nat_tests}
@@ -14,7 +14,9 @@ use Rattle.mbuf.specs.declared.acts.Act.{Act}
 use Rattle.mbuf.specs.declared.acts.Reply.{Reply}
 use Rattle.pool_model.specs.Pool.{Shared, Pool, nobody, held_of}
 use Rattle.pool_model.specs.PacketModel.{perform, without_packet}
-use Rattle.share_book.specs.Own.{shared_of, LeadsPlain, Owns, StepsAlone}
+use Rattle.pool_model.proofs.Numbered.{AreNumbered, number_at}
+use Rattle.share_book.specs.SitePool.{pool_with}
+use Rattle.share_book.specs.Own.{LeadsPlain, Owns, StepsAlone}
 use Rattle.share_book.proofs.Entries.{AreMembers, counts_are_holds}
 use Rattle.commons.proofs.PacketBags.{held_in-set, stands_within}
 use Rattle.share_book.proofs.PacketCalls.{Elsewhere, performed_by}
@@ -23,30 +25,31 @@ same_or_other : (i j : ℕ) → (j ≡ i) ⊎ (j ≢ i)
 same_or_other i j = grind arith
 
 -- another worker owns its part as before
-owns_other : (s t : Lists) (w : ℕ) (m : Member) → StepsAlone w s t → m.number ≢ w → Owns s m → Owns t m
-owns_other s t w m a e o = record {
+owns_other : (s t : Lists) (w v : ℕ) (m : Member) → StepsAlone w s t → v ≢ w → Owns s v m → Owns t v m
+owns_other s t w v m a e o = record {
   first = o.first;
   last = rw a.limits o.last;
   share = record {
     limits = o.share.limits ∙ sym a.limits;
-    cached = λ i. a.others.hands m.number i e ∙ o.share.cached i;
-    held = λ i. a.others.holds m.number i o.first e ∙ o.share.held i;
-    headed = λ i. omega (arith, o.share.headed i, a.others.headers m.number i o.first e);
+    cached = λ i. a.others.hands v i e ∙ o.share.cached i;
+    held = λ i. a.others.holds v i o.first e ∙ o.share.held i;
+    headed = λ i. omega (arith, o.share.headed i, a.others.headers v i o.first e);
   };
 }
 
--- each worker owns its part once one of them has acted
+-- each worker keeps its number and owns its part once one of them has acted
 pub members_after : (s t : Lists) (members : List Member) (n w : ℕ) (m : Member) → w ≡ n + 1 → n < length members → length members ≡ s.limits.workers →
-    AreMembers s members → StepsAlone w s t → m.number ≡ w → Owns t m → AreMembers t (set members n m)
-members_after s t members n w m e l len each a number own k b =
-    elim (same_or_other n k) [
-      | inl f ↦ rw (f, get_or-set_same members n m (nobody t.limits) l) (record { number = number ∙ e; own = own })
-      | inr f ↦
-          let within : k < s.limits.workers = omega (arith, b, ap (λ (x : Limits). x.workers) a.limits) in
-          let there = each k within in
-          rw (get_or-set_other members n k m (nobody t.limits) f, get_or_default members k (nobody t.limits) (nobody s.limits) (omega arith))
-          (record { number = there.number; own = owns_other s t w (get_or members k (nobody s.limits)) a (λ g. f (omega (arith, there.number, e, g))) there.own })
-    ]
+    AreMembers s members → StepsAlone w s t → AreNumbered 1 (set members n m) → Owns t w m → AreMembers t (set members n m)
+members_after s t members n w m e l len each a numbers own k b =
+    let within : k < s.limits.workers = omega (arith, b, ap (λ (x : Limits). x.workers) a.limits) in
+    record {
+      number = omega (arith, number_at 1 (set members n m) k (nobody t.limits) numbers (omega (arith, length-set members n m)));
+      own = elim (same_or_other n k) [
+        | inl f ↦ rw (f, get_or-set_same members n m (nobody t.limits) l, ← e) own
+        | inr f ↦ rw (get_or-set_other members n k m (nobody t.limits) f, get_or_default members k (nobody t.limits) (nobody s.limits) (omega arith))
+            (owns_other s t w (k + 1) (get_or members k (nobody s.limits)) a (λ g. f (omega (arith, e, g))) (each k within).own)
+      ];
+    }
 
 -- how often the packets that stay hold an element, where one of them goes: its count without the packet's holds
 elsewhere : (s : Lists) (members : List Member) (n : ℕ) → IsTable s → length members ≡ s.limits.workers → AreMembers s members → n < length members →
@@ -64,8 +67,7 @@ in_pool w n l b = grind (arith, nat_tests)
 pub performed : (s t : Lists) (members : List Member) (w : ℕ) (act : Act) (calls : List Call) (r : Reply) (m : Member) → IsTable s → length members ≡ s.limits.workers →
     AreMembers s members → 1 ≤ w → w ≤ length members → t.limits ≡ s.limits →
     Performs act (get_or members (w - 1) (nobody s.limits)) calls r m → LeadsPlain w s calls t →
-    ◌≡◌ {A = Reply × Pool} (r, record { limits = t.limits; shared = shared_of t; members = set members (w - 1) m })
-    (perform (record { limits = s.limits; shared = shared_of s; members = members }) w act)
+    ◌≡◌ {A = Reply × Pool} (r, pool_with t (set members (w - 1) m)) (perform (pool_with s members) w act)
 performed s t members w act calls r m table l each first last same did led =
     let old : Member = get_or members (w - 1) (nobody s.limits) in
     let others : ℕ → ℕ → ℕ = λ slot i. held_of (set members (w - 1) (without_packet slot old)) s.desks i in

@@ -16,8 +16,6 @@ use Rattle.mbuf.specs.Acts.{Performs, allocated, allocated_bulk, freed as freed_
 use Rattle.mbuf.specs.Lengths.{pkt_len, appended, prepended, adjusted, trimmed}
 use Rattle.commons.specs.Packets.{holds_of_packet}
 use Rattle.mbuf.specs.Members.{Member}
-use Rattle.mbuf.specs.Desks.{Offers, NothingThere, NotOffered, WasOffered, Takes, NoDesk, NoSlot, NotTaken, WasTaken}
-use Rattle.mbuf.specs.Sharing.{Attaches, NotAttachable, HeldElsewhere, NotRaised, WasAttached, Detaches, NotDetachable, WasDetached, Clones, NotClonable, WasGivenUp, WasCloned}
 use Rattle.mbuf.specs.PacketRules.{Allocs, Full, NotGot, Fresh, AllocsBulk, TooFull, BulkNotGot, FreshBulk, Frees, NoPacket, WasFreed, Resizes, NoneThere, NotResized, WasResized, Chains, NoHead, NoTail, Same, TooLong, WasChained, fresh_seg, free_slots, freed_nothing}
 use Rattle.pool_model.specs.Pool.{Shared}
 use Rattle.pool_model.specs.CacheModel.{get}
@@ -159,76 +157,3 @@ performed_by (NbSegs slot) w s t m after calls r all others p h table same count
 performed_by Flush w s t m after calls r all others p h table same counts held =
     let f = was_flushed w s m.cache calls p.0 after.cache t p.1 h in
     rw p.3 (ap (λ (x : Member). let o : Outcome = (reply.Put p.0, x, shared_of t) in o) p.2 ∙ ap (flushed m) f)
-
--- ---- a worker keeps its number
-
-allocs_number : (m after : Member) (calls : List Call) (answer : Result ℕ Refusal) → Allocs m calls answer after → after.number ≡ m.number
-allocs_number m after calls answer (Full f c a k) = ap (λ (x : Member). x.number) k
-allocs_number m after calls answer (NotGot slot f cause g a k) = ap (λ (x : Member). x.number) k
-allocs_number m after calls answer (Fresh slot e f by left g c a k) = ap (λ (x : Member). x.number) k
-
-bulk_number : (m after : Member) (n : ℕ) (calls : List Call) (answer : Result (List ℕ) Refusal) → AllocsBulk m n calls answer after → after.number ≡ m.number
-bulk_number m after n calls answer (TooFull few c a k) = ap (λ (x : Member). x.number) k
-bulk_number m after n calls answer (BulkNotGot room cause g a k) = ap (λ (x : Member). x.number) k
-bulk_number m after n calls answer (FreshBulk es long room by left g c a k) = ap (λ (x : Member). x.number) k
-
-frees_number : (m after : Member) (slot : ℕ) (calls : List Call) (answer : Result Freed Refusal) → Frees m slot calls answer after → after.number ≡ m.number
-frees_number m after slot calls answer (NoPacket f c a k) = ap (λ (x : Member). x.number) k
-frees_number m after slot calls answer (WasFreed segs left done f ends a k) = ap (λ (x : Member). x.number) k
-
-resizes_number : (m after : Member) (change : List Seg → Option (List Seg)) (cause : Refusal) (slot : ℕ) (answer : Result ℕ Refusal) → Resizes change cause m slot answer after → after.number ≡ m.number
-resizes_number m after change cause slot answer (NoneThere f a k) = ap (λ (x : Member). x.number) k
-resizes_number m after change cause slot answer (NotResized segs f r a k) = ap (λ (x : Member). x.number) k
-resizes_number m after change cause slot answer (WasResized segs new f r a k) = ap (λ (x : Member). x.number) k
-
-chains_number : (m after : Member) (head tail : ℕ) (answer : Result (Unit {0}) Refusal) → Chains m head tail answer after → after.number ≡ m.number
-chains_number m after head tail answer (NoHead f a k) = ap (λ (x : Member). x.number) k
-chains_number m after head tail answer (NoTail f a k) = ap (λ (x : Member). x.number) k
-chains_number m after head tail answer (Same segs f e a k) = ap (λ (x : Member). x.number) k
-chains_number m after head tail answer (TooLong first second f g apart long a k) = ap (λ (x : Member). x.number) k
-chains_number m after head tail answer (WasChained first second f g apart few a k) = ap (λ (x : Member). x.number) k
-
-attaches_number : (m after : Member) (mi target : ℕ) (calls : List Call) (answer : Result (Unit {0}) Refusal) → Attaches m mi target calls answer after → after.number ≡ m.number
-attaches_number m after mi target calls answer (NotAttachable cause f c a k) = ap (λ (x : Member). x.number) k
-attaches_number m after mi target calls answer (HeldElsewhere e n seg f other c a k) = ap (λ (x : Member). x.number) k
-attaches_number m after mi target calls answer (NotRaised e seg f cause c a k) = ap (λ (x : Member). x.number) k
-attaches_number m after mi target calls answer (WasAttached e seg f c a k) = ap (λ (x : Member). x.number) k
-
-detaches_number : (m after : Member) (slot : ℕ) (calls : List Call) (answer : Result Freed Refusal) → Detaches m slot calls answer after → after.number ≡ m.number
-detaches_number m after slot calls answer (NotDetachable cause f c a k) = ap (λ (x : Member). x.number) k
-detaches_number m after slot calls answer (WasDetached e base f left done g a k) = ap (λ (x : Member). x.number) k
-
-clones_number : (m after : Member) (source : ℕ) (calls : List Call) (answer : Result ℕ Refusal) → Clones m source calls answer after → after.number ≡ m.number
-clones_number m after source calls answer (NotClonable cause f c a k) = ap (λ (x : Member). x.number) k
-clones_number m after source calls answer (WasGivenUp segs slot f cause left g a k) = ap (λ (x : Member). x.number) k
-clones_number m after source calls answer (WasCloned segs slot f new left g a k) = ap (λ (x : Member). x.number) k
-
-offers_number : (m after : Member) (slot desk : ℕ) (calls : List Call) (answer : Result (Unit {0}) Refusal) → Offers m slot desk calls answer after → after.number ≡ m.number
-offers_number m after slot desk calls answer (NothingThere f c a k) = ap (λ (x : Member). x.number) k
-offers_number m after slot desk calls answer (NotOffered segs f cause c a k) = ap (λ (x : Member). x.number) k
-offers_number m after slot desk calls answer (WasOffered segs f c a k) = ap (λ (x : Member). x.number) k
-
-takes_number : (m after : Member) (desk : ℕ) (calls : List Call) (answer : Result ℕ Refusal) → Takes m desk calls answer after → after.number ≡ m.number
-takes_number m after desk calls answer (NoDesk h c a k) = ap (λ (x : Member). x.number) k
-takes_number m after desk calls answer (NoSlot h f c a k) = ap (λ (x : Member). x.number) k
-takes_number m after desk calls answer (NotTaken h slot f cause c a k) = ap (λ (x : Member). x.number) k
-takes_number m after desk calls answer (WasTaken h slot f segs c a k) = ap (λ (x : Member). x.number) k
-
-pub performs_number : (act : Act) (m after : Member) (calls : List Call) (r : Reply) → Performs act m calls r after → after.number ≡ m.number
-performs_number Alloc m after calls r p = allocs_number m after calls p.0 p.1
-performs_number (AllocBulk n) m after calls r p = bulk_number m after n calls p.0 p.1
-performs_number (Free slot) m after calls r p = frees_number m after slot calls p.0 p.1
-performs_number (Append slot n) m after calls r p = resizes_number m after (appended n) NoRoom slot p.0 p.1
-performs_number (Prepend slot n) m after calls r p = resizes_number m after (prepended n) NoRoom slot p.0 p.1
-performs_number (Adj slot n) m after calls r p = resizes_number m after (adjusted n) TooShort slot p.0 p.1
-performs_number (Trim slot n) m after calls r p = resizes_number m after (trimmed n) TooShort slot p.0 p.1
-performs_number (Chain head tail) m after calls r p = chains_number m after head tail p.0 p.1
-performs_number (Attach mi target) m after calls r p = attaches_number m after mi target calls p.0 p.1
-performs_number (Detach slot) m after calls r p = detaches_number m after slot calls p.0 p.1
-performs_number (ClonePacket source) m after calls r p = clones_number m after source calls p.0 p.1
-performs_number (Offer slot desk) m after calls r p = offers_number m after slot desk calls p.0 p.1
-performs_number (Take desk) m after calls r p = takes_number m after desk calls p.0 p.1
-performs_number (CountOf slot) m after calls r p = ap (λ (x : Member). x.number) p.2
-performs_number (PktLen slot) m after calls r p = ap (λ (x : Member). x.number) p.0
-performs_number (NbSegs slot) m after calls r p = ap (λ (x : Member). x.number) p.0
-performs_number Flush m after calls r p = ap (λ (x : Member). x.number) p.2

@@ -10,11 +10,11 @@ use Rattle.pool_model.specs.Pool.{Shared}
 abbrev pub shared_of : Lists → Shared
 shared_of s = record { common = s.common; changes = s.changes; desks = s.desks }
 
--- the packets of a worker of the pool are its own with its part of the lists
-pub record Owns (s : Lists) (m : Member) : Type 0 where
-  pub first : 1 ≤ m.number
-  pub last : m.number ≤ s.limits.workers
-  pub share : Own m s.limits (λ i. hand_of s m.number i) (λ i. holds_of s m.number i) (λ i. header_of s m.number i)
+-- the packets are a worker's own, with that worker's part of the lists
+pub record Owns (s : Lists) (w : ℕ) (m : Member) : Type 0 where
+  pub first : 1 ≤ w
+  pub last : w ≤ s.limits.workers
+  pub share : Own m s.limits (λ i. hand_of s w i) (λ i. holds_of s w i) (λ i. header_of s w i)
 
 -- the calls lead a worker's lists, which are a table before and after each, from one state to the other
 abbrev pub LeadsPlain : ℕ → Lists → List Call → Lists → Type 0

@@ -1,21 +1,32 @@
 -- How a `SitePool` is kept. Only the type's view and invariant cite this module.
-use Rattle.std.specs.Prelude.{ℕ, ◌≡◌, ◌+◌, ◌<◌, length, slice_index_or}
+use Rattle.std.specs.Prelude.{ℕ, ◌≡◌, ◌+◌, ◌<◌, List, length, slice_index_or}
 use Rattle.commons.specs.Lists.{Lists, IsTable}
+use Rattle.mbuf.specs.declared.acts.Act.{Act}
 use Rattle.mbuf.specs.Members.{Member}
-use Rattle.pool_model.specs.Pool.{Pool, nobody}
+use Rattle.pool_model.specs.PacketModel.{after_acts}
+use Rattle.pool_model.specs.Pool.{Pool, new_pool, nobody}
 use Rattle.share_book.specs.Own.{shared_of, Owns}
 use Rattle.share_book.specs.declared.site_pool.SitePool.TheInside.{Inside}
 
+-- these lists and these workers as a pool
+abbrev pub pool_with : Lists → List Member → Pool
+pool_with s members = record { limits = s.limits; shared = shared_of s; members = members }
+
 abbrev pub pool_of : Inside → Pool
-pool_of p = record { limits = p.site.limits; shared = shared_of p.site; members = p.members.items }
+pool_of p = pool_with p.site p.members.items
+
+-- some acts, one after another, make this pool of a new one
+abbrev pub IsReached : Pool → Type 0
+IsReached pool = (acts : List (ℕ × Act)) × (pool ≡ after_acts acts (new_pool pool.limits))
 
 -- the worker at n has the number n + 1 and owns its part of the lists
 pub record IsMember (s : Lists) (n : ℕ) (m : Member) : Type 0 where
   pub number : m.number ≡ n + 1
-  pub own : Owns s m
+  pub own : Owns s (n + 1) m
 
--- the lists show a table, and each worker owns its part of them
+-- The lists show a table, each worker owns its part of them, and the whole pool is one that acts reach.
 pub record IsSitePool (p : Inside) : Type 0 where
   pub table : IsTable p.site
   pub workers : length p.members.items ≡ p.site.limits.workers
   pub each : (n : ℕ) → n < p.site.limits.workers → IsMember p.site n (slice_index_or p.members.items n (nobody p.site.limits))
+  pub reached : IsReached (pool_of p)

@@ -14,6 +14,7 @@ use commons::site::PlainSite;
 use mbuf::acts;
 use mbuf::acts::{Act, Reply};
 use mbuf::packets::Packets;
+use pool_model::laws;
 use pool_model::statement::Statement;
 use std::alloc::Global;
 use std::marker::Model;
@@ -39,8 +40,9 @@ impl Model for SitePool {
 
 impl SitePool {
     ghost use Rattle.pool_model.specs.Pool.{member_at, new_pool};
-    ghost use Rattle.pool_model.specs.PacketModel.{perform};
-    ghost use Rattle.pool_model.specs.Statements.{statement_of};
+    ghost use Rattle.pool_model.specs.PacketModel.{after_acts, perform};
+    ghost use Rattle.mbuf.specs.declared.acts.Act.{Act};
+    ghost use Rattle.pool_model.specs.Statements.{ListsEachOnce, PlacesEachOnce, statement_of};
 
     /// A new pool: all elements in the common list; its workers have nothing, and its desks are empty.
     ///
@@ -62,6 +64,13 @@ impl SitePool {
         ensures workers { length self.now.members ≡ self.now.limits.workers }
         ensures numbers { (n : ℕ) → n < self.now.limits.workers → (member_at self.now n).number ≡ n + 1 }
         ensures desks { length self.now.shared.desks ≡ self.now.limits.desks }
+    {
+        let _known = &self.members;
+    }
+
+    /// A law of each pool: some acts, one after another, made it of a new one. It does nothing.
+    pub fn comes_of_acts(&self)
+        ensures { (acts : List (ℕ × Act)) × (self.now ≡ after_acts acts (new_pool self.now.limits)) }
     {
         let _known = &self.members;
     }
@@ -103,13 +112,17 @@ impl SitePool {
         act_alone(&mut self.site, packets, worker, act)
     }
 
-    /// Where each element of the pool is. The pool stays as it was.
+    /// Where each element of the pool is: each is listed exactly once, and each packet has a place of
+    /// its own. The pool stays as it was.
     ///
     /// Refused `OutOfMemory` where memory was refused.
     pub fn statement(&self, alloc: Global) -> Result<Statement, Refusal>
         ensures ok { IfOk result (λ s. s ≡ statement_of self.now) }
+        ensures once { IfOk result (λ s. ListsEachOnce s) }
+        ensures places { IfOk result (λ s. PlacesEachOnce self.now.limits s) }
         ensures memory { IfErr result (λ e. e ≡ Refusal.OutOfMemory) }
     {
+        laws::acts_leave_each_element_in_one_place();
         match placing::statement(alloc, &self.site, &self.members) {
             Ok(statement) => Ok(statement),
             Err(_) => Err(Refusal::OutOfMemory),
@@ -119,11 +132,10 @@ impl SitePool {
 
 /// Lets a worker's packets act on its part of the lists.
 fn act_plain(packets: &mut Packets, c: &mut PlainCommons, act: Act) -> Reply
-    requires worker { c.old.worker ≡ packets.old.number }
-    requires own { Owns c.old.site.now packets.old }
+    requires own { Owns c.old.site.now c.old.worker packets.old }
     ensures same { c.new.site.ghost_name ≡ c.old.site.ghost_name }
     ensures calls { (calls : List Call) × LeadsPlain c.old.worker c.old.site.now calls c.new.site.now × Performs act packets.old calls result packets.new }
-    ensures own { Owns c.new.site.now packets.new }
+    ensures own { Owns c.new.site.now c.old.worker packets.new }
     ensures alone { StepsAlone c.old.worker c.old.site.now c.new.site.now }
 {
     acts::perform(packets, c, act)
@@ -131,10 +143,9 @@ fn act_plain(packets: &mut Packets, c: &mut PlainCommons, act: Act) -> Reply
 
 /// Lets one worker act on the lists.
 fn act_alone(site: &mut PlainSite, packets: &mut Packets, worker: u32, act: Act) -> Reply
-    requires number { packets.old.number ≡ worker }
-    requires own { Owns site.old packets.old }
+    requires own { Owns site.old worker packets.old }
     ensures calls { (calls : List Call) × LeadsPlain worker site.old calls site.new × Performs act packets.old calls result packets.new }
-    ensures own { Owns site.new packets.new }
+    ensures own { Owns site.new worker packets.new }
     ensures alone { StepsAlone worker site.old site.new }
 {
     let mut c = PlainCommons::new(site, worker);

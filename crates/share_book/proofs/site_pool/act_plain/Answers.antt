@@ -1,16 +1,10 @@
-use Rattle.std.proofs.Common.{ℕ, sym, ◌∙◌, ap, subst}
+use Rattle.std.proofs.Common.{ℕ, ap, subst}
 use Rattle.commons.specs.Calls.{calls_of}
 use Rattle.commons.specs.Lists.{hand_of, holds_of, header_of}
 use Rattle.commons.specs.declared.limits.Limits.{Limits}
 use Rattle.mbuf.specs.Own.{Own}
-use Rattle.share_book.proofs.PacketCalls.{performs_number}
 use Rattle.share_book.proofs.PlainCalls.{plainly, alone, LeadsPlain-limits}
 use Rattle.share_book.proofs.site_pool.act_plain.Goals as goal
-
-pub perform-requires : goal.perform-requires
-perform-requires c =
-    let s = c.args.c.now.site.now in
-    record { own = subst (λ (w : ℕ). Own c.args.packets.now s.limits (λ i. hand_of s w i) (λ i. holds_of s w i) (λ i. header_of s w i)) (sym c.requires.worker) c.requires.own.share }
 
 pub returns-clause-same : goal.returns-clause-same
 returns-clause-same c = let e = c.perform.ensures.calls in (plainly c.args.c.now e.0 c.perform.new.c e.1).same
@@ -23,12 +17,11 @@ returns-clause-own c =
     let e = c.perform.ensures.calls in
     let t = c.perform.new.c.site.now in
     let p = plainly c.args.c.now e.0 c.perform.new.c e.1 in
-    let number = performs_number c.args.act c.args.packets.now c.perform.new.packets (calls_of e.0) c.perform.result e.2 in
     let workers = ap (λ (l : Limits). l.workers) (LeadsPlain-limits c.args.c.now.worker c.args.c.now.site.now (calls_of e.0) t p.led) in
     record {
-      first = rw number c.requires.own.first;
-      last = rw (number, workers) c.requires.own.last;
-      share = subst (λ (w : ℕ). Own c.perform.new.packets t.limits (λ i. hand_of t w i) (λ i. holds_of t w i) (λ i. header_of t w i)) (p.worker ∙ c.requires.worker ∙ sym number) c.perform.ensures.own;
+      first = c.requires.own.first;
+      last = rw workers c.requires.own.last;
+      share = subst (λ (w : ℕ). Own c.perform.new.packets t.limits (λ i. hand_of t w i) (λ i. holds_of t w i) (λ i. header_of t w i)) p.worker c.perform.ensures.own;
     }
 
 pub returns-clause-alone : goal.returns-clause-alone

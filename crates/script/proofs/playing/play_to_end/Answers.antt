@@ -1,0 +1,11 @@
+-- The statement has a place for each packet within the limits of the pool after the lines, which are those before.
+use Rattle.std.proofs.Common.{◌≡◌, Result, Ok, Err, IfOk, ◌∙◌, ap, subst}
+use Rattle.commons.specs.declared.limits.Limits.{Limits}
+use Rattle.pool_model.specs.Pool.{Pool}
+use Rattle.pool_model.specs.Statements.{PlacesEachOnce}
+use Rattle.script.specs.inside.Standing.{fresh_run}
+use Rattle.script.proofs.CommandsKeep.{end_of-limits}
+use Rattle.script.proofs.playing.play_to_end.Goals as goal
+
+pub returns-in_ok-statement-in-Ok-clause-places : goal.returns-in_ok-statement-in-Ok-clause-places
+returns-in_ok-statement-in-Ok-clause-places c = ?

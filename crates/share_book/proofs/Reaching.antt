@@ -1,0 +1,28 @@
+-- A pool that acts reach from a new one: new, after one act more, and what is known of it.
+use Rattle.std.proofs.Common.{ℕ, ◌≡◌, List, [], ◌∷◌, ◌++◌, sym, subst, ap, ◌∙◌}
+use Rattle.commons.specs.declared.limits.Limits.{Limits}
+use Rattle.commons.specs.Lists.{Lists, opening}
+use Rattle.mbuf.specs.declared.acts.Act.{Act}
+use Rattle.mbuf.specs.Members.{Member}
+use Rattle.pool_model.specs.Pool.{Pool, new_pool, new_members}
+use Rattle.pool_model.specs.PacketModel.{after_acts, perform}
+use Rattle.pool_model.proofs.AfterActs.{after_one_more}
+use Rattle.pool_model.proofs.Numbered.{IsNumbered, acts-numbered}
+use Rattle.share_book.specs.SitePool.{IsReached, pool_with}
+
+-- a new pool is reached by no act
+pub new_is_reached : (l : Limits) (s : Lists) (members : List Member) → s ≡ opening l → members ≡ new_members l 1 l.workers → IsReached (pool_with s members)
+new_is_reached l s members e f =
+    let new : pool_with s members ≡ new_pool s.limits = subst (λ (t : Lists). pool_with t members ≡ new_pool t.limits) (sym e) (ap (λ (m : List Member). pool_with (opening l) m) f) in
+    ([], new)
+
+-- one act more leaves a pool that is reached
+pub reached_further : (pool after : Pool) (w : ℕ) (act : Act) → IsReached pool → after ≡ (perform pool w act).1 → after.limits ≡ pool.limits → IsReached after
+reached_further pool after w act r e same = (
+  r.0 ++ (w, act) ∷ [],
+  e ∙ ap (λ (p : Pool). (perform p w act).1) r.1 ∙ sym (after_one_more r.0 (new_pool pool.limits) w act) ∙ ap (λ (l : Limits). after_acts (r.0 ++ (w, act) ∷ []) (new_pool l)) (sym same),
+)
+
+-- its workers are numbered
+pub reached_numbered : (pool : Pool) → IsReached pool → IsNumbered pool.limits pool
+reached_numbered pool r = subst (IsNumbered pool.limits) (sym r.1) (acts-numbered pool.limits r.0)
