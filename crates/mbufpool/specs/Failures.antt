@@ -8,7 +8,7 @@ use Rattle.commons.specs.declared.refusal.Refusal.{Refusal}
 use Rattle.commons.specs.declared.refusal.Refusal.TheVariants.{MissingShare, ScriptFault}
 use Rattle.commons.specs.declared.refusal.Refusal.TheVariants as refusals
 use Rattle.commons.specs.Refusals.{name_of, number_of}
-use Rattle.script.specs.Grammar.{IsCause}
+use Rattle.script_text.specs.Grammar.{IsCause}
 use Rattle.mbufpool.specs.declared.failures.Failure.{Failure}
 use Rattle.mbufpool.specs.declared.failures.Failure.TheVariants.{CommandLine, Unreadable, Fault}
 

@@ -5,8 +5,7 @@ ghost use Rattle.mbufpool.specs.Failures.{IsOfReplay};
 
 use crate::failures::Failure;
 use commons::refusal::Refusal;
-use script::parse::MAX_BYTES;
-use script::run_replay;
+use script::{MAX_BYTES, run_replay};
 use std::fs::File;
 use std::io;
 use std::io::Read;

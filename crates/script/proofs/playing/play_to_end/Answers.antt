@@ -1,5 +1,5 @@
 -- The statement has a place for each packet within the limits of the pool after the lines, which are those before.
-use Rattle.std.proofs.Common.{◌≡◌, Result, Ok, Err, IfOk, ◌∙◌, ap, subst}
+use Rattle.std.proofs.Common.{◌∙◌, ap, subst}
 use Rattle.commons.specs.declared.limits.Limits.{Limits}
 use Rattle.pool_model.specs.Pool.{Pool}
 use Rattle.pool_model.specs.Statements.{PlacesEachOnce}
@@ -8,4 +8,7 @@ use Rattle.script.proofs.CommandsKeep.{end_of-limits}
 use Rattle.script.proofs.playing.play_to_end.Goals as goal
 
 pub returns-in_ok-statement-in-Ok-clause-places : goal.returns-in_ok-statement-in-Ok-clause-places
-returns-in_ok-statement-in-Ok-clause-places c = ?
+returns-in_ok-statement-in-Ok-clause-places c =
+    let statement = c.in_ok-statement-in-Ok.statement in
+    let same = ap (λ (p : Pool). p.limits) c.in-Ok.ensures.pool ∙ end_of-limits c.args.lines.now (fresh_run c.args.pool.now) in
+    subst (λ (l : Limits). PlacesEachOnce l statement) same c.in_ok-statement-in-Ok.ensures.places
