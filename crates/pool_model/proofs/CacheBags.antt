@@ -1,4 +1,4 @@
--- What a get and a put do with elements: none comes to be, and none is lost.
+-- What a get and a put do with elements: none comes to be, and none is lost. Both leave the desks.
 use Rattle.std.proofs.Common.{ℕ, ◌≡◌, ◌+◌, ◌-◌, ◌≤◌, ◌==◌, nat_lt, nat_le, inl, inr, List, [], ◌++◌, length, length-append, drop, reverse, Result, Ok, Err, refl, sym, arith}
 use Rattle.std.proofs.lemmas.List.{length-take, length-drop, length-reverse}
 use Rattle.std.proofs.lemmas.Bool.{cases_Bool, leb-true, ltb-false, eqb-true}
@@ -22,32 +22,36 @@ abbrev pub HasLength : ℕ → Result (List ℕ) Refusal → Type 0
 HasLength n (Ok xs) = length xs ≡ n
 HasLength n (Err e) = Unit {0}
 
--- what the stack gives leaves the common list
-ask-bag : (n : ℕ) (s : Shared) (i : ℕ) → in_answer (ask n s).0 i + bag (ask n s).1.common i ≡ bag s.common i
-ask-bag n s i = elim (cases_Bool (nat_lt (length s.common) n)) [
-  | inl e ↦ rw e (omega arith)
-  | inr e ↦ elim (cases_Bool (s.changes == spent)) [
-    | inl f ↦ rw (e, f) (omega arith)
-    | inr f ↦ rw (e, f) (bag-take-drop n s.common i)
-  ]
-]
+-- what the stack gives leaves the common list, and is as long as it was asked for; a request that is refused changes nothing
+pub record IsAsked (n : ℕ) (s : Shared) (r : Result (List ℕ) Refusal × Shared) : Type 0 where
+  pub given : (i : ℕ) → in_answer r.0 i + bag r.1.common i ≡ bag s.common i
+  pub long : HasLength n r.0
+  pub desks : r.1.desks ≡ s.desks
+  pub refused : (e : Refusal) → r.0 ≡ Err e → r.1 ≡ s
 
--- the stack gives as many as it is asked for
-ask-length : (n : ℕ) (s : Shared) → HasLength n (ask n s).0
-ask-length n s = elim (cases_Bool (nat_lt (length s.common) n)) [
-  | inl e ↦ rw e tt
+refused-IsAsked : (n : ℕ) (s : Shared) (e : Refusal) → IsAsked n s (Err e, s)
+refused-IsAsked n s e = record { given = λ i. omega arith; long = tt; desks = refl; refused = λ f q. refl }
+
+ask-IsAsked : (n : ℕ) (s : Shared) → IsAsked n s (ask n s)
+ask-IsAsked n s = elim (cases_Bool (nat_lt (length s.common) n)) [
+  | inl e ↦ rw e (refused-IsAsked n s _)
   | inr e ↦ elim (cases_Bool (s.changes == spent)) [
-    | inl f ↦ rw (e, f) tt
-    | inr f ↦ rw (e, f) (omega (arith, length-take n s.common, ltb-false (length s.common) n e))
+    | inl f ↦ rw (e, f) (refused-IsAsked n s _)
+    | inr f ↦ rw (e, f) (record {
+      given = λ i. bag-take-drop n s.common i;
+      long = omega (arith, length-take n s.common, ltb-false (length s.common) n e);
+      desks = refl;
+      refused = λ c q. absurd cc;
+    })
   ]
 ]
 
 -- what is pushed goes onto the common list, or nothing changes
 push-bag : (xs : List ℕ) (s : Shared) (P : Result (Unit {0}) Refusal × Shared → Type 0) →
-    ((t : Shared) → ((i : ℕ) → bag t.common i ≡ bag xs i + bag s.common i) → P (Ok tt, t)) → ((e : Refusal) → P (Err e, s)) → P (push xs s)
+    ((t : Shared) → ((i : ℕ) → bag t.common i ≡ bag xs i + bag s.common i) → t.desks ≡ s.desks → P (Ok tt, t)) → ((e : Refusal) → P (Err e, s)) → P (push xs s)
 push-bag xs s P goes stays = elim (cases_Bool (s.changes == spent)) [
   | inl f ↦ rw f (stays _)
-  | inr f ↦ rw f (goes _ (λ i. omega (arith, bag-append (reverse xs) s.common i, bag-reverse xs i)))
+  | inr f ↦ rw f (goes _ (λ i. omega (arith, bag-append (reverse xs) s.common i, bag-reverse xs i)) refl)
 ]
 
 -- the last of a list and the others are the list
@@ -62,41 +66,31 @@ last-length n xs h = omega (arith, length-reverse (drop (length xs - n) xs), len
 pub record IsGot (n : ℕ) (cache : List ℕ) (s : Shared) (r : Result (List ℕ) Refusal × List ℕ × Shared) : Type 0 where
   pub moved : (i : ℕ) → in_answer r.0 i + (bag r.1 i + bag r.2.common i) ≡ bag cache i + bag s.common i
   pub long : HasLength n r.0
+  pub desks : r.2.desks ≡ s.desks
 
 -- a get from the stack alone moves elements
 direct-IsGot : (n : ℕ) (cache : List ℕ) (s : Shared) → IsGot n cache s (get_direct cache (ask n s))
-direct-IsGot n cache s = record { moved = λ i. omega (arith, ask-bag n s i); long = ask-length n s }
+direct-IsGot n cache s = let a = ask-IsAsked n s in record { moved = λ i. omega (arith, a.given i); long = a.long; desks = a.desks }
 
--- so does one by a refill, where its request was met or refused without a change
-refilled-IsGot : (n : ℕ) (cache : List ℕ) (s : Shared) (k : ℕ) (r : Result (List ℕ) Refusal × Shared) → n ≤ length cache + k →
-    ((i : ℕ) → in_answer r.0 i + bag r.1.common i ≡ bag s.common i) → HasLength k r.0 → ((e : Refusal) → r.0 ≡ Err e → r.1 ≡ s) → IsGot n cache s (get_refilled cache n r)
-refilled-IsGot n cache s k (Ok more, t) h b l same = record {
-  moved = λ i. omega (arith, last-bag n (cache ++ more) i, bag-append cache more i, b i);
-  long = last-length n (cache ++ more) (omega (arith, length-append cache more));
+-- so does one by a refill
+refilled-IsGot : (n : ℕ) (cache : List ℕ) (s : Shared) (k : ℕ) (r : Result (List ℕ) Refusal × Shared) → n ≤ length cache + k → IsAsked k s r → IsGot n cache s (get_refilled cache n r)
+refilled-IsGot n cache s k (Ok more, t) h a = record {
+  moved = λ i. omega (arith, last-bag n (cache ++ more) i, bag-append cache more i, a.given i);
+  long = last-length n (cache ++ more) (omega (arith, a.long, length-append cache more));
+  desks = a.desks;
 }
-refilled-IsGot n cache s k (Err e, t) h b l same = rw (same e refl) (direct-IsGot n cache s)
-
--- a request that is refused changes nothing
-ask-refused : (n : ℕ) (s : Shared) (e : Refusal) → (ask n s).0 ≡ Err e → (ask n s).1 ≡ s
-ask-refused n s e = elim (cases_Bool (nat_lt (length s.common) n)) [
-  | inl a ↦ rw a (λ q. refl)
-  | inr a ↦ elim (cases_Bool (s.changes == spent)) [
-    | inl f ↦ rw (a, f) (λ q. refl)
-    | inr f ↦ rw (a, f) (λ q. cc)
-  ]
-]
+refilled-IsGot n cache s k (Err e, t) h a = rw (a.refused e refl) (direct-IsGot n cache s)
 
 -- each get moves elements, and gives as many as it is asked for
 pub get-IsGot : (l : Limits) (n : ℕ) (cache : List ℕ) (s : Shared) → IsGot n cache s (get l n cache s)
 get-IsGot l n cache s = elim (cases_Bool (n == 0)) [
-  | inl a ↦ rw a (record { moved = λ i. omega (arith, bag-nil i); long = sym (eqb-true n 0 a) })
+  | inl a ↦ rw a (record { moved = λ i. omega (arith, bag-nil i); long = sym (eqb-true n 0 a); desks = refl })
   | inr a ↦ elim (cases_Bool (nat_le l.cache n)) [
     | inl b ↦ rw (a, b) (direct-IsGot n cache s)
     | inr b ↦ elim (cases_Bool (nat_le n (length cache))) [
-      | inl c ↦ rw (a, b, c) (record { moved = λ i. omega (arith, last-bag n cache i); long = last-length n cache (leb-true n (length cache) c) })
+      | inl c ↦ rw (a, b, c) (record { moved = λ i. omega (arith, last-bag n cache i); long = last-length n cache (leb-true n (length cache) c); desks = refl })
       | inr c ↦ elim (cases_Bool (nat_le (n + l.cache) l.population)) [
-        | inl d ↦ rw (a, b, c, d) (refilled-IsGot n cache s (n + l.cache - length cache) (ask (n + l.cache - length cache) s)
-            (omega arith) (ask-bag (n + l.cache - length cache) s) (ask-length (n + l.cache - length cache) s) (ask-refused (n + l.cache - length cache) s))
+        | inl d ↦ rw (a, b, c, d) (refilled-IsGot n cache s (n + l.cache - length cache) (ask (n + l.cache - length cache) s) (omega arith) (ask-IsAsked (n + l.cache - length cache) s))
         | inr d ↦ rw (a, b, c, d) (direct-IsGot n cache s)
       ]
     ]
@@ -104,31 +98,35 @@ get-IsGot l n cache s = elim (cases_Bool (n == 0)) [
 ]
 
 -- what was in the cache, the list and the common list is in the cache and the common list
-abbrev pub IsPut : List ℕ → List ℕ → Shared → Put × List ℕ × Shared → Type 0
-IsPut list cache s r = (i : ℕ) → bag r.1 i + bag r.2.common i ≡ bag cache i + bag list i + bag s.common i
+pub record IsPut (list cache : List ℕ) (s : Shared) (r : Put × List ℕ × Shared) : Type 0 where
+  pub moved : (i : ℕ) → bag r.1 i + bag r.2.common i ≡ bag cache i + bag list i + bag s.common i
+  pub desks : r.2.desks ≡ s.desks
 
 -- a flush moves elements, and loses none
 pub flush-IsPut : (cache : List ℕ) (s : Shared) → IsPut [] cache s (flush cache s)
 flush-IsPut cache s = elim (cases_Bool (length cache == 0)) [
-  | inl a ↦ rw a (λ i. omega (arith, bag-nil i))
+  | inl a ↦ rw a (record { moved = λ i. omega (arith, bag-nil i); desks = refl })
   | inr a ↦ rw a (push-bag cache s (λ r. IsPut [] cache s (put_whole cache r))
-      (λ t h i. omega (arith, h i, bag-nil i)) (λ e i. omega (arith, bag-nil i)))
+      (λ t h same. record { moved = λ i. omega (arith, h i, bag-nil i); desks = same }) (λ e. record { moved = λ i. omega (arith, bag-nil i); desks = refl }))
 ]
 
 -- each put moves elements, and loses none
 pub put-IsPut : (l : Limits) (list cache : List ℕ) (s : Shared) → IsPut list cache s (put l list cache s)
-put-IsPut l list cache s = elim (cases_Bool (length list == 0)) [
-  | inl a ↦ rw a (λ i. omega (arith, bag-empty list i (eqb-true (length list) 0 a)))
-  | inr a ↦ elim (cases_Bool (nat_lt 512 (length list))) [
-    | inl b ↦ rw (a, b) (push-bag list s (λ r. IsPut list cache s (put_past cache list r))
-        (λ t h i. omega (arith, h i)) (λ e i. omega (arith, bag-append cache list i)))
-    | inr b ↦ elim (cases_Bool (nat_lt (length (cache ++ list)) (threshold l))) [
-      | inl c ↦ rw (a, b, c) (λ i. omega (arith, bag-append cache list i))
-      | inr c ↦ elim (cases_Bool (nat_le (length (cache ++ list)) l.cache)) [
-        | inl d ↦ rw (a, b, c, d) (λ i. omega (arith, bag-append cache list i))
-        | inr d ↦ rw (a, b, c, d) (push-bag (drop l.cache (cache ++ list)) s (λ r. IsPut list cache s (put_beyond l.cache (cache ++ list) r))
-            (λ t h i. omega (arith, h i, bag-append cache list i, bag-take-drop l.cache (cache ++ list) i)) (λ e i. omega (arith, bag-append cache list i)))
+put-IsPut l list cache s =
+    let all : (i : ℕ) → bag (cache ++ list) i ≡ bag cache i + bag list i = bag-append cache list in
+    elim (cases_Bool (length list == 0)) [
+      | inl a ↦ rw a (record { moved = λ i. omega (arith, bag-empty list i (eqb-true (length list) 0 a)); desks = refl })
+      | inr a ↦ elim (cases_Bool (nat_lt 512 (length list))) [
+        | inl b ↦ rw (a, b) (push-bag list s (λ r. IsPut list cache s (put_past cache list r))
+            (λ t h same. record { moved = λ i. omega (arith, h i); desks = same }) (λ e. record { moved = λ i. omega (arith, all i); desks = refl }))
+        | inr b ↦ elim (cases_Bool (nat_lt (length (cache ++ list)) (threshold l))) [
+          | inl c ↦ rw (a, b, c) (record { moved = λ i. omega (arith, all i); desks = refl })
+          | inr c ↦ elim (cases_Bool (nat_le (length (cache ++ list)) l.cache)) [
+            | inl d ↦ rw (a, b, c, d) (record { moved = λ i. omega (arith, all i); desks = refl })
+            | inr d ↦ rw (a, b, c, d) (push-bag (drop l.cache (cache ++ list)) s (λ r. IsPut list cache s (put_beyond l.cache (cache ++ list) r))
+                (λ t h same. record { moved = λ i. omega (arith, h i, all i, bag-take-drop l.cache (cache ++ list) i); desks = same })
+                (λ e. record { moved = λ i. omega (arith, all i); desks = refl }))
+          ]
+        ]
       ]
     ]
-  ]
-]

@@ -1,6 +1,6 @@
 -- A cache's calls are the reference model's requests, over any stack that answers them.
-use Rattle.std.proofs.Common.{ℕ, ◌≡◌, ◌≢◌, ◌+◌, ◌-◌, ◌==◌, ◌<◌, ◌≤◌, ◌⊎◌, inl, inr, nat_lt, nat_le, Bool, true, false, cond, List, [], ◌∷◌, ◌++◌, length, drop, Result, Ok, Err, refl, sym, ◌∙◌, subst, arith}
-use Rattle.std.proofs.lemmas.Bool.Decides.{nat_tests}
+use Rattle.std.proofs.Common.{ℕ, ◌≡◌, ◌+◌, ◌-◌, ◌<◌, ◌≤◌, ◌⊎◌, inl, inr, nat_lt, nat_le, Bool, true, false, cond, List, [], ◌∷◌, ◌++◌, length, drop, Result, Ok, Err, refl, sym, ◌∙◌, subst, arith}
+use Rattle.std.proofs.lemmas.Bool.{eq-eqb, le-leb, le-ltb, lt-leb, lt-ltb, ne_eqb}
 use Rattle.commons.specs.declared.limits.Limits.{Limits}
 use Rattle.commons.specs.declared.refusal.Refusal.{Refusal}
 use Rattle.commons.specs.Calls.{Call, GetList, PutList}
@@ -10,24 +10,6 @@ use Rattle.mempool.specs.Caches.{threshold, Gets, Nothing, Direct, FromCache, Re
 use Rattle.pool_model.specs.Pool.{Shared}
 use Rattle.pool_model.specs.CacheModel.{ask, push, get, put, put_beyond, flush}
 use Rattle.pool_model.specs.CacheLaw.{Meets}
-
-pub lt_yes : (a b : ℕ) → a < b → nat_lt a b ≡ true
-lt_yes a b h = grind (arith, nat_tests)
-
-pub lt_no : (a b : ℕ) → b ≤ a → nat_lt a b ≡ false
-lt_no a b h = grind (arith, nat_tests)
-
-pub le_yes : (a b : ℕ) → a ≤ b → nat_le a b ≡ true
-le_yes a b h = grind (arith, nat_tests)
-
-pub le_no : (a b : ℕ) → b < a → nat_le a b ≡ false
-le_no a b h = grind (arith, nat_tests)
-
-pub eq_yes : (a b : ℕ) → a ≡ b → (a == b) ≡ true
-eq_yes a b h = grind (arith, nat_tests)
-
-pub eq_no : (a b : ℕ) → a ≢ b → (a == b) ≡ false
-eq_no a b h = grind (arith, nat_tests)
 
 -- the stack's answer to the one call
 answered_get : (s t : Shared) (n : ℕ) (answer : Result (List ℕ) Refusal) (calls : List Call) → calls ≡ GetList n answer ∷ [] → Meets s calls t → (answer, t) ≡ ask n s
@@ -41,24 +23,24 @@ pub got_by : (s t : Shared) (l : Limits) (cache : List ℕ) (n : ℕ) (calls : L
     Gets l cache n calls answer left → Meets s calls t → (answer, left, t) ≡ get l n cache s
 got_by s t l cache n calls answer left (Nothing z c a k) h =
     let e = subst (λ cs. Meets s cs t) c h in
-    rw (eq_yes n 0 z, a, k, sym e) refl
+    rw (eq-eqb n 0 z, a, k, sym e) refl
 got_by s t l cache n calls answer left (Direct p q c k) h =
     let f = answered_get s t n answer calls c h in
-    rw (eq_no n 0 (omega arith), le_yes l.cache n q, k, ← f) refl
+    rw (ne_eqb n 0 (omega arith), le-leb l.cache n q, k, ← f) refl
 got_by s t l cache n calls answer left (FromCache p q r c a k) h =
     let e = subst (λ cs. Meets s cs t) c h in
-    rw (eq_no n 0 (omega arith), le_no l.cache n q, le_yes n (length cache) r, a, k, sym e) refl
+    rw (ne_eqb n 0 (omega arith), lt-leb l.cache n q, le-leb n (length cache) r, a, k, sym e) refl
 got_by s t l cache n calls answer left (Refill p q r m more c a k) h =
     let f = answered_get s t (n + l.cache - length cache) (Ok more) calls c h in
-    rw (eq_no n 0 (omega arith), le_no l.cache n q, le_no n (length cache) r, le_yes (n + l.cache) l.population m, a, k, ← f) refl
+    rw (ne_eqb n 0 (omega arith), lt-leb l.cache n q, lt-leb n (length cache) r, le-leb (n + l.cache) l.population m, a, k, ← f) refl
 got_by s t l cache n calls answer left (RefillRefused p q r m cause c k) h =
     let e = subst (λ cs. Meets s cs t) c h in
     let f = e.1 in
     let g = answered_get e.0 t n answer (GetList n answer ∷ []) refl e.2 in
-    rw (eq_no n 0 (omega arith), le_no l.cache n q, le_no n (length cache) r, le_yes (n + l.cache) l.population m, k, ← f, ← g) refl
+    rw (ne_eqb n 0 (omega arith), lt-leb l.cache n q, lt-leb n (length cache) r, le-leb (n + l.cache) l.population m, k, ← f, ← g) refl
 got_by s t l cache n calls answer left (NoRefill p q r m c k) h =
     let f = answered_get s t n answer calls c h in
-    rw (eq_no n 0 (omega arith), le_no l.cache n q, le_no n (length cache) r, le_no (n + l.cache) l.population m, k, ← f) refl
+    rw (ne_eqb n 0 (omega arith), lt-leb l.cache n q, lt-leb n (length cache) r, lt-leb (n + l.cache) l.population m, k, ← f) refl
 
 either : {X : Type 0} (b : Bool) (y : X) → cond b y y ≡ y
 either true y = refl
@@ -66,7 +48,7 @@ either false y = refl
 
 -- below the threshold, or at most the size, the first or the second test keeps all
 kept_below : {X : Type 0} (n threshold size : ℕ) (x y z : X) → (n < threshold) ⊎ (n ≤ size) → x ≡ y → x ≡ cond (nat_lt n threshold) y (cond (nat_le n size) y z)
-kept_below n threshold size x y z b e = elim b [ inl h ↦ rw (lt_yes n threshold h) e | inr h ↦ rw (le_yes n size h) (e ∙ sym (either (nat_lt n threshold) y)) ]
+kept_below n threshold size x y z b e = elim b [ inl h ↦ rw (lt-ltb n threshold h) e | inr h ↦ rw (le-leb n size h) (e ∙ sym (either (nat_lt n threshold) y)) ]
 
 -- a put by the rules, whose calls the stack answers, is the model's
 pub put_by : (s t : Shared) (l : Limits) (cache list : List ℕ) (calls : List Call) (answer : Put) (left : List ℕ) →
@@ -76,20 +58,20 @@ put_by s t l cache list calls answer left (NothingPut z c a k) h =
     rw (z, a, k, sym e) refl
 put_by s t l cache list calls answer left (Bypass p c a k) h =
     let f = answered_put s t list (Ok tt) calls c h in
-    rw (eq_no (length list) 0 (omega arith), lt_yes 512 (length list) p, a, k, ← f) refl
+    rw (ne_eqb (length list) 0 (omega arith), lt-ltb 512 (length list) p, a, k, ← f) refl
 put_by s t l cache list calls answer left (BypassPutOff p cause c a k) h =
     let f = answered_put s t list (Err cause) calls c h in
-    rw (eq_no (length list) 0 (omega arith), lt_yes 512 (length list) p, a, k, ← f) refl
+    rw (ne_eqb (length list) 0 (omega arith), lt-ltb 512 (length list) p, a, k, ← f) refl
 put_by s t l cache list calls answer left (Flush p q r m c a k) h =
     let f = answered_put s t (drop l.cache (cache ++ list)) (Ok tt) calls c h in
-    rw (eq_no (length list) 0 (omega arith), lt_no 512 (length list) q, lt_no (length (cache ++ list)) (threshold l) r, le_no (length (cache ++ list)) l.cache m, a, k, ← f) refl
+    rw (ne_eqb (length list) 0 (omega arith), le-ltb 512 (length list) q, le-ltb (length (cache ++ list)) (threshold l) r, lt-leb (length (cache ++ list)) l.cache m, a, k, ← f) refl
 put_by s t l cache list calls answer left (FlushPutOff p q r m cause c a k) h =
     let f = answered_put s t (drop l.cache (cache ++ list)) (Err cause) calls c h in
-    rw (eq_no (length list) 0 (omega arith), lt_no 512 (length list) q, lt_no (length (cache ++ list)) (threshold l) r, le_no (length (cache ++ list)) l.cache m, a, k, ← f) refl
+    rw (ne_eqb (length list) 0 (omega arith), le-ltb 512 (length list) q, le-ltb (length (cache ++ list)) (threshold l) r, lt-leb (length (cache ++ list)) l.cache m, a, k, ← f) refl
 put_by s t l cache list calls answer left (Keep p q b c a k) h =
     let e = subst (λ cs. Meets s cs t) c h in
     let kept = kept_below (length (cache ++ list)) (threshold l) l.cache (answer, left, t) (Kept, cache ++ list, s) (put_beyond l.cache (cache ++ list) (push (drop l.cache (cache ++ list)) s)) b (rw (a, k, sym e) refl) in
-    rw (eq_no (length list) 0 (omega arith), lt_no 512 (length list) q) kept
+    rw (ne_eqb (length list) 0 (omega arith), le-ltb 512 (length list) q) kept
 
 -- a flush by the rules, whose calls the stack answers, is the model's
 pub flushed_by : (s t : Shared) (cache : List ℕ) (calls : List Call) (answer : Put) (left : List ℕ) →
@@ -99,7 +81,7 @@ flushed_by s t cache calls answer left (Empty z c a k) h =
     rw (a, k, z, sym e) refl
 flushed_by s t cache calls answer left (Whole p c a k) h =
     let f = answered_put s t cache (Ok tt) calls c h in
-    rw (eq_no (length cache) 0 (omega arith), a, k, ← f) refl
+    rw (ne_eqb (length cache) 0 (omega arith), a, k, ← f) refl
 flushed_by s t cache calls answer left (WholePutOff p cause c a k) h =
     let f = answered_put s t cache (Err cause) calls c h in
-    rw (eq_no (length cache) 0 (omega arith), a, k, ← f) refl
+    rw (ne_eqb (length cache) 0 (omega arith), a, k, ← f) refl

@@ -1,17 +1,18 @@
+mod ActLeaves
 pub mod AfterActs
 mod Balance
 mod CacheBags
 pub mod CacheRules
 mod DeskLemmas
-mod DeskNear
 mod DeskStays
-mod DesksKept
-mod HeldBags
+mod DesksLeave
+pub mod HeldBags
 mod HoldersOrder
+mod Leaves
 mod Listed
 pub mod NewMembers
 pub mod Numbered
+mod PacketsKeep
 mod Pairs
 mod Placed
-pub mod SharedNear
-mod SlotsKept
+pub mod SharedKeep

@@ -27,8 +27,8 @@ use Rattle.mbuf.specs.Members.{Member}
 use Rattle.mbuf.specs.declared.acts.Act.{Act}
 use Rattle.pool_model.specs.Pool.{Pool, held_by, held_of, new_pool}
 use Rattle.pool_model.specs.PacketModel.{after_acts}
-use Rattle.pool_model.specs.Statements.{packets_from, packets_of, desks_from, workers_of, desks_of, holders_of, held_entry, held_elements, statement_of, listed, packet_holds, is_worker, is_desk, worker_holds, desk_holds, IsNotAfter, ListsEachOnce}
-use Rattle.pool_model.proofs.HeldBags.{IsBalanced}
+use Rattle.pool_model.specs.Statements.{packets_from, packets_of, desks_from, workers_of, desks_of, holders_of, held_entry, held_elements, statement_of, times_listed, packet_holds, is_worker, is_desk, worker_holds, desk_holds, IsNotAfter, ListsEachOnce}
+use Rattle.pool_model.proofs.Balance.{IsBalanced}
 use Rattle.pool_model.proofs.Balance.{after_acts-balanced, at_most_one, range-bag, new_pool-balanced}
 use Rattle.pool_model.proofs.HoldersOrder.{holders_of-order}
 use Rattle.pool_model.proofs.Numbered.{AreNumbered, acts-numbered}
@@ -74,7 +74,7 @@ held_elements-bag pool b i =
     ]
 
 -- an element of a pool is in the common list, in a cache or held
-placed_once : (pool : Pool) → IsBalanced pool → (i : ℕ) → listed (statement_of pool) i ≡ cond (nat_lt i pool.limits.population) 1 0
+placed_once : (pool : Pool) → IsBalanced pool → (i : ℕ) → times_listed (statement_of pool) i ≡ cond (nat_lt i pool.limits.population) 1 0
 placed_once pool b i =
     rw elems-entries (omega (arith, held_elements-bag pool b i, b.placed i, sum_by-map (λ (cache : List ℕ). bag cache i) (λ (m : Member). m.cache) pool.members))
 

@@ -1,17 +1,16 @@
 -- The workers of a pool stay numbered from 1, each with all its slots, and the desks as many.
-use Rattle.std.proofs.Common.{ℕ, zero, suc, ◌≡◌, ◌+◌, ◌-◌, ◌&&◌, nat_le, inl, inr, List, [], ◌∷◌, length, length-set, get_or, set, Option, None, refl, ◌∙◌, ◌<◌, arith}
+use Rattle.std.proofs.Common.{ℕ, zero, suc, ◌≡◌, ◌+◌, List, [], ◌∷◌, length, length-set, get_or, set, Option, None, refl, ◌∙◌, ◌<◌, arith}
 use Rattle.std.proofs.lemmas.List.{length-replicate}
-use Rattle.std.proofs.lemmas.Bool.{cases_Bool}
 use Rattle.commons.specs.declared.limits.Limits.{Limits}
 use Rattle.commons.specs.declared.packet.Seg.{Seg}
 use Rattle.mbuf.specs.declared.acts.Act.{Act}
 use Rattle.mbuf.specs.Members.{Member, slots}
-use Rattle.pool_model.specs.Pool.{Pool, held_of, member_at, nobody, new_members, new_pool}
-use Rattle.pool_model.specs.PacketModel.{act_on, after_acts, held_elsewhere, perform}
+use Rattle.pool_model.specs.Pool.{Pool, nobody, new_members, new_pool}
+use Rattle.pool_model.specs.PacketModel.{after_acts, perform}
+use Rattle.pool_model.proofs.ActLeaves.{after_act}
 use Rattle.pool_model.proofs.AfterActs.{after_acts-keeps}
 use Rattle.pool_model.proofs.DeskStays.{desks_as_many}
 use Rattle.pool_model.proofs.NewMembers.{length-new_members}
-use Rattle.pool_model.proofs.SlotsKept.{SameSlots, member_act-slots}
 
 -- workers with numbers in a row from this one on, each with all its slots
 abbrev pub AreNumbered : ℕ → List Member → Type 0
@@ -26,25 +25,19 @@ pub record IsNumbered (l : Limits) (pool : Pool) : Type 0 where
   pub desks : length pool.shared.desks ≡ l.desks
 
 -- one of the workers changes
-numbered-set : (number : ℕ) (members : List Member) (n : ℕ) (m d : Member) → SameSlots m (get_or members n d) → AreNumbered number members → AreNumbered number (set members n m)
-numbered-set number [] n m d same a = a
-numbered-set number (x ∷ members) zero m d same a = (same.0 ∙ a.0, same.1 ∙ a.1, a.2)
-numbered-set number (x ∷ members) (suc n) m d same a = (a.0, a.1, numbered-set (number + 1) members n m d same a.2)
+numbered-set : (number : ℕ) (members : List Member) (n : ℕ) (m d : Member) → m.number ≡ (get_or members n d).number → length m.table ≡ length (get_or members n d).table → AreNumbered number members → AreNumbered number (set members n m)
+numbered-set number [] n m d same long a = a
+numbered-set number (x ∷ members) zero m d same long a = (same ∙ a.0, long ∙ a.1, a.2)
+numbered-set number (x ∷ members) (suc n) m d same long a = (a.0, a.1, numbered-set (number + 1) members n m d same long a.2)
 
 -- what a worker does
 perform-numbered : (l : Limits) (pool : Pool) (w : ℕ) (act : Act) → IsNumbered l pool → IsNumbered l (perform pool w act).1
-perform-numbered l pool w act b = elim (cases_Bool (nat_le 1 w && nat_le w (length pool.members))) [
-  | inl e ↦
-      let held = held_of pool.members pool.shared.desks in
-      let others = held_elsewhere pool (w - 1) in
-      rw e (record {
-        limits = b.limits;
-        workers = length-set pool.members (w - 1) (act_on pool (w - 1) act).1 ∙ b.workers;
-        numbers = numbered-set 1 pool.members (w - 1) (act_on pool (w - 1) act).1 (nobody pool.limits) (member_act-slots act held others (member_at pool (w - 1)) pool.shared) b.numbers;
-        desks = desks_as_many act held others (member_at pool (w - 1)) pool.shared ∙ b.desks;
-      })
-  | inr e ↦ rw e b
-]
+perform-numbered l pool w act b = after_act (IsNumbered l) pool w act b (λ n done h left. record {
+  limits = b.limits;
+  workers = length-set pool.members n done.1 ∙ b.workers;
+  numbers = numbered-set 1 pool.members n done.1 (nobody pool.limits) left.number left.slots b.numbers;
+  desks = desks_as_many act pool.shared.desks done.2.desks left.desks ∙ b.desks;
+})
 
 -- a new pool
 numbered-new : (l : Limits) (number n : ℕ) → AreNumbered number (new_members l number n)

@@ -117,11 +117,11 @@ take_off desk m s =
     else take_into (free_slot m.table) desk m s
 
 -- a flush changes the worker's cache, and none of its packets
-abbrev pub flushed : Member → Put × List ℕ × Shared → Reply × Member × Shared
-flushed m done = (reply.Put done.0, record m { cache = done.1 }, done.2)
+abbrev pub after_flush : Member → Put × List ℕ × Shared → Reply × Member × Shared
+after_flush m done = (reply.Put done.0, record m { cache = done.1 }, done.2)
 
 abbrev pub flush_member : Member → Shared → Reply × Member × Shared
-flush_member m s = flushed m (flush m.cache s)
+flush_member m s = after_flush m (flush m.cache s)
 
 -- the worker without the packet in this slot
 abbrev pub without_packet : ℕ → Member → Member

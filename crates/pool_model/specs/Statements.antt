@@ -65,8 +65,8 @@ statement_of pool = record {
 }
 
 -- how often a statement lists an element: in the common list, in caches, and as a held one
-abbrev pub listed : Statement → ℕ → ℕ
-listed s i = bag s.common i + sum_by (λ cache. bag cache i) s.caches + bag (map (λ held. held.elem) s.held) i
+abbrev pub times_listed : Statement → ℕ → ℕ
+times_listed s i = bag s.common i + sum_by (λ cache. bag cache i) s.caches + bag (map (λ held. held.elem) s.held) i
 
 -- how often the packets of a statement hold an element
 abbrev pub packet_holds : Statement → ℕ → ℕ
@@ -99,8 +99,8 @@ IsNotAfter (Desk d) (Desk e) = d ≤ e
 -- all packets, and each holder stands there as often as its own packets hold the element, workers before desks and
 -- both ascending; and no packet holds an element that isn't listed as held.
 pub record ListsEachOnce (s : Statement) : Type 0 where
-  pub once : (i : ℕ) → i < s.population → listed s i ≡ 1
-  pub none_else : (i : ℕ) → s.population ≤ i → listed s i ≡ 0
+  pub once : (i : ℕ) → i < s.population → times_listed s i ≡ 1
+  pub none_else : (i : ℕ) → s.population ≤ i → times_listed s i ≡ 0
   pub whole : s.available + s.in_use ≡ s.population
   pub available : s.available ≡ length s.common + sum_by (λ cache. length cache) s.caches
   pub in_use : s.in_use ≡ length s.held

@@ -1,5 +1,6 @@
 -- A cache's calls over the lists are the reference model's requests.
 use Rattle.std.proofs.Common.{ℕ, ◌≡◌, ◌+◌, ◌-◌, List, [], ◌∷◌, ◌++◌, length, drop, Result, Ok, Err, refl, sym, ap, subst, arith}
+use Rattle.std.proofs.lemmas.Bool.{eq-eqb, le-ltb, lt-ltb, ne_eqb}
 use Rattle.commons.specs.declared.limits.Limits.{Limits}
 use Rattle.commons.specs.declared.refusal.Refusal.{Refusal}
 use Rattle.commons.specs.declared.refusal.Refusal.TheVariants.{NoEntries, Contended, HeadSpent}
@@ -10,19 +11,19 @@ use Rattle.mempool.specs.Caches.{Gets, Nothing, Direct, FromCache, Refill, Refil
 use Rattle.pool_model.specs.CacheModel.{ask, push, get, put, flush}
 use Rattle.pool_model.specs.CacheLaw.{Meets}
 use Rattle.share_book.specs.Own.{shared_of, LeadsPlain}
-use Rattle.pool_model.proofs.CacheRules.{eq_no, eq_yes, flushed_by, got_by, lt_no, lt_yes, put_by}
+use Rattle.pool_model.proofs.CacheRules.{flushed_by, got_by, put_by}
 
 -- a request that was met or refused is the model's
 asked : (w : ℕ) (s : Lists) (n : ℕ) (a : Result (List ℕ) Refusal) (t : Lists) → DidGet w s n a t → (a, shared_of t) ≡ ask n (shared_of s)
-asked w s n (Ok xs) t d = rw (lt_no (length s.common) n d.0, eq_no s.changes spent (omega (arith, d.1)), d.2, d.3) refl
-asked w s n (Err NoEntries) t d = rw (lt_yes (length s.common) n d.0, d.1) refl
-asked w s n (Err HeadSpent) t d = rw (lt_no (length s.common) n d.0, eq_yes s.changes spent d.1, d.2) refl
+asked w s n (Ok xs) t d = rw (le-ltb (length s.common) n d.0, ne_eqb s.changes spent (omega (arith, d.1)), d.2, d.3) refl
+asked w s n (Err NoEntries) t d = rw (lt-ltb (length s.common) n d.0, d.1) refl
+asked w s n (Err HeadSpent) t d = rw (le-ltb (length s.common) n d.0, eq-eqb s.changes spent d.1, d.2) refl
 asked w s n (Err Contended) t d = absurd d
 asked w s n (Err _) t d = absurd d
 
 pushed : (s : Lists) (xs : List ℕ) (a : Result (Unit {0}) Refusal) (t : Lists) → DidPut s xs a t → (a, shared_of t) ≡ push xs (shared_of s)
-pushed s xs (Ok tt) t d = rw (eq_no s.changes spent (omega (arith, d.0)), d.1) refl
-pushed s xs (Err HeadSpent) t d = rw (eq_yes s.changes spent d.0, d.1) refl
+pushed s xs (Ok tt) t d = rw (ne_eqb s.changes spent (omega (arith, d.0)), d.1) refl
+pushed s xs (Err HeadSpent) t d = rw (eq-eqb s.changes spent d.0, d.1) refl
 pushed s xs (Err Contended) t d = absurd d
 pushed s xs (Err _) t d = absurd d
 

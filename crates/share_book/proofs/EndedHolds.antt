@@ -1,5 +1,5 @@
 -- Holds that end over the lists, where the counts are the holds that are left.
-use Rattle.std.proofs.Common.{ℕ, ◌≡◌, ◌≢◌, ◌+◌, ◌-◌, ◌<◌, ◌==◌, inl, inr, cond, List, [], ◌∷◌, length, get_or, set, get_or-set_same, get_or-set_other, Option, Ok, Err, refl, sym, ap, ◌∙◌, subst, arith}
+use Rattle.std.proofs.Common.{ℕ, ◌≡◌, ◌≢◌, ◌+◌, ◌-◌, ◌<◌, ◌==◌, inl, inr, List, [], ◌∷◌, length, get_or, set, get_or-set_same, get_or-set_other, Option, Ok, Err, refl, sym, ap, ◌∙◌, subst, arith}
 use Rattle.std.proofs.lemmas.Bool.{cases_lt, cases_eq, cond-true, cond-false, eq-eqb, ne_eqb}
 use Rattle.std.proofs.lemmas.List.{get_or_past}
 use Rattle.commons.specs.Bag.{bag}
@@ -17,6 +17,7 @@ use Rattle.mbuf.specs.PacketRules.{EndsHold, Stays, GoesBack, EndsHolds}
 use Rattle.pool_model.specs.Pool.{Shared}
 use Rattle.pool_model.specs.CacheModel.{put}
 use Rattle.pool_model.specs.HoldModel.{put_back, end_holds}
+use Rattle.pool_model.proofs.HeldBags.{next_hold}
 use Rattle.share_book.specs.Own.{shared_of, LeadsPlain}
 use Rattle.share_book.proofs.CacheCalls.{AreRequests, puts_request, was_put}
 use Rattle.share_book.proofs.PlainCalls.{LeadsPlain-split, LeadsPlain-table}
@@ -63,10 +64,6 @@ counts_less places e place es others less h i = elim (cases_eq i e) [
       rw (q, get_or-set_same places e place nowhere within) (omega (arith, less, here, bag-cons e es e, one-same e))
   | inr q ↦ rw (get_or-set_other places e i place nowhere q) (omega (arith, h i, bag-cons e es i, one-apart e i q))
 ]
-
--- the model, once one hold of an element has ended
-abbrev next_hold : Limits → (ℕ → ℕ) → ℕ → List ℕ → Freed × List ℕ × Shared → Freed × List ℕ × Shared
-next_hold l others e es so_far = cond (bag es e + others e == 0) (put_back so_far.0 (put l (e ∷ []) so_far.1 so_far.2)) so_far
 
 -- the end of one hold is the model's, and leaves the counts of the others
 end_one : (w : ℕ) (l : Limits) (others : ℕ → ℕ) (e : ℕ) (es : List ℕ) (s t : Lists) (cache : List ℕ) (freed : Freed) (calls : List Call) (left : List ℕ) (done : Freed) →

@@ -19,7 +19,7 @@ use Rattle.mbuf.specs.Members.{Member}
 use Rattle.mbuf.specs.PacketRules.{Allocs, Full, NotGot, Fresh, AllocsBulk, TooFull, BulkNotGot, FreshBulk, Frees, NoPacket, WasFreed, Resizes, NoneThere, NotResized, WasResized, Chains, NoHead, NoTail, Same, TooLong, WasChained, fresh_seg, free_slots, freed_nothing}
 use Rattle.pool_model.specs.Pool.{Shared}
 use Rattle.pool_model.specs.CacheModel.{get}
-use Rattle.pool_model.specs.PacketModel.{fill_slot, alloc_in, alloc, fill_slots, alloc_bulk, free_in, free, resize_to, resize_in, resize, chain_in, chain, beside, flushed, member_act}
+use Rattle.pool_model.specs.PacketModel.{fill_slot, alloc_in, alloc, fill_slots, alloc_bulk, free_in, free, resize_to, resize_in, resize, chain_in, chain, beside, after_flush, member_act}
 use Rattle.share_book.specs.Own.{shared_of, LeadsPlain}
 use Rattle.share_book.proofs.CacheCalls.{got, was_flushed}
 use Rattle.share_book.proofs.EndedHolds.{ended}
@@ -156,4 +156,4 @@ performed_by (PktLen slot) w s t m after calls r all others p h table same count
 performed_by (NbSegs slot) w s t m after calls r all others p h table same counts held = rw (p.0, p.2, nothing w s t calls p.1 h) refl
 performed_by Flush w s t m after calls r all others p h table same counts held =
     let f = was_flushed w s m.cache calls p.0 after.cache t p.1 h in
-    rw p.3 (ap (λ (x : Member). let o : Outcome = (reply.Put p.0, x, shared_of t) in o) p.2 ∙ ap (flushed m) f)
+    rw p.3 (ap (λ (x : Member). let o : Outcome = (reply.Put p.0, x, shared_of t) in o) p.2 ∙ ap (after_flush m) f)

@@ -29,7 +29,7 @@ use Rattle.mbuf.proofs.SharingLemmas.{found_base, holds_alone}
 use Rattle.pool_model.specs.Pool.{Shared}
 use Rattle.pool_model.specs.PacketModel.{beside}
 use Rattle.pool_model.specs.SharingModel.{Cloned, attach, attach_to, clone, clone_at, clone_segs, clone_to, count, detach, detach_from, give_up, with_element}
-use Rattle.pool_model.proofs.SharedNear.{clonable_there}
+use Rattle.pool_model.proofs.SharedKeep.{clonable_there}
 use Rattle.share_book.specs.Own.{shared_of, LeadsPlain}
 use Rattle.share_book.proofs.CacheCalls.{got, gets_request}
 use Rattle.share_book.proofs.EndedHolds.{Counts, ended, held_within, requests_count}
