@@ -12,5 +12,3 @@ pub mod refusal;
 pub mod seq;
 pub mod shared;
 pub mod site;
-#[cfg(test)]
-mod tests;

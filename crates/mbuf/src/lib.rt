@@ -10,5 +10,3 @@ pub mod laws;
 pub mod lengths;
 pub mod packets;
 mod steps;
-#[cfg(test)]
-mod tests;

@@ -3,6 +3,4 @@
 
 pub mod put;
 mod steps;
-#[cfg(test)]
-mod tests;
 pub mod worker;

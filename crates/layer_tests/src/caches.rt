@@ -1,0 +1,147 @@
+use commons::limits::Limits;
+use commons::plain::PlainCommons;
+use commons::refusal::Refusal;
+use commons::site::PlainSite;
+use mempool::put::Put;
+use mempool::worker::Worker;
+use std::alloc::Global;
+use std::process::Abort;
+use std::test::Fail;
+
+const LIMITS: Limits = Limits {
+    population: 1_100,
+    cache: 4,
+    workers: 2,
+    desks: 0,
+    buf: 2_048,
+    ref_limit: 65_535,
+    tries: 8,
+    start_count: 0,
+};
+
+/// What a worker does once it has got elements.
+#[derive(Clone, Copy)]
+enum Then {
+    /// It puts them back.
+    Puts,
+    /// It flushes its cache twice.
+    Flushes,
+}
+
+/// A row: its name; how many elements are got, and the least of them, which the others follow; what
+/// the worker does then, and what comes of it; the cache afterwards; and how many elements the
+/// common list has then, with its top.
+type Row = (
+    &'static str,
+    usize,
+    u32,
+    Then,
+    (Put, Option<Put>),
+    &'static [u32],
+    usize,
+    u32,
+);
+
+const ROWS: [Row; 3] = [
+    (
+        "a bulk of 512 goes through the cache",
+        512,
+        0,
+        Then::Puts,
+        (Put::Flushed(508), None),
+        &[0, 1, 2, 3],
+        1_096,
+        511,
+    ),
+    (
+        "a bulk of 513 goes past the cache",
+        513,
+        0,
+        Then::Puts,
+        (Put::Flushed(513), None),
+        &[],
+        1_100,
+        512,
+    ),
+    (
+        "a get of 1 fills the cache with 5 and takes the last, and a flush gives the other 4 back",
+        1,
+        4,
+        Then::Flushes,
+        (Put::Flushed(4), Some(Put::Kept)),
+        &[],
+        1_099,
+        3,
+    ),
+];
+
+/// What came of a get and of what the worker did then, the cache that it left, and the common list,
+/// top last.
+fn got_and(
+    alloc: Global,
+    out: &mut [u32],
+    then: Then,
+) -> Result<((Put, Option<Put>), Vec<u32>, Vec<u32>), Fail> {
+    let mut site = PlainSite::make(alloc, &LIMITS)?;
+    let mut worker = Worker::make(alloc, &LIMITS, 1)?;
+    let mut c = PlainCommons::new(&mut site, 1);
+    let done = match worker.get_bulk(&mut c, out) {
+        Ok(()) => match then {
+            Then::Puts => Ok((worker.put_bulk(&mut c, out), None)),
+            Then::Flushes => {
+                let first = worker.flush(&mut c);
+                let second = worker.flush(&mut c);
+                Ok((first, Some(second)))
+            }
+        },
+        Err(cause) => Err(cause),
+    };
+    let cache = worker.cache().to_vec(alloc);
+    worker.lose();
+    Ok((done?, cache?, site.common().to_vec(alloc)?))
+}
+
+#[test]
+fn each_bulk_leaves_its_cache(rt: HostRuntime) -> Result<(), Fail> {
+    for (name, count, least, then, wanted, left, in_common, top) in ROWS.iter() {
+        let mut out = Vec::new(rt.alloc());
+        out.resize(*count, 0)?;
+        let (done, cache, common) = got_and(rt.alloc(), &mut out, *then)?;
+        for (i, x) in out.iter().enumerate() {
+            assert_eq!(rt; *x as usize, i + *least as usize, "the row {name}");
+        }
+        assert_eq!(rt; done, *wanted, "the row {name}");
+        assert_eq!(rt; cache.as_slice(), *left, "the row {name}");
+        assert_eq!(rt; common.len(), *in_common, "the row {name}");
+        assert_eq!(rt; common.last(), Some(top), "the row {name}");
+    }
+    Ok(())
+}
+
+#[test]
+fn each_worker_of_the_pool_begins_with_an_empty_cache(rt: HostRuntime) -> Result<(), Fail> {
+    let numbers = [
+        (0, Err(Refusal::BadPool)),
+        (1, Ok((1, 0, LIMITS, true))),
+        (2, Ok((2, 0, LIMITS, true))),
+        (3, Err(Refusal::BadPool)),
+    ];
+    for (number, wanted) in numbers {
+        let made = match Worker::make(rt.alloc(), &LIMITS, number) {
+            Ok(worker) => {
+                let is_empty = worker.cache().is_empty();
+                let shown = (
+                    worker.number(),
+                    worker.cache_len(),
+                    *worker.limits(),
+                    is_empty,
+                );
+                worker.lose();
+                Ok(shown)
+            }
+            Err(refusal) => Err(refusal),
+        };
+        assert_eq!(rt; made, wanted, "worker {number}");
+    }
+    Ok(())
+}

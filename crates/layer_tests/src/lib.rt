@@ -1,0 +1,14 @@
+//! Tests of the layers below scripts, and nothing else: the pool as lists, a worker's cache, and a
+//! worker's packets.
+#![tactic(auto)]
+
+#[cfg(test)]
+mod caches;
+#[cfg(test)]
+mod lists;
+#[cfg(test)]
+mod memory;
+#[cfg(test)]
+mod packets;
+#[cfg(test)]
+mod rows;

@@ -1,5 +1,0 @@
-use Rattle.mbuf.specs.Own.{Own}
-use Rattle.mbuf.proofs.tests.made.Given as goal
-
-abbrev pub invariant-loop-slot : goal.invariant-loop-slot
-invariant-loop-slot g l = Own l.packets (g.C.Commons.limits l.c) (g.C.Commons.hand l.c) (g.C.Commons.holds l.c) (g.C.Commons.headers l.c)
