@@ -1,35 +1,36 @@
-use Rattle.std.proofs.Common.{ℕ, sym, ◌∙◌, ap, subst}
+use Rattle.std.proofs.Common.{ℕ, sym, ◌∙◌, ap, subst, rules}
 use Rattle.commons.specs.Calls.{calls_of}
 use Rattle.commons.specs.Lists.{hand_of, holds_of, header_of}
 use Rattle.commons.specs.declared.limits.Limits.{Limits}
+use Rattle.mbuf.specs.Acts.{as_reply}
 use Rattle.mbuf.specs.Own.{Own}
 use Rattle.script.proofs.PacketCalls.{performs_number}
 use Rattle.script.proofs.PlainCalls.{plainly, alone, LeadsPlain-limits}
 use Rattle.script.proofs.site_pool.act_plain.Goals as goal
 
-pub perform-requires : goal.perform-requires
-perform-requires c =
+pub perform_in-requires : goal.perform_in-requires
+perform_in-requires g c =
     let s = c.args.c.now.site.now in
-    record { own = subst (λ (w : ℕ). Own c.args.packets.now s.limits (λ i. hand_of s w i) (λ i. holds_of s w i) (λ i. header_of s w i)) (sym c.requires.worker) c.requires.own.share }
+    (search rules, (c.requires.room, subst (λ (w : ℕ). Own c.args.packets.now s.limits (λ i. hand_of s w i) (λ i. holds_of s w i) (λ i. header_of s w i)) (sym c.requires.worker) c.requires.own.share))
 
 pub returns-clause-same : goal.returns-clause-same
-returns-clause-same c = let e = c.perform.ensures.calls in (plainly c.args.c.now e.0 c.perform.new.c e.1).same
+returns-clause-same g c = let e = c.perform_in.ensures.calls in (plainly c.args.c.now e.0 c.perform_in.new.c e.1).same
 
 pub returns-clause-calls : goal.returns-clause-calls
-returns-clause-calls c = let e = c.perform.ensures.calls in (calls_of e.0, (plainly c.args.c.now e.0 c.perform.new.c e.1).led, e.2)
+returns-clause-calls g c = let e = c.perform_in.ensures.calls in (calls_of e.0, (plainly c.args.c.now e.0 c.perform_in.new.c e.1).led, e.2)
 
 pub returns-clause-own : goal.returns-clause-own
-returns-clause-own c =
-    let e = c.perform.ensures.calls in
-    let t = c.perform.new.c.site.now in
-    let p = plainly c.args.c.now e.0 c.perform.new.c e.1 in
-    let number = performs_number c.args.act c.args.packets.now c.perform.new.packets (calls_of e.0) c.perform.result e.2 in
+returns-clause-own g c =
+    let e = c.perform_in.ensures.calls in
+    let t = c.perform_in.new.c.site.now in
+    let p = plainly c.args.c.now e.0 c.perform_in.new.c e.1 in
+    let number = performs_number c.args.act c.args.packets.now c.perform_in.new.packets (calls_of e.0) (as_reply c.perform_in.result) e.2 in
     let workers = ap (λ (l : Limits). l.workers) (LeadsPlain-limits c.args.c.now.worker c.args.c.now.site.now (calls_of e.0) t p.led) in
     record {
       first = rw number c.requires.own.first;
       last = rw (number, workers) c.requires.own.last;
-      share = subst (λ (w : ℕ). Own c.perform.new.packets t.limits (λ i. hand_of t w i) (λ i. holds_of t w i) (λ i. header_of t w i)) (p.worker ∙ c.requires.worker ∙ sym number) c.perform.ensures.own;
+      share = subst (λ (w : ℕ). Own c.perform_in.new.packets t.limits (λ i. hand_of t w i) (λ i. holds_of t w i) (λ i. header_of t w i)) (p.worker ∙ c.requires.worker ∙ sym number) c.perform_in.ensures.own;
     }
 
 pub returns-clause-alone : goal.returns-clause-alone
-returns-clause-alone c = let e = c.perform.ensures.calls in alone c.args.c.now e.0 c.perform.new.c c.perform.new.c.table e.1
+returns-clause-alone g c = let e = c.perform_in.ensures.calls in alone c.args.c.now e.0 c.perform_in.new.c c.perform_in.new.c.table e.1
