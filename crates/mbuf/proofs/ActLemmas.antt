@@ -6,6 +6,10 @@ use Rattle.arrayvec.specs.ArrayVec.{ArrayVec}
 use Rattle.commons.proofs.Sames.{ok-is}
 use Rattle.commons.specs.Calls.{Call}
 use Rattle.commons.specs.declared.packet.Seg.{Seg}
+use Rattle.mbuf.specs.Acts.{HasRoom, Reply, as_reply}
+use Rattle.mbuf.specs.declared.acts.Act.{Act}
+use Rattle.mbuf.specs.declared.acts.Act.TheVariants as act
+use Rattle.mbuf.specs.declared.acts.Answer.TheVariants as reply
 use Rattle.mbuf.specs.Members.{Member}
 use Rattle.mbuf.specs.PacketRules.{Allocs, Full, NotGot, Fresh, AllocsBulk, TooFull, BulkNotGot, FreshBulk, fresh_seg, free_slot, free_slots}
 use Rattle.mbuf.specs.Desks.{Takes, NoDesk, NoSlot, NotTaken, WasTaken}
@@ -61,3 +65,39 @@ taken_there m after desk calls slot (NotTaken h s f cause c a k) = absurd cc
 taken_there m after desk calls slot (WasTaken h s f segs c a k) =
     let same : slot ≡ s = cc in
     some_there (get_or after.table slot None) segs (ap (λ (x : Member). get_or x.table slot None) k ∙ rw same (get_or-set_same m.table s (Some segs) None (free_slot-is m.table s f).0))
+
+-- an answer with room for any bulk is what it is as one
+pub as_reply-same : (r : Reply) → as_reply r ≡ r
+as_reply-same (reply.Allocated slot elem) = refl
+as_reply-same (reply.Bulk packets) = refl
+as_reply-same (reply.Freed done) = refl
+as_reply-same reply.Attached = refl
+as_reply-same (reply.Cloned slot elems) = refl
+as_reply-same reply.Offered = refl
+as_reply-same (reply.Taken slot segs len) = refl
+as_reply-same (reply.Count count) = refl
+as_reply-same (reply.Len len) = refl
+as_reply-same (reply.Segs segs) = refl
+as_reply-same (reply.Chained segs len) = refl
+as_reply-same (reply.Put put) = refl
+as_reply-same (reply.Refused cause) = refl
+
+-- there is room for any act
+pub any_room : (a : Act) → HasRoom 256 a
+any_room act.Alloc = tt
+any_room (act.AllocBulk n) = λ few. few
+any_room (act.Free p) = tt
+any_room (act.Append p n) = tt
+any_room (act.Prepend p n) = tt
+any_room (act.Adj p n) = tt
+any_room (act.Trim p n) = tt
+any_room (act.Chain head tail) = tt
+any_room (act.Attach mi target) = tt
+any_room (act.Detach p) = tt
+any_room (act.ClonePacket p) = tt
+any_room (act.Offer p desk) = tt
+any_room (act.Take desk) = tt
+any_room (act.CountOf p) = tt
+any_room (act.PktLen p) = tt
+any_room (act.NbSegs p) = tt
+any_room act.Flush = tt

@@ -1,5 +1,5 @@
 -- What each act does with a worker's packets, and what is replied.
-use Rattle.std.specs.Prelude.{ℕ, ◌≡◌, length, map, List, [], slice_index_or, Option, Some, None, Result, Ok, Err}
+use Rattle.std.specs.Prelude.{ℕ, ◌≡◌, ◌≤◌, length, map, List, [], slice_index_or, Option, Some, None, Result, Ok, Err}
 use Rattle.commons.specs.declared.packet.Seg.{Seg}
 use Rattle.commons.specs.declared.refusal.Refusal.{Refusal}
 use Rattle.commons.specs.declared.refusal.Refusal.TheVariants.{NoSuchPacket, NoRoom, TooShort}
@@ -15,9 +15,34 @@ use Rattle.mbuf.specs.Sharing.{Attaches, Clones, CountsOf, Detaches}
 use Rattle.mbuf.specs.declared.acts.Act.{Act}
 use Rattle.mbuf.specs.declared.acts.Act.TheVariants as act
 use Rattle.mbuf.specs.declared.acts.NewPacket.{NewPacket}
-use Rattle.mbuf.specs.declared.acts.Reply.{Reply}
-use Rattle.mbuf.specs.declared.acts.Reply.TheVariants as reply
+use Rattle.mbuf.specs.declared.acts.Answer.{Answer}
+use Rattle.mbuf.specs.declared.acts.Answer.TheVariants as reply
 use Rattle.mbuf.specs.declared.freed.Freed.{Freed}
+
+-- an answer with room for any bulk
+abbrev pub Reply : Type 0
+Reply = Answer 256
+
+-- an answer as one with room for any bulk
+abbrev pub as_reply : {room : ℕ} → Answer room → Reply
+as_reply (reply.Allocated slot elem) = reply.Allocated slot elem
+as_reply (reply.Bulk packets) = reply.Bulk packets
+as_reply (reply.Freed done) = reply.Freed done
+as_reply reply.Attached = reply.Attached
+as_reply (reply.Cloned slot elems) = reply.Cloned slot elems
+as_reply reply.Offered = reply.Offered
+as_reply (reply.Taken slot segs len) = reply.Taken slot segs len
+as_reply (reply.Count count) = reply.Count count
+as_reply (reply.Len len) = reply.Len len
+as_reply (reply.Segs segs) = reply.Segs segs
+as_reply (reply.Chained segs len) = reply.Chained segs len
+as_reply (reply.Put put) = reply.Put put
+as_reply (reply.Refused cause) = reply.Refused cause
+
+-- an answer with this room can tell of the act: where it is a bulk that may be met, of all its packets
+abbrev pub HasRoom : ℕ → Act → Type 0
+HasRoom room (act.AllocBulk n) = n ≤ 256 → n ≤ room
+HasRoom room _ = Unit {0}
 
 -- the own element of the first segment of what is in a slot
 abbrev pub first_elem : Option (List Seg) → ℕ

@@ -2,7 +2,7 @@
 
 ghost use Rattle.std.specs.Prelude.{◌≡◌, ◌≤◌, All, List, IsSome, None, length, map, slice_index_or};
 ghost use Rattle.commons.specs.Calls.{Made, Leads, calls_of};
-ghost use Rattle.mbuf.specs.Acts.{Performs, chained, first_elem, new_packet, told_len as len_reply, told_taken as taken_reply};
+ghost use Rattle.mbuf.specs.Acts.{HasRoom, Performs, as_reply, chained, first_elem, new_packet, told_len as len_reply, told_taken as taken_reply};
 ghost use Rattle.commons.specs.Packets.{own_in_slot};
 ghost use Rattle.mbuf.specs.Own.{Own};
 
@@ -63,13 +63,13 @@ pub struct NewPacket {
     pub elem: u32,
 }
 
-/// The answer to an `Act`.
+/// The answer to an `Act`, with room in place for the packets of a bulk of `ROOM`.
 #[derive(PartialEq, Eq, Debug, Drop)]
-pub enum Reply {
+pub enum Answer<const ROOM: usize> {
     /// The packet stands in this slot, and this is its element.
     Allocated(Pid, u32),
     /// The packets stand, in the order of the get.
-    Bulk(ArrayVec<NewPacket, SLOTS>),
+    Bulk(ArrayVec<NewPacket, ROOM>),
     /// The packet was freed, or detached.
     Freed(Freed),
     /// The packet was attached.
@@ -94,6 +94,9 @@ pub enum Reply {
     Refused(Refusal),
 }
 
+/// An answer with room for any bulk.
+pub type Reply = Answer<SLOTS>;
+
 /// The first segment's element of the packet in a slot.
 fn elem_in(packets: &Packets, slot: Pid) -> u32
     requires { IsSome (slice_index_or packets.now.table slot None) }
@@ -103,30 +106,30 @@ fn elem_in(packets: &Packets, slot: Pid) -> u32
 }
 
 /// The reply that tells of a length.
-fn told_len(answer: Result<u32, Refusal>) -> Reply
-    ensures { result ≡ len_reply answer }
+fn told_len<const ROOM: usize>(answer: Result<u32, Refusal>) -> Answer<ROOM>
+    ensures { as_reply result ≡ len_reply answer }
 {
     match answer {
-        Ok(len) => Reply::Len(len),
-        Err(cause) => Reply::Refused(cause),
+        Ok(len) => Answer::Len(len),
+        Err(cause) => Answer::Refused(cause),
     }
 }
 
 /// Makes a packet, and tells of it.
-fn alloc<C: Commons>(packets: &mut Packets, c: &mut C) -> Reply
+fn alloc<C: Commons, const ROOM: usize>(packets: &mut Packets, c: &mut C) -> Answer<ROOM>
     requires own { Own packets.old (C.limits c.old) (C.hand c.old) (C.holds c.old) (C.headers c.old) }
-    ensures calls { (made : List Made) × Leads C.did C.limits c.old made c.new × Performs Act.Alloc packets.old (calls_of made) result packets.new }
+    ensures calls { (made : List Made) × Leads C.did C.limits c.old made c.new × Performs Act.Alloc packets.old (calls_of made) (as_reply result) packets.new }
     ensures own { Own packets.new (C.limits c.new) (C.hand c.new) (C.holds c.new) (C.headers c.new) }
 {
     match packets.alloc(c) {
-        Ok(slot) => Reply::Allocated(slot, elem_in(packets, slot)),
-        Err(cause) => Reply::Refused(cause),
+        Ok(slot) => Answer::Allocated(slot, elem_in(packets, slot)),
+        Err(cause) => Answer::Refused(cause),
     }
 }
 
-/// The packets in these slots, at most 256, with their elements.
-fn new_packets(packets: &Packets, slots: &[Pid]) -> ArrayVec<NewPacket, SLOTS>
-    requires few { length slots.now ≤ 256 }
+/// The packets in these slots, with their elements.
+fn new_packets<const ROOM: usize>(packets: &Packets, slots: &[Pid]) -> ArrayVec<NewPacket, ROOM>
+    requires few { length slots.now ≤ ROOM }
     requires there { All (λ slot. IsSome (slice_index_or packets.now.table slot None)) slots.now }
     ensures { result.items ≡ map (new_packet packets.now.table) slots.now }
 {
@@ -141,44 +144,59 @@ fn new_packets(packets: &Packets, slots: &[Pid]) -> ArrayVec<NewPacket, SLOTS>
 }
 
 /// Makes a packet for each place of `slots`, which has the slots then, and tells of them.
-fn alloc_all<C: Commons>(packets: &mut Packets, c: &mut C, slots: &mut [Pid]) -> Reply
+fn alloc_all<C: Commons, const ROOM: usize>(
+    packets: &mut Packets,
+    c: &mut C,
+    slots: &mut [Pid],
+) -> Answer<ROOM>
     requires own { Own packets.old (C.limits c.old) (C.hand c.old) (C.holds c.old) (C.headers c.old) }
     requires few { length slots.old ≤ 256 }
-    ensures calls { (made : List Made) × Leads C.did C.limits c.old made c.new × Performs (Act.AllocBulk (length slots.old)) packets.old (calls_of made) result packets.new }
+    requires room { HasRoom ROOM (Act.AllocBulk (length slots.old)) }
+    ensures calls { (made : List Made) × Leads C.did C.limits c.old made c.new × Performs (Act.AllocBulk (length slots.old)) packets.old (calls_of made) (as_reply result) packets.new }
     ensures own { Own packets.new (C.limits c.new) (C.hand c.new) (C.holds c.new) (C.headers c.new) }
 {
     match packets.alloc_bulk(c, slots) {
-        Ok(()) => Reply::Bulk(new_packets(packets, slots)),
-        Err(cause) => Reply::Refused(cause),
+        Ok(()) => Answer::Bulk(new_packets(packets, slots)),
+        Err(cause) => Answer::Refused(cause),
     }
 }
 
 /// Makes so many packets, and tells of them.
-fn alloc_bulk<C: Commons>(packets: &mut Packets, c: &mut C, count: usize) -> Reply
+fn alloc_bulk<C: Commons, const ROOM: usize>(
+    packets: &mut Packets,
+    c: &mut C,
+    count: usize,
+) -> Answer<ROOM>
+    requires room { HasRoom ROOM (Act.AllocBulk count) }
     requires own { Own packets.old (C.limits c.old) (C.hand c.old) (C.holds c.old) (C.headers c.old) }
-    ensures calls { (made : List Made) × Leads C.did C.limits c.old made c.new × Performs (Act.AllocBulk count) packets.old (calls_of made) result packets.new }
+    ensures calls { (made : List Made) × Leads C.did C.limits c.old made c.new × Performs (Act.AllocBulk count) packets.old (calls_of made) (as_reply result) packets.new }
     ensures own { Own packets.new (C.limits c.new) (C.hand c.new) (C.holds c.new) (C.headers c.new) }
 {
     packets.has_slots();
     if count > SLOTS {
-        return Reply::Refused(Refusal::PacketsFull);
+        return Answer::Refused(Refusal::PacketsFull);
     }
     let mut slots = [0; SLOTS];
     alloc_all(packets, c, &mut slots[..count])
 }
 
 /// Chains two packets, and tells of the first.
-fn chain<C: Commons>(packets: &mut Packets, c: &mut C, head: Pid, tail: Pid) -> Reply
+fn chain<C: Commons, const ROOM: usize>(
+    packets: &mut Packets,
+    c: &mut C,
+    head: Pid,
+    tail: Pid,
+) -> Answer<ROOM>
     requires own { Own packets.old (C.limits c.old) (C.hand c.old) (C.holds c.old) (C.headers c.old) }
-    ensures calls { (made : List Made) × Leads C.did C.limits c.old made c.new × Performs (Act.Chain head tail) packets.old (calls_of made) result packets.new }
+    ensures calls { (made : List Made) × Leads C.did C.limits c.old made c.new × Performs (Act.Chain head tail) packets.old (calls_of made) (as_reply result) packets.new }
     ensures own { Own packets.new (C.limits c.new) (C.hand c.new) (C.holds c.new) (C.headers c.new) }
 {
     if let Err(cause) = packets.chain(c, head, tail) {
-        return Reply::Refused(cause);
+        return Answer::Refused(cause);
     }
     match packets.place(head) {
-        Some(packet) => Reply::Chained(packet.segs().len() as u32, lengths::pkt_len(packet)),
-        None => Reply::Refused(Refusal::NoSuchPacket),
+        Some(packet) => Answer::Chained(packet.segs().len() as u32, lengths::pkt_len(packet)),
+        None => Answer::Refused(Refusal::NoSuchPacket),
     }
 }
 
@@ -195,35 +213,39 @@ fn elems_in(packets: &Packets, slot: Pid) -> ArrayVec<u32, MAX_SEGS>
 }
 
 /// Clones a packet, and tells of the clone.
-fn clone_packet<C: Commons>(packets: &mut Packets, c: &mut C, p: Pid) -> Reply
+fn clone_packet<C: Commons, const ROOM: usize>(
+    packets: &mut Packets,
+    c: &mut C,
+    p: Pid,
+) -> Answer<ROOM>
     requires own { Own packets.old (C.limits c.old) (C.hand c.old) (C.holds c.old) (C.headers c.old) }
-    ensures calls { (made : List Made) × Leads C.did C.limits c.old made c.new × Performs (Act.ClonePacket p) packets.old (calls_of made) result packets.new }
+    ensures calls { (made : List Made) × Leads C.did C.limits c.old made c.new × Performs (Act.ClonePacket p) packets.old (calls_of made) (as_reply result) packets.new }
     ensures own { Own packets.new (C.limits c.new) (C.hand c.new) (C.holds c.new) (C.headers c.new) }
 {
     match packets.clone_packet(c, p) {
-        Ok(slot) => Reply::Cloned(slot, elems_in(packets, slot)),
-        Err(cause) => Reply::Refused(cause),
+        Ok(slot) => Answer::Cloned(slot, elems_in(packets, slot)),
+        Err(cause) => Answer::Refused(cause),
     }
 }
 
 /// The reply that tells of the packet in a slot.
-fn told_taken(packets: &Packets, slot: Pid) -> Reply
-    requires { IsSome (slice_index_or packets.now.table slot None) }
-    ensures { result ≡ taken_reply slot (slice_index_or packets.now.table slot None) }
+fn told_taken<const ROOM: usize>(packets: &Packets, slot: Pid) -> Answer<ROOM>
+    requires there { IsSome (slice_index_or packets.now.table slot None) }
+    ensures { as_reply result ≡ taken_reply slot (slice_index_or packets.now.table slot None) }
 {
     let packet = packets.place(slot).unwrap();
-    Reply::Taken(slot, packet.segs().len() as u32, lengths::pkt_len(packet))
+    Answer::Taken(slot, packet.segs().len() as u32, lengths::pkt_len(packet))
 }
 
 /// Takes a packet off a desk, and tells of it.
-fn take<C: Commons>(packets: &mut Packets, c: &mut C, desk: u32) -> Reply
+fn take<C: Commons, const ROOM: usize>(packets: &mut Packets, c: &mut C, desk: u32) -> Answer<ROOM>
     requires own { Own packets.old (C.limits c.old) (C.hand c.old) (C.holds c.old) (C.headers c.old) }
-    ensures calls { (made : List Made) × Leads C.did C.limits c.old made c.new × Performs (Act.Take desk) packets.old (calls_of made) result packets.new }
+    ensures calls { (made : List Made) × Leads C.did C.limits c.old made c.new × Performs (Act.Take desk) packets.old (calls_of made) (as_reply result) packets.new }
     ensures own { Own packets.new (C.limits c.new) (C.hand c.new) (C.holds c.new) (C.headers c.new) }
 {
     match packets.take(c, desk) {
         Ok(slot) => told_taken(packets, slot),
-        Err(cause) => Reply::Refused(cause),
+        Err(cause) => Answer::Refused(cause),
     }
 }
 
@@ -237,12 +259,27 @@ pub fn perform<C: Commons>(packets: &mut Packets, c: &mut C, act: Act) -> Reply
     ensures calls { (made : List Made) × Leads C.did C.limits c.old made c.new × Performs act packets.old (calls_of made) result packets.new }
     ensures own { Own packets.new (C.limits c.new) (C.hand c.new) (C.holds c.new) (C.headers c.new) }
 {
+    perform_in(packets, c, act)
+}
+
+/// Does what `perform` does, and answers with room for a bulk of `ROOM` packets: with none the answer is
+/// small.
+pub fn perform_in<C: Commons, const ROOM: usize>(
+    packets: &mut Packets,
+    c: &mut C,
+    act: Act,
+) -> Answer<ROOM>
+    requires room { HasRoom ROOM act }
+    requires own { Own packets.old (C.limits c.old) (C.hand c.old) (C.holds c.old) (C.headers c.old) }
+    ensures calls { (made : List Made) × Leads C.did C.limits c.old made c.new × Performs act packets.old (calls_of made) (as_reply result) packets.new }
+    ensures own { Own packets.new (C.limits c.new) (C.hand c.new) (C.holds c.new) (C.headers c.new) }
+{
     match act {
         Act::Alloc => alloc(packets, c),
         Act::AllocBulk(count) => alloc_bulk(packets, c, count),
         Act::Free(p) => match packets.free(c, p) {
-            Ok(freed) => Reply::Freed(freed),
-            Err(cause) => Reply::Refused(cause),
+            Ok(freed) => Answer::Freed(freed),
+            Err(cause) => Answer::Refused(cause),
         },
         Act::Append(p, len) => told_len(packets.append(c, p, len)),
         Act::Prepend(p, len) => told_len(packets.prepend(c, p, len)),
@@ -250,28 +287,28 @@ pub fn perform<C: Commons>(packets: &mut Packets, c: &mut C, act: Act) -> Reply
         Act::Trim(p, len) => told_len(packets.trim(c, p, len)),
         Act::Chain(head, tail) => chain(packets, c, head, tail),
         Act::Attach(mi, target) => match packets.attach(c, mi, target) {
-            Ok(()) => Reply::Attached,
-            Err(cause) => Reply::Refused(cause),
+            Ok(()) => Answer::Attached,
+            Err(cause) => Answer::Refused(cause),
         },
         Act::Detach(p) => match packets.detach(c, p) {
-            Ok(freed) => Reply::Freed(freed),
-            Err(cause) => Reply::Refused(cause),
+            Ok(freed) => Answer::Freed(freed),
+            Err(cause) => Answer::Refused(cause),
         },
         Act::ClonePacket(p) => clone_packet(packets, c, p),
         Act::Offer(p, desk) => match packets.offer(c, p, desk) {
-            Ok(()) => Reply::Offered,
-            Err(cause) => Reply::Refused(cause),
+            Ok(()) => Answer::Offered,
+            Err(cause) => Answer::Refused(cause),
         },
         Act::Take(desk) => take(packets, c, desk),
         Act::CountOf(p) => match packets.count_of(c, p) {
-            Ok(count) => Reply::Count(count),
-            Err(cause) => Reply::Refused(cause),
+            Ok(count) => Answer::Count(count),
+            Err(cause) => Answer::Refused(cause),
         },
         Act::PktLen(p) => told_len(packets.pkt_len(c, p)),
         Act::NbSegs(p) => match packets.nb_segs(c, p) {
-            Ok(segs) => Reply::Segs(segs),
-            Err(cause) => Reply::Refused(cause),
+            Ok(segs) => Answer::Segs(segs),
+            Err(cause) => Answer::Refused(cause),
         },
-        Act::Flush => Reply::Put(packets.flush(c)),
+        Act::Flush => Answer::Put(packets.flush(c)),
     }
 }

@@ -6,7 +6,7 @@ use Rattle.commons.specs.declared.refusal.Refusal.TheVariants.{NoRoom, TooShort}
 use Rattle.commons.specs.Packets.{held_in}
 use Rattle.mbuf.specs.declared.acts.Act.{Act}
 use Rattle.mbuf.specs.declared.acts.Act.TheVariants.{Alloc, AllocBulk, Free, Append, Prepend, Adj, Trim, Chain, Attach, Detach, ClonePacket, Offer, Take, CountOf, PktLen, NbSegs, Flush}
-use Rattle.mbuf.specs.declared.acts.Reply.{Reply}
+use Rattle.mbuf.specs.Acts.{Reply}
 use Rattle.mbuf.specs.Lengths.{appended, prepended, adjusted, trimmed}
 use Rattle.mbuf.specs.Members.{Member}
 use Rattle.mbuf.specs.PacketRules.{free_slot}

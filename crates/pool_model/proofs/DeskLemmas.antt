@@ -5,8 +5,8 @@ use Rattle.std.proofs.lemmas.List.{set-set, set-get_or}
 use Rattle.commons.specs.declared.packet.Seg.{Seg}
 use Rattle.commons.specs.declared.refusal.Refusal.TheVariants.{DeskTaken, PacketsFull}
 use Rattle.commons.proofs.PacketBags.{stands_within}
-use Rattle.mbuf.specs.declared.acts.Reply.{Reply}
-use Rattle.mbuf.specs.declared.acts.Reply.TheVariants.{Offered, Refused, Taken}
+use Rattle.mbuf.specs.Acts.{Reply}
+use Rattle.mbuf.specs.declared.acts.Answer.TheVariants.{Offered, Refused, Taken}
 use Rattle.mbuf.specs.Lengths.{pkt_len}
 use Rattle.mbuf.specs.Members.{Member}
 use Rattle.mbuf.specs.PacketRules.{free_slot}

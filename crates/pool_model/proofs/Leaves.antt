@@ -7,7 +7,7 @@ use Rattle.commons.specs.Packets.{holds_in_slot, held_in}
 use Rattle.commons.proofs.PacketBags.{held_in-set}
 use Rattle.mbuf.specs.declared.acts.Act.{Act}
 use Rattle.mbuf.specs.declared.acts.Act.TheVariants.{Take}
-use Rattle.mbuf.specs.declared.acts.Reply.{Reply}
+use Rattle.mbuf.specs.Acts.{Reply}
 use Rattle.mbuf.specs.Members.{Member}
 use Rattle.pool_model.specs.Pool.{Shared}
 

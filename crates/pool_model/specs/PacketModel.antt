@@ -6,8 +6,8 @@ use Rattle.commons.specs.declared.refusal.Refusal.TheVariants.{DeskEmpty, DeskTa
 use Rattle.mempool.specs.declared.put.Put.{Put}
 use Rattle.mbuf.specs.declared.acts.Act.{Act}
 use Rattle.mbuf.specs.declared.acts.Act.TheVariants.{Alloc, AllocBulk, Free, Append, Prepend, Adj, Trim, Chain, Attach, Detach, ClonePacket, Offer, Take, CountOf, PktLen, NbSegs, Flush}
-use Rattle.mbuf.specs.declared.acts.Reply.{Reply}
-use Rattle.mbuf.specs.declared.acts.Reply.TheVariants as reply
+use Rattle.mbuf.specs.Acts.{Reply}
+use Rattle.mbuf.specs.declared.acts.Answer.TheVariants as reply
 use Rattle.mbuf.specs.Acts.{allocated_bulk, told_len, told_segs}
 use Rattle.mbuf.specs.Lengths.{pkt_len, appended, prepended, adjusted, trimmed}
 use Rattle.commons.specs.Packets.{holds_in_slot}

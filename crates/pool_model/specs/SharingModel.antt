@@ -6,8 +6,8 @@ use Rattle.commons.specs.declared.limits.Limits.{Limits}
 use Rattle.commons.specs.declared.packet.Seg.{Seg}
 use Rattle.commons.specs.declared.refusal.Refusal.{Refusal}
 use Rattle.commons.specs.declared.refusal.Refusal.TheVariants.{InUse, NoEntries, RefSpent}
-use Rattle.mbuf.specs.declared.acts.Reply.{Reply}
-use Rattle.mbuf.specs.declared.acts.Reply.TheVariants as reply
+use Rattle.mbuf.specs.Acts.{Reply}
+use Rattle.mbuf.specs.declared.acts.Answer.TheVariants as reply
 use Rattle.mbuf.specs.Acts.{told_count}
 use Rattle.commons.specs.Packets.{holds_of_packet}
 use Rattle.mbuf.specs.Members.{Member}

@@ -11,7 +11,7 @@ ghost use Rattle.mempool.specs.Caches.{Gets, Puts, Flushes};
 ghost use Rattle.mempool.specs.declared.put.Put.{Put};
 ghost use Rattle.mbuf.specs.declared.acts.Act.{Act};
 ghost use Rattle.mbuf.specs.declared.acts.Act.TheVariants.{Take};
-ghost use Rattle.mbuf.specs.declared.acts.Reply.TheVariants.{Offered, Refused, Taken};
+ghost use Rattle.mbuf.specs.declared.acts.Answer.TheVariants.{Offered, Refused, Taken};
 ghost use Rattle.mbuf.specs.Lengths.{pkt_len};
 ghost use Rattle.mbuf.specs.Members.{Member};
 ghost use Rattle.mbuf.specs.PacketRules.{free_slot};

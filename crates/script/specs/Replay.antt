@@ -11,8 +11,8 @@ use Rattle.mbuf.specs.declared.acts.Act.TheVariants.{Alloc, AllocBulk, Free, App
 use Rattle.commons.specs.declared.change.Change.{Change}
 use Rattle.commons.specs.declared.change.Change.TheVariants as change
 use Rattle.mbuf.specs.declared.acts.NewPacket.{NewPacket}
-use Rattle.mbuf.specs.declared.acts.Reply.{Reply}
-use Rattle.mbuf.specs.declared.acts.Reply.TheVariants.{Allocated, Bulk as WasBulk, Chained, Cloned, Freed as WasFreed, Offered, Refused, Taken}
+use Rattle.mbuf.specs.Acts.{HasRoom, Reply}
+use Rattle.mbuf.specs.declared.acts.Answer.TheVariants.{Allocated, Bulk as WasBulk, Chained, Cloned, Freed as WasFreed, Offered, Refused, Taken}
 use Rattle.pool_model.specs.Pool.{Pool, new_pool}
 use Rattle.pool_model.specs.PacketModel.{perform}
 
@@ -132,6 +132,11 @@ take_as desk worker name run =
 -- a flush leaves each name as it stands
 abbrev pub flush_as : ℕ → Run → Reply × Run
 flush_as worker run = let done = perform run.pool worker Flush in (done.0, record { pool = done.1; stands = run.stands })
+
+-- an answer with this room can tell of the command
+abbrev pub CommandHasRoom : ℕ → Command → Type 0
+CommandHasRoom room (command.Bulk names) = HasRoom room (AllocBulk (length names))
+CommandHasRoom room _ = Unit {0}
 
 -- the reply to a worker's command, and what is left
 abbrev pub obey : ℕ → Command → Run → Reply × Run

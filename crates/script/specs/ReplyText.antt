@@ -5,8 +5,8 @@ use Rattle.commons.specs.Refusals.{name_of, number_of}
 use Rattle.mempool.specs.declared.put.Put.{Put}
 use Rattle.mempool.specs.declared.put.Put.TheVariants as puts
 use Rattle.mbuf.specs.declared.acts.NewPacket.{NewPacket}
-use Rattle.mbuf.specs.declared.acts.Reply.{Reply}
-use Rattle.mbuf.specs.declared.acts.Reply.TheVariants as replies
+use Rattle.mbuf.specs.Acts.{Reply}
+use Rattle.mbuf.specs.declared.acts.Answer.TheVariants as replies
 use Rattle.mbuf.specs.declared.freed.Freed.{Freed}
 use Rattle.script.specs.StatementText.{joined}
 

@@ -1,17 +1,18 @@
 ghost use Rattle.std.specs.Prelude.{◌≡◌, None, IfOk, IfErr, OnOk};
-ghost use Rattle.script.specs.Replay.{replies_to, end_of, new_run, act_as_both, act_of as changes_to, all_named, chain_as, obey as obeyed};
+ghost use Rattle.mbuf.specs.Acts.{as_reply};
+ghost use Rattle.script.specs.Replay.{CommandHasRoom, replies_to, end_of, new_run, act_as_both, act_of as changes_to, all_named, chain_as, obey as obeyed};
 ghost use Rattle.script.specs.inside.Standing.{run_of, fresh_run};
 ghost use Rattle.script.specs.inside.Stands.{stands_in};
 ghost use Rattle.pool_model.specs.Statements.{statement_of, ListsEachOnce, PlacesEachOnce};
 
+use script_text::commands::{Command, Line, Name, Script};
 use crate::names::Names;
+use share_book::site_pool::SitePool;
+use pool_model::statement::Statement;
 use commons::change::Change;
 use commons::refusal::Refusal;
-use mbuf::acts::{Act, NewPacket, Reply};
+use mbuf::acts::{Act, Answer, NewPacket, Reply};
 use mbuf::packets::Pid;
-use pool_model::statement::Statement;
-use script_text::commands::{Command, Line, Name, Script};
-use share_book::site_pool::SitePool;
 use std::alloc::{AllocError, Global};
 
 /// The reply to each command of a script, with the number of its line, and the statement of its
@@ -96,57 +97,73 @@ fn act_of(slot: Pid, change: Change) -> Act
 }
 
 /// Chains the packets of two of a worker's names, and keeps that the second name stands for none.
-fn chain<'a>(
+fn chain<'a, const ROOM: usize>(
     pool: &mut SitePool,
     names: &mut Names<'a>,
     worker: u32,
     head: &'a [u8],
     tail: &'a [u8],
-) -> Reply
-    ensures { (result, run_of pool.new names.new) ≡ chain_as ((run_of pool.old names.old).stands worker head.now) ((run_of pool.old names.old).stands worker tail.now) worker tail.now (run_of pool.old names.old) }
+) -> Answer<ROOM>
+    ensures { (as_reply result, run_of pool.new names.new) ≡ chain_as ((run_of pool.old names.old).stands worker head.now) ((run_of pool.old names.old).stands worker tail.now) worker tail.now (run_of pool.old names.old) }
 {
     let (Some(first), Some(second)) = (names.get(worker, head), names.get(worker, tail)) else {
-        return Reply::Refused(Refusal::NoSuchPacket);
+        return Answer::Refused(Refusal::NoSuchPacket);
     };
-    let reply = pool.perform(worker, Act::Chain(first, second));
-    if let Reply::Chained(_, _) = reply {
+    let reply = pool.perform_in(worker, Act::Chain(first, second));
+    if let Answer::Chained(_, _) = reply {
         names.forget(worker, tail);
     }
     reply
 }
 
 /// Attaches the packet of one of a worker's names to the buffer of another's.
-fn attach<'a>(
+fn attach<'a, const ROOM: usize>(
     pool: &mut SitePool,
     names: &Names<'a>,
     worker: u32,
     name: &'a [u8],
     target: &'a [u8],
-) -> Reply
-    ensures { (result, run_of pool.new names.now) ≡ act_as_both ((run_of pool.old names.now).stands worker name.now) ((run_of pool.old names.now).stands worker target.now) Act.Attach worker (run_of pool.old names.now) }
+) -> Answer<ROOM>
+    ensures { (as_reply result, run_of pool.new names.now) ≡ act_as_both ((run_of pool.old names.now).stands worker name.now) ((run_of pool.old names.now).stands worker target.now) Act.Attach worker (run_of pool.old names.now) }
 {
     let (Some(mi), Some(target)) = (names.get(worker, name), names.get(worker, target)) else {
-        return Reply::Refused(Refusal::NoSuchPacket);
+        return Answer::Refused(Refusal::NoSuchPacket);
     };
-    pool.perform(worker, Act::Attach(mi, target))
+    pool.perform_in(worker, Act::Attach(mi, target))
 }
 
 /// Performs one line, and keeps which packet its name stands for.
-fn obey<'a>(pool: &mut SitePool, names: &mut Names<'a>, line: &'a Line) -> Result<Reply, AllocError>
+pub(crate) fn obey<'a>(
+    pool: &mut SitePool,
+    names: &mut Names<'a>,
+    line: &'a Line,
+) -> Result<Reply, AllocError>
     ensures { IfOk result (λ r. (r, run_of pool.new names.new) ≡ obeyed line.now.worker line.now.command (run_of pool.old names.old)) }
+{
+    obey_in(pool, names, line)
+}
+
+/// Performs one line, and answers with room for a bulk of `ROOM` packets.
+pub(crate) fn obey_in<'a, const ROOM: usize>(
+    pool: &mut SitePool,
+    names: &mut Names<'a>,
+    line: &'a Line,
+) -> Result<Answer<ROOM>, AllocError>
+    requires room { CommandHasRoom ROOM line.now.command }
+    ensures { IfOk result (λ r. (as_reply r, run_of pool.new names.new) ≡ obeyed line.now.worker line.now.command (run_of pool.old names.old)) }
 {
     let worker = line.worker;
     match &line.command {
         Command::Alloc(name) => {
-            let reply = pool.perform(worker, Act::Alloc);
-            if let Reply::Allocated(slot, _) = reply {
+            let reply = pool.perform_in(worker, Act::Alloc);
+            if let Answer::Allocated(slot, _) = reply {
                 names.set(worker, name.as_slice(), slot)?;
             }
             Ok(reply)
         }
         Command::Bulk(made) => {
-            let reply = pool.perform(worker, Act::AllocBulk(made.len()));
-            if let Reply::Bulk(packets) = &reply {
+            let reply = pool.perform_in(worker, Act::AllocBulk(made.len()));
+            if let Answer::Bulk(packets) = &reply {
                 name_all(names, worker, made.as_slice(), packets.as_slice())?;
             }
             Ok(reply)
@@ -154,19 +171,19 @@ fn obey<'a>(pool: &mut SitePool, names: &mut Names<'a>, line: &'a Line) -> Resul
         Command::Free(name) => {
             let name = name.as_slice();
             let Some(slot) = names.get(worker, name) else {
-                return Ok(Reply::Refused(Refusal::NoSuchPacket));
+                return Ok(Answer::Refused(Refusal::NoSuchPacket));
             };
-            let reply = pool.perform(worker, Act::Free(slot));
-            if let Reply::Freed(_) = reply {
+            let reply = pool.perform_in(worker, Act::Free(slot));
+            if let Answer::Freed(_) = reply {
                 names.forget(worker, name);
             }
             Ok(reply)
         }
         Command::Resize(name, change) => {
             let Some(slot) = names.get(worker, name.as_slice()) else {
-                return Ok(Reply::Refused(Refusal::NoSuchPacket));
+                return Ok(Answer::Refused(Refusal::NoSuchPacket));
             };
-            Ok(pool.perform(worker, act_of(slot, *change)))
+            Ok(pool.perform_in(worker, act_of(slot, *change)))
         }
         Command::Chain(head, tail) => Ok(chain(
             pool,
@@ -184,16 +201,16 @@ fn obey<'a>(pool: &mut SitePool, names: &mut Names<'a>, line: &'a Line) -> Resul
         )),
         Command::Detach(name) => {
             let Some(slot) = names.get(worker, name.as_slice()) else {
-                return Ok(Reply::Refused(Refusal::NoSuchPacket));
+                return Ok(Answer::Refused(Refusal::NoSuchPacket));
             };
-            Ok(pool.perform(worker, Act::Detach(slot)))
+            Ok(pool.perform_in(worker, Act::Detach(slot)))
         }
         Command::Clone(name, made) => {
             let Some(slot) = names.get(worker, name.as_slice()) else {
-                return Ok(Reply::Refused(Refusal::NoSuchPacket));
+                return Ok(Answer::Refused(Refusal::NoSuchPacket));
             };
-            let reply = pool.perform(worker, Act::ClonePacket(slot));
-            if let Reply::Cloned(slot, _) = &reply {
+            let reply = pool.perform_in(worker, Act::ClonePacket(slot));
+            if let Answer::Cloned(slot, _) = &reply {
                 names.set(worker, made.as_slice(), *slot)?;
             }
             Ok(reply)
@@ -201,27 +218,27 @@ fn obey<'a>(pool: &mut SitePool, names: &mut Names<'a>, line: &'a Line) -> Resul
         Command::Offer(packet, desk) => {
             let packet = packet.as_slice();
             let Some(slot) = names.get(worker, packet) else {
-                return Ok(Reply::Refused(Refusal::NoSuchPacket));
+                return Ok(Answer::Refused(Refusal::NoSuchPacket));
             };
-            let reply = pool.perform(worker, Act::Offer(slot, u32::from(*desk)));
-            if let Reply::Offered = reply {
+            let reply = pool.perform_in(worker, Act::Offer(slot, u32::from(*desk)));
+            if let Answer::Offered = reply {
                 names.forget(worker, packet);
             }
             Ok(reply)
         }
         Command::Take(desk, made) => {
-            let reply = pool.perform(worker, Act::Take(u32::from(*desk)));
-            if let Reply::Taken(slot, _, _) = reply {
+            let reply = pool.perform_in(worker, Act::Take(u32::from(*desk)));
+            if let Answer::Taken(slot, _, _) = reply {
                 names.set(worker, made.as_slice(), slot)?;
             }
             Ok(reply)
         }
         Command::Count(name) => {
             let Some(slot) = names.get(worker, name.as_slice()) else {
-                return Ok(Reply::Refused(Refusal::NoSuchPacket));
+                return Ok(Answer::Refused(Refusal::NoSuchPacket));
             };
-            Ok(pool.perform(worker, Act::CountOf(slot)))
+            Ok(pool.perform_in(worker, Act::CountOf(slot)))
         }
-        Command::Flush => Ok(pool.perform(worker, Act::Flush)),
+        Command::Flush => Ok(pool.perform_in(worker, Act::Flush)),
     }
 }

@@ -1,17 +1,22 @@
-ghost use Rattle.std.specs.Prelude.{◌≡◌, List, flat_map, IfOk, IfErr, MatchResult};
+ghost use Rattle.std.specs.Prelude.{◌≡◌, ◌++◌, List, flat_map, IfOk, IfErr, OnOk, MatchResult};
 ghost use Rattle.commons.specs.declared.limits.Limits.{Limits};
 ghost use Rattle.commons.specs.declared.refusal.Refusal.{Refusal};
 ghost use Rattle.script_text.specs.declared.commands.Line.{Line};
 ghost use Rattle.script_text.specs.Grammar.{IsScript, IsCause};
 ghost use Rattle.script.specs.ReplyText.{reply_line};
 ghost use Rattle.script.specs.Printed.{printed_for, IsPrintedFor};
+ghost use Rattle.script.specs.Replay.{CommandHasRoom, end_of, obey as obeyed, replies_to};
+ghost use Rattle.script.specs.inside.Standing.{fresh_run, run_of};
+ghost use Rattle.script.specs.StatementText.{text_of};
+ghost use Rattle.pool_model.specs.Statements.{statement_of};
 
-use crate::playing::replay;
+use script_text::commands::{Command, Line, Script};
+use crate::names::Names;
+use script_text::parse;
+use crate::playing::{obey, obey_in};
+use share_book::site_pool::SitePool;
 use crate::texts::{push_reply, statement_text};
 use commons::refusal::Refusal;
-use mbuf::acts::Reply;
-use script_text::commands::Script;
-use script_text::parse;
 use std::alloc::Global;
 
 /// All that the replay of a script prints: a line for the reply to each command, and then the
@@ -43,8 +48,19 @@ fn printed(alloc: Global, script: &Script) -> Result<Vec<u8>, Refusal>
     ensures text { IfOk result (λ out. out.items ≡ printed_for script.now.limits script.now.lines) }
     ensures memory { IfErr result (λ refusal. refusal ≡ Refusal.OutOfMemory) }
 {
-    let (replies, statement) = replay(alloc, script)?;
-    let mut out = reply_lines(alloc, &replies)?;
+    let mut pool = SitePool::make(alloc, &script.limits)?;
+    let outcome = printed_on(alloc, &mut pool, script.lines.as_slice());
+    pool.lose();
+    outcome
+}
+
+/// What is printed for these lines on a pool in which no name stands for a packet.
+fn printed_on(alloc: Global, pool: &mut SitePool, lines: &[Line]) -> Result<Vec<u8>, Refusal>
+    ensures text { IfOk result (λ out. out.items ≡ flat_map (λ p. reply_line p.0 p.1) (replies_to lines.now (fresh_run pool.old)) ++ text_of (statement_of (end_of lines.now (fresh_run pool.old)).pool)) }
+    ensures memory { IfErr result (λ refusal. refusal ≡ Refusal.OutOfMemory) }
+{
+    let mut out = reply_lines(alloc, pool, lines)?;
+    let statement = pool.statement(alloc)?;
     let text = statement_text(alloc, &statement)?;
     match out.extend_from_slice(&text) {
         Ok(()) => Ok(out),
@@ -52,14 +68,68 @@ fn printed(alloc: Global, script: &Script) -> Result<Vec<u8>, Refusal>
     }
 }
 
-/// The lines that answer the commands.
-fn reply_lines(alloc: Global, replies: &[(u32, Reply)]) -> Result<Vec<u8>, Refusal>
-    ensures lines { IfOk result (λ out. out.items ≡ flat_map (λ p. reply_line p.0 p.1) replies.now) }
+/// The lines that answer the commands, each written as its reply comes.
+fn reply_lines(alloc: Global, pool: &mut SitePool, lines: &[Line]) -> Result<Vec<u8>, Refusal>
+    ensures lines { IfOk result (λ out. out.items ≡ flat_map (λ p. reply_line p.0 p.1) (replies_to lines.now (fresh_run pool.old))) }
+    ensures pool { OnOk result (pool.new ≡ (end_of lines.now (fresh_run pool.old)).pool) }
     ensures memory { IfErr result (λ refusal. refusal ≡ Refusal.OutOfMemory) }
 {
+    let mut names = Names::new(alloc);
     let mut out = Vec::new(alloc);
-    for (number, reply) in replies {
-        push_reply(&mut out, *number, reply)?;
+    for line in lines {
+        answer(&mut out, pool, &mut names, line)?;
     }
     Ok(out)
+}
+
+/// Performs one line, and appends the line that answers it.
+fn answer<'a>(
+    out: &mut Vec<u8>,
+    pool: &mut SitePool,
+    names: &mut Names<'a>,
+    line: &'a Line,
+) -> Result<(), Refusal>
+    ensures text { OnOk result (out.new.items ≡ out.old.items ++ reply_line line.now.number (obeyed line.now.worker line.now.command (run_of pool.old names.old)).0) }
+    ensures run { OnOk result (run_of pool.new names.new ≡ (obeyed line.now.worker line.now.command (run_of pool.old names.old)).1) }
+    ensures memory { IfErr result (λ refusal. refusal ≡ Refusal.OutOfMemory) }
+{
+    match &line.command {
+        Command::Bulk(_) => answer_any(out, pool, names, line),
+        _ => answer_small(out, pool, names, line),
+    }
+}
+
+/// Does so with room for a bulk in the answer.
+fn answer_any<'a>(
+    out: &mut Vec<u8>,
+    pool: &mut SitePool,
+    names: &mut Names<'a>,
+    line: &'a Line,
+) -> Result<(), Refusal>
+    ensures text { OnOk result (out.new.items ≡ out.old.items ++ reply_line line.now.number (obeyed line.now.worker line.now.command (run_of pool.old names.old)).0) }
+    ensures run { OnOk result (run_of pool.new names.new ≡ (obeyed line.now.worker line.now.command (run_of pool.old names.old)).1) }
+    ensures memory { IfErr result (λ refusal. refusal ≡ Refusal.OutOfMemory) }
+{
+    match obey(pool, names, line) {
+        Ok(reply) => push_reply(out, line.number, &reply),
+        Err(_) => Err(Refusal::OutOfMemory),
+    }
+}
+
+/// Does so with no room for a bulk in the answer, which is small then.
+fn answer_small<'a>(
+    out: &mut Vec<u8>,
+    pool: &mut SitePool,
+    names: &mut Names<'a>,
+    line: &'a Line,
+) -> Result<(), Refusal>
+    requires { CommandHasRoom 0 line.now.command }
+    ensures text { OnOk result (out.new.items ≡ out.old.items ++ reply_line line.now.number (obeyed line.now.worker line.now.command (run_of pool.old names.old)).0) }
+    ensures run { OnOk result (run_of pool.new names.new ≡ (obeyed line.now.worker line.now.command (run_of pool.old names.old)).1) }
+    ensures memory { IfErr result (λ refusal. refusal ≡ Refusal.OutOfMemory) }
+{
+    match obey_in::<0>(pool, names, line) {
+        Ok(reply) => push_reply(out, line.number, &reply),
+        Err(_) => Err(Refusal::OutOfMemory),
+    }
 }

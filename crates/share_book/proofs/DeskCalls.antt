@@ -7,8 +7,8 @@ use Rattle.commons.specs.declared.packet.Seg.{Seg}
 use Rattle.commons.specs.declared.refusal.Refusal.{Refusal}
 use Rattle.commons.specs.declared.refusal.Refusal.TheVariants.{DeskEmpty, DeskTaken, NoSuchDesk}
 use Rattle.commons.specs.Lists.{Lists, IsTable, DidOffer, DidTake, desk_of}
-use Rattle.mbuf.specs.declared.acts.Reply.{Reply}
-use Rattle.mbuf.specs.declared.acts.Reply.TheVariants as reply
+use Rattle.mbuf.specs.Acts.{Reply}
+use Rattle.mbuf.specs.declared.acts.Answer.TheVariants as reply
 use Rattle.mbuf.specs.Acts.{offered as offered_reply, taken as taken_reply}
 use Rattle.mbuf.specs.Desks.{Offers, NothingThere, NotOffered, WasOffered, Takes, NoDesk, NoSlot, NotTaken, WasTaken}
 use Rattle.mbuf.specs.Members.{Member}

@@ -11,7 +11,7 @@ use Rattle.mbuf.specs.Acts.{Performs}
 use Rattle.commons.specs.Packets.{held_in}
 use Rattle.mbuf.specs.Members.{Member}
 use Rattle.mbuf.specs.declared.acts.Act.{Act}
-use Rattle.mbuf.specs.declared.acts.Reply.{Reply}
+use Rattle.mbuf.specs.Acts.{Reply}
 use Rattle.pool_model.specs.Pool.{Shared, Pool, nobody, held_of}
 use Rattle.pool_model.specs.PacketModel.{perform, without_packet}
 use Rattle.pool_model.proofs.Numbered.{AreNumbered, number_at}

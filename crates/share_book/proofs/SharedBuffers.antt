@@ -13,8 +13,8 @@ use Rattle.commons.specs.declared.refusal.Refusal.TheVariants.{InUse, RefSpent}
 use Rattle.commons.specs.Lists.{Lists, IsTable, DidRaise, after_claim, after_raise, hand_of, held_count, nowhere, place_of}
 use Rattle.commons.proofs.Bags.{bag-nil, bag-append, bag-single, one-same}
 use Rattle.commons.proofs.Places.{is_hand, one-apart, stands_in_hand}
-use Rattle.mbuf.specs.declared.acts.Reply.{Reply}
-use Rattle.mbuf.specs.declared.acts.Reply.TheVariants as reply
+use Rattle.mbuf.specs.Acts.{Reply}
+use Rattle.mbuf.specs.declared.acts.Answer.TheVariants as reply
 use Rattle.mbuf.specs.declared.freed.Freed.{Freed}
 use Rattle.mbuf.specs.Acts.{attached as attached_reply, cloned as cloned_reply, freed as freed_reply, told_count}
 use Rattle.commons.specs.Packets.{hold_of, holds_of_packet, holds_of_seg}

@@ -2,7 +2,7 @@ ghost use Rattle.std.specs.Prelude.{ℕ, ◌≡◌, ◌<◌, ◌≤◌, ◌+◌,
 ghost use Rattle.commons.specs.Bounds.{IsPool};
 ghost use Rattle.commons.specs.Lists.{IsMakeCause};
 ghost use Rattle.commons.specs.Calls.{Call};
-ghost use Rattle.mbuf.specs.Acts.{Performs};
+ghost use Rattle.mbuf.specs.Acts.{HasRoom, Performs, as_reply};
 ghost use Rattle.share_book.specs.Own.{LeadsPlain, Owns, StepsAlone};
 ghost use Rattle.pool_model.specs.Pool.{new_members};
 
@@ -12,7 +12,7 @@ use commons::plain::PlainCommons;
 use commons::refusal::Refusal;
 use commons::site::PlainSite;
 use mbuf::acts;
-use mbuf::acts::{Act, Reply};
+use mbuf::acts::{Act, Answer, Reply};
 use mbuf::packets::Packets;
 use pool_model::laws;
 use pool_model::statement::Statement;
@@ -105,8 +105,17 @@ impl SitePool {
     pub fn perform(&mut self, worker: u32, act: Act) -> Reply
         ensures { (result, self.new) ≡ perform self.old worker act }
     {
+        self.perform_in(worker, act)
+    }
+
+    /// Does what `perform` does, and answers with room for a bulk of `ROOM` packets: with none the answer
+    /// is small.
+    pub fn perform_in<const ROOM: usize>(&mut self, worker: u32, act: Act) -> Answer<ROOM>
+        requires room { HasRoom ROOM act }
+        ensures { (as_reply result, self.new) ≡ perform self.old worker act }
+    {
         if worker == 0 || worker as usize > self.members.len() {
-            return Reply::Refused(Refusal::StrangerShare);
+            return Answer::Refused(Refusal::StrangerShare);
         }
         let packets = &mut self.members[worker as usize - 1];
         act_alone(&mut self.site, packets, worker, act)
@@ -131,20 +140,31 @@ impl SitePool {
 }
 
 /// Lets a worker's packets act on its part of the lists.
-fn act_plain(packets: &mut Packets, c: &mut PlainCommons, act: Act) -> Reply
+fn act_plain<const ROOM: usize>(
+    packets: &mut Packets,
+    c: &mut PlainCommons,
+    act: Act,
+) -> Answer<ROOM>
+    requires room { HasRoom ROOM act }
     requires own { Owns c.old.site.now c.old.worker packets.old }
     ensures same { c.new.site.ghost_name ≡ c.old.site.ghost_name }
-    ensures calls { (calls : List Call) × LeadsPlain c.old.worker c.old.site.now calls c.new.site.now × Performs act packets.old calls result packets.new }
+    ensures calls { (calls : List Call) × LeadsPlain c.old.worker c.old.site.now calls c.new.site.now × Performs act packets.old calls (as_reply result) packets.new }
     ensures own { Owns c.new.site.now c.old.worker packets.new }
     ensures alone { StepsAlone c.old.worker c.old.site.now c.new.site.now }
 {
-    acts::perform(packets, c, act)
+    acts::perform_in(packets, c, act)
 }
 
 /// Lets one worker act on the lists.
-fn act_alone(site: &mut PlainSite, packets: &mut Packets, worker: u32, act: Act) -> Reply
+fn act_alone<const ROOM: usize>(
+    site: &mut PlainSite,
+    packets: &mut Packets,
+    worker: u32,
+    act: Act,
+) -> Answer<ROOM>
+    requires room { HasRoom ROOM act }
     requires own { Owns site.old worker packets.old }
-    ensures calls { (calls : List Call) × LeadsPlain worker site.old calls site.new × Performs act packets.old calls result packets.new }
+    ensures calls { (calls : List Call) × LeadsPlain worker site.old calls site.new × Performs act packets.old calls (as_reply result) packets.new }
     ensures own { Owns site.new worker packets.new }
     ensures alone { StepsAlone worker site.old site.new }
 {

@@ -1,11 +1,12 @@
 //! The lines that answer commands.
 ghost use Rattle.std.specs.Prelude.{◌≡◌, ◌++◌, codes, decimal, IfErr, OnOk};
+ghost use Rattle.mbuf.specs.Acts.{as_reply};
 ghost use Rattle.script.specs.ReplyText.{new_elements_text, freed_text, put_off_text, put_text, reply_line, reply_text};
 ghost use Rattle.script.specs.StatementText.{joined};
 
 use super::elements::write_joined;
 use commons::refusal::Refusal;
-use mbuf::acts::{NewPacket, Reply};
+use mbuf::acts::{Answer, NewPacket};
 use mbuf::freed::Freed;
 use mempool::put::Put;
 use std::io;
@@ -14,8 +15,12 @@ use std::io::Write;
 /// Appends the line that answers the command of the line `number`.
 ///
 /// Refused `OutOfMemory` where there is no room for it: the line may then stand in part.
-pub fn push_reply(out: &mut Vec<u8>, number: u32, reply: &Reply) -> Result<(), Refusal>
-    ensures text { OnOk result (out.new.items ≡ out.old.items ++ reply_line number reply.now) }
+pub fn push_reply<const ROOM: usize>(
+    out: &mut Vec<u8>,
+    number: u32,
+    reply: &Answer<ROOM>,
+) -> Result<(), Refusal>
+    ensures text { OnOk result (out.new.items ≡ out.old.items ++ reply_line number (as_reply reply.now)) }
     ensures memory { IfErr result (λ e. e ≡ Refusal.OutOfMemory) }
 {
     match write_line(out, number, reply) {
@@ -25,8 +30,12 @@ pub fn push_reply(out: &mut Vec<u8>, number: u32, reply: &Reply) -> Result<(), R
 }
 
 #[tactic(auto, unfolding(crate::specs::ReplyText::reply_line))]
-fn write_line(out: &mut Vec<u8>, number: u32, reply: &Reply) -> io::Result<()>
-    ensures { OnOk result (out.new.items ≡ out.old.items ++ reply_line number reply.now) }
+fn write_line<const ROOM: usize>(
+    out: &mut Vec<u8>,
+    number: u32,
+    reply: &Answer<ROOM>,
+) -> io::Result<()>
+    ensures { OnOk result (out.new.items ≡ out.old.items ++ reply_line number (as_reply reply.now)) }
 {
     write!(out, "{number}: ")?;
     write_reply(out, reply)?;
@@ -34,23 +43,23 @@ fn write_line(out: &mut Vec<u8>, number: u32, reply: &Reply) -> io::Result<()>
 }
 
 #[tactic(auto, unfolding(crate::specs::ReplyText::reply_text))]
-fn write_reply(out: &mut Vec<u8>, reply: &Reply) -> io::Result<()>
-    ensures { OnOk result (out.new.items ≡ out.old.items ++ reply_text reply.now) }
+fn write_reply<const ROOM: usize>(out: &mut Vec<u8>, reply: &Answer<ROOM>) -> io::Result<()>
+    ensures { OnOk result (out.new.items ≡ out.old.items ++ reply_text (as_reply reply.now)) }
 {
     match reply {
-        Reply::Allocated(_, elem) => write!(out, "ok {elem}"),
-        Reply::Bulk(packets) => write_bulk(out, packets.as_slice()),
-        Reply::Freed(freed) => write_freed(out, *freed),
-        Reply::Attached => write!(out, "ok"),
-        Reply::Cloned(_, elems) => write_cloned(out, elems.as_slice()),
-        Reply::Offered => write!(out, "ok"),
-        Reply::Taken(_, segs, len) => write!(out, "ok {segs} {len}"),
-        Reply::Count(count) => write!(out, "ok {count}"),
-        Reply::Len(len) => write!(out, "ok {len}"),
-        Reply::Segs(segs) => write!(out, "ok {segs}"),
-        Reply::Chained(segs, len) => write!(out, "ok {segs} {len}"),
-        Reply::Put(put) => write_put(out, *put),
-        Reply::Refused(refusal) => {
+        Answer::Allocated(_, elem) => write!(out, "ok {elem}"),
+        Answer::Bulk(packets) => write_bulk(out, packets.as_slice()),
+        Answer::Freed(freed) => write_freed(out, *freed),
+        Answer::Attached => write!(out, "ok"),
+        Answer::Cloned(_, elems) => write_cloned(out, elems.as_slice()),
+        Answer::Offered => write!(out, "ok"),
+        Answer::Taken(_, segs, len) => write!(out, "ok {segs} {len}"),
+        Answer::Count(count) => write!(out, "ok {count}"),
+        Answer::Len(len) => write!(out, "ok {len}"),
+        Answer::Segs(segs) => write!(out, "ok {segs}"),
+        Answer::Chained(segs, len) => write!(out, "ok {segs} {len}"),
+        Answer::Put(put) => write_put(out, *put),
+        Answer::Refused(refusal) => {
             write!(out, "refused {} {}", refusal.number(), refusal.name())
         }
     }

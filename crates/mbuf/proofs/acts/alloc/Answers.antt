@@ -1,5 +1,5 @@
 use Rattle.std.proofs.Common.{Ok, Err, refl, ap}
-use Rattle.mbuf.specs.declared.acts.Reply.TheVariants.{Allocated}
+use Rattle.mbuf.specs.declared.acts.Answer.TheVariants.{Allocated}
 use Rattle.mbuf.proofs.acts.alloc.Goals as goal
 
 pub returns-in-Ok-clause-calls : goal.returns-in-Ok-clause-calls

@@ -1,13 +1,13 @@
-use Rattle.std.proofs.Common.{Ok, Err, refl, ap, arith}
-use Rattle.mbuf.specs.declared.acts.Reply.TheVariants.{Bulk}
+use Rattle.std.proofs.Common.{Ok, Err, refl, ap, rules, arith}
+use Rattle.mbuf.specs.declared.acts.Answer.TheVariants.{Bulk}
 use Rattle.mbuf.proofs.ActLemmas.{bulk_there, list_is}
 use Rattle.mbuf.proofs.acts.alloc_all.Goals as goal
 
-pub new_packets-requires-clause-few : goal.new_packets-requires-clause-few
-new_packets-requires-clause-few g c = omega (arith, c.alloc_bulk.auto.out, c.requires.few)
-
-pub new_packets-requires-clause-there : goal.new_packets-requires-clause-there
-new_packets-requires-clause-there g c = let done = c.in-Ok.ensures.calls in bulk_there _ _ _ _ _ done.2
+pub new_packets-requires : goal.new_packets-requires
+new_packets-requires g c =
+    let done = c.in-Ok.ensures.calls in
+    let within = c.requires.room c.requires.few in
+    (search rules, (omega (arith, c.alloc_bulk.auto.out, within), bulk_there _ _ _ _ _ done.2))
 
 pub returns-in-Ok-clause-calls : goal.returns-in-Ok-clause-calls
 returns-in-Ok-clause-calls g c =

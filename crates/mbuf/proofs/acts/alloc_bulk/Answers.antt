@@ -1,8 +1,8 @@
 use Rattle.std.proofs.lemmas.List.{length-take}
 use Rattle.commons.specs.Calls.{calls_of}
-use Rattle.mbuf.specs.Acts.{Performs}
+use Rattle.mbuf.specs.Acts.{HasRoom, Performs, as_reply}
 use Rattle.mbuf.specs.declared.acts.Act.TheVariants.{AllocBulk}
-use Rattle.std.proofs.Common.{ℕ, ◌≡◌, ◌≤◌, [], Err, length, take, replicate, subst, refl, arith}
+use Rattle.std.proofs.Common.{ℕ, ◌≡◌, ◌≤◌, [], Err, length, take, replicate, subst, refl, sym, rules, arith}
 use Rattle.commons.specs.declared.refusal.Refusal.TheVariants.{PacketsFull}
 use Rattle.mbuf.specs.PacketRules.{TooFull}
 use Rattle.mbuf.proofs.FreeLemmas.{free_within}
@@ -19,4 +19,9 @@ lent count few = omega (arith, length-take count (replicate {A = ℕ} 256 0), fe
 pub returns-clause-calls : goal.returns-clause-calls
 returns-clause-calls g c =
     let done = c.alloc_all.ensures.calls in
-    (done.0, done.1, subst (λ (n : ℕ). Performs (AllocBulk n) c.args.packets.now (calls_of done.0) c.alloc_all.result c.alloc_all.new.packets) (lent c.args.count c.if-count-gt-SLOTS.false) done.2)
+    (done.0, done.1, subst (λ (n : ℕ). Performs (AllocBulk n) c.args.packets.now (calls_of done.0) (as_reply c.alloc_all.result) c.alloc_all.new.packets) (lent c.args.count c.if-count-gt-SLOTS.false) done.2)
+
+pub alloc_all-requires : goal.alloc_all-requires
+alloc_all-requires g c =
+    let lent = lent c.args.count c.if-count-gt-SLOTS.false in
+    (search rules, (c.requires.own, (omega (arith, lent, c.if-count-gt-SLOTS.false), subst (λ (n : ℕ). HasRoom g.row.ROOM (AllocBulk n)) (sym lent) c.requires.room)))

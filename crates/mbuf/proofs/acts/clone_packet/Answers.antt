@@ -1,5 +1,5 @@
 use Rattle.std.proofs.Common.{Ok, Err, refl, ap}
-use Rattle.mbuf.specs.declared.acts.Reply.TheVariants.{Cloned}
+use Rattle.mbuf.specs.declared.acts.Answer.TheVariants.{Cloned}
 use Rattle.mbuf.proofs.ActLemmas.{cloned_there, list_is}
 use Rattle.mbuf.proofs.acts.clone_packet.Goals as goal
 

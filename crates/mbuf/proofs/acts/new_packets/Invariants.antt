@@ -4,4 +4,4 @@ use Rattle.mbuf.proofs.acts.new_packets.Given as goal
 
 -- the packets so far
 abbrev pub invariant-loop-slot : goal.invariant-loop-slot
-invariant-loop-slot l = l.list.items ≡ map (new_packet l.packets.table) (take l.slot-index l.slots)
+invariant-loop-slot g l = l.list.items ≡ map (new_packet l.packets.table) (take l.slot-index l.slots)

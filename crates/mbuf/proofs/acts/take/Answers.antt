@@ -1,9 +1,9 @@
-use Rattle.std.proofs.Common.{Ok, Err, refl}
+use Rattle.std.proofs.Common.{Ok, Err, refl, rules}
 use Rattle.mbuf.proofs.ActLemmas.{taken_there}
 use Rattle.mbuf.proofs.acts.take.Goals as goal
 
 pub told_taken-requires : goal.told_taken-requires
-told_taken-requires g c = let done = c.in-Ok.ensures.calls in taken_there _ _ _ _ _ done.2
+told_taken-requires g c = let done = c.in-Ok.ensures.calls in (search rules, taken_there _ _ _ _ _ done.2)
 
 pub returns-in-Ok-clause-calls : goal.returns-in-Ok-clause-calls
 returns-in-Ok-clause-calls g c = let done = c.in-Ok.ensures.calls in (done.0, done.1, (Ok c.in-Ok.slot, done.2, c.told_taken.ensures))

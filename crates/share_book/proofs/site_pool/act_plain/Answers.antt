@@ -1,4 +1,4 @@
-use Rattle.std.proofs.Common.{ℕ, ap, subst}
+use Rattle.std.proofs.Common.{ℕ, ap, subst, rules}
 use Rattle.commons.specs.Calls.{calls_of}
 use Rattle.commons.specs.Lists.{hand_of, holds_of, header_of}
 use Rattle.commons.specs.declared.limits.Limits.{Limits}
@@ -6,23 +6,26 @@ use Rattle.mbuf.specs.Own.{Own}
 use Rattle.share_book.proofs.PlainCalls.{plainly, alone, LeadsPlain-limits}
 use Rattle.share_book.proofs.site_pool.act_plain.Goals as goal
 
+pub perform_in-requires : goal.perform_in-requires
+perform_in-requires g c = (search rules, (c.requires.room, c.requires.own.share))
+
 pub returns-clause-same : goal.returns-clause-same
-returns-clause-same c = let e = c.perform.ensures.calls in (plainly c.args.c.now e.0 c.perform.new.c e.1).same
+returns-clause-same g c = let e = c.perform_in.ensures.calls in (plainly c.args.c.now e.0 c.perform_in.new.c e.1).same
 
 pub returns-clause-calls : goal.returns-clause-calls
-returns-clause-calls c = let e = c.perform.ensures.calls in (calls_of e.0, (plainly c.args.c.now e.0 c.perform.new.c e.1).led, e.2)
+returns-clause-calls g c = let e = c.perform_in.ensures.calls in (calls_of e.0, (plainly c.args.c.now e.0 c.perform_in.new.c e.1).led, e.2)
 
 pub returns-clause-own : goal.returns-clause-own
-returns-clause-own c =
-    let e = c.perform.ensures.calls in
-    let t = c.perform.new.c.site.now in
-    let p = plainly c.args.c.now e.0 c.perform.new.c e.1 in
+returns-clause-own g c =
+    let e = c.perform_in.ensures.calls in
+    let t = c.perform_in.new.c.site.now in
+    let p = plainly c.args.c.now e.0 c.perform_in.new.c e.1 in
     let workers = ap (λ (l : Limits). l.workers) (LeadsPlain-limits c.args.c.now.worker c.args.c.now.site.now (calls_of e.0) t p.led) in
     record {
       first = c.requires.own.first;
       last = rw workers c.requires.own.last;
-      share = subst (λ (w : ℕ). Own c.perform.new.packets t.limits (λ i. hand_of t w i) (λ i. holds_of t w i) (λ i. header_of t w i)) p.worker c.perform.ensures.own;
+      share = subst (λ (w : ℕ). Own c.perform_in.new.packets t.limits (λ i. hand_of t w i) (λ i. holds_of t w i) (λ i. header_of t w i)) p.worker c.perform_in.ensures.own;
     }
 
 pub returns-clause-alone : goal.returns-clause-alone
-returns-clause-alone c = let e = c.perform.ensures.calls in alone c.args.c.now e.0 c.perform.new.c c.perform.new.c.table e.1
+returns-clause-alone g c = let e = c.perform_in.ensures.calls in alone c.args.c.now e.0 c.perform_in.new.c c.perform_in.new.c.table e.1

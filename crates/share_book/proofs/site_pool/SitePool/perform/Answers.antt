@@ -1,43 +1,15 @@
--- What the worker did is what the model does, so acts reach the pool, and its workers keep their numbers.
-use Rattle.std.proofs.Common.{◌≡◌, ◌-◌, ◌+◌, ◌<◌, length, length-set, set, sym, ap, ◌∙◌, arith}
-use Rattle.commons.specs.declared.limits.Limits.{Limits}
-use Rattle.std.proofs.lemmas.List.{get_or_default}
-use Rattle.mbuf.specs.declared.acts.Reply.{Reply}
-use Rattle.pool_model.specs.Pool.{Pool, nobody}
-use Rattle.share_book.specs.SitePool.{pool_with}
-use Rattle.share_book.proofs.Members.{members_after, performed}
-use Rattle.share_book.proofs.Reaching.{reached_further, reached_numbered}
+-- An answer with room for any bulk is the reply itself.
+use Rattle.std.proofs.Common.{◌≡◌, subst, rules}
+use Rattle.mbuf.specs.Acts.{Reply}
+use Rattle.mbuf.proofs.ActLemmas.{any_room, as_reply-same}
+use Rattle.pool_model.specs.Pool.{Pool}
+use Rattle.pool_model.specs.PacketModel.{perform as performed}
 use Rattle.share_book.proofs.site_pool.SitePool.perform.Goals as goal
 
-pub invariant_of-self : goal.invariant_of-self
-invariant_of-self c =
-    let s = c.self.inside.site in
-    let t = c.act_alone.new.site in
-    let members = c.self.inside.members.items in
-    let w = c.args.worker in
-    let m = c.act_alone.new.packets in
-    let limits = c.act_alone.ensures.alone.limits in
-    let n : w ≡ w - 1 + 1 = omega arith in
-    let below : w - 1 < length members = omega (arith, c.self.inside.members.ok) in
-    let packets = c.index_mut-packets.ensures.value ∙ get_or_default members (w - 1) c.index_mut-packets.result.now (nobody s.limits) below in
-    let did = c.act_alone.ensures.calls in
-    let modelled = performed s t members w c.args.act did.0 c.act_alone.result m c.self.invariant.table c.self.invariant.workers c.self.invariant.each (omega arith) (omega (arith, c.self.inside.members.ok)) limits (rw packets at did.2) did.1 in
-    let after = pool_with t (set members (w - 1) m) in
-    let reached = reached_further (pool_with s members) after w c.args.act c.self.invariant.reached (ap (λ (d : Reply × Pool). d.1) modelled) limits in
-    record {
-      table = c.act_alone.ensures.alone.after;
-      workers = length-set members (w - 1) m ∙ c.self.invariant.workers ∙ sym (ap (λ (l : Limits). l.workers) limits);
-      each = members_after s t members (w - 1) w m n below c.self.invariant.workers c.self.invariant.each c.act_alone.ensures.alone (reached_numbered after reached).numbers c.act_alone.ensures.own;
-      reached = reached;
-    }
+pub perform_in-requires : goal.perform_in-requires
+perform_in-requires c = (search rules, any_room c.args.act)
 
 pub returns : goal.returns
 returns c =
-    let s = c.self.inside.site in
-    let members = c.self.inside.members.items in
-    let w = c.args.worker in
-    let below : w - 1 < length members = omega (arith, c.self.inside.members.ok) in
-    let packets = c.index_mut-packets.ensures.value ∙ get_or_default members (w - 1) c.index_mut-packets.result.now (nobody s.limits) below in
-    let did = c.act_alone.ensures.calls in
-    rw (sym c.self.view_is)
-    (performed s c.act_alone.new.site members w c.args.act did.0 c.act_alone.result c.act_alone.new.packets c.self.invariant.table c.self.invariant.workers c.self.invariant.each (omega arith) (omega (arith, c.self.inside.members.ok)) c.act_alone.ensures.alone.limits (rw packets at did.2) did.1)
+    let told = λ (r : Reply). ◌≡◌ {A = Reply × Pool} (r, c.perform_in.new.self) (performed c.args.self.now c.args.worker c.args.act) in
+    subst told (as_reply-same c.perform_in.result) c.perform_in.ensures

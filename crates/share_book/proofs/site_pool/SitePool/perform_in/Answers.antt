@@ -1,0 +1,43 @@
+-- What the worker did is what the model does, so acts reach the pool, and its workers keep their numbers.
+use Rattle.std.proofs.Common.{◌≡◌, ◌-◌, ◌+◌, ◌<◌, length, length-set, set, sym, ap, ◌∙◌, arith}
+use Rattle.commons.specs.declared.limits.Limits.{Limits}
+use Rattle.std.proofs.lemmas.List.{get_or_default}
+use Rattle.mbuf.specs.Acts.{Reply, as_reply}
+use Rattle.pool_model.specs.Pool.{Pool, nobody}
+use Rattle.share_book.specs.SitePool.{pool_with}
+use Rattle.share_book.proofs.Members.{members_after, performed}
+use Rattle.share_book.proofs.Reaching.{reached_further, reached_numbered}
+use Rattle.share_book.proofs.site_pool.SitePool.perform_in.Goals as goal
+
+pub invariant_of-self : goal.invariant_of-self
+invariant_of-self g c =
+    let s = c.self.inside.site in
+    let t = c.act_alone.new.site in
+    let members = c.self.inside.members.items in
+    let w = c.args.worker in
+    let m = c.act_alone.new.packets in
+    let limits = c.act_alone.ensures.alone.limits in
+    let n : w ≡ w - 1 + 1 = omega arith in
+    let below : w - 1 < length members = omega (arith, c.self.inside.members.ok) in
+    let packets = c.index_mut-packets.ensures.value ∙ get_or_default members (w - 1) c.index_mut-packets.result.now (nobody s.limits) below in
+    let did = c.act_alone.ensures.calls in
+    let modelled = performed s t members w c.args.act did.0 (as_reply c.act_alone.result) m c.self.invariant.table c.self.invariant.workers c.self.invariant.each (omega arith) (omega (arith, c.self.inside.members.ok)) limits (rw packets at did.2) did.1 in
+    let after = pool_with t (set members (w - 1) m) in
+    let reached = reached_further (pool_with s members) after w c.args.act c.self.invariant.reached (ap (λ (d : Reply × Pool). d.1) modelled) limits in
+    record {
+      table = c.act_alone.ensures.alone.after;
+      workers = length-set members (w - 1) m ∙ c.self.invariant.workers ∙ sym (ap (λ (l : Limits). l.workers) limits);
+      each = members_after s t members (w - 1) w m n below c.self.invariant.workers c.self.invariant.each c.act_alone.ensures.alone (reached_numbered after reached).numbers c.act_alone.ensures.own;
+      reached = reached;
+    }
+
+pub returns : goal.returns
+returns g c =
+    let s = c.self.inside.site in
+    let members = c.self.inside.members.items in
+    let w = c.args.worker in
+    let below : w - 1 < length members = omega (arith, c.self.inside.members.ok) in
+    let packets = c.index_mut-packets.ensures.value ∙ get_or_default members (w - 1) c.index_mut-packets.result.now (nobody s.limits) below in
+    let did = c.act_alone.ensures.calls in
+    rw (sym c.self.view_is)
+    (performed s c.act_alone.new.site members w c.args.act did.0 (as_reply c.act_alone.result) c.act_alone.new.packets c.self.invariant.table c.self.invariant.workers c.self.invariant.each (omega arith) (omega (arith, c.self.inside.members.ok)) c.act_alone.ensures.alone.limits (rw packets at did.2) did.1)
