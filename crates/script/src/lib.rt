@@ -21,6 +21,3 @@ pub mod statement;
 pub mod texts;
 
 pub use run::run_replay;
-
-#[cfg(test)]
-mod tests;

@@ -31,9 +31,6 @@ use crate::reader::{Reader, Stop};
 use commons::refusal::Refusal;
 use std::alloc::Global;
 
-#[cfg(test)]
-mod tests;
-
 /// The most bytes that a script has.
 pub const MAX_BYTES: usize = 1_048_576;
 

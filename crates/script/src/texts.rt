@@ -6,8 +6,5 @@ mod replies;
 mod segments;
 mod whole;
 
-pub(crate) use replies::push_reply;
+pub use replies::push_reply;
 pub use whole::statement_text;
-
-#[cfg(test)]
-mod tests;

@@ -14,7 +14,7 @@ use std::io::Write;
 /// Appends the line that answers the command of the line `number`.
 ///
 /// Refused `OutOfMemory` where there is no room for it: the line may then stand in part.
-pub(crate) fn push_reply(out: &mut Vec<u8>, number: u32, reply: &Reply) -> Result<(), Refusal>
+pub fn push_reply(out: &mut Vec<u8>, number: u32, reply: &Reply) -> Result<(), Refusal>
     ensures text { OnOk result (out.new.items ≡ out.old.items ++ reply_line number reply.now) }
     ensures memory { IfErr result (λ e. e ≡ Refusal.OutOfMemory) }
 {
