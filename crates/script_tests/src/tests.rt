@@ -1,0 +1,406 @@
+//! The functions that walk the tables. A row that fails is named.
+
+use commons::limits::Limits;
+use commons::packet::Seg;
+use commons::refusal::Refusal;
+use script::parse::parse;
+use script::replay::replay;
+use script::replies::{Act, Freed, Reply};
+use script::run_replay;
+use script::site_pool::SitePool;
+use script::statement::{Held, Holder, PlacedPacket, Statement};
+use script::texts::{push_reply, statement_text};
+use std::alloc::Global;
+use std::process::Abort;
+use std::test::Fail;
+
+mod acts;
+mod building;
+mod built;
+mod caches;
+mod desks;
+mod long;
+mod packets;
+mod pools;
+mod readings;
+mod replies;
+mod sharing;
+mod shown;
+mod statements;
+mod texts;
+mod told;
+
+use building::{placed, written};
+use pools::{FIRST_RUN, FIRST_RUN_TEXT};
+use shown::shown_lines;
+use told::{Told, reply};
+
+/// A name, a script, and what its replay prints.
+type Row = (&'static str, &'static str, &'static str);
+
+/// A text, and behind it a number that is the second for the first line and then grows by the third.
+struct Field(&'static str, i32, i32);
+
+/// A part of a text.
+enum Part {
+    /// Itself.
+    Text(&'static str),
+    /// So many times these fields, each time with this end.
+    Each(i32, &'static [Field], &'static str),
+}
+
+/// A name, the parts of a script, and those of what its replay prints.
+type BuiltRow = (&'static str, &'static [Part], &'static [Part]);
+
+/// A name, and texts with their refusals; a script has none.
+type TextsRow = (&'static str, &'static [(&'static str, Option<Refusal>)]);
+
+/// A name, the parts of a text, its length in bytes, and its refusal; a script has none.
+type LongRow = (&'static str, &'static [Part], usize, Option<Refusal>);
+
+/// A name, a script, its limits, and what its lines say.
+type ReadRow = (&'static str, &'static str, Limits, &'static str);
+
+/// A name, a pool's limits, and what is done with it.
+type PoolRow = (&'static str, Limits, &'static [Step]);
+
+/// A name, limits within which no pool is made, and the refusal.
+type UnmadeRow = (&'static str, Limits, Refusal);
+
+/// What is done with a pool.
+enum Step {
+    /// A worker's act has this reply.
+    Act(u32, Act, Told),
+    /// A worker makes so many packets at once.
+    Bulk(u32, usize),
+    /// Each of these workers is refused so for each of these acts.
+    Refused(&'static [u32], &'static [Act], Refusal),
+    /// The statement of the pool has this text.
+    Statement(&'static str),
+}
+
+/// The line of a reply, the number of the line, and the reply.
+type ReplyRow = (&'static str, u32, Told);
+
+/// A statement as plain data.
+struct Places {
+    population: u64,
+    available: u64,
+    in_use: u64,
+    common: &'static [u32],
+    caches: &'static [&'static [u32]],
+    /// Each with its worker, its slot and its segments.
+    packets: &'static [(u32, u32, &'static [Seg])],
+    /// Each with its desk and its segments.
+    desks: &'static [(u32, &'static [Seg])],
+    /// Each element with its count and its holders.
+    held: &'static [(u32, u32, &'static [Holder])],
+}
+
+/// A name, a statement, and its text.
+type StatementRow = (&'static str, Places, &'static str);
+
+/// The limits of a pool line that says no more than one element.
+const DEFAULTS: Limits = Limits {
+    population: 1,
+    cache: 0,
+    workers: 1,
+    desks: 0,
+    buf: 2_048,
+    ref_limit: 65_535,
+    tries: 64,
+    start_count: 0,
+};
+
+/// What is printed for a text.
+fn printed(alloc: Global, text: &str) -> Result<Vec<u8>, Refusal> {
+    run_replay(alloc, text.as_bytes())
+}
+
+/// What the replay of a script prints.
+fn replayed(alloc: Global, script: &str) -> Result<String, Fail> {
+    let bytes = printed(alloc, script)?;
+    Ok(String::from_utf8(bytes)?)
+}
+
+/// The replies of a script, each with the number of its line, and the statement of its end.
+fn played(alloc: Global, script: &str) -> Result<(Vec<(u32, Reply)>, Statement), Fail> {
+    let script = parse(alloc, script.as_bytes())?;
+    Ok(replay(alloc, &script)?)
+}
+
+/// What the replies of a script and the statement of its end print, each by its own call.
+fn replayed_in_parts(alloc: Global, script: &str) -> Result<String, Fail> {
+    let (replies, statement) = played(alloc, script)?;
+    let mut text = Vec::new(alloc);
+    for (number, reply) in &replies {
+        push_reply(&mut text, *number, reply)?;
+    }
+    text.extend_from_slice(&statement_text(alloc, &statement)?)?;
+    Ok(String::from_utf8(text)?)
+}
+
+fn print_texts<R: Abort + AllocGlobal>(rt: &R, rows: &[Row]) -> Result<(), Fail> {
+    for (name, script, text) in rows {
+        let whole = replayed(rt.alloc(), script)?;
+        assert_eq!(rt; whole.as_str(), *text, "the row {name}");
+        let parts = replayed_in_parts(rt.alloc(), script)?;
+        assert_eq!(rt; parts.as_str(), *text, "the parts of the row {name}");
+    }
+    Ok(())
+}
+
+#[test]
+fn each_script_prints_its_text(rt: HostRuntime) -> Result<(), Fail> {
+    print_texts(&rt, pools::ROWS)?;
+    print_texts(&rt, caches::ROWS)?;
+    print_texts(&rt, packets::ROWS)?;
+    print_texts(&rt, sharing::ROWS)?;
+    print_texts(&rt, desks::ROWS)
+}
+
+fn print_long_texts<R: Abort + AllocGlobal>(rt: &R, rows: &[BuiltRow]) -> Result<(), Fail> {
+    for (name, script, text) in rows {
+        let script = written(rt.alloc(), script)?;
+        let text = written(rt.alloc(), text)?;
+        let printed = replayed(rt.alloc(), script.as_str())?;
+        assert_eq!(rt; printed.as_str(), text.as_str(), "the row {name}");
+    }
+    Ok(())
+}
+
+#[test]
+fn each_long_script_prints_its_text(rt: HostRuntime) -> Result<(), Fail> {
+    print_long_texts(&rt, built::ROWS)
+}
+
+/// The refusal of a text by `parse`, if it has one.
+fn parse_refusal(alloc: Global, text: &str) -> Option<Refusal> {
+    match parse(alloc, text.as_bytes()) {
+        Ok(_) => None,
+        Err(refusal) => Some(refusal),
+    }
+}
+
+/// Why nothing is printed for a text, if nothing is.
+fn replay_refusal(alloc: Global, text: &str) -> Option<Refusal> {
+    match printed(alloc, text) {
+        Ok(_) => None,
+        Err(refusal) => Some(refusal),
+    }
+}
+
+fn refuse_texts<R: Abort + AllocGlobal>(rt: &R, rows: &[TextsRow]) {
+    for (name, texts) in rows {
+        for (text, refusal) in *texts {
+            let parsed = parse_refusal(rt.alloc(), text);
+            assert_eq!(rt; parsed, *refusal, "{name}: {text}");
+            let printed = replay_refusal(rt.alloc(), text);
+            assert_eq!(rt; printed, *refusal, "{name}: {text}");
+        }
+    }
+}
+
+#[test]
+fn each_text_is_a_script_or_refused(rt: HostRuntime) {
+    refuse_texts(&rt, texts::ROWS);
+}
+
+fn refuse_long_texts<R: Abort + AllocGlobal>(rt: &R, rows: &[LongRow]) -> Result<(), Fail> {
+    for (name, parts, len, refusal) in rows {
+        let text = written(rt.alloc(), parts)?;
+        assert_eq!(rt; text.len(), *len, "the row {name}");
+        let parsed = parse_refusal(rt.alloc(), text.as_str());
+        assert_eq!(rt; parsed, *refusal, "the row {name}");
+    }
+    Ok(())
+}
+
+#[test]
+fn each_long_text_is_a_script_or_refused(rt: HostRuntime) -> Result<(), Fail> {
+    refuse_long_texts(&rt, long::ROWS)
+}
+
+fn read_scripts<R: Abort + AllocGlobal>(rt: &R, rows: &[ReadRow]) -> Result<(), Fail> {
+    for (name, text, limits, lines) in rows {
+        let script = parse(rt.alloc(), text.as_bytes())?;
+        assert_eq!(rt; script.limits, *limits, "the row {name}");
+        let shown = shown_lines(rt.alloc(), script.lines.as_slice())?;
+        assert_eq!(rt; shown.as_str(), *lines, "the row {name}");
+    }
+    Ok(())
+}
+
+#[test]
+fn each_script_is_read_as_its_limits_and_lines(rt: HostRuntime) -> Result<(), Fail> {
+    read_scripts(&rt, readings::ROWS)
+}
+
+/// The text of a pool's statement.
+fn statement_of(alloc: Global, pool: &SitePool) -> Result<String, Fail> {
+    let statement = pool.statement(alloc)?;
+    Ok(String::from_utf8(statement_text(alloc, &statement)?)?)
+}
+
+/// Does what the steps of a row say.
+fn follow<R: Abort + AllocGlobal>(
+    rt: &R,
+    pool: &mut SitePool,
+    steps: &[Step],
+    name: &str,
+) -> Result<(), Fail> {
+    for step in steps {
+        match step {
+            Step::Act(worker, act, told) => {
+                let given = pool.perform(*worker, *act);
+                assert_eq!(rt; given, reply(*told), "{name}: {act:?}");
+            }
+            Step::Bulk(worker, count) => match pool.perform(*worker, Act::AllocBulk(*count)) {
+                Reply::Bulk(packets) => assert_eq!(rt; packets.len(), *count, "the row {name}"),
+                _ => assert!(rt; false, "the row {name}"),
+            },
+            Step::Refused(workers, acts, refusal) => {
+                for worker in *workers {
+                    for act in *acts {
+                        let given = pool.perform(*worker, *act);
+                        assert_eq!(rt; given, Reply::Refused(*refusal), "{name}: {worker} {act:?}");
+                    }
+                }
+            }
+            Step::Statement(text) => {
+                let printed = statement_of(rt.alloc(), pool)?;
+                assert_eq!(rt; printed.as_str(), *text, "the row {name}");
+            }
+        }
+    }
+    Ok(())
+}
+
+fn perform_steps<R: Abort + AllocGlobal>(rt: &R, rows: &[PoolRow]) -> Result<(), Fail> {
+    for (name, limits, steps) in rows {
+        let mut pool = SitePool::make(rt.alloc(), limits)?;
+        let outcome = follow(rt, &mut pool, steps, name);
+        pool.lose();
+        outcome?;
+    }
+    Ok(())
+}
+
+#[test]
+fn each_site_pool_replies_as_its_steps_say(rt: HostRuntime) -> Result<(), Fail> {
+    perform_steps(&rt, acts::ROWS)
+}
+
+fn make_no_pools<R: Abort + AllocGlobal>(rt: &R, rows: &[UnmadeRow]) {
+    for (name, limits, refusal) in rows {
+        match SitePool::make(rt.alloc(), limits) {
+            Ok(pool) => {
+                pool.lose();
+                assert!(rt; false, "the row {name}");
+            }
+            Err(given) => assert_eq!(rt; given, *refusal, "the row {name}"),
+        }
+    }
+}
+
+#[test]
+fn no_site_pool_is_made_out_of_range(rt: HostRuntime) {
+    make_no_pools(&rt, acts::UNMADE);
+}
+
+/// Each line is put behind those before it.
+fn print_replies<R: Abort + AllocGlobal>(rt: &R, rows: &[ReplyRow]) -> Result<(), Fail> {
+    let mut printed = Vec::new(rt.alloc());
+    let mut text = String::new(rt.alloc());
+    for (line, number, told) in rows {
+        push_reply(&mut printed, *number, &reply(*told))?;
+        text.push_str(line)?;
+        assert_eq!(rt; printed.as_slice(), text.as_bytes(), "the row {line}");
+    }
+    Ok(())
+}
+
+#[test]
+fn each_reply_prints_behind_its_line(rt: HostRuntime) -> Result<(), Fail> {
+    print_replies(&rt, replies::ROWS)
+}
+
+fn print_statements<R: Abort + AllocGlobal>(rt: &R, rows: &[StatementRow]) -> Result<(), Fail> {
+    for (name, places, text) in rows {
+        let statement = placed(rt.alloc(), places)?;
+        let printed = String::from_utf8(statement_text(rt.alloc(), &statement)?)?;
+        assert_eq!(rt; printed.as_str(), *text, "the row {name}");
+    }
+    Ok(())
+}
+
+#[test]
+fn each_statement_prints_its_text(rt: HostRuntime) -> Result<(), Fail> {
+    print_statements(&rt, statements::ROWS)
+}
+
+/// Whether these are the packets of the first run's end.
+fn assert_first_packets(rt: &impl Abort, packets: &[PlacedPacket]) {
+    assert_eq!(rt; packets.len(), 1);
+    for placed in packets {
+        let seg = Seg {
+            elem: 1,
+            base: None,
+            data_off: 128,
+            data_len: 0,
+            buf_len: 2_048,
+        };
+        assert_eq!(rt; (placed.worker, placed.slot), (1, 1));
+        assert_eq!(rt; placed.segs.as_slice(), [seg].as_slice());
+    }
+}
+
+/// Whether these are the held elements of the first run's end.
+fn assert_first_held(rt: &impl Abort, held: &[Held]) {
+    assert_eq!(rt; held.len(), 1);
+    for held in held {
+        assert_eq!(rt; (held.elem, held.count), (1, 1));
+        assert_eq!(rt; held.holders.as_slice(), [Holder::Worker(1)].as_slice());
+    }
+}
+
+/// Whether this is the statement of the first run's end.
+fn assert_first_end(rt: &impl Abort, statement: &Statement) {
+    let totals = (statement.population, statement.available, statement.in_use);
+    assert_eq!(rt; totals, (3, 2, 1));
+    assert_eq!(rt; statement.common.as_slice(), [0, 2].as_slice());
+    assert_eq!(rt; statement.caches.len(), 1);
+    for cache in statement.caches.as_slice() {
+        assert!(rt; cache.is_empty());
+    }
+    assert_first_packets(rt, statement.packets.as_slice());
+    assert!(rt; statement.desks.is_empty());
+    assert_first_held(rt, statement.held.as_slice());
+}
+
+#[test]
+fn a_replay_answers_each_command_and_places_each_element(rt: HostRuntime) -> Result<(), Fail> {
+    let (replies, statement) = played(rt.alloc(), FIRST_RUN)?;
+    let freed = Freed {
+        back: 1,
+        flushed: 1,
+        put_off: None,
+    };
+    let wanted = [
+        (2, Reply::Allocated(0, 0)),
+        (3, Reply::Allocated(1, 1)),
+        (4, Reply::Freed(freed)),
+    ];
+    assert_eq!(rt; replies.as_slice(), wanted.as_slice());
+    assert_first_end(&rt, &statement);
+    Ok(())
+}
+
+// Whichever request for memory is refused, the same is printed or nothing.
+#[test]
+fn refused_memory_changes_no_answer(rt: HostRuntime) {
+    match printed(rt.alloc(), FIRST_RUN) {
+        Ok(bytes) => assert_eq!(rt; bytes.as_slice(), FIRST_RUN_TEXT.as_bytes()),
+        Err(refusal) => assert_eq!(rt; refusal, Refusal::OutOfMemory),
+    }
+}

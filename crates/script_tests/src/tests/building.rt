@@ -1,0 +1,94 @@
+//! Texts and statements that are made from rows.
+
+use super::{Field, Part, Places};
+use commons::packet::Seg;
+use commons::seq::Seq;
+use script::statement::{DeskPacket, Held, Holder, PlacedPacket, Statement};
+use std::alloc::Global;
+use std::test::Fail;
+
+/// Adds so many times the fields and the end.
+fn add_each(text: &mut String, count: i32, fields: &[Field], end: &str) -> Result<(), Fail> {
+    for index in 0..count {
+        for Field(front, first, step) in fields {
+            let number = first.wrapping_add(step.wrapping_mul(index));
+            write!(text, "{front}{number}")?;
+        }
+        text.push_str(end)?;
+    }
+    Ok(())
+}
+
+/// The text of these parts.
+pub(super) fn written(alloc: Global, parts: &[Part]) -> Result<String, Fail> {
+    let mut text = String::new(alloc);
+    for part in parts {
+        match part {
+            Part::Text(piece) => text.push_str(piece)?,
+            Part::Each(count, fields, end) => add_each(&mut text, *count, fields, end)?,
+        }
+    }
+    Ok(text)
+}
+
+/// A list of these values.
+fn seq<T: Copy>(alloc: Global, items: &[T]) -> Result<Seq<T>, Fail> {
+    Ok(Seq::new(items.to_vec(alloc)?))
+}
+
+fn caches(alloc: Global, rows: &[&[u32]]) -> Result<Seq<Seq<u32>>, Fail> {
+    let mut caches = Vec::new(alloc);
+    for row in rows {
+        caches.push(seq(alloc, row)?)?;
+    }
+    Ok(Seq::new(caches))
+}
+
+fn packets(alloc: Global, rows: &[(u32, u32, &[Seg])]) -> Result<Seq<PlacedPacket>, Fail> {
+    let mut packets = Vec::new(alloc);
+    for (worker, slot, segs) in rows {
+        packets.push(PlacedPacket {
+            worker: *worker,
+            slot: *slot,
+            segs: seq(alloc, segs)?,
+        })?;
+    }
+    Ok(Seq::new(packets))
+}
+
+fn desks(alloc: Global, rows: &[(u32, &[Seg])]) -> Result<Seq<DeskPacket>, Fail> {
+    let mut desks = Vec::new(alloc);
+    for (desk, segs) in rows {
+        desks.push(DeskPacket {
+            desk: *desk,
+            segs: seq(alloc, segs)?,
+        })?;
+    }
+    Ok(Seq::new(desks))
+}
+
+fn held(alloc: Global, rows: &[(u32, u32, &[Holder])]) -> Result<Seq<Held>, Fail> {
+    let mut held = Vec::new(alloc);
+    for (elem, count, holders) in rows {
+        held.push(Held {
+            elem: *elem,
+            count: *count,
+            holders: seq(alloc, holders)?,
+        })?;
+    }
+    Ok(Seq::new(held))
+}
+
+/// The statement of these places.
+pub(super) fn placed(alloc: Global, places: &Places) -> Result<Statement, Fail> {
+    Ok(Statement {
+        population: places.population,
+        available: places.available,
+        in_use: places.in_use,
+        common: seq(alloc, places.common)?,
+        caches: caches(alloc, places.caches)?,
+        packets: packets(alloc, places.packets)?,
+        desks: desks(alloc, places.desks)?,
+        held: held(alloc, places.held)?,
+    })
+}
