@@ -4,7 +4,8 @@ use super::told::Told;
 use super::{DEFAULTS, PoolRow, Step, UnmadeRow};
 use commons::limits::Limits;
 use commons::refusal::Refusal;
-use script::replies::{Act, Freed};
+use mbuf::acts::Act;
+use mbuf::freed::Freed;
 
 const BACK_AND_FLUSHED: Told = Told::Freed(Freed {
     back: 1,

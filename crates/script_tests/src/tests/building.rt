@@ -3,7 +3,7 @@
 use super::{Field, Part, Places};
 use commons::packet::Seg;
 use commons::seq::Seq;
-use script::statement::{DeskPacket, Held, Holder, PlacedPacket, Statement};
+use pool_model::statement::{DeskPacket, Held, Holder, PlacedPacket, Statement};
 use std::alloc::Global;
 use std::test::Fail;
 

@@ -4,7 +4,7 @@ use super::ReplyRow;
 use super::told::Told;
 use commons::refusal::Refusal;
 use mempool::put::Put;
-use script::replies::Freed;
+use mbuf::freed::Freed;
 
 pub(super) const ROWS: &[ReplyRow] = &[
     ("2: ok 65533\n", 2, Told::Allocated(7, 65_533)),

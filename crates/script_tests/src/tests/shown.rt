@@ -1,7 +1,7 @@
 //! The lines of a script as text.
 
 use commons::change::Change;
-use script::commands::{Command, Line, Name};
+use script_text::commands::{Command, Line, Name};
 use std::alloc::Global;
 use std::test::Fail;
 

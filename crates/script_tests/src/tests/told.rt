@@ -2,7 +2,9 @@
 
 use commons::refusal::Refusal;
 use mempool::put::Put;
-use script::replies::{Freed, Pid, Reply};
+use mbuf::acts::Reply;
+use mbuf::freed::Freed;
+use mbuf::packets::Pid;
 
 /// A reply that has no list.
 #[derive(Clone, Copy)]
