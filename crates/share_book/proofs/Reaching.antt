@@ -26,3 +26,7 @@ reached_further pool after w act r e same = (
 -- its workers are numbered
 pub reached_numbered : (pool : Pool) → IsReached pool → IsNumbered pool.limits pool
 reached_numbered pool r = subst (IsNumbered pool.limits) (sym r.1) (acts-numbered pool.limits r.0)
+
+-- and what holds after any acts holds of it
+pub of_reached : (P : Pool → Type 0) (pool : Pool) → IsReached pool → ((acts : List (ℕ × Act)) → P (after_acts acts (new_pool pool.limits))) → P pool
+of_reached P pool r law = subst P (sym r.1) (law r.0)
