@@ -4,6 +4,7 @@ ghost use Rattle.std.specs.Prelude.{◌≡◌, ◌≤◌, All, List, IsSome, Non
 ghost use Rattle.commons.specs.Calls.{Made, Leads, calls_of};
 ghost use Rattle.mbuf.specs.Acts.{Performs, chained, first_elem, new_packet, told_len as len_reply, told_taken as taken_reply};
 ghost use Rattle.commons.specs.Packets.{own_in_slot};
+ghost use Rattle.mbuf.specs.Members.{slots as room};
 ghost use Rattle.mbuf.specs.Own.{Own};
 
 use crate::freed::Freed;
@@ -126,7 +127,7 @@ fn alloc<C: Commons>(packets: &mut Packets, c: &mut C) -> Reply
 
 /// The packets in these slots, at most 256, with their elements.
 fn new_packets(packets: &Packets, slots: &[Pid]) -> ArrayVec<NewPacket, SLOTS>
-    requires few { length slots.now ≤ 256 }
+    requires few { length slots.now ≤ room }
     requires there { All (λ slot. IsSome (slice_index_or packets.now.table slot None)) slots.now }
     ensures { result.items ≡ map (new_packet packets.now.table) slots.now }
 {
@@ -143,7 +144,7 @@ fn new_packets(packets: &Packets, slots: &[Pid]) -> ArrayVec<NewPacket, SLOTS>
 /// Makes a packet for each place of `slots`, which has the slots then, and tells of them.
 fn alloc_all<C: Commons>(packets: &mut Packets, c: &mut C, slots: &mut [Pid]) -> Reply
     requires own { Own packets.old (C.limits c.old) (C.hand c.old) (C.holds c.old) (C.headers c.old) }
-    requires few { length slots.old ≤ 256 }
+    requires few { length slots.old ≤ room }
     ensures calls { (made : List Made) × Leads C.did C.limits c.old made c.new × Performs (Act.AllocBulk (length slots.old)) packets.old (calls_of made) result packets.new }
     ensures own { Own packets.new (C.limits c.new) (C.hand c.new) (C.holds c.new) (C.headers c.new) }
 {
