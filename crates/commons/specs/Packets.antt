@@ -11,10 +11,14 @@ no_seg = record { elem = 0; base = None; data_off = 0; data_len = 0; buf_len = 0
 abbrev pub HasItsData : Seg → Type 0
 HasItsData seg = seg.data_off + seg.data_len ≤ seg.buf_len
 
--- 1 to 32 segments, each with its data within its buffer
+-- the most segments of a packet
+abbrev pub max_segs : ℕ
+max_segs = 32
+
+-- one to the most segments, each with its data within its buffer
 pub record IsPacket (segs : List Seg) : Type 0 where
   pub some : 1 ≤ length segs
-  pub few : length segs ≤ 32
+  pub few : length segs ≤ max_segs
   pub each : All HasItsData segs
 
 -- one hold of an element, where there is an element

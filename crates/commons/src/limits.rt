@@ -1,5 +1,30 @@
 use crate::refusal::Refusal;
 
+/// The most elements of a pool.
+pub const MAX_POPULATION: u64 = 65_534;
+
+/// The most elements that a worker's cache keeps, and that a put takes into a cache.
+/// (rte_config.h, `RTE_MEMPOOL_CACHE_MAX_SIZE`, DPDK 21.11)
+pub const MAX_CACHE: u64 = 512;
+
+/// The most workers of a pool.
+pub const MAX_WORKERS: u64 = 64;
+
+/// The most desks of a pool.
+pub const MAX_DESKS: u64 = 64;
+
+/// The most bytes of an element's buffer.
+pub const MAX_BUF: u64 = 65_535;
+
+/// The greatest reference limit.
+pub const MAX_REFS: u64 = 65_535;
+
+/// The most tries after which a call gives up.
+pub const MAX_TRIES: u64 = 1_000_000;
+
+/// The modification count at which the head is spent: the greatest of 48 bits.
+pub const SPENT: u64 = 281_474_976_710_655;
+
 /// What a pool is made of. Every number is a count, but `buf`, which is bytes.
 #[derive(Clone, Copy, Debug, PartialEq, Eq)]
 pub struct Limits {
@@ -31,14 +56,14 @@ impl Limits {
         ensures within { IsOk result ↔ IsPool self.now }
         ensures bad { IfErr result (λ e. e ≡ Refusal.BadPool) }
     {
-        let population = 1 <= self.population && self.population <= 65_534;
-        let cache = self.cache <= 512 && self.cache * 3 / 2 <= self.population;
-        let workers = 1 <= self.workers && self.workers <= 64;
-        let desks = self.desks <= 64;
-        let buf = self.buf <= 65_535;
-        let refs = 1 <= self.ref_limit && self.ref_limit <= 65_535;
-        let tries = 1 <= self.tries && self.tries <= 1_000_000;
-        let start = self.start_count <= 281_474_976_710_655;
+        let population = 1 <= self.population && self.population <= MAX_POPULATION;
+        let cache = self.cache <= MAX_CACHE && self.cache * 3 / 2 <= self.population;
+        let workers = 1 <= self.workers && self.workers <= MAX_WORKERS;
+        let desks = self.desks <= MAX_DESKS;
+        let buf = self.buf <= MAX_BUF;
+        let refs = 1 <= self.ref_limit && self.ref_limit <= MAX_REFS;
+        let tries = 1 <= self.tries && self.tries <= MAX_TRIES;
+        let start = self.start_count <= SPENT;
         if population && cache && workers && desks && buf && refs && tries && start {
             Ok(())
         } else {

@@ -41,7 +41,7 @@ impl Model for Packet {
 
 impl Packet {
     ghost use Rattle.std.specs.Prelude.{◌≡◌, ◌<◌, [], ◌∷◌, ◌++◌, length, slice_set};
-    ghost use Rattle.commons.specs.Packets.{HasItsData, IsPacket, no_seg};
+    ghost use Rattle.commons.specs.Packets.{HasItsData, IsPacket, max_segs, no_seg};
 
     /// The packet of one segment.
     pub fn single(seg: Seg) -> Packet
@@ -74,7 +74,7 @@ impl Packet {
 
     /// Puts a segment behind the last. The packet has fewer than 32.
     pub fn push(&mut self, seg: Seg)
-        requires room { length self.old < 32 }
+        requires room { length self.old < max_segs }
         requires data { HasItsData seg }
         ensures { self.new ≡ self.old ++ seg ∷ [] }
     {

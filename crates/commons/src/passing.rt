@@ -2,6 +2,7 @@
 
 ghost use Rattle.std.specs.Prelude.{◌≡◌, ◌+◌, ◌<◌, ◌≤◌, ℕ, [], ◌∷◌, length, slice_index, All, vec_len};
 ghost use Rattle.commons.specs.Bag.{bag, one};
+ghost use Rattle.commons.specs.Bounds.{max_refs};
 ghost use Rattle.commons.specs.Lists.{owner_left, placed};
 ghost use Rattle.commons.specs.Packets.{hold_of, holds_of_seg, holds_of_packet, own_of_packet};
 ghost use Rattle.commons.specs.Site.{HasEnded};
@@ -22,7 +23,7 @@ pub(crate) fn owner_left(owner: Option<u32>, worker: u32, left: u32) -> Option<u
 /// Adds one hold of each element that a packet holds to a worker's row.
 pub(crate) fn add_holds(row: &mut Seq<u32>, segs: &[Seg])
     requires below { (i : ℕ) → 0 < bag (holds_of_packet segs.now) i → i < length row.old }
-    requires few { (i : ℕ) → slice_index row.old i + bag (holds_of_packet segs.now) i ≤ 65535 }
+    requires few { (i : ℕ) → slice_index row.old i + bag (holds_of_packet segs.now) i ≤ max_refs }
     ensures holds { (i : ℕ) → slice_index row.new i ≡ slice_index row.old i + bag (holds_of_packet segs.now) i }
     ensures len { length row.new ≡ length row.old }
 {
@@ -34,7 +35,7 @@ pub(crate) fn add_holds(row: &mut Seq<u32>, segs: &[Seg])
 /// Adds the holds of one segment.
 fn add_seg(row: &mut Seq<u32>, seg: Seg)
     requires below { (i : ℕ) → 0 < bag (holds_of_seg seg) i → i < length row.old }
-    requires few { (i : ℕ) → slice_index row.old i + bag (holds_of_seg seg) i ≤ 65535 }
+    requires few { (i : ℕ) → slice_index row.old i + bag (holds_of_seg seg) i ≤ max_refs }
     ensures holds { (i : ℕ) → slice_index row.new i ≡ slice_index row.old i + bag (holds_of_seg seg) i }
     ensures len { length row.new ≡ length row.old }
 {
@@ -45,7 +46,7 @@ fn add_seg(row: &mut Seq<u32>, seg: Seg)
 /// Adds one hold of the base, where there is one.
 fn add_base(row: &mut Seq<u32>, base: Option<u32>)
     requires below { (i : ℕ) → 0 < bag (hold_of base) i → i < length row.old }
-    requires few { (i : ℕ) → slice_index row.old i + bag (hold_of base) i ≤ 65535 }
+    requires few { (i : ℕ) → slice_index row.old i + bag (hold_of base) i ≤ max_refs }
     ensures holds { (i : ℕ) → slice_index row.new i ≡ slice_index row.old i + bag (hold_of base) i }
     ensures len { length row.new ≡ length row.old }
 {
@@ -58,7 +59,7 @@ fn add_base(row: &mut Seq<u32>, base: Option<u32>)
 /// Adds one hold of an element.
 fn add_hold(row: &mut Seq<u32>, element: usize)
     requires below { element < length row.old }
-    requires few { slice_index row.old element < 65535 }
+    requires few { slice_index row.old element < max_refs }
     ensures holds { (i : ℕ) → slice_index row.new i ≡ slice_index row.old i + one element i }
     ensures len { length row.new ≡ length row.old }
 {

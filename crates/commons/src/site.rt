@@ -3,7 +3,7 @@ ghost use Rattle.std.specs.List.{range_with_len};
 ghost use Rattle.commons.specs.Bounds.{IsPool};
 ghost use Rattle.commons.specs.Lists.{placed, place_of, owner_left, held_count, WasLowered, opening, IsTable};
 
-use crate::limits::Limits;
+use crate::limits::{Limits, SPENT};
 use crate::packet::Packet;
 use crate::passing::{add_holds, end_holds, owner_left, set_owner};
 use crate::place::Place;
@@ -11,9 +11,6 @@ use crate::refusal::{Lowered, Refusal};
 use crate::seq::Seq;
 use std::alloc::{AllocError, Global};
 use std::marker::Model;
-
-/// The modification count at which the head is spent: the greatest of 48 bits.
-pub const SPENT: u64 = 281_474_976_710_655;
 
 /// The shared part of a pool as lists, for one thread. All its room is taken when it is made.
 #[derive(Debug, Drop)]

@@ -8,7 +8,7 @@ use Rattle.mempool.specs.Caches.{Flushes}
 use Rattle.mempool.specs.declared.put.Put.{Put}
 use Rattle.mbuf.specs.Lengths.{pkt_len, appended, prepended, adjusted, trimmed}
 use Rattle.commons.specs.Packets.{no_seg, own_in_slot}
-use Rattle.mbuf.specs.Members.{Member}
+use Rattle.mbuf.specs.Members.{Member, slots}
 use Rattle.mbuf.specs.PacketRules.{Allocs, AllocsBulk, Frees, Resizes, Chains, of_packet}
 use Rattle.mbuf.specs.Desks.{Offers, Takes}
 use Rattle.mbuf.specs.Sharing.{Attaches, Clones, CountsOf, Detaches}
@@ -21,7 +21,7 @@ use Rattle.mbuf.specs.declared.freed.Freed.{Freed}
 
 -- an answer with room for any bulk
 abbrev pub Reply : Type 0
-Reply = Answer 256
+Reply = Answer slots
 
 -- an answer as one with room for any bulk
 abbrev pub as_reply : {room : ℕ} → Answer room → Reply
@@ -41,7 +41,7 @@ as_reply (reply.Refused cause) = reply.Refused cause
 
 -- an answer with this room can tell of the act: where it is a bulk that may be met, of all its packets
 abbrev pub HasRoom : ℕ → Act → Type 0
-HasRoom room (act.AllocBulk n) = n ≤ 256 → n ≤ room
+HasRoom room (act.AllocBulk n) = n ≤ slots → n ≤ room
 HasRoom room _ = Unit {0}
 
 -- the own element of the first segment of what is in a slot

@@ -2,6 +2,7 @@
 use Rattle.std.specs.Prelude.{ℕ, ◌≡◌, ◌<◌, ◌/◌, ◌%◌, ◌==◌, Bool, List, count_by, map, slice_index}
 use Rattle.std.specs.List.{range_with_len}
 use Rattle.std.specs.Int.{bit_at}
+use Rattle.mbuf.specs.Members.{slots}
 
 -- whether the bit of a slot is 1
 abbrev pub is_set : List ℕ → ℕ → Bool
@@ -9,7 +10,7 @@ is_set words slot = bit_at (slice_index words (slot / 64)) (slot % 64) == 1
 
 -- the bits of all slots
 abbrev pub flags_of : List ℕ → List Bool
-flags_of words = map (is_set words) (range_with_len 0 256)
+flags_of words = map (is_set words) (range_with_len 0 slots)
 
 -- so many bits are 1
 abbrev pub IsCounted : List ℕ → ℕ → Type 0

@@ -11,7 +11,7 @@ use Rattle.mempool.specs.Caches.{Gets, Puts}
 use Rattle.mempool.specs.declared.put.Put.{Put}
 use Rattle.mempool.specs.declared.put.Put.TheVariants.{Kept, Flushed, PutOff}
 use Rattle.mbuf.specs.Lengths.{pkt_len}
-use Rattle.commons.specs.Packets.{holds_of_packet}
+use Rattle.commons.specs.Packets.{holds_of_packet, max_segs}
 use Rattle.mbuf.specs.Members.{Member}
 use Rattle.mbuf.specs.declared.freed.Freed.{Freed}
 
@@ -109,6 +109,6 @@ pub data Chains (m : Member) (head tail : ℕ) (answer : Result (Unit {0}) Refus
   -- they are one
   Same : (segs : List Seg) → slice_index_or m.table head None ≡ Some segs → head ≡ tail → answer ≡ Err SamePacket → after ≡ m → Chains m head tail answer after
   -- they have more segments together than a packet has
-  TooLong : (first second : List Seg) → slice_index_or m.table head None ≡ Some first → slice_index_or m.table tail None ≡ Some second → head ≢ tail → 32 < length first + length second → answer ≡ Err TooManySegs → after ≡ m → Chains m head tail answer after
+  TooLong : (first second : List Seg) → slice_index_or m.table head None ≡ Some first → slice_index_or m.table tail None ≡ Some second → head ≢ tail → max_segs < length first + length second → answer ≡ Err TooManySegs → after ≡ m → Chains m head tail answer after
   -- the tail's segments stand behind the head's, and its slot is free
-  WasChained : (first second : List Seg) → slice_index_or m.table head None ≡ Some first → slice_index_or m.table tail None ≡ Some second → head ≢ tail → length first + length second ≤ 32 → answer ≡ Ok tt → after ≡ record m { table = slice_set (slice_set m.table head (Some (first ++ second))) tail None } → Chains m head tail answer after
+  WasChained : (first second : List Seg) → slice_index_or m.table head None ≡ Some first → slice_index_or m.table tail None ≡ Some second → head ≢ tail → length first + length second ≤ max_segs → answer ≡ Ok tt → after ≡ record m { table = slice_set (slice_set m.table head (Some (first ++ second))) tail None } → Chains m head tail answer after

@@ -4,6 +4,7 @@ ghost use Rattle.std.specs.Prelude.{◌≡◌, ◌≤◌, All, List, IsSome, Non
 ghost use Rattle.commons.specs.Calls.{Made, Leads, calls_of};
 ghost use Rattle.mbuf.specs.Acts.{HasRoom, Performs, as_reply, chained, first_elem, new_packet, told_len as len_reply, told_taken as taken_reply};
 ghost use Rattle.commons.specs.Packets.{own_in_slot};
+ghost use Rattle.mbuf.specs.Members.{slots as slot_count};
 ghost use Rattle.mbuf.specs.Own.{Own};
 
 use crate::freed::Freed;
@@ -150,7 +151,7 @@ fn alloc_all<C: Commons, const ROOM: usize>(
     slots: &mut [Pid],
 ) -> Answer<ROOM>
     requires own { Own packets.old (C.limits c.old) (C.hand c.old) (C.holds c.old) (C.headers c.old) }
-    requires few { length slots.old ≤ 256 }
+    requires few { length slots.old ≤ slot_count }
     requires room { HasRoom ROOM (Act.AllocBulk (length slots.old)) }
     ensures calls { (made : List Made) × Leads C.did C.limits c.old made c.new × Performs (Act.AllocBulk (length slots.old)) packets.old (calls_of made) (as_reply result) packets.new }
     ensures own { Own packets.new (C.limits c.new) (C.hand c.new) (C.holds c.new) (C.headers c.new) }

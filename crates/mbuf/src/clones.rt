@@ -3,7 +3,7 @@
 ghost use Rattle.std.specs.Prelude.{◌≡◌, ◌≢◌, ◌<◌, ◌≤◌, ◌+◌, [], ◌∷◌, ◌++◌, ℕ, List, length, map, take, Ok, Err, OnOk, OnErr, IfOk, MatchResult, slice_index_or, slice_set, vec_len};
 ghost use Rattle.commons.specs.Bag.{bag, one};
 ghost use Rattle.commons.specs.Calls.{Made, Leads, calls_of};
-ghost use Rattle.commons.specs.Packets.{HasItsData, IsPacket, hold_of, holds_of_packet, holds_of_seg};
+ghost use Rattle.commons.specs.Packets.{HasItsData, IsPacket, hold_of, holds_of_packet, holds_of_seg, max_segs};
 ghost use Rattle.mempool.specs.WorkerCache.{KeepsNumber};
 ghost use Rattle.mbuf.specs.PacketRules.{EndsHolds, freed_nothing};
 ghost use Rattle.mbuf.specs.Sharing.{attached as attached_seg, buffer_of as buffer};
@@ -101,7 +101,7 @@ fn give_up<C: Commons>(worker: &mut Worker, c: &mut C, segs: &[Seg], over: Optio
     requires limits { C.limits c.old ≡ worker.old.limits }
     requires hand { (i : ℕ) → C.hand c.old i ≡ bag worker.old.cache i }
     requires held { (i : ℕ) → bag (holds_of_packet segs.now ++ hold_of over) i ≤ C.holds c.old i }
-    requires few { length segs.now < 32 }
+    requires few { length segs.now < max_segs }
     ensures calls { (made : List Made) × Leads C.did C.limits c.old made c.new × EndsHolds worker.old.limits (holds_of_packet segs.now ++ hold_of over) worker.old.cache freed_nothing (calls_of made) worker.new.cache result }
     ensures hand { (i : ℕ) → C.hand c.new i ≡ bag worker.new.cache i }
     ensures holds { (i : ℕ) → C.holds c.old i ≡ C.holds c.new i + bag (holds_of_packet segs.now ++ hold_of over) i }
@@ -119,7 +119,7 @@ fn give_up<C: Commons>(worker: &mut Worker, c: &mut C, segs: &[Seg], over: Optio
 /// Lets a segment follow the first `count` of a packet, as its last.
 fn follow(packet: &mut Packet, count: usize, seg: Seg)
     requires all { 0 < count → length packet.old ≡ count }
-    requires room { count < 32 }
+    requires room { count < max_segs }
     requires data { HasItsData seg }
     ensures { packet.new ≡ take count packet.old ++ seg ∷ [] }
 {

@@ -3,6 +3,7 @@
 //! Bit k of word w is 1 while slot 64 w + k is free.
 
 ghost use Rattle.std.specs.Prelude.{◌≡◌, ◌<◌, true, false, count_by, position, replicate, slice_index_or, slice_set, MatchOption};
+ghost use Rattle.mbuf.specs.Members.{slots};
 ghost use Rattle.mbuf.specs.Bits.{IsLowestBit};
 
 use crate::packets::SLOTS;
@@ -40,7 +41,7 @@ fn lowest_bit(word: u64) -> Option<usize>
 impl FreeSlots {
     /// All slots are free.
     pub fn new() -> FreeSlots
-        ensures { result ≡ replicate 256 true }
+        ensures { result ≡ replicate slots true }
     {
         FreeSlots {
             words: [u64::MAX; 4],
@@ -69,7 +70,7 @@ impl FreeSlots {
 
     /// Whether a slot is free.
     pub fn is_free(&self, slot: usize) -> bool
-        requires { slot < 256 }
+        requires { slot < slots }
         ensures { result ≡ slice_index_or self.now slot false }
     {
         self.words[slot / 64] >> (slot % 64) & 1 == 1
@@ -77,7 +78,7 @@ impl FreeSlots {
 
     /// Takes a free slot: it isn't free from now on.
     pub fn take(&mut self, slot: usize)
-        requires within { slot < 256 }
+        requires within { slot < slots }
         requires free { slice_index_or self.old slot false ≡ true }
         ensures { self.new ≡ slice_set self.old slot false }
     {
@@ -87,7 +88,7 @@ impl FreeSlots {
 
     /// Gives a slot back that was taken: it is free from now on.
     pub fn give(&mut self, slot: usize)
-        requires within { slot < 256 }
+        requires within { slot < slots }
         requires taken { slice_index_or self.old slot false ≡ false }
         ensures { self.new ≡ slice_set self.old slot true }
     {

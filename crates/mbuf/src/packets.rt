@@ -13,12 +13,12 @@ ghost use Rattle.mbuf.specs.Kept.{KeepsHolds};
 ghost use Rattle.mbuf.specs.Desks.{Offers, Takes};
 ghost use Rattle.mbuf.specs.Sharing.{Attaches, Clones, CountsOf, Detaches, detachable, pair_in};
 ghost use Rattle.mbuf.specs.Cloning.{ArePair, IsIndirect};
-ghost use Rattle.commons.specs.Packets.{HasItsData};
+ghost use Rattle.commons.specs.Packets.{HasItsData, max_segs};
 
 use crate::free_slots::FreeSlots;
 use crate::freed::Freed;
-use commons::change::Change;
 use crate::{clones, lengths, steps};
+use commons::change::Change;
 use commons::limits::Limits;
 use commons::packet::{MAX_SEGS, Packet, Seg};
 use commons::refusal::Refusal;
@@ -620,7 +620,7 @@ fn push_segs(packets: &mut Vec<Packet>, first: usize, second: usize)
     requires first { first < vec_len packets.old }
     requires second { second < vec_len packets.old }
     requires apart { first ≢ second }
-    requires few { length (slice_index_or packets.old.items first []) + length (slice_index_or packets.old.items second []) ≤ 32 }
+    requires few { length (slice_index_or packets.old.items first []) + length (slice_index_or packets.old.items second []) ≤ max_segs }
     ensures { packets.new.items ≡ slice_set packets.old.items first (slice_index_or packets.old.items first [] ++ slice_index_or packets.old.items second []) }
 {
     for index in 0..packets[second].segs().len() {

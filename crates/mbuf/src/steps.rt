@@ -2,12 +2,12 @@
 
 ghost use Rattle.std.specs.Prelude.{◌≡◌, ◌<◌, ◌≤◌, ◌+◌, ◌*◌, ℕ, List, length, if◌then◌else◌, nat_lt, IfOk, OnOk, OnErr};
 ghost use Rattle.commons.specs.Bag.{bag, one};
-ghost use Rattle.commons.specs.Bounds.{IsPool};
+ghost use Rattle.commons.specs.Bounds.{IsPool, max_population};
 ghost use Rattle.commons.specs.Calls.{Made, Leads, calls_of};
 ghost use Rattle.mempool.specs.Caches.{Gets, put_count};
 ghost use Rattle.mempool.specs.WorkerCache.{KeepsNumber};
 ghost use Rattle.mbuf.specs.Kept.{as_list};
-ghost use Rattle.commons.specs.Packets.{holds_of_packet, holds_of_seg};
+ghost use Rattle.commons.specs.Packets.{holds_of_packet, holds_of_seg, max_segs};
 ghost use Rattle.mbuf.specs.PacketRules.{fresh_seg, freed_nothing, counted as counted_put, EndsHold, EndsHolds};
 
 use crate::freed::Freed;
@@ -80,8 +80,8 @@ pub fn end_hold<C: Commons>(worker: &mut Worker, c: &mut C, elem: u32, freed: Fr
     requires limits { C.limits c.old ≡ worker.old.limits }
     requires hand { (i : ℕ) → C.hand c.old i ≡ bag worker.old.cache i }
     requires held { 0 < C.holds c.old elem }
-    requires back { freed.back < 64 }
-    requires flushed { freed.flushed ≤ 65_534 * freed.back }
+    requires back { freed.back < 2 * max_segs }
+    requires flushed { freed.flushed ≤ max_population * freed.back }
     ensures calls { (made : List Made) × Leads C.did C.limits c.old made c.new × EndsHold worker.old.limits elem worker.old.cache freed (calls_of made) worker.new.cache result }
     ensures hand { (i : ℕ) → C.hand c.new i ≡ bag worker.new.cache i }
     ensures holds { (i : ℕ) → C.holds c.old i ≡ C.holds c.new i + one elem i }
@@ -89,7 +89,7 @@ pub fn end_hold<C: Commons>(worker: &mut Worker, c: &mut C, elem: u32, freed: Fr
     ensures limits { C.limits c.new ≡ C.limits c.old }
     ensures number { KeepsNumber worker.old worker.new }
     ensures back { result.back ≤ freed.back + 1 }
-    ensures flushed { result.flushed ≤ 65_534 * result.back }
+    ensures flushed { result.flushed ≤ max_population * result.back }
 {
     let _limits = worker.limits();
     match c.lower(elem) {
@@ -104,8 +104,8 @@ fn end_seg<C: Commons>(worker: &mut Worker, c: &mut C, seg: Seg, freed: Freed) -
     requires limits { C.limits c.old ≡ worker.old.limits }
     requires hand { (i : ℕ) → C.hand c.old i ≡ bag worker.old.cache i }
     requires held { (i : ℕ) → bag (holds_of_seg seg) i ≤ C.holds c.old i }
-    requires back { freed.back < 63 }
-    requires flushed { freed.flushed ≤ 65_534 * freed.back }
+    requires back { freed.back + 1 < 2 * max_segs }
+    requires flushed { freed.flushed ≤ max_population * freed.back }
     ensures calls { (made : List Made) × Leads C.did C.limits c.old made c.new × EndsHolds worker.old.limits (holds_of_seg seg) worker.old.cache freed (calls_of made) worker.new.cache result }
     ensures hand { (i : ℕ) → C.hand c.new i ≡ bag worker.new.cache i }
     ensures holds { (i : ℕ) → C.holds c.old i ≡ C.holds c.new i + bag (holds_of_seg seg) i }
@@ -113,7 +113,7 @@ fn end_seg<C: Commons>(worker: &mut Worker, c: &mut C, seg: Seg, freed: Freed) -
     ensures limits { C.limits c.new ≡ C.limits c.old }
     ensures number { KeepsNumber worker.old worker.new }
     ensures back { result.back ≤ freed.back + 2 }
-    ensures flushed { result.flushed ≤ 65_534 * result.back }
+    ensures flushed { result.flushed ≤ max_population * result.back }
 {
     match seg.base {
         None => end_hold(worker, c, seg.elem, freed),
@@ -136,7 +136,7 @@ pub fn end_segs<C: Commons>(worker: &mut Worker, c: &mut C, segs: &[Seg]) -> Fre
     requires limits { C.limits c.old ≡ worker.old.limits }
     requires hand { (i : ℕ) → C.hand c.old i ≡ bag worker.old.cache i }
     requires held { (i : ℕ) → bag (holds_of_packet segs.now) i ≤ C.holds c.old i }
-    requires few { length segs.now ≤ 32 }
+    requires few { length segs.now ≤ max_segs }
     ensures calls { (made : List Made) × Leads C.did C.limits c.old made c.new × EndsHolds worker.old.limits (holds_of_packet segs.now) worker.old.cache freed_nothing (calls_of made) worker.new.cache result }
     ensures hand { (i : ℕ) → C.hand c.new i ≡ bag worker.new.cache i }
     ensures holds { (i : ℕ) → C.holds c.old i ≡ C.holds c.new i + bag (holds_of_packet segs.now) i }
@@ -144,7 +144,7 @@ pub fn end_segs<C: Commons>(worker: &mut Worker, c: &mut C, segs: &[Seg]) -> Fre
     ensures limits { C.limits c.new ≡ C.limits c.old }
     ensures number { KeepsNumber worker.old worker.new }
     ensures back { result.back ≤ 2 * length segs.now }
-    ensures flushed { result.flushed ≤ 65_534 * result.back }
+    ensures flushed { result.flushed ≤ max_population * result.back }
 {
     let mut freed = NOTHING_FREED;
     for seg in segs {

@@ -2,12 +2,13 @@
 use Rattle.std.proofs.Common.{◌≡◌, ◌<◌, ◌≤◌, ◌-◌, ◌++◌, ℕ, List, [], ◌∷◌, length, length-append, drop, arith, refl, sym, ◌∙◌, subst, Ok, Err}
 use Rattle.std.proofs.Math.Seq.{take-append_seam, drop-append_seam}
 use Rattle.commons.specs.declared.limits.Limits.{Limits}
+use Rattle.commons.specs.Bounds.{max_cache}
 use Rattle.commons.specs.Calls.{Reading, Call, Made, PutList, Leads, calls_of}
 use Rattle.mempool.specs.declared.put.Put.{Put}
 use Rattle.mempool.specs.Caches.{Pushed, Gone, Stays, Puts, Bypass, BypassPutOff, Flush, FlushPutOff, Flushes, Whole, WholePutOff, threshold}
 
 pub put_over : {S : Type 0} (did : S → Call → List Reading → S → Type 0) (limits : S → Limits) (l : Limits) (cache list all : List ℕ) (before after : S) (answer : Put) (left : List ℕ) →
-    all ≡ cache ++ list → 0 < length list → length list ≤ 512 → threshold l ≤ length all → l.cache < length all →
+    all ≡ cache ++ list → 0 < length list → length list ≤ max_cache → threshold l ≤ length all → l.cache < length all →
     Pushed did limits l.cache all before answer after left →
     (made : List Made) × Leads did limits before made after × Puts l cache list (calls_of made) answer left
 put_over did limits l cache list all before after answer left e some few t s (Gone d a k) =
@@ -17,7 +18,7 @@ put_over did limits l cache list all before after answer left e some few t s (St
 
 -- A list that was pushed past the cache: all beyond the cache's own length of the two together.
 pub put_passed : {S : Type 0} (did : S → Call → List Reading → S → Type 0) (limits : S → Limits) (l : Limits) (cache list : List ℕ) (before after : S) (answer : Put) (left : List ℕ) →
-    512 < length list → Pushed did limits (length cache) (cache ++ list) before answer after left →
+    max_cache < length list → Pushed did limits (length cache) (cache ++ list) before answer after left →
     (made : List Made) × Leads did limits before made after × Puts l cache list (calls_of made) answer left
 put_passed did limits l cache list before after answer left many (Gone d a k) =
     let n : length (cache ++ list) - length cache ≡ length list = omega (arith, length-append cache list) in (
@@ -34,7 +35,7 @@ put_passed did limits l cache list before after answer left many (Stays cause d 
 
 -- Where nothing is kept and the cache is empty, that is a put's one request too.
 pub put_kept_none : {S : Type 0} (did : S → Call → List Reading → S → Type 0) (limits : S → Limits) (l : Limits) (cache list : List ℕ) (before after : S) (answer : Put) (left : List ℕ) →
-    l.cache ≡ 0 → length cache ≡ 0 → 0 < length list → length list ≤ 512 → Pushed did limits (length cache) (cache ++ list) before answer after left →
+    l.cache ≡ 0 → length cache ≡ 0 → 0 < length list → length list ≤ max_cache → Pushed did limits (length cache) (cache ++ list) before answer after left →
     (made : List Made) × Leads did limits before made after × Puts l cache list (calls_of made) answer left
 put_kept_none did limits l cache list before after answer left none empty some few p =
     let t : threshold l ≡ 0 = rw none refl in

@@ -3,6 +3,7 @@
 use Rattle.std.specs.Prelude.{ℕ, ◌≡◌, ◌+◌, ◌-◌, ◌*◌, ◌/◌, ◌<◌, ◌≤◌, ◌⊎◌, List, [], ◌∷◌, ◌++◌, Result, Ok, Err, length, take, drop, reverse}
 use Rattle.commons.specs.declared.limits.Limits.{Limits}
 use Rattle.commons.specs.declared.refusal.Refusal.{Refusal}
+use Rattle.commons.specs.Bounds.{max_cache}
 use Rattle.commons.specs.Calls.{Reading, Call, GetList, PutList, Did}
 use Rattle.mempool.specs.declared.put.Put.{Put}
 use Rattle.mempool.specs.declared.put.Put.TheVariants.{Kept, Flushed, PutOff}
@@ -45,15 +46,15 @@ pub data Puts (l : Limits) (cache list : List ℕ) (calls : List Call) (answer :
   -- nothing is put
   NothingPut : list ≡ [] → calls ≡ [] → answer ≡ Kept → left ≡ cache → Puts l cache list calls answer left
   -- more than a cache ever keeps goes past it
-  Bypass : 512 < length list → calls ≡ PutList list (Ok tt) ∷ [] → answer ≡ Flushed (length list) → left ≡ cache → Puts l cache list calls answer left
+  Bypass : max_cache < length list → calls ≡ PutList list (Ok tt) ∷ [] → answer ≡ Flushed (length list) → left ≡ cache → Puts l cache list calls answer left
   -- and stays in it where the stack refuses it
-  BypassPutOff : 512 < length list → (cause : Refusal) → calls ≡ PutList list (Err cause) ∷ [] → answer ≡ PutOff (length list) cause → left ≡ cache ++ list → Puts l cache list calls answer left
+  BypassPutOff : max_cache < length list → (cause : Refusal) → calls ≡ PutList list (Err cause) ∷ [] → answer ≡ PutOff (length list) cause → left ≡ cache ++ list → Puts l cache list calls answer left
   -- from the threshold on, all beyond the size goes to the stack in one push
-  Flush : 0 < length list → length list ≤ 512 → threshold l ≤ length (cache ++ list) → l.cache < length (cache ++ list) → calls ≡ PutList (drop l.cache (cache ++ list)) (Ok tt) ∷ [] → answer ≡ Flushed (length (cache ++ list) - l.cache) → left ≡ take l.cache (cache ++ list) → Puts l cache list calls answer left
+  Flush : 0 < length list → length list ≤ max_cache → threshold l ≤ length (cache ++ list) → l.cache < length (cache ++ list) → calls ≡ PutList (drop l.cache (cache ++ list)) (Ok tt) ∷ [] → answer ≡ Flushed (length (cache ++ list) - l.cache) → left ≡ take l.cache (cache ++ list) → Puts l cache list calls answer left
   -- and stays in the cache where the stack refuses it
-  FlushPutOff : 0 < length list → length list ≤ 512 → threshold l ≤ length (cache ++ list) → l.cache < length (cache ++ list) → (cause : Refusal) → calls ≡ PutList (drop l.cache (cache ++ list)) (Err cause) ∷ [] → answer ≡ PutOff (length (cache ++ list) - l.cache) cause → left ≡ cache ++ list → Puts l cache list calls answer left
+  FlushPutOff : 0 < length list → length list ≤ max_cache → threshold l ≤ length (cache ++ list) → l.cache < length (cache ++ list) → (cause : Refusal) → calls ≡ PutList (drop l.cache (cache ++ list)) (Err cause) ∷ [] → answer ≡ PutOff (length (cache ++ list) - l.cache) cause → left ≡ cache ++ list → Puts l cache list calls answer left
   -- below it the cache keeps all
-  Keep : 0 < length list → length list ≤ 512 → (length (cache ++ list) < threshold l) ⊎ (length (cache ++ list) ≤ l.cache) → calls ≡ [] → answer ≡ Kept → left ≡ cache ++ list → Puts l cache list calls answer left
+  Keep : 0 < length list → length list ≤ max_cache → (length (cache ++ list) < threshold l) ⊎ (length (cache ++ list) ≤ l.cache) → calls ≡ [] → answer ≡ Kept → left ≡ cache ++ list → Puts l cache list calls answer left
 
 -- all of a cache beyond keep went to the stack in one push, or was refused and stayed
 pub data Pushed {S : Type 0} (did : S → Call → List Reading → S → Type 0) (limits : S → Limits) (keep : ℕ) (cache : List ℕ) (before : S) (answer : Put) (after : S) (left : List ℕ) : Type 0 where

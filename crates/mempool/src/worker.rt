@@ -4,15 +4,11 @@ ghost use Rattle.commons.specs.Calls.{Made, calls_of, with_list, Leads};
 
 use crate::put::Put;
 use crate::steps;
-use commons::limits::Limits;
+use commons::limits::{Limits, MAX_CACHE};
 use commons::refusal::Refusal;
 use commons::shared::Commons;
 use std::alloc::Global;
 use std::marker::Model;
-
-/// The most elements that a put takes into a cache.
-/// (rte_config.h, `RTE_MEMPOOL_CACHE_MAX_SIZE`, DPDK 21.11)
-const CACHE_MAX: usize = 512;
 
 /// A worker's cache over a shared pool. A worker can't be dropped: `lose` ends it.
 #[derive(Debug)]
@@ -173,7 +169,7 @@ impl Worker {
         steps::room(c, &self.cache, list);
         let size = self.limits.cache as usize;
         let len = self.cache.len();
-        if count > CACHE_MAX {
+        if count > MAX_CACHE as usize {
             return steps::put_past(&mut self.cache, c, list);
         }
         if size == 0 && len == 0 {

@@ -1,6 +1,7 @@
 use Rattle.std.proofs.lemmas.List.{length-take}
 use Rattle.commons.specs.Calls.{calls_of}
 use Rattle.mbuf.specs.Acts.{HasRoom, Performs, as_reply}
+use Rattle.mbuf.specs.Members.{slots}
 use Rattle.mbuf.specs.declared.acts.Act.TheVariants.{AllocBulk}
 use Rattle.std.proofs.Common.{ℕ, ◌≡◌, ◌≤◌, [], Err, length, take, replicate, subst, refl, sym, rules, arith}
 use Rattle.commons.specs.declared.refusal.Refusal.TheVariants.{PacketsFull}
@@ -13,8 +14,8 @@ returns-then-count-gt-SLOTS-clause-calls g c =
     ([], refl, (Err PacketsFull, TooFull (omega (arith, free_within 0 c.args.packets.now.table, c.has_slots.ensures, c.if-count-gt-SLOTS.true)) refl refl refl, refl))
 
 -- as many places are lent as are asked for
-lent : (count : ℕ) → count ≤ 256 → length (take count (replicate {A = ℕ} 256 0)) ≡ count
-lent count few = omega (arith, length-take count (replicate {A = ℕ} 256 0), few)
+lent : (count : ℕ) → count ≤ slots → length (take count (replicate {A = ℕ} slots 0)) ≡ count
+lent count few = omega (arith, length-take count (replicate {A = ℕ} slots 0), few)
 
 pub returns-clause-calls : goal.returns-clause-calls
 returns-clause-calls g c =

@@ -1,5 +1,6 @@
 use Rattle.std.proofs.Common.{◌≡◌, ℕ, ◌+◌, ◌*◌, ◌<◌, ◌≤◌, take}
 use Rattle.commons.specs.Bag.{bag}
+use Rattle.commons.specs.Bounds.{max_population}
 use Rattle.mempool.specs.WorkerCache.{KeepsNumber}
 use Rattle.commons.specs.Packets.{holds_of_packet}
 use Rattle.mbuf.specs.PacketRules.{freed_nothing}
@@ -16,5 +17,5 @@ invariant-loop-seg g l = record {
   limits : g.C.Commons.limits l.c ≡ g.C.Commons.limits l.fn.c;
   number : KeepsNumber l.fn.worker l.worker;
   back : l.freed.back ≤ 2 * l.seg-index;
-  flushed : l.freed.flushed ≤ 65534 * l.freed.back;
+  flushed : l.freed.flushed ≤ max_population * l.freed.back;
 }

@@ -2,8 +2,8 @@ use Rattle.std.proofs.Common.{arith, sym}
 use Rattle.mempool.proofs.Pushes.{put_over, put_passed, put_kept_none}
 use Rattle.mempool.proofs.worker.Worker.put_bulk.Goals as goal
 
-pub returns-then-count-gt-CACHE_MAX-clause-calls : goal.returns-then-count-gt-CACHE_MAX-clause-calls
-returns-then-count-gt-CACHE_MAX-clause-calls g c =
+pub returns-then-count-clause-calls : goal.returns-then-count-clause-calls
+returns-then-count-clause-calls g c =
     rw (sym c.self.view_is) (put_passed g.C.Commons.did g.C.Commons.limits c.self.inside.limits c.self.inside.cache.items c.args.list.now
     c.args.c.now c.put_past.new.c c.put_past.result c.put_past.new.cache.items (omega arith) c.put_past.ensures.calls)
 
