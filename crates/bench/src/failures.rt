@@ -1,0 +1,59 @@
+//! Why nothing was measured.
+
+use clap::Error;
+use clap::error::ErrorKind;
+use commons::refusal::Refusal;
+use std::alloc::AllocError;
+use std::io;
+use std::io::{Eprint, Print};
+
+/// Why nothing was measured.
+#[derive(Debug, Drop)]
+pub enum Failure {
+    /// The words of the command line are wrong, or ask for help.
+    CommandLine(Error),
+    /// The clock, or an output, failed.
+    System(io::Error),
+    /// A pool could not be made, or its first packets.
+    Refused(Refusal),
+}
+
+impl From<Error> for Failure {
+    fn from(error: Error) -> Self {
+        Failure::CommandLine(error)
+    }
+}
+
+impl From<io::Error> for Failure {
+    fn from(error: io::Error) -> Self {
+        Failure::System(error)
+    }
+}
+
+impl From<Refusal> for Failure {
+    fn from(refusal: Refusal) -> Self {
+        Failure::Refused(refusal)
+    }
+}
+
+impl From<AllocError> for Failure {
+    fn from(_error: AllocError) -> Self {
+        Failure::Refused(Refusal::OutOfMemory)
+    }
+}
+
+/// Tells of a failure, and gives its status: 2 for wrong words, 0 for help, else 1.
+pub fn tell<R: Print + Eprint>(rt: &R, failure: Failure) -> u8 {
+    let (told, status) = match failure {
+        Failure::CommandLine(error) => match error.kind() {
+            ErrorKind::DisplayHelp | ErrorKind::DisplayVersion => (error.print(rt), 0),
+            _ => (error.print(rt), 2),
+        },
+        Failure::System(error) => (rt.eprintln(format_args!("bench: {error}")), 1),
+        Failure::Refused(refusal) => (rt.eprintln(format_args!("bench: {refusal}")), 1),
+    };
+    match told {
+        Ok(()) => status,
+        Err(_) => 1,
+    }
+}

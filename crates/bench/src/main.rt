@@ -1,0 +1,38 @@
+//! Measures the pool on the lists: `bench WORKLOAD [--rounds N] [--runs R]`.
+#![tactic(auto)]
+
+mod command_line;
+mod elements;
+mod failures;
+mod figures;
+mod packets;
+mod pools;
+mod replays;
+
+use command_line::Workload;
+use failures::Failure;
+use std::process::ExitCode;
+use std::rt::Runtime;
+
+fn main(rt: HostRuntime) -> ExitCode {
+    ExitCode::from(run(&rt))
+}
+
+// Measures what the command line asks for, and gives the status that the program ends with.
+fn run<R: Runtime + AllocGlobal>(rt: &R) -> u8 {
+    match measure(rt) {
+        Ok(()) => 0,
+        Err(failure) => failures::tell(rt, failure),
+    }
+}
+
+fn measure<R: Runtime + AllocGlobal>(rt: &R) -> Result<(), Failure> {
+    let words = command_line::words(rt)?;
+    let asked = command_line::read(rt.alloc(), words.as_slice())?;
+    match asked.workload {
+        None => command_line::list(rt),
+        Some(Workload::Replays) => replays::measure(rt, asked.rounds, asked.runs),
+        Some(Workload::Elements) => elements::measure(rt, asked.rounds, asked.runs),
+        Some(Workload::Packets) => packets::measure(rt, asked.rounds, asked.runs),
+    }
+}

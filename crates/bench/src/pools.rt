@@ -1,0 +1,31 @@
+//! The pools that are measured.
+ghost use Rattle.std.specs.Prelude.{◌≡◌, [], None, replicate};
+ghost use Rattle.commons.specs.Lists.{opening, hand_of, holds_of, header_of};
+ghost use Rattle.mbuf.specs.Members.{slots};
+ghost use Rattle.mbuf.specs.Own.{Own};
+
+use commons::limits::Limits;
+use commons::plain::PlainCommons;
+use mbuf::packets::Packets;
+
+/// A pool of one worker, with a cache of this size, and one desk.
+pub fn limits(population: u64, cache: u64) -> Limits {
+    Limits {
+        population,
+        cache,
+        workers: 1,
+        desks: 1,
+        buf: 2_048,
+        ref_limit: 65_535,
+        tries: 64,
+        start_count: 0,
+    }
+}
+
+/// A law: a new worker's packets are its own in a new pool. It does nothing.
+pub fn begin(c: &PlainCommons, packets: &Packets)
+    requires site { c.now.site.now ≡ opening packets.now.limits }
+    requires cache { packets.now.cache ≡ [] }
+    requires table { packets.now.table ≡ replicate slots None }
+    ensures own { Own packets.now c.now.site.now.limits (λ i. hand_of c.now.site.now c.now.worker i) (λ i. holds_of c.now.site.now c.now.worker i) (λ i. header_of c.now.site.now c.now.worker i) }
+{}
