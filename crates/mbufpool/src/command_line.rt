@@ -10,6 +10,9 @@ use std::alloc::Global;
 use std::env::Env;
 use std::{env, io};
 
+// What `--version` tells behind the program's name.
+const VERSION: &str = "0.1.0";
+
 /// The words of the command line, the program's name first.
 ///
 /// `CommandLine` where a word isn't text, and `Fault` with `OutOfMemory` where memory was refused.
@@ -30,7 +33,7 @@ pub fn words<R: Env + AllocGlobal>(rt: &R) -> Result<Vec<String>, Failure<'stati
 
 /// The file whose replay the words ask for.
 ///
-/// `CommandLine` where the words are wrong or ask for help, and `Fault` with `OutOfMemory` where memory
+/// `CommandLine` where the words are wrong, or ask for help or the version, and `Fault` with `OutOfMemory` where memory
 /// was refused.
 pub fn file<'a>(alloc: Global, words: &'a [String]) -> Result<&'a str, Failure<'a>>
     ensures { IfErr result IsOfWords }
@@ -74,6 +77,7 @@ fn command<'a>(alloc: Global) -> Result<Command<'a>, Error> {
     Ok(
         Command::new(alloc, "mbufpool")
             .about("A pool of packet buffers")
+            .version(VERSION)
             .subcommand_required(true)
             .subcommand(replay)?,
     )

@@ -42,47 +42,45 @@ fn a_fault_line_has_the_number_and_what_the_refusal_displays(rt: HostRuntime) ->
 }
 
 #[test]
-fn a_fault_is_told_on_the_standard_error_alone(rt: HostRuntime) -> Result<(), Fail> {
+fn a_failure_is_told_on_the_standard_error_alone(rt: HostRuntime) -> Result<(), Fail> {
     let alloc = rt.alloc();
     let lines = [
-        (Refusal::OutOfMemory, "fault 2 OutOfMemory\n"),
-        (Refusal::MissingShare(3), "fault 18 MissingShare worker 3\n"),
-        (Refusal::ScriptFault(17), "fault 20 ScriptFault line 17\n"),
+        (
+            Failure::Fault(Refusal::OutOfMemory),
+            "fault 2 OutOfMemory\n",
+        ),
+        (
+            Failure::Fault(Refusal::MissingShare(3)),
+            "fault 18 MissingShare worker 3\n",
+        ),
+        (
+            Failure::Fault(Refusal::ScriptFault(17)),
+            "fault 20 ScriptFault line 17\n",
+        ),
+        (
+            Failure::Unreadable("../no such file"),
+            "cannot read ../no such file\n",
+        ),
     ];
-    for (refusal, line) in lines {
+    for (failure, line) in &lines {
         let screen = Screen::new(alloc);
-        let status = report::failure(&screen, &Failure::Fault(refusal));
+        let status = report::failure(&screen, failure);
         let (output, errors) = screen.written(alloc)?;
         assert_eq!(rt; status, 1);
-        assert_eq!(rt; errors.as_str(), line);
+        assert_eq!(rt; errors.as_str(), *line);
         assert!(rt; output.is_empty());
     }
     Ok(())
 }
 
 #[test]
-fn a_file_that_cant_be_read_is_named_as_it_was_given(rt: HostRuntime) -> Result<(), Fail> {
-    let screen = Screen::new(rt.alloc());
-    let status = report::failure(&screen, &Failure::Unreadable("../no such file"));
-    let (output, errors) = screen.written(rt.alloc())?;
-    assert_eq!(rt; status, 1);
-    assert_eq!(rt; errors.as_str(), "cannot read ../no such file\n");
-    assert!(rt; output.is_empty());
-    Ok(())
-}
-
-#[test]
-fn a_replay_that_cant_be_written_is_status_1(rt: HostRuntime) {
-    assert_eq!(rt; report::text(&Full, b"2: ok 0\n"), 1);
-    assert_eq!(rt; report::text(&Full, b""), 1);
-}
-
-#[test]
-fn a_replay_is_written_whole(rt: HostRuntime) -> Result<(), Fail> {
+fn a_replay_is_written_whole_or_is_status_1(rt: HostRuntime) -> Result<(), Fail> {
     let screen = Screen::new(rt.alloc());
     assert_eq!(rt; report::text(&screen, b"2: ok 0\n"), 0);
     let (output, errors) = screen.written(rt.alloc())?;
     assert_eq!(rt; output.as_str(), "2: ok 0\n");
     assert!(rt; errors.is_empty());
+    assert_eq!(rt; report::text(&Full, b"2: ok 0\n"), 1);
+    assert_eq!(rt; report::text(&Full, b""), 1);
     Ok(())
 }

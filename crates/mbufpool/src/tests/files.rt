@@ -1,6 +1,6 @@
-use crate::failures::Failure;
+use crate::failures::{Failure, FaultLine};
 use crate::replay;
-use commons::refusal::Refusal;
+use std::alloc::Global;
 use std::test::Fail;
 use std::{env, fs, process};
 
@@ -17,46 +17,36 @@ const FIRST_RUN_TEXT: &str = "2: ok 0\n3: ok 1\n4: ok back 1 flushed 1\n\
     population 3\navailable 2\nin use 1\ncommon 2: 0 2\ncache 1 0:\n\
     packet 1 1 segs 1 len 0: 1@128+0/2048\nheld 1 count 1: 1\n";
 
-#[test]
-fn a_script_is_replayed(rt: HostRuntime) -> Result<(), Fail> {
-    let path = path(&rt, "good")?;
-    fs::write(&rt, path.as_str(), FIRST_RUN)?;
-    let text = replay::text(&rt, path.as_str());
-    fs::remove_file(&rt, path.as_str())?;
-    match text {
-        Ok(text) => assert_eq!(rt; String::from_utf8(text)?.as_str(), FIRST_RUN_TEXT),
-        Err(_) => return Err(Fail::from("a failure")),
+// What comes of the replay of the file at a path: its text, or a line for the failure.
+fn outcome(alloc: Global, rt: &HostRuntime, path: &str) -> Result<String, Fail> {
+    match replay::text(rt, path) {
+        Ok(text) => Ok(String::from_utf8(text)?),
+        Err(Failure::Fault(refusal)) => Ok(format!(in alloc; "{}", FaultLine(refusal))?),
+        Err(Failure::Unreadable(named)) => Ok(format!(in alloc; "cannot read {named}")?),
+        Err(Failure::CommandLine(_)) => Err(Fail::from("wrong words")),
     }
-    Ok(())
 }
 
 #[test]
-fn a_faulty_script_is_a_fault(rt: HostRuntime) -> Result<(), Fail> {
-    let path = path(&rt, "faulty")?;
-    fs::write(&rt, path.as_str(), "pull 3\n")?;
-    let text = replay::text(&rt, path.as_str());
-    fs::remove_file(&rt, path.as_str())?;
-    assert!(rt; matches!(&text, Err(Failure::Fault(Refusal::ScriptFault(1)))));
-    Ok(())
-}
-
-#[test]
-fn a_missing_file_cant_be_read(rt: HostRuntime) -> Result<(), Fail> {
-    let path = path(&rt, "missing")?;
-    match replay::text(&rt, path.as_str()) {
-        Err(Failure::Unreadable(named)) => assert_eq!(rt; named, path.as_str()),
-        _ => return Err(Fail::from("it was read")),
+fn a_file_is_replayed_or_a_fault_or_cant_be_read(rt: HostRuntime) -> Result<(), Fail> {
+    let alloc = rt.alloc();
+    let path = path(&rt, "script")?;
+    let written = [
+        (FIRST_RUN, FIRST_RUN_TEXT),
+        ("pull 3\n", "fault 20 ScriptFault line 1"),
+    ];
+    for (script, text) in written {
+        fs::write(&rt, path.as_str(), script)?;
+        let told = outcome(alloc, &rt, path.as_str())?;
+        fs::remove_file(&rt, path.as_str())?;
+        assert_eq!(rt; told.as_str(), text);
     }
-    Ok(())
-}
-
-#[test]
-fn a_folder_cant_be_read(rt: HostRuntime) -> Result<(), Fail> {
     let folder = env::temp_dir(&rt)?;
-    let path = format!(in rt.alloc(); "{}", folder.display())?;
-    match replay::text(&rt, path.as_str()) {
-        Err(Failure::Unreadable(named)) => assert_eq!(rt; named, path.as_str()),
-        _ => return Err(Fail::from("it was read")),
+    let folder = format!(in alloc; "{}", folder.display())?;
+    for missing in [path.as_str(), folder.as_str()] {
+        let told = outcome(alloc, &rt, missing)?;
+        let text = format!(in alloc; "cannot read {missing}")?;
+        assert_eq!(rt; told.as_str(), text.as_str());
     }
     Ok(())
 }
