@@ -7,6 +7,7 @@ pub mod Leading
 pub mod Opening
 pub mod PacketBags
 pub mod Places
+pub mod PlainCalls
 pub mod Raising
 pub mod Sames
 pub mod Single

@@ -4,5 +4,6 @@ pub mod Calls
 pub mod Lists
 pub mod ListLaws
 pub mod Packets
+pub mod PlainCalls
 pub mod Refusals
 pub mod Site

@@ -1,13 +1,10 @@
 -- What one worker does on the lists, step by step.
-use Rattle.std.proofs.Common.{ℕ, List, refl, ◌∙◌, subst}
+use Rattle.std.proofs.Common.{List, refl, ◌∙◌, subst}
 use Rattle.commons.specs.declared.plain.PlainCommons.{PlainCommons}
 use Rattle.commons.specs.Calls.{Made, Leads}
-use Rattle.commons.specs.Lists.{Lists, KeepsOthers}
-use Rattle.mbuf.proofs.PlainSteps.{DidAt, KeepsOthers-trans, limits_at, plainly}
+use Rattle.commons.specs.Lists.{KeepsOthers}
+use Rattle.commons.proofs.PlainCalls.{DidAt, KeepsOthers-refl, KeepsOthers-trans, limits_at, plainly}
 use Rattle.layer_tests.specs.Alone.{Alone}
-
-pub KeepsOthers-refl : (w : ℕ) (s : Lists) → KeepsOthers w s s
-KeepsOthers-refl w s = record { hands = λ v i e. refl; holds = λ v i l e. refl; headers = λ v i l e. refl }
 
 -- nothing was done
 pub Alone-refl : (s : PlainCommons) → Alone s s

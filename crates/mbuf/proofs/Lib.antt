@@ -7,7 +7,7 @@ pub mod EndLemmas
 pub mod FreeLemmas
 pub mod ListLemmas
 pub mod OwnLemmas
-pub mod PlainSteps
+pub mod PacketCases
 pub mod ResizeLemmas
 pub mod SharingLemmas
 pub mod TableLemmas

@@ -1,6 +1,6 @@
 -- What a worker's calls do with its packets: for each case the calls that are made on the shared pool with
 -- their answers, the answer, and what the worker has afterwards.
-use Rattle.std.specs.Prelude.{ℕ, ◌≡◌, ◌≢◌, ◌+◌, ◌<◌, ◌≤◌, min, length, is_none, map, position, take, List, [], ◌∷◌, ◌++◌, slice_index_or, slice_set, Option, Some, None, Result, Ok, Err}
+use Rattle.std.specs.Prelude.{ℕ, ◌≡◌, ◌+◌, ◌<◌, ◌≤◌, ◌==◌, nat_lt, if◌then◌else◌, min, length, is_none, map, position, take, List, [], ◌∷◌, ◌++◌, slice_index_or, slice_set, Option, Some, None, Result, Ok, Err}
 use Rattle.commons.specs.declared.limits.Limits.{Limits}
 use Rattle.commons.specs.declared.packet.Seg.{Seg}
 use Rattle.commons.specs.declared.refusal.Lowered.TheVariants.{Last, Still}
@@ -92,23 +92,38 @@ abbrev pub of_packet : (List Seg → ℕ) → Option (List Seg) → Result ℕ R
 of_packet tell None = Err NoSuchPacket
 of_packet tell (Some segs) = Ok (tell segs)
 
--- What a change of a packet's lengths does. It asks nothing of the shared pool.
-pub data Resizes (resize : List Seg → Option (List Seg)) (cause : Refusal) (m : Member) (slot : ℕ) (answer : Result ℕ Refusal) (after : Member) : Type 0 where
-  -- the slot is empty, or there is none of this number
-  NoneThere : slice_index_or m.table slot None ≡ None → answer ≡ Err NoSuchPacket → after ≡ m → Resizes resize cause m slot answer after
-  -- the packet hasn't the room or the data
-  NotResized : (segs : List Seg) → slice_index_or m.table slot None ≡ Some segs → resize segs ≡ None → answer ≡ Err cause → after ≡ m → Resizes resize cause m slot answer after
-  -- it has, and its new length is the answer
-  WasResized : (segs new : List Seg) → slice_index_or m.table slot None ≡ Some segs → resize segs ≡ Some new → answer ≡ Ok (pkt_len new) → after ≡ record m { table = slice_set m.table slot (Some new) } → Resizes resize cause m slot answer after
+-- ---- what asks nothing of the shared pool: an answer, and what the worker has afterwards
 
--- What a chain of two packets does. It asks nothing of the shared pool.
-pub data Chains (m : Member) (head tail : ℕ) (answer : Result (Unit {0}) Refusal) (after : Member) : Type 0 where
-  -- one of them isn't there
-  NoHead : slice_index_or m.table head None ≡ None → answer ≡ Err NoSuchPacket → after ≡ m → Chains m head tail answer after
-  NoTail : slice_index_or m.table tail None ≡ None → answer ≡ Err NoSuchPacket → after ≡ m → Chains m head tail answer after
-  -- they are one
-  Same : (segs : List Seg) → slice_index_or m.table head None ≡ Some segs → head ≡ tail → answer ≡ Err SamePacket → after ≡ m → Chains m head tail answer after
-  -- they have more segments together than a packet has
-  TooLong : (first second : List Seg) → slice_index_or m.table head None ≡ Some first → slice_index_or m.table tail None ≡ Some second → head ≢ tail → max_segs < length first + length second → answer ≡ Err TooManySegs → after ≡ m → Chains m head tail answer after
-  -- the tail's segments stand behind the head's, and its slot is free
-  WasChained : (first second : List Seg) → slice_index_or m.table head None ≡ Some first → slice_index_or m.table tail None ≡ Some second → head ≢ tail → length first + length second ≤ max_segs → answer ≡ Ok tt → after ≡ record m { table = slice_set (slice_set m.table head (Some (first ++ second))) tail None } → Chains m head tail answer after
+-- a packet takes the place of the one in the slot, if it could be made, and its length is the answer
+abbrev pub resize_to : Option (List Seg) → Refusal → ℕ → Member → Result ℕ Refusal × Member
+resize_to None cause slot m = (Err cause, m)
+resize_to (Some segs) cause slot m = (Ok (pkt_len segs), record m { table = slice_set m.table slot (Some segs) })
+
+abbrev pub resize_in : Option (List Seg) → (List Seg → Option (List Seg)) → Refusal → ℕ → Member → Result ℕ Refusal × Member
+resize_in None change cause slot m = (Err NoSuchPacket, m)
+resize_in (Some segs) change cause slot m = resize_to (change segs) cause slot m
+
+-- a change of the lengths of the packet in a slot, which is refused for this cause where the packet hasn't the room
+-- or the data
+abbrev pub resize : (List Seg → Option (List Seg)) → Refusal → ℕ → Member → Result ℕ Refusal × Member
+resize change cause slot m = resize_in (slice_index_or m.table slot None) change cause slot m
+
+abbrev pub Resizes : (List Seg → Option (List Seg)) → Refusal → Member → ℕ → Result ℕ Refusal → Member → Type 0
+Resizes change cause m slot answer after = ◌≡◌ {A = Result ℕ Refusal × Member} (answer, after) (resize change cause slot m)
+
+-- Two packets become one, in the first one's slot, by what is in the two slots: the tail's segments stand behind the
+-- head's, and its slot is free.
+abbrev pub chain_in : Option (List Seg) → Option (List Seg) → ℕ → ℕ → Member → Result (Unit {0}) Refusal × Member
+chain_in None second head tail m = (Err NoSuchPacket, m)
+chain_in (Some first) None head tail m = (Err NoSuchPacket, m)
+chain_in (Some first) (Some second) head tail m =
+    if head == tail then (Err SamePacket, m)
+    else if nat_lt max_segs (length first + length second) then (Err TooManySegs, m)
+    else (Ok tt, record m { table = slice_set (slice_set m.table head (Some (first ++ second))) tail None })
+
+-- a chain of two packets
+abbrev pub chain : ℕ → ℕ → Member → Result (Unit {0}) Refusal × Member
+chain head tail m = chain_in (slice_index_or m.table head None) (slice_index_or m.table tail None) head tail m
+
+abbrev pub Chains : Member → ℕ → ℕ → Result (Unit {0}) Refusal → Member → Type 0
+Chains m head tail answer after = ◌≡◌ {A = Result (Unit {0}) Refusal × Member} (answer, after) (chain head tail m)

@@ -248,6 +248,7 @@ impl Packets {
     }
 
     /// Changes a packet's lengths.
+    #[tactic(auto, using(crate::proofs::PacketCases::nothing))]
     fn resize(&mut self, p: Pid, change: Change) -> Result<u32, Refusal>
         ensures resized { Resizes (resized change) (not_resized change) self.old p result self.new }
         ensures kept { KeepsHolds self.old self.new }
@@ -372,6 +373,7 @@ impl Packets {
     }
 
     /// Puts one packet's segments behind another's.
+    #[tactic(auto, using(crate::proofs::PacketCases::nothing))]
     fn join(&mut self, head: Pid, tail: Pid) -> Result<(), Refusal>
         ensures chained { Chains self.old head tail result self.new }
         ensures kept { KeepsHolds self.old self.new }

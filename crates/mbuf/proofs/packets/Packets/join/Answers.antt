@@ -3,8 +3,8 @@ use Rattle.std.proofs.lemmas.List.{get_or_default}
 use Rattle.commons.specs.declared.packet.Seg.{Seg}
 use Rattle.mbuf.specs.Kept.{member_of, shown, KeepsHolds}
 use Rattle.mbuf.specs.Members.{Member}
-use Rattle.mbuf.specs.PacketRules.{Same, TooLong, WasChained}
 use Rattle.mbuf.proofs.ChainLemmas.{shown_chained, KeepsHolds-chain}
+use Rattle.mbuf.proofs.PacketCases.{same_is, too_long_is, was_chained_is}
 use Rattle.mbuf.proofs.TableLemmas.{shown_some, taken_slot, length-shown, member_is}
 use Rattle.mbuf.proofs.packets.Packets.join.Goals as goal
 
@@ -21,7 +21,7 @@ returns-then-first-second-clause-chained c =
     let other = rw (sym c.self.view_is) at c.in-Some-slot.ensures in
     let first = c.in-Some.first in
     let there = shown_some flags packets first (omega (arith, at.1, inv.flags)) (inv.packets ∙ sym inv.flags) (rw (sym at.0) at at.2) in
-    rw (sym c.self.view_is, sym at.0, sym other.0) (Same (get_or packets first []) there c.if-first-second.true refl refl)
+    rw (sym c.self.view_is, sym at.0, sym other.0) (same_is (member_of c.self.inside) first c.in-Some-slot.second (get_or packets first []) there c.if-first-second.true)
 
 pub returns-then-segs-gt-MAX_SEGS-clause-chained : goal.returns-then-segs-gt-MAX_SEGS-clause-chained
 returns-then-segs-gt-MAX_SEGS-clause-chained c =
@@ -38,8 +38,8 @@ returns-then-segs-gt-MAX_SEGS-clause-chained c =
     let a = lent_is packets first c.segs.result.now c.index.result.now (omega (arith, at.1, inv.packets)) c.segs.ensures.segs c.index.ensures in
     let b = lent_is packets second c.segs-2.result.now c.index-2.result.now (omega (arith, other.1, inv.packets)) c.segs-2.ensures.segs c.index-2.ensures in
     rw (sym c.self.view_is, sym at.0, sym other.0)
-    (TooLong (get_or packets first []) (get_or packets second []) there behind c.if-first-second.false
-    (omega (arith, c.if-segs-gt-MAX_SEGS.true, ap (λ (s : List Seg). length s) a, ap (λ (s : List Seg). length s) b)) refl refl)
+    (too_long_is (member_of c.self.inside) first second (get_or packets first []) (get_or packets second []) there behind c.if-first-second.false
+    (omega (arith, c.if-segs-gt-MAX_SEGS.true, ap (λ (s : List Seg). length s) a, ap (λ (s : List Seg). length s) b)))
 
 pub give-requires-clause-taken : goal.give-requires-clause-taken
 give-requires-clause-taken c =
@@ -68,8 +68,8 @@ returns-clause-chained c =
     let table : shown c.give.new.self c.push_segs.new.packets.items ≡ set (set (shown flags packets) first (Some joined)) second None =
     rw (c.give.ensures, c.push_segs.ensures) (shown_chained flags packets first second joined within alike some) in
     rw (sym c.self.view_is, sym at.0, sym other.0)
-    (WasChained (get_or packets first []) (get_or packets second []) there behind c.if-first-second.false
-    (omega (arith, c.if-segs-gt-MAX_SEGS.false, ap (λ (s : List Seg). length s) a, ap (λ (s : List Seg). length s) b)) refl
+    (was_chained_is (member_of c.self.inside) _ first second (get_or packets first []) (get_or packets second []) there behind c.if-first-second.false
+    (omega (arith, c.if-segs-gt-MAX_SEGS.false, ap (λ (s : List Seg). length s) a, ap (λ (s : List Seg). length s) b))
     (member_is w.limits w.limits w.number w.number w.cache (shown c.give.new.self c.push_segs.new.packets.items) (set (set (shown flags packets) first (Some joined)) second None) refl refl table))
 
 pub returns-clause-kept : goal.returns-clause-kept

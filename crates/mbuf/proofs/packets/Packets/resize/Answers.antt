@@ -5,7 +5,8 @@ use Rattle.commons.specs.declared.refusal.Refusal.{Refusal}
 use Rattle.mbuf.specs.Kept.{member_of, shown, KeepsHolds}
 use Rattle.mbuf.specs.Lengths.{pkt_len}
 use Rattle.mbuf.specs.Members.{Member}
-use Rattle.mbuf.specs.PacketRules.{NotResized, WasResized}
+use Rattle.mbuf.specs.Changes.{resized, not_resized}
+use Rattle.mbuf.proofs.PacketCases.{not_resized_is, was_resized_is}
 use Rattle.mbuf.proofs.ResizeLemmas.{resized_holds, KeepsHolds-set}
 use Rattle.mbuf.proofs.TableLemmas.{stands, length-shown, shown-packet, member_is}
 use Rattle.mbuf.proofs.packets.Packets.resize.Goals as goal
@@ -35,7 +36,7 @@ returns-then-not-resize-clause-resized c =
     let none = rw c.if-not-resize.true at c.resize.ensures.resized in
     let same = put_back packets slot new old (c.resize.ensures.same c.if-not-resize.true) c.index_mut.ensures.value in
     rw (sym c.self.view_is, sym at.0)
-    (NotResized old there (sym none) (ap refused c.refusal.ensures)
+    (not_resized_is (resized c.args.change) (not_resized c.args.change) (member_of c.self.inside) _ slot _ old there (sym none) (ap refused c.refusal.ensures)
     (member_is w.limits w.limits w.number w.number w.cache (shown flags (set packets slot new)) (shown flags packets) refl refl (ap (shown flags) same)))
 
 pub returns-clause-resized : goal.returns-clause-resized
@@ -56,7 +57,7 @@ returns-clause-resized c =
     let bound : slot < length packets = omega (arith, at.1, inv.packets) in
     let lent : c.index.result.now ≡ new = c.index.ensures ∙ get_or-set_same packets slot new c.index.result.now bound in
     rw (sym c.self.view_is, sym at.0)
-    (WasResized old new there (sym done) (ap answered (c.pkt_len.ensures ∙ ap pkt_len lent))
+    (was_resized_is (resized c.args.change) (not_resized c.args.change) (member_of c.self.inside) _ slot _ old new there (sym done) (ap answered (c.pkt_len.ensures ∙ ap pkt_len lent))
     (member_is w.limits w.limits w.number w.number w.cache (shown flags (set packets slot new)) (set (shown flags packets) slot (Some new)) refl refl (shown-packet flags packets slot new within alike some)))
 
 pub returns-clause-kept : goal.returns-clause-kept
