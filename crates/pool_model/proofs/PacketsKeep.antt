@@ -5,17 +5,17 @@ use Rattle.commons.specs.Bag.{bag}
 use Rattle.commons.specs.declared.limits.Limits.{Limits}
 use Rattle.commons.specs.declared.packet.Seg.{Seg}
 use Rattle.commons.specs.declared.refusal.Refusal.{Refusal}
-use Rattle.commons.specs.Packets.{holds_in_slot, held_in}
+use Rattle.commons.specs.Packets.{holds_in_slot, held_in, max_segs}
 use Rattle.commons.proofs.Bags.{bag-nil, bag-single, bag-of_one}
 use Rattle.commons.proofs.PacketBags.{stands_within}
 use Rattle.mbuf.specs.Members.{Member}
-use Rattle.mbuf.specs.PacketRules.{fresh_seg, free_slots, freed_nothing, stood}
+use Rattle.mbuf.specs.PacketRules.{chain_in, resize_in, resize_to, fresh_seg, free_slots, freed_nothing, stood}
 use Rattle.mbuf.proofs.ChainLemmas.{KeepsHolds-chain}
 use Rattle.mbuf.proofs.FreeLemmas.{holds_stood}
 use Rattle.mbuf.proofs.ResizeLemmas.{SamePacketHolds}
 use Rattle.pool_model.specs.Pool.{Shared}
 use Rattle.pool_model.specs.CacheModel.{get}
-use Rattle.pool_model.specs.PacketModel.{alloc_bulk, alloc_in, beside, chain_in, fill_slot, fill_slots, flush_member, free_in, resize_in, resize_to}
+use Rattle.pool_model.specs.PacketModel.{alloc_bulk, alloc_in, chained_beside, fill_slot, fill_slots, flush_member, free_in, told_beside}
 use Rattle.pool_model.proofs.CacheBags.{IsGot, flush-IsPut, get-IsGot}
 use Rattle.pool_model.proofs.HeldBags.{end_holds-IsEnded}
 use Rattle.pool_model.proofs.Leaves.{Keeps, cache_keeps, nothing_keeps, set_keeps}
@@ -70,24 +70,24 @@ free_in-keeps outside (Some segs) elsewhere slot m s e rest =
 
 -- a change of lengths moves none
 resize_to-keeps : (outside : ℕ → ℕ) (o : Option (List Seg)) (segs : List Seg) (cause : Refusal) (slot : ℕ) (m : Member) (s : Shared) → get_or m.table slot None ≡ Some segs → ((new : List Seg) → o ≡ Some new → SamePacketHolds new segs) →
-    Keeps outside m s (beside s (resize_to o cause slot m))
+    Keeps outside m s (told_beside s (resize_to o cause slot m))
 resize_to-keeps outside None segs cause slot m s e same = nothing_keeps outside m s _
 resize_to-keeps outside (Some new) segs cause slot m s e same =
     set_keeps outside m s s _ slot (Some segs) (Some new) m.cache e (stands_within m.table slot segs e) refl (λ i few held. omega (arith, held, ap (λ (es : List ℕ). bag es i) (same new refl).0))
 
 pub resize_in-keeps : (outside : ℕ → ℕ) (o : Option (List Seg)) (change : List Seg → Option (List Seg)) (cause : Refusal) (slot : ℕ) (m : Member) (s : Shared) → get_or m.table slot None ≡ o →
-    ((segs new : List Seg) → change segs ≡ Some new → SamePacketHolds new segs) → Keeps outside m s (beside s (resize_in o change cause slot m))
+    ((segs new : List Seg) → change segs ≡ Some new → SamePacketHolds new segs) → Keeps outside m s (told_beside s (resize_in o change cause slot m))
 resize_in-keeps outside None change cause slot m s e same = nothing_keeps outside m s _
 resize_in-keeps outside (Some segs) change cause slot m s e same = resize_to-keeps outside (change segs) segs cause slot m s e (λ new f. same segs new f)
 
 -- nor does a chain
 pub chain_in-keeps : (outside : ℕ → ℕ) (one two : Option (List Seg)) (head tail : ℕ) (m : Member) (s : Shared) → get_or m.table head None ≡ one → get_or m.table tail None ≡ two →
-    Keeps outside m s (beside s (chain_in one two head tail m))
+    Keeps outside m s (chained_beside head s (chain_in one two head tail m))
 chain_in-keeps outside None two head tail m s e f = nothing_keeps outside m s _
 chain_in-keeps outside (Some first) None head tail m s e f = nothing_keeps outside m s _
 chain_in-keeps outside (Some first) (Some second) head tail m s e f = elim (cases_Bool (head == tail)) [
   | inl same ↦ rw same (nothing_keeps outside m s _)
-  | inr apart ↦ elim (cases_Bool (nat_lt 32 (length first + length second))) [
+  | inr apart ↦ elim (cases_Bool (nat_lt max_segs (length first + length second))) [
     | inl long ↦ rw (apart, long) (nothing_keeps outside m s _)
     | inr few ↦
         let kept = KeepsHolds-chain m head tail first second (stands_within m.table head first e) (stands_within m.table tail second f) (eqb-false head tail apart) e f in

@@ -6,13 +6,13 @@ use Rattle.commons.specs.declared.refusal.Refusal.TheVariants.{DeskEmpty, DeskTa
 use Rattle.mempool.specs.declared.put.Put.{Put}
 use Rattle.mbuf.specs.declared.acts.Act.{Act}
 use Rattle.mbuf.specs.declared.acts.Act.TheVariants.{Alloc, AllocBulk, Free, Append, Prepend, Adj, Trim, Chain, Attach, Detach, ClonePacket, Offer, Take, CountOf, PktLen, NbSegs, Flush}
-use Rattle.mbuf.specs.Acts.{Reply}
+use Rattle.mbuf.specs.Acts.{chained, Reply}
 use Rattle.mbuf.specs.declared.acts.Answer.TheVariants as reply
-use Rattle.mbuf.specs.Acts.{allocated_bulk, told_len, told_segs}
+use Rattle.mbuf.specs.Acts.{chained, allocated_bulk, told_len, told_segs}
 use Rattle.mbuf.specs.Lengths.{pkt_len, appended, prepended, adjusted, trimmed}
 use Rattle.commons.specs.Packets.{holds_in_slot}
 use Rattle.mbuf.specs.Members.{Member}
-use Rattle.mbuf.specs.PacketRules.{fresh_seg, free_slot, free_slots, stood, freed_nothing, of_packet}
+use Rattle.mbuf.specs.PacketRules.{chain, resize, fresh_seg, free_slot, free_slots, stood, freed_nothing, of_packet}
 use Rattle.pool_model.specs.Pool.{Shared, Pool, held_of, member_at, with_member}
 use Rattle.pool_model.specs.CacheModel.{get, flush}
 use Rattle.pool_model.specs.HoldModel.{end_holds}
@@ -55,37 +55,17 @@ free_in (Some segs) others slot m s =
 abbrev pub free : (ℕ → ℕ) → ℕ → Member → Shared → Reply × Member × Shared
 free others slot m s = free_in (slice_index_or m.table slot None) others slot m s
 
--- a packet takes the place of the one in the slot, if it could be made
-abbrev pub resize_to : Option (List Seg) → Refusal → ℕ → Member → Reply × Member
-resize_to None cause slot m = (reply.Refused cause, m)
-resize_to (Some segs) cause slot m = (reply.Len (pkt_len segs), record m { table = slice_set m.table slot (Some segs) })
-
-abbrev pub resize_in : Option (List Seg) → (List Seg → Option (List Seg)) → Refusal → ℕ → Member → Reply × Member
-resize_in None change cause slot m = (reply.Refused NoSuchPacket, m)
-resize_in (Some segs) change cause slot m = resize_to (change segs) cause slot m
-
--- a change of the lengths of the packet in a slot, which is refused for this cause
-abbrev pub resize : (List Seg → Option (List Seg)) → Refusal → ℕ → Member → Reply × Member
-resize change cause slot m = resize_in (slice_index_or m.table slot None) change cause slot m
-
--- two packets become one, in the first one's slot
-abbrev pub chain_in : Option (List Seg) → Option (List Seg) → ℕ → ℕ → Member → Reply × Member
-chain_in None second head tail m = (reply.Refused NoSuchPacket, m)
-chain_in (Some first) None head tail m = (reply.Refused NoSuchPacket, m)
-chain_in (Some first) (Some second) head tail m =
-    if head == tail then (reply.Refused SamePacket, m)
-    else if nat_lt 32 (length first + length second) then (reply.Refused TooManySegs, m)
-    else (
-      reply.Chained (length (first ++ second)) (pkt_len (first ++ second)),
-      record m { table = slice_set (slice_set m.table head (Some (first ++ second))) tail None },
-    )
-
-abbrev pub chain : ℕ → ℕ → Member → Reply × Member
-chain head tail m = chain_in (slice_index_or m.table head None) (slice_index_or m.table tail None) head tail m
-
 -- what changes a member alone leaves what is shared
 abbrev pub beside : Shared → Reply × Member → Reply × Member × Shared
 beside s done = (done.0, done.1, s)
+
+-- so does a change of lengths, which tells the packet's new length
+abbrev pub told_beside : Shared → Result ℕ Refusal × Member → Reply × Member × Shared
+told_beside s done = beside s (told_len done.0, done.1)
+
+-- and a chain, which tells of the head's packet as it is then
+abbrev pub chained_beside : ℕ → Shared → Result (Unit {0}) Refusal × Member → Reply × Member × Shared
+chained_beside head s done = beside s (chained done.0 (slice_index_or done.1.table head None), done.1)
 
 -- a packet goes onto a desk that is empty, and leaves its slot
 abbrev pub offer_onto : Option (List Seg) → List Seg → ℕ → ℕ → Member → Shared → Reply × Member × Shared
@@ -137,11 +117,11 @@ abbrev pub member_act : Act → (ℕ → ℕ) → (ℕ → ℕ → ℕ) → Memb
 member_act Alloc held others m s = alloc m s
 member_act (AllocBulk n) held others m s = alloc_bulk n m s
 member_act (Free slot) held others m s = free (others slot) slot m s
-member_act (Append slot n) held others m s = beside s (resize (appended n) NoRoom slot m)
-member_act (Prepend slot n) held others m s = beside s (resize (prepended n) NoRoom slot m)
-member_act (Adj slot n) held others m s = beside s (resize (adjusted n) TooShort slot m)
-member_act (Trim slot n) held others m s = beside s (resize (trimmed n) TooShort slot m)
-member_act (Chain head tail) held others m s = beside s (chain head tail m)
+member_act (Append slot n) held others m s = told_beside s (resize (appended n) NoRoom slot m)
+member_act (Prepend slot n) held others m s = told_beside s (resize (prepended n) NoRoom slot m)
+member_act (Adj slot n) held others m s = told_beside s (resize (adjusted n) TooShort slot m)
+member_act (Trim slot n) held others m s = told_beside s (resize (trimmed n) TooShort slot m)
+member_act (Chain head tail) held others m s = chained_beside head s (chain head tail m)
 member_act (Attach mi target) held others m s = beside s (attach held mi target m)
 member_act (Detach slot) held others m s = detach held slot m s
 member_act (ClonePacket source) held others m s = clone held source m s

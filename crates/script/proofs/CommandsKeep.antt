@@ -71,7 +71,7 @@ end_is_reached lines run = end_of-keeps (Reached run.pool) (one_act_more run.poo
 
 -- no act changes the limits
 perform_limits : (pool : Pool) (w : ℕ) (act : Act) → (perform pool w act).1.limits ≡ pool.limits
-perform_limits pool w act = elim (cases_Bool (nat_le 1 w && nat_le w (length pool.members))) [ | inl e ↦ rw e refl | inr e ↦ rw e refl ]
+perform_limits pool w act = elim (cases_Bool (nat_le 1 w && nat_le w (length pool.members))) [ inl e ↦ rw e refl | inr e ↦ rw e refl ]
 
 pub end_of-limits : (lines : List Line) (run : Run) → (end_of lines run).pool.limits ≡ run.pool.limits
 end_of-limits lines run =

@@ -5,14 +5,14 @@ ghost use Rattle.script.specs.inside.Standing.{run_of, fresh_run};
 ghost use Rattle.script.specs.inside.Stands.{stands_in};
 ghost use Rattle.pool_model.specs.Statements.{statement_of, ListsEachOnce, PlacesEachOnce};
 
-use script_text::commands::{Command, Line, Name, Script};
 use crate::names::Names;
-use share_book::site_pool::SitePool;
-use pool_model::statement::Statement;
 use commons::change::Change;
 use commons::refusal::Refusal;
 use mbuf::acts::{Act, Answer, NewPacket, Reply};
 use mbuf::packets::Pid;
+use pool_model::statement::Statement;
+use script_text::commands::{Command, Line, Name, Script};
+use share_book::site_pool::SitePool;
 use std::alloc::{AllocError, Global};
 
 /// The reply to each command of a script, with the number of its line, and the statement of its

@@ -10,13 +10,13 @@ ghost use Rattle.script.specs.inside.Standing.{fresh_run, run_of};
 ghost use Rattle.script.specs.StatementText.{text_of};
 ghost use Rattle.pool_model.specs.Statements.{statement_of};
 
-use script_text::commands::{Command, Line, Script};
 use crate::names::Names;
-use script_text::parse;
 use crate::playing::{obey, obey_in};
-use share_book::site_pool::SitePool;
 use crate::texts::{push_reply, statement_text};
 use commons::refusal::Refusal;
+use script_text::commands::{Command, Line, Script};
+use script_text::parse;
+use share_book::site_pool::SitePool;
 use std::alloc::Global;
 
 /// All that the replay of a script prints: a line for the reply to each command, and then the

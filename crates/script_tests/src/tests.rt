@@ -3,15 +3,13 @@
 use commons::limits::Limits;
 use commons::packet::Seg;
 use commons::refusal::Refusal;
-use script_text::parse;
-use script::replay;
 use mbuf::acts::{Act, Reply};
 use mbuf::freed::Freed;
-use script::run_replay;
-use share_book::site_pool::SitePool;
 use pool_model::statement::{Held, Holder, PlacedPacket, Statement};
-use script::statement_text;
 use script::texts::push_reply;
+use script::{replay, run_replay, statement_text};
+use script_text::parse;
+use share_book::site_pool::SitePool;
 use std::alloc::Global;
 use std::process::Abort;
 use std::test::Fail;

@@ -1,6 +1,7 @@
 -- The pool line: which limits its words give.
 use Rattle.std.specs.Prelude.{◌≡◌, ℕ, Bool, if◌then◌else◌, List, [], ◌∷◌, Option, Some, None, unwrap_or, codes}
 use Rattle.std.specs.Str.{bytes_eq}
+use Rattle.commons.specs.Bounds.{max_refs}
 use Rattle.commons.specs.declared.limits.Limits.{Limits}
 use Rattle.script_text.specs.declared.commands.Key.{Key}
 use Rattle.script_text.specs.declared.commands.Key.TheVariants.{Cache, Workers, Desks, Buf, Refs, Tries, Start}
@@ -44,7 +45,7 @@ limits_with population pairs = record {
   workers = unwrap_or (first_number Workers pairs) 1;
   desks = unwrap_or (first_number Desks pairs) 0;
   buf = unwrap_or (first_number Buf pairs) 2048;
-  ref_limit = unwrap_or (first_number Refs pairs) 65535;
+  ref_limit = unwrap_or (first_number Refs pairs) max_refs;
   tries = unwrap_or (first_number Tries pairs) 64;
   start_count = unwrap_or (first_number Start pairs) 0;
 }

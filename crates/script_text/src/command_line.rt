@@ -1,5 +1,6 @@
 //! The words of a command line.
 
+ghost use Rattle.commons.specs.Bounds.{max_workers};
 ghost use Rattle.std.specs.Prelude.{◌≡◌, ◌≤◌, [], ◌∷◌, codes, IfOk, MatchOption, if◌then◌else◌, Option, None, Some};
 ghost use Rattle.std.specs.Str.{bytes_eq};
 ghost use Rattle.std.specs.Option.{option_copied};
@@ -301,7 +302,7 @@ fn prefix_of(word: &[u8]) -> Option<&[u8]>
 
 /// The worker whose number a word spells, in a pool of so many.
 fn worker_of(workers: u64, number: &[u8]) -> Option<u32>
-    requires { workers ≤ 64 }
+    requires { workers ≤ max_workers }
     ensures { result ≡ worker_at workers number.now }
 {
     let worker = number_of(number)?;
@@ -319,7 +320,7 @@ pub(crate) fn order_of(
     workers: u64,
     line: &[u8],
 ) -> Result<Option<(u32, Command)>, AllocError>
-    requires { workers ≤ 64 }
+    requires { workers ≤ max_workers }
     ensures { IfOk result (λ order. order ≡ order_from workers (words_of line.now)) }
 {
     let Some((word, rest)) = next_word(line) else {

@@ -7,7 +7,7 @@ ghost use Rattle.script_text.specs.inside.Reading.{words_of, key_at, add_value, 
 use crate::commands::Key;
 use crate::line::next_word;
 use crate::number::number_of;
-use commons::limits::Limits;
+use commons::limits::{Limits, MAX_REFS};
 
 /// The key that a word spells.
 fn key_of(word: &[u8]) -> Option<Key>
@@ -102,7 +102,7 @@ impl Settings {
             workers: self.workers.unwrap_or(1),
             desks: self.desks.unwrap_or(0),
             buf: self.buf.unwrap_or(2_048),
-            ref_limit: self.refs.unwrap_or(65_535),
+            ref_limit: self.refs.unwrap_or(MAX_REFS),
             tries: self.tries.unwrap_or(64),
             start_count: self.start.unwrap_or(0),
         }

@@ -10,7 +10,8 @@ use Rattle.mempool.specs.declared.put.Put.{Put}
 use Rattle.mempool.specs.Caches.{Gets, Nothing, Direct, FromCache, Refill, RefillRefused, NoRefill, Puts, NothingPut, Bypass, BypassPutOff, Flush, FlushPutOff, Keep, Flushes, Empty, Whole, WholePutOff}
 use Rattle.pool_model.specs.CacheModel.{ask, push, get, put, flush}
 use Rattle.pool_model.specs.CacheLaw.{Meets}
-use Rattle.share_book.specs.Own.{shared_of, LeadsPlain}
+use Rattle.commons.specs.PlainCalls.{LeadsPlain}
+use Rattle.share_book.specs.Own.{shared_of}
 use Rattle.pool_model.proofs.CacheRules.{flushed_by, got_by, put_by}
 
 -- a request that was met or refused is the model's

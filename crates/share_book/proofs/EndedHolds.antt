@@ -18,9 +18,10 @@ use Rattle.pool_model.specs.Pool.{Shared}
 use Rattle.pool_model.specs.CacheModel.{put}
 use Rattle.pool_model.specs.HoldModel.{put_back, end_holds}
 use Rattle.pool_model.proofs.HeldBags.{next_hold}
-use Rattle.share_book.specs.Own.{shared_of, LeadsPlain}
+use Rattle.commons.specs.PlainCalls.{LeadsPlain}
+use Rattle.share_book.specs.Own.{shared_of}
 use Rattle.share_book.proofs.CacheCalls.{AreRequests, puts_request, was_put}
-use Rattle.share_book.proofs.PlainCalls.{LeadsPlain-split, LeadsPlain-table}
+use Rattle.commons.proofs.PlainCalls.{LeadsPlain-split, LeadsPlain-table}
 
 -- who holds what: each worker, and each desk's packet
 abbrev holding : Lists → List (List ℕ) × List (Option (List Seg))

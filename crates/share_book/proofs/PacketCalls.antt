@@ -16,16 +16,17 @@ use Rattle.mbuf.specs.Acts.{Performs, allocated, allocated_bulk, freed as freed_
 use Rattle.mbuf.specs.Lengths.{pkt_len, appended, prepended, adjusted, trimmed}
 use Rattle.commons.specs.Packets.{holds_of_packet}
 use Rattle.mbuf.specs.Members.{Member}
-use Rattle.mbuf.specs.PacketRules.{Allocs, Full, NotGot, Fresh, AllocsBulk, TooFull, BulkNotGot, FreshBulk, Frees, NoPacket, WasFreed, Resizes, NoneThere, NotResized, WasResized, Chains, NoHead, NoTail, Same, TooLong, WasChained, fresh_seg, free_slots, freed_nothing}
+use Rattle.mbuf.specs.PacketRules.{Allocs, Full, NotGot, Fresh, AllocsBulk, TooFull, BulkNotGot, FreshBulk, Frees, NoPacket, WasFreed, fresh_seg, free_slots, freed_nothing}
 use Rattle.pool_model.specs.Pool.{Shared}
 use Rattle.pool_model.specs.CacheModel.{get}
-use Rattle.pool_model.specs.PacketModel.{fill_slot, alloc_in, alloc, fill_slots, alloc_bulk, free_in, free, resize_to, resize_in, resize, chain_in, chain, beside, after_flush, member_act}
-use Rattle.share_book.specs.Own.{shared_of, LeadsPlain}
+use Rattle.pool_model.specs.PacketModel.{fill_slot, alloc_in, alloc, fill_slots, alloc_bulk, free_in, free, told_beside, chained_beside, after_flush, member_act}
+use Rattle.commons.specs.PlainCalls.{LeadsPlain}
+use Rattle.share_book.specs.Own.{shared_of}
 use Rattle.share_book.proofs.CacheCalls.{got, was_flushed}
 use Rattle.share_book.proofs.EndedHolds.{ended}
 use Rattle.commons.proofs.PacketBags.{stands_within}
 use Rattle.mbuf.proofs.OwnLemmas.{free_slot-is}
-use Rattle.share_book.proofs.PlainCalls.{LeadsPlain-split}
+use Rattle.commons.proofs.PlainCalls.{LeadsPlain-split}
 use Rattle.share_book.proofs.DeskCalls.{offer_by, take_by}
 use Rattle.share_book.proofs.SharedBuffers.{AreHeld, attach_by, clone_by, count_by, detach_by, nothing}
 
@@ -79,53 +80,6 @@ free_by w s t m after slot others calls answer (WasFreed segs left done f ends a
     let r = ended w m.limits (others slot) (holds_of_packet segs) s t m.cache freed_nothing calls left done ends h (held slot segs f) in
     rw (a, k) (ap (freed_with slot m) r ∙ sym (ap (λ (o : Option (List Seg)). free_in o (others slot) slot m (shared_of s)) f))
 
-resize_by : (m after : Member) (change : List Seg → Option (List Seg)) (cause : Refusal) (slot : ℕ) (answer : Result ℕ Refusal) → Resizes change cause m slot answer after →
-    ◌≡◌ {A = Reply × Member} (told_len answer, after) (resize change cause slot m)
-resize_by m after change cause slot answer (NoneThere f a k) = rw (a, k) (sym (ap (λ (o : Option (List Seg)). resize_in o change cause slot m) f))
-resize_by m after change cause slot answer (NotResized segs f r a k) =
-    rw (a, k) (sym (ap (λ (o : Option (List Seg)). resize_in o change cause slot m) f ∙ ap (λ (o : Option (List Seg)). resize_to o cause slot m) r))
-resize_by m after change cause slot answer (WasResized segs new f r a k) =
-    rw (a, k) (sym (ap (λ (o : Option (List Seg)). resize_in o change cause slot m) f ∙ ap (λ (o : Option (List Seg)). resize_to o cause slot m) r))
-
--- a chain by what is in the two slots
-chain_at : (m : Member) (head tail : ℕ) (one two : Option (List Seg)) → get_or m.table head None ≡ one → get_or m.table tail None ≡ two → chain head tail m ≡ chain_in one two head tail m
-chain_at m head tail one two e f = rw (e, f) refl
-
-abbrev joined : List Seg → List Seg → ℕ → ℕ → Member → Reply × Member
-joined first second head tail m = (reply.Chained (length (first ++ second)) (pkt_len (first ++ second)), record m { table = set (set m.table head (Some (first ++ second))) tail None })
-
-abbrev joined_if_short : List Seg → List Seg → ℕ → ℕ → Member → Reply × Member
-joined_if_short first second head tail m = cond (nat_lt 32 (length first + length second)) (reply.Refused TooManySegs, m) (joined first second head tail m)
-
-no_tail : (m : Member) (head tail : ℕ) (one : Option (List Seg)) → chain_in one None head tail m ≡ (reply.Refused NoSuchPacket, m)
-no_tail m head tail None = refl
-no_tail m head tail (Some segs) = refl
-
-chain_by : (m after : Member) (head tail : ℕ) (answer : Result (Unit {0}) Refusal) → Chains m head tail answer after →
-    ◌≡◌ {A = Reply × Member} (chained answer (get_or after.table head None), after) (chain head tail m)
-chain_by m after head tail answer (NoHead f a k) = rw (a, k) (sym (chain_at m head tail None (get_or m.table tail None) f refl))
-chain_by m after head tail answer (NoTail f a k) =
-    rw (a, k) (sym (chain_at m head tail (get_or m.table head None) None refl f ∙ no_tail m head tail (get_or m.table head None)))
-chain_by m after head tail answer (Same segs f e a k) =
-    let g = sym (ap (λ (n : ℕ). get_or m.table n None) e) ∙ f in
-    rw (a, k) (sym (chain_at m head tail (Some segs) (Some segs) f g ∙ cond-true (head == tail) (reply.Refused SamePacket, m) (joined_if_short segs segs head tail m) (eq-eqb head tail e)))
-chain_by m after head tail answer (TooLong first second f g apart long a k) =
-    rw (a, k) (sym (chain_at m head tail (Some first) (Some second) f g
-    ∙ cond-false (head == tail) (reply.Refused SamePacket, m) (joined_if_short first second head tail m) (ne_eqb head tail apart)
-    ∙ cond-true (nat_lt 32 (length first + length second)) (reply.Refused TooManySegs, m) (joined first second head tail m) (lt-ltb 32 (length first + length second) long)))
-chain_by m after head tail answer (WasChained first second f g apart few a k) =
-    let one = set m.table head (Some (first ++ second)) in
-    let there : get_or (set one tail None) head None ≡ Some (first ++ second) =
-    get_or-set_other one tail head None None apart ∙ get_or-set_same m.table head (Some (first ++ second)) None (stands_within m.table head first f) in
-    rw (a, k, there) (sym (chain_at m head tail (Some first) (Some second) f g
-    ∙ cond-false (head == tail) (reply.Refused SamePacket, m) (joined_if_short first second head tail m) (ne_eqb head tail apart)
-    ∙ cond-false (nat_lt 32 (length first + length second)) (reply.Refused TooManySegs, m) (joined first second head tail m) (le-ltb 32 (length first + length second) few)))
-
--- what asks nothing of the stack leaves it
-beside_is : (w : ℕ) (s t : Lists) (calls : List Call) (r : Reply) (after : Member) (done : Reply × Member) → calls ≡ [] → LeadsPlain w s calls t → ◌≡◌ {A = Reply × Member} (r, after) done →
-    ◌≡◌ {A = Outcome} (r, after, shared_of t) (beside (shared_of s) done)
-beside_is w s t calls r after done e h same = rw (nothing w s t calls e h) (ap (beside (shared_of s)) same)
-
 -- a packet holds no more than all packets
 held_within : (s : Lists) (m : Member) (all : ℕ → ℕ) (others : ℕ → ℕ → ℕ) → AreHeld s all → Elsewhere s m others → (slot : ℕ) (segs : List Seg) → get_or m.table slot None ≡ Some segs → (i : ℕ) → bag (holds_of_packet segs) i ≤ all i
 held_within s m all others counts held slot segs there i = omega (arith, counts i, held slot segs there i)
@@ -137,15 +91,15 @@ performed_by Alloc w s t m after calls r all others p h table same counts held =
 performed_by (AllocBulk n) w s t m after calls r all others p h table same counts held = rw p.2 (bulk_by w s t m after n calls p.0 p.1 h)
 performed_by (Free slot) w s t m after calls r all others p h table same counts held = rw p.2 (free_by w s t m after slot others calls p.0 p.1 h held)
 performed_by (Append slot n) w s t m after calls r all others p h table same counts held =
-    rw p.3 (beside_is w s t calls (told_len p.0) after (resize (appended n) NoRoom slot m) p.2 h (resize_by m after (appended n) NoRoom slot p.0 p.1))
+    rw (p.3, nothing w s t calls p.2 h) (ap (told_beside (shared_of s)) p.1)
 performed_by (Prepend slot n) w s t m after calls r all others p h table same counts held =
-    rw p.3 (beside_is w s t calls (told_len p.0) after (resize (prepended n) NoRoom slot m) p.2 h (resize_by m after (prepended n) NoRoom slot p.0 p.1))
+    rw (p.3, nothing w s t calls p.2 h) (ap (told_beside (shared_of s)) p.1)
 performed_by (Adj slot n) w s t m after calls r all others p h table same counts held =
-    rw p.3 (beside_is w s t calls (told_len p.0) after (resize (adjusted n) TooShort slot m) p.2 h (resize_by m after (adjusted n) TooShort slot p.0 p.1))
+    rw (p.3, nothing w s t calls p.2 h) (ap (told_beside (shared_of s)) p.1)
 performed_by (Trim slot n) w s t m after calls r all others p h table same counts held =
-    rw p.3 (beside_is w s t calls (told_len p.0) after (resize (trimmed n) TooShort slot m) p.2 h (resize_by m after (trimmed n) TooShort slot p.0 p.1))
+    rw (p.3, nothing w s t calls p.2 h) (ap (told_beside (shared_of s)) p.1)
 performed_by (Chain head tail) w s t m after calls r all others p h table same counts held =
-    rw p.3 (beside_is w s t calls (chained p.0 (get_or after.table head None)) after (chain head tail m) p.2 h (chain_by m after head tail p.0 p.1))
+    rw (p.3, nothing w s t calls p.2 h) (ap (chained_beside head (shared_of s)) p.1)
 performed_by (Attach mi target) w s t m after calls r all others p h table same counts held = rw p.2 (attach_by w s t m after mi target all calls p.0 p.1 h same counts)
 performed_by (Detach slot) w s t m after calls r all others p h table same counts held = rw p.2 (detach_by w s t m after slot all calls p.0 p.1 h counts (held_within s m all others counts held))
 performed_by (ClonePacket source) w s t m after calls r all others p h table same counts held = rw p.2 (clone_by w s t m after source all calls p.0 p.1 h table same counts (held_within s m all others counts held))

@@ -1,92 +1,10 @@
--- The calls of a body over any shared pool, at the lists of one worker.
-use Rattle.std.proofs.Common.{ℕ, ◌≡◌, List, [], ◌∷◌, ◌++◌, Ok, Err, refl, sym, ◌∙◌, ap, subst}
+-- The calls of a body over any shared pool, at the lists of one worker, are that worker's own.
+use Rattle.std.proofs.Common.{List}
 use Rattle.commons.specs.declared.plain.PlainCommons.{PlainCommons}
-use Rattle.commons.specs.declared.limits.Limits.{Limits}
-use Rattle.commons.specs.declared.refusal.Refusal.TheVariants.{NoEntries, HeadSpent, RefSpent, DeskTaken, DeskEmpty, NoSuchDesk}
-use Rattle.commons.specs.Calls.{Call, GetList, PutList, Claim, CountOf, Raise, Lower, Offer, Take, CommonCount, Reading, Made, Leads, calls_of}
-use Rattle.commons.specs.Lists.{Lists, IsTable, KeepsOthers, DidPlain, DidOnLists}
-use Rattle.share_book.specs.Own.{LeadsPlain, StepsAlone}
-
--- what the trait's relation is at the lists
-abbrev pub DidAt : PlainCommons → Call → List Reading → PlainCommons → Type 0
-DidAt s call rs t = (t.site.ghost_name ≡ s.site.ghost_name) × (t.worker ≡ s.worker) × DidOnLists s.worker s.site.now call rs t.site.now
-
-pub KeepsOthers-refl : (w : ℕ) (s : Lists) → KeepsOthers w s s
-KeepsOthers-refl w s = record { hands = λ v i e. refl; holds = λ v i l e. refl; headers = λ v i l e. refl }
-
-pub KeepsOthers-trans : (w : ℕ) (s t u : Lists) → KeepsOthers w s t → KeepsOthers w t u → KeepsOthers w s u
-KeepsOthers-trans w s t u a b = record {
-  hands = λ v i e. b.hands v i e ∙ a.hands v i e;
-  holds = λ v i l e. b.holds v i l e ∙ a.holds v i l e;
-  headers = λ v i l e. b.headers v i l e ∙ a.headers v i l e;
-}
-
-abbrev pub limits_at : PlainCommons → Limits
-limits_at c = c.site.now.limits
-
--- what a body's calls do to the lists
-pub record Plainly (s : PlainCommons) (calls : List Call) (t : PlainCommons) : Type 0 where
-  pub same : t.site.ghost_name ≡ s.site.ghost_name
-  pub worker : t.worker ≡ s.worker
-  pub led : LeadsPlain s.worker s.site.now calls t.site.now
-  pub others : KeepsOthers s.worker s.site.now t.site.now
-
-pub plainly : (s : PlainCommons) (made : List Made) (t : PlainCommons) → Leads DidAt limits_at s made t → Plainly s (calls_of made) t
-plainly s [] t h = record {
-  same = ap (λ (x : PlainCommons). x.site.ghost_name) (sym h);
-  worker = ap (λ (x : PlainCommons). x.worker) (sym h);
-  led = ap (λ (x : PlainCommons). x.site.now) h;
-  others = subst (λ (x : PlainCommons). KeepsOthers s.worker s.site.now x.site.now) h (KeepsOthers-refl s.worker s.site.now);
-}
-plainly s (m ∷ made) t h =
-    let rest = plainly h.0 made t h.3 in
-    record {
-      same = rest.same ∙ h.1.0;
-      worker = rest.worker ∙ h.1.1;
-      led = (h.0.site.now, h.1.2.did, h.1.2.before, h.1.2.after, subst (λ w. LeadsPlain w h.0.site.now (calls_of made) t.site.now) h.1.1 rest.led);
-      others = KeepsOthers-trans s.worker s.site.now h.0.site.now t.site.now h.1.2.others (subst (λ w. KeepsOthers w h.0.site.now t.site.now) h.1.1 rest.others);
-    }
-
--- what leads on leads through some state
-pub LeadsPlain-split : (w : ℕ) (s : Lists) (a b : List Call) (t : Lists) → LeadsPlain w s (a ++ b) t → (between : Lists) × LeadsPlain w s a between × LeadsPlain w between b t
-LeadsPlain-split w s [] b t h = (s, refl, h)
-LeadsPlain-split w s (call ∷ a) b t h =
-    let rest = LeadsPlain-split w h.0 a b t h.4 in
-    (rest.0, (h.0, h.1, h.2, h.3, rest.1), rest.2)
-
--- the lists stay a table
-pub LeadsPlain-table : (w : ℕ) (s : Lists) (calls : List Call) (t : Lists) → IsTable s → LeadsPlain w s calls t → IsTable t
-LeadsPlain-table w s [] t table h = subst IsTable h table
-LeadsPlain-table w s (call ∷ calls) t table h = LeadsPlain-table w h.0 calls t h.3 h.4
-
--- and stay those of their pool
-did_limits : (w : ℕ) (s : Lists) (call : Call) (t : Lists) → DidPlain w s call t → t.limits ≡ s.limits
-did_limits w s (GetList n (Ok xs)) t d = ap (λ (x : Lists). x.limits) d.3
-did_limits w s (GetList n (Err NoEntries)) t d = ap (λ (x : Lists). x.limits) d.1
-did_limits w s (GetList n (Err HeadSpent)) t d = ap (λ (x : Lists). x.limits) d.2
-did_limits w s (GetList n (Err _)) t d = absurd d
-did_limits w s (PutList list (Ok _)) t d = ap (λ (x : Lists). x.limits) d.1
-did_limits w s (PutList list (Err HeadSpent)) t d = ap (λ (x : Lists). x.limits) d.1
-did_limits w s (PutList list (Err _)) t d = absurd d
-did_limits w s (Claim i) t d = ap (λ (x : Lists). x.limits) d.1
-did_limits w s (CountOf i n) t d = ap (λ (x : Lists). x.limits) d.1
-did_limits w s (Raise i (Ok _)) t d = ap (λ (x : Lists). x.limits) d.1
-did_limits w s (Raise i (Err RefSpent)) t d = ap (λ (x : Lists). x.limits) d.1
-did_limits w s (Raise i (Err _)) t d = absurd d
-did_limits w s (Lower i answer) t d = ap (λ (x : Lists). x.limits) d.2
-did_limits w s (Offer desk packet (Ok _)) t d = ap (λ (x : Lists). x.limits) d.2
-did_limits w s (Offer desk packet (Err NoSuchDesk)) t d = ap (λ (x : Lists). x.limits) d.1
-did_limits w s (Offer desk packet (Err DeskTaken)) t d = ap (λ (x : Lists). x.limits) d.2
-did_limits w s (Offer desk packet (Err _)) t d = absurd d
-did_limits w s (Take desk (Ok packet)) t d = ap (λ (x : Lists). x.limits) d.2
-did_limits w s (Take desk (Err NoSuchDesk)) t d = ap (λ (x : Lists). x.limits) d.1
-did_limits w s (Take desk (Err DeskEmpty)) t d = ap (λ (x : Lists). x.limits) d.2
-did_limits w s (Take desk (Err _)) t d = absurd d
-did_limits w s (CommonCount n) t d = ap (λ (x : Lists). x.limits) d.1
-
-pub LeadsPlain-limits : (w : ℕ) (s : Lists) (calls : List Call) (t : Lists) → LeadsPlain w s calls t → t.limits ≡ s.limits
-LeadsPlain-limits w s [] t h = ap (λ (x : Lists). x.limits) (sym h)
-LeadsPlain-limits w s (call ∷ calls) t h = LeadsPlain-limits w h.0 calls t h.4 ∙ did_limits w s call h.0 h.1
+use Rattle.commons.specs.Calls.{Made, Leads, calls_of}
+use Rattle.commons.specs.Lists.{IsTable}
+use Rattle.commons.proofs.PlainCalls.{DidAt, LeadsPlain-limits, limits_at, plainly}
+use Rattle.share_book.specs.Own.{StepsAlone}
 
 -- calls of one worker are its own: what the others have stays
 pub alone : (c : PlainCommons) (made : List Made) (d : PlainCommons) → IsTable d.site.now → Leads DidAt limits_at c made d → StepsAlone c.worker c.site.now d.site.now

@@ -1,7 +1,6 @@
 -- A worker's part of the lists: what a `PlainSite` keeps for it is what the worker has. Only the invariant of `SitePool` cites this module.
-use Rattle.std.specs.Prelude.{ℕ, ◌≡◌, ◌≤◌, List, [], ◌∷◌}
-use Rattle.commons.specs.Calls.{Call}
-use Rattle.commons.specs.Lists.{Lists, IsTable, DidPlain, KeepsOthers, hand_of, holds_of, header_of}
+use Rattle.std.specs.Prelude.{ℕ, ◌≡◌, ◌≤◌}
+use Rattle.commons.specs.Lists.{Lists, IsTable, KeepsOthers, hand_of, holds_of, header_of}
 use Rattle.mbuf.specs.Members.{Member}
 use Rattle.mbuf.specs.Own.{Own}
 use Rattle.pool_model.specs.Pool.{Shared}
@@ -15,11 +14,6 @@ pub record Owns (s : Lists) (w : ℕ) (m : Member) : Type 0 where
   pub first : 1 ≤ w
   pub last : w ≤ s.limits.workers
   pub share : Own m s.limits (λ i. hand_of s w i) (λ i. holds_of s w i) (λ i. header_of s w i)
-
--- the calls lead a worker's lists, which are a table before and after each, from one state to the other
-abbrev pub LeadsPlain : ℕ → Lists → List Call → Lists → Type 0
-LeadsPlain w before [] after = before ≡ after
-LeadsPlain w before (call ∷ calls) after = (between : Lists) × DidPlain w before call between × IsTable before × IsTable between × LeadsPlain w between calls after
 
 -- what one worker's calls leave: the same pool, still a table, and what the others have
 pub record StepsAlone (w : ℕ) (s t : Lists) : Type 0 where

@@ -3,7 +3,8 @@ ghost use Rattle.commons.specs.Bounds.{IsPool};
 ghost use Rattle.commons.specs.Lists.{IsMakeCause};
 ghost use Rattle.commons.specs.Calls.{Call};
 ghost use Rattle.mbuf.specs.Acts.{HasRoom, Performs, as_reply};
-ghost use Rattle.share_book.specs.Own.{LeadsPlain, Owns, StepsAlone};
+ghost use Rattle.commons.specs.PlainCalls.{LeadsPlain};
+ghost use Rattle.share_book.specs.Own.{Owns, StepsAlone};
 ghost use Rattle.pool_model.specs.Pool.{new_members};
 
 use crate::placing;

@@ -4,8 +4,8 @@ ghost use Rattle.std.specs.List.{flat_map};
 ghost use Rattle.mbuf.specs.Lengths.{pkt_len};
 ghost use Rattle.script.specs.StatementText.{base_text, desk_text, joined, packet_text, segment_text, segments_text};
 
-use pool_model::statement::{DeskPacket, PlacedPacket};
 use commons::packet::Seg;
+use pool_model::statement::{DeskPacket, PlacedPacket};
 use std::io;
 use std::io::Write;
 

@@ -3,8 +3,8 @@
 use super::ReplyRow;
 use super::told::Told;
 use commons::refusal::Refusal;
-use mempool::put::Put;
 use mbuf::freed::Freed;
+use mempool::put::Put;
 
 pub(super) const ROWS: &[ReplyRow] = &[
     ("2: ok 65533\n", 2, Told::Allocated(7, 65_533)),

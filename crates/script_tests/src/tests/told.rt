@@ -1,10 +1,10 @@
 //! Replies as a table can hold them.
 
 use commons::refusal::Refusal;
-use mempool::put::Put;
 use mbuf::acts::Reply;
 use mbuf::freed::Freed;
 use mbuf::packets::Pid;
+use mempool::put::Put;
 
 /// A reply that has no list.
 #[derive(Clone, Copy)]

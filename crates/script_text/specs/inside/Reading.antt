@@ -2,6 +2,8 @@
 use Rattle.std.specs.Prelude.{ℕ, ◌+◌, ◌-◌, ◌*◌, ◌/◌, ◌^◌, max, Bool, true, false, ◌&&◌, ◌||◌, if◌then◌else◌, ◌==◌, nat_le, nat_lt, List, [], ◌∷◌, length, Option, Some, None, is_some, option_and_then, Result, Ok, Err, unwrap_or, take, drop, codes}
 use Rattle.std.specs.List.{find, list_all}
 use Rattle.std.specs.Str.{bytes_eq}
+use Rattle.commons.specs.Bounds.{max_buf, max_cache, max_desks, max_population, max_refs, max_tries, max_workers}
+use Rattle.commons.specs.Calls.{spent}
 use Rattle.commons.specs.declared.limits.Limits.{Limits}
 use Rattle.commons.specs.declared.refusal.Refusal.{Refusal}
 use Rattle.commons.specs.declared.refusal.Refusal.TheVariants.{BadPool, ScriptFault}
@@ -166,7 +168,7 @@ limits_by population settings = record {
   workers = unwrap_or settings.workers 1;
   desks = unwrap_or settings.desks 0;
   buf = unwrap_or settings.buf 2048;
-  ref_limit = unwrap_or settings.refs 65535;
+  ref_limit = unwrap_or settings.refs max_refs;
   tries = unwrap_or settings.tries 64;
   start_count = unwrap_or settings.start 0;
 }
@@ -185,8 +187,8 @@ limits_from (word ∷ words) = if bytes_eq word (codes "pool") then pool_with wo
 -- of each two numbers the first is at most the second in the limits of a pool
 abbrev pub pool_bounds : Limits → List (ℕ × ℕ)
 pool_bounds l =
-    (1, l.population) ∷ (l.population, 65534) ∷ (l.cache, 512) ∷ (l.cache * 3 / 2, l.population) ∷ (1, l.workers) ∷ (l.workers, 64) ∷ (l.desks, 64)
-    ∷ (l.buf, 65535) ∷ (1, l.ref_limit) ∷ (l.ref_limit, 65535) ∷ (1, l.tries) ∷ (l.tries, 1000000) ∷ (l.start_count, 281474976710655) ∷ []
+    (1, l.population) ∷ (l.population, max_population) ∷ (l.cache, max_cache) ∷ (l.cache * 3 / 2, l.population) ∷ (1, l.workers) ∷ (l.workers, max_workers)
+    ∷ (l.desks, max_desks) ∷ (l.buf, max_buf) ∷ (1, l.ref_limit) ∷ (l.ref_limit, max_refs) ∷ (1, l.tries) ∷ (l.tries, max_tries) ∷ (l.start_count, spent) ∷ []
 
 -- whether a pool can be made within the limits
 abbrev pub is_pool : Limits → Bool

@@ -3,7 +3,8 @@ use Rattle.commons.specs.Calls.{calls_of}
 use Rattle.commons.specs.Lists.{hand_of, holds_of, header_of}
 use Rattle.commons.specs.declared.limits.Limits.{Limits}
 use Rattle.mbuf.specs.Own.{Own}
-use Rattle.share_book.proofs.PlainCalls.{plainly, alone, LeadsPlain-limits}
+use Rattle.commons.proofs.PlainCalls.{plainly, LeadsPlain-limits}
+use Rattle.share_book.proofs.PlainCalls.{alone}
 use Rattle.share_book.proofs.site_pool.act_plain.Goals as goal
 
 pub perform_in-requires : goal.perform_in-requires
