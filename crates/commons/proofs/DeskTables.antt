@@ -6,7 +6,7 @@ use Rattle.commons.specs.declared.packet.Seg.{Seg}
 use Rattle.commons.specs.Bag.{bag}
 use Rattle.commons.specs.Lists.{Lists, IsTable, KeepsOthers, HasMore, HasLess, place_of, held_count, holds_of, holds_of_all, header_of, desk_of, is_owner, owners, disowned, owner_left, placed}
 use Rattle.commons.specs.Packets.{holds_of_packet, own_of_packet, holds_in_slot, own_in_slot, held_in, own_in}
-use Rattle.commons.specs.Site.{HasEnded}
+use Rattle.commons.specs.inside.Site.{HasEnded}
 use Rattle.commons.proofs.Bags.{bag-nil}
 use Rattle.commons.proofs.PacketBags.{held_in-set, own_in-set, own_held, own_below}
 use Rattle.commons.proofs.Places.{zero_or_more, apart_or_same, length-placed, placed-out, placed-in, counted_in, stands}

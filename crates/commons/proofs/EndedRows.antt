@@ -3,7 +3,7 @@ use Rattle.std.proofs.Common.{◌≡◌, ℕ, zero, suc, ◌+◌, ◌-◌, ◌<�
 use Rattle.std.proofs.lemmas.Bool.Decides.{nat_tests}
 use Rattle.commons.specs.Bag.{bag}
 use Rattle.commons.specs.Lists.{disowned, owner_left}
-use Rattle.commons.specs.Site.{HasEnded}
+use Rattle.commons.specs.inside.Site.{HasEnded}
 use Rattle.commons.proofs.Bags.{bag-nil, bag-append, bag-single, one-same}
 use Rattle.commons.proofs.Places.{apart_or_same, one-apart}
 

@@ -7,7 +7,7 @@ use Rattle.commons.specs.declared.place.Place.TheVariants.{Common, Hand, Held}
 use Rattle.commons.specs.Bag.{bag}
 use Rattle.commons.specs.Calls.{spent}
 use Rattle.commons.specs.Lists.{Lists, IsTable, KeepsOthers, nowhere, place_of, in_common, in_hand, held_count, weight, hand_of, holds_of_all, placed, with_hold, after_get, after_put, after_claim}
-use Rattle.commons.specs.ListLaws.{in_hand-le, hand_below_lem}
+use Rattle.commons.specs.inside.ListLaws.{in_hand-le, hand_below_lem}
 use Rattle.commons.specs.Packets.{held_in}
 use Rattle.commons.proofs.PacketBags.{own_in-held}
 use Rattle.commons.proofs.Bags.{bag-nil, bag-cons, bag-take-drop, bag-append, bag-reverse, bag-head, length-le}

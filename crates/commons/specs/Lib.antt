@@ -2,8 +2,7 @@ pub mod Bag
 pub mod Bounds
 pub mod Calls
 pub mod Lists
-pub mod ListLaws
 pub mod Packets
 pub mod PlainCalls
 pub mod Refusals
-pub mod Site
+pub mod inside

@@ -5,7 +5,7 @@ ghost use Rattle.commons.specs.Bag.{bag, one};
 ghost use Rattle.commons.specs.Bounds.{max_refs};
 ghost use Rattle.commons.specs.Lists.{owner_left, placed};
 ghost use Rattle.commons.specs.Packets.{hold_of, holds_of_seg, holds_of_packet, own_of_packet};
-ghost use Rattle.commons.specs.Site.{HasEnded};
+ghost use Rattle.commons.specs.inside.Site.{HasEnded};
 
 use crate::packet::Seg;
 use crate::seq::Seq;

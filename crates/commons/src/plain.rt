@@ -79,7 +79,7 @@ impl<'a> Commons for PlainCommons<'a> {
         self.site.common_count()
     }
 
-    ghost use Rattle.commons.specs.ListLaws.{hand_once_lem, hand_below_lem, apart_lem, header_once_lem, header_held_lem};
+    ghost use Rattle.commons.specs.inside.ListLaws.{hand_once_lem, hand_below_lem, apart_lem, header_once_lem, header_held_lem};
 
     ghost hand_once = { λ c i. hand_once_lem c.site.now c.worker i };
 

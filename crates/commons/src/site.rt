@@ -29,7 +29,7 @@ impl Model for PlainSite {
 
     ghost Value = { Lists };
 
-    ghost use Rattle.commons.specs.Site.{lists_of, IsKept};
+    ghost use Rattle.commons.specs.inside.Site.{lists_of, IsKept};
 
     ghost view = { lists_of };
 

@@ -8,7 +8,7 @@ use Rattle.std.proofs.lemmas.Bool.{cases_eq, cases_lt, cond-true, cond-false, lt
 use Rattle.std.proofs.lemmas.List.{ext_get_or}
 use Rattle.std.proofs.lemmas.List.FromFn.{get_or-map-range_with_len, length-map-range_with_len}
 use Rattle.std.proofs.lemmas.List.Sums.{prefix_len_is, sum_by-set}
-use Rattle.mbuf.specs.Bits.{is_set, flags_of, IsLowestBit}
+use Rattle.mbuf.specs.inside.Bits.{is_set, flags_of, IsLowestBit}
 
 pub flag_at : (words : List ℕ) (slot : ℕ) → slot < 256 → get_or (flags_of words) slot false ≡ is_set words slot
 flag_at words slot h = get_or-map-range_with_len (is_set words) 0 256 slot slot false h (omega arith)

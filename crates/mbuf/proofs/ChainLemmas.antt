@@ -7,7 +7,7 @@ use Rattle.std.proofs.lemmas.Grind.{flat_map-append}
 use Rattle.commons.specs.Bag.{bag}
 use Rattle.commons.specs.declared.packet.Seg.{Seg}
 use Rattle.commons.proofs.Bags.{bag-nil, bag-append}
-use Rattle.mbuf.specs.Kept.{shown, KeepsHolds}
+use Rattle.mbuf.specs.inside.Kept.{shown, KeepsHolds}
 use Rattle.commons.specs.Packets.{no_seg, holds_of_seg, holds_of_packet}
 use Rattle.mbuf.specs.Members.{Member}
 use Rattle.commons.proofs.PacketBags.{held_in-set, own_in-set}

@@ -11,7 +11,7 @@ use Rattle.commons.specs.Bag.{bag}
 use Rattle.commons.specs.declared.limits.Limits.{Limits}
 use Rattle.commons.specs.declared.packet.Seg.{Seg}
 use Rattle.commons.proofs.Bags.{bag-nil, bag-cons, bag-single}
-use Rattle.mbuf.specs.Kept.{shown}
+use Rattle.mbuf.specs.inside.Kept.{shown}
 use Rattle.commons.specs.Packets.{held_in, own_in}
 use Rattle.mbuf.specs.Members.{Member}
 use Rattle.mbuf.specs.Own.{Own}

@@ -4,8 +4,8 @@ use Rattle.commons.proofs.Sames.{some-is}
 use Rattle.commons.specs.Bag.{bag}
 use Rattle.commons.specs.declared.limits.Limits.{Limits}
 use Rattle.commons.specs.declared.packet.Seg.{Seg}
-use Rattle.mbuf.specs.Changes.{resized}
-use Rattle.mbuf.specs.Kept.{KeepsHolds}
+use Rattle.mbuf.specs.inside.Changes.{resized}
+use Rattle.mbuf.specs.inside.Kept.{KeepsHolds}
 use Rattle.mbuf.specs.Lengths.{with_seg, appended, prepended, adjusted, trimmed, grown_behind, grown_in_front, cut_in_front, cut_behind}
 use Rattle.commons.specs.Packets.{no_seg, hold_of, holds_of_seg, holds_of_packet}
 use Rattle.mbuf.specs.Members.{Member}

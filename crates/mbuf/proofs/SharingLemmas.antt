@@ -6,7 +6,7 @@ use Rattle.commons.specs.declared.limits.Limits.{Limits}
 use Rattle.commons.specs.declared.packet.Seg.{Seg}
 use Rattle.commons.specs.declared.refusal.Refusal.TheVariants.{TooManySegs}
 use Rattle.commons.proofs.Bags.{bag-nil, bag-append, bag-single, one-same}
-use Rattle.mbuf.specs.Cloning.{ArePair, IsIndirect}
+use Rattle.mbuf.specs.inside.Cloning.{ArePair, IsIndirect}
 use Rattle.commons.specs.Packets.{hold_of, holds_in_slot, holds_of_packet, holds_of_seg, held_in, own_in}
 use Rattle.mbuf.specs.Members.{Member}
 use Rattle.mbuf.specs.Own.{Own}

@@ -6,7 +6,7 @@ use Rattle.std.proofs.lemmas.List.{get_or_past, get_or_default, set-get_or}
 use Rattle.commons.specs.declared.limits.Limits.{Limits}
 use Rattle.commons.specs.declared.packet.Seg.{Seg}
 use Rattle.mbuf.specs.Members.{Member}
-use Rattle.mbuf.specs.Kept.{unless_free, shown}
+use Rattle.mbuf.specs.inside.Kept.{unless_free, shown}
 
 pub length-shown : (flags : List Bool) (packets : List (List Seg)) → length packets ≡ length flags → length (shown flags packets) ≡ length flags
 length-shown [] packets e = refl

@@ -1,11 +1,8 @@
 pub mod Acts
-pub mod Bits
-pub mod Changes
-pub mod Cloning
 pub mod Desks
-pub mod Kept
 pub mod Lengths
 pub mod Members
 pub mod Own
 pub mod PacketRules
 pub mod Sharing
+pub mod inside

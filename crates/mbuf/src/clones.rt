@@ -7,7 +7,7 @@ ghost use Rattle.commons.specs.Packets.{HasItsData, IsPacket, hold_of, holds_of_
 ghost use Rattle.mempool.specs.WorkerCache.{KeepsNumber};
 ghost use Rattle.mbuf.specs.PacketRules.{EndsHolds, freed_nothing};
 ghost use Rattle.mbuf.specs.Sharing.{attached as attached_seg, buffer_of as buffer};
-ghost use Rattle.mbuf.specs.Cloning.{AttachesElem, TriesSeg, TriesSegs, new_headers, new_holds};
+ghost use Rattle.mbuf.specs.inside.Cloning.{AttachesElem, TriesSeg, TriesSegs, new_headers, new_holds};
 
 use crate::freed::Freed;
 use crate::steps;

@@ -4,7 +4,7 @@
 
 ghost use Rattle.std.specs.Prelude.{◌≡◌, ◌<◌, true, false, count_by, position, replicate, slice_index_or, slice_set, MatchOption};
 ghost use Rattle.mbuf.specs.Members.{slots};
-ghost use Rattle.mbuf.specs.Bits.{IsLowestBit};
+ghost use Rattle.mbuf.specs.inside.Bits.{IsLowestBit};
 
 use crate::packets::SLOTS;
 use std::marker::Model;
@@ -18,7 +18,7 @@ pub struct FreeSlots {
 
 impl Model for FreeSlots {
     ghost use Rattle.std.specs.Prelude.{Bool, List};
-    ghost use Rattle.mbuf.specs.Bits.{flags_of, IsCounted};
+    ghost use Rattle.mbuf.specs.inside.Bits.{flags_of, IsCounted};
 
     ghost Value = { List Bool };
 

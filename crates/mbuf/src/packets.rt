@@ -7,12 +7,12 @@ ghost use Rattle.mempool.specs.WorkerCache.{IsWorkerCause};
 ghost use Rattle.mbuf.specs.Members.{slots};
 ghost use Rattle.mbuf.specs.Own.{Own};
 ghost use Rattle.mbuf.specs.PacketRules.{Allocs, AllocsBulk, Chains, Frees, Resizes, free_slot, free_slots, fresh_seg, of_packet, stood};
-ghost use Rattle.mbuf.specs.Changes.{resized, not_resized};
+ghost use Rattle.mbuf.specs.inside.Changes.{resized, not_resized};
 ghost use Rattle.mbuf.specs.Lengths.{pkt_len as len_of, appended, prepended, adjusted, trimmed};
-ghost use Rattle.mbuf.specs.Kept.{KeepsHolds};
+ghost use Rattle.mbuf.specs.inside.Kept.{KeepsHolds};
 ghost use Rattle.mbuf.specs.Desks.{Offers, Takes};
 ghost use Rattle.mbuf.specs.Sharing.{Attaches, Clones, CountsOf, Detaches, detachable, pair_in};
-ghost use Rattle.mbuf.specs.Cloning.{ArePair, IsIndirect};
+ghost use Rattle.mbuf.specs.inside.Cloning.{ArePair, IsIndirect};
 ghost use Rattle.commons.specs.Packets.{HasItsData, max_segs};
 
 use crate::free_slots::FreeSlots;
@@ -46,7 +46,7 @@ impl Model for Packets {
 
     ghost Value = { Member };
 
-    ghost use Rattle.mbuf.specs.Kept.{member_of, IsKept};
+    ghost use Rattle.mbuf.specs.inside.Kept.{member_of, IsKept};
 
     ghost view = { member_of };
 

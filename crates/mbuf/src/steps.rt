@@ -6,7 +6,7 @@ ghost use Rattle.commons.specs.Bounds.{IsPool, max_population};
 ghost use Rattle.commons.specs.Calls.{Made, Leads, calls_of};
 ghost use Rattle.mempool.specs.Caches.{Gets, put_count};
 ghost use Rattle.mempool.specs.WorkerCache.{KeepsNumber};
-ghost use Rattle.mbuf.specs.Kept.{as_list};
+ghost use Rattle.mbuf.specs.inside.Kept.{as_list};
 ghost use Rattle.commons.specs.Packets.{holds_of_packet, holds_of_seg, max_segs};
 ghost use Rattle.mbuf.specs.PacketRules.{fresh_seg, freed_nothing, counted as counted_put, EndsHold, EndsHolds};
 

@@ -1,3 +1,3 @@
 pub mod Caches
-pub mod Kept
 pub mod WorkerCache
+pub mod inside

@@ -23,7 +23,7 @@ impl Model for Worker {
 
     ghost Value = { WorkerCache };
 
-    ghost use Rattle.mempool.specs.Kept.{cache_of, IsKept};
+    ghost use Rattle.mempool.specs.inside.Kept.{cache_of, IsKept};
 
     ghost view = { cache_of };
 

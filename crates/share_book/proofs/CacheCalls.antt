@@ -11,7 +11,7 @@ use Rattle.mempool.specs.Caches.{Gets, Nothing, Direct, FromCache, Refill, Refil
 use Rattle.pool_model.specs.CacheModel.{ask, push, get, put, flush}
 use Rattle.pool_model.specs.CacheLaw.{Meets}
 use Rattle.commons.specs.PlainCalls.{LeadsPlain}
-use Rattle.share_book.specs.Own.{shared_of}
+use Rattle.share_book.specs.inside.Own.{shared_of}
 use Rattle.pool_model.proofs.CacheRules.{flushed_by, got_by, put_by}
 
 -- a request that was met or refused is the model's

@@ -17,7 +17,7 @@ use Rattle.mbuf.proofs.OwnLemmas.{free_slot-is}
 use Rattle.pool_model.specs.Pool.{Shared}
 use Rattle.pool_model.specs.PacketModel.{offer_onto, offer_in, offer, take_from, take_into, take_off}
 use Rattle.commons.specs.PlainCalls.{LeadsPlain}
-use Rattle.share_book.specs.Own.{shared_of}
+use Rattle.share_book.specs.inside.Own.{shared_of}
 use Rattle.share_book.proofs.SharedBuffers.{nothing}
 
 abbrev Outcome : Type 0

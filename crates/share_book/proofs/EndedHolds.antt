@@ -19,7 +19,7 @@ use Rattle.pool_model.specs.CacheModel.{put}
 use Rattle.pool_model.specs.HoldModel.{put_back, end_holds}
 use Rattle.pool_model.proofs.HeldBags.{next_hold}
 use Rattle.commons.specs.PlainCalls.{LeadsPlain}
-use Rattle.share_book.specs.Own.{shared_of}
+use Rattle.share_book.specs.inside.Own.{shared_of}
 use Rattle.share_book.proofs.CacheCalls.{AreRequests, puts_request, was_put}
 use Rattle.commons.proofs.PlainCalls.{LeadsPlain-split, LeadsPlain-table}
 

@@ -9,7 +9,7 @@ use Rattle.std.proofs.lemmas.List.Sums.{sum_by-cons, sum_by-le}
 use Rattle.std.proofs.lemmas.Bool.Decides.{nat_tests}
 use Rattle.commons.specs.declared.place.Place.{Place}
 use Rattle.commons.specs.declared.place.Place.TheVariants.{Common, Hand, Held}
-use Rattle.commons.specs.ListLaws.{hand_once_lem, hand_below_lem}
+use Rattle.commons.specs.inside.ListLaws.{hand_once_lem, hand_below_lem}
 use Rattle.commons.specs.Lists.{Lists, IsTable, held_count, place_of, nowhere}
 use Rattle.commons.proofs.Bags.{length-le}
 use Rattle.pool_model.specs.declared.statement.Holder.TheVariants.{Worker}
@@ -17,8 +17,8 @@ use Rattle.commons.specs.declared.packet.Seg.{Seg}
 use Rattle.commons.specs.Packets.{held_in}
 use Rattle.mbuf.specs.Members.{Member}
 use Rattle.pool_model.specs.Pool.{held_of, nobody}
-use Rattle.share_book.specs.Own.{Owns}
-use Rattle.share_book.specs.SitePool.{IsMember}
+use Rattle.share_book.specs.inside.Own.{Owns}
+use Rattle.share_book.specs.inside.SitePool.{IsMember}
 use Rattle.pool_model.specs.Statements.{held_entry, holders_of, workers_of}
 
 -- each worker owns its part of the lists

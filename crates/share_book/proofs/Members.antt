@@ -15,9 +15,9 @@ use Rattle.mbuf.specs.Acts.{Reply}
 use Rattle.pool_model.specs.Pool.{Shared, Pool, nobody, held_of}
 use Rattle.pool_model.specs.PacketModel.{perform, without_packet}
 use Rattle.pool_model.proofs.Numbered.{AreNumbered, number_at}
-use Rattle.share_book.specs.SitePool.{pool_with}
+use Rattle.share_book.specs.inside.SitePool.{pool_with}
 use Rattle.commons.specs.PlainCalls.{LeadsPlain}
-use Rattle.share_book.specs.Own.{Owns, StepsAlone}
+use Rattle.share_book.specs.inside.Own.{Owns, StepsAlone}
 use Rattle.share_book.proofs.Entries.{AreMembers, counts_are_holds}
 use Rattle.commons.proofs.PacketBags.{held_in-set, stands_within}
 use Rattle.share_book.proofs.PacketCalls.{Elsewhere, performed_by}

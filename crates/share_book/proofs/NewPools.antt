@@ -10,7 +10,7 @@ use Rattle.mbuf.proofs.OwnLemmas.{own_new}
 use Rattle.mempool.specs.WorkerCache.{IsWorkerCause}
 use Rattle.mbuf.specs.Members.{Member}
 use Rattle.pool_model.specs.Pool.{new_members, nobody}
-use Rattle.share_book.specs.SitePool.{IsMember}
+use Rattle.share_book.specs.inside.SitePool.{IsMember}
 use Rattle.pool_model.proofs.NewMembers.{newcomer, get_or-new_members}
 
 -- the next worker is the first of those that are left

@@ -21,7 +21,7 @@ use Rattle.pool_model.specs.Pool.{Shared}
 use Rattle.pool_model.specs.CacheModel.{get}
 use Rattle.pool_model.specs.PacketModel.{fill_slot, alloc_in, alloc, fill_slots, alloc_bulk, free_in, free, told_beside, chained_beside, after_flush, member_act}
 use Rattle.commons.specs.PlainCalls.{LeadsPlain}
-use Rattle.share_book.specs.Own.{shared_of}
+use Rattle.share_book.specs.inside.Own.{shared_of}
 use Rattle.share_book.proofs.CacheCalls.{got, was_flushed}
 use Rattle.share_book.proofs.EndedHolds.{ended}
 use Rattle.commons.proofs.PacketBags.{stands_within}

@@ -4,7 +4,7 @@ use Rattle.commons.specs.declared.plain.PlainCommons.{PlainCommons}
 use Rattle.commons.specs.Calls.{Made, Leads, calls_of}
 use Rattle.commons.specs.Lists.{IsTable}
 use Rattle.commons.proofs.PlainCalls.{DidAt, LeadsPlain-limits, limits_at, plainly}
-use Rattle.share_book.specs.Own.{StepsAlone}
+use Rattle.share_book.specs.inside.Own.{StepsAlone}
 
 -- calls of one worker are its own: what the others have stays
 pub alone : (c : PlainCommons) (made : List Made) (d : PlainCommons) → IsTable d.site.now → Leads DidAt limits_at c made d → StepsAlone c.worker c.site.now d.site.now

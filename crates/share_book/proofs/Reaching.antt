@@ -8,7 +8,7 @@ use Rattle.pool_model.specs.Pool.{Pool, new_pool, new_members}
 use Rattle.pool_model.specs.PacketModel.{after_acts, perform}
 use Rattle.pool_model.proofs.AfterActs.{after_one_more}
 use Rattle.pool_model.proofs.Numbered.{IsNumbered, acts-numbered}
-use Rattle.share_book.specs.SitePool.{IsReached, pool_with}
+use Rattle.share_book.specs.inside.SitePool.{IsReached, pool_with}
 
 -- a new pool is reached by no act
 pub new_is_reached : (l : Limits) (s : Lists) (members : List Member) → s ≡ opening l → members ≡ new_members l 1 l.workers → IsReached (pool_with s members)

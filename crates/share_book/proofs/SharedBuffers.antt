@@ -31,7 +31,7 @@ use Rattle.pool_model.specs.PacketModel.{beside}
 use Rattle.pool_model.specs.SharingModel.{Cloned, attach, attach_to, clone, clone_at, clone_segs, clone_to, count, detach, detach_from, give_up, with_element}
 use Rattle.pool_model.proofs.SharedKeep.{clonable_there}
 use Rattle.commons.specs.PlainCalls.{LeadsPlain}
-use Rattle.share_book.specs.Own.{shared_of}
+use Rattle.share_book.specs.inside.Own.{shared_of}
 use Rattle.share_book.proofs.CacheCalls.{got, gets_request}
 use Rattle.share_book.proofs.EndedHolds.{Counts, ended, held_within, requests_count}
 use Rattle.commons.proofs.PlainCalls.{LeadsPlain-split, LeadsPlain-limits}

@@ -1,3 +1,1 @@
--- both are for inside: how a `SitePool` is kept
-pub mod Own
-pub mod SitePool
+pub mod inside

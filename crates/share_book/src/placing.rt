@@ -2,12 +2,12 @@
 
 ghost use Rattle.std.specs.Prelude.{◌≡◌, ◌<◌, ◌≤◌, ◌++◌, ℕ, IfOk, cond, filter, flat_map, length, map, nat_lt, replicate, slice_index_or, sum_by};
 ghost use Rattle.std.specs.List.{range_with_len};
-ghost use Rattle.share_book.specs.Own.{shared_of};
+ghost use Rattle.share_book.specs.inside.Own.{shared_of};
 ghost use Rattle.commons.specs.Bag.{bag};
 ghost use Rattle.commons.specs.Lists.{IsTable};
 ghost use Rattle.commons.specs.Packets.{hold_of, holds_of_packet, holds_of_seg};
 ghost use Rattle.pool_model.specs.Pool.{held_of, nobody};
-ghost use Rattle.share_book.specs.SitePool.{IsMember};
+ghost use Rattle.share_book.specs.inside.SitePool.{IsMember};
 ghost use Rattle.pool_model.specs.Statements.{desks_from, desks_of, held_entry, holders_of, packets_of, statement_of, workers_of};
 
 use commons::packet::{Packet, Seg};

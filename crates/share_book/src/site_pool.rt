@@ -4,7 +4,7 @@ ghost use Rattle.commons.specs.Lists.{IsMakeCause};
 ghost use Rattle.commons.specs.Calls.{Call};
 ghost use Rattle.mbuf.specs.Acts.{HasRoom, Performs, as_reply};
 ghost use Rattle.commons.specs.PlainCalls.{LeadsPlain};
-ghost use Rattle.share_book.specs.Own.{Owns, StepsAlone};
+ghost use Rattle.share_book.specs.inside.Own.{Owns, StepsAlone};
 ghost use Rattle.pool_model.specs.Pool.{new_members};
 
 use crate::placing;
@@ -32,7 +32,7 @@ impl Model for SitePool {
 
     ghost Value = { Pool };
 
-    ghost use Rattle.share_book.specs.SitePool.{pool_of, IsSitePool};
+    ghost use Rattle.share_book.specs.inside.SitePool.{pool_of, IsSitePool};
 
     ghost view = { pool_of };
 

@@ -1,6 +1,6 @@
 use Rattle.std.proofs.Common.{◌+◌, List, ℕ, take, get_or, subst, sym, arith}
 use Rattle.commons.specs.Packets.{no_seg, holds_of_seg, holds_of_packet}
-use Rattle.commons.specs.Site.{HasEnded}
+use Rattle.commons.specs.inside.Site.{HasEnded}
 use Rattle.commons.proofs.PacketBags.{bag-holds_suc, holds-suc, holds_so_far}
 use Rattle.commons.proofs.EndedRows.{ended-none, ended-append}
 use Rattle.commons.proofs.passing.end_holds.Goals as goal

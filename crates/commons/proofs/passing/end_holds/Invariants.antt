@@ -1,6 +1,6 @@
 use Rattle.std.proofs.Common.{take}
 use Rattle.commons.specs.Packets.{holds_of_packet}
-use Rattle.commons.specs.Site.{HasEnded}
+use Rattle.commons.specs.inside.Site.{HasEnded}
 use Rattle.commons.proofs.passing.end_holds.Given as goal
 
 -- the holds of the segments so far have ended

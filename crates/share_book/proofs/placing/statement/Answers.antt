@@ -1,7 +1,7 @@
 use Rattle.std.proofs.Common.{refl, arith}
 use Rattle.std.proofs.lemmas.List.{length-map}
 use Rattle.pool_model.specs.Statements.{held_elements, held_entry}
-use Rattle.share_book.specs.SitePool.{pool_with}
+use Rattle.share_book.specs.inside.SitePool.{pool_with}
 use Rattle.share_book.proofs.Entries.{caches_short}
 use Rattle.share_book.proofs.placing.statement.Goals as goal
 

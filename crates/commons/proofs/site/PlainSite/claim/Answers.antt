@@ -1,5 +1,5 @@
 use Rattle.std.proofs.Common.{sym}
-use Rattle.commons.specs.Site.{lists_of}
+use Rattle.commons.specs.inside.Site.{lists_of}
 use Rattle.commons.proofs.Tables.{table_claim}
 use Rattle.commons.proofs.Single.{others_claim}
 use Rattle.commons.proofs.site.PlainSite.claim.Goals as goal

@@ -1,7 +1,7 @@
 use Rattle.std.proofs.Common.{arith}
 use Rattle.std.proofs.lemmas.List.{length-reverse}
 use Rattle.commons.proofs.Tables.{length_common}
-use Rattle.commons.specs.Site.{lists_of}
+use Rattle.commons.specs.inside.Site.{lists_of}
 use Rattle.commons.proofs.site.PlainSite.common_count.Goals as goal
 
 pub overflow_cast-result : goal.overflow_cast-result

@@ -1,6 +1,6 @@
 use Rattle.std.proofs.Common.{length, sym, arith}
 use Rattle.commons.specs.Lists.{Lists}
-use Rattle.commons.specs.Site.{lists_of}
+use Rattle.commons.specs.inside.Site.{lists_of}
 use Rattle.commons.proofs.Tables.{table_get, others_get, taken_below}
 use Rattle.commons.proofs.site.PlainSite.get.Goals as goal
 

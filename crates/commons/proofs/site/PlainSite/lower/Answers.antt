@@ -1,7 +1,7 @@
 use Rattle.std.proofs.Common.{◌≡◌, ◌<◌, ◌≤◌, ◌∙◌, sym, refl, length, arith, None, ℕ}
 use Rattle.std.proofs.lemmas.List.{get_or_default}
 use Rattle.commons.specs.Lists.{Lists, IsTable, nowhere, holds_of}
-use Rattle.commons.specs.Site.{lists_of}
+use Rattle.commons.specs.inside.Site.{lists_of}
 use Rattle.commons.proofs.Single.{held_below, held_place, table_lower, others_lower}
 use Rattle.commons.proofs.site.PlainSite.lower.Goals as goal
 

@@ -4,7 +4,7 @@ use Rattle.std.proofs.lemmas.Bool.{true≢false}
 use Rattle.commons.specs.Bag.{bag}
 use Rattle.commons.specs.Lists.{Lists, IsTable, desk_of, header_of}
 use Rattle.commons.specs.Packets.{own_of_packet}
-use Rattle.commons.specs.Site.{lists_of}
+use Rattle.commons.specs.inside.Site.{lists_of}
 use Rattle.commons.specs.declared.packet.Seg.{Seg}
 use Rattle.commons.proofs.Tables.{row_below}
 use Rattle.commons.proofs.DeskTables.{is_below, table_offered, others_offered, less_offered}

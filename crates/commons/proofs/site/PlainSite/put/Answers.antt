@@ -1,6 +1,6 @@
 use Rattle.std.proofs.Common.{rules, ◌≡◌, ◌++◌, sym, arith}
 use Rattle.std.proofs.lemmas.List.{length-reverse, reverse-append}
-use Rattle.commons.specs.Site.{lists_of}
+use Rattle.commons.specs.inside.Site.{lists_of}
 use Rattle.commons.proofs.Tables.{table_put, others_put, room_put, put_below}
 use Rattle.commons.proofs.site.PlainSite.put.Goals as goal
 

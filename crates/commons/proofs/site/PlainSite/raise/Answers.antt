@@ -2,7 +2,7 @@ use Rattle.std.proofs.Common.{◌≡◌, ◌<◌, ◌≤◌, ◌∙◌, sym, ap,
 use Rattle.std.proofs.lemmas.List.{get_or_default}
 use Rattle.commons.specs.Lists.{Lists, IsTable, nowhere, place_of, held_count, holds_of}
 use Rattle.commons.specs.declared.limits.Limits.{Limits}
-use Rattle.commons.specs.Site.{lists_of}
+use Rattle.commons.specs.inside.Site.{lists_of}
 use Rattle.commons.proofs.Single.{held_below}
 use Rattle.commons.proofs.Raising.{hold_le_count, table_raise, others_raise}
 use Rattle.commons.proofs.site.PlainSite.raise.Goals as goal

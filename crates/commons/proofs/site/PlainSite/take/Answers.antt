@@ -1,7 +1,7 @@
 use Rattle.std.proofs.Common.{◌≡◌, ◌-◌, ◌<◌, ◌≤◌, [], List, length, get_or, Option, Some, None, ◌∙◌, sym, refl, arith, ℕ}
 use Rattle.std.proofs.lemmas.List.{get_or_default}
 use Rattle.commons.specs.Lists.{Lists, IsTable, desk_of}
-use Rattle.commons.specs.Site.{lists_of}
+use Rattle.commons.specs.inside.Site.{lists_of}
 use Rattle.commons.specs.declared.packet.Seg.{Seg}
 use Rattle.commons.proofs.Tables.{row_below}
 use Rattle.commons.proofs.DeskTables.{held_on_desk, few_taken, own_on_desk, table_taken, others_taken, more_taken}

@@ -2,7 +2,7 @@ use Rattle.std.proofs.Common.{◌<◌, ◌+◌, ◌%◌, Bool, List, length, w64
 use Rattle.std.specs.Prelude.{◌==◌, count_by, ℕ}
 use Rattle.std.proofs.lemmas.List.Sums.{count_by-le-length}
 use Rattle.std.proofs.lemmas.Nat.Bits.{bit_at_set_same, bit_at_set_other}
-use Rattle.mbuf.specs.Bits.{flags_of}
+use Rattle.mbuf.specs.inside.Bits.{flags_of}
 use Rattle.mbuf.proofs.BitLemmas.{flags-set, length-flags, counted_up}
 use Rattle.mbuf.proofs.free_slots.FreeSlots.give.Goals as goal
 

@@ -1,7 +1,7 @@
 use Rattle.std.proofs.Common.{◌<◌, ◌%◌, Bool, List, length, w64, sym, ap, ◌∙◌, arith}
 use Rattle.std.specs.Prelude.{◌==◌, count_by, ℕ}
 use Rattle.std.proofs.lemmas.Nat.Bits.{bit_at_clear_same, bit_at_clear_other}
-use Rattle.mbuf.specs.Bits.{flags_of}
+use Rattle.mbuf.specs.inside.Bits.{flags_of}
 use Rattle.mbuf.proofs.BitLemmas.{flags-set, length-flags, counted_down, one_fewer}
 use Rattle.mbuf.proofs.free_slots.FreeSlots.take.Goals as goal
 

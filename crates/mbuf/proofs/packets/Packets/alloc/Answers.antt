@@ -5,7 +5,7 @@ use Rattle.commons.specs.Calls.{Claim, calls_of}
 use Rattle.commons.specs.declared.limits.Limits.{Limits}
 use Rattle.commons.proofs.Bags.{bag-single, one-same}
 use Rattle.commons.proofs.Leading.{calls_of-append, Leads-append, Leads-one, made_by}
-use Rattle.mbuf.specs.Kept.{member_of, shown}
+use Rattle.mbuf.specs.inside.Kept.{member_of, shown}
 use Rattle.mbuf.specs.Members.{Member}
 use Rattle.mbuf.specs.Own.{Own}
 use Rattle.mbuf.specs.PacketRules.{free_slots, fresh_seg, stood, Full, NotGot, Fresh}

@@ -3,7 +3,7 @@ use Rattle.commons.specs.Calls.{Call, calls_of}
 use Rattle.commons.specs.declared.limits.Limits.{Limits}
 use Rattle.commons.specs.declared.refusal.Refusal.{Refusal}
 use Rattle.commons.proofs.Leading.{calls_of-append, Leads-append}
-use Rattle.mbuf.specs.Kept.{member_of, shown}
+use Rattle.mbuf.specs.inside.Kept.{member_of, shown}
 use Rattle.mbuf.specs.Members.{Member}
 use Rattle.mbuf.specs.Own.{Own}
 use Rattle.mbuf.specs.PacketRules.{free_slots, stood, TooFull, BulkNotGot, FreshBulk}

@@ -2,7 +2,7 @@ use Rattle.std.proofs.Common.{◌≡◌, [], ◌∷◌, List, set, get_or, Optio
 use Rattle.std.specs.Prelude.{IsSome}
 use Rattle.std.proofs.lemmas.Result.{err_from_is_err_and}
 use Rattle.commons.specs.declared.packet.Seg.{Seg}
-use Rattle.mbuf.specs.Kept.{member_of, shown}
+use Rattle.mbuf.specs.inside.Kept.{member_of, shown}
 use Rattle.mbuf.specs.Members.{Member}
 use Rattle.mbuf.specs.Own.{Own}
 use Rattle.mbuf.specs.Sharing.{NotAttachable, HeldElsewhere, NotRaised, WasAttached}

@@ -4,7 +4,7 @@ use Rattle.std.proofs.lemmas.Bool.{cond-true, lt-ltb}
 use Rattle.std.proofs.lemmas.Result.{err_from_is_err_and}
 use Rattle.commons.specs.declared.limits.Limits.{Limits}
 use Rattle.commons.specs.declared.packet.Seg.{Seg}
-use Rattle.mbuf.specs.Kept.{member_of, shown}
+use Rattle.mbuf.specs.inside.Kept.{member_of, shown}
 use Rattle.mbuf.specs.Members.{Member}
 use Rattle.mbuf.specs.Own.{Own}
 use Rattle.mbuf.specs.PacketRules.{fresh_seg}

@@ -1,6 +1,6 @@
 use Rattle.std.proofs.Common.{◌≡◌, ◌≤◌, List, length, get_or, Some, None, refl, sym, ap, ◌∙◌, arith}
 use Rattle.commons.specs.declared.packet.Seg.{Seg}
-use Rattle.mbuf.specs.Kept.{shown}
+use Rattle.mbuf.specs.inside.Kept.{shown}
 use Rattle.mbuf.specs.Sharing.{first_seg}
 use Rattle.mbuf.proofs.SharingLemmas.{several_there, one_there, single_seg}
 use Rattle.mbuf.proofs.TableLemmas.{stands}

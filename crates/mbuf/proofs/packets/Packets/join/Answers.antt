@@ -1,7 +1,7 @@
 use Rattle.std.proofs.Common.{◌≡◌, ℕ, ◌<◌, List, [], ◌++◌, length, set, get_or, Some, None, refl, sym, ap, subst, ◌∙◌, arith}
 use Rattle.std.proofs.lemmas.List.{get_or_default}
 use Rattle.commons.specs.declared.packet.Seg.{Seg}
-use Rattle.mbuf.specs.Kept.{member_of, shown, KeepsHolds}
+use Rattle.mbuf.specs.inside.Kept.{member_of, shown, KeepsHolds}
 use Rattle.mbuf.specs.Members.{Member}
 use Rattle.mbuf.proofs.ChainLemmas.{shown_chained, KeepsHolds-chain}
 use Rattle.mbuf.proofs.PacketCases.{same_is, too_long_is, was_chained_is}

@@ -7,7 +7,7 @@ use Rattle.commons.specs.declared.packet.Seg.{Seg}
 use Rattle.commons.proofs.Leading.{Leads-one, made_by}
 use Rattle.commons.proofs.PacketBags.{held_in-slot, own_in-slot}
 use Rattle.mbuf.specs.Desks.{NotOffered, WasOffered}
-use Rattle.mbuf.specs.Kept.{member_of, shown}
+use Rattle.mbuf.specs.inside.Kept.{member_of, shown}
 use Rattle.mbuf.specs.Members.{Member}
 use Rattle.mbuf.specs.Own.{Own}
 use Rattle.mbuf.proofs.DeskLemmas.{own_offered, own_same, set_back}

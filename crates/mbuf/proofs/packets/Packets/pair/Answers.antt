@@ -1,7 +1,7 @@
 use Rattle.std.proofs.Common.{◌≡◌, ◌==◌, ◌≤◌, List, length, drop, get_or, Some, None, refl, sym, ap, ◌∙◌, arith}
 use Rattle.std.proofs.lemmas.Bool.{ne_eqb}
 use Rattle.commons.specs.declared.packet.Seg.{Seg}
-use Rattle.mbuf.specs.Kept.{shown}
+use Rattle.mbuf.specs.inside.Kept.{shown}
 use Rattle.mbuf.specs.Sharing.{first_seg}
 use Rattle.mbuf.proofs.SharingLemmas.{several_segs, one_seg, begins, single_seg}
 use Rattle.mbuf.proofs.TableLemmas.{stands}

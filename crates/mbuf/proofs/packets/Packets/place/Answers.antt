@@ -1,5 +1,5 @@
 use Rattle.std.proofs.Common.{◌≡◌, ◌<◌, ℕ, length, get_or, Some, None, sym, subst, ◌∙◌, arith}
-use Rattle.mbuf.specs.Kept.{shown}
+use Rattle.mbuf.specs.inside.Kept.{shown}
 use Rattle.mbuf.proofs.TableLemmas.{stands}
 use Rattle.mbuf.proofs.packets.Packets.place.Goals as goal
 

@@ -2,10 +2,10 @@ use Rattle.std.proofs.Common.{◌≡◌, ◌<◌, ℕ, List, length, set, get_or
 use Rattle.std.proofs.lemmas.List.{set-get_or}
 use Rattle.commons.specs.declared.packet.Seg.{Seg}
 use Rattle.commons.specs.declared.refusal.Refusal.{Refusal}
-use Rattle.mbuf.specs.Kept.{member_of, shown, KeepsHolds}
+use Rattle.mbuf.specs.inside.Kept.{member_of, shown, KeepsHolds}
 use Rattle.mbuf.specs.Lengths.{pkt_len}
 use Rattle.mbuf.specs.Members.{Member}
-use Rattle.mbuf.specs.Changes.{resized, not_resized}
+use Rattle.mbuf.specs.inside.Changes.{resized, not_resized}
 use Rattle.mbuf.proofs.PacketCases.{not_resized_is, was_resized_is}
 use Rattle.mbuf.proofs.ResizeLemmas.{resized_holds, KeepsHolds-set}
 use Rattle.mbuf.proofs.TableLemmas.{stands, length-shown, shown-packet, member_is}

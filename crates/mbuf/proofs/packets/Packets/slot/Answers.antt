@@ -1,5 +1,5 @@
 use Rattle.std.proofs.Common.{Bool, [], get_or, refl, sym, ap, ◌∙◌, arith}
-use Rattle.mbuf.specs.Kept.{unless_free}
+use Rattle.mbuf.specs.inside.Kept.{unless_free}
 use Rattle.mbuf.proofs.TableLemmas.{past_shown, get_or-shown}
 use Rattle.mbuf.proofs.packets.Packets.slot.Goals as goal
 

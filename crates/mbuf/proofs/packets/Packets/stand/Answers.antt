@@ -1,7 +1,7 @@
 use Rattle.std.proofs.Common.{ℕ, ◌≡◌, ◌<◌, Bool, [], ◌∷◌, length, set, false, Option, Some, refl, sym, subst, ◌∙◌}
 use Rattle.std.specs.Prelude.{IsSome}
 use Rattle.std.proofs.lemmas.List.Quantifiers.{position-Some}
-use Rattle.mbuf.specs.Kept.{shown}
+use Rattle.mbuf.specs.inside.Kept.{shown}
 use Rattle.mbuf.specs.PacketRules.{fresh_seg}
 use Rattle.mbuf.proofs.FreeLemmas.{first_free}
 use Rattle.mbuf.proofs.TableLemmas.{free_slot-shown, shown-set, member_is}

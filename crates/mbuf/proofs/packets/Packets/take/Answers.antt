@@ -4,7 +4,7 @@ use Rattle.commons.specs.Calls.{Take}
 use Rattle.commons.specs.declared.limits.Limits.{Limits}
 use Rattle.commons.proofs.Leading.{Leads-one, made_by}
 use Rattle.mbuf.specs.Desks.{NoSlot, NotTaken, WasTaken}
-use Rattle.mbuf.specs.Kept.{member_of, shown}
+use Rattle.mbuf.specs.inside.Kept.{member_of, shown}
 use Rattle.mbuf.specs.Members.{Member}
 use Rattle.mbuf.specs.Own.{Own}
 use Rattle.mbuf.specs.PacketRules.{free_slot}

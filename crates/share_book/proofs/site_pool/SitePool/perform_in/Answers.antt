@@ -4,7 +4,7 @@ use Rattle.commons.specs.declared.limits.Limits.{Limits}
 use Rattle.std.proofs.lemmas.List.{get_or_default}
 use Rattle.mbuf.specs.Acts.{Reply, as_reply}
 use Rattle.pool_model.specs.Pool.{Pool, nobody}
-use Rattle.share_book.specs.SitePool.{pool_with}
+use Rattle.share_book.specs.inside.SitePool.{pool_with}
 use Rattle.share_book.proofs.Members.{members_after, performed}
 use Rattle.share_book.proofs.Reaching.{reached_further, reached_numbered}
 use Rattle.share_book.proofs.site_pool.SitePool.perform_in.Goals as goal

@@ -3,7 +3,7 @@ use Rattle.std.proofs.Common.{◌≡◌, List, ap, sym, ◌∙◌}
 use Rattle.mbuf.specs.Members.{Member}
 use Rattle.pool_model.specs.Pool.{Pool}
 use Rattle.pool_model.specs.Statements.{statement_of, ListsEachOnce, PlacesEachOnce}
-use Rattle.share_book.specs.SitePool.{pool_of, pool_with}
+use Rattle.share_book.specs.inside.SitePool.{pool_of, pool_with}
 use Rattle.share_book.proofs.Reaching.{of_reached}
 use Rattle.share_book.proofs.site_pool.SitePool.statement.Goals as goal
 

@@ -5,7 +5,7 @@ use Rattle.mbuf.specs.declared.acts.Act.{Act}
 use Rattle.mbuf.specs.Members.{Member}
 use Rattle.pool_model.specs.PacketModel.{after_acts}
 use Rattle.pool_model.specs.Pool.{Pool, new_pool, nobody}
-use Rattle.share_book.specs.Own.{shared_of, Owns}
+use Rattle.share_book.specs.inside.Own.{shared_of, Owns}
 use Rattle.share_book.specs.declared.site_pool.SitePool.TheInside.{Inside}
 
 -- these lists and these workers as a pool

@@ -1,0 +1,5 @@
+-- What serves proofs and the inside of types alone. No public clause cites these modules.
+pub mod Bits
+pub mod Changes
+pub mod Cloning
+pub mod Kept
