@@ -1,5 +1,6 @@
 pub mod Acts
 pub mod Desks
+pub mod Fresh
 pub mod Lengths
 pub mod Members
 pub mod Own
