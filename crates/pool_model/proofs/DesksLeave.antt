@@ -3,7 +3,7 @@ use Rattle.std.proofs.Common.{ℕ, ◌≡◌, ◌<◌, nat_le, inl, inr, List, l
 use Rattle.std.proofs.lemmas.Bool.{cases_Bool, leb-false}
 use Rattle.commons.specs.declared.packet.Seg.{Seg}
 use Rattle.commons.proofs.Bags.{bag-nil}
-use Rattle.commons.proofs.PacketBags.{held_in-set, stands_within}
+use Rattle.commons.proofs.PacketBags.{held_in-set, own_in-set, stands_within}
 use Rattle.mbuf.specs.declared.acts.Act.{Act}
 use Rattle.mbuf.specs.declared.acts.Act.TheVariants.{Take}
 use Rattle.mbuf.specs.Members.{Member}
@@ -15,7 +15,7 @@ use Rattle.pool_model.proofs.Leaves.{Leaves, Onto, Off, leaves_kept, nothing_kee
 
 offer_onto-leaves : (act : Act) (others : ℕ → ℕ) (place : Option (List Seg)) (segs : List Seg) (slot desk : ℕ) (m : Member) (s : Shared) → get_or s.desks desk None ≡ place → desk < length s.desks → get_or m.table slot None ≡ Some segs →
     Leaves act others m s (offer_onto place segs slot desk m s)
-offer_onto-leaves act others (Some other) segs slot desk m s e here there = leaves_kept (nothing_keeps _ m s _)
+offer_onto-leaves act others (Some other) segs slot desk m s e here there = leaves_kept (nothing_keeps _ m s _ refl)
 offer_onto-leaves act others None segs slot desk m s e here there = record {
   number = refl;
   slots = length-set m.table slot None;
@@ -24,18 +24,23 @@ offer_onto-leaves act others None segs slot desk m s e here there = record {
       let onto = rw e at (held_in-set s.desks desk (Some segs) i here) in
       let left = rw there at (held_in-set m.table slot None i (stands_within m.table slot segs there)) in
       omega (arith, onto, left, bag-nil i);
+  given = λ i. omega (arith, bag-nil i);
+  own = λ i.
+      let onto = rw e at (own_in-set s.desks desk (Some segs) i here) in
+      let left = rw there at (own_in-set m.table slot None i (stands_within m.table slot segs there)) in
+      omega (arith, onto, left, bag-nil i);
 }
 
 pub offer_in-leaves : (act : Act) (others : ℕ → ℕ) (content : Option (List Seg)) (slot desk : ℕ) (m : Member) (s : Shared) → get_or m.table slot None ≡ content → Leaves act others m s (offer_in content slot desk m s)
-offer_in-leaves act others None slot desk m s e = leaves_kept (nothing_keeps _ m s _)
+offer_in-leaves act others None slot desk m s e = leaves_kept (nothing_keeps _ m s _ refl)
 offer_in-leaves act others (Some segs) slot desk m s e = elim (cases_Bool (nat_le (length s.desks) desk)) [
-  | inl past ↦ rw past (leaves_kept (nothing_keeps _ m s _))
+  | inl past ↦ rw past (leaves_kept (nothing_keeps _ m s _ refl))
   | inr here ↦ rw here (offer_onto-leaves act others (get_or s.desks desk None) segs slot desk m s refl (leb-false (length s.desks) desk here) e)
 ]
 
 take_from-leaves : (others : ℕ → ℕ) (place : Option (List Seg)) (slot desk : ℕ) (m : Member) (s : Shared) → get_or s.desks desk None ≡ place → desk < length s.desks → slot < length m.table → get_or m.table slot None ≡ None →
     Leaves (Take desk) others m s (take_from place slot desk m s)
-take_from-leaves others None slot desk m s e here within free = leaves_kept (nothing_keeps _ m s _)
+take_from-leaves others None slot desk m s e here within free = leaves_kept (nothing_keeps _ m s _ refl)
 take_from-leaves others (Some segs) slot desk m s e here within free = record {
   number = refl;
   slots = length-set m.table slot (Some segs);
@@ -44,16 +49,21 @@ take_from-leaves others (Some segs) slot desk m s e here within free = record {
       let off = rw e at (held_in-set s.desks desk None i here) in
       let into = rw free at (held_in-set m.table slot (Some segs) i within) in
       omega (arith, off, into, bag-nil i);
+  given = λ i. omega (arith, bag-nil i);
+  own = λ i.
+      let off = rw e at (own_in-set s.desks desk None i here) in
+      let into = rw free at (own_in-set m.table slot (Some segs) i within) in
+      omega (arith, off, into, bag-nil i);
 }
 
 take_into-leaves : (others : ℕ → ℕ) (free : Option ℕ) (desk : ℕ) (m : Member) (s : Shared) → free_slot m.table ≡ free → desk < length s.desks → Leaves (Take desk) others m s (take_into free desk m s)
-take_into-leaves others None desk m s e here = leaves_kept (nothing_keeps _ m s _)
+take_into-leaves others None desk m s e here = leaves_kept (nothing_keeps _ m s _ refl)
 take_into-leaves others (Some slot) desk m s e here =
     let empty = free_slot-is m.table slot e in
     take_from-leaves others (get_or s.desks desk None) slot desk m s refl here empty.0 empty.1
 
 pub take_off-leaves : (others : ℕ → ℕ) (desk : ℕ) (m : Member) (s : Shared) → Leaves (Take desk) others m s (take_off desk m s)
 take_off-leaves others desk m s = elim (cases_Bool (nat_le (length s.desks) desk)) [
-  | inl past ↦ rw past (leaves_kept (nothing_keeps _ m s _))
+  | inl past ↦ rw past (leaves_kept (nothing_keeps _ m s _ refl))
   | inr here ↦ rw here (take_into-leaves others (free_slot m.table) desk m s refl (leb-false (length s.desks) desk here))
 ]

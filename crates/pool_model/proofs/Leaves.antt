@@ -1,13 +1,15 @@
 -- What an act leaves of a worker and of what all share.
-use Rattle.std.proofs.Common.{ℕ, ◌≡◌, ◌+◌, ◌<◌, ◌≤◌, List, length, length-set, get_or, set, Option, Some, None, refl, ap, arith}
+use Rattle.std.proofs.Common.{ℕ, ◌≡◌, ◌+◌, ◌<◌, ◌≤◌, List, [], length, length-set, get_or, set, Option, Some, None, refl, ap, arith}
 use Rattle.std.specs.Prelude.{min}
 use Rattle.commons.specs.Bag.{bag}
 use Rattle.commons.specs.declared.packet.Seg.{Seg}
-use Rattle.commons.specs.Packets.{holds_in_slot, held_in}
-use Rattle.commons.proofs.PacketBags.{held_in-set}
+use Rattle.commons.specs.Packets.{holds_in_slot, own_in_slot, held_in, own_in}
+use Rattle.commons.proofs.Bags.{bag-nil}
+use Rattle.commons.proofs.PacketBags.{held_in-set, own_in-set}
 use Rattle.mbuf.specs.declared.acts.Act.{Act}
 use Rattle.mbuf.specs.declared.acts.Act.TheVariants.{Take}
 use Rattle.mbuf.specs.Acts.{Reply}
+use Rattle.mbuf.specs.Fresh.{new_elements}
 use Rattle.mbuf.specs.Members.{Member}
 use Rattle.pool_model.specs.Pool.{Shared}
 
@@ -16,32 +18,57 @@ abbrev pub near : ℕ → Member → Shared → ℕ → ℕ
 near others m s i = bag m.cache i + bag s.common i + min 1 (others + held_in m.table i)
 
 -- What leaves the desks: the worker keeps its number and as many slots, and each element stays in one place, where
--- outside is how often the packets of others and those on desks hold each.
+-- outside is how often the packets of others and those on desks hold each. The elements that the worker is told of as
+-- new were in its cache or the common list, and its packets have no own elements but those and what they had.
 pub record Keeps (outside : ℕ → ℕ) (m : Member) (s : Shared) (done : Reply × Member × Shared) : Type 0 where
   pub number : done.1.number ≡ m.number
   pub slots : length done.1.table ≡ length m.table
   pub desks : done.2.desks ≡ s.desks
   pub placed : (i : ℕ) → near (outside i) m s i ≤ 1 → near (outside i) done.1 done.2 i ≡ near (outside i) m s i
+  pub given : (i : ℕ) → bag (new_elements done.0) i ≤ bag m.cache i + bag s.common i
+  pub own : (i : ℕ) → own_in done.1.table i ≤ own_in m.table i + bag (new_elements done.0) i
+
+-- a reply that tells of no new element
+pub none_given : (reply : Reply) (i n : ℕ) → new_elements reply ≡ [] → bag (new_elements reply) i ≤ n
+none_given reply i n none = omega (arith, ap (λ (es : List ℕ). bag es i) none, bag-nil i)
 
 -- nothing is done
-pub nothing_keeps : (outside : ℕ → ℕ) (m : Member) (s : Shared) (reply : Reply) → Keeps outside m s (reply, m, s)
-nothing_keeps outside m s reply = record { number = refl; slots = refl; desks = refl; placed = λ i few. refl }
+pub nothing_keeps : (outside : ℕ → ℕ) (m : Member) (s : Shared) (reply : Reply) → new_elements reply ≡ [] → Keeps outside m s (reply, m, s)
+nothing_keeps outside m s reply none = record {
+  number = refl;
+  slots = refl;
+  desks = refl;
+  placed = λ i few. refl;
+  given = λ i. none_given reply i _ none;
+  own = λ i. omega arith;
+}
 
 -- elements move between the cache and the common list
-pub cache_keeps : (outside : ℕ → ℕ) (m : Member) (s t : Shared) (reply : Reply) (cache : List ℕ) → t.desks ≡ s.desks → ((i : ℕ) → bag cache i + bag t.common i ≡ bag m.cache i + bag s.common i) →
+pub cache_keeps : (outside : ℕ → ℕ) (m : Member) (s t : Shared) (reply : Reply) (cache : List ℕ) → new_elements reply ≡ [] → t.desks ≡ s.desks → ((i : ℕ) → bag cache i + bag t.common i ≡ bag m.cache i + bag s.common i) →
     Keeps outside m s (reply, record m { cache = cache }, t)
-cache_keeps outside m s t reply cache desks moved = record { number = refl; slots = refl; desks = desks; placed = λ i few. omega (arith, moved i) }
+cache_keeps outside m s t reply cache none desks moved = record {
+  number = refl;
+  slots = refl;
+  desks = desks;
+  placed = λ i few. omega (arith, moved i);
+  given = λ i. none_given reply i _ none;
+  own = λ i. omega arith;
+}
 
 -- a packet or nothing comes into a slot, in the place of what stood there
 pub set_keeps : (outside : ℕ → ℕ) (m : Member) (s t : Shared) (reply : Reply) (slot : ℕ) (old new : Option (List Seg)) (cache : List ℕ) → get_or m.table slot None ≡ old → slot < length m.table → t.desks ≡ s.desks →
     ((i : ℕ) → near (outside i) m s i ≤ 1 → held_in (set m.table slot new) i + bag (holds_in_slot old) i ≡ held_in m.table i + bag (holds_in_slot new) i →
     bag cache i + bag t.common i + min 1 (outside i + held_in (set m.table slot new) i) ≡ near (outside i) m s i) →
+    ((i : ℕ) → bag (new_elements reply) i ≤ bag m.cache i + bag s.common i) →
+    ((i : ℕ) → bag (own_in_slot new) i ≤ bag (own_in_slot old) i + bag (new_elements reply) i) →
     Keeps outside m s (reply, record m { cache = cache; table = set m.table slot new }, t)
-set_keeps outside m s t reply slot old new cache there within desks placed = record {
+set_keeps outside m s t reply slot old new cache there within desks placed given own = record {
   number = refl;
   slots = length-set m.table slot new;
   desks = desks;
   placed = λ i few. placed i few (rw there at (held_in-set m.table slot new i within));
+  given = given;
+  own = λ i. let change = rw there at (own_in-set m.table slot new i within) in omega (arith, change, own i);
 }
 
 -- what becomes of the desks: they stay, or a packet comes onto an empty one, or a take empties its own
@@ -55,12 +82,15 @@ abbrev pub near_desks : ℕ → Member → Shared → ℕ → ℕ
 near_desks others m s i = near (others + held_in s.desks i) m s i
 
 -- What any act leaves: the worker keeps its number and as many slots, and each element stays in one place, where
--- others is how often the packets of others hold each.
+-- others is how often the packets of others hold each. The elements that the worker is told of as new were in its cache
+-- or the common list, and only these and what the packets had are own elements of its packets and of those on desks.
 pub record Leaves (act : Act) (others : ℕ → ℕ) (m : Member) (s : Shared) (done : Reply × Member × Shared) : Type 0 where
   pub number : done.1.number ≡ m.number
   pub slots : length done.1.table ≡ length m.table
   pub desks : DesksAfter act s.desks done.2.desks
   pub placed : (i : ℕ) → near_desks (others i) m s i ≤ 1 → near_desks (others i) done.1 done.2 i ≡ near_desks (others i) m s i
+  pub given : (i : ℕ) → bag (new_elements done.0) i ≤ bag m.cache i + bag s.common i
+  pub own : (i : ℕ) → own_in done.1.table i + own_in done.2.desks i ≤ own_in m.table i + own_in s.desks i + bag (new_elements done.0) i
 
 pub leaves_kept : {act : Act} {others : ℕ → ℕ} {m : Member} {s : Shared} {done : Reply × Member × Shared} → Keeps (λ i. others i + held_in s.desks i) m s done → Leaves act others m s done
 leaves_kept {others = others} {s = s} {done = done} k = record {
@@ -68,4 +98,6 @@ leaves_kept {others = others} {s = s} {done = done} k = record {
   slots = k.slots;
   desks = Same k.desks;
   placed = λ i few. omega (arith, k.placed i few, ap (λ (desks : List (Option (List Seg))). held_in desks i) k.desks);
+  given = k.given;
+  own = λ i. omega (arith, k.own i, ap (λ (desks : List (Option (List Seg))). own_in desks i) k.desks);
 }

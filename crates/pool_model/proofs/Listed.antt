@@ -22,14 +22,14 @@ use Rattle.pool_model.specs.declared.statement.PlacedPacket.{PlacedPacket}
 use Rattle.pool_model.specs.declared.statement.Held.{Held}
 use Rattle.pool_model.specs.declared.statement.Holder.{Holder}
 use Rattle.pool_model.specs.declared.statement.Holder.TheVariants.{Worker, Desk}
-use Rattle.commons.specs.Packets.{holds_of_packet, holds_in_slot, held_in}
+use Rattle.commons.specs.Packets.{holds_of_packet, own_of_packet, holds_in_slot, own_in_slot, held_in, own_in}
 use Rattle.mbuf.specs.Members.{Member}
 use Rattle.mbuf.specs.declared.acts.Act.{Act}
 use Rattle.pool_model.specs.Pool.{Pool, held_by, held_of, new_pool}
 use Rattle.pool_model.specs.PacketModel.{after_acts}
 use Rattle.pool_model.specs.Statements.{packets_from, packets_of, desks_from, workers_of, desks_of, holders_of, held_entry, held_elements, statement_of, times_listed, packet_holds, is_worker, is_desk, worker_holds, desk_holds, IsNotAfter, ListsEachOnce}
 use Rattle.pool_model.proofs.Balance.{IsBalanced}
-use Rattle.pool_model.proofs.Balance.{after_acts-balanced, at_most_one, range-bag, new_pool-balanced}
+use Rattle.pool_model.proofs.Balance.{after_acts-balanced, at_most_one, own_by, range-bag, new_pool-balanced}
 use Rattle.pool_model.proofs.HoldersOrder.{holders_of-order}
 use Rattle.pool_model.proofs.Numbered.{AreNumbered, acts-numbered}
 
@@ -177,6 +177,45 @@ desks_from-holds desk (Some segs ∷ desks) i =
       desks_from-holds (desk + 1) desks i,
       sum_by-cons (λ (s : Option (List Seg)). bag (holds_in_slot s) i) (Some segs) desks,
       sum_by-cons (λ (packet : DeskPacket). bag (holds_of_packet packet.segs) i) packet (desks_from (desk + 1) desks),
+    )
+
+-- the own elements of tables and desks are those of their packets
+packets_from-own : (worker slot : ℕ) (table : List (Option (List Seg))) (i : ℕ) →
+    sum_by (λ (placed : PlacedPacket). bag (own_of_packet placed.segs) i) (packets_from worker slot table) ≡ own_in table i
+packets_from-own worker slot [] i = refl
+packets_from-own worker slot (None ∷ table) i =
+    omega (arith, packets_from-own worker (slot + 1) table i, sum_by-cons (λ (s : Option (List Seg)). bag (own_in_slot s) i) None table, bag-nil i)
+packets_from-own worker slot (Some segs ∷ table) i =
+    let packet : PlacedPacket = record { worker = worker; slot = slot; segs = segs } in
+    omega (
+      arith,
+      packets_from-own worker (slot + 1) table i,
+      sum_by-cons (λ (s : Option (List Seg)). bag (own_in_slot s) i) (Some segs) table,
+      sum_by-cons (λ (placed : PlacedPacket). bag (own_of_packet placed.segs) i) packet (packets_from worker (slot + 1) table),
+    )
+
+packets-own : (members : List Member) (i : ℕ) → sum_by (λ (placed : PlacedPacket). bag (own_of_packet placed.segs) i) (flat_map packets_of members) ≡ own_by members i
+packets-own [] i = refl
+packets-own (m ∷ members) i =
+    omega (
+      arith,
+      sum_by-append (λ (placed : PlacedPacket). bag (own_of_packet placed.segs) i) (packets_of m) (flat_map packets_of members),
+      packets_from-own m.number 0 m.table i,
+      packets-own members i,
+      sum_by-cons (λ (m : Member). own_in m.table i) m members,
+    )
+
+desks_from-own : (desk : ℕ) (desks : List (Option (List Seg))) (i : ℕ) → sum_by (λ (packet : DeskPacket). bag (own_of_packet packet.segs) i) (desks_from desk desks) ≡ own_in desks i
+desks_from-own desk [] i = refl
+desks_from-own desk (None ∷ desks) i =
+    omega (arith, desks_from-own (desk + 1) desks i, sum_by-cons (λ (s : Option (List Seg)). bag (own_in_slot s) i) None desks, bag-nil i)
+desks_from-own desk (Some segs ∷ desks) i =
+    let packet : DeskPacket = record { desk = desk; segs = segs } in
+    omega (
+      arith,
+      desks_from-own (desk + 1) desks i,
+      sum_by-cons (λ (s : Option (List Seg)). bag (own_in_slot s) i) (Some segs) desks,
+      sum_by-cons (λ (packet : DeskPacket). bag (own_of_packet packet.segs) i) packet (desks_from (desk + 1) desks),
     )
 
 -- copies of a worker, counted
@@ -328,6 +367,7 @@ lists_each_once pool b numbers =
       by_desk = All-map (λ (held : Held). (e : ℕ) → count_by (is_desk e) held.holders ≡ desk_holds (statement_of pool) e held.elem) (held_entry pool.members pool.shared.desks) (held_elements pool)
           (λ k d h e. holders-desk pool.members pool.shared.desks (get_or (held_elements pool) k d) e);
       unheld = λ i h. let none = rw elems-entries at h in omega (arith, none, held_elements-bag pool b i, packets-holds pool.members i, desks_from-holds 0 pool.shared.desks i, b.placed i);
+      own_once = λ i. omega (arith, packets-own pool.members i, desks_from-own 0 pool.shared.desks i, b.own i);
     }
 
 -- after any acts

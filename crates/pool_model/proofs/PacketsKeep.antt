@@ -1,24 +1,29 @@
 -- What a worker does with its own packets keeps each element in one place, and leaves the desks.
-use Rattle.std.proofs.Common.{ℕ, ◌≡◌, ◌+◌, ◌<◌, ◌≤◌, ◌==◌, inl, inr, nat_lt, List, [], ◌∷◌, ◌++◌, length, length-set, get_or, set, take, Option, Some, None, Result, Ok, Err, refl, sym, ◌∙◌, ap, arith}
+use Rattle.std.proofs.Common.{ℕ, ◌≡◌, ◌+◌, ◌<◌, ◌≤◌, ◌==◌, inl, inr, nat_lt, List, [], ◌∷◌, ◌++◌, length, length-set, get_or, map, set, take, Option, Some, None, Result, Ok, Err, refl, sym, ◌∙◌, ap, arith}
+use Rattle.std.specs.Prelude.{is_none}
+use Rattle.std.specs.List.{position_or_len}
 use Rattle.std.proofs.lemmas.Bool.{cases_Bool, ltb-false, eqb-false}
 use Rattle.commons.specs.Bag.{bag}
 use Rattle.commons.specs.declared.limits.Limits.{Limits}
 use Rattle.commons.specs.declared.packet.Seg.{Seg}
 use Rattle.commons.specs.declared.refusal.Refusal.{Refusal}
-use Rattle.commons.specs.Packets.{holds_in_slot, held_in, max_segs}
+use Rattle.commons.specs.Packets.{holds_in_slot, own_in_slot, held_in, max_segs}
 use Rattle.commons.proofs.Bags.{bag-nil, bag-single, bag-of_one}
 use Rattle.commons.proofs.PacketBags.{stands_within}
 use Rattle.mbuf.specs.Members.{Member}
+use Rattle.mbuf.specs.Acts.{first_elem, new_packet, told_both}
+use Rattle.mbuf.specs.declared.acts.NewPacket.{NewPacket}
+use Rattle.mbuf.specs.Fresh.{new_elements}
 use Rattle.mbuf.specs.PacketRules.{chain_in, resize_in, resize_to, fresh_seg, free_slots, freed_nothing, stood}
 use Rattle.mbuf.proofs.ChainLemmas.{KeepsHolds-chain}
-use Rattle.mbuf.proofs.FreeLemmas.{holds_stood}
+use Rattle.mbuf.proofs.FreeLemmas.{first_free, holds_stood, stood_there, taken_first}
 use Rattle.mbuf.proofs.ResizeLemmas.{SamePacketHolds}
 use Rattle.pool_model.specs.Pool.{Shared}
 use Rattle.pool_model.specs.CacheModel.{get}
 use Rattle.pool_model.specs.PacketModel.{alloc_bulk, alloc_in, chained_beside, fill_slot, fill_slots, flush_member, free_in, told_beside}
 use Rattle.pool_model.proofs.CacheBags.{IsGot, flush-IsPut, get-IsGot}
 use Rattle.pool_model.proofs.HeldBags.{end_holds-IsEnded}
-use Rattle.pool_model.proofs.Leaves.{Keeps, cache_keeps, nothing_keeps, set_keeps}
+use Rattle.pool_model.proofs.Leaves.{Keeps, cache_keeps, none_given, nothing_keeps, set_keeps}
 
 -- making a packet moves its element from the cache or the common list
 fill_slot-keeps : (outside : ℕ → ℕ) (slot : ℕ) (m : Member) (s : Shared) (r : Result (List ℕ) Refusal × List ℕ × Shared) → slot < length m.table → get_or m.table slot None ≡ None → IsGot 1 m.cache s r →
@@ -27,11 +32,13 @@ fill_slot-keeps outside slot m s (Ok [], cache, t) within e got = absurd (omega 
 fill_slot-keeps outside slot m s (Ok (x ∷ xs), cache, t) within e got =
     set_keeps outside m s t _ slot None (Some (fresh_seg m.limits x ∷ [])) cache e within got.desks
     (λ i few held. omega (arith, few, held, got.moved i, bag-of_one (x ∷ xs) i got.long, bag-single x i, bag-nil i))
-fill_slot-keeps outside slot m s (Err cause, cache, t) within e got = cache_keeps outside m s t _ cache got.desks (λ i. omega (arith, got.moved i))
+    (λ i. omega (arith, got.moved i, bag-of_one (x ∷ xs) i got.long, bag-single x i))
+    (λ i. omega arith)
+fill_slot-keeps outside slot m s (Err cause, cache, t) within e got = cache_keeps outside m s t _ cache refl got.desks (λ i. omega (arith, got.moved i))
 
 -- so does making one in a free slot, and where there is none nothing changes
 pub alloc_in-keeps : (outside : ℕ → ℕ) (slot : Option ℕ) (m : Member) (s : Shared) → ((n : ℕ) → slot ≡ Some n → (n < length m.table) × (get_or m.table n None ≡ None)) → Keeps outside m s (alloc_in slot m s)
-alloc_in-keeps outside None m s free = nothing_keeps outside m s _
+alloc_in-keeps outside None m s free = nothing_keeps outside m s _ refl
 alloc_in-keeps outside (Some slot) m s free =
     let empty = free slot refl in
     fill_slot-keeps outside slot m s (get m.limits 1 m.cache s) empty.0 empty.1 (get-IsGot m.limits 1 m.cache s)
@@ -42,6 +49,20 @@ length-stood l [] slots table = refl
 length-stood l (e ∷ es) [] table = refl
 length-stood l (e ∷ es) (slot ∷ slots) table = length-stood l es slots (set table slot (Some (fresh_seg l e ∷ []))) ∙ length-set table slot (Some (fresh_seg l e ∷ []))
 
+-- the reply tells of their elements in order
+bulk_elems : (l : Limits) (es : List ℕ) (table : List (Option (List Seg))) → length es ≤ length (free_slots table) →
+    map (λ (packet : NewPacket). packet.elem) (map (new_packet (stood l es (take (length es) (free_slots table)) table)) (take (length es) (free_slots table))) ≡ es
+bulk_elems l [] table room = refl
+bulk_elems l (e ∷ es) table room =
+    let slot = position_or_len is_none table in
+    let free = first_free table (omega (arith, room)) in
+    let next = set table slot (Some (fresh_seg l e ∷ [])) in
+    let slots = taken_first table slot (fresh_seg l e ∷ []) free in
+    let there = stood_there l (e ∷ es) table room 0 0 (omega arith) in
+    let head = ap first_elem (rw slots at there) in
+    rw slots (ap (λ (x : ℕ). x ∷ map (λ (packet : NewPacket). packet.elem) (map (new_packet (stood l es (take (length es) (free_slots next)) next)) (take (length es) (free_slots next)))) head
+    ∙ ap (λ (xs : List ℕ). e ∷ xs) (bulk_elems l es next (omega (arith, room, ap (λ (s : List ℕ). length s) slots))))
+
 fill_slots-keeps : (outside : ℕ → ℕ) (n : ℕ) (m : Member) (s : Shared) (r : Result (List ℕ) Refusal × List ℕ × Shared) → n ≤ length (free_slots m.table) → IsGot n m.cache s r →
     Keeps outside m s (fill_slots (take n (free_slots m.table)) m r)
 fill_slots-keeps outside n m s (Ok es, cache, t) room got =
@@ -50,45 +71,54 @@ fill_slots-keeps outside n m s (Ok es, cache, t) room got =
       slots = length-stood m.limits es (take n (free_slots m.table)) m.table;
       desks = got.desks;
       placed = λ i few. rw (long, (holds_stood m.limits es m.table (omega (arith, room, long)) i).0) (omega (arith, few, got.moved i));
+      given = λ i. rw (long, bulk_elems m.limits es m.table (omega (arith, room, long))) (omega (arith, got.moved i));
+      own = λ i. rw (long, bulk_elems m.limits es m.table (omega (arith, room, long)), (holds_stood m.limits es m.table (omega (arith, room, long)) i).1) (omega arith);
     }
-fill_slots-keeps outside n m s (Err cause, cache, t) room got = cache_keeps outside m s t _ cache got.desks (λ i. omega (arith, got.moved i))
+fill_slots-keeps outside n m s (Err cause, cache, t) room got = cache_keeps outside m s t _ cache refl got.desks (λ i. omega (arith, got.moved i))
 
 pub alloc_bulk-keeps : (outside : ℕ → ℕ) (n : ℕ) (m : Member) (s : Shared) → Keeps outside m s (alloc_bulk n m s)
 alloc_bulk-keeps outside n m s = elim (cases_Bool (nat_lt (length (free_slots m.table)) n)) [
-  | inl e ↦ rw e (nothing_keeps outside m s _)
+  | inl e ↦ rw e (nothing_keeps outside m s _ refl)
   | inr e ↦ rw e (fill_slots-keeps outside n m s (get m.limits n m.cache s) (ltb-false (length (free_slots m.table)) n e) (get-IsGot m.limits n m.cache s))
 ]
 
 -- freeing a packet moves its elements to the cache or the common list, but those that are held elsewhere
 pub free_in-keeps : (outside : ℕ → ℕ) (content : Option (List Seg)) (elsewhere : ℕ → ℕ) (slot : ℕ) (m : Member) (s : Shared) → get_or m.table slot None ≡ content →
     ((i : ℕ) → slot < length m.table → elsewhere i ≡ outside i + held_in (set m.table slot None) i) → Keeps outside m s (free_in content elsewhere slot m s)
-free_in-keeps outside None elsewhere slot m s e rest = nothing_keeps outside m s _
+free_in-keeps outside None elsewhere slot m s e rest = nothing_keeps outside m s _ refl
 free_in-keeps outside (Some segs) elsewhere slot m s e rest =
     let within = stands_within m.table slot segs e in
     let ends = end_holds-IsEnded m.limits elsewhere (holds_in_slot (Some segs)) (freed_nothing, m.cache, s) in
     set_keeps outside m s _ _ slot (Some segs) None _ e within ends.desks (λ i few held. omega (arith, held, ends.moved i, rest i within, bag-nil i))
+    (λ i. omega (arith, bag-nil i)) (λ i. omega (arith, bag-nil i))
 
 -- a change of lengths moves none
 resize_to-keeps : (outside : ℕ → ℕ) (o : Option (List Seg)) (segs : List Seg) (cause : Refusal) (slot : ℕ) (m : Member) (s : Shared) → get_or m.table slot None ≡ Some segs → ((new : List Seg) → o ≡ Some new → SamePacketHolds new segs) →
     Keeps outside m s (told_beside s (resize_to o cause slot m))
-resize_to-keeps outside None segs cause slot m s e same = nothing_keeps outside m s _
+resize_to-keeps outside None segs cause slot m s e same = nothing_keeps outside m s _ refl
 resize_to-keeps outside (Some new) segs cause slot m s e same =
     set_keeps outside m s s _ slot (Some segs) (Some new) m.cache e (stands_within m.table slot segs e) refl (λ i few held. omega (arith, held, ap (λ (es : List ℕ). bag es i) (same new refl).0))
+    (λ i. omega (arith, bag-nil i)) (λ i. omega (arith, ap (λ (es : List ℕ). bag es i) (same new refl).1))
 
 pub resize_in-keeps : (outside : ℕ → ℕ) (o : Option (List Seg)) (change : List Seg → Option (List Seg)) (cause : Refusal) (slot : ℕ) (m : Member) (s : Shared) → get_or m.table slot None ≡ o →
     ((segs new : List Seg) → change segs ≡ Some new → SamePacketHolds new segs) → Keeps outside m s (told_beside s (resize_in o change cause slot m))
-resize_in-keeps outside None change cause slot m s e same = nothing_keeps outside m s _
+resize_in-keeps outside None change cause slot m s e same = nothing_keeps outside m s _ refl
 resize_in-keeps outside (Some segs) change cause slot m s e same = resize_to-keeps outside (change segs) segs cause slot m s e (λ new f. same segs new f)
+
+-- what is told of a length and of segments is of no new element
+new-told_both : (slot : Option (List Seg)) → new_elements (told_both slot) ≡ []
+new-told_both None = refl
+new-told_both (Some segs) = refl
 
 -- nor does a chain
 pub chain_in-keeps : (outside : ℕ → ℕ) (one two : Option (List Seg)) (head tail : ℕ) (m : Member) (s : Shared) → get_or m.table head None ≡ one → get_or m.table tail None ≡ two →
     Keeps outside m s (chained_beside head s (chain_in one two head tail m))
-chain_in-keeps outside None two head tail m s e f = nothing_keeps outside m s _
-chain_in-keeps outside (Some first) None head tail m s e f = nothing_keeps outside m s _
+chain_in-keeps outside None two head tail m s e f = nothing_keeps outside m s _ refl
+chain_in-keeps outside (Some first) None head tail m s e f = nothing_keeps outside m s _ refl
 chain_in-keeps outside (Some first) (Some second) head tail m s e f = elim (cases_Bool (head == tail)) [
-  | inl same ↦ rw same (nothing_keeps outside m s _)
+  | inl same ↦ rw same (nothing_keeps outside m s _ refl)
   | inr apart ↦ elim (cases_Bool (nat_lt max_segs (length first + length second))) [
-    | inl long ↦ rw (apart, long) (nothing_keeps outside m s _)
+    | inl long ↦ rw (apart, long) (nothing_keeps outside m s _ refl)
     | inr few ↦
         let kept = KeepsHolds-chain m head tail first second (stands_within m.table head first e) (stands_within m.table tail second f) (eqb-false head tail apart) e f in
         rw (apart, few) (record {
@@ -96,10 +126,12 @@ chain_in-keeps outside (Some first) (Some second) head tail m s e f = elim (case
           slots = length-set (set m.table head (Some (first ++ second))) tail None ∙ length-set m.table head (Some (first ++ second));
           desks = refl;
           placed = λ i one. omega (arith, kept.held i);
+          given = λ i. let told = get_or (set (set m.table head (Some (first ++ second))) tail None) head None in none_given (told_both told) i _ (new-told_both told);
+          own = λ i. omega (arith, kept.own i);
         })
   ]
 ]
 
 -- a flush moves elements from the cache to the common list
 pub flush_member-keeps : (outside : ℕ → ℕ) (m : Member) (s : Shared) → Keeps outside m s (flush_member m s)
-flush_member-keeps outside m s = let put = flush-IsPut m.cache s in cache_keeps outside m s _ _ _ put.desks (λ i. omega (arith, put.moved i, bag-nil i))
+flush_member-keeps outside m s = let put = flush-IsPut m.cache s in cache_keeps outside m s _ _ _ refl put.desks (λ i. omega (arith, put.moved i, bag-nil i))

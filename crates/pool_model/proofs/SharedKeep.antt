@@ -2,6 +2,7 @@
 use Rattle.std.proofs.Common.{ℕ, ◌≡◌, ◌+◌, ◌-◌, ◌<◌, ◌≤◌, ◌==◌, inl, inr, List, [], ◌∷◌, ◌++◌, get_or, Option, Some, None, Result, Ok, Err, refl, ap, ◌∙◌, arith}
 use Rattle.std.specs.Prelude.{min, if◌then◌else◌}
 use Rattle.std.proofs.lemmas.Bool.{cases_Bool, cases_lt}
+use Rattle.std.proofs.lemmas.List.{map-append}
 use Rattle.commons.specs.Bag.{bag, one}
 use Rattle.commons.specs.declared.limits.Limits.{Limits}
 use Rattle.commons.specs.declared.packet.Seg.{Seg}
@@ -10,7 +11,7 @@ use Rattle.commons.specs.declared.refusal.Refusal.TheVariants.{RefSpent}
 use Rattle.commons.proofs.Sames.{ok-is}
 use Rattle.commons.proofs.Bags.{bag-nil, bag-append, bag-single, bag-of_one}
 use Rattle.commons.proofs.Places.{one-is}
-use Rattle.commons.specs.Packets.{holds_in_slot, holds_of_packet, holds_of_seg, held_in}
+use Rattle.commons.specs.Packets.{holds_in_slot, holds_of_packet, holds_of_seg, own_of_packet, held_in}
 use Rattle.mbuf.specs.Members.{Member}
 use Rattle.mbuf.specs.PacketRules.{fresh_seg, free_slot, freed_nothing}
 use Rattle.mbuf.specs.Sharing.{attached, buffer_of, clonable, detachable, pair_in}
@@ -42,79 +43,98 @@ packet_within outside held m all slot segs there i =
 -- an attach moves no element
 pub attach_to-keeps : (outside : ℕ → ℕ) (found : Result (ℕ × Seg) Refusal) (held : ℕ → ℕ) (mi target : ℕ) (m : Member) (s : Shared) → pair_in m mi target ≡ found → ((i : ℕ) → held i ≡ outside i + held_in m.table i) →
     Keeps outside m s (beside s (attach_to found held mi m))
-attach_to-keeps outside (Err cause) held mi target m s f all = nothing_keeps outside m s _
+attach_to-keeps outside (Err cause) held mi target m s f all = nothing_keeps outside m s _ refl
 attach_to-keeps outside (Ok (e, seg)) held mi target m s f all = elim (cases_Bool (held e == 1)) [
   | inl alone ↦ elim (cases_Bool (held (buffer_of seg) == m.limits.ref_limit)) [
-    | inl full ↦ rw (alone, full) (nothing_keeps outside m s _)
+    | inl full ↦ rw (alone, full) (nothing_keeps outside m s _ refl)
     | inr below ↦
         let found = found_pair (get_or m.table mi None) (get_or m.table target None) (mi == target) e seg f in
         let b = buffer_of seg in
         let some : 0 < held b = omega (arith, packet_within outside held m all target (seg ∷ found.others) found.there b, buffer_held (seg ∷ found.others) 0 seg (omega arith)) in
         rw (alone, below) (set_keeps outside m s s _ mi (Some (found.own ∷ [])) (Some (attached e seg ∷ [])) m.cache found.here (stands_within m.table mi (found.own ∷ []) found.here) refl (λ i few now.
         let same = raise_min (held i) (one b i) (λ here. rw (← (one-is b i here)) some) in
-        omega (arith, now, same, all i, holds_alone None found.own i found.direct, holds_alone (Some b) (attached e seg) i refl, bag-nil i, bag-single b i, ap (λ (x : ℕ). one x i) found.elem)))
+        omega (arith, now, same, all i, holds_alone None found.own i found.direct, holds_alone (Some b) (attached e seg) i refl, bag-nil i, bag-single b i, ap (λ (x : ℕ). one x i) found.elem))
+        (λ i. omega (arith, bag-nil i)) (λ i. omega (arith, bag-nil i, ap (λ (x : ℕ). bag (x ∷ []) i) found.elem)))
   ]
-  | inr used ↦ rw used (nothing_keeps outside m s _)
+  | inr used ↦ rw used (nothing_keeps outside m s _ refl)
 ]
 
 -- a detach moves a base whose last hold ends
 pub detach_from-keeps : (outside : ℕ → ℕ) (found : Result (ℕ × ℕ) Refusal) (held : ℕ → ℕ) (slot : ℕ) (m : Member) (s : Shared) → detachable (get_or m.table slot None) ≡ found → ((i : ℕ) → held i ≡ outside i + held_in m.table i) →
     Keeps outside m s (detach_from found held slot m s)
-detach_from-keeps outside (Err cause) held slot m s f all = nothing_keeps outside m s _
+detach_from-keeps outside (Err cause) held slot m s f all = nothing_keeps outside m s _ refl
 detach_from-keeps outside (Ok (e, base)) held slot m s f all =
     let found = found_base (get_or m.table slot None) e base f in
     let ends = end_holds-IsEnded m.limits (λ j. held j - one base j) (base ∷ []) (freed_nothing, m.cache, s) in
     set_keeps outside m s _ _ slot (Some (found.own ∷ [])) (Some (fresh_seg m.limits e ∷ [])) _ found.here (stands_within m.table slot (found.own ∷ []) found.here) ends.desks (λ i few now.
     omega (arith, now, all i, ends.moved i, holds_alone (Some base) found.own i found.base_is, holds_alone None (fresh_seg m.limits e) i refl, bag-nil i, bag-single base i, ap (λ (x : ℕ). one x i) found.elem))
+    (λ i. omega (arith, bag-nil i)) (λ i. omega (arith, bag-nil i, ap (λ (x : ℕ). bag (x ∷ []) i) found.elem))
 
--- Where each element is that was in so many places, with what was cloned or given up. The desks are these.
-abbrev NearTo : (ℕ → ℕ) → (ℕ → ℕ) → List (Option (List Seg)) → Cloned → Type 0
-NearTo held places desks (Ok new, cache, t) = ((i : ℕ) → places i ≤ 1 → bag cache i + bag t.common i + min 1 (held i + bag (holds_of_packet new) i) ≡ places i) × (t.desks ≡ desks)
-NearTo held places desks (Err cause, cache, t) = ((i : ℕ) → places i ≤ 1 → bag cache i + bag t.common i + min 1 (held i) ≡ places i) × (t.desks ≡ desks)
+-- Where each element is that was in so many places, with what was cloned or given up. The desks are these. The own
+-- elements of what was cloned were in the cache or the common list, where each was so often.
+abbrev NearTo : (ℕ → ℕ) → (ℕ → ℕ) → (ℕ → ℕ) → List (Option (List Seg)) → Cloned → Type 0
+NearTo held places had desks (Ok new, cache, t) =
+    ((i : ℕ) → places i ≤ 1 → bag cache i + bag t.common i + min 1 (held i + bag (holds_of_packet new) i) ≡ places i) × (t.desks ≡ desks)
+    × ((i : ℕ) → bag (own_of_packet new) i + (bag cache i + bag t.common i) ≡ had i)
+NearTo held places had desks (Err cause, cache, t) = ((i : ℕ) → places i ≤ 1 → bag cache i + bag t.common i + min 1 (held i) ≡ places i) × (t.desks ≡ desks)
 
 -- what follows a get of one element
-element-near : (held places : ℕ → ℕ) (desks : List (Option (List Seg))) (cache : List ℕ) (s : Shared) (r : Result (List ℕ) Refusal × List ℕ × Shared) (met : ℕ → List ℕ → Shared → Cloned) (refused : Refusal → List ℕ → Shared → Cloned) →
+element-near : (held places had : ℕ → ℕ) (desks : List (Option (List Seg))) (cache : List ℕ) (s : Shared) (r : Result (List ℕ) Refusal × List ℕ × Shared) (met : ℕ → List ℕ → Shared → Cloned) (refused : Refusal → List ℕ → Shared → Cloned) →
     IsGot 1 cache s r → s.desks ≡ desks →
-    ((e : ℕ) (left : List ℕ) (t : Shared) → ((i : ℕ) → one e i + (bag left i + bag t.common i) ≡ bag cache i + bag s.common i) → t.desks ≡ desks → NearTo held places desks (met e left t)) →
-    ((cause : Refusal) (left : List ℕ) (t : Shared) → ((i : ℕ) → bag left i + bag t.common i ≡ bag cache i + bag s.common i) → t.desks ≡ desks → NearTo held places desks (refused cause left t)) →
-    NearTo held places desks (with_element r met refused)
-element-near held places desks cache s (Ok [], left, t) met refused got same a b = absurd (omega (arith, got.long))
-element-near held places desks cache s (Ok (e ∷ es), left, t) met refused got same a b = a e left t (λ i. omega (arith, bag-of_one (e ∷ es) i got.long, got.moved i)) (got.desks ∙ same)
-element-near held places desks cache s (Err cause, left, t) met refused got same a b = b cause left t (λ i. omega (arith, got.moved i)) (got.desks ∙ same)
+    ((e : ℕ) (left : List ℕ) (t : Shared) → ((i : ℕ) → one e i + (bag left i + bag t.common i) ≡ bag cache i + bag s.common i) → t.desks ≡ desks → NearTo held places had desks (met e left t)) →
+    ((cause : Refusal) (left : List ℕ) (t : Shared) → ((i : ℕ) → bag left i + bag t.common i ≡ bag cache i + bag s.common i) → t.desks ≡ desks → NearTo held places had desks (refused cause left t)) →
+    NearTo held places had desks (with_element r met refused)
+element-near held places had desks cache s (Ok [], left, t) met refused got same a b = absurd (omega (arith, got.long))
+element-near held places had desks cache s (Ok (e ∷ es), left, t) met refused got same a b = a e left t (λ i. omega (arith, bag-of_one (e ∷ es) i got.long, got.moved i)) (got.desks ∙ same)
+element-near held places had desks cache s (Err cause, left, t) met refused got same a b = b cause left t (λ i. omega (arith, got.moved i)) (got.desks ∙ same)
+
+-- the own elements of one clone more
+own-more : (segs : List Seg) (seg : Seg) → own_of_packet (segs ++ seg ∷ []) ≡ own_of_packet segs ++ seg.elem ∷ []
+own-more segs seg = map-append (λ (s : Seg). s.elem) segs (seg ∷ [])
 
 -- cloning moves elements from the cache or the common list, or leaves them there
-clone_segs-near : (l : Limits) (held places : ℕ → ℕ) (desks : List (Option (List Seg))) (segs new : List Seg) (cache : List ℕ) (s : Shared) →
+clone_segs-near : (l : Limits) (held places had : ℕ → ℕ) (desks : List (Option (List Seg))) (segs new : List Seg) (cache : List ℕ) (s : Shared) →
     ((i : ℕ) → places i ≤ 1 → bag cache i + bag s.common i + min 1 (held i + bag (holds_of_packet new) i) ≡ places i) → s.desks ≡ desks → ((j : ℕ) → bag (holds_of_packet segs) j ≤ held j) →
-    NearTo held places desks (clone_segs l held segs new cache s)
-clone_segs-near l held places desks [] new cache s before same within = (before, same)
-clone_segs-near l held places desks (seg ∷ segs) new cache s before same within =
+    ((i : ℕ) → bag (own_of_packet new) i + (bag cache i + bag s.common i) ≡ had i) →
+    NearTo held places had desks (clone_segs l held segs new cache s)
+clone_segs-near l held places had desks [] new cache s before same within own = (before, same, own)
+clone_segs-near l held places had desks (seg ∷ segs) new cache s before same within own =
     let b = buffer_of seg in
     let some : 0 < held b = omega (arith, within b, buffer_held (seg ∷ segs) 0 seg (omega arith)) in
     let later : (j : ℕ) → bag (holds_of_packet segs) j ≤ held j = λ j. omega (arith, within j, bag-append (holds_of_seg seg) (holds_of_packet segs) j) in
-    element-near held places desks cache s (get l 1 cache s)
+    element-near held places had desks cache s (get l 1 cache s)
     (λ e left t. if held b + bag (holds_of_packet new) b == l.ref_limit then give_up l held (holds_of_packet new ++ e ∷ []) RefSpent left t else clone_segs l held segs (new ++ attached e seg ∷ []) left t)
     (λ cause left t. give_up l held (holds_of_packet new) cause left t) (get-IsGot l 1 cache s) same
     (λ e left t moved there. elim (cases_Bool (held b + bag (holds_of_packet new) b == l.ref_limit)) [
       | inl full ↦
           let ends = end_holds-IsEnded l held (holds_of_packet new ++ e ∷ []) (freed_nothing, left, t) in
           rw full (λ i few. omega (arith, ends.moved i, few, before i few, moved i, bag-append (holds_of_packet new) (e ∷ []) i, bag-single e i), ends.desks ∙ there)
-      | inr below ↦ rw below (clone_segs-near l held places desks segs (new ++ attached e seg ∷ []) left t (λ i few.
+      | inr below ↦ rw below (clone_segs-near l held places had desks segs (new ++ attached e seg ∷ []) left t (λ i few.
           let more : bag (holds_of_packet (new ++ attached e seg ∷ [])) i ≡ bag (holds_of_packet new) i + (one b i + one e i) =
           omega (arith, ap (λ (es : List ℕ). bag es i) (holds-more new (attached e seg)), bag-append (holds_of_packet new) (holds_of_seg (attached e seg)) i, attached_holds e seg (attached e seg) i refl) in
           let raised = raise_min (held i + (bag (holds_of_packet new) i + one e i)) (one b i) (λ here. omega (arith, ap held (one-is b i here), some)) in
-          rw more (omega (arith, raised, few, before i few, moved i))) there later)
+          rw more (omega (arith, raised, few, before i few, moved i))) there later
+          (λ i. rw own-more (omega (arith, own i, moved i, bag-append (own_of_packet new) (e ∷ []) i, bag-single e i))))
     ])
     (λ cause left t moved there.
     let ends = end_holds-IsEnded l held (holds_of_packet new) (freed_nothing, left, t) in
     (λ i few. omega (arith, ends.moved i, before i few, moved i), ends.desks ∙ there))
 
 -- the clone's elements are held where it stands
-clone_to-keeps : (outside : ℕ → ℕ) (r : Cloned) (held : ℕ → ℕ) (slot : ℕ) (m : Member) (s : Shared) → free_slot m.table ≡ Some slot → ((i : ℕ) → held i ≡ outside i + held_in m.table i) → NearTo held (λ i. near (outside i) m s i) s.desks r →
+clone_to-keeps : (outside : ℕ → ℕ) (r : Cloned) (held : ℕ → ℕ) (slot : ℕ) (m : Member) (s : Shared) → free_slot m.table ≡ Some slot → ((i : ℕ) → held i ≡ outside i + held_in m.table i) → NearTo held (λ i. near (outside i) m s i) (λ i. bag m.cache i + bag s.common i) s.desks r →
     Keeps outside m s (clone_to slot m r)
 clone_to-keeps outside (Ok new, cache, t) held slot m s free all after =
     let empty = free_slot-is m.table slot free in
     set_keeps outside m s t _ slot None (Some new) cache empty.1 empty.0 after.1 (λ i few now. omega (arith, now, after.0 i few, all i, bag-nil i))
-clone_to-keeps outside (Err cause, cache, t) held slot m s free all after = record { number = refl; slots = refl; desks = after.1; placed = λ i few. omega (arith, after.0 i few, all i) }
+    (λ i. omega (arith, after.2 i)) (λ i. omega arith)
+clone_to-keeps outside (Err cause, cache, t) held slot m s free all after = record {
+  number = refl;
+  slots = refl;
+  desks = after.1;
+  placed = λ i few. omega (arith, after.0 i few, all i);
+  given = λ i. omega (arith, bag-nil i);
+  own = λ i. omega arith;
+}
 
 -- what is to be cloned stands there
 pub clonable_there : (source : Option (List Seg)) (free : Option ℕ) (segs : List Seg) (slot : ℕ) → clonable source free ≡ Ok (segs, slot) → source ≡ Some segs
@@ -124,9 +144,9 @@ clonable_there (Some x) (Some n) segs slot e = ap (λ (p : List Seg × ℕ). Som
 
 pub clone_at-keeps : (outside : ℕ → ℕ) (found : Result (List Seg × ℕ) Refusal) (held : ℕ → ℕ) (source : ℕ) (m : Member) (s : Shared) → clonable (get_or m.table source None) (free_slot m.table) ≡ found → ((i : ℕ) → held i ≡ outside i + held_in m.table i) →
     Keeps outside m s (clone_at found held m s)
-clone_at-keeps outside (Err cause) held source m s f all = nothing_keeps outside m s _
+clone_at-keeps outside (Err cause) held source m s f all = nothing_keeps outside m s _ refl
 clone_at-keeps outside (Ok (segs, slot)) held source m s f all =
     let here = clonable_there (get_or m.table source None) (free_slot m.table) segs slot f in
     let free = clonable_free (get_or m.table source None) (free_slot m.table) segs slot f in
     clone_to-keeps outside (clone_segs m.limits held segs [] m.cache s) held slot m s free all
-    (clone_segs-near m.limits held (λ i. near (outside i) m s i) s.desks segs [] m.cache s (λ i few. omega (arith, all i, bag-nil i)) refl (packet_within outside held m all source segs here))
+    (clone_segs-near m.limits held (λ i. near (outside i) m s i) (λ i. bag m.cache i + bag s.common i) s.desks segs [] m.cache s (λ i few. omega (arith, all i, bag-nil i)) refl (packet_within outside held m all source segs here) (λ i. omega (arith, bag-nil i)))

@@ -11,7 +11,7 @@ use Rattle.pool_model.specs.declared.statement.PlacedPacket.{PlacedPacket}
 use Rattle.pool_model.specs.declared.statement.Held.{Held}
 use Rattle.pool_model.specs.declared.statement.Holder.{Holder}
 use Rattle.pool_model.specs.declared.statement.Holder.TheVariants.{Worker, Desk}
-use Rattle.commons.specs.Packets.{holds_of_packet, holds_in_slot, held_in}
+use Rattle.commons.specs.Packets.{holds_of_packet, own_of_packet, holds_in_slot, held_in}
 use Rattle.mbuf.specs.Members.{Member, slots}
 use Rattle.pool_model.specs.Pool.{Pool, held_of}
 
@@ -72,7 +72,11 @@ times_listed s i = bag s.common i + sum_by (λ cache. bag cache i) s.caches + ba
 abbrev pub packet_holds : Statement → ℕ → ℕ
 packet_holds s i = sum_by (λ placed. bag (holds_of_packet placed.segs) i) s.packets + sum_by (λ desk. bag (holds_of_packet desk.segs) i) s.desks
 
--- how often a worker's packets do, and a desk's
+-- how often an element is the own one of a segment of the packets of a statement
+abbrev pub packet_owns : Statement → ℕ → ℕ
+packet_owns s i = sum_by (λ placed. bag (own_of_packet placed.segs) i) s.packets + sum_by (λ desk. bag (own_of_packet desk.segs) i) s.desks
+
+-- how often a worker's packets hold it, and a desk's
 abbrev pub worker_holds : Statement → ℕ → ℕ → ℕ
 worker_holds s w i = sum_by (λ placed. cond (placed.worker == w) (bag (holds_of_packet placed.segs) i) 0) s.packets
 
@@ -97,7 +101,8 @@ IsNotAfter (Desk d) (Desk e) = d ≤ e
 -- Each element of the pool is listed exactly once, and nothing else is; what is available and what is in use
 -- are the population; the count of a held element is the number of its holders, which is that of the holds of
 -- all packets, and each holder stands there as often as its own packets hold the element, workers before desks and
--- both ascending; and no packet holds an element that isn't listed as held.
+-- both ascending; no packet holds an element that isn't listed as held; and each element is the own one of at most
+-- one segment of all packets, those on desks among them.
 pub record ListsEachOnce (s : Statement) : Type 0 where
   pub once : (i : ℕ) → i < s.population → times_listed s i ≡ 1
   pub none_else : (i : ℕ) → s.population ≤ i → times_listed s i ≡ 0
@@ -112,6 +117,7 @@ pub record ListsEachOnce (s : Statement) : Type 0 where
   pub by_worker : All (λ held. (w : ℕ) → count_by (is_worker w) held.holders ≡ worker_holds s w held.elem) s.held
   pub by_desk : All (λ held. (d : ℕ) → count_by (is_desk d) held.holders ≡ desk_holds s d held.elem) s.held
   pub unheld : (i : ℕ) → bag (map (λ held. held.elem) s.held) i ≡ 0 → packet_holds s i ≡ 0
+  pub own_once : (i : ℕ) → packet_owns s i ≤ 1
 
 -- one packet is before another: its worker has the lower number, or it stands in a lower slot of the same one
 abbrev pub StandsBefore : PlacedPacket → PlacedPacket → Type 0

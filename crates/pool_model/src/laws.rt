@@ -12,13 +12,14 @@ ghost use Rattle.mempool.specs.declared.put.Put.{Put};
 ghost use Rattle.mbuf.specs.declared.acts.Act.{Act};
 ghost use Rattle.mbuf.specs.declared.acts.Act.TheVariants.{Take};
 ghost use Rattle.mbuf.specs.declared.acts.Answer.TheVariants.{Offered, Refused, Taken};
+ghost use Rattle.mbuf.specs.Fresh.{AreFresh, new_elements};
 ghost use Rattle.mbuf.specs.Lengths.{pkt_len};
 ghost use Rattle.mbuf.specs.Members.{Member};
 ghost use Rattle.mbuf.specs.PacketRules.{free_slot};
 ghost use Rattle.pool_model.specs.CacheLaw.{Meets};
 ghost use Rattle.pool_model.specs.CacheModel.{get as cache_get, put as cache_put, flush as cache_flush};
 ghost use Rattle.pool_model.specs.PacketModel.{after_acts, offer, perform, take_off};
-ghost use Rattle.pool_model.specs.Pool.{Pool, Shared, new_pool};
+ghost use Rattle.pool_model.specs.Pool.{Pool, Shared, held_of, new_pool};
 ghost use Rattle.pool_model.specs.Statements.{statement_of, ListsEachOnce, PlacesEachOnce};
 
 /// The reference model's caches keep the rules that a worker's cache keeps over any shared pool:
@@ -64,8 +65,17 @@ pub fn a_packet_stays_on_its_desk()
 {}
 
 /// For whoever lets workers act on a `SitePool` without a script: after any acts, by workers of any numbers, a
-/// new pool's statement lists each element exactly once, and each packet has a place of its own.
+/// new pool's statement lists each element exactly once, each is the own element of at most one segment, and each
+/// packet has a place of its own.
 pub fn acts_leave_each_element_in_one_place()
     ensures once { (l : Limits) (acts : List (ℕ × Act)) → IsPool l → ListsEachOnce (statement_of (after_acts acts (new_pool l))) }
     ensures places { (l : Limits) (acts : List (ℕ × Act)) → PlacesEachOnce l (statement_of (after_acts acts (new_pool l))) }
+{}
+
+/// No element is given again while anything holds it: in every pool that acts made of a new one, the elements that a
+/// worker is told of as new, by an alloc, a bulk or a clone, are elements of the pool, each once, and no packet in a
+/// slot or on a desk held one of them.
+pub fn no_element_is_given_while_it_is_held()
+    ensures { (l : Limits) (acts : List (ℕ × Act)) (worker : ℕ) (act : Act) → let pool = after_acts acts (new_pool l) in
+        AreFresh pool.limits.population (held_of pool.members pool.shared.desks) (new_elements (perform pool worker act).0) }
 {}
