@@ -40,9 +40,10 @@ impl Model for SitePool {
 }
 
 impl SitePool {
-    ghost use Rattle.pool_model.specs.Pool.{member_at, new_pool};
+    ghost use Rattle.pool_model.specs.Pool.{held_of, member_at, new_pool};
     ghost use Rattle.pool_model.specs.PacketModel.{after_acts, perform};
     ghost use Rattle.mbuf.specs.declared.acts.Act.{Act};
+    ghost use Rattle.mbuf.specs.Fresh.{AreFresh, new_elements};
     ghost use Rattle.pool_model.specs.Statements.{ListsEachOnce, PlacesEachOnce, statement_of};
 
     /// A new pool: all elements in the common list; its workers have nothing, and its desks are empty.
@@ -83,7 +84,7 @@ impl SitePool {
     }
 
     /// Lets a worker, numbered from 1, do this with its packets and its cache, and answers what
-    /// came of it.
+    /// came of it. The elements that the answer tells of as new were held by no packet.
     ///
     /// Refused `StrangerShare` for a worker outside the pool, else as the worker's packets are. A
     /// new packet is refused `PacketsFull` where the worker has too few free slots, else as its
@@ -104,7 +105,8 @@ impl SitePool {
     /// `rte_mbuf_refcnt_read`, `rte_pktmbuf_pkt_len`, the field `nb_segs`, and rte_mempool.h,
     /// `rte_mempool_cache_flush` (DPDK 21.11). Desks are our own.
     pub fn perform(&mut self, worker: u32, act: Act) -> Reply
-        ensures { (result, self.new) ≡ perform self.old worker act }
+        ensures done { (result, self.new) ≡ perform self.old worker act }
+        ensures fresh { AreFresh self.old.limits.population (held_of self.old.members self.old.shared.desks) (new_elements result) }
     {
         self.perform_in(worker, act)
     }
@@ -113,8 +115,10 @@ impl SitePool {
     /// is small.
     pub fn perform_in<const ROOM: usize>(&mut self, worker: u32, act: Act) -> Answer<ROOM>
         requires room { HasRoom ROOM act }
-        ensures { (as_reply result, self.new) ≡ perform self.old worker act }
+        ensures done { (as_reply result, self.new) ≡ perform self.old worker act }
+        ensures fresh { AreFresh self.old.limits.population (held_of self.old.members self.old.shared.desks) (new_elements (as_reply result)) }
     {
+        laws::no_element_is_given_while_it_is_held();
         if worker == 0 || worker as usize > self.members.len() {
             return Answer::Refused(Refusal::StrangerShare);
         }

@@ -1,15 +1,21 @@
 -- An answer with room for any bulk is the reply itself.
 use Rattle.std.proofs.Common.{◌≡◌, subst, rules}
 use Rattle.mbuf.specs.Acts.{Reply}
+use Rattle.mbuf.specs.Fresh.{AreFresh, new_elements}
 use Rattle.mbuf.proofs.ActLemmas.{any_room, as_reply-same}
-use Rattle.pool_model.specs.Pool.{Pool}
+use Rattle.pool_model.specs.Pool.{Pool, held_of}
 use Rattle.pool_model.specs.PacketModel.{perform as performed}
 use Rattle.share_book.proofs.site_pool.SitePool.perform.Goals as goal
 
 pub perform_in-requires : goal.perform_in-requires
 perform_in-requires c = (search rules, any_room c.args.act)
 
-pub returns : goal.returns
-returns c =
+pub returns-clause-done : goal.returns-clause-done
+returns-clause-done c =
     let told = λ (r : Reply). ◌≡◌ {A = Reply × Pool} (r, c.perform_in.new.self) (performed c.args.self.now c.args.worker c.args.act) in
-    subst told (as_reply-same c.perform_in.result) c.perform_in.ensures
+    subst told (as_reply-same c.perform_in.result) c.perform_in.ensures.done
+
+pub returns-clause-fresh : goal.returns-clause-fresh
+returns-clause-fresh c =
+    let given = λ (r : Reply). AreFresh c.args.self.now.limits.population (held_of c.args.self.now.members c.args.self.now.shared.desks) (new_elements r) in
+    subst given (as_reply-same c.perform_in.result) c.perform_in.ensures.fresh

@@ -6,7 +6,7 @@ use Rattle.mbuf.specs.Acts.{Reply, as_reply}
 use Rattle.pool_model.specs.Pool.{Pool, nobody}
 use Rattle.share_book.specs.inside.SitePool.{pool_with}
 use Rattle.share_book.proofs.Members.{members_after, performed}
-use Rattle.share_book.proofs.Reaching.{reached_further, reached_numbered}
+use Rattle.share_book.proofs.Reaching.{fresh_reached, none_fresh, reached_further, reached_numbered}
 use Rattle.share_book.proofs.site_pool.SitePool.perform_in.Goals as goal
 
 pub invariant_of-self : goal.invariant_of-self
@@ -39,5 +39,11 @@ returns g c =
     let below : w - 1 < length members = omega (arith, c.self.inside.members.ok) in
     let packets = c.index_mut-packets.ensures.value ∙ get_or_default members (w - 1) c.index_mut-packets.result.now (nobody s.limits) below in
     let did = c.act_alone.ensures.calls in
-    rw (sym c.self.view_is)
-    (performed s c.act_alone.new.site members w c.args.act did.0 (as_reply c.act_alone.result) c.act_alone.new.packets c.self.invariant.table c.self.invariant.workers c.self.invariant.each (omega arith) (omega (arith, c.self.inside.members.ok)) c.act_alone.ensures.alone.limits (rw packets at did.2) did.1)
+    let modelled = performed s c.act_alone.new.site members w c.args.act did.0 (as_reply c.act_alone.result) c.act_alone.new.packets c.self.invariant.table c.self.invariant.workers c.self.invariant.each (omega arith) (omega (arith, c.self.inside.members.ok)) c.act_alone.ensures.alone.limits (rw packets at did.2) did.1 in
+    rw (sym c.self.view_is) (record {
+      done = modelled;
+      fresh = fresh_reached (pool_with s members) w c.args.act _ c.self.invariant.reached modelled c.no_element_is_given_while_it_is_held.ensures;
+    })
+
+pub returns-then-worker-eq0-clause-fresh : goal.returns-then-worker-eq0-clause-fresh
+returns-then-worker-eq0-clause-fresh g c = none_fresh _ _
