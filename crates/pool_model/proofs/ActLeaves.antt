@@ -54,7 +54,7 @@ act_leaves (Chain head tail) others held elsewhere m s h = leaves_kept (chain_in
 act_leaves (Attach mi target) others held elsewhere m s h = leaves_kept (attach_to-keeps _ (pair_in m mi target) held mi target m s refl h.all)
 act_leaves (Detach slot) others held elsewhere m s h = leaves_kept (detach_from-keeps _ (detachable (get_or m.table slot None)) held slot m s refl h.all)
 act_leaves (ClonePacket source) others held elsewhere m s h = leaves_kept (clone_at-keeps _ (clonable (get_or m.table source None) (free_slot m.table)) held source m s refl h.all)
-act_leaves (Offer slot desk) others held elsewhere m s h = offer_in-leaves (Offer slot desk) others (get_or m.table slot None) slot desk m s refl
+act_leaves (Offer slot desk) others held elsewhere m s h = offer_in-leaves others (get_or m.table slot None) slot desk m s refl
 act_leaves (Take desk) others held elsewhere m s h = take_off-leaves others desk m s
 act_leaves (CountOf slot) others held elsewhere m s h = leaves_kept (nothing_keeps _ m s _ (new-told_count (of_packet (λ segs. held (first_seg segs).elem) (get_or m.table slot None))))
 act_leaves (PktLen slot) others held elsewhere m s h = leaves_kept (nothing_keeps _ m s _ (new-told_len (of_packet pkt_len (get_or m.table slot None))))
@@ -83,17 +83,17 @@ are_holds pool n h = record {
 -- What holds where a stranger is refused, and of each reply and pool in which a worker of this number and what all share
 -- are as an act leaves them, holds of the act.
 pub of_act : (P : Reply × Pool → Type 0) (pool : Pool) (w : ℕ) (act : Act) → P (Refused StrangerShare, pool) →
-    ((n : ℕ) (done : Reply × Member × Shared) → w ≡ n + 1 → n < length pool.members → Leaves act (by_others pool n) (member_at pool n) pool.shared done → P (done.0, with_member pool n done.1 done.2)) → P (perform pool w act)
+    ((n : ℕ) (done : Reply × Member × Shared) → w ≡ n + 1 → n < length pool.members → done ≡ act_on pool n act → Leaves act (by_others pool n) (member_at pool n) pool.shared done → P (done.0, with_member pool n done.1 done.2)) → P (perform pool w act)
 of_act P pool w act stranger after = elim (cases_Bool (nat_le 1 w && nat_le w (length pool.members))) [
   | inl e ↦
       let k = and_parts (nat_le 1 w) (nat_le w (length pool.members)) e in
       let number : w ≡ w - 1 + 1 = omega (arith, leb-true 1 w k.0) in
       let within : w - 1 < length pool.members = omega (arith, leb-true 1 w k.0, leb-true w (length pool.members) k.1) in
-      rw e (after (w - 1) (act_on pool (w - 1) act) number within (act_leaves act _ _ _ _ _ (are_holds pool (w - 1) within)))
+      rw e (after (w - 1) (act_on pool (w - 1) act) number within refl (act_leaves act _ _ _ _ _ (are_holds pool (w - 1) within)))
   | inr e ↦ rw e stranger
 ]
 
 -- What holds of a pool, and of each in which a worker and what all share are as an act leaves them, holds after the act.
 pub after_act : (P : Pool → Type 0) (pool : Pool) (w : ℕ) (act : Act) → P pool →
     ((n : ℕ) (done : Reply × Member × Shared) → n < length pool.members → Leaves act (by_others pool n) (member_at pool n) pool.shared done → P (with_member pool n done.1 done.2)) → P (perform pool w act).1
-after_act P pool w act before after = of_act (λ r. P r.1) pool w act before (λ n done number within left. after n done within left)
+after_act P pool w act before after = of_act (λ r. P r.1) pool w act before (λ n done number within is left. after n done within left)

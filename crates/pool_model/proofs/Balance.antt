@@ -57,6 +57,12 @@ own_left own before given held cached a b c d e = elim (cases_lt 0 held) [
 pub at_most_one : (i n : ℕ) → ◌≤◌ (cond (nat_lt i n) 1 0) 1
 at_most_one i n = grind (arith, nat_tests)
 
+-- an element is near each worker at most once
+pub near_once : (pool : Pool) (n i : ℕ) → IsBalanced pool → n < length pool.members → near_desks (by_others pool n i) (member_at pool n) pool.shared i ≤ 1
+near_once pool n i b h =
+    let part : bag (member_at pool n).cache i ≤ cached_by pool.members i = get_or-le-sum_by (λ (m : Member). bag m.cache i) pool.members n (nobody pool.limits) h in
+    omega (arith, by_others-add pool n i h, part, at_most_one i pool.limits.population, b.placed i)
+
 -- a member and what all share change so that each element stays in one place
 with_member-balanced : (act : Act) (pool : Pool) (n : ℕ) (done : Reply × Member × Shared) → IsBalanced pool → n < length pool.members →
     Leaves act (by_others pool n) (member_at pool n) pool.shared done → IsBalanced (with_member pool n done.1 done.2)
@@ -67,7 +73,7 @@ with_member-balanced act pool n done b h left = record {
       let cached : cached_by (set pool.members n done.1) i + bag (member_at pool n).cache i ≡ cached_by pool.members i + bag done.1.cache i = sum_by-set (λ (m : Member). bag m.cache i) pool.members n done.1 (nobody pool.limits) h in
       let part : bag (member_at pool n).cache i ≤ cached_by pool.members i = get_or-le-sum_by (λ (m : Member). bag m.cache i) pool.members n (nobody pool.limits) h in
       let once = at_most_one i pool.limits.population in
-      omega (arith, others, held, cached, part, once, b.placed i, left.placed i (omega (arith, others, part, once, b.placed i)));
+      omega (arith, others, held, cached, part, once, b.placed i, left.placed i (near_once pool n i b h));
   own = λ i.
       let change : own_by (set pool.members n done.1) i + own_in (member_at pool n).table i ≡ own_by pool.members i + own_in done.1.table i = sum_by-set (λ (m : Member). own_in m.table i) pool.members n done.1 (nobody pool.limits) h in
       let part : bag (member_at pool n).cache i ≤ cached_by pool.members i = get_or-le-sum_by (λ (m : Member). bag m.cache i) pool.members n (nobody pool.limits) h in
@@ -126,7 +132,7 @@ pub given_fresh : (pool : Pool) (w : ℕ) (act : Act) → IsBalanced pool → Ar
 given_fresh pool w act b =
     of_act (λ r. AreFresh pool.limits.population (held_of pool.members pool.shared.desks) (new_elements r.0)) pool w act
     (record { below = λ i some. absurd (omega (arith, some, bag-nil i)); once = λ i. omega (arith, bag-nil i); unheld = λ i some. absurd (omega (arith, some, bag-nil i)) })
-    (λ n done number within left.
+    (λ n done number within is left.
     let free : (i : ℕ) → 0 < bag (new_elements done.0) i → (i < pool.limits.population) × (bag (new_elements done.0) i ≤ 1) × (held_of pool.members pool.shared.desks i ≡ 0) = λ i some.
     let part : bag (member_at pool n).cache i ≤ cached_by pool.members i = get_or-le-sum_by (λ (m : Member). bag m.cache i) pool.members n (nobody pool.limits) within in
     was_free (bag (new_elements done.0) i) (bag (member_at pool n).cache i + bag pool.shared.common i) (cached_by pool.members i - bag (member_at pool n).cache i) (held_of pool.members pool.shared.desks i) i pool.limits.population some (left.given i) (omega (arith, part, b.placed i)) in record {

@@ -62,15 +62,17 @@ last-bag n xs i = omega (arith, bag-last xs (length xs - n) i)
 last-length : (n : ℕ) (xs : List ℕ) → n ≤ length xs → length (last n xs) ≡ n
 last-length n xs h = omega (arith, length-reverse (drop (length xs - n) xs), length-drop (length xs - n) xs)
 
--- what was in the cache and the common list is there or in the answer, which has the length asked for
+-- what was in the cache and the common list is there or in the answer, which has the length asked for; a get that is
+-- refused changes nothing
 pub record IsGot (n : ℕ) (cache : List ℕ) (s : Shared) (r : Result (List ℕ) Refusal × List ℕ × Shared) : Type 0 where
   pub moved : (i : ℕ) → in_answer r.0 i + (bag r.1 i + bag r.2.common i) ≡ bag cache i + bag s.common i
   pub long : HasLength n r.0
   pub desks : r.2.desks ≡ s.desks
+  pub refused : (e : Refusal) → r.0 ≡ Err e → (r.1 ≡ cache) × (r.2 ≡ s)
 
 -- a get from the stack alone moves elements
 direct-IsGot : (n : ℕ) (cache : List ℕ) (s : Shared) → IsGot n cache s (get_direct cache (ask n s))
-direct-IsGot n cache s = let a = ask-IsAsked n s in record { moved = λ i. omega (arith, a.given i); long = a.long; desks = a.desks }
+direct-IsGot n cache s = let a = ask-IsAsked n s in record { moved = λ i. omega (arith, a.given i); long = a.long; desks = a.desks; refused = λ e q. (refl, a.refused e q) }
 
 -- so does one by a refill
 refilled-IsGot : (n : ℕ) (cache : List ℕ) (s : Shared) (k : ℕ) (r : Result (List ℕ) Refusal × Shared) → n ≤ length cache + k → IsAsked k s r → IsGot n cache s (get_refilled cache n r)
@@ -78,17 +80,18 @@ refilled-IsGot n cache s k (Ok more, t) h a = record {
   moved = λ i. omega (arith, last-bag n (cache ++ more) i, bag-append cache more i, a.given i);
   long = last-length n (cache ++ more) (omega (arith, a.long, length-append cache more));
   desks = a.desks;
+  refused = λ e q. absurd cc;
 }
 refilled-IsGot n cache s k (Err e, t) h a = rw (a.refused e refl) (direct-IsGot n cache s)
 
 -- each get moves elements, and gives as many as it is asked for
 pub get-IsGot : (l : Limits) (n : ℕ) (cache : List ℕ) (s : Shared) → IsGot n cache s (get l n cache s)
 get-IsGot l n cache s = elim (cases_Bool (n == 0)) [
-  | inl a ↦ rw a (record { moved = λ i. omega (arith, bag-nil i); long = sym (eqb-true n 0 a); desks = refl })
+  | inl a ↦ rw a (record { moved = λ i. omega (arith, bag-nil i); long = sym (eqb-true n 0 a); desks = refl; refused = λ e q. absurd cc })
   | inr a ↦ elim (cases_Bool (nat_le l.cache n)) [
     | inl b ↦ rw (a, b) (direct-IsGot n cache s)
     | inr b ↦ elim (cases_Bool (nat_le n (length cache))) [
-      | inl c ↦ rw (a, b, c) (record { moved = λ i. omega (arith, last-bag n cache i); long = last-length n cache (leb-true n (length cache) c); desks = refl })
+      | inl c ↦ rw (a, b, c) (record { moved = λ i. omega (arith, last-bag n cache i); long = last-length n cache (leb-true n (length cache) c); desks = refl; refused = λ e q. absurd cc })
       | inr c ↦ elim (cases_Bool (nat_le (n + l.cache) l.population)) [
         | inl d ↦ rw (a, b, c, d) (refilled-IsGot n cache s (n + l.cache - length cache) (ask (n + l.cache - length cache) s) (omega arith) (ask-IsAsked (n + l.cache - length cache) s))
         | inr d ↦ rw (a, b, c, d) (direct-IsGot n cache s)

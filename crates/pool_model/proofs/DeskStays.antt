@@ -11,13 +11,13 @@ use Rattle.pool_model.proofs.Leaves.{DesksAfter, Same, Onto, Off}
 
 pub desks_as_many : (act : Act) (before after : List (Option (List Seg))) → DesksAfter act before after → length after ≡ length before
 desks_as_many act before after (Same e) = ap length e
-desks_as_many act before after (Onto desk packet empty e) = ap length e ∙ length-set before desk (Some packet)
+desks_as_many act before after (Onto slot desk packet offered empty e) = ap length e ∙ length-set before desk (Some packet)
 desks_as_many act before after (Off desk took e) = ap length e ∙ length-set before desk None
 
 -- another desk is written, or none
 desk_stays : (act : Act) (before after : List (Option (List Seg))) (desk : ℕ) (packet : List Seg) → DesksAfter act before after → act ≢ Take desk → get_or before desk None ≡ Some packet → get_or after desk None ≡ Some packet
 desk_stays act before after desk packet (Same e) not_taken there = rw e there
-desk_stays act before after desk packet (Onto other onto empty e) not_taken there = elim (cases_eq desk other) [
+desk_stays act before after desk packet (Onto slot other onto offered empty e) not_taken there = elim (cases_eq desk other) [
   | inl same ↦ absurd (let both = sym there ∙ ap (λ (n : ℕ). get_or before n None) same ∙ empty in cc)
   | inr apart ↦ rw e (get_or-set_other before other desk (Some onto) None apart ∙ there)
 ]

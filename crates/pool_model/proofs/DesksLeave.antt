@@ -4,8 +4,7 @@ use Rattle.std.proofs.lemmas.Bool.{cases_Bool, leb-false}
 use Rattle.commons.specs.declared.packet.Seg.{Seg}
 use Rattle.commons.proofs.Bags.{bag-nil}
 use Rattle.commons.proofs.PacketBags.{held_in-set, own_in-set, stands_within}
-use Rattle.mbuf.specs.declared.acts.Act.{Act}
-use Rattle.mbuf.specs.declared.acts.Act.TheVariants.{Take}
+use Rattle.mbuf.specs.declared.acts.Act.TheVariants.{Offer, Take}
 use Rattle.mbuf.specs.Members.{Member}
 use Rattle.mbuf.specs.PacketRules.{free_slot}
 use Rattle.mbuf.proofs.OwnLemmas.{free_slot-is}
@@ -13,13 +12,13 @@ use Rattle.pool_model.specs.Pool.{Shared}
 use Rattle.pool_model.specs.PacketModel.{offer_in, offer_onto, take_from, take_into, take_off}
 use Rattle.pool_model.proofs.Leaves.{Leaves, Onto, Off, leaves_kept, nothing_keeps}
 
-offer_onto-leaves : (act : Act) (others : ℕ → ℕ) (place : Option (List Seg)) (segs : List Seg) (slot desk : ℕ) (m : Member) (s : Shared) → get_or s.desks desk None ≡ place → desk < length s.desks → get_or m.table slot None ≡ Some segs →
-    Leaves act others m s (offer_onto place segs slot desk m s)
-offer_onto-leaves act others (Some other) segs slot desk m s e here there = leaves_kept (nothing_keeps _ m s _ refl)
-offer_onto-leaves act others None segs slot desk m s e here there = record {
+offer_onto-leaves : (others : ℕ → ℕ) (place : Option (List Seg)) (segs : List Seg) (slot desk : ℕ) (m : Member) (s : Shared) → get_or s.desks desk None ≡ place → desk < length s.desks → get_or m.table slot None ≡ Some segs →
+    Leaves (Offer slot desk) others m s (offer_onto place segs slot desk m s)
+offer_onto-leaves others (Some other) segs slot desk m s e here there = leaves_kept (nothing_keeps _ m s _ refl)
+offer_onto-leaves others None segs slot desk m s e here there = record {
   number = refl;
   slots = length-set m.table slot None;
-  desks = Onto desk segs e refl;
+  desks = Onto slot desk segs refl e refl;
   placed = λ i few.
       let onto = rw e at (held_in-set s.desks desk (Some segs) i here) in
       let left = rw there at (held_in-set m.table slot None i (stands_within m.table slot segs there)) in
@@ -31,11 +30,11 @@ offer_onto-leaves act others None segs slot desk m s e here there = record {
       omega (arith, onto, left, bag-nil i);
 }
 
-pub offer_in-leaves : (act : Act) (others : ℕ → ℕ) (content : Option (List Seg)) (slot desk : ℕ) (m : Member) (s : Shared) → get_or m.table slot None ≡ content → Leaves act others m s (offer_in content slot desk m s)
-offer_in-leaves act others None slot desk m s e = leaves_kept (nothing_keeps _ m s _ refl)
-offer_in-leaves act others (Some segs) slot desk m s e = elim (cases_Bool (nat_le (length s.desks) desk)) [
+pub offer_in-leaves : (others : ℕ → ℕ) (content : Option (List Seg)) (slot desk : ℕ) (m : Member) (s : Shared) → get_or m.table slot None ≡ content → Leaves (Offer slot desk) others m s (offer_in content slot desk m s)
+offer_in-leaves others None slot desk m s e = leaves_kept (nothing_keeps _ m s _ refl)
+offer_in-leaves others (Some segs) slot desk m s e = elim (cases_Bool (nat_le (length s.desks) desk)) [
   | inl past ↦ rw past (leaves_kept (nothing_keeps _ m s _ refl))
-  | inr here ↦ rw here (offer_onto-leaves act others (get_or s.desks desk None) segs slot desk m s refl (leb-false (length s.desks) desk here) e)
+  | inr here ↦ rw here (offer_onto-leaves others (get_or s.desks desk None) segs slot desk m s refl (leb-false (length s.desks) desk here) e)
 ]
 
 take_from-leaves : (others : ℕ → ℕ) (place : Option (List Seg)) (slot desk : ℕ) (m : Member) (s : Shared) → get_or s.desks desk None ≡ place → desk < length s.desks → slot < length m.table → get_or m.table slot None ≡ None →

@@ -7,7 +7,7 @@ use Rattle.commons.specs.Packets.{holds_in_slot, own_in_slot, held_in, own_in}
 use Rattle.commons.proofs.Bags.{bag-nil}
 use Rattle.commons.proofs.PacketBags.{held_in-set, own_in-set}
 use Rattle.mbuf.specs.declared.acts.Act.{Act}
-use Rattle.mbuf.specs.declared.acts.Act.TheVariants.{Take}
+use Rattle.mbuf.specs.declared.acts.Act.TheVariants.{Offer, Take}
 use Rattle.mbuf.specs.Acts.{Reply}
 use Rattle.mbuf.specs.Fresh.{new_elements}
 use Rattle.mbuf.specs.Members.{Member}
@@ -71,10 +71,10 @@ set_keeps outside m s t reply slot old new cache there within desks placed given
   own = λ i. let change = rw there at (own_in-set m.table slot new i within) in omega (arith, change, own i);
 }
 
--- what becomes of the desks: they stay, or a packet comes onto an empty one, or a take empties its own
+-- what becomes of the desks: they stay, or an offer puts a packet onto its own, which is empty, or a take empties its own
 pub data DesksAfter (act : Act) (before after : List (Option (List Seg))) : Type 0 where
   Same : after ≡ before → DesksAfter act before after
-  Onto : (desk : ℕ) (packet : List Seg) → get_or before desk None ≡ None → after ≡ set before desk (Some packet) → DesksAfter act before after
+  Onto : (slot desk : ℕ) (packet : List Seg) → act ≡ Offer slot desk → get_or before desk None ≡ None → after ≡ set before desk (Some packet) → DesksAfter act before after
   Off : (desk : ℕ) → act ≡ Take desk → after ≡ set before desk None → DesksAfter act before after
 
 -- How often an element is near a worker, with the packets on desks among the others.

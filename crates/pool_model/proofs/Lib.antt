@@ -5,6 +5,7 @@ mod CacheBags
 pub mod CacheRules
 mod DeskLemmas
 mod DeskStays
+mod DeskWaits
 mod DesksLeave
 pub mod HeldBags
 mod HoldersOrder
@@ -15,4 +16,6 @@ pub mod Numbered
 mod PacketsKeep
 mod Pairs
 mod Placed
+mod PoolActs
+mod Refusals
 pub mod SharedKeep

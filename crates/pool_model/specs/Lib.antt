@@ -4,4 +4,5 @@ pub mod HoldModel
 pub mod PacketModel
 pub mod Pool
 pub mod SharingModel
+pub mod Standing
 pub mod Statements

@@ -1,6 +1,6 @@
 //! Laws of the reference model: of its caches, of its desks, and of a pool after any acts.
 
-ghost use Rattle.std.specs.Prelude.{◌≡◌, ◌≢◌, ◌<◌, ℕ, ◌⊎◌, List, length, slice_index_or, slice_set, None, Some, Result};
+ghost use Rattle.std.specs.Prelude.{◌≡◌, ◌≢◌, ◌<◌, ◌+◌, ℕ, ◌⊎◌, All, List, length, slice_index_or, slice_set, None, Some, Result};
 ghost use Rattle.commons.specs.Bounds.{IsPool};
 ghost use Rattle.commons.specs.Calls.{Call};
 ghost use Rattle.commons.specs.declared.limits.Limits.{Limits};
@@ -10,7 +10,7 @@ ghost use Rattle.commons.specs.declared.refusal.Refusal.TheVariants.{DeskTaken, 
 ghost use Rattle.mempool.specs.Caches.{Gets, Puts, Flushes};
 ghost use Rattle.mempool.specs.declared.put.Put.{Put};
 ghost use Rattle.mbuf.specs.declared.acts.Act.{Act};
-ghost use Rattle.mbuf.specs.declared.acts.Act.TheVariants.{Take};
+ghost use Rattle.mbuf.specs.declared.acts.Act.TheVariants.{ClonePacket, Offer, Take};
 ghost use Rattle.mbuf.specs.declared.acts.Answer.TheVariants.{Offered, Refused, Taken};
 ghost use Rattle.mbuf.specs.Fresh.{AreFresh, new_elements};
 ghost use Rattle.mbuf.specs.Lengths.{pkt_len};
@@ -19,7 +19,8 @@ ghost use Rattle.mbuf.specs.PacketRules.{free_slot};
 ghost use Rattle.pool_model.specs.CacheLaw.{Meets};
 ghost use Rattle.pool_model.specs.CacheModel.{get as cache_get, put as cache_put, flush as cache_flush};
 ghost use Rattle.pool_model.specs.PacketModel.{after_acts, offer, perform, take_off};
-ghost use Rattle.pool_model.specs.Pool.{Pool, Shared, held_of, new_pool};
+ghost use Rattle.pool_model.specs.Pool.{Pool, Shared, held_of, member_at, new_pool};
+ghost use Rattle.pool_model.specs.Standing.{IsGivenUp, IsInSlot, IsOnDesk, IsWorker, worker_of};
 ghost use Rattle.pool_model.specs.Statements.{statement_of, ListsEachOnce, PlacesEachOnce};
 
 /// The reference model's caches keep the rules that a worker's cache keeps over any shared pool:
@@ -62,6 +63,42 @@ pub fn a_packet_stays_on_its_desk()
     ensures taken { (desk free : ℕ) (packet : List Seg) (taker : Member) (s : Shared) →
         slice_index_or s.desks desk None ≡ Some packet → free_slot taker.table ≡ Some free →
         take_off desk taker s ≡ (Taken free (length packet) (pkt_len packet), record taker { table = slice_set taker.table free (Some packet) }, record s { desks = slice_set s.desks desk None }) }
+{}
+
+/// What was left on a desk waits there. Where a worker's offer of the packet in a slot is answered `Offered`, the
+/// packet lies on that desk after any acts of any workers that take nothing off it. A take off the desk, by whatever
+/// worker of the pool that has a free slot, is then answered `Taken` with the lowest free slot, and puts the very
+/// segments into it that were offered; the desk is empty.
+pub fn an_offered_packet_waits_for_a_take()
+    ensures waits { (pool : Pool) (worker slot desk : ℕ) (packet : List Seg) (acts : List (ℕ × Act)) →
+        IsInSlot pool worker slot packet → (perform pool worker (Offer slot desk)).0 ≡ Offered → All (λ done. done.1 ≢ Take desk) acts →
+        IsOnDesk (after_acts acts (perform pool worker (Offer slot desk)).1) desk packet }
+    ensures taken { (pool : Pool) (worker slot desk taker free : ℕ) (packet : List Seg) (acts : List (ℕ × Act)) →
+        IsInSlot pool worker slot packet → (perform pool worker (Offer slot desk)).0 ≡ Offered → All (λ done. done.1 ≢ Take desk) acts →
+        let later = after_acts acts (perform pool worker (Offer slot desk)).1 in let took = perform later taker (Take desk) in
+        IsWorker later taker → free_slot (worker_of later taker).table ≡ Some free →
+        (took.0 ≡ Taken free (length packet) (pkt_len packet)) × IsInSlot took.1 taker free packet × (slice_index_or took.1.shared.desks desk None ≡ None) }
+{}
+
+/// An act that is refused changes nothing, unless it is a clone: the pool is as before. A clone that is refused, in a
+/// pool that acts made of a new one, leaves the limits, all packets, numbers and desks, and the caches of all other
+/// workers; its worker's cache and the common list have each element as often as before, taken together.
+pub fn a_refused_act_changes_nothing()
+    ensures same { (pool : Pool) (worker : ℕ) (act : Act) (cause : Refusal) → ((source : ℕ) → act ≢ ClonePacket source) →
+        (perform pool worker act).0 ≡ Refused cause → (perform pool worker act).1 ≡ pool }
+    ensures clone { (l : Limits) (acts : List (ℕ × Act)) (worker source : ℕ) (cause : Refusal) → let pool = after_acts acts (new_pool l) in
+        (perform pool worker (ClonePacket source)).0 ≡ Refused cause → IsGivenUp worker pool (perform pool worker (ClonePacket source)).1 }
+{}
+
+/// An act of one worker leaves all that the others have: cache and packets of every worker of another number, and the
+/// packet on every desk but the one that the act names, where it is an offer or a take. The limits stay, and the
+/// number of workers.
+pub fn others_keep_what_they_have()
+    ensures members { (pool : Pool) (worker n : ℕ) (act : Act) → worker ≢ n + 1 → member_at (perform pool worker act).1 n ≡ member_at pool n }
+    ensures desks { (pool : Pool) (worker desk : ℕ) (act : Act) → ((slot : ℕ) → act ≢ Offer slot desk) → act ≢ Take desk →
+        slice_index_or (perform pool worker act).1.shared.desks desk None ≡ slice_index_or pool.shared.desks desk None }
+    ensures limits { (pool : Pool) (worker : ℕ) (act : Act) → (perform pool worker act).1.limits ≡ pool.limits }
+    ensures workers { (pool : Pool) (worker : ℕ) (act : Act) → length (perform pool worker act).1.members ≡ length pool.members }
 {}
 
 /// For whoever lets workers act on a `SitePool` without a script: after any acts, by workers of any numbers, a

@@ -1,0 +1,37 @@
+-- Where packets stand in a pool, and what an act leaves of it, in words.
+use Rattle.std.specs.Prelude.{ℕ, ◌≡◌, ◌≢◌, ◌+◌, ◌-◌, ◌≤◌, List, length, slice_index_or, Some, None}
+use Rattle.std.specs.List.{Contains}
+use Rattle.commons.specs.Bag.{bag}
+use Rattle.commons.specs.declared.packet.Seg.{Seg}
+use Rattle.mbuf.specs.Members.{Member}
+use Rattle.pool_model.specs.Pool.{Pool, member_at}
+
+-- a worker of the pool, and what it has
+abbrev pub IsWorker : Pool → ℕ → Type 0
+IsWorker pool worker = (1 ≤ worker) × (worker ≤ length pool.members)
+
+abbrev pub worker_of : Pool → ℕ → Member
+worker_of pool worker = member_at pool (worker - 1)
+
+-- the packet stands in this slot of a worker
+abbrev pub IsInSlot : Pool → ℕ → ℕ → List Seg → Type 0
+IsInSlot pool worker slot packet = IsWorker pool worker × (slice_index_or (worker_of pool worker).table slot None ≡ Some packet)
+
+-- the packet lies on this desk
+abbrev pub IsOnDesk : Pool → ℕ → List Seg → Type 0
+IsOnDesk pool desk packet = slice_index_or pool.shared.desks desk None ≡ Some packet
+
+-- a segment of a packet that stands in a slot of a worker or lies on a desk
+pub data IsOfAPacket (pool : Pool) (seg : Seg) : Type 0 where
+  InASlot : (worker slot : ℕ) (packet : List Seg) → IsInSlot pool worker slot packet → Contains packet seg → IsOfAPacket pool seg
+  OnADesk : (desk : ℕ) (packet : List Seg) → IsOnDesk pool desk packet → Contains packet seg → IsOfAPacket pool seg
+
+-- A clone was given up: the limits, the desks and all of every worker but this one's cache are as before, and its
+-- cache and the common list have each element as often as before, taken together.
+pub record IsGivenUp (worker : ℕ) (before after : Pool) : Type 0 where
+  pub limits : after.limits ≡ before.limits
+  pub workers : length after.members ≡ length before.members
+  pub packets : worker_of after worker ≡ record (worker_of before worker) { cache = (worker_of after worker).cache }
+  pub others : (n : ℕ) → worker ≢ n + 1 → member_at after n ≡ member_at before n
+  pub desks : after.shared.desks ≡ before.shared.desks
+  pub free : (i : ℕ) → bag (worker_of after worker).cache i + bag after.shared.common i ≡ bag (worker_of before worker).cache i + bag before.shared.common i
