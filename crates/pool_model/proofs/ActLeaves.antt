@@ -19,6 +19,7 @@ use Rattle.mbuf.proofs.ResizeLemmas.{appended_holds, prepended_holds, adjusted_h
 use Rattle.pool_model.specs.Pool.{Shared, Pool, held_by, held_of, member_at, nobody, with_member}
 use Rattle.pool_model.specs.PacketModel.{act_on, held_elsewhere, member_act, perform, without_packet}
 use Rattle.pool_model.proofs.DesksLeave.{offer_in-leaves, take_off-leaves}
+use Rattle.pool_model.proofs.Links.{appended_indirect, prepended_indirect, adjusted_indirect, trimmed_indirect}
 use Rattle.pool_model.proofs.Leaves.{Leaves, leaves_kept, nothing_keeps}
 use Rattle.pool_model.proofs.PacketsKeep.{alloc_bulk-keeps, alloc_in-keeps, chain_in-keeps, flush_member-keeps, free_in-keeps, resize_in-keeps}
 use Rattle.pool_model.proofs.SharedKeep.{attach_to-keeps, clone_at-keeps, detach_from-keeps}
@@ -46,10 +47,10 @@ pub act_leaves : (act : Act) (others held : ℕ → ℕ) (elsewhere : ℕ → �
 act_leaves Alloc others held elsewhere m s h = leaves_kept (alloc_in-keeps _ (free_slot m.table) m s (free_slot-is m.table))
 act_leaves (AllocBulk n) others held elsewhere m s h = leaves_kept (alloc_bulk-keeps _ n m s)
 act_leaves (Free slot) others held elsewhere m s h = leaves_kept (free_in-keeps _ (get_or m.table slot None) (elsewhere slot) slot m s refl (h.rest slot))
-act_leaves (Append slot n) others held elsewhere m s h = leaves_kept (resize_in-keeps _ (get_or m.table slot None) (appended n) NoRoom slot m s refl (appended_holds n))
-act_leaves (Prepend slot n) others held elsewhere m s h = leaves_kept (resize_in-keeps _ (get_or m.table slot None) (prepended n) NoRoom slot m s refl (prepended_holds n))
-act_leaves (Adj slot n) others held elsewhere m s h = leaves_kept (resize_in-keeps _ (get_or m.table slot None) (adjusted n) TooShort slot m s refl (adjusted_holds n))
-act_leaves (Trim slot n) others held elsewhere m s h = leaves_kept (resize_in-keeps _ (get_or m.table slot None) (trimmed n) TooShort slot m s refl (trimmed_holds n))
+act_leaves (Append slot n) others held elsewhere m s h = leaves_kept (resize_in-keeps _ (get_or m.table slot None) (appended n) NoRoom slot m s refl (appended_holds n) (appended_indirect n))
+act_leaves (Prepend slot n) others held elsewhere m s h = leaves_kept (resize_in-keeps _ (get_or m.table slot None) (prepended n) NoRoom slot m s refl (prepended_holds n) (prepended_indirect n))
+act_leaves (Adj slot n) others held elsewhere m s h = leaves_kept (resize_in-keeps _ (get_or m.table slot None) (adjusted n) TooShort slot m s refl (adjusted_holds n) (adjusted_indirect n))
+act_leaves (Trim slot n) others held elsewhere m s h = leaves_kept (resize_in-keeps _ (get_or m.table slot None) (trimmed n) TooShort slot m s refl (trimmed_holds n) (trimmed_indirect n))
 act_leaves (Chain head tail) others held elsewhere m s h = leaves_kept (chain_in-keeps _ (get_or m.table head None) (get_or m.table tail None) head tail m s refl refl)
 act_leaves (Attach mi target) others held elsewhere m s h = leaves_kept (attach_to-keeps _ (pair_in m mi target) held mi target m s refl h.all)
 act_leaves (Detach slot) others held elsewhere m s h = leaves_kept (detach_from-keeps _ (detachable (get_or m.table slot None)) held slot m s refl h.all)

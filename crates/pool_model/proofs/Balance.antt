@@ -64,7 +64,7 @@ near_once pool n i b h =
     omega (arith, by_others-add pool n i h, part, at_most_one i pool.limits.population, b.placed i)
 
 -- a member and what all share change so that each element stays in one place
-with_member-balanced : (act : Act) (pool : Pool) (n : ℕ) (done : Reply × Member × Shared) → IsBalanced pool → n < length pool.members →
+pub with_member-balanced : (act : Act) (pool : Pool) (n : ℕ) (done : Reply × Member × Shared) → IsBalanced pool → n < length pool.members →
     Leaves act (by_others pool n) (member_at pool n) pool.shared done → IsBalanced (with_member pool n done.1 done.2)
 with_member-balanced act pool n done b h left = record {
   placed = λ i.

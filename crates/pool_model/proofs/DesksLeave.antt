@@ -10,6 +10,7 @@ use Rattle.mbuf.specs.PacketRules.{free_slot}
 use Rattle.mbuf.proofs.OwnLemmas.{free_slot-is}
 use Rattle.pool_model.specs.Pool.{Shared}
 use Rattle.pool_model.specs.PacketModel.{offer_in, offer_onto, take_from, take_into, take_off}
+use Rattle.pool_model.proofs.Links.{Fewer, based_in-set, indirect_in-set}
 use Rattle.pool_model.proofs.Leaves.{Leaves, Onto, Off, leaves_kept, nothing_keeps}
 
 offer_onto-leaves : (others : ℕ → ℕ) (place : Option (List Seg)) (segs : List Seg) (slot desk : ℕ) (m : Member) (s : Shared) → get_or s.desks desk None ≡ place → desk < length s.desks → get_or m.table slot None ≡ Some segs →
@@ -28,6 +29,13 @@ offer_onto-leaves others None segs slot desk m s e here there = record {
       let onto = rw e at (own_in-set s.desks desk (Some segs) i here) in
       let left = rw there at (own_in-set m.table slot None i (stands_within m.table slot segs there)) in
       omega (arith, onto, left, bag-nil i);
+  linked = λ i few. Fewer
+      (let onto = rw e at (based_in-set s.desks desk (Some segs) i here) in
+      let left = rw there at (based_in-set m.table slot None i (stands_within m.table slot segs there)) in
+      omega (arith, onto, left))
+      (let onto = rw e at (indirect_in-set s.desks desk (Some segs) i here) in
+      let left = rw there at (indirect_in-set m.table slot None i (stands_within m.table slot segs there)) in
+      omega (arith, onto, left));
 }
 
 pub offer_in-leaves : (others : ℕ → ℕ) (content : Option (List Seg)) (slot desk : ℕ) (m : Member) (s : Shared) → get_or m.table slot None ≡ content → Leaves (Offer slot desk) others m s (offer_in content slot desk m s)
@@ -53,6 +61,13 @@ take_from-leaves others (Some segs) slot desk m s e here within free = record {
       let off = rw e at (own_in-set s.desks desk None i here) in
       let into = rw free at (own_in-set m.table slot (Some segs) i within) in
       omega (arith, off, into, bag-nil i);
+  linked = λ i few. Fewer
+      (let off = rw e at (based_in-set s.desks desk None i here) in
+      let into = rw free at (based_in-set m.table slot (Some segs) i within) in
+      omega (arith, off, into))
+      (let off = rw e at (indirect_in-set s.desks desk None i here) in
+      let into = rw free at (indirect_in-set m.table slot (Some segs) i within) in
+      omega (arith, off, into));
 }
 
 take_into-leaves : (others : ℕ → ℕ) (free : Option ℕ) (desk : ℕ) (m : Member) (s : Shared) → free_slot m.table ≡ free → desk < length s.desks → Leaves (Take desk) others m s (take_into free desk m s)

@@ -12,6 +12,7 @@ use Rattle.mbuf.specs.Acts.{Reply}
 use Rattle.mbuf.specs.Fresh.{new_elements}
 use Rattle.mbuf.specs.Members.{Member}
 use Rattle.pool_model.specs.Pool.{Shared}
+use Rattle.pool_model.proofs.Links.{LinksAfter, Fewer, based_in, based_in-set, based_slot, indirect_in, indirect_in-own, indirect_in-set, indirect_slot, links_beside}
 
 -- how often an element is in a member's cache, in the common list, and held there or by this many others
 abbrev pub near : ℕ → Member → Shared → ℕ → ℕ
@@ -19,7 +20,8 @@ near others m s i = bag m.cache i + bag s.common i + min 1 (others + held_in m.t
 
 -- What leaves the desks: the worker keeps its number and as many slots, and each element stays in one place, where
 -- outside is how often the packets of others and those on desks hold each. The elements that the worker is told of as
--- new were in its cache or the common list, and its packets have no own elements but those and what they had.
+-- new were in its cache or the common list, and its packets have no own elements but those and what they had. No
+-- element becomes a base and an indirect segment's at once.
 pub record Keeps (outside : ℕ → ℕ) (m : Member) (s : Shared) (done : Reply × Member × Shared) : Type 0 where
   pub number : done.1.number ≡ m.number
   pub slots : length done.1.table ≡ length m.table
@@ -27,6 +29,7 @@ pub record Keeps (outside : ℕ → ℕ) (m : Member) (s : Shared) (done : Reply
   pub placed : (i : ℕ) → near (outside i) m s i ≤ 1 → near (outside i) done.1 done.2 i ≡ near (outside i) m s i
   pub given : (i : ℕ) → bag (new_elements done.0) i ≤ bag m.cache i + bag s.common i
   pub own : (i : ℕ) → own_in done.1.table i ≤ own_in m.table i + bag (new_elements done.0) i
+  pub linked : (i : ℕ) → near (outside i) m s i ≤ 1 → LinksAfter (outside i + held_in m.table i) (own_in m.table i) (based_in m.table i) (indirect_in m.table i) (based_in done.1.table i) (indirect_in done.1.table i)
 
 -- a reply that tells of no new element
 pub none_given : (reply : Reply) (i n : ℕ) → new_elements reply ≡ [] → bag (new_elements reply) i ≤ n
@@ -41,6 +44,7 @@ nothing_keeps outside m s reply none = record {
   placed = λ i few. refl;
   given = λ i. none_given reply i _ none;
   own = λ i. omega arith;
+  linked = λ i few. Fewer (omega arith) (omega arith);
 }
 
 -- elements move between the cache and the common list
@@ -53,6 +57,7 @@ cache_keeps outside m s t reply cache none desks moved = record {
   placed = λ i few. omega (arith, moved i);
   given = λ i. none_given reply i _ none;
   own = λ i. omega arith;
+  linked = λ i few. Fewer (omega arith) (omega arith);
 }
 
 -- a packet or nothing comes into a slot, in the place of what stood there
@@ -61,14 +66,18 @@ pub set_keeps : (outside : ℕ → ℕ) (m : Member) (s t : Shared) (reply : Rep
     bag cache i + bag t.common i + min 1 (outside i + held_in (set m.table slot new) i) ≡ near (outside i) m s i) →
     ((i : ℕ) → bag (new_elements reply) i ≤ bag m.cache i + bag s.common i) →
     ((i : ℕ) → bag (own_in_slot new) i ≤ bag (own_in_slot old) i + bag (new_elements reply) i) →
+    ((i : ℕ) → near (outside i) m s i ≤ 1 → based_in (set m.table slot new) i + based_slot old i ≡ based_in m.table i + based_slot new i →
+    indirect_in (set m.table slot new) i + indirect_slot old i ≡ indirect_in m.table i + indirect_slot new i →
+    LinksAfter (outside i + held_in m.table i) (own_in m.table i) (based_in m.table i) (indirect_in m.table i) (based_in (set m.table slot new) i) (indirect_in (set m.table slot new) i)) →
     Keeps outside m s (reply, record m { cache = cache; table = set m.table slot new }, t)
-set_keeps outside m s t reply slot old new cache there within desks placed given own = record {
+set_keeps outside m s t reply slot old new cache there within desks placed given own linked = record {
   number = refl;
   slots = length-set m.table slot new;
   desks = desks;
   placed = λ i few. placed i few (rw there at (held_in-set m.table slot new i within));
   given = given;
   own = λ i. let change = rw there at (own_in-set m.table slot new i within) in omega (arith, change, own i);
+  linked = λ i few. linked i few (rw there at (based_in-set m.table slot new i within)) (rw there at (indirect_in-set m.table slot new i within));
 }
 
 -- what becomes of the desks: they stay, or an offer puts a packet onto its own, which is empty, or a take empties its own
@@ -84,6 +93,7 @@ near_desks others m s i = near (others + held_in s.desks i) m s i
 -- What any act leaves: the worker keeps its number and as many slots, and each element stays in one place, where
 -- others is how often the packets of others hold each. The elements that the worker is told of as new were in its cache
 -- or the common list, and only these and what the packets had are own elements of its packets and of those on desks.
+-- No element becomes a base and an indirect segment's at once.
 pub record Leaves (act : Act) (others : ℕ → ℕ) (m : Member) (s : Shared) (done : Reply × Member × Shared) : Type 0 where
   pub number : done.1.number ≡ m.number
   pub slots : length done.1.table ≡ length m.table
@@ -91,13 +101,18 @@ pub record Leaves (act : Act) (others : ℕ → ℕ) (m : Member) (s : Shared) (
   pub placed : (i : ℕ) → near_desks (others i) m s i ≤ 1 → near_desks (others i) done.1 done.2 i ≡ near_desks (others i) m s i
   pub given : (i : ℕ) → bag (new_elements done.0) i ≤ bag m.cache i + bag s.common i
   pub own : (i : ℕ) → own_in done.1.table i + own_in done.2.desks i ≤ own_in m.table i + own_in s.desks i + bag (new_elements done.0) i
+  pub linked : (i : ℕ) → near_desks (others i) m s i ≤ 1 →
+      LinksAfter (others i + held_in s.desks i + held_in m.table i) (own_in m.table i + own_in s.desks i) (based_in m.table i + based_in s.desks i) (indirect_in m.table i + indirect_in s.desks i)
+      (based_in done.1.table i + based_in done.2.desks i) (indirect_in done.1.table i + indirect_in done.2.desks i)
 
 pub leaves_kept : {act : Act} {others : ℕ → ℕ} {m : Member} {s : Shared} {done : Reply × Member × Shared} → Keeps (λ i. others i + held_in s.desks i) m s done → Leaves act others m s done
-leaves_kept {others = others} {s = s} {done = done} k = record {
+leaves_kept {others = others} {m = m} {s = s} {done = done} k = record {
   number = k.number;
   slots = k.slots;
   desks = Same k.desks;
   placed = λ i few. omega (arith, k.placed i few, ap (λ (desks : List (Option (List Seg))). held_in desks i) k.desks);
   given = k.given;
   own = λ i. omega (arith, k.own i, ap (λ (desks : List (Option (List Seg))). own_in desks i) k.desks);
+  linked = λ i few. rw k.desks (links_beside (others i + held_in s.desks i + held_in m.table i) (own_in m.table i) (based_in m.table i) (indirect_in m.table i) (based_in done.1.table i) (indirect_in done.1.table i)
+      (own_in s.desks i) (based_in s.desks i) (indirect_in s.desks i) (indirect_in-own s.desks i) (k.linked i few));
 }

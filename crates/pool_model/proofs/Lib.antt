@@ -1,6 +1,7 @@
 mod ActLeaves
 pub mod AfterActs
 mod Balance
+mod BasesDirect
 mod CacheBags
 pub mod CacheRules
 mod DeskLemmas
@@ -10,6 +11,8 @@ mod DesksLeave
 pub mod HeldBags
 mod HoldersOrder
 mod Leaves
+mod LinkSteps
+mod Links
 mod Listed
 pub mod NewMembers
 pub mod Numbered

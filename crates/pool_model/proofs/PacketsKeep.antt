@@ -23,6 +23,8 @@ use Rattle.pool_model.specs.CacheModel.{get}
 use Rattle.pool_model.specs.PacketModel.{alloc_bulk, alloc_in, chained_beside, fill_slot, fill_slots, flush_member, free_in, told_beside}
 use Rattle.pool_model.proofs.CacheBags.{IsGot, flush-IsPut, get-IsGot}
 use Rattle.pool_model.proofs.HeldBags.{end_holds-IsEnded}
+use Rattle.pool_model.proofs.Links.{Fewer, SameIndirect, fresh_links, held_split, packet_split, stood_links}
+use Rattle.pool_model.proofs.LinkSteps.{chain_indirect}
 use Rattle.pool_model.proofs.Leaves.{Keeps, cache_keeps, none_given, nothing_keeps, set_keeps}
 
 -- making a packet moves its element from the cache or the common list
@@ -34,6 +36,7 @@ fill_slot-keeps outside slot m s (Ok (x ∷ xs), cache, t) within e got =
     (λ i few held. omega (arith, few, held, got.moved i, bag-of_one (x ∷ xs) i got.long, bag-single x i, bag-nil i))
     (λ i. omega (arith, got.moved i, bag-of_one (x ∷ xs) i got.long, bag-single x i))
     (λ i. omega arith)
+    (λ i few based indirect. let fresh = fresh_links m.limits x i in Fewer (omega (arith, based, fresh.0)) (omega (arith, indirect, fresh.1)))
 fill_slot-keeps outside slot m s (Err cause, cache, t) within e got = cache_keeps outside m s t _ cache refl got.desks (λ i. omega (arith, got.moved i))
 
 -- so does making one in a free slot, and where there is none nothing changes
@@ -73,6 +76,7 @@ fill_slots-keeps outside n m s (Ok es, cache, t) room got =
       placed = λ i few. rw (long, (holds_stood m.limits es m.table (omega (arith, room, long)) i).0) (omega (arith, few, got.moved i));
       given = λ i. rw (long, bulk_elems m.limits es m.table (omega (arith, room, long))) (omega (arith, got.moved i));
       own = λ i. rw (long, bulk_elems m.limits es m.table (omega (arith, room, long)), (holds_stood m.limits es m.table (omega (arith, room, long)) i).1) (omega arith);
+      linked = λ i few. rw long (let same = stood_links m.limits es m.table (omega (arith, room, long)) i in Fewer (omega (arith, same.0)) (omega (arith, same.1)));
     }
 fill_slots-keeps outside n m s (Err cause, cache, t) room got = cache_keeps outside m s t _ cache refl got.desks (λ i. omega (arith, got.moved i))
 
@@ -90,20 +94,23 @@ free_in-keeps outside (Some segs) elsewhere slot m s e rest =
     let within = stands_within m.table slot segs e in
     let ends = end_holds-IsEnded m.limits elsewhere (holds_in_slot (Some segs)) (freed_nothing, m.cache, s) in
     set_keeps outside m s _ _ slot (Some segs) None _ e within ends.desks (λ i few held. omega (arith, held, ends.moved i, rest i within, bag-nil i))
-    (λ i. omega (arith, bag-nil i)) (λ i. omega (arith, bag-nil i))
+    (λ i. omega (arith, bag-nil i)) (λ i. omega (arith, bag-nil i)) (λ i few based indirect. Fewer (omega (arith, based)) (omega (arith, indirect)))
 
 -- a change of lengths moves none
-resize_to-keeps : (outside : ℕ → ℕ) (o : Option (List Seg)) (segs : List Seg) (cause : Refusal) (slot : ℕ) (m : Member) (s : Shared) → get_or m.table slot None ≡ Some segs → ((new : List Seg) → o ≡ Some new → SamePacketHolds new segs) →
+resize_to-keeps : (outside : ℕ → ℕ) (o : Option (List Seg)) (segs : List Seg) (cause : Refusal) (slot : ℕ) (m : Member) (s : Shared) → get_or m.table slot None ≡ Some segs → ((new : List Seg) → o ≡ Some new → SamePacketHolds new segs) → ((new : List Seg) → o ≡ Some new → SameIndirect new segs) →
     Keeps outside m s (told_beside s (resize_to o cause slot m))
-resize_to-keeps outside None segs cause slot m s e same = nothing_keeps outside m s _ refl
-resize_to-keeps outside (Some new) segs cause slot m s e same =
+resize_to-keeps outside None segs cause slot m s e same indirect = nothing_keeps outside m s _ refl
+resize_to-keeps outside (Some new) segs cause slot m s e same links =
     set_keeps outside m s s _ slot (Some segs) (Some new) m.cache e (stands_within m.table slot segs e) refl (λ i few held. omega (arith, held, ap (λ (es : List ℕ). bag es i) (same new refl).0))
     (λ i. omega (arith, bag-nil i)) (λ i. omega (arith, ap (λ (es : List ℕ). bag es i) (same new refl).1))
+    (λ i few based indirect. Fewer
+    (omega (arith, based, packet_split segs i, packet_split new i, ap (λ (es : List ℕ). bag es i) (same new refl).0, ap (λ (es : List ℕ). bag es i) (same new refl).1))
+    (omega (arith, indirect, links new refl i)))
 
 pub resize_in-keeps : (outside : ℕ → ℕ) (o : Option (List Seg)) (change : List Seg → Option (List Seg)) (cause : Refusal) (slot : ℕ) (m : Member) (s : Shared) → get_or m.table slot None ≡ o →
-    ((segs new : List Seg) → change segs ≡ Some new → SamePacketHolds new segs) → Keeps outside m s (told_beside s (resize_in o change cause slot m))
-resize_in-keeps outside None change cause slot m s e same = nothing_keeps outside m s _ refl
-resize_in-keeps outside (Some segs) change cause slot m s e same = resize_to-keeps outside (change segs) segs cause slot m s e (λ new f. same segs new f)
+    ((segs new : List Seg) → change segs ≡ Some new → SamePacketHolds new segs) → ((segs new : List Seg) → change segs ≡ Some new → SameIndirect new segs) → Keeps outside m s (told_beside s (resize_in o change cause slot m))
+resize_in-keeps outside None change cause slot m s e same links = nothing_keeps outside m s _ refl
+resize_in-keeps outside (Some segs) change cause slot m s e same links = resize_to-keeps outside (change segs) segs cause slot m s e (λ new f. same segs new f) (λ new f. links segs new f)
 
 -- what is told of a length and of segments is of no new element
 new-told_both : (slot : Option (List Seg)) → new_elements (told_both slot) ≡ []
@@ -128,6 +135,9 @@ chain_in-keeps outside (Some first) (Some second) head tail m s e f = elim (case
           placed = λ i one. omega (arith, kept.held i);
           given = λ i. let told = get_or (set (set m.table head (Some (first ++ second))) tail None) head None in none_given (told_both told) i _ (new-told_both told);
           own = λ i. omega (arith, kept.own i);
+          linked = λ i one. Fewer
+              (omega (arith, kept.held i, kept.own i, held_split m.table i, held_split (set (set m.table head (Some (first ++ second))) tail None) i))
+              (omega (arith, chain_indirect m.table head tail first second i (stands_within m.table head first e) (stands_within m.table tail second f) (eqb-false head tail apart) e f));
         })
   ]
 ]

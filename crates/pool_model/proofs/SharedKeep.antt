@@ -1,7 +1,7 @@
 -- Packets that attach to buffers, get their own back and are cloned keep each element in one place, and leave the desks.
-use Rattle.std.proofs.Common.{ℕ, ◌≡◌, ◌+◌, ◌-◌, ◌<◌, ◌≤◌, ◌==◌, inl, inr, List, [], ◌∷◌, ◌++◌, get_or, Option, Some, None, Result, Ok, Err, refl, ap, ◌∙◌, arith}
+use Rattle.std.proofs.Common.{ℕ, ◌≡◌, ◌≢◌, ◌+◌, ◌-◌, ◌<◌, ◌≤◌, ◌==◌, inl, inr, List, [], ◌∷◌, ◌++◌, get_or, set, Option, Some, None, Result, Ok, Err, refl, ap, ◌∙◌, arith}
 use Rattle.std.specs.Prelude.{min, if◌then◌else◌}
-use Rattle.std.proofs.lemmas.Bool.{cases_Bool, cases_lt}
+use Rattle.std.proofs.lemmas.Bool.{cases_Bool, cases_lt, eqb-false, eqb-true}
 use Rattle.std.proofs.lemmas.List.{map-append}
 use Rattle.commons.specs.Bag.{bag, one}
 use Rattle.commons.specs.declared.limits.Limits.{Limits}
@@ -25,6 +25,8 @@ use Rattle.pool_model.specs.CacheModel.{get}
 use Rattle.pool_model.specs.SharingModel.{Cloned, attach_to, clone_at, clone_segs, clone_to, detach_from, give_up, with_element}
 use Rattle.pool_model.proofs.CacheBags.{IsGot, get-IsGot}
 use Rattle.pool_model.proofs.HeldBags.{end_holds-IsEnded}
+use Rattle.pool_model.proofs.Links.{Fewer, buffer_in, buffer_packet, fresh_links, indirect_in}
+use Rattle.pool_model.proofs.LinkSteps.{OfBases, attach_links, clone_bases, clone_links, pair_apart}
 use Rattle.pool_model.proofs.Leaves.{Keeps, near, nothing_keeps, set_keeps}
 use Rattle.pool_model.specs.PacketModel.{beside}
 
@@ -49,12 +51,14 @@ attach_to-keeps outside (Ok (e, seg)) held mi target m s f all = elim (cases_Boo
     | inl full ↦ rw (alone, full) (nothing_keeps outside m s _ refl)
     | inr below ↦
         let found = found_pair (get_or m.table mi None) (get_or m.table target None) (mi == target) e seg f in
+        let apart : mi ≢ target = eqb-false mi target (pair_apart (get_or m.table mi None) (get_or m.table target None) (mi == target) (e, seg) f) in
         let b = buffer_of seg in
         let some : 0 < held b = omega (arith, packet_within outside held m all target (seg ∷ found.others) found.there b, buffer_held (seg ∷ found.others) 0 seg (omega arith)) in
         rw (alone, below) (set_keeps outside m s s _ mi (Some (found.own ∷ [])) (Some (attached e seg ∷ [])) m.cache found.here (stands_within m.table mi (found.own ∷ []) found.here) refl (λ i few now.
         let same = raise_min (held i) (one b i) (λ here. rw (← (one-is b i here)) some) in
         omega (arith, now, same, all i, holds_alone None found.own i found.direct, holds_alone (Some b) (attached e seg) i refl, bag-nil i, bag-single b i, ap (λ (x : ℕ). one x i) found.elem))
-        (λ i. omega (arith, bag-nil i)) (λ i. omega (arith, bag-nil i, ap (λ (x : ℕ). bag (x ∷ []) i) found.elem)))
+        (λ i. omega (arith, bag-nil i)) (λ i. omega (arith, bag-nil i, ap (λ (x : ℕ). bag (x ∷ []) i) found.elem))
+        (λ i few based indirect. attach_links m.table mi target e seg found apart outside (omega (arith, all e, eqb-true (held e) 1 alone)) i (set m.table mi (Some (attached e seg ∷ []))) based indirect))
   ]
   | inr used ↦ rw used (nothing_keeps outside m s _ refl)
 ]
@@ -69,6 +73,7 @@ detach_from-keeps outside (Ok (e, base)) held slot m s f all =
     set_keeps outside m s _ _ slot (Some (found.own ∷ [])) (Some (fresh_seg m.limits e ∷ [])) _ found.here (stands_within m.table slot (found.own ∷ []) found.here) ends.desks (λ i few now.
     omega (arith, now, all i, ends.moved i, holds_alone (Some base) found.own i found.base_is, holds_alone None (fresh_seg m.limits e) i refl, bag-nil i, bag-single base i, ap (λ (x : ℕ). one x i) found.elem))
     (λ i. omega (arith, bag-nil i)) (λ i. omega (arith, bag-nil i, ap (λ (x : ℕ). bag (x ∷ []) i) found.elem))
+    (λ i few based indirect. let fresh = fresh_links m.limits e i in Fewer (omega (arith, based, fresh.0)) (omega (arith, indirect, fresh.1)))
 
 -- Where each element is that was in so many places, with what was cloned or given up. The desks are these. The own
 -- elements of what was cloned were in the cache or the common list, where each was so often.
@@ -122,18 +127,20 @@ clone_segs-near l held places had desks (seg ∷ segs) new cache s before same w
 
 -- the clone's elements are held where it stands
 clone_to-keeps : (outside : ℕ → ℕ) (r : Cloned) (held : ℕ → ℕ) (slot : ℕ) (m : Member) (s : Shared) → free_slot m.table ≡ Some slot → ((i : ℕ) → held i ≡ outside i + held_in m.table i) → NearTo held (λ i. near (outside i) m s i) (λ i. bag m.cache i + bag s.common i) s.desks r →
-    Keeps outside m s (clone_to slot m r)
-clone_to-keeps outside (Ok new, cache, t) held slot m s free all after =
+    OfBases (λ i. indirect_in m.table i < held_in m.table i) r → Keeps outside m s (clone_to slot m r)
+clone_to-keeps outside (Ok new, cache, t) held slot m s free all after bases =
     let empty = free_slot-is m.table slot free in
     set_keeps outside m s t _ slot None (Some new) cache empty.1 empty.0 after.1 (λ i few now. omega (arith, now, after.0 i few, all i, bag-nil i))
     (λ i. omega (arith, after.2 i)) (λ i. omega arith)
-clone_to-keeps outside (Err cause, cache, t) held slot m s free all after = record {
+    (λ i few based indirect. clone_links (outside i) (bag m.cache i + bag s.common i) m.table (set m.table slot (Some new)) new i (bases i) few (omega (arith, after.2 i)) (omega (arith, based)) (omega (arith, indirect)))
+clone_to-keeps outside (Err cause, cache, t) held slot m s free all after bases = record {
   number = refl;
   slots = refl;
   desks = after.1;
   placed = λ i few. omega (arith, after.0 i few, all i);
   given = λ i. omega (arith, bag-nil i);
   own = λ i. omega arith;
+  linked = λ i few. Fewer (omega arith) (omega arith);
 }
 
 -- what is to be cloned stands there
@@ -150,3 +157,5 @@ clone_at-keeps outside (Ok (segs, slot)) held source m s f all =
     let free = clonable_free (get_or m.table source None) (free_slot m.table) segs slot f in
     clone_to-keeps outside (clone_segs m.limits held segs [] m.cache s) held slot m s free all
     (clone_segs-near m.limits held (λ i. near (outside i) m s i) (λ i. bag m.cache i + bag s.common i) s.desks segs [] m.cache s (λ i few. omega (arith, all i, bag-nil i)) refl (packet_within outside held m all source segs here) (λ i. omega (arith, bag-nil i)))
+    (clone_bases m.limits held (λ i. indirect_in m.table i < held_in m.table i) segs [] m.cache s (λ i some. absurd (omega (arith, some)))
+    (λ k d within. buffer_in m.table source (buffer_of (get_or segs k d)) segs (stands_within m.table source segs here) here (buffer_packet segs k d within)))

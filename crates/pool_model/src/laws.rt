@@ -20,7 +20,7 @@ ghost use Rattle.pool_model.specs.CacheLaw.{Meets};
 ghost use Rattle.pool_model.specs.CacheModel.{get as cache_get, put as cache_put, flush as cache_flush};
 ghost use Rattle.pool_model.specs.PacketModel.{after_acts, offer, perform, take_off};
 ghost use Rattle.pool_model.specs.Pool.{Pool, Shared, held_of, member_at, new_pool};
-ghost use Rattle.pool_model.specs.Standing.{IsGivenUp, IsInSlot, IsOnDesk, IsWorker, worker_of};
+ghost use Rattle.pool_model.specs.Standing.{IsGivenUp, IsInSlot, IsOfAPacket, IsOnDesk, IsWorker, worker_of};
 ghost use Rattle.pool_model.specs.Statements.{statement_of, ListsEachOnce, PlacesEachOnce};
 
 /// The reference model's caches keep the rules that a worker's cache keeps over any shared pool:
@@ -99,6 +99,13 @@ pub fn others_keep_what_they_have()
         slice_index_or (perform pool worker act).1.shared.desks desk None ≡ slice_index_or pool.shared.desks desk None }
     ensures limits { (pool : Pool) (worker : ℕ) (act : Act) → (perform pool worker act).1.limits ≡ pool.limits }
     ensures workers { (pool : Pool) (worker : ℕ) (act : Act) → length (perform pool worker act).1.members ≡ length pool.members }
+{}
+
+/// A base is always direct: in every pool that acts made of a new one, a segment whose own element is the base of
+/// a segment, of whatever packets in slots or on desks, has no base itself.
+pub fn a_base_is_always_direct()
+    ensures { (l : Limits) (acts : List (ℕ × Act)) (seg other : Seg) → let pool = after_acts acts (new_pool l) in
+        IsOfAPacket pool seg → IsOfAPacket pool other → seg.base ≡ Some other.elem → other.base ≡ None }
 {}
 
 /// For whoever lets workers act on a `SitePool` without a script: after any acts, by workers of any numbers, a
