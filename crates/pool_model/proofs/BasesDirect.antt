@@ -1,7 +1,6 @@
 -- In a pool that acts made of a new one, a base is never the element of an indirect segment.
-use Rattle.std.proofs.Common.{ℕ, zero, suc, ◌≡◌, ◌+◌, ◌-◌, ◌<◌, ◌≤◌, inl, inr, List, [], ◌∷◌, length, get_or, set, replicate, Option, Some, None, refl, sym, ap, ◌∙◌, arith}
+use Rattle.std.proofs.Common.{ℕ, zero, suc, ◌≡◌, ◌+◌, ◌-◌, ◌<◌, ◌≤◌, List, [], ◌∷◌, length, get_or, set, replicate, Option, Some, None, refl, ap, ◌∙◌, arith}
 use Rattle.std.specs.Prelude.{sum_by}
-use Rattle.std.specs.List.{Contains}
 use Rattle.std.proofs.lemmas.List.Sums.{get_or-le-sum_by, sum_by-cons, sum_by-set}
 use Rattle.commons.specs.declared.limits.Limits.{Limits}
 use Rattle.commons.specs.declared.packet.Seg.{Seg}
@@ -10,14 +9,14 @@ use Rattle.commons.proofs.PacketBags.{stands_within}
 use Rattle.mbuf.specs.declared.acts.Act.{Act}
 use Rattle.mbuf.specs.Acts.{Reply}
 use Rattle.mbuf.specs.Members.{Member, slots}
-use Rattle.pool_model.specs.Pool.{Shared, Pool, held_by, held_of, member_at, new_members, new_pool, nobody, with_member}
+use Rattle.pool_model.specs.Pool.{Shared, Pool, held_by, member_at, new_members, new_pool, nobody, with_member}
 use Rattle.pool_model.specs.PacketModel.{after_acts, perform}
-use Rattle.pool_model.specs.Standing.{IsInSlot, IsOnDesk, IsOfAPacket, InASlot, OnADesk, worker_of}
+use Rattle.pool_model.specs.Standing.{IsInSlot, IsOfAPacket, InASlot, OnADesk, worker_of}
 use Rattle.pool_model.proofs.ActLeaves.{after_act, by_others, by_others-add}
 use Rattle.pool_model.proofs.AfterActs.{after_acts-keeps}
 use Rattle.pool_model.proofs.Balance.{IsBalanced, near_once, new_pool-balanced, own_by, with_member-balanced}
 use Rattle.pool_model.proofs.Leaves.{Leaves}
-use Rattle.pool_model.proofs.Links.{based_by_seg, based_in, based_in-empty, based_packet, based_slot, held_split, indirect_by_seg, indirect_in, indirect_in-own, indirect_packet, indirect_slot, links_stay}
+use Rattle.pool_model.proofs.Links.{based_by_seg, based_in, based_in-empty, based_slot, held_split, indirect_by_seg, indirect_in, indirect_in-own, indirect_slot, links_stay}
 
 -- how often all members' packets have an element as a base, and as the own one of an indirect segment
 abbrev based_by : List Member → ℕ → ℕ

@@ -1,5 +1,5 @@
 -- A packet that was offered waits on its desk, and the next take gives it.
-use Rattle.std.proofs.Common.{ℕ, ◌≡◌, ◌≢◌, ◌-◌, ◌<◌, ◌≤◌, nat_le, ◌&&◌, true, List, [], ◌∷◌, length, length-set, get_or, get_or-set_same, set, Option, Some, None, refl, sym, ap, ◌∙◌, subst, arith}
+use Rattle.std.proofs.Common.{ℕ, ◌≡◌, ◌≢◌, ◌-◌, ◌<◌, ◌≤◌, nat_le, ◌&&◌, true, List, [], ◌∷◌, length, length-set, get_or, get_or-set_same, set, Some, None, refl, sym, ap, ◌∙◌, subst, arith}
 use Rattle.std.specs.Prelude.{All}
 use Rattle.std.proofs.lemmas.Bool.Decides.{nat_tests}
 use Rattle.std.proofs.lemmas.List.Elements.{All-head, All-tail}
@@ -15,7 +15,7 @@ use Rattle.mbuf.specs.Lengths.{pkt_len}
 use Rattle.mbuf.specs.Members.{Member}
 use Rattle.mbuf.specs.PacketRules.{free_slot}
 use Rattle.pool_model.specs.Pool.{Shared, Pool, nobody, with_member}
-use Rattle.pool_model.specs.PacketModel.{act_on, after_acts, offer, perform, take_off}
+use Rattle.pool_model.specs.PacketModel.{act_on, after_acts, offer, perform}
 use Rattle.pool_model.specs.Standing.{IsInSlot, IsOnDesk, IsWorker, worker_of}
 use Rattle.pool_model.proofs.DeskLemmas.{left_on_desk, take_off-met}
 use Rattle.pool_model.proofs.DeskStays.{stays_in_pool}

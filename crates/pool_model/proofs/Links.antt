@@ -12,7 +12,7 @@ use Rattle.commons.specs.Packets.{no_seg, hold_of, holds_of_seg, holds_of_packet
 use Rattle.commons.proofs.Bags.{bag-nil, bag-append, bag-cons, bag-single, one-same}
 use Rattle.commons.proofs.PacketBags.{held_in-set, own_in-held}
 use Rattle.commons.proofs.Sames.{some-is}
-use Rattle.mbuf.specs.Lengths.{with_seg, appended, prepended, adjusted, trimmed, grown_behind, grown_in_front, cut_in_front, cut_behind}
+use Rattle.mbuf.specs.Lengths.{with_seg, appended, prepended, adjusted, trimmed}
 use Rattle.mbuf.specs.PacketRules.{fresh_seg, free_slots, stood}
 use Rattle.mbuf.specs.Sharing.{attached, buffer_of}
 use Rattle.mbuf.proofs.FreeLemmas.{first_free, taken_first}

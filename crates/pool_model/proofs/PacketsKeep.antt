@@ -7,7 +7,7 @@ use Rattle.commons.specs.Bag.{bag}
 use Rattle.commons.specs.declared.limits.Limits.{Limits}
 use Rattle.commons.specs.declared.packet.Seg.{Seg}
 use Rattle.commons.specs.declared.refusal.Refusal.{Refusal}
-use Rattle.commons.specs.Packets.{holds_in_slot, own_in_slot, held_in, max_segs}
+use Rattle.commons.specs.Packets.{holds_in_slot, held_in, max_segs}
 use Rattle.commons.proofs.Bags.{bag-nil, bag-single, bag-of_one}
 use Rattle.commons.proofs.PacketBags.{stands_within}
 use Rattle.mbuf.specs.Members.{Member}

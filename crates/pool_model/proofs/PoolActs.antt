@@ -1,7 +1,6 @@
 -- What an act of one worker leaves of the others, and a refused one of the whole pool.
-use Rattle.std.proofs.Common.{ℕ, ◌≡◌, ◌≢◌, ◌+◌, ◌-◌, ◌<◌, ◌≤◌, inl, inr, List, length, length-set, get_or, set, get_or-set_same, get_or-set_other, Option, None, refl, sym, ap, ◌∙◌, subst, arith}
+use Rattle.std.proofs.Common.{ℕ, ◌≡◌, ◌≢◌, ◌+◌, ◌-◌, ◌<◌, List, length, length-set, get_or, get_or-set_same, get_or-set_other, Option, None, refl, sym, ap, ◌∙◌, arith}
 use Rattle.std.proofs.lemmas.List.{set-get_or}
-use Rattle.std.proofs.lemmas.List.Sums.{get_or-le-sum_by}
 use Rattle.commons.specs.Bag.{bag}
 use Rattle.commons.specs.Packets.{held_in}
 use Rattle.commons.specs.declared.limits.Limits.{Limits}
@@ -80,13 +79,17 @@ left_by_clone pool n source cause done b within is left told =
     let desks = clone_desks (ClonePacket source) source pool.shared.desks done.2.desks refl left.desks in
     let at : n + 1 - 1 ≡ n = omega arith in
     let here = get_or-set_same pool.members n done.1 (nobody pool.limits) within in
-    rw (at, here) (packets, desks, λ i.
-    omega (
-      arith,
-      left.placed i (near_once pool n i b within),
-      ap (λ (x : Member). held_in x.table i) packets,
-      ap (λ (x : List (Option (List Seg))). held_in x i) desks,
-    ))
+    rw (at, here) (
+      packets,
+      desks,
+      λ i.
+          omega (
+            arith,
+            left.placed i (near_once pool n i b within),
+            ap (λ (x : Member). held_in x.table i) packets,
+            ap (λ (x : List (Option (List Seg))). held_in x i) desks,
+          ),
+    )
 
 -- a clone that is refused in a balanced pool
 pub clone_given_up : (pool : Pool) (worker source : ℕ) (cause : Refusal) → IsBalanced pool → (perform pool worker (ClonePacket source)).0 ≡ Refused cause → IsGivenUp worker pool (perform pool worker (ClonePacket source)).1

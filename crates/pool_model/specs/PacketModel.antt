@@ -1,8 +1,8 @@
 -- The reference model of a worker's packets.
-use Rattle.std.specs.Prelude.{ℕ, ◌+◌, ◌-◌, ◌==◌, ◌&&◌, nat_lt, nat_le, if◌then◌else◌, List, [], ◌∷◌, ◌++◌, length, take, slice_index_or, slice_set, Option, Some, None, Result, Ok, Err}
+use Rattle.std.specs.Prelude.{ℕ, ◌-◌, ◌&&◌, nat_lt, nat_le, if◌then◌else◌, List, [], ◌∷◌, length, take, slice_index_or, slice_set, Option, Some, None, Result, Ok, Err}
 use Rattle.commons.specs.declared.packet.Seg.{Seg}
 use Rattle.commons.specs.declared.refusal.Refusal.{Refusal}
-use Rattle.commons.specs.declared.refusal.Refusal.TheVariants.{DeskEmpty, DeskTaken, NoEntries, NoRoom, NoSuchDesk, NoSuchPacket, PacketsFull, SamePacket, StrangerShare, TooManySegs, TooShort}
+use Rattle.commons.specs.declared.refusal.Refusal.TheVariants.{DeskEmpty, DeskTaken, NoEntries, NoRoom, NoSuchDesk, NoSuchPacket, PacketsFull, StrangerShare, TooShort}
 use Rattle.mempool.specs.declared.put.Put.{Put}
 use Rattle.mbuf.specs.declared.acts.Act.{Act}
 use Rattle.mbuf.specs.declared.acts.Act.TheVariants.{Alloc, AllocBulk, Free, Append, Prepend, Adj, Trim, Chain, Attach, Detach, ClonePacket, Offer, Take, CountOf, PktLen, NbSegs, Flush}
