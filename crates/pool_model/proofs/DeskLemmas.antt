@@ -83,19 +83,6 @@ left_on_desk slot desk m after s t met =
       desk_has did.0 slot desk m after s t did.2,
     )
 
--- what the next take gives
-pub taken_again : (slot desk free : ℕ) (packet : List Seg) (m after taker : Member) (s t : Shared) → offer slot desk m s ≡ (Offered, after, t) →
-    get_or m.table slot None ≡ Some packet → free_slot taker.table ≡ Some free →
-    take_off desk taker t ≡ (Taken free (length packet) (pkt_len packet), record taker { table = set taker.table free (Some packet) }, s)
-taken_again slot desk free packet m after taker s t met there e =
-    let did = offer_in-met (get_or m.table slot None) slot desk m after s t met in
-    let has : get_or t.desks desk None ≡ Some packet = desk_has did.0 slot desk m after s t did.2 ∙ sym did.1 ∙ there in
-    take_off-met desk free packet taker t has e
-    ∙ ap (λ (u : Shared). let r : Reply × Member × Shared = (Taken free (length packet) (pkt_len packet), record taker { table = set taker.table free (Some packet) }, u) in r) (desk_emptied did.0 slot desk m after s t did.2)
-
--- and what it answers a worker with no free slot
-pub taken_by_none : (slot desk : ℕ) (m after taker : Member) (s t : Shared) → offer slot desk m s ≡ (Offered, after, t) →
-    free_slot taker.table ≡ None → take_off desk taker t ≡ (Refused PacketsFull, taker, t)
-taken_by_none slot desk m after taker s t met e =
-    let did = offer_in-met (get_or m.table slot None) slot desk m after s t met in
-    take_off-full desk taker t (desk_within did.0 slot desk m after s t did.2) e
+-- where a take empties the desk again, all is as before the offer
+pub emptied_again : (slot desk : ℕ) (m after : Member) (s t : Shared) → offer slot desk m s ≡ (Offered, after, t) → record t { desks = set t.desks desk None } ≡ s
+emptied_again slot desk m after s t met = let did = offer_in-met (get_or m.table slot None) slot desk m after s t met in desk_emptied did.0 slot desk m after s t did.2

@@ -6,19 +6,22 @@ use Rattle.std.proofs.lemmas.List.Elements.{All-head, All-tail}
 use Rattle.commons.proofs.PacketBags.{stands_within}
 use Rattle.commons.proofs.Sames.{some-is}
 use Rattle.commons.specs.declared.packet.Seg.{Seg}
+use Rattle.commons.specs.declared.refusal.Refusal.TheVariants.{DeskTaken, PacketsFull}
 use Rattle.mbuf.proofs.OwnLemmas.{free_slot-is}
 use Rattle.mbuf.specs.Acts.{Reply}
 use Rattle.mbuf.specs.declared.acts.Act.{Act}
 use Rattle.mbuf.specs.declared.acts.Act.TheVariants.{Offer, Take}
-use Rattle.mbuf.specs.declared.acts.Answer.TheVariants.{Offered, Taken}
+use Rattle.mbuf.specs.declared.acts.Answer.TheVariants.{Offered, Refused, Taken}
 use Rattle.mbuf.specs.Lengths.{pkt_len}
 use Rattle.mbuf.specs.Members.{Member}
 use Rattle.mbuf.specs.PacketRules.{free_slot}
 use Rattle.pool_model.specs.Pool.{Shared, Pool, nobody, with_member}
 use Rattle.pool_model.specs.PacketModel.{act_on, after_acts, offer, perform}
-use Rattle.pool_model.specs.Standing.{IsInSlot, IsOnDesk, IsWorker, worker_of}
-use Rattle.pool_model.proofs.DeskLemmas.{left_on_desk, take_off-met}
+use Rattle.pool_model.specs.Standing.{IsInSlot, IsOnDesk, IsWorker, WasGiven, worker_of}
+use Rattle.pool_model.proofs.ActLeaves.{of_act}
+use Rattle.pool_model.proofs.DeskLemmas.{emptied_again, left_on_desk, offer-met, offer-taken, take_off-full, take_off-met}
 use Rattle.pool_model.proofs.DeskStays.{stays_in_pool}
+use Rattle.pool_model.proofs.PoolActs.{with_member-same}
 
 in_pool : (w n : ℕ) → 1 ≤ w → w ≤ n → (nat_le 1 w && nat_le w n) ≡ true
 in_pool w n l b = grind (arith, nat_tests)
@@ -27,16 +30,43 @@ in_pool w n l b = grind (arith, nat_tests)
 performed : (pool : Pool) (w : ℕ) (act : Act) → IsWorker pool w → let done = act_on pool (w - 1) act in ◌≡◌ {A = Reply × Pool} (perform pool w act) (done.0, with_member pool (w - 1) done.1 done.2)
 performed pool w act is = rw (in_pool w (length pool.members) is.0 is.1) refl
 
--- an offer of the packet in a slot that is met
+-- an offer of the packet in a slot, on an empty desk of the pool
+pub offer_is_met : (pool : Pool) (worker slot desk : ℕ) (packet : List Seg) → IsInSlot pool worker slot packet → desk < length pool.shared.desks → get_or pool.shared.desks desk None ≡ None → (perform pool worker (Offer slot desk)).0 ≡ Offered
+offer_is_met pool worker slot desk packet stands within empty =
+    ap (λ (r : Reply × Pool). r.0) (performed pool worker (Offer slot desk) stands.0) ∙ offer-met slot desk packet (worker_of pool worker) pool.shared stands.1 within empty
+
+-- an offer on a desk that has a packet
+pub offer_is_refused : (pool : Pool) (worker slot desk : ℕ) (packet other : List Seg) → IsOnDesk pool desk packet → IsInSlot pool worker slot other → ◌≡◌ {A = Reply × Pool} (perform pool worker (Offer slot desk)) (Refused DeskTaken, pool)
+offer_is_refused pool worker slot desk packet other lies stands =
+    performed pool worker (Offer slot desk) stands.0
+    ∙ ap (λ (d : Reply × Member × Shared). let r : Reply × Pool = (d.0, with_member pool (worker - 1) d.1 d.2) in r) (offer-taken slot desk packet other (worker_of pool worker) pool.shared lies stands.1)
+    ∙ ap (λ (p : Pool). let r : Reply × Pool = (Refused DeskTaken, p) in r) (with_member-same pool (worker - 1) (worker_of pool worker) pool.shared refl refl)
+
+-- only workers of the pool are answered so
+offering_worker : (pool : Pool) (worker slot desk : ℕ) → (perform pool worker (Offer slot desk)).0 ≡ Offered → IsWorker pool worker
+offering_worker pool worker slot desk =
+    of_act (λ r. r.0 ≡ Offered → IsWorker pool worker) pool worker (Offer slot desk) (λ told. absurd cc) (λ n done number within is left told. (omega (arith, number), omega (arith, number, within)))
+
+-- what an offer leaves that is met
+pub left_by_offer : (pool : Pool) (worker slot desk : ℕ) → let done = perform pool worker (Offer slot desk) in done.0 ≡ Offered →
+    (packet : List Seg) × IsInSlot pool worker slot packet × IsOnDesk done.1 desk packet × (get_or (worker_of done.1 worker).table slot None ≡ None)
+left_by_offer pool worker slot desk met =
+    let m : Member = worker_of pool worker in
+    let worker_is = offering_worker pool worker slot desk met in
+    let within : worker - 1 < length pool.members = omega (arith, worker_is.0, worker_is.1) in
+    let done = offer slot desk m pool.shared in
+    let is = performed pool worker (Offer slot desk) worker_is in
+    let told : done.0 ≡ Offered = sym (ap (λ (r : Reply × Pool). r.0) is) ∙ met in
+    let left = left_on_desk slot desk m done.1 pool.shared done.2 (ap (λ (r : Reply). let d : Reply × Member × Shared = (r, done.1, done.2) in d) told) in (
+      left.0,
+      (worker_is, left.1),
+      subst (λ (r : Reply × Pool). IsOnDesk r.1 desk left.0) (sym is) left.3,
+      ap (λ (r : Reply × Pool). get_or (worker_of r.1 worker).table slot None) is ∙ ap (λ (x : Member). get_or x.table slot None) (get_or-set_same pool.members (worker - 1) done.1 (nobody pool.limits) within) ∙ left.2,
+    )
+
 offered_lies : (pool : Pool) (worker slot desk : ℕ) (packet : List Seg) → IsInSlot pool worker slot packet → (perform pool worker (Offer slot desk)).0 ≡ Offered → IsOnDesk (perform pool worker (Offer slot desk)).1 desk packet
 offered_lies pool worker slot desk packet stands met =
-    let m : Member = worker_of pool worker in
-    let done = offer slot desk m pool.shared in
-    let is = performed pool worker (Offer slot desk) stands.0 in
-    let told : done.0 ≡ Offered = sym (ap (λ (r : Reply × Pool). r.0) is) ∙ met in
-    let left = left_on_desk slot desk m done.1 pool.shared done.2 (ap (λ (r : Reply). let d : Reply × Member × Shared = (r, done.1, done.2) in d) told) in
-    let same = some-is left.0 packet (sym left.1 ∙ stands.1) in
-    subst (λ (r : Reply × Pool). IsOnDesk r.1 desk packet) (sym is) (left.3 ∙ ap (λ (p : List Seg). Some p) same)
+    let left = left_by_offer pool worker slot desk met in left.2 ∙ ap (λ (p : List Seg). Some p) (some-is left.0 packet (sym left.1.1 ∙ stands.1))
 
 -- it stays there
 pub lies_after : (acts : List (ℕ × Act)) (pool : Pool) (desk : ℕ) (packet : List Seg) → All (λ done. done.1 ≢ Take desk) acts → IsOnDesk pool desk packet → IsOnDesk (after_acts acts pool) desk packet
@@ -50,8 +80,7 @@ pub offered_waits : (pool : Pool) (worker slot desk : ℕ) (packet : List Seg) (
 offered_waits pool worker slot desk packet acts stands met none = lies_after acts (perform pool worker (Offer slot desk)).1 desk packet none (offered_lies pool worker slot desk packet stands met)
 
 -- and a take gives it
-pub taken_off : (pool : Pool) (taker desk free : ℕ) (packet : List Seg) → IsOnDesk pool desk packet → IsWorker pool taker → free_slot (worker_of pool taker).table ≡ Some free →
-    ((perform pool taker (Take desk)).0 ≡ Taken free (length packet) (pkt_len packet)) × IsInSlot (perform pool taker (Take desk)).1 taker free packet × (get_or (perform pool taker (Take desk)).1.shared.desks desk None ≡ None)
+pub taken_off : (pool : Pool) (taker desk free : ℕ) (packet : List Seg) → IsOnDesk pool desk packet → IsWorker pool taker → free_slot (worker_of pool taker).table ≡ Some free → WasGiven taker desk free packet pool (perform pool taker (Take desk))
 taken_off pool taker desk free packet there is empty =
     let m : Member = worker_of pool taker in
     let n = taker - 1 in
@@ -63,9 +92,30 @@ taken_off pool taker desk free packet there is empty =
     let whole : ◌≡◌ {A = Reply × Pool} (perform pool taker (Take desk)) (Taken free (length packet) (pkt_len packet), with_member pool n after left) =
     performed pool taker (Take desk) is ∙ ap (λ (d : Reply × Member × Shared). let r : Reply × Pool = (d.0, with_member pool n d.1 d.2) in r) took in
     let workers : length (set pool.members n after) ≡ length pool.members = length-set pool.members n after in
-    let here = ap (λ (x : Member). get_or x.table free None) (get_or-set_same pool.members n after (nobody pool.limits) within) ∙ get_or-set_same m.table free (Some packet) None slot.0 in
-    rw whole (
-      refl,
-      ((is.0, omega (arith, is.1, workers)), here),
-      get_or-set_same pool.shared.desks desk None None (stands_within pool.shared.desks desk packet there),
-    )
+    let here = get_or-set_same pool.members n after (nobody pool.limits) within in
+    rw whole (record {
+      reply = refl;
+      stands = ((is.0, omega (arith, is.1, workers)), ap (λ (x : Member). get_or x.table free None) here ∙ get_or-set_same m.table free (Some packet) None slot.0);
+      emptied = get_or-set_same pool.shared.desks desk None None (stands_within pool.shared.desks desk packet there);
+      kept = here;
+      shared = refl;
+    })
+
+-- right after the offer all that is shared is then as before it
+pub given_back : (pool : Pool) (worker slot desk taker free : ℕ) → let done = perform pool worker (Offer slot desk) in done.0 ≡ Offered → IsWorker done.1 taker → free_slot (worker_of done.1 taker).table ≡ Some free → (perform done.1 taker (Take desk)).1.shared ≡ pool.shared
+given_back pool worker slot desk taker free met is empty =
+    let m : Member = worker_of pool worker in
+    let offered = performed pool worker (Offer slot desk) (offering_worker pool worker slot desk met) in
+    let done = offer slot desk m pool.shared in
+    let told : done.0 ≡ Offered = sym (ap (λ (r : Reply × Pool). r.0) offered) ∙ met in
+    let left = left_by_offer pool worker slot desk met in
+    let given = taken_off (perform pool worker (Offer slot desk)).1 taker desk free left.0 left.2 is empty in
+    given.shared ∙ ap (λ (r : Reply × Pool). let t : Shared = record r.1.shared { desks = set r.1.shared.desks desk None } in t) offered
+    ∙ emptied_again slot desk m done.1 pool.shared done.2 (ap (λ (r : Reply). let d : Reply × Member × Shared = (r, done.1, done.2) in d) told)
+
+-- a worker with no free slot is refused
+pub take_is_refused : (pool : Pool) (taker desk : ℕ) (packet : List Seg) → IsOnDesk pool desk packet → IsWorker pool taker → free_slot (worker_of pool taker).table ≡ None → ◌≡◌ {A = Reply × Pool} (perform pool taker (Take desk)) (Refused PacketsFull, pool)
+take_is_refused pool taker desk packet there is full =
+    performed pool taker (Take desk) is
+    ∙ ap (λ (d : Reply × Member × Shared). let r : Reply × Pool = (d.0, with_member pool (taker - 1) d.1 d.2) in r) (take_off-full desk (worker_of pool taker) pool.shared (stands_within pool.shared.desks desk packet there) full)
+    ∙ ap (λ (p : Pool). let r : Reply × Pool = (Refused PacketsFull, p) in r) (with_member-same pool (taker - 1) (worker_of pool taker) pool.shared refl refl)

@@ -47,7 +47,7 @@ other_desk pool worker desk act offered taken =
     (λ k done number within is left. desk_beside act pool.shared.desks done.2.desks desk left.desks offered taken)
 
 -- a pool in which a worker and what all share are as before
-with_member-same : (pool : Pool) (n : ℕ) (m : Member) (s : Shared) → m ≡ member_at pool n → s ≡ pool.shared → with_member pool n m s ≡ pool
+pub with_member-same : (pool : Pool) (n : ℕ) (m : Member) (s : Shared) → m ≡ member_at pool n → s ≡ pool.shared → with_member pool n m s ≡ pool
 with_member-same pool n m s e f = rw (e, f) (ap (λ (members : List Member). let after : Pool = record pool { members = members } in after) (set-get_or pool.members n (nobody pool.limits)))
 
 -- any act but a clone that is refused

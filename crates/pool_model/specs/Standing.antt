@@ -1,8 +1,11 @@
 -- Where packets stand in a pool, and what an act leaves of it, in words.
-use Rattle.std.specs.Prelude.{ℕ, ◌≡◌, ◌≢◌, ◌+◌, ◌-◌, ◌≤◌, List, length, slice_index_or, Some, None}
+use Rattle.std.specs.Prelude.{ℕ, ◌≡◌, ◌≢◌, ◌+◌, ◌-◌, ◌≤◌, List, length, slice_index_or, slice_set, Some, None}
 use Rattle.std.specs.List.{Contains}
 use Rattle.commons.specs.Bag.{bag}
 use Rattle.commons.specs.declared.packet.Seg.{Seg}
+use Rattle.mbuf.specs.Acts.{Reply}
+use Rattle.mbuf.specs.declared.acts.Answer.TheVariants.{Taken}
+use Rattle.mbuf.specs.Lengths.{pkt_len}
 use Rattle.mbuf.specs.Members.{Member}
 use Rattle.pool_model.specs.Pool.{Pool, member_at}
 
@@ -25,6 +28,15 @@ IsOnDesk pool desk packet = slice_index_or pool.shared.desks desk None ≡ Some 
 pub data IsOfAPacket (pool : Pool) (seg : Seg) : Type 0 where
   InASlot : (worker slot : ℕ) (packet : List Seg) → IsInSlot pool worker slot packet → Contains packet seg → IsOfAPacket pool seg
   OnADesk : (desk : ℕ) (packet : List Seg) → IsOnDesk pool desk packet → Contains packet seg → IsOfAPacket pool seg
+
+-- A packet that lay on a desk was given to a worker of the pool, into this slot, and the desk is empty. The worker keeps
+-- all else that it has, and so do the stack and the other desks.
+pub record WasGiven (taker desk slot : ℕ) (packet : List Seg) (before : Pool) (done : Reply × Pool) : Type 0 where
+  pub reply : done.0 ≡ Taken slot (length packet) (pkt_len packet)
+  pub stands : IsInSlot done.1 taker slot packet
+  pub emptied : slice_index_or done.1.shared.desks desk None ≡ None
+  pub kept : worker_of done.1 taker ≡ record (worker_of before taker) { table = slice_set (worker_of before taker).table slot (Some packet) }
+  pub shared : done.1.shared ≡ record before.shared { desks = slice_set before.shared.desks desk None }
 
 -- A clone was given up: the limits, the desks and all of every worker but this one's cache are as before, and its
 -- cache and the common list have each element as often as before, taken together.

@@ -1,6 +1,6 @@
 //! Laws of the reference model: of its caches, of its desks, and of a pool after any acts.
 
-ghost use Rattle.std.specs.Prelude.{◌≡◌, ◌≢◌, ◌<◌, ◌+◌, ℕ, ◌⊎◌, All, List, length, slice_index_or, slice_set, None, Some, Result};
+ghost use Rattle.std.specs.Prelude.{◌≡◌, ◌≢◌, ◌<◌, ◌+◌, ℕ, ◌⊎◌, All, List, length, slice_index_or, None, Some, Result};
 ghost use Rattle.commons.specs.Bounds.{IsPool};
 ghost use Rattle.commons.specs.Calls.{Call};
 ghost use Rattle.commons.specs.declared.limits.Limits.{Limits};
@@ -11,16 +11,14 @@ ghost use Rattle.mempool.specs.Caches.{Gets, Puts, Flushes};
 ghost use Rattle.mempool.specs.declared.put.Put.{Put};
 ghost use Rattle.mbuf.specs.declared.acts.Act.{Act};
 ghost use Rattle.mbuf.specs.declared.acts.Act.TheVariants.{ClonePacket, Offer, Take};
-ghost use Rattle.mbuf.specs.declared.acts.Answer.TheVariants.{Offered, Refused, Taken};
+ghost use Rattle.mbuf.specs.declared.acts.Answer.TheVariants.{Offered, Refused};
 ghost use Rattle.mbuf.specs.Fresh.{AreFresh, new_elements};
-ghost use Rattle.mbuf.specs.Lengths.{pkt_len};
-ghost use Rattle.mbuf.specs.Members.{Member};
 ghost use Rattle.mbuf.specs.PacketRules.{free_slot};
 ghost use Rattle.pool_model.specs.CacheLaw.{Meets};
 ghost use Rattle.pool_model.specs.CacheModel.{get as cache_get, put as cache_put, flush as cache_flush};
-ghost use Rattle.pool_model.specs.PacketModel.{after_acts, offer, perform, take_off};
+ghost use Rattle.pool_model.specs.PacketModel.{after_acts, perform};
 ghost use Rattle.pool_model.specs.Pool.{Pool, Shared, held_of, member_at, new_pool};
-ghost use Rattle.pool_model.specs.Standing.{IsGivenUp, IsInSlot, IsOfAPacket, IsOnDesk, IsWorker, worker_of};
+ghost use Rattle.pool_model.specs.Standing.{IsGivenUp, IsInSlot, IsOfAPacket, IsOnDesk, IsWorker, WasGiven, worker_of};
 ghost use Rattle.pool_model.specs.Statements.{statement_of, ListsEachOnce, PlacesEachOnce};
 
 /// The reference model's caches keep the rules that a worker's cache keeps over any shared pool:
@@ -35,49 +33,42 @@ pub fn the_model_keeps_the_cache_rules()
 {}
 
 /// A desk gives what was left on it. An offer of a packet on an empty desk of the pool is met. Where an offer is met,
-/// the slot is free afterwards, and the packet that stood in it is on the desk. The next take off this desk, by
-/// whatever worker, is met where the worker has a free slot: it gives the very segments that were offered, into the
-/// lowest free slot, and leaves the stack and all desks as they were before the offer. To a worker that has none it is
-/// refused `PacketsFull`, and nothing changes.
+/// the packet that stood in the slot lies on the desk, and the slot is free. After any acts of any workers that take
+/// nothing off the desk it still lies there. A take off the desk, by whatever worker of the pool, is then met where the
+/// worker has a free slot: it gives the very segments that were offered, into the lowest free slot. Right after the
+/// offer it leaves the stack and all desks as they were before it. To a worker that has no free slot it is refused
+/// `PacketsFull`, and nothing changes.
 pub fn a_desk_gives_what_was_left_on_it()
-    ensures met { (slot desk : ℕ) (packet : List Seg) (m : Member) (s : Shared) → slice_index_or m.table slot None ≡ Some packet →
-        desk < length s.desks → slice_index_or s.desks desk None ≡ None → (offer slot desk m s).0 ≡ Offered }
-    ensures left { (slot desk : ℕ) (m after : Member) (s t : Shared) → offer slot desk m s ≡ (Offered, after, t) →
-        (packet : List Seg) × (slice_index_or m.table slot None ≡ Some packet) × (slice_index_or after.table slot None ≡ None) × (slice_index_or t.desks desk None ≡ Some packet) }
-    ensures taken { (slot desk free : ℕ) (packet : List Seg) (m after taker : Member) (s t : Shared) → offer slot desk m s ≡ (Offered, after, t) →
-        slice_index_or m.table slot None ≡ Some packet → free_slot taker.table ≡ Some free →
-        take_off desk taker t ≡ (Taken free (length packet) (pkt_len packet), record taker { table = slice_set taker.table free (Some packet) }, s) }
-    ensures full { (slot desk : ℕ) (m after taker : Member) (s t : Shared) → offer slot desk m s ≡ (Offered, after, t) →
-        free_slot taker.table ≡ None → take_off desk taker t ≡ (Refused PacketsFull, taker, t) }
-{}
-
-/// A packet stays on its desk, with the segments that it has, whatever any worker does, until it is taken off. An
-/// offer of another packet on this desk is refused `DeskTaken`, and nothing changes. A take off it, by a worker that
-/// has a free slot, gives the packet, into the lowest free slot, and empties the desk; the stack and the other desks
-/// stay as they are.
-pub fn a_packet_stays_on_its_desk()
-    ensures stays { (pool : Pool) (worker desk : ℕ) (act : Act) (packet : List Seg) → act ≢ Take desk →
-        slice_index_or pool.shared.desks desk None ≡ Some packet → slice_index_or (perform pool worker act).1.shared.desks desk None ≡ Some packet }
-    ensures refused { (slot desk : ℕ) (packet other : List Seg) (m : Member) (s : Shared) →
-        slice_index_or s.desks desk None ≡ Some packet → slice_index_or m.table slot None ≡ Some other → offer slot desk m s ≡ (Refused DeskTaken, m, s) }
-    ensures taken { (desk free : ℕ) (packet : List Seg) (taker : Member) (s : Shared) →
-        slice_index_or s.desks desk None ≡ Some packet → free_slot taker.table ≡ Some free →
-        take_off desk taker s ≡ (Taken free (length packet) (pkt_len packet), record taker { table = slice_set taker.table free (Some packet) }, record s { desks = slice_set s.desks desk None }) }
-{}
-
-/// What was left on a desk waits there. Where a worker's offer of the packet in a slot is answered `Offered`, the
-/// packet lies on that desk after any acts of any workers that take nothing off it. A take off the desk, by whatever
-/// worker of the pool that has a free slot, is then answered `Taken` with the lowest free slot, and puts the very
-/// segments into it that were offered; the desk is empty.
-pub fn an_offered_packet_waits_for_a_take()
+    ensures met { (pool : Pool) (worker slot desk : ℕ) (packet : List Seg) → IsInSlot pool worker slot packet →
+        desk < length pool.shared.desks → slice_index_or pool.shared.desks desk None ≡ None → (perform pool worker (Offer slot desk)).0 ≡ Offered }
+    ensures left { (pool : Pool) (worker slot desk : ℕ) → let done = perform pool worker (Offer slot desk) in done.0 ≡ Offered →
+        (packet : List Seg) × IsInSlot pool worker slot packet × IsOnDesk done.1 desk packet × (slice_index_or (worker_of done.1 worker).table slot None ≡ None) }
     ensures waits { (pool : Pool) (worker slot desk : ℕ) (packet : List Seg) (acts : List (ℕ × Act)) →
         IsInSlot pool worker slot packet → (perform pool worker (Offer slot desk)).0 ≡ Offered → All (λ done. done.1 ≢ Take desk) acts →
         IsOnDesk (after_acts acts (perform pool worker (Offer slot desk)).1) desk packet }
     ensures taken { (pool : Pool) (worker slot desk taker free : ℕ) (packet : List Seg) (acts : List (ℕ × Act)) →
         IsInSlot pool worker slot packet → (perform pool worker (Offer slot desk)).0 ≡ Offered → All (λ done. done.1 ≢ Take desk) acts →
-        let later = after_acts acts (perform pool worker (Offer slot desk)).1 in let took = perform later taker (Take desk) in
-        IsWorker later taker → free_slot (worker_of later taker).table ≡ Some free →
-        (took.0 ≡ Taken free (length packet) (pkt_len packet)) × IsInSlot took.1 taker free packet × (slice_index_or took.1.shared.desks desk None ≡ None) }
+        let later = after_acts acts (perform pool worker (Offer slot desk)).1 in IsWorker later taker → free_slot (worker_of later taker).table ≡ Some free →
+        WasGiven taker desk free packet later (perform later taker (Take desk)) }
+    ensures back { (pool : Pool) (worker slot desk taker free : ℕ) → let done = perform pool worker (Offer slot desk) in done.0 ≡ Offered →
+        IsWorker done.1 taker → free_slot (worker_of done.1 taker).table ≡ Some free → (perform done.1 taker (Take desk)).1.shared ≡ pool.shared }
+    ensures full { (pool : Pool) (worker slot desk taker : ℕ) (packet : List Seg) (acts : List (ℕ × Act)) →
+        IsInSlot pool worker slot packet → (perform pool worker (Offer slot desk)).0 ≡ Offered → All (λ done. done.1 ≢ Take desk) acts →
+        let later = after_acts acts (perform pool worker (Offer slot desk)).1 in IsWorker later taker → free_slot (worker_of later taker).table ≡ None →
+        perform later taker (Take desk) ≡ (Refused PacketsFull, later) }
+{}
+
+/// A packet stays on its desk, with the segments that it has, whatever any worker does, until it is taken off. An
+/// offer of another packet on this desk is refused `DeskTaken`, and nothing changes. A take off it, by a worker that
+/// has a free slot, gives the packet, into the lowest free slot, and empties the desk; the stack and the other desks
+/// stay as they are, and all else that the worker has.
+pub fn a_packet_stays_on_its_desk()
+    ensures stays { (pool : Pool) (worker desk : ℕ) (act : Act) (packet : List Seg) → act ≢ Take desk →
+        IsOnDesk pool desk packet → IsOnDesk (perform pool worker act).1 desk packet }
+    ensures refused { (pool : Pool) (worker slot desk : ℕ) (packet other : List Seg) → IsOnDesk pool desk packet → IsInSlot pool worker slot other →
+        perform pool worker (Offer slot desk) ≡ (Refused DeskTaken, pool) }
+    ensures taken { (pool : Pool) (taker desk free : ℕ) (packet : List Seg) → IsOnDesk pool desk packet → IsWorker pool taker →
+        free_slot (worker_of pool taker).table ≡ Some free → WasGiven taker desk free packet pool (perform pool taker (Take desk)) }
 {}
 
 /// An act that is refused changes nothing, unless it is a clone: the pool is as before. A clone that is refused, in a

@@ -1,15 +1,25 @@
--- An offer that is met went onto an empty desk, and the take empties it again.
-use Rattle.pool_model.proofs.DeskLemmas.{left_on_desk, offer-met, taken_again, taken_by_none}
+-- An offer that is met leaves the packet on the desk, where only a take off it writes.
+use Rattle.mbuf.specs.declared.acts.Act.TheVariants.{Offer}
+use Rattle.pool_model.specs.PacketModel.{after_acts, perform}
+use Rattle.pool_model.proofs.DeskWaits.{given_back, left_by_offer, offer_is_met, offered_waits, take_is_refused, taken_off}
 use Rattle.pool_model.proofs.laws.a_desk_gives_what_was_left_on_it.Goals as goal
 
 pub returns-clause-met : goal.returns-clause-met
-returns-clause-met c = offer-met
+returns-clause-met c = offer_is_met
 
 pub returns-clause-left : goal.returns-clause-left
-returns-clause-left c = left_on_desk
+returns-clause-left c = left_by_offer
+
+pub returns-clause-waits : goal.returns-clause-waits
+returns-clause-waits c = offered_waits
 
 pub returns-clause-taken : goal.returns-clause-taken
-returns-clause-taken c = taken_again
+returns-clause-taken c = λ pool worker slot desk taker free packet acts stands met none is empty.
+    taken_off (after_acts acts (perform pool worker (Offer slot desk)).1) taker desk free packet (offered_waits pool worker slot desk packet acts stands met none) is empty
+
+pub returns-clause-back : goal.returns-clause-back
+returns-clause-back c = given_back
 
 pub returns-clause-full : goal.returns-clause-full
-returns-clause-full c = taken_by_none
+returns-clause-full c = λ pool worker slot desk taker packet acts stands met none is full.
+    take_is_refused (after_acts acts (perform pool worker (Offer slot desk)).1) taker desk packet (offered_waits pool worker slot desk packet acts stands met none) is full
