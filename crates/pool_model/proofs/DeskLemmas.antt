@@ -1,5 +1,5 @@
 -- What an offer that is met leaves, and what the next take gives.
-use Rattle.std.proofs.Common.{ℕ, ◌≡◌, ◌<◌, nat_le, inl, inr, List, length, length-set, get_or, set, get_or-set_same, Option, Some, None, refl, sym, ◌∙◌, ap}
+use Rattle.std.proofs.Common.{ℕ, ◌≡◌, ◌<◌, nat_le, inl, inr, List, length, get_or, set, get_or-set_same, Option, Some, None, refl, sym, ◌∙◌, ap}
 use Rattle.std.proofs.lemmas.Bool.{cases_Bool, leb-false, lt-leb}
 use Rattle.std.proofs.lemmas.List.{set-set, set-get_or}
 use Rattle.commons.specs.declared.packet.Seg.{Seg}
@@ -56,9 +56,6 @@ pub take_off-full : (desk : ℕ) (taker : Member) (t : Shared) → desk < length
 take_off-full desk taker t here e = rw (lt-leb (length t.desks) desk here, e) refl
 
 -- the desk has the packet then
-desk_within : (packet : List Seg) (slot desk : ℕ) (m after : Member) (s t : Shared) → WentOnto packet slot desk m after s t → desk < length t.desks
-desk_within packet slot desk m after s t went = rw (went.there, length-set s.desks desk (Some packet)) went.within
-
 desk_has : (packet : List Seg) (slot desk : ℕ) (m after : Member) (s t : Shared) → WentOnto packet slot desk m after s t → get_or t.desks desk None ≡ Some packet
 desk_has packet slot desk m after s t went = rw went.there (get_or-set_same s.desks desk (Some packet) None went.within)
 
