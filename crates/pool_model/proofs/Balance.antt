@@ -78,7 +78,7 @@ with_member-balanced act pool n done b h left = record {
       let change : own_by (set pool.members n done.1) i + own_in (member_at pool n).table i ≡ own_by pool.members i + own_in done.1.table i = sum_by-set (λ (m : Member). own_in m.table i) pool.members n done.1 (nobody pool.limits) h in
       let part : bag (member_at pool n).cache i ≤ cached_by pool.members i = get_or-le-sum_by (λ (m : Member). bag m.cache i) pool.members n (nobody pool.limits) h in
       own_left (own_by (set pool.members n done.1) i + own_in done.2.desks i) (own_by pool.members i + own_in pool.shared.desks i) (bag (new_elements done.0) i) (held_of pool.members pool.shared.desks i) (bag (member_at pool n).cache i + bag pool.shared.common i)
-      (omega (arith, change, left.own i)) (b.own i) (omega (arith, own_by-held pool.members i, own_in-held pool.shared.desks i)) (left.given i) (omega (arith, part, at_most_one i pool.limits.population, b.placed i));
+      (omega (arith, change, left.own i)) (b.own i) (omega (arith, own_by-held pool.members i, own_in-held pool.shared.desks i)) (left.fresh i) (omega (arith, part, at_most_one i pool.limits.population, b.placed i));
 }
 
 perform-balanced : (pool : Pool) (w : ℕ) (act : Act) → IsBalanced pool → IsBalanced (perform pool w act).1
@@ -135,7 +135,7 @@ given_fresh pool w act b =
     (λ n done number within is left.
     let free : (i : ℕ) → 0 < bag (new_elements done.0) i → (i < pool.limits.population) × (bag (new_elements done.0) i ≤ 1) × (held_of pool.members pool.shared.desks i ≡ 0) = λ i some.
     let part : bag (member_at pool n).cache i ≤ cached_by pool.members i = get_or-le-sum_by (λ (m : Member). bag m.cache i) pool.members n (nobody pool.limits) within in
-    was_free (bag (new_elements done.0) i) (bag (member_at pool n).cache i + bag pool.shared.common i) (cached_by pool.members i - bag (member_at pool n).cache i) (held_of pool.members pool.shared.desks i) i pool.limits.population some (left.given i) (omega (arith, part, b.placed i)) in record {
+    was_free (bag (new_elements done.0) i) (bag (member_at pool n).cache i + bag pool.shared.common i) (cached_by pool.members i - bag (member_at pool n).cache i) (held_of pool.members pool.shared.desks i) i pool.limits.population some (left.fresh i) (omega (arith, part, b.placed i)) in record {
       below = λ i some. (free i some).0;
       once = λ i. elim (cases_lt 0 (bag (new_elements done.0) i)) [ inl some ↦ (free i some).1 | inr none ↦ omega (arith, none) ];
       unheld = λ i some. (free i some).2;

@@ -84,7 +84,7 @@ with_member-direct act pool n done b within left = record {
       let stays = links_stay (own_by others i) (based_by others i) (indirect_by others i) (by_others pool n i + held_in s.desks i + held_in m.table i)
       (own_in m.table i + own_in s.desks i) (based_in m.table i + based_in s.desks i) (indirect_in m.table i + indirect_in s.desks i) (based_in done.1.table i + based_in done.2.desks i) (indirect_in done.1.table i + indirect_in done.2.desks i)
       (omega (arith, by_others-add pool n i within, held_by-split pool.members i, held_split s.desks i, own, based.0)) (omega (arith, own, b.balanced.own i)) (indirect_by-own others i)
-      (omega (arith, indirect_in-own m.table i, indirect_in-own s.desks i)) (λ here. omega (arith, indirect.0, b.direct i (omega (arith, here, based.0)))) (left.linked i (near_once pool n i b.balanced within)) in
+      (omega (arith, indirect_in-own m.table i, indirect_in-own s.desks i)) (λ here. omega (arith, indirect.0, b.direct i (omega (arith, here, based.0)))) (left.links i (near_once pool n i b.balanced within)) in
       omega (arith, indirect.1, stays (omega (arith, some, based.1)));
 }
 

@@ -27,18 +27,18 @@ in_pool : (w n : ℕ) → 1 ≤ w → w ≤ n → (nat_le 1 w && nat_le w n) ≡
 in_pool w n l b = grind (arith, nat_tests)
 
 -- what a worker of the pool does
-performed : (pool : Pool) (w : ℕ) (act : Act) → IsWorker pool w → let done = act_on pool (w - 1) act in ◌≡◌ {A = Reply × Pool} (perform pool w act) (done.0, with_member pool (w - 1) done.1 done.2)
-performed pool w act is = rw (in_pool w (length pool.members) is.0 is.1) refl
+done_by_worker : (pool : Pool) (w : ℕ) (act : Act) → IsWorker pool w → let done = act_on pool (w - 1) act in ◌≡◌ {A = Reply × Pool} (perform pool w act) (done.0, with_member pool (w - 1) done.1 done.2)
+done_by_worker pool w act is = rw (in_pool w (length pool.members) is.0 is.1) refl
 
 -- an offer of the packet in a slot, on an empty desk of the pool
 pub offer_is_met : (pool : Pool) (worker slot desk : ℕ) (packet : List Seg) → IsInSlot pool worker slot packet → desk < length pool.shared.desks → get_or pool.shared.desks desk None ≡ None → (perform pool worker (Offer slot desk)).0 ≡ Offered
 offer_is_met pool worker slot desk packet stands within empty =
-    ap (λ (r : Reply × Pool). r.0) (performed pool worker (Offer slot desk) stands.0) ∙ offer-met slot desk packet (worker_of pool worker) pool.shared stands.1 within empty
+    ap (λ (r : Reply × Pool). r.0) (done_by_worker pool worker (Offer slot desk) stands.0) ∙ offer-met slot desk packet (worker_of pool worker) pool.shared stands.1 within empty
 
 -- an offer on a desk that has a packet
 pub offer_is_refused : (pool : Pool) (worker slot desk : ℕ) (packet other : List Seg) → IsOnDesk pool desk packet → IsInSlot pool worker slot other → ◌≡◌ {A = Reply × Pool} (perform pool worker (Offer slot desk)) (Refused DeskTaken, pool)
 offer_is_refused pool worker slot desk packet other lies stands =
-    performed pool worker (Offer slot desk) stands.0
+    done_by_worker pool worker (Offer slot desk) stands.0
     ∙ ap (λ (d : Reply × Member × Shared). let r : Reply × Pool = (d.0, with_member pool (worker - 1) d.1 d.2) in r) (offer-taken slot desk packet other (worker_of pool worker) pool.shared lies stands.1)
     ∙ ap (λ (p : Pool). let r : Reply × Pool = (Refused DeskTaken, p) in r) (with_member-same pool (worker - 1) (worker_of pool worker) pool.shared refl refl)
 
@@ -55,7 +55,7 @@ left_by_offer pool worker slot desk met =
     let worker_is = offering_worker pool worker slot desk met in
     let within : worker - 1 < length pool.members = omega (arith, worker_is.0, worker_is.1) in
     let done = offer slot desk m pool.shared in
-    let is = performed pool worker (Offer slot desk) worker_is in
+    let is = done_by_worker pool worker (Offer slot desk) worker_is in
     let told : done.0 ≡ Offered = sym (ap (λ (r : Reply × Pool). r.0) is) ∙ met in
     let left = left_on_desk slot desk m done.1 pool.shared done.2 (ap (λ (r : Reply). let d : Reply × Member × Shared = (r, done.1, done.2) in d) told) in (
       left.0,
@@ -90,14 +90,14 @@ taken_off pool taker desk free packet there is empty =
     let after : Member = record m { table = set m.table free (Some packet) } in
     let left : Shared = record pool.shared { desks = set pool.shared.desks desk None } in
     let whole : ◌≡◌ {A = Reply × Pool} (perform pool taker (Take desk)) (Taken free (length packet) (pkt_len packet), with_member pool n after left) =
-    performed pool taker (Take desk) is ∙ ap (λ (d : Reply × Member × Shared). let r : Reply × Pool = (d.0, with_member pool n d.1 d.2) in r) took in
+    done_by_worker pool taker (Take desk) is ∙ ap (λ (d : Reply × Member × Shared). let r : Reply × Pool = (d.0, with_member pool n d.1 d.2) in r) took in
     let workers : length (set pool.members n after) ≡ length pool.members = length-set pool.members n after in
     let here = get_or-set_same pool.members n after (nobody pool.limits) within in
     rw whole (record {
       reply = refl;
       stands = ((is.0, omega (arith, is.1, workers)), ap (λ (x : Member). get_or x.table free None) here ∙ get_or-set_same m.table free (Some packet) None slot.0);
-      emptied = get_or-set_same pool.shared.desks desk None None (stands_within pool.shared.desks desk packet there);
-      kept = here;
+      empty = get_or-set_same pool.shared.desks desk None None (stands_within pool.shared.desks desk packet there);
+      rest = here;
       shared = refl;
     })
 
@@ -105,7 +105,7 @@ taken_off pool taker desk free packet there is empty =
 pub given_back : (pool : Pool) (worker slot desk taker free : ℕ) → let done = perform pool worker (Offer slot desk) in done.0 ≡ Offered → IsWorker done.1 taker → free_slot (worker_of done.1 taker).table ≡ Some free → (perform done.1 taker (Take desk)).1.shared ≡ pool.shared
 given_back pool worker slot desk taker free met is empty =
     let m : Member = worker_of pool worker in
-    let offered = performed pool worker (Offer slot desk) (offering_worker pool worker slot desk met) in
+    let offered = done_by_worker pool worker (Offer slot desk) (offering_worker pool worker slot desk met) in
     let done = offer slot desk m pool.shared in
     let told : done.0 ≡ Offered = sym (ap (λ (r : Reply × Pool). r.0) offered) ∙ met in
     let left = left_by_offer pool worker slot desk met in
@@ -116,6 +116,6 @@ given_back pool worker slot desk taker free met is empty =
 -- a worker with no free slot is refused
 pub take_is_refused : (pool : Pool) (taker desk : ℕ) (packet : List Seg) → IsOnDesk pool desk packet → IsWorker pool taker → free_slot (worker_of pool taker).table ≡ None → ◌≡◌ {A = Reply × Pool} (perform pool taker (Take desk)) (Refused PacketsFull, pool)
 take_is_refused pool taker desk packet there is full =
-    performed pool taker (Take desk) is
+    done_by_worker pool taker (Take desk) is
     ∙ ap (λ (d : Reply × Member × Shared). let r : Reply × Pool = (d.0, with_member pool (taker - 1) d.1 d.2) in r) (take_off-full desk (worker_of pool taker) pool.shared (stands_within pool.shared.desks desk packet there) full)
     ∙ ap (λ (p : Pool). let r : Reply × Pool = (Refused PacketsFull, p) in r) (with_member-same pool (taker - 1) (worker_of pool taker) pool.shared refl refl)

@@ -24,12 +24,12 @@ offer_onto-leaves others None segs slot desk m s e here there = record {
       let onto = rw e at (held_in-set s.desks desk (Some segs) i here) in
       let left = rw there at (held_in-set m.table slot None i (stands_within m.table slot segs there)) in
       omega (arith, onto, left, bag-nil i);
-  given = λ i. omega (arith, bag-nil i);
+  fresh = λ i. omega (arith, bag-nil i);
   own = λ i.
       let onto = rw e at (own_in-set s.desks desk (Some segs) i here) in
       let left = rw there at (own_in-set m.table slot None i (stands_within m.table slot segs there)) in
       omega (arith, onto, left, bag-nil i);
-  linked = λ i few. Fewer
+  links = λ i few. Fewer
       (let onto = rw e at (based_in-set s.desks desk (Some segs) i here) in
       let left = rw there at (based_in-set m.table slot None i (stands_within m.table slot segs there)) in
       omega (arith, onto, left))
@@ -56,12 +56,12 @@ take_from-leaves others (Some segs) slot desk m s e here within free = record {
       let off = rw e at (held_in-set s.desks desk None i here) in
       let into = rw free at (held_in-set m.table slot (Some segs) i within) in
       omega (arith, off, into, bag-nil i);
-  given = λ i. omega (arith, bag-nil i);
+  fresh = λ i. omega (arith, bag-nil i);
   own = λ i.
       let off = rw e at (own_in-set s.desks desk None i here) in
       let into = rw free at (own_in-set m.table slot (Some segs) i within) in
       omega (arith, off, into, bag-nil i);
-  linked = λ i few. Fewer
+  links = λ i few. Fewer
       (let off = rw e at (based_in-set s.desks desk None i here) in
       let into = rw free at (based_in-set m.table slot (Some segs) i within) in
       omega (arith, off, into))

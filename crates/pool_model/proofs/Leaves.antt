@@ -27,9 +27,9 @@ pub record Keeps (outside : ℕ → ℕ) (m : Member) (s : Shared) (done : Reply
   pub slots : length done.1.table ≡ length m.table
   pub desks : done.2.desks ≡ s.desks
   pub placed : (i : ℕ) → near (outside i) m s i ≤ 1 → near (outside i) done.1 done.2 i ≡ near (outside i) m s i
-  pub given : (i : ℕ) → bag (new_elements done.0) i ≤ bag m.cache i + bag s.common i
+  pub fresh : (i : ℕ) → bag (new_elements done.0) i ≤ bag m.cache i + bag s.common i
   pub own : (i : ℕ) → own_in done.1.table i ≤ own_in m.table i + bag (new_elements done.0) i
-  pub linked : (i : ℕ) → near (outside i) m s i ≤ 1 → LinksAfter (outside i + held_in m.table i) (own_in m.table i) (based_in m.table i) (indirect_in m.table i) (based_in done.1.table i) (indirect_in done.1.table i)
+  pub links : (i : ℕ) → near (outside i) m s i ≤ 1 → LinksAfter (outside i + held_in m.table i) (own_in m.table i) (based_in m.table i) (indirect_in m.table i) (based_in done.1.table i) (indirect_in done.1.table i)
 
 -- a reply that tells of no new element
 pub none_given : (reply : Reply) (i n : ℕ) → new_elements reply ≡ [] → bag (new_elements reply) i ≤ n
@@ -42,9 +42,9 @@ nothing_keeps outside m s reply none = record {
   slots = refl;
   desks = refl;
   placed = λ i few. refl;
-  given = λ i. none_given reply i _ none;
+  fresh = λ i. none_given reply i _ none;
   own = λ i. omega arith;
-  linked = λ i few. Fewer (omega arith) (omega arith);
+  links = λ i few. Fewer (omega arith) (omega arith);
 }
 
 -- elements move between the cache and the common list
@@ -55,9 +55,9 @@ cache_keeps outside m s t reply cache none desks moved = record {
   slots = refl;
   desks = desks;
   placed = λ i few. omega (arith, moved i);
-  given = λ i. none_given reply i _ none;
+  fresh = λ i. none_given reply i _ none;
   own = λ i. omega arith;
-  linked = λ i few. Fewer (omega arith) (omega arith);
+  links = λ i few. Fewer (omega arith) (omega arith);
 }
 
 -- a packet or nothing comes into a slot, in the place of what stood there
@@ -70,14 +70,14 @@ pub set_keeps : (outside : ℕ → ℕ) (m : Member) (s t : Shared) (reply : Rep
     indirect_in (set m.table slot new) i + indirect_slot old i ≡ indirect_in m.table i + indirect_slot new i →
     LinksAfter (outside i + held_in m.table i) (own_in m.table i) (based_in m.table i) (indirect_in m.table i) (based_in (set m.table slot new) i) (indirect_in (set m.table slot new) i)) →
     Keeps outside m s (reply, record m { cache = cache; table = set m.table slot new }, t)
-set_keeps outside m s t reply slot old new cache there within desks placed given own linked = record {
+set_keeps outside m s t reply slot old new cache there within desks placed fresh own links = record {
   number = refl;
   slots = length-set m.table slot new;
   desks = desks;
   placed = λ i few. placed i few (rw there at (held_in-set m.table slot new i within));
-  given = given;
+  fresh = fresh;
   own = λ i. let change = rw there at (own_in-set m.table slot new i within) in omega (arith, change, own i);
-  linked = λ i few. linked i few (rw there at (based_in-set m.table slot new i within)) (rw there at (indirect_in-set m.table slot new i within));
+  links = λ i few. links i few (rw there at (based_in-set m.table slot new i within)) (rw there at (indirect_in-set m.table slot new i within));
 }
 
 -- what becomes of the desks: they stay, or an offer puts a packet onto its own, which is empty, or a take empties its own
@@ -99,9 +99,9 @@ pub record Leaves (act : Act) (others : ℕ → ℕ) (m : Member) (s : Shared) (
   pub slots : length done.1.table ≡ length m.table
   pub desks : DesksAfter act s.desks done.2.desks
   pub placed : (i : ℕ) → near_desks (others i) m s i ≤ 1 → near_desks (others i) done.1 done.2 i ≡ near_desks (others i) m s i
-  pub given : (i : ℕ) → bag (new_elements done.0) i ≤ bag m.cache i + bag s.common i
+  pub fresh : (i : ℕ) → bag (new_elements done.0) i ≤ bag m.cache i + bag s.common i
   pub own : (i : ℕ) → own_in done.1.table i + own_in done.2.desks i ≤ own_in m.table i + own_in s.desks i + bag (new_elements done.0) i
-  pub linked : (i : ℕ) → near_desks (others i) m s i ≤ 1 →
+  pub links : (i : ℕ) → near_desks (others i) m s i ≤ 1 →
       LinksAfter (others i + held_in s.desks i + held_in m.table i) (own_in m.table i + own_in s.desks i) (based_in m.table i + based_in s.desks i) (indirect_in m.table i + indirect_in s.desks i)
       (based_in done.1.table i + based_in done.2.desks i) (indirect_in done.1.table i + indirect_in done.2.desks i)
 
@@ -111,8 +111,8 @@ leaves_kept {others = others} {m = m} {s = s} {done = done} k = record {
   slots = k.slots;
   desks = Same k.desks;
   placed = λ i few. omega (arith, k.placed i few, ap (λ (desks : List (Option (List Seg))). held_in desks i) k.desks);
-  given = k.given;
+  fresh = k.fresh;
   own = λ i. omega (arith, k.own i, ap (λ (desks : List (Option (List Seg))). own_in desks i) k.desks);
-  linked = λ i few. rw k.desks (links_beside (others i + held_in s.desks i + held_in m.table i) (own_in m.table i) (based_in m.table i) (indirect_in m.table i) (based_in done.1.table i) (indirect_in done.1.table i)
-      (own_in s.desks i) (based_in s.desks i) (indirect_in s.desks i) (indirect_in-own s.desks i) (k.linked i few));
+  links = λ i few. rw k.desks (links_beside (others i + held_in s.desks i + held_in m.table i) (own_in m.table i) (based_in m.table i) (indirect_in m.table i) (based_in done.1.table i) (indirect_in done.1.table i)
+      (own_in s.desks i) (based_in s.desks i) (indirect_in s.desks i) (indirect_in-own s.desks i) (k.links i few));
 }

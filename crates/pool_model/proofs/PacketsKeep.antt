@@ -74,9 +74,9 @@ fill_slots-keeps outside n m s (Ok es, cache, t) room got =
       slots = length-stood m.limits es (take n (free_slots m.table)) m.table;
       desks = got.desks;
       placed = λ i few. rw (long, (holds_stood m.limits es m.table (omega (arith, room, long)) i).0) (omega (arith, few, got.moved i));
-      given = λ i. rw (long, bulk_elems m.limits es m.table (omega (arith, room, long))) (omega (arith, got.moved i));
+      fresh = λ i. rw (long, bulk_elems m.limits es m.table (omega (arith, room, long))) (omega (arith, got.moved i));
       own = λ i. rw (long, bulk_elems m.limits es m.table (omega (arith, room, long)), (holds_stood m.limits es m.table (omega (arith, room, long)) i).1) (omega arith);
-      linked = λ i few. rw long (let same = stood_links m.limits es m.table (omega (arith, room, long)) i in Fewer (omega (arith, same.0)) (omega (arith, same.1)));
+      links = λ i few. rw long (let same = stood_links m.limits es m.table (omega (arith, room, long)) i in Fewer (omega (arith, same.0)) (omega (arith, same.1)));
     }
 fill_slots-keeps outside n m s (Err cause, cache, t) room got = cache_keeps outside m s t _ cache refl got.desks (λ i. omega (arith, got.moved i))
 
@@ -133,9 +133,9 @@ chain_in-keeps outside (Some first) (Some second) head tail m s e f = elim (case
           slots = length-set (set m.table head (Some (first ++ second))) tail None ∙ length-set m.table head (Some (first ++ second));
           desks = refl;
           placed = λ i one. omega (arith, kept.held i);
-          given = λ i. let told = get_or (set (set m.table head (Some (first ++ second))) tail None) head None in none_given (told_both told) i _ (new-told_both told);
+          fresh = λ i. let told = get_or (set (set m.table head (Some (first ++ second))) tail None) head None in none_given (told_both told) i _ (new-told_both told);
           own = λ i. omega (arith, kept.own i);
-          linked = λ i one. Fewer
+          links = λ i one. Fewer
               (omega (arith, kept.held i, kept.own i, held_split m.table i, held_split (set (set m.table head (Some (first ++ second))) tail None) i))
               (omega (arith, chain_indirect m.table head tail first second i (stands_within m.table head first e) (stands_within m.table tail second f) (eqb-false head tail apart) e f));
         })

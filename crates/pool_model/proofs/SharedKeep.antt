@@ -138,9 +138,9 @@ clone_to-keeps outside (Err cause, cache, t) held slot m s free all after bases 
   slots = refl;
   desks = after.1;
   placed = λ i few. omega (arith, after.0 i few, all i);
-  given = λ i. omega (arith, bag-nil i);
+  fresh = λ i. omega (arith, bag-nil i);
   own = λ i. omega arith;
-  linked = λ i few. Fewer (omega arith) (omega arith);
+  links = λ i few. Fewer (omega arith) (omega arith);
 }
 
 -- what is to be cloned stands there

@@ -34,8 +34,8 @@ pub data IsOfAPacket (pool : Pool) (seg : Seg) : Type 0 where
 pub record WasGiven (taker desk slot : ℕ) (packet : List Seg) (before : Pool) (done : Reply × Pool) : Type 0 where
   pub reply : done.0 ≡ Taken slot (length packet) (pkt_len packet)
   pub stands : IsInSlot done.1 taker slot packet
-  pub emptied : slice_index_or done.1.shared.desks desk None ≡ None
-  pub kept : worker_of done.1 taker ≡ record (worker_of before taker) { table = slice_set (worker_of before taker).table slot (Some packet) }
+  pub empty : slice_index_or done.1.shared.desks desk None ≡ None
+  pub rest : worker_of done.1 taker ≡ record (worker_of before taker) { table = slice_set (worker_of before taker).table slot (Some packet) }
   pub shared : done.1.shared ≡ record before.shared { desks = slice_set before.shared.desks desk None }
 
 -- A clone was given up: the limits, the desks and all of every worker but this one's cache are as before, and its
