@@ -1,14 +1,17 @@
 -- What the calls' answers say: why each was refused, and what one that was met moved.
-use Rattle.std.proofs.Common.{length-take, add-one, ◌≡◌, ◌≢◌, Option, Some, None, ℕ, ◌+◌, ◌-◌, ◌<◌, ◌≤◌, List, [], ◌∷◌, ◌++◌, length, reverse, Result, Ok, Err, OnOk, refl, sym, ap, arith}
+use Rattle.std.proofs.Common.{length-take, add-one, ◌≡◌, ◌≢◌, Option, Some, None, ℕ, ◌+◌, ◌-◌, ◌<◌, ◌≤◌, List, [], ◌∷◌, ◌++◌, length, reverse, Result, Ok, Err, OnOk, ◌==◌, true, refl, sym, ap, arith}
 use Rattle.std.specs.List.{range_with_len}
 use Rattle.std.proofs.lemmas.List.{reverse-append}
 use Rattle.std.proofs.lemmas.Option.{none-some}
+use Rattle.std.proofs.lemmas.Bool.Decides.{nat_tests}
 use Rattle.commons.specs.declared.packet.Seg.{Seg}
 use Rattle.commons.specs.declared.refusal.Refusal.{Refusal}
 use Rattle.commons.specs.declared.refusal.Refusal.TheVariants.{NoEntries, Contended, HeadSpent, DeskTaken, DeskEmpty, NoSuchDesk}
+use Rattle.commons.specs.declared.refusal.Lowered.{Lowered}
+use Rattle.commons.specs.declared.refusal.Lowered.TheVariants.{Last, Still}
 use Rattle.commons.specs.Bag.{bag}
-use Rattle.commons.specs.Calls.{Length, Head, Desk, GetList, PutList, Offer, Take, HasCause, with_list}
-use Rattle.commons.specs.Lists.{Lists, IsTable, DidGet, DidPut, DidOffer, DidTake, hand_of, desk_of, desk_word, read_by}
+use Rattle.commons.specs.Calls.{Length, Head, Count, Desk, GetList, PutList, Lower, Offer, Take, HasCause, last_count, with_list}
+use Rattle.commons.specs.Lists.{Lists, IsTable, DidGet, DidPut, DidLower, DidOffer, DidTake, place_of, held_count, hand_of, desk_of, desk_word, read_by}
 use Rattle.commons.proofs.Tables.{hand_get, hand_put}
 
 -- what a get read is the cause of its refusal
@@ -42,6 +45,15 @@ down_one xs count i l h =
     let a : count - (i + 1) ≡ count - 1 - i = omega arith in
     let b : count - 1 - i + 1 ≡ count - i = omega arith in
     rw (reverse-append, h, a, add-one) (rw b refl)
+
+-- the last count of an element is the only one that was read
+pub last_count-one : (i n : ℕ) → last_count i (Count i n ∷ []) ≡ Some n
+last_count-one i n = let e : i == i ≡ true = grind (arith, nat_tests) in rw e refl
+
+-- what a lower read is the cause of its answer
+pub cause_lower : (s : Lists) (w i : ℕ) (answer : Lowered) (t : Lists) → DidLower w s i answer t → HasCause s.limits (Lower i answer) (read_by s (Lower i answer))
+cause_lower s w i Last t d = rw d.1.0 (last_count-one i 1)
+cause_lower s w i Still t d = (held_count (place_of s i), d.1.0, last_count-one i (held_count (place_of s i)))
 
 -- a desk that isn't empty has another word than an empty one
 other_word : (x : Option (List Seg)) → x ≢ None → desk_word x ≢ 0

@@ -10,7 +10,7 @@ use Rattle.commons.specs.inside.Site.{HasEnded}
 use Rattle.commons.proofs.Bags.{bag-nil}
 use Rattle.commons.proofs.PacketBags.{held_in-set, own_in-set, own_held, own_below}
 use Rattle.commons.proofs.Places.{zero_or_more, apart_or_same, length-placed, placed-out, placed-in, counted_in, stands}
-use Rattle.commons.proofs.Holds.{owner-same, owner-other, owner_left-other, owner_left-le}
+use Rattle.commons.proofs.Holds.{owner-same, owner-other, owner_left-other, owner_left-le, owner_left-worker, IsWorker, owned_at, owned_by_all}
 use Rattle.commons.proofs.Single.{owner_kept}
 use Rattle.commons.proofs.Tables.{row_below}
 use Rattle.commons.proofs.EndedRows.{chosen_none, chosen_some}
@@ -63,10 +63,11 @@ module _ (s : Lists) (w d : ℕ) (new : Option (List Seg)) (row : List ℕ) (hea
   -- what passes between a worker and a desk leaves a table
   pub table_passed : length row ≡ length (get_or s.holds (w - 1) []) → length headers ≡ length s.headers →
       ((i : ℕ) → get_or row i 0 + held_in (set s.desks d new) i ≡ holds_of s w i + held_in s.desks i) →
+      ((i : ℕ) → IsWorker s.limits.workers (get_or headers i None)) →
       ((v i : ℕ) → 1 ≤ v → 0 < is_owner v (get_or headers i None) → 0 < holds_of (passed w d new row headers s) v i) →
       ((i : ℕ) → owners (get_or headers i None) + own_in (set s.desks d new) i ≤ 1) →
       IsTable (passed w d new row headers s)
-  table_passed len wide sum held apart = record {
+  table_passed len wide sum owned held apart = record {
     pool = t.pool;
     elements = t.elements;
     shown = t.shown;
@@ -76,6 +77,7 @@ module _ (s : Lists) (w d : ℕ) (new : Option (List Seg)) (row : List ℕ) (hea
     counted = λ i. omega (arith, t.counted i, all_passed i, sum i);
     limited = t.limited;
     header_places = wide ∙ t.header_places;
+    owned = owned_by_all s.limits.workers headers owned;
     headers_held = held;
     headers_apart = apart;
     desks = length-set s.desks d new ∙ t.desks;
@@ -137,7 +139,7 @@ module _ (s : Lists) (w d : ℕ) (packet : List Seg) (row : List ℕ) (headers :
   others_offered = record {
     hands = λ v i e. refl;
     holds = λ v i k e. holds_passed_other s w d (Some packet) row (placed (own_of_packet packet) None headers) t l b v i k e;
-    headers = λ v i k e. elim (zero_or_more (bag (own_of_packet packet) i)) [
+    headers = λ v i e. elim (zero_or_more (bag (own_of_packet packet) i)) [
       | inl z ↦ rw (not_own i z) (owner_left-other v w (get_or row i 0) (get_or s.headers i None) e)
       | inr p ↦ rw (is_own i p, was_owner i p) (sym (owner-other v w e))
     ];
@@ -156,11 +158,15 @@ module _ (s : Lists) (w d : ℕ) (packet : List Seg) (row : List ℕ) (headers :
   table_offered =
       table_passed s w d (Some packet) row (placed (own_of_packet packet) None headers) t l b ended.len (length-placed (own_of_packet packet) None headers ∙ ended.headers_len)
       (λ i. omega (arith, desk_holds i, ended.holds i))
+      (λ i. elim (zero_or_more (bag (own_of_packet packet) i)) [
+        | inl z ↦ rw (not_own i z) (owner_left-worker s.limits.workers w (get_or row i 0) (get_or s.headers i None) (owned_at s t i))
+        | inr p ↦ rw (is_own i p) tt
+      ])
       (λ v i k o. elim (apart_or_same w v) [
         | inl e ↦
             let o' = rw e at o in
             rw e (still_held (holds_of offered w i) (header_of s w i - bag (own_of_packet packet) i) (omega (arith, o', less_offered.headers i)))
-        | inr e ↦ omega (arith, o, others_offered.headers v i k e, others_offered.holds v i k e, t.headers_held v i k)
+        | inr e ↦ omega (arith, o, others_offered.headers v i e, others_offered.holds v i k e, t.headers_held v i k)
       ])
       (λ i. elim (zero_or_more (bag (own_of_packet packet) i)) [
         | inl z ↦ rw (not_own i z) (omega (arith, owner_left-le w (get_or row i 0) (get_or s.headers i None), desk_owns i, z, t.headers_apart i))
@@ -219,7 +225,7 @@ module _ (s : Lists) (w d : ℕ) (packet : List Seg) (row : List ℕ) (t : IsTab
   others_taken = record {
     hands = λ v i e. refl;
     holds = λ v i k e. holds_passed_other s w d None row (placed (own_of_packet packet) (Some w) s.headers) t l b v i k e;
-    headers = λ v i k e. elim (zero_or_more (bag (own_of_packet packet) i)) [
+    headers = λ v i e. elim (zero_or_more (bag (own_of_packet packet) i)) [
       | inl z ↦ rw (not_own_taken i z) refl
       | inr p ↦ rw (is_own_taken i p) (omega (arith, owner-other v w e, is_owner-le v (get_or s.headers i None), t.headers_apart i, owned_on_desk s d packet t here full i, p))
     ];
@@ -229,6 +235,10 @@ module _ (s : Lists) (w d : ℕ) (packet : List Seg) (row : List ℕ) (t : IsTab
   table_taken =
       table_passed s w d None row (placed (own_of_packet packet) (Some w) s.headers) t l b len (length-placed (own_of_packet packet) (Some w) s.headers)
       (λ i. omega (arith, from_desk s d packet t here full i, sum i))
+      (λ i. elim (zero_or_more (bag (own_of_packet packet) i)) [
+        | inl z ↦ rw (not_own_taken i z) (owned_at s t i)
+        | inr p ↦ rw (is_own_taken i p) (l, b)
+      ])
       (λ v i k o. elim (apart_or_same w v) [
         | inl e ↦
             let o' = rw e at o in
@@ -236,7 +246,7 @@ module _ (s : Lists) (w d : ℕ) (packet : List Seg) (row : List ℕ) (t : IsTab
               | inl z ↦ omega (arith, more_taken.holds i, t.headers_held w i l (omega (arith, o', more_taken.headers i, z)))
               | inr p ↦ omega (arith, p, more_taken.holds i, own_held packet i)
             ])
-        | inr e ↦ omega (arith, o, others_taken.headers v i k e, others_taken.holds v i k e, t.headers_held v i k)
+        | inr e ↦ omega (arith, o, others_taken.headers v i e, others_taken.holds v i k e, t.headers_held v i k)
       ])
       (λ i. elim (zero_or_more (bag (own_of_packet packet) i)) [
         | inl z ↦ rw (not_own_taken i z) (omega (arith, owned_on_desk s d packet t here full i, z, t.headers_apart i))

@@ -3,8 +3,10 @@ use Rattle.std.proofs.Common.{ℕ, zero, suc, ◌≡◌, ◌≢◌, ◌+◌, ◌
 use Rattle.std.specs.Prelude.{sum_by}
 use Rattle.std.proofs.lemmas.List.Sums.{sum_by-set}
 use Rattle.std.proofs.lemmas.Bool.Decides.{nat_tests}
-use Rattle.commons.specs.Lists.{is_owner, owners, disowned, owner_left}
+use Rattle.std.proofs.lemmas.Option.{none-some}
+use Rattle.commons.specs.Lists.{Lists, IsTable, is_owner, owners, disowned, owner_left}
 use Rattle.commons.proofs.Places.{apart_or_same}
+use Rattle.commons.proofs.Sames.{some-is}
 
 -- a row holds an element at most as often as all rows do
 pub hold_le : (holds : List (List ℕ)) (k i : ℕ) → k < length holds → get_or (get_or holds k []) i 0 ≤ sum_by (λ row. get_or row i 0) holds
@@ -83,6 +85,41 @@ owner_left-le w (suc left) owner = omega arith
 
 pub owner_is : (v w : ℕ) → 0 < is_owner v (Some w) → w ≡ v
 owner_is v w h = grind (arith, nat_tests)
+
+-- who owns a header is a worker of a pool of so many
+abbrev pub IsWorker : ℕ → Option ℕ → Type 0
+IsWorker workers None = Unit {0}
+IsWorker workers (Some v) = (1 ≤ v) × (v ≤ workers)
+
+worker_of : (workers : ℕ) (owner : Option ℕ) → ((w : ℕ) → owner ≡ Some w → (1 ≤ w) × (w ≤ workers)) → IsWorker workers owner
+worker_of workers None h = tt
+worker_of workers (Some v) h = h v refl
+
+worker_is : (workers w : ℕ) (owner : Option ℕ) → IsWorker workers owner → owner ≡ Some w → (1 ≤ w) × (w ≤ workers)
+worker_is workers w None h e = absurd (none-some w e)
+worker_is workers w (Some v) h e = let f : v ≡ w = some-is v w e in (omega (arith, h.0), omega (arith, h.1))
+
+-- each owner is a worker of the pool, by the table, and for it
+pub owned_at : (s : Lists) → IsTable s → (i : ℕ) → IsWorker s.limits.workers (get_or s.headers i None)
+owned_at s t i = worker_of s.limits.workers (get_or s.headers i None) (λ w e. t.owned w i e)
+
+pub owned_by_all : (workers : ℕ) (headers : List (Option ℕ)) → ((i : ℕ) → IsWorker workers (get_or headers i None)) → (w i : ℕ) → get_or headers i None ≡ Some w → (1 ≤ w) × (w ≤ workers)
+owned_by_all workers headers h w i e = worker_is workers w (get_or headers i None) (h i) e
+
+-- an owner that is left is the one that was
+disown_worker : (b : Bool) (workers u : ℕ) → IsWorker workers (Some u) → IsWorker workers (cond b None (Some u))
+disown_worker true workers u h = tt
+disown_worker false workers u h = h
+
+pub owner_left-worker : (workers w left : ℕ) (owner : Option ℕ) → IsWorker workers owner → IsWorker workers (owner_left w left owner)
+owner_left-worker workers w zero None h = tt
+owner_left-worker workers w zero (Some u) h = disown_worker (u == w) workers u h
+owner_left-worker workers w (suc left) owner h = h
+
+-- a worker whose header it is, is numbered from 1
+pub owner_low : (workers v : ℕ) (owner : Option ℕ) → IsWorker workers owner → 0 < is_owner v owner → 1 ≤ v
+owner_low workers v None h p = absurd (omega arith)
+owner_low workers v (Some u) h p = let e : u ≡ v = owner_is v u p in omega (arith, h.0)
 
 pub owner-same : (w : ℕ) → is_owner w (Some w) ≡ 1
 owner-same w = grind (arith, nat_tests)

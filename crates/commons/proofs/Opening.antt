@@ -10,6 +10,7 @@ use Rattle.commons.specs.declared.place.Place.TheVariants.{Common}
 use Rattle.commons.specs.Bag.{bag}
 use Rattle.commons.specs.Bounds.{IsPool}
 use Rattle.commons.specs.Lists.{IsTable, opening, nowhere, in_hand, is_owner, owners}
+use Rattle.commons.proofs.Holds.{IsWorker, owned_by_all}
 use Rattle.commons.specs.declared.packet.Seg.{Seg}
 use Rattle.commons.proofs.PacketBags.{held_in-empty, own_in-empty}
 use Rattle.commons.proofs.Bags.{bag-nil, bag-cons, one-same}
@@ -42,6 +43,9 @@ zeros n i = elim (cases_lt i n) [ inl l ↦ get_or-replicate n i 0 0 l | inr l �
 nobody : (n w i : ℕ) → is_owner w (get_or (replicate n None) i None) ≡ 0
 nobody n w i = elim (cases_lt i n) [ inl l ↦ rw (get_or-replicate {A = Option ℕ} n i None None l) refl | inr l ↦ rw (copies_past {X = Option ℕ} n None None i l) refl ]
 
+none_owned : (workers n i : ℕ) → IsWorker workers (get_or (replicate n None) i None)
+none_owned workers n i = elim (cases_lt i n) [ inl l ↦ rw (get_or-replicate {A = Option ℕ} n i None None l) tt | inr l ↦ rw (copies_past {X = Option ℕ} n None None i l) tt ]
+
 no_owner : (n i : ℕ) → owners (get_or (replicate n None) i None) ≡ 0
 no_owner n i = elim (cases_lt i n) [ inl l ↦ rw (get_or-replicate {A = Option ℕ} n i None None l) refl | inr l ↦ rw (copies_past {X = Option ℕ} n None None i l) refl ]
 
@@ -71,6 +75,7 @@ table_opening l p = record {
     | inr b ↦ rw (copies_past l.population Common nowhere i b) (omega arith)
   ];
   header_places = length-replicate {A = Option ℕ} l.population None;
+  owned = owned_by_all l.workers (replicate l.population None) (none_owned l.workers l.population);
   headers_held = λ w i b h. absurd (omega (arith, nobody l.population w i));
   headers_apart = λ i. omega (arith, no_owner l.population i, own_in-empty l.desks i);
   desks = length-replicate {A = Option (List Seg)} l.desks None;

@@ -12,13 +12,13 @@ abbrev pub DidAt : PlainCommons → Call → List Reading → PlainCommons → T
 DidAt s call rs t = (t.site.ghost_name ≡ s.site.ghost_name) × (t.worker ≡ s.worker) × DidOnLists s.worker s.site.now call rs t.site.now
 
 pub KeepsOthers-refl : (w : ℕ) (s : Lists) → KeepsOthers w s s
-KeepsOthers-refl w s = record { hands = λ v i e. refl; holds = λ v i l e. refl; headers = λ v i l e. refl }
+KeepsOthers-refl w s = record { hands = λ v i e. refl; holds = λ v i l e. refl; headers = λ v i e. refl }
 
 pub KeepsOthers-trans : (w : ℕ) (s t u : Lists) → KeepsOthers w s t → KeepsOthers w t u → KeepsOthers w s u
 KeepsOthers-trans w s t u a b = record {
   hands = λ v i e. b.hands v i e ∙ a.hands v i e;
   holds = λ v i l e. b.holds v i l e ∙ a.holds v i l e;
-  headers = λ v i l e. b.headers v i l e ∙ a.headers v i l e;
+  headers = λ v i e. b.headers v i e ∙ a.headers v i e;
 }
 
 abbrev pub limits_at : PlainCommons → Limits

@@ -38,7 +38,7 @@ module _ (s : Lists) (w i : ℕ) (t : IsTable s) (l : 1 ≤ w) (b : w ≤ s.limi
   others_raise = record {
     hands = λ v j e. hand_raise v j;
     holds = λ v j k e. hold_of_other s.holds w i (holds_of s w i + 1) v j l k e;
-    headers = λ v j k e. refl;
+    headers = λ v j e. refl;
   }
 
   pub holds_raise : (j : ℕ) → holds_of (after_raise w i s) w j ≡ holds_of s w j + one i j
@@ -80,6 +80,7 @@ module _ (s : Lists) (w i : ℕ) (t : IsTable s) (l : 1 ≤ w) (b : w ≤ s.limi
     header_places = t.header_places;
     headers_apart = t.headers_apart;
     desks = t.desks;
+    owned = t.owned;
     headers_held = λ v j m o. omega (arith, t.headers_held v j m o, no_fewer v j m);
     changed = t.changed;
   }

@@ -12,7 +12,7 @@ use Rattle.commons.specs.Calls.{back}
 use Rattle.commons.specs.Lists.{Lists, IsTable, KeepsOthers, WasLowered, nowhere, place_of, in_common, in_hand, held_count, weight, hand_of, holds_of, holds_of_all, header_of, is_owner, owner_left, after_claim, after_lower}
 use Rattle.commons.proofs.Bags.{one-same}
 use Rattle.commons.proofs.Places.{zero_or_more, apart_or_same, one-apart, in_hand-same, in_hand-other, is_hand, weight-hand, stands_in_hand, counted_in, held_only}
-use Rattle.commons.proofs.Holds.{hold_le, sum-elsewhere, sum-there, length-row, row-there, row-elsewhere, owner_left-other, owner_left-le, disowned-same, owner-same, owner-other}
+use Rattle.commons.proofs.Holds.{hold_le, sum-elsewhere, sum-there, length-row, row-there, row-elsewhere, owner_left-other, owner_left-le, disowned-same, owner-same, owner-other, owner_low, owner_left-worker, owned_at, owned_by_all}
 use Rattle.commons.proofs.Tables.{row_below, not_held, hold_elsewhere, hold_of_other}
 
 -- what a worker holds is in all holds
@@ -24,11 +24,11 @@ hold_in_all s w i t h =
     ]
 
 -- who is in a hand is nobody's header
-no_header : (s : Lists) (w v i : ℕ) → IsTable s → 1 ≤ v → 0 < hand_of s w i → header_of s v i ≡ 0
-no_header s w v i t l h =
+no_header : (s : Lists) (w v i : ℕ) → IsTable s → 0 < hand_of s w i → header_of s v i ≡ 0
+no_header s w v i t h =
     elim (zero_or_more (header_of s v i)) [
       | inl z ↦ z
-      | inr p ↦ absurd (omega (arith, hold_in_all s v i t (t.headers_held v i l p), not_held s w i t h))
+      | inr p ↦ absurd (omega (arith, hold_in_all s v i t (t.headers_held v i (owner_low s.limits.workers v (get_or s.headers i None) (owned_at s t i) p) p), not_held s w i t h))
     ]
 
 pub others_claim : (s : Lists) (w i : ℕ) → IsTable s → 1 ≤ w → w ≤ s.limits.workers → 0 < hand_of s w i → KeepsOthers w s (after_claim w i s)
@@ -40,8 +40,8 @@ others_claim s w i t l b p =
         | inr f ↦ rw (get_or-set_other s.places i j (Held 1) nowhere f) refl
       ];
       holds = λ v j k e. hold_of_other s.holds w i 1 v j l k e;
-      headers = λ v j k e. elim (apart_or_same i j) [
-        | inl f ↦ rw (f, get_or-set_same s.headers i (Some w) None heads) (owner-other v w e ∙ sym (no_header s w v i t k p))
+      headers = λ v j e. elim (apart_or_same i j) [
+        | inl f ↦ rw (f, get_or-set_same s.headers i (Some w) None heads) (owner-other v w e ∙ sym (no_header s w v i t p))
         | inr f ↦ rw (get_or-set_other s.headers i j (Some w) None f) refl
       ];
     }
@@ -67,7 +67,7 @@ pub headers_claim : (s : Lists) (w i : ℕ) → IsTable s → 1 ≤ w → 0 < ha
 headers_claim s w i t l p j =
     let heads : i < length s.headers = omega (arith, t.header_places, t.elements, stands_in_hand s.places w i p) in
     elim (apart_or_same i j) [
-      | inl e ↦ rw (e, get_or-set_same s.headers i (Some w) None heads, no_header s w w i t l p, one-same i) (owner-same w)
+      | inl e ↦ rw (e, get_or-set_same s.headers i (Some w) None heads, no_header s w w i t p, one-same i) (owner-same w)
       | inr e ↦ rw (get_or-set_other s.headers i j (Some w) None e, one-apart i j e) (omega arith)
     ]
 
@@ -138,7 +138,7 @@ module _ (s : Lists) (w i : ℕ) (q : Place) (answer : Lowered) (t : IsTable s) 
       | inr f ↦ rw (get_or-set_other s.places i j q nowhere f) refl
     ];
     holds = λ v j k e. hold_of_other s.holds w i (holds_of s w i - 1) v j l k e;
-    headers = λ v j k e. elim (apart_or_same i j) [
+    headers = λ v j e. elim (apart_or_same i j) [
       | inl f ↦ rw (f, get_or-set_same s.headers i (owner_left w (holds_of s w i - 1) (get_or s.headers i None)) None in_headers) (owner_left-other v w (holds_of s w i - 1) (get_or s.headers i None) e)
       | inr f ↦ rw (get_or-set_other s.headers i j (owner_left w (holds_of s w i - 1) (get_or s.headers i None)) None f) refl
     ];
@@ -168,6 +168,11 @@ module _ (s : Lists) (w i : ℕ) (q : Place) (answer : Lowered) (t : IsTable s) 
       | inr e ↦ rw (get_or-set_other s.places i j q nowhere e) (t.limited j)
     ];
     header_places = length-set s.headers i (owner_left w (holds_of s w i - 1) (get_or s.headers i None)) ∙ t.header_places;
+    owned = owned_by_all s.limits.workers (set s.headers i (owner_left w (holds_of s w i - 1) (get_or s.headers i None))) (λ j. elim (apart_or_same i j) [
+      | inl e ↦ rw (e, get_or-set_same s.headers i (owner_left w (holds_of s w i - 1) (get_or s.headers i None)) None in_headers)
+          (owner_left-worker s.limits.workers w (holds_of s w i - 1) (get_or s.headers i None) (owned_at s t i))
+      | inr e ↦ rw (get_or-set_other s.headers i j (owner_left w (holds_of s w i - 1) (get_or s.headers i None)) None e) (owned_at s t j)
+    ]);
     headers_held = λ v j m o. elim (apart_or_same i j) [
       | inl e ↦
           let f = rw (e, get_or-set_same s.headers i (owner_left w (holds_of s w i - 1) (get_or s.headers i None)) None in_headers) at o in

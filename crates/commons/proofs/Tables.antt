@@ -12,7 +12,7 @@ use Rattle.commons.specs.Packets.{held_in}
 use Rattle.commons.proofs.PacketBags.{own_in-held}
 use Rattle.commons.proofs.Bags.{bag-nil, bag-cons, bag-take-drop, bag-append, bag-reverse, bag-head, length-le}
 use Rattle.commons.proofs.Places.{zero_or_more, apart_or_same, length-placed, placed-out, placed-in, in_common-le, in_hand-same, in_hand-other, is_common, is_hand, weight-hand, stands_in_common, stands_in_hand}
-use Rattle.commons.proofs.Holds.{hold_le, sum-elsewhere, sum-there, length-row, row-there, row-elsewhere, row-other, owner_is}
+use Rattle.commons.proofs.Holds.{hold_le, sum-elsewhere, sum-there, length-row, row-there, row-elsewhere, row-other, owner_is, owned_at, owned_by_all}
 
 -- at another element each row is as it was
 pub hold_elsewhere : (holds : List (List ℕ)) (w i n v j : ℕ) → w - 1 < length holds → 1 ≤ v → j ≢ i →
@@ -61,6 +61,7 @@ table_moved s common places changes old new t len a b w c each = record {
     | inr h ↦ rw h.1 (omega (arith, b))
   ];
   header_places = t.header_places;
+  owned = t.owned;
   headers_held = t.headers_held;
   headers_apart = t.headers_apart;
   desks = t.desks;
@@ -80,7 +81,7 @@ others_moved s common places changes old new w same each = record {
     | inr e ↦ rw (e.0, e.1) (sym (same v h))
   ];
   holds = λ v i l h. refl;
-  headers = λ v i l h. refl;
+  headers = λ v i h. refl;
 }
 
 -- a get moves elements from the common list into a hand
@@ -234,6 +235,10 @@ table_claim s w i t l h p =
         | inr e ↦ rw (get_or-set_other s.places i j (Held 1) nowhere e) (t.limited j)
       ];
       header_places = length-set s.headers i (Some w) ∙ t.header_places;
+      owned = owned_by_all s.limits.workers (set s.headers i (Some w)) (λ j. elim (apart_or_same i j) [
+        | inl e ↦ rw (e, get_or-set_same s.headers i (Some w) None heads) (l, h)
+        | inr e ↦ rw (get_or-set_other s.headers i j (Some w) None e) (owned_at s t j)
+      ]);
       headers_held = λ v j b q. elim (apart_or_same i j) [
         | inl e ↦
             let f = rw (e, get_or-set_same s.headers i (Some w) None heads) at q in

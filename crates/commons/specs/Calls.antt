@@ -1,5 +1,5 @@
 -- The calls of a shared pool, what each read, and what of it is the cause of its answer.
-use Rattle.std.specs.Prelude.{ℕ, ◌≡◌, ◌≢◌, ◌<◌, ◌≤◌, List, [], ◌∷◌, length, Bool, true, false, count_by, map, Any, Contains, Result, Ok, Err}
+use Rattle.std.specs.Prelude.{ℕ, ◌≡◌, ◌≢◌, ◌<◌, ◌≤◌, List, [], ◌∷◌, length, Bool, true, false, count_by, map, Any, Contains, Result, Ok, Err, Option, Some, None, ◌==◌, cond}
 use Rattle.commons.specs.Bag.{one}
 use Rattle.commons.specs.declared.limits.Limits.{Limits}
 use Rattle.commons.specs.declared.packet.Seg.{Seg}
@@ -51,13 +51,23 @@ IsLengthBelow n (Count _ _) = ⊥
 IsLengthBelow n (Desk _ _) = ⊥
 IsLengthBelow n Lost = ⊥
 
--- a count of the element was read that shows another hold
-abbrev pub IsCountAboveOne : ℕ → Reading → Type 0
-IsCountAboveOne i (Length _) = ⊥
-IsCountAboveOne i (Head _) = ⊥
-IsCountAboveOne i (Count j value) = (j ≡ i) × (1 < value)
-IsCountAboveOne i (Desk _ _) = ⊥
-IsCountAboveOne i Lost = ⊥
+-- the count of the element that was read, where it is one
+abbrev pub count_in : ℕ → Reading → Option ℕ
+count_in i (Length _) = None
+count_in i (Head _) = None
+count_in i (Count j value) = cond (j == i) (Some value) None
+count_in i (Desk _ _) = None
+count_in i Lost = None
+
+-- the later of two values, where there are some
+abbrev pub later : Option ℕ → Option ℕ → Option ℕ
+later first None = first
+later first (Some n) = Some n
+
+-- the last count of the element that was read
+abbrev pub last_count : ℕ → List Reading → Option ℕ
+last_count i [] = None
+last_count i (r ∷ rs) = later (count_in i r) (last_count i rs)
 
 -- a count of the element below this limit was read
 abbrev pub IsCountBelow : ℕ → ℕ → Reading → Type 0
@@ -130,8 +140,8 @@ HasCause l (Claim i) rs = Unit {0}
 HasCause l (CountOf i n) rs = Contains rs (Count i n)
 HasCause l (Raise i (Ok _)) rs = Any (IsCountBelow i l.ref_limit) rs
 HasCause l (Raise i (Err e)) rs = IsRaiseCause l i e rs
-HasCause l (Lower i Last) rs = Contains rs (Count i 1)
-HasCause l (Lower i Still) rs = Any (IsCountAboveOne i) rs
+HasCause l (Lower i Last) rs = last_count i rs ≡ Some 1
+HasCause l (Lower i Still) rs = (n : ℕ) × (1 < n) × (last_count i rs ≡ Some n)
 HasCause l (Offer d p (Ok _)) rs = (d < l.desks) × Contains rs (Desk d desk_empty)
 HasCause l (Offer d p (Err e)) rs = IsOfferCause l d e rs
 HasCause l (Take d (Ok p)) rs = (d < l.desks) × Contains rs (Desk d desk_full)

@@ -86,8 +86,8 @@ desk_of s d = slice_index_or s.desks d None
 
 -- Each element has one place, and the lists show it: it stands in the common list once where that is its place
 -- and else not at all, it is in the hand that its place names, and its count is the number of its holds, by the
--- workers and by the packets on desks, at most the reference limit. What is a worker's header is held by that worker
--- and is nobody else's header and no own element of a packet on a desk; those are distinct.
+-- workers and by the packets on desks, at most the reference limit. What is a header is a worker's of the pool who holds
+-- it, nobody else's header, and no own element of a packet on a desk; those are distinct.
 pub record IsTable (s : Lists) : Type 0 where
   pub pool : IsPool s.limits
   pub elements : length s.places ≡ s.limits.population
@@ -98,6 +98,7 @@ pub record IsTable (s : Lists) : Type 0 where
   pub counted : (i : ℕ) → held_count (place_of s i) ≡ holds_of_all s i + held_in s.desks i
   pub limited : (i : ℕ) → held_count (place_of s i) ≤ s.limits.ref_limit
   pub header_places : length s.headers ≡ s.limits.population
+  pub owned : (w i : ℕ) → slice_index_or s.headers i None ≡ Some w → (1 ≤ w) × (w ≤ s.limits.workers)
   pub headers_held : (w i : ℕ) → 1 ≤ w → 0 < header_of s w i → 0 < holds_of s w i
   pub headers_apart : (i : ℕ) → owners (slice_index_or s.headers i None) + own_in s.desks i ≤ 1
   pub desks : length s.desks ≡ s.limits.desks
@@ -253,7 +254,7 @@ read_by s (CommonCount n) = Length (length s.common) ∷ []
 pub record KeepsOthers (w : ℕ) (s t : Lists) : Type 0 where
   pub hands : (v i : ℕ) → v ≢ w → hand_of t v i ≡ hand_of s v i
   pub holds : (v i : ℕ) → 1 ≤ v → v ≢ w → holds_of t v i ≡ holds_of s v i
-  pub headers : (v i : ℕ) → 1 ≤ v → v ≢ w → header_of t v i ≡ header_of s v i
+  pub headers : (v i : ℕ) → v ≢ w → header_of t v i ≡ header_of s v i
 
 -- a worker's call on the lists: what it did, what it read, and that table and others are kept
 pub record DidOnLists (w : ℕ) (s : Lists) (call : Call) (rs : List Reading) (t : Lists) : Type 0 where

@@ -79,11 +79,13 @@ impl<'a> Commons for PlainCommons<'a> {
         self.site.common_count()
     }
 
-    ghost use Rattle.commons.specs.inside.ListLaws.{hand_once_lem, hand_below_lem, apart_lem, header_once_lem, header_held_lem};
+    ghost use Rattle.commons.specs.inside.ListLaws.{hand_once_lem, hand_below_lem, holds_below_lem, apart_lem, header_once_lem, header_held_lem};
 
     ghost hand_once = { λ c i. hand_once_lem c.site.now c.worker i };
 
     ghost hand_below = { λ c i h. hand_below_lem c.site.now c.worker i c.table h };
+
+    ghost holds_below = { λ c i h. holds_below_lem c.site.now c.worker i c.table h };
 
     ghost apart = { λ c i h. apart_lem c.site.now c.worker i c.table h };
 

@@ -105,6 +105,7 @@ pub trait Commons {
 
     /// Ends one hold that this worker has of an element. `Last` where it was the only one: the
     /// element is then in the hand, with count 1. `Still` where another hold was left at that step.
+    /// The last count of the element that was read is 1 at `Last`, and above 1 at `Still`.
     ///
     /// After rte_mbuf.h, `rte_pktmbuf_prefree_seg` (DPDK 21.11).
     fn lower(&mut self, element: u32) -> Lowered
@@ -170,6 +171,9 @@ pub trait Commons {
     ghost hand_once: { (c : Self) (i : ℕ) → hand c i ≤ 1 };
 
     ghost hand_below: { (c : Self) (i : ℕ) → (limits c).population ≤ i → hand c i ≡ 0 };
+
+    /// None from the population on is held.
+    ghost holds_below: { (c : Self) (i : ℕ) → (limits c).population ≤ i → holds c i ≡ 0 };
 
     /// What the worker holds isn't in its hand.
     ghost apart: { (c : Self) (i : ℕ) → 0 < holds c i → hand c i ≡ 0 };

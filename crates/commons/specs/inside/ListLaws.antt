@@ -24,6 +24,14 @@ hand_once_lem s w i = in_hand-le w (place_of s i)
 pub hand_below_lem : (s : Lists) (w i : ℕ) → IsTable s → s.limits.population ≤ i → hand_of s w i ≡ 0
 hand_below_lem s w i t h = rw (get_or_past s.places i nowhere (omega (arith, t.elements))) refl
 
+-- and none from there on is held
+pub holds_below_lem : (s : Lists) (w i : ℕ) → IsTable s → s.limits.population ≤ i → holds_of s w i ≡ 0
+holds_below_lem s w i t h =
+    elim (cases_lt (w - 1) (length s.holds)) [
+      | inl l ↦ get_or_past (get_or s.holds (w - 1) []) i 0 (omega (arith, t.rows (w - 1) (omega (arith, t.workers))))
+      | inr l ↦ rw (get_or_past s.holds (w - 1) [] l) refl
+    ]
+
 -- what a worker holds has the place of a held element, and is in no hand
 hold_counts : (s : Lists) (w i : ℕ) → IsTable s → 0 < holds_of s w i → 0 < held_count (place_of s i)
 hold_counts s w i t h =
