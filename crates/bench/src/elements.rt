@@ -65,8 +65,8 @@ fn worker_runs<R: Clock, C: Commons>(
     rounds: u64,
     runs: u64,
 ) -> Result<u64, Failure>
-    requires limits { C.limits c.old ≡ worker.old.limits }
-    requires cached { (i : ℕ) → bag worker.old.cache i ≤ C.hand c.old i }
+    requires limits { (C.side c.old).limits ≡ worker.old.limits }
+    requires cached { (i : ℕ) → bag worker.old.cache i ≤ (C.side c.old).hand i }
 {
     let mut least = u64::MAX;
     for _run in 0..runs {
@@ -80,10 +80,10 @@ fn worker_runs<R: Clock, C: Commons>(
 }
 
 fn get_and_put<C: Commons>(worker: &mut Worker, c: &mut C, list: &mut [u32])
-    requires limits { C.limits c.old ≡ worker.old.limits }
-    requires cached { (i : ℕ) → bag worker.old.cache i ≤ C.hand c.old i }
-    ensures limits { C.limits c.new ≡ worker.new.limits }
-    ensures cached { (i : ℕ) → bag worker.new.cache i ≤ C.hand c.new i }
+    requires limits { (C.side c.old).limits ≡ worker.old.limits }
+    requires cached { (i : ℕ) → bag worker.old.cache i ≤ (C.side c.old).hand i }
+    ensures limits { (C.side c.new).limits ≡ worker.new.limits }
+    ensures cached { (i : ℕ) → bag worker.new.cache i ≤ (C.side c.new).hand i }
 {
     if worker.get_bulk(c, list).is_ok() {
         let _put = worker.put_bulk(c, list);

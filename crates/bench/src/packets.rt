@@ -86,8 +86,8 @@ fn in_pool<R: Clock + AllocGlobal>(
 
 // Makes a first packet of so many segments.
 fn make_first<C: Commons>(packets: &mut Packets, c: &mut C, segs: u32)
-    requires own { Own packets.old (C.limits c.old) (C.hand c.old) (C.holds c.old) (C.headers c.old) }
-    ensures own { Own packets.new (C.limits c.new) (C.hand c.new) (C.holds c.new) (C.headers c.new) }
+    requires own { Own packets.old (C.side c.old) }
+    ensures own { Own packets.new (C.side c.new) }
 {
     if packets.alloc(c).is_err() {
         return;
@@ -108,7 +108,7 @@ fn least_of<R: Clock, C: Commons>(
     rounds: u64,
     runs: u64,
 ) -> Result<u64, Failure>
-    requires own { Own packets.old (C.limits c.old) (C.hand c.old) (C.holds c.old) (C.headers c.old) }
+    requires own { Own packets.old (C.side c.old) }
 {
     let mut least = u64::MAX;
     for _run in 0..runs {
@@ -122,8 +122,8 @@ fn least_of<R: Clock, C: Commons>(
 }
 
 fn once<C: Commons>(packets: &mut Packets, c: &mut C, round: Round)
-    requires own { Own packets.old (C.limits c.old) (C.hand c.old) (C.holds c.old) (C.headers c.old) }
-    ensures own { Own packets.new (C.limits c.new) (C.hand c.new) (C.holds c.new) (C.headers c.new) }
+    requires own { Own packets.old (C.side c.old) }
+    ensures own { Own packets.new (C.side c.new) }
 {
     match round {
         Round::Alloc => {
@@ -146,8 +146,8 @@ fn once<C: Commons>(packets: &mut Packets, c: &mut C, round: Round)
 }
 
 fn bulk<C: Commons>(packets: &mut Packets, c: &mut C)
-    requires own { Own packets.old (C.limits c.old) (C.hand c.old) (C.holds c.old) (C.headers c.old) }
-    ensures own { Own packets.new (C.limits c.new) (C.hand c.new) (C.holds c.new) (C.headers c.new) }
+    requires own { Own packets.old (C.side c.old) }
+    ensures own { Own packets.new (C.side c.new) }
 {
     let mut slots = [0; 32];
     if packets.alloc_bulk(c, &mut slots).is_ok() {

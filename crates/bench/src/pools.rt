@@ -1,6 +1,6 @@
 //! The pools that are measured.
 ghost use Rattle.std.specs.Prelude.{◌≡◌, [], None, replicate};
-ghost use Rattle.commons.specs.Lists.{opening, hand_of, holds_of, header_of};
+ghost use Rattle.commons.specs.Lists.{opening, side_of};
 ghost use Rattle.mbuf.specs.Members.{slots};
 ghost use Rattle.mbuf.specs.Own.{Own};
 
@@ -27,5 +27,5 @@ pub fn begin(c: &PlainCommons, packets: &Packets)
     requires site { c.now.site.now ≡ opening packets.now.limits }
     requires cache { packets.now.cache ≡ [] }
     requires table { packets.now.table ≡ replicate slots None }
-    ensures own { Own packets.now c.now.site.now.limits (λ i. hand_of c.now.site.now c.now.worker i) (λ i. holds_of c.now.site.now c.now.worker i) (λ i. header_of c.now.site.now c.now.worker i) }
+    ensures own { Own packets.now (side_of c.now.site.now c.now.worker) }
 {}

@@ -1,6 +1,7 @@
 pub mod Answers
 pub mod Bags
 pub mod DeskTables
+pub mod Effects
 pub mod EndedRows
 pub mod Holds
 pub mod Leading

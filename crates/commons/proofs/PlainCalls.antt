@@ -1,10 +1,9 @@
 -- The calls of a body over any shared pool, at the lists of one worker.
 use Rattle.std.proofs.Common.{ℕ, ◌≡◌, List, [], ◌∷◌, ◌++◌, Ok, Err, refl, sym, ◌∙◌, ap, subst}
 use Rattle.commons.specs.declared.plain.PlainCommons.{PlainCommons}
-use Rattle.commons.specs.declared.limits.Limits.{Limits}
 use Rattle.commons.specs.declared.refusal.Refusal.TheVariants.{NoEntries, HeadSpent, RefSpent, DeskTaken, DeskEmpty, NoSuchDesk}
-use Rattle.commons.specs.Calls.{Call, GetList, PutList, Claim, CountOf, Raise, Lower, Offer, Take, CommonCount, Reading, Made, Leads, calls_of}
-use Rattle.commons.specs.Lists.{Lists, IsTable, KeepsOthers, DidPlain, DidOnLists}
+use Rattle.commons.specs.Calls.{Call, GetList, PutList, Claim, CountOf, Raise, Lower, Offer, Take, CommonCount, Reading, Made, Leads, Side, calls_of}
+use Rattle.commons.specs.Lists.{Lists, IsTable, KeepsOthers, DidPlain, DidOnLists, side_of}
 use Rattle.commons.specs.PlainCalls.{LeadsPlain}
 
 -- what the trait's relation is at the lists
@@ -21,8 +20,8 @@ KeepsOthers-trans w s t u a b = record {
   headers = λ v i e. b.headers v i e ∙ a.headers v i e;
 }
 
-abbrev pub limits_at : PlainCommons → Limits
-limits_at c = c.site.now.limits
+abbrev pub side_at : PlainCommons → Side
+side_at c = side_of c.site.now c.worker
 
 -- what a body's calls do to the lists
 pub record Plainly (s : PlainCommons) (calls : List Call) (t : PlainCommons) : Type 0 where
@@ -31,7 +30,7 @@ pub record Plainly (s : PlainCommons) (calls : List Call) (t : PlainCommons) : T
   pub led : LeadsPlain s.worker s.site.now calls t.site.now
   pub others : KeepsOthers s.worker s.site.now t.site.now
 
-pub plainly : (s : PlainCommons) (made : List Made) (t : PlainCommons) → Leads DidAt limits_at s made t → Plainly s (calls_of made) t
+pub plainly : (s : PlainCommons) (made : List Made) (t : PlainCommons) → Leads DidAt side_at s made t → Plainly s (calls_of made) t
 plainly s [] t h = record {
   same = ap (λ (x : PlainCommons). x.site.ghost_name) (sym h);
   worker = ap (λ (x : PlainCommons). x.worker) (sym h);
@@ -39,12 +38,12 @@ plainly s [] t h = record {
   others = subst (λ (x : PlainCommons). KeepsOthers s.worker s.site.now x.site.now) h (KeepsOthers-refl s.worker s.site.now);
 }
 plainly s (m ∷ made) t h =
-    let rest = plainly h.0 made t h.3 in
+    let rest = plainly h.0 made t h.2 in
     record {
-      same = rest.same ∙ h.1.0;
-      worker = rest.worker ∙ h.1.1;
-      led = (h.0.site.now, h.1.2.did, h.1.2.before, h.1.2.after, subst (λ w. LeadsPlain w h.0.site.now (calls_of made) t.site.now) h.1.1 rest.led);
-      others = KeepsOthers-trans s.worker s.site.now h.0.site.now t.site.now h.1.2.others (subst (λ w. KeepsOthers w h.0.site.now t.site.now) h.1.1 rest.others);
+      same = rest.same ∙ h.1.led.0;
+      worker = rest.worker ∙ h.1.led.1;
+      led = (h.0.site.now, h.1.led.2.did, h.1.led.2.before, h.1.led.2.after, subst (λ w. LeadsPlain w h.0.site.now (calls_of made) t.site.now) h.1.led.1 rest.led);
+      others = KeepsOthers-trans s.worker s.site.now h.0.site.now t.site.now h.1.led.2.others (subst (λ w. KeepsOthers w h.0.site.now t.site.now) h.1.led.1 rest.others);
     }
 
 -- what leads on leads through some state

@@ -1,6 +1,7 @@
 -- The calls of a shared pool, what each read, and what of it is the cause of its answer.
-use Rattle.std.specs.Prelude.{ℕ, ◌≡◌, ◌≢◌, ◌<◌, ◌≤◌, List, [], ◌∷◌, length, Bool, true, false, count_by, map, Any, Contains, Result, Ok, Err, Option, Some, None, ◌==◌, cond}
-use Rattle.commons.specs.Bag.{one}
+use Rattle.std.specs.Prelude.{ℕ, ◌≡◌, ◌≢◌, ◌+◌, ◌-◌, ◌<◌, ◌≤◌, nat_lt, if◌then◌else◌, List, [], ◌∷◌, length, Bool, true, false, count_by, map, Any, Contains, Result, Ok, Err, Option, Some, None, ◌==◌, cond}
+use Rattle.commons.specs.Bag.{bag, one}
+use Rattle.commons.specs.Packets.{holds_of_packet, own_of_packet}
 use Rattle.commons.specs.declared.limits.Limits.{Limits}
 use Rattle.commons.specs.declared.packet.Seg.{Seg}
 use Rattle.commons.specs.declared.refusal.Refusal.{Refusal}
@@ -148,11 +149,100 @@ HasCause l (Take d (Ok p)) rs = (d < l.desks) × Contains rs (Desk d desk_full)
 HasCause l (Take d (Err e)) rs = IsTakeCause l d e rs
 HasCause l (CommonCount n) rs = Contains rs (Length n)
 
--- the shared pool did this call, and what it read is a cause of its answer
-pub record Did {S : Type 0} (did : S → Call → List Reading → S → Type 0) (limits : S → Limits) (before : S) (call : Call) (after : S) : Type 0 where
-  pub readings : List Reading
+-- what a worker has of a pool, as contracts see it
+pub record Side : Type 0 where
+  -- the pool's limits
+  pub limits : Limits
+  -- how often each element is in the worker's hand: once or never
+  pub hand : ℕ → ℕ
+  -- how often the worker holds each element
+  pub holds : ℕ → ℕ
+  -- which elements are headers of the worker's own packets: once or never
+  pub headers : ℕ → ℕ
+
+-- these elements come into the hand
+pub record IsGet (xs : List ℕ) (before after : Side) : Type 0 where
+  pub limits : after.limits ≡ before.limits
+  pub hand : (i : ℕ) → after.hand i ≡ before.hand i + bag xs i
+  pub holds : after.holds ≡ before.holds
+  pub headers : after.headers ≡ before.headers
+
+-- these elements leave the hand
+pub record IsPut (xs : List ℕ) (before after : Side) : Type 0 where
+  pub limits : after.limits ≡ before.limits
+  pub hand : (i : ℕ) → before.hand i ≡ after.hand i + bag xs i
+  pub holds : after.holds ≡ before.holds
+  pub headers : after.headers ≡ before.headers
+
+-- an element of the hand is held once, as a header
+pub record IsClaim (e : ℕ) (before after : Side) : Type 0 where
+  pub limits : after.limits ≡ before.limits
+  pub hand : (i : ℕ) → before.hand i ≡ after.hand i + one e i
+  pub holds : (i : ℕ) → after.holds i ≡ before.holds i + one e i
+  pub headers : (i : ℕ) → after.headers i ≡ before.headers i + one e i
+
+-- an element is held once more
+pub record IsRaise (e : ℕ) (before after : Side) : Type 0 where
+  pub limits : after.limits ≡ before.limits
+  pub hand : (i : ℕ) → after.hand i ≡ before.hand i
+  pub holds : (i : ℕ) → after.holds i ≡ before.holds i + one e i
+  pub headers : after.headers ≡ before.headers
+
+-- what comes back into the hand where a count was lowered
+abbrev pub back : Lowered → ℕ → ℕ → ℕ
+back Last i j = one i j
+back Still i j = 0
+
+-- An element is held once less, and is in the hand where that was the last hold of all. A header is one until the
+-- worker's last hold of it ends.
+pub record IsLower (e : ℕ) (answer : Lowered) (before after : Side) : Type 0 where
+  pub limits : after.limits ≡ before.limits
+  pub hand : (i : ℕ) → after.hand i ≡ before.hand i + back answer e i
+  pub holds : (i : ℕ) → before.holds i ≡ after.holds i + one e i
+  pub headers : (i : ℕ) → after.headers i ≡ (if nat_lt 0 (after.holds i) then before.headers i else 0)
+
+-- A packet goes with its holds; its own elements are headers no more, nor is what the worker then doesn't hold.
+pub record IsOffer (packet : List Seg) (before after : Side) : Type 0 where
+  pub limits : after.limits ≡ before.limits
+  pub hand : after.hand ≡ before.hand
+  pub holds : (i : ℕ) → before.holds i ≡ after.holds i + bag (holds_of_packet packet) i
+  pub headers : (i : ℕ) → after.headers i ≡ (if nat_lt 0 (after.holds i) then before.headers i - bag (own_of_packet packet) i else 0)
+
+-- a packet comes with its holds, and its own elements as headers
+pub record IsTake (packet : List Seg) (before after : Side) : Type 0 where
+  pub limits : after.limits ≡ before.limits
+  pub hand : after.hand ≡ before.hand
+  pub holds : (i : ℕ) → after.holds i ≡ before.holds i + bag (holds_of_packet packet) i
+  pub headers : (i : ℕ) → after.headers i ≡ before.headers i + bag (own_of_packet packet) i
+
+-- What the call does to the worker's side, by its answer; a call that is refused, or only reads, does nothing to it.
+abbrev pub HasEffect : Call → Side → Side → Type 0
+HasEffect (GetList n (Ok xs)) before after = IsGet xs before after
+HasEffect (GetList n (Err e)) before after = after ≡ before
+HasEffect (PutList list (Ok _)) before after = IsPut list before after
+HasEffect (PutList list (Err e)) before after = after ≡ before
+HasEffect (Claim i) before after = IsClaim i before after
+HasEffect (CountOf i n) before after = after ≡ before
+HasEffect (Raise i (Ok _)) before after = IsRaise i before after
+HasEffect (Raise i (Err e)) before after = after ≡ before
+HasEffect (Lower i answer) before after = IsLower i answer before after
+HasEffect (Offer d p (Ok _)) before after = IsOffer p before after
+HasEffect (Offer d p (Err e)) before after = after ≡ before
+HasEffect (Take d (Ok p)) before after = IsTake p before after
+HasEffect (Take d (Err e)) before after = after ≡ before
+HasEffect (CommonCount n) before after = after ≡ before
+
+-- One step: the call was made, read this, and led from the first state to the second; what it read is a cause of its
+-- answer, and the worker's side has its effect.
+pub record Step {S : Type 0} (did : S → Call → List Reading → S → Type 0) (side : S → Side) (before : S) (call : Call) (readings : List Reading) (after : S) : Type 0 where
   pub led : did before call readings after
-  pub cause : HasCause (limits before) call readings
+  pub cause : HasCause (side before).limits call readings
+  pub effect : HasEffect call (side before) (side after)
+
+-- the shared pool did this call, in a step that read something
+pub record Did {S : Type 0} (did : S → Call → List Reading → S → Type 0) (side : S → Side) (before : S) (call : Call) (after : S) : Type 0 where
+  pub readings : List Reading
+  pub step : Step did side before call readings after
 
 -- a call that was made, and what it read
 pub record Made : Type 0 where
@@ -163,12 +253,7 @@ pub record Made : Type 0 where
 abbrev pub calls_of : List Made → List Call
 calls_of made = map (λ m. m.call) made
 
--- the calls lead from one state to the other, in order, and no other call was made
-abbrev pub Leads : {S : Type 0} → (S → Call → List Reading → S → Type 0) → (S → Limits) → S → List Made → S → Type 0
-Leads did limits before [] after = before ≡ after
-Leads {S} did limits before (m ∷ made) after = (between : S) × did before m.call m.readings between × HasCause (limits before) m.call m.readings × Leads did limits between made after
-
--- what comes back into the hand where a count was lowered
-abbrev pub back : Lowered → ℕ → ℕ → ℕ
-back Last i j = one i j
-back Still i j = 0
+-- the calls lead from one state to the other, a step each, in order, and no other call was made
+abbrev pub Leads : {S : Type 0} → (S → Call → List Reading → S → Type 0) → (S → Side) → S → List Made → S → Type 0
+Leads did side before [] after = before ≡ after
+Leads {S} did side before (m ∷ made) after = (between : S) × Step did side before m.call m.readings between × Leads did side between made after

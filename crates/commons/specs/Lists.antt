@@ -11,7 +11,7 @@ use Rattle.commons.specs.declared.refusal.Lowered.{Lowered}
 use Rattle.commons.specs.declared.refusal.Lowered.TheVariants.{Last, Still}
 use Rattle.commons.specs.Bag.{bag}
 use Rattle.commons.specs.Bounds.{IsPool}
-use Rattle.commons.specs.Calls.{Reading, Length, Head, Count, Desk, Call, GetList, PutList, CommonCount, Claim, CountOf, Raise, Lower, Offer, Take, spent, desk_empty, desk_full}
+use Rattle.commons.specs.Calls.{Reading, Length, Head, Count, Desk, Call, GetList, PutList, CommonCount, Claim, CountOf, Raise, Lower, Offer, Take, Side, spent, desk_empty, desk_full}
 use Rattle.commons.specs.Packets.{held_in, own_in, holds_of_packet, own_of_packet}
 
 -- the common list from the top; the place of each element; for each worker how often it holds each element;
@@ -74,6 +74,10 @@ is_owner w (Some v) = cond (v == w) 1 0
 
 abbrev pub header_of : Lists → ℕ → ℕ → ℕ
 header_of s w i = is_owner w (slice_index_or s.headers i None)
+
+-- what a worker has of the pool
+abbrev pub side_of : Lists → ℕ → Side
+side_of s w = record { limits = s.limits; hand = λ i. hand_of s w i; holds = λ i. holds_of s w i; headers = λ i. header_of s w i }
 
 -- how many workers' header it is
 abbrev pub owners : Option ℕ → ℕ

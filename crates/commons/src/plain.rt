@@ -1,7 +1,7 @@
 ghost use Rattle.std.specs.Prelude.{◌≡◌, ◌<◌, ◌≤◌, ◌+◌, ℕ, List, length};
 ghost use Rattle.commons.specs.Bag.{bag, one};
-ghost use Rattle.commons.specs.Calls.{Reading, Call, GetList, PutList, Claim, CountOf, Raise, Lower, Offer, Take, CommonCount, with_list, Did};
-ghost use Rattle.commons.specs.Lists.{Lists, IsTable, hand_of, holds_of, header_of, DidOnLists};
+ghost use Rattle.commons.specs.Calls.{Reading, Call, GetList, PutList, Claim, CountOf, Raise, Lower, Offer, Take, CommonCount, with_list, Did, Side};
+ghost use Rattle.commons.specs.Lists.{Lists, IsTable, side_of, DidOnLists};
 
 use crate::packet::Packet;
 use crate::refusal::{Lowered, Refusal};
@@ -33,13 +33,7 @@ impl<'a> PlainCommons<'a> {
 }
 
 impl<'a> Commons for PlainCommons<'a> {
-    ghost limits = { λ c. c.site.now.limits };
-
-    ghost hand = { λ c i. hand_of c.site.now c.worker i };
-
-    ghost holds = { λ c i. holds_of c.site.now c.worker i };
-
-    ghost headers = { λ c i. header_of c.site.now c.worker i };
+    ghost side = { λ c. side_of c.site.now c.worker };
 
     ghost did = { λ s call rs t. (t.site.ghost_name ≡ s.site.ghost_name) × (t.worker ≡ s.worker) × DidOnLists s.worker s.site.now call rs t.site.now };
 

@@ -1,8 +1,7 @@
-ghost use Rattle.std.specs.Prelude.{◌≡◌, ◌<◌, ◌≤◌, ◌+◌, ◌-◌, ℕ, List, length, IfOk, IfErr, OnOk, OnErr, nat_lt, if◌then◌else◌};
+ghost use Rattle.std.specs.Prelude.{◌≡◌, ◌<◌, ◌≤◌, ◌+◌, ℕ, List, length, IfOk, IfErr};
 ghost use Rattle.commons.specs.Bag.{bag, one};
-ghost use Rattle.commons.specs.Calls.{Reading, Call, GetList, PutList, Claim, CountOf, Raise, Lower, Offer, Take, CommonCount, with_list, without_packet, Did, back};
+ghost use Rattle.commons.specs.Calls.{Reading, Call, GetList, PutList, Claim, CountOf, Raise, Lower, Offer, Take, CommonCount, with_list, without_packet, Did, Side};
 ghost use Rattle.commons.specs.Packets.{holds_of_packet, own_of_packet};
-ghost use Rattle.commons.specs.declared.limits.Limits.{Limits};
 
 use crate::packet::Packet;
 use crate::refusal::{Lowered, Refusal};
@@ -10,17 +9,8 @@ use crate::refusal::{Lowered, Refusal};
 /// What a worker of a packet pool shares with others, the common stack, with its own side of it:
 /// its hand, its holds and the headers of its packets.
 pub trait Commons {
-    /// The pool's limits.
-    ghost limits: { Self → Limits };
-
-    /// How often each element is in the worker's hand: once or never.
-    ghost hand: { Self → ℕ → ℕ };
-
-    /// How often the worker holds each element.
-    ghost holds: { Self → ℕ → ℕ };
-
-    /// Which elements are headers of the worker's own packets: once or never.
-    ghost headers: { Self → ℕ → ℕ };
+    /// What the worker has of the pool: its limits, and the worker's hand, holds and headers.
+    ghost side: { Self → Side };
 
     /// A call was made, read this, and led from the first state to the second.
     ghost did: { Self → Call → List Reading → Self → Type 0 };
@@ -36,12 +26,7 @@ pub trait Commons {
     /// `HeadSpent` are our own.
     fn get_list(&mut self, out: &mut [u32]) -> Result<(), Refusal>
         requires { 0 < length out.old }
-        ensures did { Did did limits self.old (GetList (length out.old) (with_list result out.new)) self.new }
-        ensures hand { OnOk result ((i : ℕ) → hand self.new i ≡ hand self.old i + bag out.new i) }
-        ensures hand_err { OnErr result (hand self.new ≡ hand self.old) }
-        ensures holds { holds self.new ≡ holds self.old }
-        ensures headers { headers self.new ≡ headers self.old }
-        ensures limits { limits self.new ≡ limits self.old };
+        ensures did { Did did side self.old (GetList (length out.old) (with_list result out.new)) self.new };
 
     /// Moves a list of distinct elements, at least one, from the hand onto the common stack: all of
     /// them, or none. On the lists the last one is on top then.
@@ -53,24 +38,15 @@ pub trait Commons {
     /// refused.
     fn put_list(&mut self, list: &[u32]) -> Result<(), Refusal>
         requires some { 0 < length list.now }
-        requires in_hand { (i : ℕ) → bag list.now i ≤ hand self.old i }
-        ensures did { Did did limits self.old (PutList list.now result) self.new }
-        ensures hand { OnOk result ((i : ℕ) → hand self.old i ≡ hand self.new i + bag list.now i) }
-        ensures hand_err { OnErr result (hand self.new ≡ hand self.old) }
-        ensures holds { holds self.new ≡ holds self.old }
-        ensures headers { headers self.new ≡ headers self.old }
-        ensures limits { limits self.new ≡ limits self.old };
+        requires in_hand { (i : ℕ) → bag list.now i ≤ (side self.old).hand i }
+        ensures did { Did did side self.old (PutList list.now result) self.new };
 
     /// Makes an element of the hand a held one, with one hold by this worker, whose header it is.
     ///
     /// After rte_mbuf.h, `rte_mbuf_raw_alloc` (DPDK 21.11), which gives an mbuf of count 1.
     fn claim(&mut self, element: u32)
-        requires { 0 < hand self.old element }
-        ensures did { Did did limits self.old (Claim element) self.new }
-        ensures hand { (i : ℕ) → hand self.old i ≡ hand self.new i + one element i }
-        ensures holds { (i : ℕ) → holds self.new i ≡ holds self.old i + one element i }
-        ensures headers { (i : ℕ) → headers self.new i ≡ headers self.old i + one element i }
-        ensures limits { limits self.new ≡ limits self.old };
+        requires { 0 < (side self.old).hand element }
+        ensures did { Did did side self.old (Claim element) self.new };
 
     /// The reference count of an element that this worker holds, as read at one moment of the call:
     /// the number of holds of all holders, at most the pool's reference limit. 1 says that there is
@@ -78,14 +54,10 @@ pub trait Commons {
     ///
     /// After rte_mbuf.h, `rte_mbuf_refcnt_read` (DPDK 21.11).
     fn count(&mut self, element: u32) -> u32
-        requires { 0 < holds self.old element }
-        ensures did { Did did limits self.old (CountOf element result) self.new }
-        ensures own { holds self.old element ≤ result }
-        ensures limited { result ≤ (limits self.old).ref_limit }
-        ensures hand { hand self.new ≡ hand self.old }
-        ensures holds { holds self.new ≡ holds self.old }
-        ensures headers { headers self.new ≡ headers self.old }
-        ensures limits { limits self.new ≡ limits self.old };
+        requires { 0 < (side self.old).holds element }
+        ensures did { Did did side self.old (CountOf element result) self.new }
+        ensures own { (side self.old).holds element ≤ result }
+        ensures limited { result ≤ (side self.old).limits.ref_limit };
 
     /// Makes one more hold by this worker of an element that it holds.
     ///
@@ -95,27 +67,18 @@ pub trait Commons {
     /// After rte_mbuf.h, `rte_mbuf_refcnt_update` (DPDK 21.11), which knows no limit. `RefSpent` and
     /// `Contended` are our own.
     fn raise(&mut self, element: u32) -> Result<(), Refusal>
-        requires { 0 < holds self.old element }
-        ensures did { Did did limits self.old (Raise element result) self.new }
-        ensures hand { (i : ℕ) → hand self.new i ≡ hand self.old i }
-        ensures holds { OnOk result ((i : ℕ) → holds self.new i ≡ holds self.old i + one element i) }
-        ensures holds_err { OnErr result (holds self.new ≡ holds self.old) }
-        ensures headers { headers self.new ≡ headers self.old }
-        ensures limits { limits self.new ≡ limits self.old };
+        requires { 0 < (side self.old).holds element }
+        ensures did { Did did side self.old (Raise element result) self.new };
 
     /// Ends one hold that this worker has of an element. `Last` where it was the only one: the
     /// element is then in the hand, with count 1. `Still` where another hold was left at that step.
-    /// The last count of the element that was read is 1 at `Last`, and above 1 at `Still`.
+    /// The last count of the element that was read is 1 at `Last`, and above 1 at `Still`. A header
+    /// is one until the worker's last hold of it ends.
     ///
     /// After rte_mbuf.h, `rte_pktmbuf_prefree_seg` (DPDK 21.11).
     fn lower(&mut self, element: u32) -> Lowered
-        requires { 0 < holds self.old element }
-        ensures did { Did did limits self.old (Lower element result) self.new }
-        ensures hand { (i : ℕ) → hand self.new i ≡ hand self.old i + back result element i }
-        ensures holds { (i : ℕ) → holds self.old i ≡ holds self.new i + one element i }
-        // A header is one until the worker's last hold of it ends.
-        ensures headers { (i : ℕ) → headers self.new i ≡ (if nat_lt 0 (holds self.new i) then headers self.old i else 0) }
-        ensures limits { limits self.new ≡ limits self.old };
+        requires { 0 < (side self.old).holds element }
+        ensures did { Did did side self.old (Lower element result) self.new };
 
     /// Leaves a packet on a desk, of which the pool has `desks`, numbered from 0. The worker holds
     /// all that the packet holds, and the packet's own elements are distinct headers of the worker;
@@ -128,16 +91,10 @@ pub trait Commons {
     ///
     /// Desks are our own; DPDK passes mbufs between lcores over an `rte_ring`.
     fn offer(&mut self, desk: u32, packet: Packet) -> Result<(), (Refusal, Packet)>
-        requires held { (i : ℕ) → bag (holds_of_packet packet) i ≤ holds self.old i }
-        requires own { (i : ℕ) → bag (own_of_packet packet) i ≤ headers self.old i }
-        ensures did { Did did limits self.old (Offer desk packet (without_packet result)) self.new }
-        ensures kept { IfErr result (λ refused. refused.1 ≡ packet) }
-        ensures hand { hand self.new ≡ hand self.old }
-        ensures holds { OnOk result ((i : ℕ) → holds self.old i ≡ holds self.new i + bag (holds_of_packet packet) i) }
-        ensures holds_err { OnErr result (holds self.new ≡ holds self.old) }
-        ensures headers { OnOk result ((i : ℕ) → headers self.new i ≡ (if nat_lt 0 (holds self.new i) then headers self.old i - bag (own_of_packet packet) i else 0)) }
-        ensures headers_err { OnErr result (headers self.new ≡ headers self.old) }
-        ensures limits { limits self.new ≡ limits self.old };
+        requires held { (i : ℕ) → bag (holds_of_packet packet) i ≤ (side self.old).holds i }
+        requires own { (i : ℕ) → bag (own_of_packet packet) i ≤ (side self.old).headers i }
+        ensures did { Did did side self.old (Offer desk packet (without_packet result)) self.new }
+        ensures kept { IfErr result (λ refused. refused.1 ≡ packet) };
 
     /// Takes the packet off a desk, of which the pool has `desks`, numbered from 0. The worker then
     /// holds all that the packet holds; the packet's own elements, which are distinct and were no
@@ -148,38 +105,28 @@ pub trait Commons {
     ///
     /// Desks are our own; DPDK passes mbufs between lcores over an `rte_ring`.
     fn take(&mut self, desk: u32) -> Result<Packet, Refusal>
-        ensures did { Did did limits self.old (Take desk result) self.new }
-        ensures hand { hand self.new ≡ hand self.old }
-        ensures holds { IfOk result (λ packet. (i : ℕ) → holds self.new i ≡ holds self.old i + bag (holds_of_packet packet) i) }
-        ensures holds_err { OnErr result (holds self.new ≡ holds self.old) }
-        ensures headers { IfOk result (λ packet. (i : ℕ) → headers self.new i ≡ headers self.old i + bag (own_of_packet packet) i) }
-        ensures apart { IfOk result (λ packet. (i : ℕ) → headers self.old i + bag (own_of_packet packet) i ≤ 1) }
-        ensures headers_err { OnErr result (headers self.new ≡ headers self.old) }
-        ensures limits { limits self.new ≡ limits self.old };
+        ensures did { Did did side self.old (Take desk result) self.new }
+        ensures apart { IfOk result (λ packet. (i : ℕ) → (side self.old).headers i + bag (own_of_packet packet) i ≤ 1) };
 
     /// The number of elements on the common stack, as read at one moment of the call.
     ///
     /// After rte_stack_lf_generic.h, `__rte_stack_lf_count` (DPDK 21.11).
     fn common_count(&mut self) -> u32
-        ensures did { Did did limits self.old (CommonCount result) self.new }
-        ensures hand { hand self.new ≡ hand self.old }
-        ensures holds { holds self.new ≡ holds self.old }
-        ensures headers { headers self.new ≡ headers self.old }
-        ensures limits { limits self.new ≡ limits self.old };
+        ensures did { Did did side self.old (CommonCount result) self.new };
 
     /// An element is in a hand at most once, and none from the population on is.
-    ghost hand_once: { (c : Self) (i : ℕ) → hand c i ≤ 1 };
+    ghost hand_once: { (c : Self) (i : ℕ) → (side c).hand i ≤ 1 };
 
-    ghost hand_below: { (c : Self) (i : ℕ) → (limits c).population ≤ i → hand c i ≡ 0 };
+    ghost hand_below: { (c : Self) (i : ℕ) → (side c).limits.population ≤ i → (side c).hand i ≡ 0 };
 
     /// None from the population on is held.
-    ghost holds_below: { (c : Self) (i : ℕ) → (limits c).population ≤ i → holds c i ≡ 0 };
+    ghost holds_below: { (c : Self) (i : ℕ) → (side c).limits.population ≤ i → (side c).holds i ≡ 0 };
 
     /// What the worker holds isn't in its hand.
-    ghost apart: { (c : Self) (i : ℕ) → 0 < holds c i → hand c i ≡ 0 };
+    ghost apart: { (c : Self) (i : ℕ) → 0 < (side c).holds i → (side c).hand i ≡ 0 };
 
     /// An element is a header at most once, and only one that the worker holds.
-    ghost header_once: { (c : Self) (i : ℕ) → headers c i ≤ 1 };
+    ghost header_once: { (c : Self) (i : ℕ) → (side c).headers i ≤ 1 };
 
-    ghost header_held: { (c : Self) (i : ℕ) → 0 < headers c i → 0 < holds c i };
+    ghost header_held: { (c : Self) (i : ℕ) → 0 < (side c).headers i → 0 < (side c).holds i };
 }

@@ -3,7 +3,7 @@ use Rattle.std.proofs.Common.{List, refl, ◌∙◌, subst}
 use Rattle.commons.specs.declared.plain.PlainCommons.{PlainCommons}
 use Rattle.commons.specs.Calls.{Made, Leads}
 use Rattle.commons.specs.Lists.{KeepsOthers}
-use Rattle.commons.proofs.PlainCalls.{DidAt, KeepsOthers-refl, KeepsOthers-trans, limits_at, plainly}
+use Rattle.commons.proofs.PlainCalls.{DidAt, KeepsOthers-refl, KeepsOthers-trans, side_at, plainly}
 use Rattle.layer_tests.specs.Alone.{Alone}
 
 -- nothing was done
@@ -19,7 +19,7 @@ Alone-trans s t u a b = record {
 }
 
 -- calls were made one after another
-pub alone_by : (s : PlainCommons) (made : List Made) (t : PlainCommons) → Leads DidAt limits_at s made t → Alone s t
+pub alone_by : (s : PlainCommons) (made : List Made) (t : PlainCommons) → Leads DidAt side_at s made t → Alone s t
 alone_by s made t h = let p = plainly s made t h in record { same = p.same; worker = p.worker; others = p.others }
 
 -- what says nothing of the shared pool is such a step

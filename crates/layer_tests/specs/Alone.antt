@@ -1,13 +1,13 @@
 -- What one worker does on the lists, beside the others.
 use Rattle.std.specs.Prelude.{◌≡◌}
 use Rattle.commons.specs.declared.plain.PlainCommons.{PlainCommons}
-use Rattle.commons.specs.Lists.{KeepsOthers, hand_of, holds_of, header_of}
+use Rattle.commons.specs.Lists.{KeepsOthers, side_of}
 use Rattle.mbuf.specs.Members.{Member}
 use Rattle.mbuf.specs.Own.{Own}
 
 -- the packets are the worker's own
 abbrev pub IsOwn : Member → PlainCommons → Type 0
-IsOwn m c = Own m c.site.now.limits (λ i. hand_of c.site.now c.worker i) (λ i. holds_of c.site.now c.worker i) (λ i. header_of c.site.now c.worker i)
+IsOwn m c = Own m (side_of c.site.now c.worker)
 
 -- it is the same worker at the same pool, and what the others have is as before
 pub record Alone (s t : PlainCommons) : Type 0 where

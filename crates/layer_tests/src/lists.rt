@@ -148,8 +148,8 @@ fn a_count_is_raised_to_its_limit_and_lowered(rt: HostRuntime) -> Result<(), Fai
 
 // Gets an element and claims it.
 fn claimed<C: Commons>(c: &mut C) -> Result<u32, Refusal>
-    ensures holds { IfOk result (λ e. (i : ℕ) → C.holds c.new i ≡ C.holds c.old i + one e i) }
-    ensures headers { IfOk result (λ e. (i : ℕ) → C.headers c.new i ≡ C.headers c.old i + one e i) }
+    ensures holds { IfOk result (λ e. (i : ℕ) → (C.side c.new).holds i ≡ (C.side c.old).holds i + one e i) }
+    ensures headers { IfOk result (λ e. (i : ℕ) → (C.side c.new).headers i ≡ (C.side c.old).headers i + one e i) }
 {
     let mut one = [0; 1];
     c.get_list(&mut one)?;
@@ -159,8 +159,8 @@ fn claimed<C: Commons>(c: &mut C) -> Result<u32, Refusal>
 
 // A packet with the buffer of its own element.
 fn direct<C: Commons>(c: &mut C) -> Result<Packet, Refusal>
-    ensures held { IfOk result (λ packet. (i : ℕ) → bag (holds_of_packet packet) i ≤ C.holds c.new i) }
-    ensures own { IfOk result (λ packet. (i : ℕ) → bag (own_of_packet packet) i ≤ C.headers c.new i) }
+    ensures held { IfOk result (λ packet. (i : ℕ) → bag (holds_of_packet packet) i ≤ (C.side c.new).holds i) }
+    ensures own { IfOk result (λ packet. (i : ℕ) → bag (own_of_packet packet) i ≤ (C.side c.new).headers i) }
 {
     let elem = claimed(c)?;
     Ok(Packet::single(Seg {
@@ -174,8 +174,8 @@ fn direct<C: Commons>(c: &mut C) -> Result<Packet, Refusal>
 
 // A packet with the buffer of another element, which has a hold beside that of the packet.
 fn indirect<C: Commons>(c: &mut C) -> Result<Packet, Refusal>
-    ensures held { IfOk result (λ packet. (i : ℕ) → bag (holds_of_packet packet) i ≤ C.holds c.new i) }
-    ensures own { IfOk result (λ packet. (i : ℕ) → bag (own_of_packet packet) i ≤ C.headers c.new i) }
+    ensures held { IfOk result (λ packet. (i : ℕ) → bag (holds_of_packet packet) i ≤ (C.side c.new).holds i) }
+    ensures own { IfOk result (λ packet. (i : ℕ) → bag (own_of_packet packet) i ≤ (C.side c.new).headers i) }
 {
     let base = claimed(c)?;
     let elem = claimed(c)?;

@@ -7,7 +7,7 @@ use Rattle.commons.specs.Bag.{bag, one}
 use Rattle.commons.specs.declared.limits.Limits.{Limits}
 use Rattle.commons.specs.declared.packet.Seg.{Seg}
 use Rattle.commons.specs.declared.refusal.Refusal.{Refusal}
-use Rattle.commons.specs.Calls.{Reading, Call, Made, calls_of, Leads}
+use Rattle.commons.specs.Calls.{Reading, Call, Made, Side, calls_of, Leads}
 use Rattle.commons.proofs.Bags.{bag-cons, bag-append, bag-head, bag-single}
 use Rattle.commons.proofs.Leading.{calls_of-append, Leads-append}
 use Rattle.commons.proofs.Places.{one-apart, apart_or_same}
@@ -42,8 +42,8 @@ unheld hand held apart h = elim (cases_lt 0 held) [
 -- ---- the segments so far
 
 -- calls were made by which these segments were cloned
-abbrev pub ClonedSo : {S : Type 0} (did : S → Call → List Reading → S → Type 0) (limits : S → Limits) (s t : S) → Limits → List Seg → List ℕ → List Seg → List ℕ → Type 0
-ClonedSo did limits s t l segs cache new left = (made : List Made) × Leads did limits s made t × ClonesSegs l segs cache (calls_of made) new left
+abbrev pub ClonedSo : {S : Type 0} (did : S → Call → List Reading → S → Type 0) (side : S → Side) (s t : S) → Limits → List Seg → List ℕ → List Seg → List ℕ → Type 0
+ClonedSo did side s t l segs cache new left = (made : List Made) × Leads did side s made t × ClonesSegs l segs cache (calls_of made) new left
 
 ClonesSegs-append : (l : Limits) (segs : List Seg) (seg : Seg) (cache : List ℕ) (a : List Call) (new : List Seg) (between : List ℕ) (b : List Call) (one : Seg) (left : List ℕ) →
     ClonesSegs l segs cache a new between → ClonesSeg l seg between b one left → ClonesSegs l (segs ++ seg ∷ []) cache (a ++ b) (new ++ one ∷ []) left
@@ -53,24 +53,24 @@ ClonesSegs-append l (first ∷ segs) seg cache a new between b one left h k =
     (h.0, h.1 ++ b, h.2, h.3, h.4 ++ one ∷ [], ap (λ (calls : List Call). calls ++ b) h.5 ∙ append_assoc h.0 h.1 b, ap (λ (s : List Seg). s ++ one ∷ []) h.6, h.7, ClonesSegs-append l segs seg h.2 h.1 h.4 between b one left h.8 k)
 
 -- one segment more
-pub cloned_more : {S : Type 0} (did : S → Call → List Reading → S → Type 0) (limits : S → Limits) (s t u : S) (l : Limits) (segs : List Seg) (seg : Seg) (cache : List ℕ) (new : List Seg) (one : Seg) (between left : List ℕ) →
-    ClonedSo did limits s t l segs cache new between → ((made : List Made) × Leads did limits t made u × ClonesSeg l seg between (calls_of made) one left) → ClonedSo did limits s u l (segs ++ seg ∷ []) cache (new ++ one ∷ []) left
-cloned_more did limits s t u l segs seg cache new one between left h k = (
+pub cloned_more : {S : Type 0} (did : S → Call → List Reading → S → Type 0) (side : S → Side) (s t u : S) (l : Limits) (segs : List Seg) (seg : Seg) (cache : List ℕ) (new : List Seg) (one : Seg) (between left : List ℕ) →
+    ClonedSo did side s t l segs cache new between → ((made : List Made) × Leads did side t made u × ClonesSeg l seg between (calls_of made) one left) → ClonedSo did side s u l (segs ++ seg ∷ []) cache (new ++ one ∷ []) left
+cloned_more did side s t u l segs seg cache new one between left h k = (
   h.0 ++ k.0,
-  Leads-append did limits h.0 k.0 s t u h.1 k.1,
+  Leads-append did side h.0 k.0 s t u h.1 k.1,
   subst (λ (calls : List Call). ClonesSegs l (segs ++ seg ∷ []) cache calls (new ++ one ∷ []) left) (sym (calls_of-append h.0 k.0))
       (ClonesSegs-append l segs seg cache (calls_of h.0) new between (calls_of k.0) one left h.2 k.2),
 )
 
 -- a segment that isn't cloned, after others that were, and the end of what was held for them
-pub given_up : {S : Type 0} (did : S → Call → List Reading → S → Type 0) (limits : S → Limits) (s t u v : S) (l : Limits) (segs : List Seg) (k : ℕ) (d : Seg) (cache : List ℕ) (new : List Seg) (kept : List ℕ) (cause : Refusal) (over : Option ℕ) (stopped left : List ℕ) (done : Freed) →
-    k < length segs → ClonedSo did limits s t l (take k segs) cache new kept →
-    ((made : List Made) × Leads did limits t made u × StopsCloning l (get_or segs k d) kept (calls_of made) cause over stopped) →
-    Ended did limits u v l (holds_of_packet new ++ hold_of over) stopped freed_nothing left done →
-    (made : List Made) × Leads did limits s made v × GivesUp l segs cache (calls_of made) cause left
-given_up did limits s t u v l segs k d cache new kept cause over stopped left done within a b e = (
+pub given_up : {S : Type 0} (did : S → Call → List Reading → S → Type 0) (side : S → Side) (s t u v : S) (l : Limits) (segs : List Seg) (k : ℕ) (d : Seg) (cache : List ℕ) (new : List Seg) (kept : List ℕ) (cause : Refusal) (over : Option ℕ) (stopped left : List ℕ) (done : Freed) →
+    k < length segs → ClonedSo did side s t l (take k segs) cache new kept →
+    ((made : List Made) × Leads did side t made u × StopsCloning l (get_or segs k d) kept (calls_of made) cause over stopped) →
+    Ended did side u v l (holds_of_packet new ++ hold_of over) stopped freed_nothing left done →
+    (made : List Made) × Leads did side s made v × GivesUp l segs cache (calls_of made) cause left
+given_up did side s t u v l segs k d cache new kept cause over stopped left done within a b e = (
   a.0 ++ b.0 ++ e.0,
-  Leads-append did limits (a.0 ++ b.0) e.0 s u v (Leads-append did limits a.0 b.0 s t u a.1 b.1) e.1,
+  Leads-append did side (a.0 ++ b.0) e.0 s u v (Leads-append did side a.0 b.0 s t u a.1 b.1) e.1,
   record {
     cloned = take k segs;
     seg = get_or segs k d;

@@ -3,7 +3,7 @@ use Rattle.std.proofs.Common.{◌≡◌, ℕ, ◌+◌, ◌-◌, ◌<◌, ◌≤�
 use Rattle.std.proofs.lemmas.Bool.{cases_lt, cond-true, lt-ltb}
 use Rattle.std.proofs.lemmas.List.{set-get_or, set-set}
 use Rattle.commons.specs.Bag.{bag}
-use Rattle.commons.specs.declared.limits.Limits.{Limits}
+use Rattle.commons.specs.Calls.{Side}
 use Rattle.commons.specs.declared.packet.Seg.{Seg}
 use Rattle.commons.proofs.Bags.{bag-nil}
 use Rattle.commons.proofs.PacketBags.{held_in-set, own_in-set, own_in-held}
@@ -19,35 +19,31 @@ left_headed own held headers after gone before a b e = elim (cases_lt 0 held) [
 ]
 
 -- a packet has gone with all that it holds, and its slot is free
-pub own_offered : (m : Member) (l later : Limits) (h0 h1 o0 o1 d0 d1 : ℕ → ℕ) (slot : ℕ) (segs : List Seg) → Own m l h0 o0 d0 → later ≡ l → slot < length m.table → get_or m.table slot None ≡ Some segs →
-    h1 ≡ h0 → ((i : ℕ) → o0 i ≡ o1 i + bag (holds_of_packet segs) i) → ((i : ℕ) → d1 i ≡ cond (nat_lt 0 (o1 i)) (d0 i - bag (own_of_packet segs) i) 0) →
-    Own (record m { table = set m.table slot None }) later h1 o1 d1
-own_offered m l later h0 h1 o0 o1 d0 d1 slot segs own same within there hand holds headers =
-    let left : (i : ℕ) → o1 i ≡ held_in (set m.table slot None) i = λ i.
+pub own_offered : (m : Member) (s0 s1 : Side) (slot : ℕ) (segs : List Seg) → Own m s0 → s1.limits ≡ s0.limits → slot < length m.table → get_or m.table slot None ≡ Some segs →
+    s1.hand ≡ s0.hand → ((i : ℕ) → s0.holds i ≡ s1.holds i + bag (holds_of_packet segs) i) → ((i : ℕ) → s1.headers i ≡ cond (nat_lt 0 (s1.holds i)) (s0.headers i - bag (own_of_packet segs) i) 0) →
+    Own (record m { table = set m.table slot None }) s1
+own_offered m s0 s1 slot segs own same within there hand holds headers =
+    let left : (i : ℕ) → s1.holds i ≡ held_in (set m.table slot None) i = λ i.
     omega (arith, holds i, own.held i, held_in-set m.table slot None i within, ap (λ (o : Option (List Seg)). bag (holds_in_slot o) i) there, bag-nil i) in record {
       limits = own.limits ∙ sym same;
       cached = λ i. ap (λ (h : ℕ → ℕ). h i) hand ∙ own.cached i;
       held = left;
-      headed = λ i. left_headed (own_in (set m.table slot None) i) (o1 i) (d0 i) (d1 i) (bag (own_of_packet segs) i) (d0 i)
+      headed = λ i. left_headed (own_in (set m.table slot None) i) (s1.holds i) (s0.headers i) (s1.headers i) (bag (own_of_packet segs) i) (s0.headers i)
           (omega (arith, own_in-held (set m.table slot None) i, left i))
           (omega (arith, own.headed i, own_in-set m.table slot None i within, ap (λ (o : Option (List Seg)). bag (own_in_slot o) i) there, bag-nil i))
           (headers i);
     }
 
 -- a packet has come with all that it holds, into a free slot
-pub own_taken : (m : Member) (l later : Limits) (h0 h1 o0 o1 d0 d1 : ℕ → ℕ) (slot : ℕ) (segs : List Seg) → Own m l h0 o0 d0 → later ≡ l → slot < length m.table → get_or m.table slot None ≡ None →
-    h1 ≡ h0 → ((i : ℕ) → o1 i ≡ o0 i + bag (holds_of_packet segs) i) → ((i : ℕ) → d1 i ≡ d0 i + bag (own_of_packet segs) i) →
-    Own (record m { table = set m.table slot (Some segs) }) later h1 o1 d1
-own_taken m l later h0 h1 o0 o1 d0 d1 slot segs own same within free hand holds headers = record {
+pub own_taken : (m : Member) (s0 s1 : Side) (slot : ℕ) (segs : List Seg) → Own m s0 → s1.limits ≡ s0.limits → slot < length m.table → get_or m.table slot None ≡ None →
+    s1.hand ≡ s0.hand → ((i : ℕ) → s1.holds i ≡ s0.holds i + bag (holds_of_packet segs) i) → ((i : ℕ) → s1.headers i ≡ s0.headers i + bag (own_of_packet segs) i) →
+    Own (record m { table = set m.table slot (Some segs) }) s1
+own_taken m s0 s1 slot segs own same within free hand holds headers = record {
   limits = own.limits ∙ sym same;
   cached = λ i. ap (λ (h : ℕ → ℕ). h i) hand ∙ own.cached i;
   held = λ i. omega (arith, holds i, own.held i, held_in-set m.table slot (Some segs) i within, ap (λ (o : Option (List Seg)). bag (holds_in_slot o) i) free, bag-nil i);
   headed = λ i. omega (arith, headers i, own.headed i, own_in-set m.table slot (Some segs) i within, ap (λ (o : Option (List Seg)). bag (own_in_slot o) i) free, bag-nil i);
 }
-
--- nothing has passed
-pub own_same : (m : Member) (l later : Limits) (h0 h1 o0 o1 d0 d1 : ℕ → ℕ) → Own m l h0 o0 d0 → later ≡ l → h1 ≡ h0 → o1 ≡ o0 → d1 ≡ d0 → Own m later h1 o1 d1
-own_same m l later h0 h1 o0 o1 d0 d1 own same hand holds headers = rw (same, hand, holds, headers) own
 
 -- what is put back into its place
 pub set_back : (packets : List (List Seg)) (k : ℕ) (other segs : List Seg) → get_or packets k segs ≡ segs → set (set packets k other) k segs ≡ packets

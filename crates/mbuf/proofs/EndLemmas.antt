@@ -2,7 +2,7 @@
 use Rattle.std.proofs.Common.{ℕ, List, [], ◌∷◌, ◌++◌, refl, sym, ap, ◌∙◌, subst, append_assoc}
 use Rattle.std.proofs.lemmas.List.{append-nil}
 use Rattle.commons.specs.declared.limits.Limits.{Limits}
-use Rattle.commons.specs.Calls.{Reading, Call, Made, calls_of, Leads}
+use Rattle.commons.specs.Calls.{Reading, Call, Made, Side, calls_of, Leads}
 use Rattle.commons.proofs.Leading.{calls_of-append, Leads-append}
 use Rattle.mbuf.specs.PacketRules.{EndsHold, EndsHolds}
 use Rattle.mbuf.specs.declared.freed.Freed.{Freed}
@@ -20,18 +20,18 @@ EndsHolds-append l (e ∷ es) fs cache freed a between so_far b left done h k =
     (h.0, h.1 ++ b, h.2, h.3, ap (λ (calls : List Call). calls ++ b) h.4 ∙ append_assoc h.0 h.1 b, h.5, EndsHolds-append l es fs h.2 h.3 h.1 between so_far b left done h.6 k)
 
 -- calls were made by which these holds ended
-abbrev pub Ended : {S : Type 0} (did : S → Call → List Reading → S → Type 0) (limits : S → Limits) (s t : S) → Limits → List ℕ → List ℕ → Freed → List ℕ → Freed → Type 0
-Ended did limits s t l es cache freed left done = (made : List Made) × Leads did limits s made t × EndsHolds l es cache freed (calls_of made) left done
+abbrev pub Ended : {S : Type 0} (did : S → Call → List Reading → S → Type 0) (side : S → Side) (s t : S) → Limits → List ℕ → List ℕ → Freed → List ℕ → Freed → Type 0
+Ended did side s t l es cache freed left done = (made : List Made) × Leads did side s made t × EndsHolds l es cache freed (calls_of made) left done
 
-pub one_ended : {S : Type 0} (did : S → Call → List Reading → S → Type 0) (limits : S → Limits) (s t : S) (l : Limits) (e : ℕ) (cache : List ℕ) (freed : Freed) (left : List ℕ) (done : Freed) →
-    ((made : List Made) × Leads did limits s made t × EndsHold l e cache freed (calls_of made) left done) → Ended did limits s t l (e ∷ []) cache freed left done
-one_ended did limits s t l e cache freed left done h = (h.0, h.1, EndsHolds-one l e cache freed (calls_of h.0) left done h.2)
+pub one_ended : {S : Type 0} (did : S → Call → List Reading → S → Type 0) (side : S → Side) (s t : S) (l : Limits) (e : ℕ) (cache : List ℕ) (freed : Freed) (left : List ℕ) (done : Freed) →
+    ((made : List Made) × Leads did side s made t × EndsHold l e cache freed (calls_of made) left done) → Ended did side s t l (e ∷ []) cache freed left done
+one_ended did side s t l e cache freed left done h = (h.0, h.1, EndsHolds-one l e cache freed (calls_of h.0) left done h.2)
 
-pub both_ended : {S : Type 0} (did : S → Call → List Reading → S → Type 0) (limits : S → Limits) (s t u : S) (l : Limits) (es fs : List ℕ) (cache : List ℕ) (freed : Freed) (between : List ℕ) (so_far : Freed) (left : List ℕ) (done : Freed) →
-    Ended did limits s t l es cache freed between so_far → Ended did limits t u l fs between so_far left done → Ended did limits s u l (es ++ fs) cache freed left done
-both_ended did limits s t u l es fs cache freed between so_far left done h k = (
+pub both_ended : {S : Type 0} (did : S → Call → List Reading → S → Type 0) (side : S → Side) (s t u : S) (l : Limits) (es fs : List ℕ) (cache : List ℕ) (freed : Freed) (between : List ℕ) (so_far : Freed) (left : List ℕ) (done : Freed) →
+    Ended did side s t l es cache freed between so_far → Ended did side t u l fs between so_far left done → Ended did side s u l (es ++ fs) cache freed left done
+both_ended did side s t u l es fs cache freed between so_far left done h k = (
   h.0 ++ k.0,
-  Leads-append did limits h.0 k.0 s t u h.1 k.1,
+  Leads-append did side h.0 k.0 s t u h.1 k.1,
   subst (λ (calls : List Call). EndsHolds l (es ++ fs) cache freed calls left done) (sym (calls_of-append h.0 k.0))
       (EndsHolds-append l es fs cache freed (calls_of h.0) between so_far (calls_of k.0) left done h.2 k.2),
 )

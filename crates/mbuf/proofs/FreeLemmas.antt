@@ -8,6 +8,7 @@ use Rattle.std.proofs.lemmas.List.Sums.{sum_by-cons}
 use Rattle.std.proofs.lemmas.Bool.{cases_lt, cond-true, cond-false, lt-ltb, le-ltb}
 use Rattle.commons.proofs.Sames.{some-is}
 use Rattle.commons.specs.Bag.{bag}
+use Rattle.commons.specs.Calls.{Side}
 use Rattle.commons.specs.declared.limits.Limits.{Limits}
 use Rattle.commons.specs.declared.packet.Seg.{Seg}
 use Rattle.commons.proofs.Bags.{bag-nil, bag-cons, bag-single}
@@ -94,12 +95,12 @@ holds_stood l (e ∷ es) table h i =
     rw slots (omega (arith, rest.0, first.0, bag-cons e es i, bag-single e i), omega (arith, rest.1, first.1, bag-cons e es i, bag-single e i))
 
 -- packets of fresh elements stand in the lowest free slots
-pub own_stood : (m : Member) (l later : Limits) (h0 h1 h2 o0 o1 o2 d0 d1 d2 : ℕ → ℕ) (cache es : List ℕ) →
-    Own m l h0 o0 d0 → later ≡ l → length es ≤ length (free_slots m.table) →
-    ((i : ℕ) → h1 i + bag m.cache i ≡ h0 i + bag cache i + bag es i) → o1 ≡ o0 → d1 ≡ d0 →
-    ((i : ℕ) → h1 i ≡ h2 i + bag es i) → ((i : ℕ) → o2 i ≡ o1 i + bag es i) → ((i : ℕ) → d2 i ≡ d1 i + bag es i) →
-    Own (record m { cache = cache; table = stood m.limits es (take (length es) (free_slots m.table)) m.table }) later h2 o2 d2
-own_stood m l later h0 h1 h2 o0 o1 o2 d0 d1 d2 cache es own same free got_hand got_holds got_headers hand holds headers = record {
+pub own_stood : (m : Member) (s0 s1 s2 : Side) (cache es : List ℕ) →
+    Own m s0 → s2.limits ≡ s0.limits → length es ≤ length (free_slots m.table) →
+    ((i : ℕ) → s1.hand i + bag m.cache i ≡ s0.hand i + bag cache i + bag es i) → s1.holds ≡ s0.holds → s1.headers ≡ s0.headers →
+    ((i : ℕ) → s1.hand i ≡ s2.hand i + bag es i) → ((i : ℕ) → s2.holds i ≡ s1.holds i + bag es i) → ((i : ℕ) → s2.headers i ≡ s1.headers i + bag es i) →
+    Own (record m { cache = cache; table = stood m.limits es (take (length es) (free_slots m.table)) m.table }) s2
+own_stood m s0 s1 s2 cache es own same free got_hand got_holds got_headers hand holds headers = record {
   limits = own.limits ∙ sym same;
   cached = λ i. omega (arith, got_hand i, hand i, own.cached i);
   held = λ i. omega (arith, holds i, ap (λ (f : ℕ → ℕ). f i) got_holds, own.held i, (holds_stood m.limits es m.table free i).0);

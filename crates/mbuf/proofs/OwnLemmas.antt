@@ -4,7 +4,7 @@ use Rattle.std.specs.Prelude.{is_none}
 use Rattle.std.proofs.lemmas.Bool.{cases_lt}
 use Rattle.std.proofs.lemmas.List.Quantifiers.{position-Some}
 use Rattle.commons.specs.Bag.{bag}
-use Rattle.commons.specs.declared.limits.Limits.{Limits}
+use Rattle.commons.specs.Calls.{Side}
 use Rattle.commons.specs.declared.packet.Seg.{Seg}
 use Rattle.commons.proofs.Bags.{bag-nil}
 use Rattle.commons.specs.Packets.{holds_of_packet, held_in, own_in}
@@ -29,9 +29,9 @@ own_headed own before held holds d1 d0 a b c e f = elim (cases_lt 0 holds) [
 ]
 
 -- a new worker's packets are its own where it has nothing
-pub own_new : (l : Limits) (number : ℕ) (hand holds headers : ℕ → ℕ) → ((i : ℕ) → hand i ≡ 0) → ((i : ℕ) → holds i ≡ 0) →
-    Own (record { limits = l; number = number; cache = []; table = replicate slots None }) l hand holds headers
-own_new l number hand holds headers no_hand no_hold = record {
+pub own_new : (s : Side) (number : ℕ) → ((i : ℕ) → s.hand i ≡ 0) → ((i : ℕ) → s.holds i ≡ 0) →
+    Own (record { limits = s.limits; number = number; cache = []; table = replicate slots None }) s
+own_new s number no_hand no_hold = record {
   limits = refl;
   cached = λ i. omega (arith, no_hand i, bag-nil i);
   held = λ i. omega (arith, no_hold i, held_in-empty slots i);
@@ -39,12 +39,12 @@ own_new l number hand holds headers no_hand no_hold = record {
 }
 
 -- a packet's holds have ended, and its slot is free
-pub own_free : (m : Member) (l later : Limits) (h0 h1 o0 o1 d0 d1 : ℕ → ℕ) (cache : List ℕ) (slot : ℕ) (segs : List Seg) →
-    Own m l h0 o0 d0 → later ≡ l → slot < length m.table → get_or m.table slot None ≡ Some segs →
-    ((i : ℕ) → h1 i ≡ bag cache i) → ((i : ℕ) → o0 i ≡ o1 i + bag (holds_of_packet segs) i) → ((i : ℕ) → 0 < o1 i → d1 i ≡ d0 i) →
-    Own (record m { cache = cache; table = set m.table slot None }) later h1 o1 d1
-own_free m l later h0 h1 o0 o1 d0 d1 cache slot segs own same within there hand holds headers =
-    let left : (i : ℕ) → o1 i ≡ held_in (set m.table slot None) i = λ i.
+pub own_free : (m : Member) (s0 s1 : Side) (cache : List ℕ) (slot : ℕ) (segs : List Seg) →
+    Own m s0 → s1.limits ≡ s0.limits → slot < length m.table → get_or m.table slot None ≡ Some segs →
+    ((i : ℕ) → s1.hand i ≡ bag cache i) → ((i : ℕ) → s0.holds i ≡ s1.holds i + bag (holds_of_packet segs) i) → ((i : ℕ) → 0 < s1.holds i → s1.headers i ≡ s0.headers i) →
+    Own (record m { cache = cache; table = set m.table slot None }) s1
+own_free m s0 s1 cache slot segs own same within there hand holds headers =
+    let left : (i : ℕ) → s1.holds i ≡ held_in (set m.table slot None) i = λ i.
     let t = rw there at (held_in-set m.table slot None i within) in
     omega (arith, holds i, own.held i, t, bag-nil i) in
     let fewer : (i : ℕ) → own_in (set m.table slot None) i ≤ own_in m.table i = λ i. omega (arith, own_in-set m.table slot None i within, bag-nil i) in
@@ -52,6 +52,6 @@ own_free m l later h0 h1 o0 o1 d0 d1 cache slot segs own same within there hand 
       limits = own.limits ∙ sym same;
       cached = hand;
       held = left;
-      headed = λ i. own_headed (own_in (set m.table slot None) i) (own_in m.table i) (held_in (set m.table slot None) i) (o1 i) (d1 i) (d0 i)
+      headed = λ i. own_headed (own_in (set m.table slot None) i) (own_in m.table i) (held_in (set m.table slot None) i) (s1.holds i) (s1.headers i) (s0.headers i)
           (fewer i) (own.headed i) (own_in-held (set m.table slot None) i) (left i) (headers i);
     }

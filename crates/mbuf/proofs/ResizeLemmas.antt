@@ -9,6 +9,7 @@ use Rattle.mbuf.specs.inside.Kept.{KeepsHolds}
 use Rattle.mbuf.specs.Lengths.{with_seg, appended, prepended, adjusted, trimmed, grown_behind, grown_in_front, cut_in_front, cut_behind}
 use Rattle.commons.specs.Packets.{no_seg, hold_of, holds_of_seg, holds_of_packet}
 use Rattle.mbuf.specs.Members.{Member}
+use Rattle.commons.specs.Calls.{Side}
 use Rattle.mbuf.specs.Own.{Own}
 use Rattle.commons.specs.declared.change.Change.{Change}
 use Rattle.commons.specs.declared.change.Change.TheVariants.{Append, Prepend, Adj, Trim}
@@ -83,8 +84,8 @@ pub KeepsHolds-refl : (m : Member) → KeepsHolds m m
 KeepsHolds-refl m = record { limits = refl; cache = refl; held = λ i. refl; own = λ i. refl }
 
 -- packets that hold what they held stay a worker's own
-pub own_kept : (m after : Member) (l : Limits) (hand holds headers : ℕ → ℕ) → Own m l hand holds headers → KeepsHolds m after → Own after l hand holds headers
-own_kept m after l hand holds headers own kept = record {
+pub own_kept : (m after : Member) (s : Side) → Own m s → KeepsHolds m after → Own after s
+own_kept m after s own kept = record {
   limits = kept.limits ∙ own.limits;
   cached = λ i. own.cached i ∙ ap (λ (c : List ℕ). bag c i) (sym kept.cache);
   held = λ i. own.held i ∙ sym (kept.held i);

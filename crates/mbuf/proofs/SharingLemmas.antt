@@ -2,6 +2,7 @@
 use Rattle.std.proofs.Common.{◌≡◌, ℕ, ◌+◌, ◌<◌, ◌≤◌, Bool, true, false, List, [], ◌∷◌, length, drop, map, get_or, set, Option, Some, None, Ok, Err, refl, sym, ap, ◌∙◌, arith}
 use Rattle.commons.proofs.Sames.{ok-is}
 use Rattle.commons.specs.Bag.{bag, one}
+use Rattle.commons.specs.Calls.{Side}
 use Rattle.commons.specs.declared.limits.Limits.{Limits}
 use Rattle.commons.specs.declared.packet.Seg.{Seg}
 use Rattle.commons.specs.declared.refusal.Refusal.TheVariants.{TooManySegs}
@@ -111,8 +112,8 @@ single_seg (seg ∷ (other ∷ segs)) some few = absurd (omega (arith, few))
 -- ---- what is held
 
 -- what a packet holds that stands in a slot is held
-pub in_slot_held : (m : Member) (l : Limits) (hand holds headers : ℕ → ℕ) (slot : ℕ) (segs : List Seg) (i : ℕ) → Own m l hand holds headers → get_or m.table slot None ≡ Some segs → bag (holds_of_packet segs) i ≤ holds i
-in_slot_held m l hand holds headers slot segs i own there =
+pub in_slot_held : (m : Member) (s : Side) (slot : ℕ) (segs : List Seg) (i : ℕ) → Own m s → get_or m.table slot None ≡ Some segs → bag (holds_of_packet segs) i ≤ s.holds i
+in_slot_held m s slot segs i own there =
     omega (arith, own.held i, held_in-slot m.table slot i (stands_within m.table slot segs there), ap (λ (o : Option (List Seg)). bag (holds_in_slot o) i) there)
 
 -- the holds of a packet of one segment
@@ -127,23 +128,23 @@ first_held (seg ∷ segs) some =
     omega (arith, bag-append (holds_of_seg seg) (holds_of_packet segs) seg.elem, bag-append (hold_of seg.base) (seg.elem ∷ []) seg.elem, bag-single seg.elem seg.elem, one-same seg.elem)
 
 -- the element of a pair is held, and so is the buffer that it is to share
-pub pair_held : (m : Member) (l : Limits) (hand holds headers : ℕ → ℕ) (mi target : ℕ) (pair : ℕ × Seg) → Own m l hand holds headers → ArePair m.table mi target pair → (0 < holds pair.0) × (0 < holds (buffer_of pair.1))
-pair_held m l hand holds headers mi target pair own are = (
-  omega (arith, in_slot_held m l hand holds headers mi (are.own ∷ []) pair.0 own are.here, holds_alone None are.own pair.0 are.direct, ap (λ (e : ℕ). one e pair.0) are.elem, one-same pair.0),
-  omega (arith, in_slot_held m l hand holds headers target (pair.1 ∷ are.others) (buffer_of pair.1) own are.there, buffer_held (pair.1 ∷ are.others) 0 pair.1 (omega arith)),
+pub pair_held : (m : Member) (s : Side) (mi target : ℕ) (pair : ℕ × Seg) → Own m s → ArePair m.table mi target pair → (0 < s.holds pair.0) × (0 < s.holds (buffer_of pair.1))
+pair_held m s mi target pair own are = (
+  omega (arith, in_slot_held m s mi (are.own ∷ []) pair.0 own are.here, holds_alone None are.own pair.0 are.direct, ap (λ (e : ℕ). one e pair.0) are.elem, one-same pair.0),
+  omega (arith, in_slot_held m s target (pair.1 ∷ are.others) (buffer_of pair.1) own are.there, buffer_held (pair.1 ∷ are.others) 0 pair.1 (omega arith)),
 )
 
 -- the base of an indirect segment is held
-pub base_held : (m : Member) (l : Limits) (hand holds headers : ℕ → ℕ) (slot : ℕ) (pair : ℕ × ℕ) → Own m l hand holds headers → IsIndirect m.table slot pair → 0 < holds pair.1
-base_held m l hand holds headers slot pair own is =
-    omega (arith, in_slot_held m l hand holds headers slot (is.own ∷ []) pair.1 own is.here, holds_alone (Some pair.1) is.own pair.1 is.base, bag-single pair.1 pair.1, one-same pair.1)
+pub base_held : (m : Member) (s : Side) (slot : ℕ) (pair : ℕ × ℕ) → Own m s → IsIndirect m.table slot pair → 0 < s.holds pair.1
+base_held m s slot pair own is =
+    omega (arith, in_slot_held m s slot (is.own ∷ []) pair.1 own is.here, holds_alone (Some pair.1) is.own pair.1 is.base, bag-single pair.1 pair.1, one-same pair.1)
 
 -- ---- what stays a worker's own
 
 -- a packet that is attached
-pub own_attached : (m : Member) (l later : Limits) (h0 h1 o0 o1 d0 d1 : ℕ → ℕ) (mi target : ℕ) (pair : ℕ × Seg) (new : Seg) → Own m l h0 o0 d0 → later ≡ l → ArePair m.table mi target pair → new ≡ attached pair.0 pair.1 →
-    ((i : ℕ) → h1 i ≡ h0 i) → ((i : ℕ) → o1 i ≡ o0 i + one (buffer_of pair.1) i) → d1 ≡ d0 → Own (record m { table = set m.table mi (Some (new ∷ [])) }) later h1 o1 d1
-own_attached m l later h0 h1 o0 o1 d0 d1 mi target pair new own same are is hand holds headers =
+pub own_attached : (m : Member) (s0 s1 : Side) (mi target : ℕ) (pair : ℕ × Seg) (new : Seg) → Own m s0 → s1.limits ≡ s0.limits → ArePair m.table mi target pair → new ≡ attached pair.0 pair.1 →
+    ((i : ℕ) → s1.hand i ≡ s0.hand i) → ((i : ℕ) → s1.holds i ≡ s0.holds i + one (buffer_of pair.1) i) → s1.headers ≡ s0.headers → Own (record m { table = set m.table mi (Some (new ∷ [])) }) s1
+own_attached m s0 s1 mi target pair new own same are is hand holds headers =
     let within = stands_within m.table mi (are.own ∷ []) are.here in
     record {
       limits = own.limits ∙ sym same;
@@ -167,13 +168,13 @@ own_attached m l later h0 h1 o0 o1 d0 d1 mi target pair new own same are is hand
     }
 
 -- one that has its own buffer again
-pub own_detached : (m : Member) (l later : Limits) (h0 h1 o0 o1 d0 d1 : ℕ → ℕ) (cache : List ℕ) (slot : ℕ) (pair : ℕ × ℕ) → Own m l h0 o0 d0 → later ≡ l → IsIndirect m.table slot pair →
-    ((i : ℕ) → h1 i ≡ bag cache i) → ((i : ℕ) → o0 i ≡ o1 i + one pair.1 i) → ((i : ℕ) → 0 < o1 i → d1 i ≡ d0 i) →
-    Own (record m { cache = cache; table = set m.table slot (Some (fresh_seg m.limits pair.0 ∷ [])) }) later h1 o1 d1
-own_detached m l later h0 h1 o0 o1 d0 d1 cache slot pair own same is hand holds headers =
+pub own_detached : (m : Member) (s0 s1 : Side) (cache : List ℕ) (slot : ℕ) (pair : ℕ × ℕ) → Own m s0 → s1.limits ≡ s0.limits → IsIndirect m.table slot pair →
+    ((i : ℕ) → s1.hand i ≡ bag cache i) → ((i : ℕ) → s0.holds i ≡ s1.holds i + one pair.1 i) → ((i : ℕ) → 0 < s1.holds i → s1.headers i ≡ s0.headers i) →
+    Own (record m { cache = cache; table = set m.table slot (Some (fresh_seg m.limits pair.0 ∷ [])) }) s1
+own_detached m s0 s1 cache slot pair own same is hand holds headers =
     let within = stands_within m.table slot (is.own ∷ []) is.here in
     let new = set m.table slot (Some (fresh_seg m.limits pair.0 ∷ [])) in
-    let left : (i : ℕ) → o1 i ≡ held_in new i = λ i.
+    let left : (i : ℕ) → s1.holds i ≡ held_in new i = λ i.
     let t = rw is.here at (held_in-set m.table slot (Some (fresh_seg m.limits pair.0 ∷ [])) i within) in
     omega (arith, t, holds i, own.held i, holds_alone (Some pair.1) is.own i is.base, holds_alone None (fresh_seg m.limits pair.0) i refl, bag-nil i, bag-single pair.1 i, ap (λ (e : ℕ). one e i) is.elem) in
     let same_own : (i : ℕ) → own_in new i ≤ own_in m.table i = λ i.
@@ -183,14 +184,14 @@ own_detached m l later h0 h1 o0 o1 d0 d1 cache slot pair own same is hand holds 
       limits = own.limits ∙ sym same;
       cached = hand;
       held = left;
-      headed = λ i. own_headed (own_in new i) (own_in m.table i) (held_in new i) (o1 i) (d1 i) (d0 i) (same_own i) (own.headed i) (own_in-held new i) (left i) (headers i);
+      headed = λ i. own_headed (own_in new i) (own_in m.table i) (held_in new i) (s1.holds i) (s1.headers i) (s0.headers i) (same_own i) (own.headed i) (own_in-held new i) (left i) (headers i);
     }
 
 -- a clone that stands in the lowest free slot
-pub own_cloned : (m : Member) (l later : Limits) (h0 h1 o0 o1 d0 d1 : ℕ → ℕ) (cache : List ℕ) (slot : ℕ) (new : List Seg) → Own m l h0 o0 d0 → later ≡ l → free_slot m.table ≡ Some slot →
-    ((i : ℕ) → h1 i ≡ bag cache i) → ((i : ℕ) → o1 i ≡ o0 i + bag (holds_of_packet new) i) → ((i : ℕ) → d1 i ≡ d0 i + bag (map (λ seg. seg.elem) new) i) →
-    Own (record m { cache = cache; table = set m.table slot (Some new) }) later h1 o1 d1
-own_cloned m l later h0 h1 o0 o1 d0 d1 cache slot new own same free hand holds headers =
+pub own_cloned : (m : Member) (s0 s1 : Side) (cache : List ℕ) (slot : ℕ) (new : List Seg) → Own m s0 → s1.limits ≡ s0.limits → free_slot m.table ≡ Some slot →
+    ((i : ℕ) → s1.hand i ≡ bag cache i) → ((i : ℕ) → s1.holds i ≡ s0.holds i + bag (holds_of_packet new) i) → ((i : ℕ) → s1.headers i ≡ s0.headers i + bag (map (λ seg. seg.elem) new) i) →
+    Own (record m { cache = cache; table = set m.table slot (Some new) }) s1
+own_cloned m s0 s1 cache slot new own same free hand holds headers =
     let empty = free_slot-is m.table slot free in
     record {
       limits = own.limits ∙ sym same;
@@ -200,9 +201,9 @@ own_cloned m l later h0 h1 o0 o1 d0 d1 cache slot new own same free hand holds h
     }
 
 -- and one that was given up
-pub own_given_up : (m : Member) (l later : Limits) (h0 h1 o0 o1 d0 d1 : ℕ → ℕ) (cache : List ℕ) → Own m l h0 o0 d0 → later ≡ l →
-    ((i : ℕ) → h1 i ≡ bag cache i) → ((i : ℕ) → o1 i ≡ o0 i) → ((i : ℕ) → d1 i ≡ d0 i) → Own (record m { cache = cache }) later h1 o1 d1
-own_given_up m l later h0 h1 o0 o1 d0 d1 cache own same hand holds headers = record {
+pub own_given_up : (m : Member) (s0 s1 : Side) (cache : List ℕ) → Own m s0 → s1.limits ≡ s0.limits →
+    ((i : ℕ) → s1.hand i ≡ bag cache i) → ((i : ℕ) → s1.holds i ≡ s0.holds i) → ((i : ℕ) → s1.headers i ≡ s0.headers i) → Own (record m { cache = cache }) s1
+own_given_up m s0 s1 cache own same hand holds headers = record {
   limits = own.limits ∙ sym same;
   cached = hand;
   held = λ i. holds i ∙ own.held i;

@@ -118,9 +118,9 @@ fn told_len<const ROOM: usize>(answer: Result<u32, Refusal>) -> Answer<ROOM>
 
 /// Makes a packet, and tells of it.
 fn alloc<C: Commons, const ROOM: usize>(packets: &mut Packets, c: &mut C) -> Answer<ROOM>
-    requires own { Own packets.old (C.limits c.old) (C.hand c.old) (C.holds c.old) (C.headers c.old) }
-    ensures calls { (made : List Made) × Leads C.did C.limits c.old made c.new × Performs Act.Alloc packets.old (calls_of made) (as_reply result) packets.new }
-    ensures own { Own packets.new (C.limits c.new) (C.hand c.new) (C.holds c.new) (C.headers c.new) }
+    requires own { Own packets.old (C.side c.old) }
+    ensures calls { (made : List Made) × Leads C.did C.side c.old made c.new × Performs Act.Alloc packets.old (calls_of made) (as_reply result) packets.new }
+    ensures own { Own packets.new (C.side c.new) }
 {
     match packets.alloc(c) {
         Ok(slot) => Answer::Allocated(slot, elem_in(packets, slot)),
@@ -150,11 +150,11 @@ fn alloc_all<C: Commons, const ROOM: usize>(
     c: &mut C,
     slots: &mut [Pid],
 ) -> Answer<ROOM>
-    requires own { Own packets.old (C.limits c.old) (C.hand c.old) (C.holds c.old) (C.headers c.old) }
+    requires own { Own packets.old (C.side c.old) }
     requires few { length slots.old ≤ slot_count }
     requires room { HasRoom ROOM (Act.AllocBulk (length slots.old)) }
-    ensures calls { (made : List Made) × Leads C.did C.limits c.old made c.new × Performs (Act.AllocBulk (length slots.old)) packets.old (calls_of made) (as_reply result) packets.new }
-    ensures own { Own packets.new (C.limits c.new) (C.hand c.new) (C.holds c.new) (C.headers c.new) }
+    ensures calls { (made : List Made) × Leads C.did C.side c.old made c.new × Performs (Act.AllocBulk (length slots.old)) packets.old (calls_of made) (as_reply result) packets.new }
+    ensures own { Own packets.new (C.side c.new) }
 {
     match packets.alloc_bulk(c, slots) {
         Ok(()) => Answer::Bulk(new_packets(packets, slots)),
@@ -169,9 +169,9 @@ fn alloc_bulk<C: Commons, const ROOM: usize>(
     count: usize,
 ) -> Answer<ROOM>
     requires room { HasRoom ROOM (Act.AllocBulk count) }
-    requires own { Own packets.old (C.limits c.old) (C.hand c.old) (C.holds c.old) (C.headers c.old) }
-    ensures calls { (made : List Made) × Leads C.did C.limits c.old made c.new × Performs (Act.AllocBulk count) packets.old (calls_of made) (as_reply result) packets.new }
-    ensures own { Own packets.new (C.limits c.new) (C.hand c.new) (C.holds c.new) (C.headers c.new) }
+    requires own { Own packets.old (C.side c.old) }
+    ensures calls { (made : List Made) × Leads C.did C.side c.old made c.new × Performs (Act.AllocBulk count) packets.old (calls_of made) (as_reply result) packets.new }
+    ensures own { Own packets.new (C.side c.new) }
 {
     packets.has_slots();
     if count > SLOTS {
@@ -188,9 +188,9 @@ fn chain<C: Commons, const ROOM: usize>(
     head: Pid,
     tail: Pid,
 ) -> Answer<ROOM>
-    requires own { Own packets.old (C.limits c.old) (C.hand c.old) (C.holds c.old) (C.headers c.old) }
-    ensures calls { (made : List Made) × Leads C.did C.limits c.old made c.new × Performs (Act.Chain head tail) packets.old (calls_of made) (as_reply result) packets.new }
-    ensures own { Own packets.new (C.limits c.new) (C.hand c.new) (C.holds c.new) (C.headers c.new) }
+    requires own { Own packets.old (C.side c.old) }
+    ensures calls { (made : List Made) × Leads C.did C.side c.old made c.new × Performs (Act.Chain head tail) packets.old (calls_of made) (as_reply result) packets.new }
+    ensures own { Own packets.new (C.side c.new) }
 {
     if let Err(cause) = packets.chain(c, head, tail) {
         return Answer::Refused(cause);
@@ -219,9 +219,9 @@ fn clone_packet<C: Commons, const ROOM: usize>(
     c: &mut C,
     p: Pid,
 ) -> Answer<ROOM>
-    requires own { Own packets.old (C.limits c.old) (C.hand c.old) (C.holds c.old) (C.headers c.old) }
-    ensures calls { (made : List Made) × Leads C.did C.limits c.old made c.new × Performs (Act.ClonePacket p) packets.old (calls_of made) (as_reply result) packets.new }
-    ensures own { Own packets.new (C.limits c.new) (C.hand c.new) (C.holds c.new) (C.headers c.new) }
+    requires own { Own packets.old (C.side c.old) }
+    ensures calls { (made : List Made) × Leads C.did C.side c.old made c.new × Performs (Act.ClonePacket p) packets.old (calls_of made) (as_reply result) packets.new }
+    ensures own { Own packets.new (C.side c.new) }
 {
     match packets.clone_packet(c, p) {
         Ok(slot) => Answer::Cloned(slot, elems_in(packets, slot)),
@@ -240,9 +240,9 @@ fn told_taken<const ROOM: usize>(packets: &Packets, slot: Pid) -> Answer<ROOM>
 
 /// Takes a packet off a desk, and tells of it.
 fn take<C: Commons, const ROOM: usize>(packets: &mut Packets, c: &mut C, desk: u32) -> Answer<ROOM>
-    requires own { Own packets.old (C.limits c.old) (C.hand c.old) (C.holds c.old) (C.headers c.old) }
-    ensures calls { (made : List Made) × Leads C.did C.limits c.old made c.new × Performs (Act.Take desk) packets.old (calls_of made) (as_reply result) packets.new }
-    ensures own { Own packets.new (C.limits c.new) (C.hand c.new) (C.holds c.new) (C.headers c.new) }
+    requires own { Own packets.old (C.side c.old) }
+    ensures calls { (made : List Made) × Leads C.did C.side c.old made c.new × Performs (Act.Take desk) packets.old (calls_of made) (as_reply result) packets.new }
+    ensures own { Own packets.new (C.side c.new) }
 {
     match packets.take(c, desk) {
         Ok(slot) => told_taken(packets, slot),
@@ -256,9 +256,9 @@ fn take<C: Commons, const ROOM: usize>(packets: &mut Packets, c: &mut C, desk: u
 /// 256 is refused `PacketsFull`. After a refusal packets, cache and holds are as before, but that a
 /// refused clone may share out the free elements otherwise between cache and stack.
 pub fn perform<C: Commons>(packets: &mut Packets, c: &mut C, act: Act) -> Reply
-    requires own { Own packets.old (C.limits c.old) (C.hand c.old) (C.holds c.old) (C.headers c.old) }
-    ensures calls { (made : List Made) × Leads C.did C.limits c.old made c.new × Performs act packets.old (calls_of made) result packets.new }
-    ensures own { Own packets.new (C.limits c.new) (C.hand c.new) (C.holds c.new) (C.headers c.new) }
+    requires own { Own packets.old (C.side c.old) }
+    ensures calls { (made : List Made) × Leads C.did C.side c.old made c.new × Performs act packets.old (calls_of made) result packets.new }
+    ensures own { Own packets.new (C.side c.new) }
 {
     perform_in(packets, c, act)
 }
@@ -271,9 +271,9 @@ pub fn perform_in<C: Commons, const ROOM: usize>(
     act: Act,
 ) -> Answer<ROOM>
     requires room { HasRoom ROOM act }
-    requires own { Own packets.old (C.limits c.old) (C.hand c.old) (C.holds c.old) (C.headers c.old) }
-    ensures calls { (made : List Made) × Leads C.did C.limits c.old made c.new × Performs act packets.old (calls_of made) (as_reply result) packets.new }
-    ensures own { Own packets.new (C.limits c.new) (C.hand c.new) (C.holds c.new) (C.headers c.new) }
+    requires own { Own packets.old (C.side c.old) }
+    ensures calls { (made : List Made) × Leads C.did C.side c.old made c.new × Performs act packets.old (calls_of made) (as_reply result) packets.new }
+    ensures own { Own packets.new (C.side c.new) }
 {
     match act {
         Act::Alloc => alloc(packets, c),

@@ -2,7 +2,7 @@
 
 ghost use Rattle.std.specs.Prelude.{◌≡◌, ◌≢◌, ◌<◌, ◌≤◌, ◌+◌, [], ◌∷◌, ◌++◌, ℕ, List, length, map, take, Ok, Err, OnOk, OnErr, IfOk, MatchResult, slice_index_or, slice_set, vec_len};
 ghost use Rattle.commons.specs.Bag.{bag, one};
-ghost use Rattle.commons.specs.Calls.{Made, Leads, calls_of};
+ghost use Rattle.commons.specs.Calls.{Made, IsRaise, Leads, calls_of};
 ghost use Rattle.commons.specs.Packets.{HasItsData, IsPacket, hold_of, holds_of_packet, holds_of_seg, max_segs};
 ghost use Rattle.mempool.specs.WorkerCache.{KeepsNumber};
 ghost use Rattle.mbuf.specs.PacketRules.{EndsHolds, freed_nothing};
@@ -40,16 +40,13 @@ fn attached(elem: u32, target: Seg) -> Seg
 ///
 /// Refused `InUse` where another count was read, else as the raise of the buffer's count is.
 pub fn attach<C: Commons>(c: &mut C, elem: u32, target: Seg) -> Result<Seg, Refusal>
-    requires own { 0 < C.holds c.old elem }
-    requires held { 0 < C.holds c.old (buffer target) }
+    requires own { 0 < (C.side c.old).holds elem }
+    requires held { 0 < (C.side c.old).holds (buffer target) }
     requires data { HasItsData target }
-    ensures calls { (made : List Made) × Leads C.did C.limits c.old made c.new × AttachesElem elem target (calls_of made) result }
+    ensures calls { (made : List Made) × Leads C.did C.side c.old made c.new × AttachesElem elem target (calls_of made) result }
     ensures data { IfOk result HasItsData }
-    ensures hand { (i : ℕ) → C.hand c.new i ≡ C.hand c.old i }
-    ensures holds { OnOk result ((i : ℕ) → C.holds c.new i ≡ C.holds c.old i + one (buffer target) i) }
-    ensures holds_err { OnErr result (C.holds c.new ≡ C.holds c.old) }
-    ensures headers { C.headers c.new ≡ C.headers c.old }
-    ensures limits { C.limits c.new ≡ C.limits c.old }
+    ensures ok { OnOk result (IsRaise (buffer target) (C.side c.old) (C.side c.new)) }
+    ensures refused { OnErr result (C.side c.new ≡ C.side c.old) }
 {
     if c.count(elem) != 1 {
         return Err(Refusal::InUse);
@@ -69,17 +66,17 @@ struct Stop {
 
 /// Clones a segment: gets an element, claims it, and lets it use the segment's buffer.
 fn clone_seg<C: Commons>(worker: &mut Worker, c: &mut C, seg: Seg) -> Result<Seg, Stop>
-    requires limits { C.limits c.old ≡ worker.old.limits }
-    requires hand { (i : ℕ) → C.hand c.old i ≡ bag worker.old.cache i }
-    requires held { 0 < C.holds c.old (buffer seg) }
+    requires limits { (C.side c.old).limits ≡ worker.old.limits }
+    requires hand { (i : ℕ) → (C.side c.old).hand i ≡ bag worker.old.cache i }
+    requires held { 0 < (C.side c.old).holds (buffer seg) }
     requires data { HasItsData seg }
-    ensures calls { (made : List Made) × Leads C.did C.limits c.old made c.new × TriesSeg worker.old.limits seg worker.old.cache (calls_of made) result worker.new.cache }
+    ensures calls { (made : List Made) × Leads C.did C.side c.old made c.new × TriesSeg worker.old.limits seg worker.old.cache (calls_of made) result worker.new.cache }
     ensures data { IfOk result HasItsData }
-    ensures hand { (i : ℕ) → C.hand c.new i ≡ bag worker.new.cache i }
-    ensures holds { (i : ℕ) → C.holds c.new i ≡ C.holds c.old i + bag (new_holds result) i }
-    ensures headers { (i : ℕ) → C.headers c.new i ≡ C.headers c.old i + bag (new_headers result) i }
-    ensures unheld { (i : ℕ) → 0 < bag (new_headers result) i → C.holds c.old i ≡ 0 }
-    ensures limits { C.limits c.new ≡ C.limits c.old }
+    ensures hand { (i : ℕ) → (C.side c.new).hand i ≡ bag worker.new.cache i }
+    ensures holds { (i : ℕ) → (C.side c.new).holds i ≡ (C.side c.old).holds i + bag (new_holds result) i }
+    ensures headers { (i : ℕ) → (C.side c.new).headers i ≡ (C.side c.old).headers i + bag (new_headers result) i }
+    ensures unheld { (i : ℕ) → 0 < bag (new_headers result) i → (C.side c.old).holds i ≡ 0 }
+    ensures limits { (C.side c.new).limits ≡ (C.side c.old).limits }
     ensures number { KeepsNumber worker.old worker.new }
 {
     let elem = match steps::get_one(worker, c) {
@@ -98,15 +95,15 @@ fn clone_seg<C: Commons>(worker: &mut Worker, c: &mut C, seg: Seg) -> Result<Seg
 
 /// Ends the holds of segments in order, and then that of an element that is left over.
 fn give_up<C: Commons>(worker: &mut Worker, c: &mut C, segs: &[Seg], over: Option<u32>) -> Freed
-    requires limits { C.limits c.old ≡ worker.old.limits }
-    requires hand { (i : ℕ) → C.hand c.old i ≡ bag worker.old.cache i }
-    requires held { (i : ℕ) → bag (holds_of_packet segs.now ++ hold_of over) i ≤ C.holds c.old i }
+    requires limits { (C.side c.old).limits ≡ worker.old.limits }
+    requires hand { (i : ℕ) → (C.side c.old).hand i ≡ bag worker.old.cache i }
+    requires held { (i : ℕ) → bag (holds_of_packet segs.now ++ hold_of over) i ≤ (C.side c.old).holds i }
     requires few { length segs.now < max_segs }
-    ensures calls { (made : List Made) × Leads C.did C.limits c.old made c.new × EndsHolds worker.old.limits (holds_of_packet segs.now ++ hold_of over) worker.old.cache freed_nothing (calls_of made) worker.new.cache result }
-    ensures hand { (i : ℕ) → C.hand c.new i ≡ bag worker.new.cache i }
-    ensures holds { (i : ℕ) → C.holds c.old i ≡ C.holds c.new i + bag (holds_of_packet segs.now ++ hold_of over) i }
-    ensures headers { (i : ℕ) → 0 < C.holds c.new i → C.headers c.new i ≡ C.headers c.old i }
-    ensures limits { C.limits c.new ≡ C.limits c.old }
+    ensures calls { (made : List Made) × Leads C.did C.side c.old made c.new × EndsHolds worker.old.limits (holds_of_packet segs.now ++ hold_of over) worker.old.cache freed_nothing (calls_of made) worker.new.cache result }
+    ensures hand { (i : ℕ) → (C.side c.new).hand i ≡ bag worker.new.cache i }
+    ensures holds { (i : ℕ) → (C.side c.old).holds i ≡ (C.side c.new).holds i + bag (holds_of_packet segs.now ++ hold_of over) i }
+    ensures headers { (i : ℕ) → 0 < (C.side c.new).holds i → (C.side c.new).headers i ≡ (C.side c.old).headers i }
+    ensures limits { (C.side c.new).limits ≡ (C.side c.old).limits }
     ensures number { KeepsNumber worker.old worker.new }
 {
     let freed = steps::end_segs(worker, c, segs);
@@ -141,17 +138,17 @@ pub fn clone_segs<C: Commons>(
     requires source { source < vec_len packets.old }
     requires slot { slot < vec_len packets.old }
     requires apart { source ≢ slot }
-    requires limits { C.limits c.old ≡ worker.old.limits }
-    requires hand { (i : ℕ) → C.hand c.old i ≡ bag worker.old.cache i }
-    requires held { (i : ℕ) → bag (holds_of_packet (slice_index_or packets.old.items source [])) i ≤ C.holds c.old i }
-    ensures calls { (made : List Made) × Leads C.did C.limits c.old made c.new × TriesSegs worker.old.limits (slice_index_or packets.old.items source []) worker.old.cache (calls_of made) (slice_index_or packets.new.items slot []) result worker.new.cache }
+    requires limits { (C.side c.old).limits ≡ worker.old.limits }
+    requires hand { (i : ℕ) → (C.side c.old).hand i ≡ bag worker.old.cache i }
+    requires held { (i : ℕ) → bag (holds_of_packet (slice_index_or packets.old.items source [])) i ≤ (C.side c.old).holds i }
+    ensures calls { (made : List Made) × Leads C.did C.side c.old made c.new × TriesSegs worker.old.limits (slice_index_or packets.old.items source []) worker.old.cache (calls_of made) (slice_index_or packets.new.items slot []) result worker.new.cache }
     ensures packets { packets.new.items ≡ slice_set packets.old.items slot (slice_index_or packets.new.items slot []) }
-    ensures hand { (i : ℕ) → C.hand c.new i ≡ bag worker.new.cache i }
-    ensures holds { OnOk result ((i : ℕ) → C.holds c.new i ≡ C.holds c.old i + bag (holds_of_packet (slice_index_or packets.new.items slot [])) i) }
-    ensures headers { OnOk result ((i : ℕ) → C.headers c.new i ≡ C.headers c.old i + bag (map (λ seg. seg.elem) (slice_index_or packets.new.items slot [])) i) }
-    ensures holds_err { OnErr result ((i : ℕ) → C.holds c.new i ≡ C.holds c.old i) }
-    ensures headers_err { OnErr result ((i : ℕ) → C.headers c.new i ≡ C.headers c.old i) }
-    ensures limits { C.limits c.new ≡ C.limits c.old }
+    ensures hand { (i : ℕ) → (C.side c.new).hand i ≡ bag worker.new.cache i }
+    ensures holds { OnOk result ((i : ℕ) → (C.side c.new).holds i ≡ (C.side c.old).holds i + bag (holds_of_packet (slice_index_or packets.new.items slot [])) i) }
+    ensures headers { OnOk result ((i : ℕ) → (C.side c.new).headers i ≡ (C.side c.old).headers i + bag (map (λ seg. seg.elem) (slice_index_or packets.new.items slot [])) i) }
+    ensures holds_err { OnErr result ((i : ℕ) → (C.side c.new).holds i ≡ (C.side c.old).holds i) }
+    ensures headers_err { OnErr result ((i : ℕ) → (C.side c.new).headers i ≡ (C.side c.old).headers i) }
+    ensures limits { (C.side c.new).limits ≡ (C.side c.old).limits }
     ensures number { KeepsNumber worker.old worker.new }
 {
     for index in 0..packets[source].segs().len() {

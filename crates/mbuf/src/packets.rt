@@ -132,15 +132,11 @@ impl Packets {
 
     /// Claims an element of the hand, and lets its fresh packet stand in the lowest free slot.
     fn stand<C: Commons>(&mut self, c: &mut C, elem: u32) -> Pid
-        requires hand { 0 < C.hand c.old elem }
+        requires hand { 0 < (C.side c.old).hand elem }
         requires free { 0 < length (free_slots self.old.table) }
-        ensures did { Did C.did C.limits c.old (Claim elem) c.new }
+        ensures did { Did C.did C.side c.old (Claim elem) c.new }
         ensures slot { free_slot self.old.table ≡ Some result }
         ensures stood { self.new ≡ record self.old { table = slice_set self.old.table result (Some (fresh_seg self.old.limits elem ∷ [])) } }
-        ensures hand { (i : ℕ) → C.hand c.old i ≡ C.hand c.new i + one elem i }
-        ensures holds { (i : ℕ) → C.holds c.new i ≡ C.holds c.old i + one elem i }
-        ensures headers { (i : ℕ) → C.headers c.new i ≡ C.headers c.old i + one elem i }
-        ensures limits { C.limits c.new ≡ C.limits c.old }
     {
         let slot = self.free.lowest().unwrap();
         c.claim(elem);
@@ -152,15 +148,15 @@ impl Packets {
 
     /// Claims elements of the hand in turn, and puts the slots of their packets in their places.
     fn stand_all<C: Commons>(&mut self, c: &mut C, out: &mut [u32])
-        requires hand { (i : ℕ) → bag out.old i ≤ C.hand c.old i }
+        requires hand { (i : ℕ) → bag out.old i ≤ (C.side c.old).hand i }
         requires free { length out.old ≤ length (free_slots self.old.table) }
-        ensures calls { (made : List Made) × Leads C.did C.limits c.old made c.new × (calls_of made ≡ map Claim out.old) }
+        ensures calls { (made : List Made) × Leads C.did C.side c.old made c.new × (calls_of made ≡ map Claim out.old) }
         ensures slots { out.new ≡ take (length out.old) (free_slots self.old.table) }
         ensures stood { self.new ≡ record self.old { table = stood self.old.limits out.old out.new self.old.table } }
-        ensures hand { (i : ℕ) → C.hand c.old i ≡ C.hand c.new i + bag out.old i }
-        ensures holds { (i : ℕ) → C.holds c.new i ≡ C.holds c.old i + bag out.old i }
-        ensures headers { (i : ℕ) → C.headers c.new i ≡ C.headers c.old i + bag out.old i }
-        ensures limits { C.limits c.new ≡ C.limits c.old }
+        ensures hand { (i : ℕ) → (C.side c.old).hand i ≡ (C.side c.new).hand i + bag out.old i }
+        ensures holds { (i : ℕ) → (C.side c.new).holds i ≡ (C.side c.old).holds i + bag out.old i }
+        ensures headers { (i : ℕ) → (C.side c.new).headers i ≡ (C.side c.old).headers i + bag out.old i }
+        ensures limits { (C.side c.new).limits ≡ (C.side c.old).limits }
     {
         for place in 0..out.len() {
             out[place] = self.stand(c, out[place]);
@@ -174,9 +170,10 @@ impl Packets {
     ///
     /// After rte_mbuf.h, `rte_pktmbuf_alloc` (DPDK 21.11). The table of packets is our own.
     pub fn alloc<C: Commons>(&mut self, c: &mut C) -> Result<Pid, Refusal>
-        requires own { Own self.old (C.limits c.old) (C.hand c.old) (C.holds c.old) (C.headers c.old) }
-        ensures calls { (made : List Made) × Leads C.did C.limits c.old made c.new × Allocs self.old (calls_of made) result self.new }
-        ensures own { Own self.new (C.limits c.new) (C.hand c.new) (C.holds c.new) (C.headers c.new) }
+        requires own { Own self.old (C.side c.old) }
+        ensures calls { (made : List Made) × Leads C.did C.side c.old made c.new × Allocs self.old (calls_of made) result self.new }
+        ensures own { Own self.new (C.side c.new) }
+        ensures refused { OnErr result ((C.side c.new ≡ C.side c.old) × (self.new ≡ self.old)) }
     {
         if self.free.count() == 0 {
             return Err(Refusal::PacketsFull);
@@ -197,9 +194,10 @@ impl Packets {
     ///
     /// After rte_mbuf.h, `rte_pktmbuf_alloc_bulk` (DPDK 21.11). The table of packets is our own.
     pub fn alloc_bulk<C: Commons>(&mut self, c: &mut C, out: &mut [Pid]) -> Result<(), Refusal>
-        requires own { Own self.old (C.limits c.old) (C.hand c.old) (C.holds c.old) (C.headers c.old) }
-        ensures calls { (made : List Made) × Leads C.did C.limits c.old made c.new × AllocsBulk self.old (length out.old) (calls_of made) (with_list result out.new) self.new }
-        ensures own { Own self.new (C.limits c.new) (C.hand c.new) (C.holds c.new) (C.headers c.new) }
+        requires own { Own self.old (C.side c.old) }
+        ensures calls { (made : List Made) × Leads C.did C.side c.old made c.new × AllocsBulk self.old (length out.old) (calls_of made) (with_list result out.new) self.new }
+        ensures own { Own self.new (C.side c.new) }
+        ensures refused { OnErr result ((C.side c.new ≡ C.side c.old) × (self.new ≡ self.old)) }
     {
         if self.free.count() < out.len() {
             return Err(Refusal::PacketsFull);
@@ -222,9 +220,10 @@ impl Packets {
     ///
     /// After rte_mbuf.h, `rte_pktmbuf_free` (DPDK 21.11).
     pub fn free<C: Commons>(&mut self, c: &mut C, p: Pid) -> Result<Freed, Refusal>
-        requires own { Own self.old (C.limits c.old) (C.hand c.old) (C.holds c.old) (C.headers c.old) }
-        ensures calls { (made : List Made) × Leads C.did C.limits c.old made c.new × Frees self.old p (calls_of made) result self.new }
-        ensures own { Own self.new (C.limits c.new) (C.hand c.new) (C.holds c.new) (C.headers c.new) }
+        requires own { Own self.old (C.side c.old) }
+        ensures calls { (made : List Made) × Leads C.did C.side c.old made c.new × Frees self.old p (calls_of made) result self.new }
+        ensures own { Own self.new (C.side c.new) }
+        ensures refused { OnErr result ((C.side c.new ≡ C.side c.old) × (self.new ≡ self.old)) }
     {
         let Some(slot) = self.slot(p) else {
             return Err(Refusal::NoSuchPacket);
@@ -239,10 +238,10 @@ impl Packets {
     ///
     /// After rte_mempool.h, `rte_mempool_cache_flush` (DPDK 21.11).
     pub fn flush<C: Commons>(&mut self, c: &mut C) -> Put
-        requires own { Own self.old (C.limits c.old) (C.hand c.old) (C.holds c.old) (C.headers c.old) }
-        ensures calls { (made : List Made) × Leads C.did C.limits c.old made c.new × Flushes self.old.cache (calls_of made) result self.new.cache }
+        requires own { Own self.old (C.side c.old) }
+        ensures calls { (made : List Made) × Leads C.did C.side c.old made c.new × Flushes self.old.cache (calls_of made) result self.new.cache }
         ensures packets { self.new ≡ record self.old { cache = self.new.cache } }
-        ensures own { Own self.new (C.limits c.new) (C.hand c.new) (C.holds c.new) (C.headers c.new) }
+        ensures own { Own self.new (C.side c.new) }
     {
         self.worker.flush(c)
     }
@@ -270,10 +269,10 @@ impl Packets {
     ///
     /// After rte_mbuf.h, `rte_pktmbuf_append` (DPDK 21.11).
     pub fn append<C: Commons>(&mut self, c: &mut C, p: Pid, len: u16) -> Result<u32, Refusal>
-        requires own { Own self.old (C.limits c.old) (C.hand c.old) (C.holds c.old) (C.headers c.old) }
+        requires own { Own self.old (C.side c.old) }
         ensures resized { Resizes (appended len) Refusal.NoRoom self.old p result self.new }
         ensures no_call { c.new ≡ c.old }
-        ensures own { Own self.new (C.limits c.new) (C.hand c.new) (C.holds c.new) (C.headers c.new) }
+        ensures own { Own self.new (C.side c.new) }
     {
         self.resize(p, Change::Append(len))
     }
@@ -286,10 +285,10 @@ impl Packets {
     ///
     /// After rte_mbuf.h, `rte_pktmbuf_prepend` (DPDK 21.11).
     pub fn prepend<C: Commons>(&mut self, c: &mut C, p: Pid, len: u16) -> Result<u32, Refusal>
-        requires own { Own self.old (C.limits c.old) (C.hand c.old) (C.holds c.old) (C.headers c.old) }
+        requires own { Own self.old (C.side c.old) }
         ensures resized { Resizes (prepended len) Refusal.NoRoom self.old p result self.new }
         ensures no_call { c.new ≡ c.old }
-        ensures own { Own self.new (C.limits c.new) (C.hand c.new) (C.holds c.new) (C.headers c.new) }
+        ensures own { Own self.new (C.side c.new) }
     {
         self.resize(p, Change::Prepend(len))
     }
@@ -302,10 +301,10 @@ impl Packets {
     ///
     /// After rte_mbuf.h, `rte_pktmbuf_adj` (DPDK 21.11).
     pub fn adj<C: Commons>(&mut self, c: &mut C, p: Pid, len: u16) -> Result<u32, Refusal>
-        requires own { Own self.old (C.limits c.old) (C.hand c.old) (C.holds c.old) (C.headers c.old) }
+        requires own { Own self.old (C.side c.old) }
         ensures resized { Resizes (adjusted len) Refusal.TooShort self.old p result self.new }
         ensures no_call { c.new ≡ c.old }
-        ensures own { Own self.new (C.limits c.new) (C.hand c.new) (C.holds c.new) (C.headers c.new) }
+        ensures own { Own self.new (C.side c.new) }
     {
         self.resize(p, Change::Adj(len))
     }
@@ -318,10 +317,10 @@ impl Packets {
     ///
     /// After rte_mbuf.h, `rte_pktmbuf_trim` (DPDK 21.11).
     pub fn trim<C: Commons>(&mut self, c: &mut C, p: Pid, len: u16) -> Result<u32, Refusal>
-        requires own { Own self.old (C.limits c.old) (C.hand c.old) (C.holds c.old) (C.headers c.old) }
+        requires own { Own self.old (C.side c.old) }
         ensures resized { Resizes (trimmed len) Refusal.TooShort self.old p result self.new }
         ensures no_call { c.new ≡ c.old }
-        ensures own { Own self.new (C.limits c.new) (C.hand c.new) (C.holds c.new) (C.headers c.new) }
+        ensures own { Own self.new (C.side c.new) }
     {
         self.resize(p, Change::Trim(len))
     }
@@ -332,7 +331,7 @@ impl Packets {
     ///
     /// After rte_mbuf.h, `rte_pktmbuf_pkt_len` (DPDK 21.11).
     pub fn pkt_len<C: Commons>(&self, c: &mut C, p: Pid) -> Result<u32, Refusal>
-        requires own { Own self.now (C.limits c.old) (C.hand c.old) (C.holds c.old) (C.headers c.old) }
+        requires own { Own self.now (C.side c.old) }
         ensures answer { result ≡ of_packet len_of (slice_index_or self.now.table p None) }
         ensures no_call { c.new ≡ c.old }
     {
@@ -348,7 +347,7 @@ impl Packets {
     ///
     /// After rte_mbuf_core.h, `nb_segs` of `struct rte_mbuf` (DPDK 21.11).
     pub fn nb_segs<C: Commons>(&self, c: &mut C, p: Pid) -> Result<u32, Refusal>
-        requires own { Own self.now (C.limits c.old) (C.hand c.old) (C.holds c.old) (C.headers c.old) }
+        requires own { Own self.now (C.side c.old) }
         ensures answer { result ≡ of_packet length (slice_index_or self.now.table p None) }
         ensures no_call { c.new ≡ c.old }
     {
@@ -362,7 +361,7 @@ impl Packets {
     ///
     /// Refused `NoSuchPacket` where no packet stands there.
     pub fn segs<C: Commons>(&self, c: &mut C, p: Pid) -> Result<&[Seg], Refusal>
-        requires own { Own self.now (C.limits c.old) (C.hand c.old) (C.holds c.old) (C.headers c.old) }
+        requires own { Own self.now (C.side c.old) }
         ensures answer { MatchResult result (λ segs. slice_index_or self.now.table p None ≡ Some segs.now) (λ cause. (cause ≡ Refusal.NoSuchPacket) × (slice_index_or self.now.table p None ≡ None)) }
         ensures no_call { c.new ≡ c.old }
     {
@@ -404,10 +403,10 @@ impl Packets {
     ///
     /// After rte_mbuf.h, `rte_pktmbuf_chain` (DPDK 21.11), whose limit is 65,535.
     pub fn chain<C: Commons>(&mut self, c: &mut C, head: Pid, tail: Pid) -> Result<(), Refusal>
-        requires own { Own self.old (C.limits c.old) (C.hand c.old) (C.holds c.old) (C.headers c.old) }
+        requires own { Own self.old (C.side c.old) }
         ensures chained { Chains self.old head tail result self.new }
         ensures no_call { c.new ≡ c.old }
-        ensures own { Own self.new (C.limits c.new) (C.hand c.new) (C.holds c.new) (C.headers c.new) }
+        ensures own { Own self.new (C.side c.new) }
     {
         self.join(head, tail)
     }
@@ -450,9 +449,10 @@ impl Packets {
     ///
     /// After rte_mbuf.h, `rte_pktmbuf_attach` (DPDK 21.11), which asserts what we refuse.
     pub fn attach<C: Commons>(&mut self, c: &mut C, mi: Pid, target: Pid) -> Result<(), Refusal>
-        requires own { Own self.old (C.limits c.old) (C.hand c.old) (C.holds c.old) (C.headers c.old) }
-        ensures calls { (made : List Made) × Leads C.did C.limits c.old made c.new × Attaches self.old mi target (calls_of made) result self.new }
-        ensures own { Own self.new (C.limits c.new) (C.hand c.new) (C.holds c.new) (C.headers c.new) }
+        requires own { Own self.old (C.side c.old) }
+        ensures calls { (made : List Made) × Leads C.did C.side c.old made c.new × Attaches self.old mi target (calls_of made) result self.new }
+        ensures own { Own self.new (C.side c.new) }
+        ensures refused { OnErr result ((C.side c.new ≡ C.side c.old) × (self.new ≡ self.old)) }
     {
         let (elem, seg) = self.pair(mi, target)?;
         let attached = clones::attach(c, elem, seg)?;
@@ -486,9 +486,10 @@ impl Packets {
     ///
     /// After rte_mbuf.h, `rte_pktmbuf_detach` (DPDK 21.11).
     pub fn detach<C: Commons>(&mut self, c: &mut C, p: Pid) -> Result<Freed, Refusal>
-        requires own { Own self.old (C.limits c.old) (C.hand c.old) (C.holds c.old) (C.headers c.old) }
-        ensures calls { (made : List Made) × Leads C.did C.limits c.old made c.new × Detaches self.old p (calls_of made) result self.new }
-        ensures own { Own self.new (C.limits c.new) (C.hand c.new) (C.holds c.new) (C.headers c.new) }
+        requires own { Own self.old (C.side c.old) }
+        ensures calls { (made : List Made) × Leads C.did C.side c.old made c.new × Detaches self.old p (calls_of made) result self.new }
+        ensures own { Own self.new (C.side c.new) }
+        ensures refused { OnErr result ((C.side c.new ≡ C.side c.old) × (self.new ≡ self.old)) }
     {
         let (elem, base) = self.indirect(p)?;
         let freed = steps::end_hold(&mut self.worker, c, base, steps::NOTHING_FREED);
@@ -509,11 +510,12 @@ impl Packets {
     ///
     /// After rte_mbuf.h, `rte_pktmbuf_clone` (DPDK 21.11).
     pub fn clone_packet<C: Commons>(&mut self, c: &mut C, p: Pid) -> Result<Pid, Refusal>
-        requires own { Own self.old (C.limits c.old) (C.hand c.old) (C.holds c.old) (C.headers c.old) }
-        ensures calls { (made : List Made) × Leads C.did C.limits c.old made c.new × Clones self.old p (calls_of made) result self.new }
-        ensures holds_err { OnErr result ((i : ℕ) → C.holds c.new i ≡ C.holds c.old i) }
-        ensures headers_err { OnErr result ((i : ℕ) → C.headers c.new i ≡ C.headers c.old i) }
-        ensures own { Own self.new (C.limits c.new) (C.hand c.new) (C.holds c.new) (C.headers c.new) }
+        requires own { Own self.old (C.side c.old) }
+        ensures calls { (made : List Made) × Leads C.did C.side c.old made c.new × Clones self.old p (calls_of made) result self.new }
+        ensures holds_err { OnErr result ((i : ℕ) → (C.side c.new).holds i ≡ (C.side c.old).holds i) }
+        ensures headers_err { OnErr result ((i : ℕ) → (C.side c.new).headers i ≡ (C.side c.old).headers i) }
+        ensures table_err { OnErr result (self.new.table ≡ self.old.table) }
+        ensures own { Own self.new (C.side c.new) }
     {
         let Some(source) = self.slot(p) else {
             return Err(Refusal::NoSuchPacket);
@@ -539,9 +541,10 @@ impl Packets {
     ///
     /// Desks are our own; DPDK passes mbufs between lcores over an `rte_ring`.
     pub fn offer<C: Commons>(&mut self, c: &mut C, p: Pid, desk: u32) -> Result<(), Refusal>
-        requires own { Own self.old (C.limits c.old) (C.hand c.old) (C.holds c.old) (C.headers c.old) }
-        ensures calls { (made : List Made) × Leads C.did C.limits c.old made c.new × Offers self.old p desk (calls_of made) result self.new }
-        ensures own { Own self.new (C.limits c.new) (C.hand c.new) (C.holds c.new) (C.headers c.new) }
+        requires own { Own self.old (C.side c.old) }
+        ensures calls { (made : List Made) × Leads C.did C.side c.old made c.new × Offers self.old p desk (calls_of made) result self.new }
+        ensures own { Own self.new (C.side c.new) }
+        ensures refused { OnErr result ((C.side c.new ≡ C.side c.old) × (self.new ≡ self.old)) }
     {
         let Some(place) = self.slot(p) else {
             return Err(Refusal::NoSuchPacket);
@@ -568,9 +571,10 @@ impl Packets {
     ///
     /// Desks are our own; DPDK passes mbufs between lcores over an `rte_ring`.
     pub fn take<C: Commons>(&mut self, c: &mut C, desk: u32) -> Result<Pid, Refusal>
-        requires own { Own self.old (C.limits c.old) (C.hand c.old) (C.holds c.old) (C.headers c.old) }
-        ensures calls { (made : List Made) × Leads C.did C.limits c.old made c.new × Takes self.old desk (calls_of made) result self.new }
-        ensures own { Own self.new (C.limits c.new) (C.hand c.new) (C.holds c.new) (C.headers c.new) }
+        requires own { Own self.old (C.side c.old) }
+        ensures calls { (made : List Made) × Leads C.did C.side c.old made c.new × Takes self.old desk (calls_of made) result self.new }
+        ensures own { Own self.new (C.side c.new) }
+        ensures refused { OnErr result ((C.side c.new ≡ C.side c.old) × (self.new ≡ self.old)) }
     {
         if u64::from(desk) >= self.worker.limits().desks {
             return Err(Refusal::NoSuchDesk);
@@ -595,9 +599,9 @@ impl Packets {
     ///
     /// After rte_mbuf.h, `rte_mbuf_refcnt_read` (DPDK 21.11).
     pub fn count_of<C: Commons>(&self, c: &mut C, p: Pid) -> Result<u32, Refusal>
-        requires own { Own self.now (C.limits c.old) (C.hand c.old) (C.holds c.old) (C.headers c.old) }
-        ensures calls { (made : List Made) × Leads C.did C.limits c.old made c.new × CountsOf (slice_index_or self.now.table p None) (calls_of made) result }
-        ensures own { Own self.now (C.limits c.new) (C.hand c.new) (C.holds c.new) (C.headers c.new) }
+        requires own { Own self.now (C.side c.old) }
+        ensures calls { (made : List Made) × Leads C.did C.side c.old made c.new × CountsOf (slice_index_or self.now.table p None) (calls_of made) result }
+        ensures own { Own self.now (C.side c.new) }
     {
         match self.place(p) {
             Some(packet) => Ok(c.count(packet.segs()[0].elem)),

@@ -39,14 +39,14 @@ pub fn fresh(limits: &Limits, elem: u32) -> Seg
 
 /// Gets one element by the cache's rules.
 pub fn get_one<C: Commons>(worker: &mut Worker, c: &mut C) -> Result<u32, Refusal>
-    requires limits { C.limits c.old ≡ worker.old.limits }
-    ensures calls { (made : List Made) × Leads C.did C.limits c.old made c.new × Gets worker.old.limits worker.old.cache 1 (calls_of made) (as_list result) worker.new.cache }
-    ensures hand { IfOk result (λ e. (i : ℕ) → C.hand c.new i + bag worker.old.cache i ≡ C.hand c.old i + bag worker.new.cache i + one e i) }
-    ensures hand_err { OnErr result (C.hand c.new ≡ C.hand c.old) }
+    requires limits { (C.side c.old).limits ≡ worker.old.limits }
+    ensures calls { (made : List Made) × Leads C.did C.side c.old made c.new × Gets worker.old.limits worker.old.cache 1 (calls_of made) (as_list result) worker.new.cache }
+    ensures hand { IfOk result (λ e. (i : ℕ) → (C.side c.new).hand i + bag worker.old.cache i ≡ (C.side c.old).hand i + bag worker.new.cache i + one e i) }
+    ensures refused { OnErr result (C.side c.new ≡ C.side c.old) }
     ensures cache_err { OnErr result (worker.new.cache ≡ worker.old.cache) }
-    ensures holds { C.holds c.new ≡ C.holds c.old }
-    ensures headers { C.headers c.new ≡ C.headers c.old }
-    ensures limits { C.limits c.new ≡ C.limits c.old }
+    ensures holds { (C.side c.new).holds ≡ (C.side c.old).holds }
+    ensures headers { (C.side c.new).headers ≡ (C.side c.old).headers }
+    ensures limits { (C.side c.new).limits ≡ (C.side c.old).limits }
     ensures number { KeepsNumber worker.old worker.new }
 {
     let mut out = [0u32; 1];
@@ -77,16 +77,16 @@ pub fn counted(freed: Freed, put: Put) -> Freed
 /// Ends one hold of an element, and puts it back where that was the last.
 #[tactic(auto, using(commons::proofs::Bags::bags))]
 pub fn end_hold<C: Commons>(worker: &mut Worker, c: &mut C, elem: u32, freed: Freed) -> Freed
-    requires limits { C.limits c.old ≡ worker.old.limits }
-    requires hand { (i : ℕ) → C.hand c.old i ≡ bag worker.old.cache i }
-    requires held { 0 < C.holds c.old elem }
+    requires limits { (C.side c.old).limits ≡ worker.old.limits }
+    requires hand { (i : ℕ) → (C.side c.old).hand i ≡ bag worker.old.cache i }
+    requires held { 0 < (C.side c.old).holds elem }
     requires back { freed.back < 2 * max_segs }
     requires flushed { freed.flushed ≤ max_population * freed.back }
-    ensures calls { (made : List Made) × Leads C.did C.limits c.old made c.new × EndsHold worker.old.limits elem worker.old.cache freed (calls_of made) worker.new.cache result }
-    ensures hand { (i : ℕ) → C.hand c.new i ≡ bag worker.new.cache i }
-    ensures holds { (i : ℕ) → C.holds c.old i ≡ C.holds c.new i + one elem i }
-    ensures headers { (i : ℕ) → C.headers c.new i ≡ (if nat_lt 0 (C.holds c.new i) then C.headers c.old i else 0) }
-    ensures limits { C.limits c.new ≡ C.limits c.old }
+    ensures calls { (made : List Made) × Leads C.did C.side c.old made c.new × EndsHold worker.old.limits elem worker.old.cache freed (calls_of made) worker.new.cache result }
+    ensures hand { (i : ℕ) → (C.side c.new).hand i ≡ bag worker.new.cache i }
+    ensures holds { (i : ℕ) → (C.side c.old).holds i ≡ (C.side c.new).holds i + one elem i }
+    ensures headers { (i : ℕ) → (C.side c.new).headers i ≡ (if nat_lt 0 ((C.side c.new).holds i) then (C.side c.old).headers i else 0) }
+    ensures limits { (C.side c.new).limits ≡ (C.side c.old).limits }
     ensures number { KeepsNumber worker.old worker.new }
     ensures back { result.back ≤ freed.back + 1 }
     ensures flushed { result.flushed ≤ max_population * result.back }
@@ -101,16 +101,16 @@ pub fn end_hold<C: Commons>(worker: &mut Worker, c: &mut C, elem: u32, freed: Fr
 /// Ends the holds of one segment: that of its base, where it has one, and then its own.
 #[tactic(auto, using(commons::proofs::Bags::bags))]
 fn end_seg<C: Commons>(worker: &mut Worker, c: &mut C, seg: Seg, freed: Freed) -> Freed
-    requires limits { C.limits c.old ≡ worker.old.limits }
-    requires hand { (i : ℕ) → C.hand c.old i ≡ bag worker.old.cache i }
-    requires held { (i : ℕ) → bag (holds_of_seg seg) i ≤ C.holds c.old i }
+    requires limits { (C.side c.old).limits ≡ worker.old.limits }
+    requires hand { (i : ℕ) → (C.side c.old).hand i ≡ bag worker.old.cache i }
+    requires held { (i : ℕ) → bag (holds_of_seg seg) i ≤ (C.side c.old).holds i }
     requires back { freed.back + 1 < 2 * max_segs }
     requires flushed { freed.flushed ≤ max_population * freed.back }
-    ensures calls { (made : List Made) × Leads C.did C.limits c.old made c.new × EndsHolds worker.old.limits (holds_of_seg seg) worker.old.cache freed (calls_of made) worker.new.cache result }
-    ensures hand { (i : ℕ) → C.hand c.new i ≡ bag worker.new.cache i }
-    ensures holds { (i : ℕ) → C.holds c.old i ≡ C.holds c.new i + bag (holds_of_seg seg) i }
-    ensures headers { (i : ℕ) → 0 < C.holds c.new i → C.headers c.new i ≡ C.headers c.old i }
-    ensures limits { C.limits c.new ≡ C.limits c.old }
+    ensures calls { (made : List Made) × Leads C.did C.side c.old made c.new × EndsHolds worker.old.limits (holds_of_seg seg) worker.old.cache freed (calls_of made) worker.new.cache result }
+    ensures hand { (i : ℕ) → (C.side c.new).hand i ≡ bag worker.new.cache i }
+    ensures holds { (i : ℕ) → (C.side c.old).holds i ≡ (C.side c.new).holds i + bag (holds_of_seg seg) i }
+    ensures headers { (i : ℕ) → 0 < (C.side c.new).holds i → (C.side c.new).headers i ≡ (C.side c.old).headers i }
+    ensures limits { (C.side c.new).limits ≡ (C.side c.old).limits }
     ensures number { KeepsNumber worker.old worker.new }
     ensures back { result.back ≤ freed.back + 2 }
     ensures flushed { result.flushed ≤ max_population * result.back }
@@ -133,15 +133,15 @@ pub const NOTHING_FREED: Freed = Freed {
 
 /// Ends the holds of segments in order.
 pub fn end_segs<C: Commons>(worker: &mut Worker, c: &mut C, segs: &[Seg]) -> Freed
-    requires limits { C.limits c.old ≡ worker.old.limits }
-    requires hand { (i : ℕ) → C.hand c.old i ≡ bag worker.old.cache i }
-    requires held { (i : ℕ) → bag (holds_of_packet segs.now) i ≤ C.holds c.old i }
+    requires limits { (C.side c.old).limits ≡ worker.old.limits }
+    requires hand { (i : ℕ) → (C.side c.old).hand i ≡ bag worker.old.cache i }
+    requires held { (i : ℕ) → bag (holds_of_packet segs.now) i ≤ (C.side c.old).holds i }
     requires few { length segs.now ≤ max_segs }
-    ensures calls { (made : List Made) × Leads C.did C.limits c.old made c.new × EndsHolds worker.old.limits (holds_of_packet segs.now) worker.old.cache freed_nothing (calls_of made) worker.new.cache result }
-    ensures hand { (i : ℕ) → C.hand c.new i ≡ bag worker.new.cache i }
-    ensures holds { (i : ℕ) → C.holds c.old i ≡ C.holds c.new i + bag (holds_of_packet segs.now) i }
-    ensures headers { (i : ℕ) → 0 < C.holds c.new i → C.headers c.new i ≡ C.headers c.old i }
-    ensures limits { C.limits c.new ≡ C.limits c.old }
+    ensures calls { (made : List Made) × Leads C.did C.side c.old made c.new × EndsHolds worker.old.limits (holds_of_packet segs.now) worker.old.cache freed_nothing (calls_of made) worker.new.cache result }
+    ensures hand { (i : ℕ) → (C.side c.new).hand i ≡ bag worker.new.cache i }
+    ensures holds { (i : ℕ) → (C.side c.old).holds i ≡ (C.side c.new).holds i + bag (holds_of_packet segs.now) i }
+    ensures headers { (i : ℕ) → 0 < (C.side c.new).holds i → (C.side c.new).headers i ≡ (C.side c.old).headers i }
+    ensures limits { (C.side c.new).limits ≡ (C.side c.old).limits }
     ensures number { KeepsNumber worker.old worker.new }
     ensures back { result.back ≤ 2 * length segs.now }
     ensures flushed { result.flushed ≤ max_population * result.back }

@@ -4,7 +4,7 @@ use Rattle.std.specs.Prelude.{ℕ, ◌≡◌, ◌+◌, ◌-◌, ◌*◌, ◌/◌
 use Rattle.commons.specs.declared.limits.Limits.{Limits}
 use Rattle.commons.specs.declared.refusal.Refusal.{Refusal}
 use Rattle.commons.specs.Bounds.{max_cache}
-use Rattle.commons.specs.Calls.{Reading, Call, GetList, PutList, Did}
+use Rattle.commons.specs.Calls.{Reading, Call, GetList, PutList, Did, Side}
 use Rattle.mempool.specs.declared.put.Put.{Put}
 use Rattle.mempool.specs.declared.put.Put.TheVariants.{Kept, Flushed, PutOff}
 
@@ -57,9 +57,9 @@ pub data Puts (l : Limits) (cache list : List ℕ) (calls : List Call) (answer :
   Keep : 0 < length list → length list ≤ max_cache → (length (cache ++ list) < threshold l) ⊎ (length (cache ++ list) ≤ l.cache) → calls ≡ [] → answer ≡ Kept → left ≡ cache ++ list → Puts l cache list calls answer left
 
 -- all of a cache beyond keep went to the stack in one push, or was refused and stayed
-pub data Pushed {S : Type 0} (did : S → Call → List Reading → S → Type 0) (limits : S → Limits) (keep : ℕ) (cache : List ℕ) (before : S) (answer : Put) (after : S) (left : List ℕ) : Type 0 where
-  Gone : Did did limits before (PutList (drop keep cache) (Ok tt)) after → answer ≡ Flushed (length cache - keep) → left ≡ take keep cache → Pushed did limits keep cache before answer after left
-  Stays : (cause : Refusal) → Did did limits before (PutList (drop keep cache) (Err cause)) after → answer ≡ PutOff (length cache - keep) cause → left ≡ cache → Pushed did limits keep cache before answer after left
+pub data Pushed {S : Type 0} (did : S → Call → List Reading → S → Type 0) (side : S → Side) (keep : ℕ) (cache : List ℕ) (before : S) (answer : Put) (after : S) (left : List ℕ) : Type 0 where
+  Gone : Did did side before (PutList (drop keep cache) (Ok tt)) after → answer ≡ Flushed (length cache - keep) → left ≡ take keep cache → Pushed did side keep cache before answer after left
+  Stays : (cause : Refusal) → Did did side before (PutList (drop keep cache) (Err cause)) after → answer ≡ PutOff (length cache - keep) cause → left ≡ cache → Pushed did side keep cache before answer after left
 
 -- what a flush does: the whole cache goes to the stack in one push, and an empty one is kept
 pub data Flushes (cache : List ℕ) (calls : List Call) (answer : Put) (left : List ℕ) : Type 0 where

@@ -108,14 +108,14 @@ impl Worker {
     /// After rte_mempool.h, `rte_mempool_do_generic_get` (DPDK 21.11), which doesn't test whether a
     /// refill can be met at all.
     pub fn get_bulk<C: Commons>(&mut self, c: &mut C, out: &mut [u32]) -> Result<(), Refusal>
-        requires limits { C.limits c.old ≡ self.old.limits }
-        ensures calls { (made : List Made) × Leads C.did C.limits c.old made c.new × Gets self.old.limits self.old.cache (length out.old) (calls_of made) (with_list result out.new) self.new.cache }
-        ensures hand { OnOk result ((i : ℕ) → C.hand c.new i + bag self.old.cache i ≡ C.hand c.old i + bag self.new.cache i + bag out.new i) }
-        ensures hand_err { OnErr result (C.hand c.new ≡ C.hand c.old) }
+        requires limits { (C.side c.old).limits ≡ self.old.limits }
+        ensures calls { (made : List Made) × Leads C.did C.side c.old made c.new × Gets self.old.limits self.old.cache (length out.old) (calls_of made) (with_list result out.new) self.new.cache }
+        ensures hand { OnOk result ((i : ℕ) → (C.side c.new).hand i + bag self.old.cache i ≡ (C.side c.old).hand i + bag self.new.cache i + bag out.new i) }
+        ensures refused { OnErr result (C.side c.new ≡ C.side c.old) }
         ensures cache_err { OnErr result (self.new.cache ≡ self.old.cache) }
-        ensures holds { C.holds c.new ≡ C.holds c.old }
-        ensures headers { C.headers c.new ≡ C.headers c.old }
-        ensures limits { C.limits c.new ≡ C.limits c.old }
+        ensures holds { (C.side c.new).holds ≡ (C.side c.old).holds }
+        ensures headers { (C.side c.new).headers ≡ (C.side c.old).headers }
+        ensures limits { (C.side c.new).limits ≡ (C.side c.old).limits }
         ensures number { KeepsNumber self.old self.new }
     {
         let n = out.len();
@@ -152,14 +152,14 @@ impl Worker {
     /// After rte_mempool.h, `rte_mempool_do_generic_put` (DPDK 21.11), whose stack can't refuse.
     #[tactic(auto, using(commons::proofs::Bags::bags))]
     pub fn put_bulk<C: Commons>(&mut self, c: &mut C, list: &[u32]) -> Put
-        requires limits { C.limits c.old ≡ self.old.limits }
-        requires in_hand { (i : ℕ) → bag self.old.cache i + bag list.now i ≤ C.hand c.old i }
-        ensures calls { (made : List Made) × Leads C.did C.limits c.old made c.new × Puts self.old.limits self.old.cache list.now (calls_of made) result self.new.cache }
+        requires limits { (C.side c.old).limits ≡ self.old.limits }
+        requires in_hand { (i : ℕ) → bag self.old.cache i + bag list.now i ≤ (C.side c.old).hand i }
+        ensures calls { (made : List Made) × Leads C.did C.side c.old made c.new × Puts self.old.limits self.old.cache list.now (calls_of made) result self.new.cache }
         ensures few { put_count result ≤ self.old.limits.population }
-        ensures hand { (i : ℕ) → C.hand c.new i + bag self.old.cache i + bag list.now i ≡ C.hand c.old i + bag self.new.cache i }
-        ensures holds { C.holds c.new ≡ C.holds c.old }
-        ensures headers { C.headers c.new ≡ C.headers c.old }
-        ensures limits { C.limits c.new ≡ C.limits c.old }
+        ensures hand { (i : ℕ) → (C.side c.new).hand i + bag self.old.cache i + bag list.now i ≡ (C.side c.old).hand i + bag self.new.cache i }
+        ensures holds { (C.side c.new).holds ≡ (C.side c.old).holds }
+        ensures headers { (C.side c.new).headers ≡ (C.side c.old).headers }
+        ensures limits { (C.side c.new).limits ≡ (C.side c.old).limits }
         ensures number { KeepsNumber self.old self.new }
     {
         let count = list.len();
@@ -191,13 +191,13 @@ impl Worker {
     /// After rte_mempool.h, `rte_mempool_cache_flush` (DPDK 21.11).
     #[tactic(auto, using(commons::proofs::Bags::bags))]
     pub fn flush<C: Commons>(&mut self, c: &mut C) -> Put
-        requires limits { C.limits c.old ≡ self.old.limits }
-        requires in_hand { (i : ℕ) → bag self.old.cache i ≤ C.hand c.old i }
-        ensures calls { (made : List Made) × Leads C.did C.limits c.old made c.new × Flushes self.old.cache (calls_of made) result self.new.cache }
-        ensures hand { (i : ℕ) → C.hand c.new i + bag self.old.cache i ≡ C.hand c.old i + bag self.new.cache i }
-        ensures holds { C.holds c.new ≡ C.holds c.old }
-        ensures headers { C.headers c.new ≡ C.headers c.old }
-        ensures limits { C.limits c.new ≡ C.limits c.old }
+        requires limits { (C.side c.old).limits ≡ self.old.limits }
+        requires in_hand { (i : ℕ) → bag self.old.cache i ≤ (C.side c.old).hand i }
+        ensures calls { (made : List Made) × Leads C.did C.side c.old made c.new × Flushes self.old.cache (calls_of made) result self.new.cache }
+        ensures hand { (i : ℕ) → (C.side c.new).hand i + bag self.old.cache i ≡ (C.side c.old).hand i + bag self.new.cache i }
+        ensures holds { (C.side c.new).holds ≡ (C.side c.old).holds }
+        ensures headers { (C.side c.new).headers ≡ (C.side c.old).headers }
+        ensures limits { (C.side c.new).limits ≡ (C.side c.old).limits }
         ensures number { KeepsNumber self.old self.new }
     {
         if self.cache.is_empty() {

@@ -34,7 +34,7 @@ owns_other s t w v m a e o = record {
     limits = o.share.limits ∙ sym a.limits;
     cached = λ i. a.others.hands v i e ∙ o.share.cached i;
     held = λ i. a.others.holds v i o.first e ∙ o.share.held i;
-    headed = λ i. omega (arith, o.share.headed i, a.others.headers v i o.first e);
+    headed = λ i. omega (arith, o.share.headed i, a.others.headers v i e);
   };
 }
 

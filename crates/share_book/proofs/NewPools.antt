@@ -4,7 +4,7 @@ use Rattle.commons.specs.Bounds.{IsPool}
 use Rattle.commons.specs.declared.limits.Limits.{Limits}
 use Rattle.commons.specs.declared.refusal.Refusal.{Refusal}
 use Rattle.commons.specs.declared.refusal.Refusal.TheVariants.{BadPool, OutOfMemory}
-use Rattle.commons.specs.Lists.{opening, hand_of, holds_of, header_of}
+use Rattle.commons.specs.Lists.{opening, side_of}
 use Rattle.commons.proofs.Opening.{nothing_held, nothing_in_hand}
 use Rattle.mbuf.proofs.OwnLemmas.{own_new}
 use Rattle.mempool.specs.WorkerCache.{IsWorkerCause}
@@ -41,6 +41,6 @@ new_member_owns l n b =
       own = record {
         first = omega arith;
         last = omega arith;
-        share = own_new l (n + 1) (λ i. hand_of (opening l) (n + 1) i) (λ i. holds_of (opening l) (n + 1) i) (λ i. header_of (opening l) (n + 1) i) (nothing_in_hand l.population (n + 1)) (nothing_held l.workers l.population (n + 1 - 1));
+        share = own_new (side_of (opening l) (n + 1)) (n + 1) (nothing_in_hand l.population (n + 1)) (nothing_held l.workers l.population (n + 1 - 1));
       };
     })

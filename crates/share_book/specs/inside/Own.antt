@@ -1,6 +1,6 @@
 -- A worker's part of the lists: what a `PlainSite` keeps for it is what the worker has. Only the invariant of `SitePool` cites this module.
 use Rattle.std.specs.Prelude.{ℕ, ◌≡◌, ◌≤◌}
-use Rattle.commons.specs.Lists.{Lists, IsTable, KeepsOthers, hand_of, holds_of, header_of}
+use Rattle.commons.specs.Lists.{Lists, IsTable, KeepsOthers, side_of}
 use Rattle.mbuf.specs.Members.{Member}
 use Rattle.mbuf.specs.Own.{Own}
 use Rattle.pool_model.specs.Pool.{Shared}
@@ -13,7 +13,7 @@ shared_of s = record { common = s.common; changes = s.changes; desks = s.desks }
 pub record Owns (s : Lists) (w : ℕ) (m : Member) : Type 0 where
   pub first : 1 ≤ w
   pub last : w ≤ s.limits.workers
-  pub share : Own m s.limits (λ i. hand_of s w i) (λ i. holds_of s w i) (λ i. header_of s w i)
+  pub share : Own m (side_of s w)
 
 -- what one worker's calls leave: the same pool, still a table, and what the others have
 pub record StepsAlone (w : ℕ) (s t : Lists) : Type 0 where

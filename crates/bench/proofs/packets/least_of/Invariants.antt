@@ -3,8 +3,8 @@ use Rattle.bench.proofs.packets.least_of.Given as goal
 
 -- the packets stay the worker's own
 abbrev pub invariant-loop-run : goal.invariant-loop-run
-invariant-loop-run g l = Own l.packets (g.C.Commons.limits l.c) (g.C.Commons.hand l.c) (g.C.Commons.holds l.c) (g.C.Commons.headers l.c)
+invariant-loop-run g l = Own l.packets (g.C.Commons.side l.c)
 
 -- the packets stay the worker's own
 abbrev pub invariant-loop-round : goal.invariant-loop-round
-invariant-loop-round g l = Own l.packets (g.C.Commons.limits l.c) (g.C.Commons.hand l.c) (g.C.Commons.holds l.c) (g.C.Commons.headers l.c)
+invariant-loop-round g l = Own l.packets (g.C.Commons.side l.c)

@@ -3,4 +3,4 @@ use Rattle.bench.proofs.packets.make_first.Given as goal
 
 -- the packets stay the worker's own
 abbrev pub invariant-loop-segment : goal.invariant-loop-segment
-invariant-loop-segment g l = Own l.packets (g.C.Commons.limits l.c) (g.C.Commons.hand l.c) (g.C.Commons.holds l.c) (g.C.Commons.headers l.c)
+invariant-loop-segment g l = Own l.packets (g.C.Commons.side l.c)

@@ -1,7 +1,7 @@
 -- In a new pool nothing is in a hand, and nothing is held.
 use Rattle.std.proofs.Common.{◌-◌}
 use Rattle.commons.proofs.Opening.{nothing_held, nothing_in_hand}
-use Rattle.commons.specs.Lists.{opening, hand_of, holds_of, header_of}
+use Rattle.commons.specs.Lists.{opening, side_of}
 use Rattle.mbuf.proofs.OwnLemmas.{own_new}
 use Rattle.bench.proofs.pools.begin.Goals as goal
 
@@ -11,5 +11,5 @@ returns c =
     let w = c.args.c.now.worker in
     record {
       own = rw (c.requires.site, c.requires.cache, c.requires.table)
-          (own_new l c.args.packets.now.number (λ i. hand_of (opening l) w i) (λ i. holds_of (opening l) w i) (λ i. header_of (opening l) w i) (nothing_in_hand l.population w) (nothing_held l.workers l.population (w - 1)));
+          (own_new (side_of (opening l) w) c.args.packets.now.number (nothing_in_hand l.population w) (nothing_held l.workers l.population (w - 1)));
     }

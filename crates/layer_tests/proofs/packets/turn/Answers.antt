@@ -1,4 +1,4 @@
-use Rattle.commons.specs.Lists.{hand_of, holds_of, header_of}
+use Rattle.commons.specs.Lists.{side_of}
 use Rattle.layer_tests.specs.Alone.{IsOwn}
 use Rattle.mbuf.proofs.OwnLemmas.{own_new}
 use Rattle.layer_tests.proofs.packets.turn.Goals as goal
@@ -10,5 +10,5 @@ differs-differs-requires c =
     let w = c.args.number in
     let own : IsOwn c.in_ok-packets.packets c.new-c.result =
     rw (c.in_ok-packets.ensures.ok, c.limits.ensures.limits, c.new-c.ensures.now, c.new-c.ensures.worker)
-    (own_new s.limits w (λ i. hand_of s w i) (λ i. holds_of s w i) (λ i. header_of s w i) c.requires.hand c.requires.holds) in
+    (own_new (side_of s w) w c.requires.hand c.requires.holds) in
     record { own = own }

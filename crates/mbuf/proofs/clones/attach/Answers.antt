@@ -6,10 +6,10 @@ use Rattle.mbuf.proofs.clones.attach.Goals as goal
 pub returns-then-count-ne1-clause-calls : goal.returns-then-count-ne1-clause-calls
 returns-then-count-ne1-clause-calls g c =
     let did = g.C.Commons.did in
-    let limits = g.C.Commons.limits in
+    let side = g.C.Commons.side in
     let counted = CountOf c.args.elem c.count.result in (
-      made_by did limits c.args.c.now counted c.count.new.self c.count.ensures.did ∷ [],
-      Leads-one did limits c.args.c.now counted c.count.new.self c.count.ensures.did,
+      made_by did side c.args.c.now counted c.count.new.self c.count.ensures.did ∷ [],
+      Leads-one did side c.args.c.now counted c.count.new.self c.count.ensures.did,
       inl (c.count.result, c.if-count-ne1.true, refl, refl),
     )
 
@@ -18,7 +18,7 @@ returns-in-Ok-clause-calls g c =
     let count = rw c.if-count-ne1.false at c.count.ensures.did in
     let raise = rw c.buffer_of.ensures at c.in-Ok.ensures.did in (
       record { call = _; readings = count.readings } ∷ record { call = _; readings = raise.readings } ∷ [],
-      (c.count.new.self, count.led, count.cause, (c.raise.new.self, raise.led, raise.cause, refl)),
+      (c.count.new.self, count.step, (c.raise.new.self, raise.step, refl)),
       (refl, c.attached.ensures.seg),
     )
 
@@ -27,6 +27,6 @@ returns-in-Err-clause-calls g c =
     let count = rw c.if-count-ne1.false at c.count.ensures.did in
     let raise = rw c.buffer_of.ensures at c.in-Err.ensures.did in (
       record { call = _; readings = count.readings } ∷ record { call = _; readings = raise.readings } ∷ [],
-      (c.count.new.self, count.led, count.cause, (c.raise.new.self, raise.led, raise.cause, refl)),
+      (c.count.new.self, count.step, (c.raise.new.self, raise.step, refl)),
       inr refl,
     )

@@ -97,14 +97,14 @@ returns-in-Err-clause-calls g c =
     let clone = c.segs-in-Err.ensures.segs ∙ lent_clone old cur slot c.index-in-Err.result.now high inv.packets c.index-in-Err.ensures in
     let over = c.in-Err.stop.over in
     let did = g.C.Commons.did in
-    let limits = g.C.Commons.limits in
+    let side = g.C.Commons.side in
     let w = c.args.worker.now in
     let later = c.loop-index.worker in
     let tried = rw seg at c.in-Err.ensures.calls in
     let ends = rw clone at c.give_up.ensures.calls in
-    given_up did limits c.args.c.now c.loop-index.c c.clone_seg.new.c c.give_up.new.c w.limits src k no_seg w.cache (take k p) later.cache c.in-Err.stop.cause over c.clone_seg.new.worker.cache c.give_up.new.worker.cache c.give_up.result within inv.cloned
-    (subst (λ (l : Limits). (made : List Made) × Leads did limits c.loop-index.c made c.clone_seg.new.c × StopsCloning l (get_or src k no_seg) later.cache (calls_of made) c.in-Err.stop.cause over c.clone_seg.new.worker.cache) inv.number.limits tried)
-    (subst (λ (l : Limits). Ended did limits c.clone_seg.new.c c.give_up.new.c l (holds_of_packet (take k p) ++ hold_of over) c.clone_seg.new.worker.cache freed_nothing c.give_up.new.worker.cache c.give_up.result) (c.in-Err.ensures.number.limits ∙ inv.number.limits) ends)
+    given_up did side c.args.c.now c.loop-index.c c.clone_seg.new.c c.give_up.new.c w.limits src k no_seg w.cache (take k p) later.cache c.in-Err.stop.cause over c.clone_seg.new.worker.cache c.give_up.new.worker.cache c.give_up.result within inv.cloned
+    (subst (λ (l : Limits). (made : List Made) × Leads did side c.loop-index.c made c.clone_seg.new.c × StopsCloning l (get_or src k no_seg) later.cache (calls_of made) c.in-Err.stop.cause over c.clone_seg.new.worker.cache) inv.number.limits tried)
+    (subst (λ (l : Limits). Ended did side c.clone_seg.new.c c.give_up.new.c l (holds_of_packet (take k p) ++ hold_of over) c.clone_seg.new.worker.cache freed_nothing c.give_up.new.worker.cache c.give_up.result) (c.in-Err.ensures.number.limits ∙ inv.number.limits) ends)
 
 pub returns-in-Err-clause-holds_err : goal.returns-in-Err-clause-holds_err
 returns-in-Err-clause-holds_err g c = λ i.
@@ -145,12 +145,10 @@ returns-in-Err-clause-headers_err g c = λ i.
     let over = c.in-Err.stop.over in
     let ends = rw clone at (c.give_up.ensures.holds i) in
     let elems = map (λ (s : Seg). s.elem) (take k p) in
-    let holds = g.C.Commons.holds in
-    let headers = g.C.Commons.headers in
-    let same : holds c.give_up.new.c i ≡ holds c.args.c.now i = omega (arith, ends, c.in-Err.ensures.holds i, inv.holds i, bag-append (holds_of_packet (take k p)) (hold_of over) i) in
-    same_headers (headers c.args.c.now i) (headers c.clone_seg.new.c i) (headers c.give_up.new.c i) (holds c.args.c.now i) (holds c.give_up.new.c i) (bag elems i + bag (hold_of over) i) same
+    let same : (g.C.Commons.side c.give_up.new.c).holds i ≡ (g.C.Commons.side c.args.c.now).holds i = omega (arith, ends, c.in-Err.ensures.holds i, inv.holds i, bag-append (holds_of_packet (take k p)) (hold_of over) i) in
+    same_headers ((g.C.Commons.side c.args.c.now).headers i) ((g.C.Commons.side c.clone_seg.new.c).headers i) ((g.C.Commons.side c.give_up.new.c).headers i) ((g.C.Commons.side c.args.c.now).holds i) ((g.C.Commons.side c.give_up.new.c).holds i) (bag elems i + bag (hold_of over) i) same
     (omega (arith, c.in-Err.ensures.headers i, inv.headers i))
-    (λ some. new_only (bag elems i) (bag (hold_of over) i) (holds c.args.c.now i) (holds c.loop-index.c i) (inv.unheld i) (c.in-Err.ensures.unheld i) (omega (arith, inv.holds i)) some)
+    (λ some. new_only (bag elems i) (bag (hold_of over) i) ((g.C.Commons.side c.args.c.now).holds i) ((g.C.Commons.side c.loop-index.c).holds i) (inv.unheld i) (c.in-Err.ensures.unheld i) (omega (arith, inv.holds i)) some)
     (c.give_up.ensures.headers i) (g.met.C.Commons.header_held c.give_up.new.c i) (g.met.C.Commons.header_held c.args.c.now i)
 
 pub loop-index-preserved : goal.loop-index-preserved
@@ -169,15 +167,15 @@ loop-index-preserved g c =
     let within : k < length src = omega (arith, c.loop-index-test.true, ap (λ (s : List Seg). length s) all) in
     let seg = c.segs.ensures.segs ∙ lent_from old cur source slot c.index-in-loop-index.result.now low c.requires.apart inv.packets c.index-in-loop-index.ensures in
     let did = g.C.Commons.did in
-    let limits = g.C.Commons.limits in
+    let side = g.C.Commons.side in
     let w = c.args.worker.now in
     let later = c.loop-index.worker in
     let new = c.in-Ok.new in
     let now = c.follow.new.packet in
     let step = followed old cur slot k new c.index_mut.result.now now high inv.packets inv.all c.index_mut.ensures.value c.follow.ensures in
     let tried = rw seg at c.in-Ok.ensures.calls in
-    let more = cloned_more did limits c.args.c.now c.loop-index.c c.clone_seg.new.c w.limits (take k src) (get_or src k no_seg) w.cache (take k p) new later.cache c.clone_seg.new.worker.cache inv.cloned
-    (subst (λ (l : Limits). (made : List Made) × Leads did limits c.loop-index.c made c.clone_seg.new.c × ClonesSeg l (get_or src k no_seg) later.cache (calls_of made) new c.clone_seg.new.worker.cache) inv.number.limits tried) in
+    let more = cloned_more did side c.args.c.now c.loop-index.c c.clone_seg.new.c w.limits (take k src) (get_or src k no_seg) w.cache (take k p) new later.cache c.clone_seg.new.worker.cache inv.cloned
+    (subst (λ (l : Limits). (made : List Made) × Leads did side c.loop-index.c made c.clone_seg.new.c × ClonesSeg l (get_or src k no_seg) later.cache (calls_of made) new c.clone_seg.new.worker.cache) inv.number.limits tried) in
     record {
       cloned = rw (step.so_far, take_more src k no_seg within) more;
       packets = step.packets;
@@ -187,7 +185,7 @@ loop-index-preserved g c =
       headers = λ i. rw step.so_far (omega (arith, c.in-Ok.ensures.headers i, inv.headers i, elems-more (take k p) new i));
       unheld = λ i some.
           let here = rw step.so_far at some in
-          new_only (bag (map (λ (s : Seg). s.elem) (take k p)) i) (bag (new.elem ∷ []) i) (g.C.Commons.holds c.args.c.now i) (g.C.Commons.holds c.loop-index.c i) (inv.unheld i) (c.in-Ok.ensures.unheld i) (omega (arith, inv.holds i))
+          new_only (bag (map (λ (s : Seg). s.elem) (take k p)) i) (bag (new.elem ∷ []) i) ((g.C.Commons.side c.args.c.now).holds i) ((g.C.Commons.side c.loop-index.c).holds i) (inv.unheld i) (c.in-Ok.ensures.unheld i) (omega (arith, inv.holds i))
           (omega (arith, here, elems-more (take k p) new i));
       limits = c.in-Ok.ensures.limits ∙ inv.limits;
       number = record { limits = c.in-Ok.ensures.number.limits ∙ inv.number.limits; number = c.in-Ok.ensures.number.number ∙ inv.number.number };

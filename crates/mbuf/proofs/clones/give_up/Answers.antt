@@ -21,12 +21,12 @@ returns-in-Some-clause-calls g c =
     let first = c.end_segs-freed in
     let second = c.end_hold in
     let did = g.C.Commons.did in
-    let limits = g.C.Commons.limits in
-    let later = one_ended did limits first.new.c second.new.c first.new.worker.limits c.in-Some.elem first.new.worker.cache first.result second.new.worker.cache second.result second.ensures.calls in
+    let side = g.C.Commons.side in
+    let later = one_ended did side first.new.c second.new.c first.new.worker.limits c.in-Some.elem first.new.worker.cache first.result second.new.worker.cache second.result second.ensures.calls in
     rw c.in-Some.is
-    (both_ended did limits c.args.c.now first.new.c second.new.c w.limits (holds_of_packet c.args.segs.now) (c.in-Some.elem ∷ []) w.cache freed_nothing first.new.worker.cache first.result second.new.worker.cache second.result
+    (both_ended did side c.args.c.now first.new.c second.new.c w.limits (holds_of_packet c.args.segs.now) (c.in-Some.elem ∷ []) w.cache freed_nothing first.new.worker.cache first.result second.new.worker.cache second.result
     first.ensures.calls
-    (subst (λ (l : Limits). Ended did limits first.new.c second.new.c l (c.in-Some.elem ∷ []) first.new.worker.cache first.result second.new.worker.cache second.result) first.ensures.number.limits later))
+    (subst (λ (l : Limits). Ended did side first.new.c second.new.c l (c.in-Some.elem ∷ []) first.new.worker.cache first.result second.new.worker.cache second.result) first.ensures.number.limits later))
 
 pub returns-in-Some-clause-holds : goal.returns-in-Some-clause-holds
 returns-in-Some-clause-holds g c = λ i.

@@ -7,10 +7,10 @@ use Rattle.mbuf.proofs.steps.end_hold.Goals as goal
 pub returns-in-Still-clause-calls : goal.returns-in-Still-clause-calls
 returns-in-Still-clause-calls g c =
     let d = c.in-Still.ensures.did in
-    (record { call = Lower c.args.elem Still; readings = d.readings } ∷ [], (c.lower.new.self, d.led, d.cause, refl), Stays refl refl refl)
+    (record { call = Lower c.args.elem Still; readings = d.readings } ∷ [], (c.lower.new.self, d.step, refl), Stays refl refl refl)
 
 pub returns-in-Last-clause-calls : goal.returns-in-Last-clause-calls
 returns-in-Last-clause-calls g c =
     let d = c.in-Last.ensures.did in
     let e = c.put_bulk.ensures.calls in
-    (record { call = Lower c.args.elem Last; readings = d.readings } ∷ e.0, (c.lower.new.self, d.led, d.cause, e.1), GoesBack (calls_of e.0) c.put_bulk.result e.2 refl c.counted.ensures.counted)
+    (record { call = Lower c.args.elem Last; readings = d.readings } ∷ e.0, (c.lower.new.self, d.step, e.1), GoesBack (calls_of e.0) c.put_bulk.result e.2 refl c.counted.ensures.counted)

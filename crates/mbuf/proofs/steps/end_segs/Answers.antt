@@ -33,12 +33,12 @@ loop-seg-preserved g c =
     let e = c.end_seg-freed in
     let w = c.args.worker.now in
     let did = g.C.Commons.did in
-    let limits = g.C.Commons.limits in
+    let side = g.C.Commons.side in
     let next = holds_of_seg (get_or segs k no_seg) in
     record {
-      ended = subst (λ (es : List ℕ). Ended did limits c.args.c.now e.new.c w.limits es w.cache freed_nothing e.new.worker.cache e.result) (sym (holds-suc segs k no_seg c.loop-seg-test.true))
-          (both_ended did limits c.args.c.now so_far.c e.new.c w.limits (holds_of_packet (take k segs)) next w.cache freed_nothing so_far.worker.cache so_far.freed e.new.worker.cache e.result so_far.invariant.ended
-          (subst (λ (l : Limits). Ended did limits so_far.c e.new.c l next so_far.worker.cache so_far.freed e.new.worker.cache e.result) so_far.invariant.number.limits e.ensures.calls));
+      ended = subst (λ (es : List ℕ). Ended did side c.args.c.now e.new.c w.limits es w.cache freed_nothing e.new.worker.cache e.result) (sym (holds-suc segs k no_seg c.loop-seg-test.true))
+          (both_ended did side c.args.c.now so_far.c e.new.c w.limits (holds_of_packet (take k segs)) next w.cache freed_nothing so_far.worker.cache so_far.freed e.new.worker.cache e.result so_far.invariant.ended
+          (subst (λ (l : Limits). Ended did side so_far.c e.new.c l next so_far.worker.cache so_far.freed e.new.worker.cache e.result) so_far.invariant.number.limits e.ensures.calls));
       hand = e.ensures.hand;
       holds = λ i. omega (arith, so_far.invariant.holds i, e.ensures.holds i, bag-holds_suc segs k i no_seg c.loop-seg-test.true);
       headers = λ i some. e.ensures.headers i some ∙ so_far.invariant.headers i (omega (arith, some, e.ensures.holds i));

@@ -1,6 +1,6 @@
 use Rattle.std.proofs.Common.{ℕ, ap, subst, rules}
 use Rattle.commons.specs.Calls.{calls_of}
-use Rattle.commons.specs.Lists.{hand_of, holds_of, header_of}
+use Rattle.commons.specs.Lists.{side_of}
 use Rattle.commons.specs.declared.limits.Limits.{Limits}
 use Rattle.mbuf.specs.Own.{Own}
 use Rattle.commons.proofs.PlainCalls.{plainly, LeadsPlain-limits}
@@ -25,7 +25,7 @@ returns-clause-own g c =
     record {
       first = c.requires.own.first;
       last = rw workers c.requires.own.last;
-      share = subst (λ (w : ℕ). Own c.perform_in.new.packets t.limits (λ i. hand_of t w i) (λ i. holds_of t w i) (λ i. header_of t w i)) p.worker c.perform_in.ensures.own;
+      share = subst (λ (w : ℕ). Own c.perform_in.new.packets (side_of t w)) p.worker c.perform_in.ensures.own;
     }
 
 pub returns-clause-alone : goal.returns-clause-alone

@@ -63,12 +63,12 @@ returns-in-Ok-clause-calls g c =
     let before = c.self.inside.worker in
     let number = c.in-Ok.ensures.number in
     let did = g.C.Commons.did in
-    let limits = g.C.Commons.limits in
+    let side = g.C.Commons.side in
     let stand = c.stand.ensures in
-    let made = made_by did limits c.get_one.new.c (Claim e) c.stand.new.c stand.did in
+    let made = made_by did side c.get_one.new.c (Claim e) c.stand.new.c stand.did in
     rw (sym c.self.view_is) (
       got.0 ++ made ∷ [],
-      Leads-append did limits got.0 (made ∷ []) c.args.c.now c.get_one.new.c c.stand.new.c got.1 (Leads-one did limits c.get_one.new.c (Claim e) c.stand.new.c stand.did),
+      Leads-append did side got.0 (made ∷ []) c.args.c.now c.get_one.new.c c.stand.new.c got.1 (Leads-one did side c.get_one.new.c (Claim e) c.stand.new.c stand.did),
       Fresh slot e stand.slot (calls_of got.0) w.cache got.2 (calls_of-append got.0 (made ∷ [])) refl
           (stand.stood ∙ member_is w.limits before.limits w.number before.number w.cache (set table slot (Some (fresh_seg w.limits e ∷ []))) (set table slot (Some (fresh_seg before.limits e ∷ []))) number.limits number.number
           (ap (λ (l : Limits). set table slot (Some (fresh_seg l e ∷ []))) number.limits)),
@@ -85,19 +85,17 @@ returns-in-Ok-clause-own g c =
     let number = c.in-Ok.ensures.number in
     let got = c.in-Ok.ensures in
     let stand = c.stand.ensures in
+    let effect = stand.did.step.effect in
     let first = c.args.c.now in
     let mid = c.get_one.new.c in
     let last = c.stand.new.c in
-    let limits = g.C.Commons.limits in
-    let hand = g.C.Commons.hand in
-    let holds = g.C.Commons.holds in
-    let headers = g.C.Commons.headers in
+    let side = g.C.Commons.side in
     let rest = taken_first table slot (fresh_seg before.limits e ∷ []) stand.slot in
     let is = stand.stood ∙ member_is w.limits before.limits w.number before.number w.cache (set table slot (Some (fresh_seg w.limits e ∷ []))) (stood before.limits (e ∷ []) (take 1 (free_slots table)) table) number.limits number.number
     (rw rest (ap (λ (l : Limits). set table slot (Some (fresh_seg l e ∷ []))) number.limits)) in
     let own = rw (sym c.self.view_is) at c.requires.own in
-    subst (λ (m : Member). Own m (limits last) (hand last) (holds last) (headers last)) (sym is)
-    (own_stood (member_of c.self.inside) (limits first) (limits last) (hand first) (hand mid) (hand last) (holds first) (holds mid) (holds last) (headers first) (headers mid) (headers last)
-    w.cache (e ∷ []) own (stand.limits ∙ got.limits)
+    subst (λ (m : Member). Own m (side last)) (sym is)
+    (own_stood (member_of c.self.inside) (side first) (side mid) (side last)
+    w.cache (e ∷ []) own (effect.limits ∙ got.limits)
     (some_free c.count.result (length (free_slots table)) c.if-count-eq0.false (length-free 0 c.self.inside.free c.self.inside.packets.items (inv.packets ∙ sym inv.flags) ∙ sym c.count.ensures))
-    (λ i. omega (arith, got.hand i, bag-single e i)) got.holds got.headers (λ i. omega (arith, stand.hand i, bag-single e i)) (λ i. omega (arith, stand.holds i, bag-single e i)) (λ i. omega (arith, stand.headers i, bag-single e i)))
+    (λ i. omega (arith, got.hand i, bag-single e i)) got.holds got.headers (λ i. omega (arith, effect.hand i, bag-single e i)) (λ i. omega (arith, effect.holds i, bag-single e i)) (λ i. omega (arith, effect.headers i, bag-single e i)))

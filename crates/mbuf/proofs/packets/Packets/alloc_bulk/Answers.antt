@@ -54,14 +54,14 @@ returns-in-Ok-clause-calls g c =
     let got = c.in-Ok.ensures.calls in
     let number = c.in-Ok.ensures.number in
     let did = g.C.Commons.did in
-    let limits = g.C.Commons.limits in
+    let side = g.C.Commons.side in
     let stand = c.stand_all.ensures in
     let slots = take (length c.args.out.now) (free_slots table) in
     let long : length es ≡ length c.args.out.now = omega (arith, c.get_bulk.auto.out) in
     let listed : c.stand_all.new.out ≡ slots = stand.slots ∙ ap (λ (n : ℕ). take n (free_slots table)) long in
     rw (sym c.self.view_is) (
       got.0 ++ stand.calls.0,
-      Leads-append did limits got.0 stand.calls.0 c.args.c.now c.get_bulk.new.c c.stand_all.new.c got.1 stand.calls.1,
+      Leads-append did side got.0 stand.calls.0 c.args.c.now c.get_bulk.new.c c.stand_all.new.c got.1 stand.calls.1,
       FreshBulk es long (omega (arith, length-free 0 c.self.inside.free c.self.inside.packets.items (inv.packets ∙ sym inv.flags), c.count.ensures, c.if-count-out.false)) (calls_of got.0) w.cache got.2
           (calls_of-append got.0 stand.calls.0 ∙ ap (λ (calls : List Call). calls_of got.0 ++ calls) stand.calls.2)
           (ap (λ (out : List ℕ). let r : Result (List ℕ) Refusal = Ok out in r) listed)
@@ -85,17 +85,14 @@ returns-in-Ok-clause-own g c =
     let first = c.args.c.now in
     let mid = c.get_bulk.new.c in
     let last = c.stand_all.new.c in
-    let limits = g.C.Commons.limits in
-    let hand = g.C.Commons.hand in
-    let holds = g.C.Commons.holds in
-    let headers = g.C.Commons.headers in
+    let side = g.C.Commons.side in
     let is = stand.stood
     ∙ ap (λ (out : List ℕ). let m : Member = record { limits = w.limits; number = w.number; cache = w.cache; table = stood w.limits es out table } in m) stand.slots
     ∙ member_is w.limits before.limits w.number before.number w.cache (stood w.limits es slots table) (stood before.limits es slots table) number.limits number.number
     (ap (λ (l : Limits). stood l es slots table) number.limits) in
     let own = rw (sym c.self.view_is) at c.requires.own in
-    subst (λ (m : Member). Own m (limits last) (hand last) (holds last) (headers last)) (sym is)
-    (own_stood (member_of c.self.inside) (limits first) (limits last) (hand first) (hand mid) (hand last) (holds first) (holds mid) (holds last) (headers first) (headers mid) (headers last)
+    subst (λ (m : Member). Own m (side last)) (sym is)
+    (own_stood (member_of c.self.inside) (side first) (side mid) (side last)
     w.cache es own (stand.limits ∙ got.limits)
     (omega (arith, length-free 0 c.self.inside.free c.self.inside.packets.items (inv.packets ∙ sym inv.flags), c.count.ensures, c.if-count-out.false, c.get_bulk.auto.out))
     got.hand got.holds got.headers stand.hand stand.holds stand.headers)

@@ -18,12 +18,12 @@ returns-in_err-elem-clause-calls g c =
 pub attach-requires-clause-own : goal.attach-requires-clause-own
 attach-requires-clause-own g c =
     let now = c.args.c.now in
-    (pair_held c.args.self.now (g.C.Commons.limits now) (g.C.Commons.hand now) (g.C.Commons.holds now) (g.C.Commons.headers now) c.args.mi c.args.target (c.in_ok-elem.elem, c.in_ok-elem.seg) c.requires.own c.in_ok-elem.ensures.are).0
+    (pair_held c.args.self.now (g.C.Commons.side now) c.args.mi c.args.target (c.in_ok-elem.elem, c.in_ok-elem.seg) c.requires.own c.in_ok-elem.ensures.are).0
 
 pub attach-requires-clause-held : goal.attach-requires-clause-held
 attach-requires-clause-held g c =
     let now = c.args.c.now in
-    (pair_held c.args.self.now (g.C.Commons.limits now) (g.C.Commons.hand now) (g.C.Commons.holds now) (g.C.Commons.headers now) c.args.mi c.args.target (c.in_ok-elem.elem, c.in_ok-elem.seg) c.requires.own c.in_ok-elem.ensures.are).1
+    (pair_held c.args.self.now (g.C.Commons.side now) c.args.mi c.args.target (c.in_ok-elem.elem, c.in_ok-elem.seg) c.requires.own c.in_ok-elem.ensures.are).1
 
 pub returns-in_err-attached-clause-calls : goal.returns-in_err-attached-clause-calls
 returns-in_err-attached-clause-calls g c =
@@ -79,13 +79,10 @@ returns-clause-own g c =
     rw c.restart.ensures (shown-packet flags packets mi (new ∷ []) (omega (arith, are.within, inv.flags)) (inv.packets ∙ sym inv.flags) some) in
     let is = member_is w.limits w.limits w.number w.number w.cache (shown flags (set packets mi c.restart.new.self)) (set (shown flags packets) mi (Some (new ∷ []))) refl refl table in
     let own = rw (sym c.self.view_is) at c.requires.own in
-    let limits = g.C.Commons.limits in
-    let hand = g.C.Commons.hand in
-    let holds = g.C.Commons.holds in
-    let headers = g.C.Commons.headers in
+    let side = g.C.Commons.side in
     let first = c.args.c.now in
     let last = c.attach.new.c in
     let done = c.in_ok-attached.ensures in
-    subst (λ (m : Member). Own m (limits last) (hand last) (holds last) (headers last)) (sym is)
-    (own_attached (member_of c.self.inside) (limits first) (limits last) (hand first) (hand last) (holds first) (holds last) (headers first) (headers last) mi c.args.target (e, seg) new own done.limits are did.2.1
-    done.hand done.holds done.headers)
+    subst (λ (m : Member). Own m (side last)) (sym is)
+    (own_attached (member_of c.self.inside) (side first) (side last) mi c.args.target (e, seg) new own done.ok.limits are did.2.1
+    done.ok.hand done.ok.holds done.ok.headers)

@@ -58,7 +58,7 @@ clone_segs-requires-clause-held g c = λ i.
     let there : get_or (shown flags packets) source None ≡ Some src = shown_some flags packets source (omega (arith, at.1, inv.flags)) alike (rw (sym at.0) at at.2) in
     let own = rw (sym c.self.view_is) at c.requires.own in
     let now = c.args.c.now in
-    in_slot_held (member_of c.self.inside) (g.C.Commons.limits now) (g.C.Commons.hand now) (g.C.Commons.holds now) (g.C.Commons.headers now) source src i own there
+    in_slot_held (member_of c.self.inside) (g.C.Commons.side now) source src i own there
 
 pub take-requires-clause-free : goal.take-requires-clause-free
 take-requires-clause-free g c = (position-Some (λ (b : Bool). b) c.self.inside.free c.in-Some-lowest.lowest false (sym c.in-Some-lowest.ensures)).1
@@ -113,15 +113,25 @@ returns-in-Ok-clause-own g c =
     ap (λ (f : List Bool). shown f c.clone_segs.new.packets.items) c.take.ensures ∙ ap (λ (p : List (List Seg)). shown (set flags slot false) p) c.clone_segs.ensures.packets ∙ shown-set flags packets slot false new within alike in
     let is = member_is later.limits w.limits later.number w.number later.cache (shown c.take.new.self c.clone_segs.new.packets.items) (set (shown flags packets) slot (Some new)) number.limits number.number table in
     let own = rw (sym c.self.view_is) at c.requires.own in
-    let limits = g.C.Commons.limits in
-    let hand = g.C.Commons.hand in
-    let holds = g.C.Commons.holds in
-    let headers = g.C.Commons.headers in
+    let side = g.C.Commons.side in
     let first = c.args.c.now in
     let last = c.clone_segs.new.c in
     let did = c.in-Ok.ensures in
-    subst (λ (m : Member). Own m (limits last) (hand last) (holds last) (headers last)) (sym is)
-    (own_cloned (member_of c.self.inside) (limits first) (limits last) (hand first) (hand last) (holds first) (holds last) (headers first) (headers last) later.cache slot new own did.limits free did.hand did.holds did.headers)
+    subst (λ (m : Member). Own m (side last)) (sym is)
+    (own_cloned (member_of c.self.inside) (side first) (side last) later.cache slot new own did.limits free did.hand did.holds did.headers)
+
+pub returns-in-Err-clause-table_err : goal.returns-in-Err-clause-table_err
+returns-in-Err-clause-table_err g c =
+    let inv = c.self.invariant in
+    let flags = c.self.inside.free in
+    let packets = c.self.inside.packets.items in
+    let alike = inv.packets ∙ sym inv.flags in
+    let slot = c.in-Some-lowest.lowest in
+    let free : free_slot (shown flags packets) ≡ Some slot = free_slot-shown flags packets alike ∙ sym c.in-Some-lowest.ensures in
+    let new = get_or c.clone_segs.new.packets.items slot [] in
+    let flag : get_or flags slot false ≡ true = (position-Some (λ (b : Bool). b) flags slot false (sym c.in-Some-lowest.ensures)).1 in
+    let table : shown flags c.clone_segs.new.packets.items ≡ shown flags packets = ap (λ (p : List (List Seg)). shown flags p) c.clone_segs.ensures.packets ∙ shown_hidden flags packets slot new flag in
+    rw (sym c.self.view_is) table
 
 pub returns-in-Err-clause-calls : goal.returns-in-Err-clause-calls
 returns-in-Err-clause-calls g c =
@@ -169,12 +179,9 @@ returns-in-Err-clause-own g c =
     let table : shown flags c.clone_segs.new.packets.items ≡ shown flags packets = ap (λ (p : List (List Seg)). shown flags p) c.clone_segs.ensures.packets ∙ shown_hidden flags packets slot new flag in
     let is = member_is later.limits w.limits later.number w.number later.cache (shown flags c.clone_segs.new.packets.items) (shown flags packets) number.limits number.number table in
     let own = rw (sym c.self.view_is) at c.requires.own in
-    let limits = g.C.Commons.limits in
-    let hand = g.C.Commons.hand in
-    let holds = g.C.Commons.holds in
-    let headers = g.C.Commons.headers in
+    let side = g.C.Commons.side in
     let first = c.args.c.now in
     let last = c.clone_segs.new.c in
     let did = c.in-Err.ensures in
-    subst (λ (m : Member). Own m (limits last) (hand last) (holds last) (headers last)) (sym is)
-    (own_given_up (member_of c.self.inside) (limits first) (limits last) (hand first) (hand last) (holds first) (holds last) (headers first) (headers last) later.cache own did.limits did.hand did.holds_err did.headers_err)
+    subst (λ (m : Member). Own m (side last)) (sym is)
+    (own_given_up (member_of c.self.inside) (side first) (side last) later.cache own did.limits did.hand did.holds_err did.headers_err)

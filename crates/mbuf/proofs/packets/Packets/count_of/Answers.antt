@@ -9,10 +9,10 @@ count-requires g c =
     let segs = c.in-Some.packet.now in
     let e = (first_seg segs).elem in
     rw c.segs.ensures.segs
-    (omega (arith, first_held segs c.segs.ensures.packet.some, in_slot_held c.args.self.now (g.C.Commons.limits now) (g.C.Commons.hand now) (g.C.Commons.holds now) (g.C.Commons.headers now) c.args.p segs e c.requires.own c.in-Some.ensures))
+    (omega (arith, first_held segs c.segs.ensures.packet.some, in_slot_held c.args.self.now (g.C.Commons.side now) c.args.p segs e c.requires.own c.in-Some.ensures))
 
 pub returns-in-Some-clause-calls : goal.returns-in-Some-clause-calls
 returns-in-Some-clause-calls g c =
     let did = rw c.segs.ensures.segs at c.count.ensures.did in
     rw c.in-Some.ensures
-    (record { call = _; readings = did.readings } ∷ [], (c.count.new.self, did.led, did.cause, refl), (c.count.result, refl, refl))
+    (record { call = _; readings = did.readings } ∷ [], (c.count.new.self, did.step, refl), (c.count.result, refl, refl))

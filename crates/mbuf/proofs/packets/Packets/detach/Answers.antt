@@ -21,7 +21,7 @@ returns-in_err-elem-clause-calls g c =
 pub end_hold-freed-requires-clause-held : goal.end_hold-freed-requires-clause-held
 end_hold-freed-requires-clause-held g c =
     let now = c.args.c.now in
-    base_held c.args.self.now (g.C.Commons.limits now) (g.C.Commons.hand now) (g.C.Commons.holds now) (g.C.Commons.headers now) c.args.p (c.in_ok-elem.elem, c.in_ok-elem.base) c.requires.own c.in_ok-elem.ensures.is
+    base_held c.args.self.now (g.C.Commons.side now) c.args.p (c.in_ok-elem.elem, c.in_ok-elem.base) c.requires.own c.in_ok-elem.ensures.is
 
 pub returns-clause-calls : goal.returns-clause-calls
 returns-clause-calls g c =
@@ -62,13 +62,10 @@ returns-clause-own g c =
     rw fresh (shown-packet flags packets slot (fresh_seg w.limits e ∷ []) (omega (arith, there.within, inv.flags)) (inv.packets ∙ sym inv.flags) some) in
     let is = member_is later.limits w.limits later.number w.number later.cache (shown flags (set packets slot c.restart.new.self)) (set (shown flags packets) slot (Some (fresh_seg w.limits e ∷ []))) number.limits number.number table in
     let own = rw (sym c.self.view_is) at c.requires.own in
-    let limits = g.C.Commons.limits in
-    let hand = g.C.Commons.hand in
-    let holds = g.C.Commons.holds in
-    let headers = g.C.Commons.headers in
+    let side = g.C.Commons.side in
     let first = c.args.c.now in
     let last = c.end_hold-freed.new.c in
     let done = c.end_hold-freed.ensures in
-    subst (λ (m : Member). Own m (limits last) (hand last) (holds last) (headers last)) (sym is)
-    (own_detached (member_of c.self.inside) (limits first) (limits last) (hand first) (hand last) (holds first) (holds last) (headers first) (headers last) later.cache slot (e, c.in_ok-elem.base) own done.limits there
-    done.hand done.holds (λ i some. done.headers i ∙ cond-true (nat_lt 0 (holds last i)) (headers first i) 0 (lt-ltb 0 (holds last i) some)))
+    subst (λ (m : Member). Own m (side last)) (sym is)
+    (own_detached (member_of c.self.inside) (side first) (side last) later.cache slot (e, c.in_ok-elem.base) own done.limits there
+    done.hand done.holds (λ i some. done.headers i ∙ cond-true (nat_lt 0 ((side last).holds i)) ((side first).headers i) 0 (lt-ltb 0 ((side last).holds i) some)))

@@ -71,10 +71,7 @@ returns-clause-own g c =
     let table : shown c.give.new.self packets ≡ set (shown flags packets) slot None = rw c.give.ensures (shown-free flags packets slot same) in
     let e = c.end_segs-freed.ensures in
     let after = c.end_segs-freed.new.c in
-    let hand = g.C.Commons.hand in
-    let holds = g.C.Commons.holds in
-    let headers = g.C.Commons.headers in
-    subst (λ (m : Member). Own m (g.C.Commons.limits after) (hand after) (holds after) (headers after))
+    subst (λ (m : Member). Own m (g.C.Commons.side after))
     (sym (member_is w.limits before.limits w.number before.number w.cache (shown c.give.new.self packets) (set (shown flags packets) slot None) e.number.limits e.number.number table))
-    (own_free (member_of c.self.inside) (g.C.Commons.limits c.args.c.now) (g.C.Commons.limits after) (hand c.args.c.now) (hand after) (holds c.args.c.now) (holds after) (headers c.args.c.now) (headers after)
+    (own_free (member_of c.self.inside) (g.C.Commons.side c.args.c.now) (g.C.Commons.side after)
     w.cache slot segs own e.limits (omega (arith, within, length-shown flags packets same)) there e.hand e.holds e.headers)

@@ -44,21 +44,21 @@ loop-place-preserved g c =
     let elem = next_left es c.loop-place.out k inv.so_far.left in
     let s = c.stand.ensures in
     let did = g.C.Commons.did in
-    let limits = g.C.Commons.limits in
+    let side = g.C.Commons.side in
     let done = rw elem at s.did in
-    let made = made_by did limits c.loop-place.c (Claim e) c.stand.new.c done in
+    let made = made_by did side c.loop-place.c (Claim e) c.stand.new.c done in
     let more : (i : ℕ) → bag (take (k + 1) es) i ≡ bag (take k es) i + one e i = λ i. rw (take_more es k 0 within) (omega (arith, bag-append (take k es) (e ∷ []) i, bag-single e i)) in
     record {
       so_far = StoodSo-more es c.args.self.now k c.loop-place.out c.loop-place.self c.stand.new.self c.stand.result within c.requires.free c.loop-place.auto.out inv.so_far s.slot s.stood;
       calls = (
         inv.calls.0 ++ made ∷ [],
-        Leads-append did limits inv.calls.0 (made ∷ []) c.args.c.now c.loop-place.c c.stand.new.c inv.calls.1 (Leads-one did limits c.loop-place.c (Claim e) c.stand.new.c done),
+        Leads-append did side inv.calls.0 (made ∷ []) c.args.c.now c.loop-place.c c.stand.new.c inv.calls.1 (Leads-one did side c.loop-place.c (Claim e) c.stand.new.c done),
         calls_of-append inv.calls.0 (made ∷ []) ∙ ap (λ (calls : List Call). calls ++ Claim e ∷ []) inv.calls.2 ∙ sym (ap (λ (xs : List ℕ). map Claim xs) (take_more es k 0 within) ∙ map-append Claim (take k es) (e ∷ [])),
       );
-      hand = λ i. omega (arith, inv.hand i, rw elem at (s.hand i), more i);
-      holds = λ i. omega (arith, inv.holds i, rw elem at (s.holds i), more i);
-      headers = λ i. omega (arith, inv.headers i, rw elem at (s.headers i), more i);
-      limits = s.limits ∙ inv.limits;
+      hand = λ i. omega (arith, inv.hand i, done.step.effect.hand i, more i);
+      holds = λ i. omega (arith, inv.holds i, done.step.effect.holds i, more i);
+      headers = λ i. omega (arith, inv.headers i, done.step.effect.headers i, more i);
+      limits = done.step.effect.limits ∙ inv.limits;
     }
 
 -- all of them stand

@@ -41,8 +41,8 @@ returns-in-Ok-clause-calls g c =
     let did = c.in-Ok.ensures in
     let call = Take c.args.desk (Ok segs) in
     rw (sym c.self.view_is) (
-      made_by g.C.Commons.did g.C.Commons.limits c.args.c.now call c.take.new.self did.did ∷ [],
-      Leads-one g.C.Commons.did g.C.Commons.limits c.args.c.now call c.take.new.self did.did,
+      made_by g.C.Commons.did g.C.Commons.side c.args.c.now call c.take.new.self did.did ∷ [],
+      Leads-one g.C.Commons.did g.C.Commons.side c.args.c.now call c.take.new.self did.did,
       WasTaken here slot free segs refl refl is,
     )
 
@@ -61,17 +61,14 @@ returns-in-Ok-clause-own g c =
     let table : shown c.take-in-Ok.new.self (set packets slot segs) ≡ set (shown flags packets) slot (Some segs) = rw c.take-in-Ok.ensures (shown-set flags packets slot false segs within same) in
     let is = member_is w.limits w.limits w.number w.number w.cache (shown c.take-in-Ok.new.self (set packets slot segs)) (set (shown flags packets) slot (Some segs)) refl refl table in
     let did = c.in-Ok.ensures in
-    let limits = g.C.Commons.limits in
-    let hand = g.C.Commons.hand in
-    let holds = g.C.Commons.holds in
-    let headers = g.C.Commons.headers in
+    let side = g.C.Commons.side in
     let first = c.args.c.now in
     let last = c.take.new.self in
     let own = rw (sym c.self.view_is) at c.requires.own in
     let empty = free_slot-is (shown flags packets) slot free in
-    subst (λ (m : Member). Own m (limits last) (hand last) (holds last) (headers last)) (sym is)
-    (own_taken (member_of c.self.inside) (limits first) (limits last) (hand first) (hand last) (holds first) (holds last) (headers first) (headers last) slot segs own did.limits
-    empty.0 empty.1 did.hand did.holds did.headers)
+    subst (λ (m : Member). Own m (side last)) (sym is)
+    (own_taken (member_of c.self.inside) (side first) (side last) slot segs own did.did.step.effect.limits
+    empty.0 empty.1 did.did.step.effect.hand did.did.step.effect.holds did.did.step.effect.headers)
 
 pub returns-in-Err-clause-calls : goal.returns-in-Err-clause-calls
 returns-in-Err-clause-calls g c =
@@ -86,7 +83,7 @@ returns-in-Err-clause-calls g c =
     let did = c.in-Err.ensures in
     let call = Take c.args.desk (Err c.in-Err.cause) in
     rw (sym c.self.view_is) (
-      made_by g.C.Commons.did g.C.Commons.limits c.args.c.now call c.take.new.self did.did ∷ [],
-      Leads-one g.C.Commons.did g.C.Commons.limits c.args.c.now call c.take.new.self did.did,
+      made_by g.C.Commons.did g.C.Commons.side c.args.c.now call c.take.new.self did.did ∷ [],
+      Leads-one g.C.Commons.did g.C.Commons.side c.args.c.now call c.take.new.self did.did,
       NotTaken here slot free c.in-Err.cause refl refl refl,
     )

@@ -14,7 +14,7 @@ returns-then-n-size-clause-calls g c =
     let d = c.get_list.ensures.did in
     rw (sym c.self.view_is) (
       record { call = GetList (length c.args.out.now) (with_list c.get_list.result c.get_list.new.out); readings = d.readings } ∷ [],
-      (c.get_list.new.self, d.led, d.cause, refl),
+      (c.get_list.new.self, d.step, refl),
       Direct (omega arith) (omega arith) refl refl,
     )
 
@@ -24,7 +24,7 @@ returns-then-n-size-2-clause-calls g c =
     let ok = c.self.inside.cache.ok in
     rw (sym c.self.view_is) (
       record { call = GetList (length c.args.out.now) (with_list c.get_list-then-n-size-2.result c.get_list-then-n-size-2.new.out); readings = d.readings } ∷ [],
-      (c.get_list-then-n-size-2.new.self, d.led, d.cause, refl),
+      (c.get_list-then-n-size-2.new.self, d.step, refl),
       NoRefill (omega arith) (omega arith) (omega (arith, ok)) (omega arith) refl refl,
     )
 
@@ -48,7 +48,7 @@ returns-in-Ok-clause-calls g c =
     let ok = c.self.inside.cache.ok in
     rw (sym c.self.view_is) (
       record { call = GetList (length c.args.out.now + c.self.inside.limits.cache - c.len-len.result) (Ok more); readings = d.readings } ∷ [],
-      (c.refill.new.c, d.led, d.cause, refl),
+      (c.refill.new.c, d.step, refl),
       Refill (omega arith) (omega arith) (omega (arith, ok)) (omega arith) more (let e : c.len-len.result ≡ length c.self.inside.cache.items = omega (arith, ok) in rw e)
           (rw all (ap Ok c.take_last-in-Ok.ensures.out))
           (rw all c.take_last-in-Ok.ensures.cache),
@@ -61,7 +61,7 @@ returns-in-Ok-clause-hand g c i =
     let a = bag-take-drop k new i in
     let b = rw c.in-Ok.ensures.ok at a in
     rw (sym c.self.view_is, c.take_last-in-Ok.ensures.out, c.take_last-in-Ok.ensures.cache)
-    (omega (arith, b, c.in-Ok.ensures.hand i, bag-last new (length new - length c.args.out.now) i))
+    (omega (arith, b, c.in-Ok.ensures.did.step.effect.hand i, bag-last new (length new - length c.args.out.now) i))
 
 -- the refill was refused, and the stack was asked for what is wanted
 pub returns-in-Err-clause-calls : goal.returns-in-Err-clause-calls
@@ -72,6 +72,6 @@ returns-in-Err-clause-calls g c =
     rw (sym c.self.view_is) (
       record { call = GetList (length c.args.out.now + c.self.inside.limits.cache - c.len-len.result) (Err c.in-Err._cause); readings = d.readings }
           ∷ record { call = GetList (length c.args.out.now) (with_list c.get_list-in-Err.result c.get_list-in-Err.new.out); readings = e.readings } ∷ [],
-      (c.refill.new.c, d.led, d.cause, (c.get_list-in-Err.new.self, e.led, e.cause, refl)),
+      (c.refill.new.c, d.step, (c.get_list-in-Err.new.self, e.step, refl)),
       RefillRefused (omega arith) (omega arith) (omega (arith, ok)) (omega arith) c.in-Err._cause (let e : c.len-len.result ≡ length c.self.inside.cache.items = omega (arith, ok) in rw e) c.in-Err.ensures.err,
     )
