@@ -151,7 +151,7 @@ StoodSo-more es m k out after new slot within room long so free is =
     }
 
 -- what stands stays
-stays : (l : Limits) (es : List ℕ) (table : List (Option (List Seg))) (slot : ℕ) (segs : List Seg) → length es ≤ length (free_slots table) → get_or table slot None ≡ Some segs →
+pub stays : (l : Limits) (es : List ℕ) (table : List (Option (List Seg))) (slot : ℕ) (segs : List Seg) → length es ≤ length (free_slots table) → get_or table slot None ≡ Some segs →
     get_or (stood l es (take (length es) (free_slots table)) table) slot None ≡ Some segs
 stays l [] table slot segs h there = there
 stays l (e ∷ es) table slot segs h there =

@@ -5,6 +5,7 @@ pub mod CloneLemmas
 pub mod DeskLemmas
 pub mod EndLemmas
 pub mod FreeLemmas
+pub mod FreshLemmas
 pub mod ListLemmas
 pub mod OwnLemmas
 pub mod PacketCases

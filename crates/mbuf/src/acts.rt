@@ -1,9 +1,10 @@
 //! What a worker is asked to do with its packets and its cache, and what is replied.
 
-ghost use Rattle.std.specs.Prelude.{◌≡◌, ◌≤◌, All, List, IsSome, None, length, map, slice_index_or};
+ghost use Rattle.std.specs.Prelude.{◌≡◌, ◌≤◌, [], All, List, IsSome, None, length, map, slice_index_or};
 ghost use Rattle.commons.specs.Calls.{Made, Leads, calls_of};
 ghost use Rattle.mbuf.specs.Acts.{HasRoom, Performs, as_reply, chained, first_elem, new_packet, told_len as len_reply, told_taken as taken_reply};
-ghost use Rattle.commons.specs.Packets.{own_in_slot};
+ghost use Rattle.commons.specs.Packets.{held_in, own_in_slot};
+ghost use Rattle.mbuf.specs.Fresh.{AreFresh, new_elements};
 ghost use Rattle.mbuf.specs.Members.{slots as slot_count};
 ghost use Rattle.mbuf.specs.Own.{Own};
 
@@ -108,7 +109,8 @@ fn elem_in(packets: &Packets, slot: Pid) -> u32
 
 /// The reply that tells of a length.
 fn told_len<const ROOM: usize>(answer: Result<u32, Refusal>) -> Answer<ROOM>
-    ensures { as_reply result ≡ len_reply answer }
+    ensures reply { as_reply result ≡ len_reply answer }
+    ensures none { new_elements (as_reply result) ≡ [] }
 {
     match answer {
         Ok(len) => Answer::Len(len),
@@ -117,9 +119,11 @@ fn told_len<const ROOM: usize>(answer: Result<u32, Refusal>) -> Answer<ROOM>
 }
 
 /// Makes a packet, and tells of it.
+#[tactic(auto, using(crate::proofs::FreshLemmas::fresh_none))]
 fn alloc<C: Commons, const ROOM: usize>(packets: &mut Packets, c: &mut C) -> Answer<ROOM>
     requires own { Own packets.old (C.side c.old) }
     ensures calls { (made : List Made) × Leads C.did C.side c.old made c.new × Performs Act.Alloc packets.old (calls_of made) (as_reply result) packets.new }
+    ensures fresh { AreFresh packets.old.limits.population (held_in packets.old.table) (new_elements (as_reply result)) }
     ensures own { Own packets.new (C.side c.new) }
 {
     match packets.alloc(c) {
@@ -145,6 +149,7 @@ fn new_packets<const ROOM: usize>(packets: &Packets, slots: &[Pid]) -> ArrayVec<
 }
 
 /// Makes a packet for each place of `slots`, which has the slots then, and tells of them.
+#[tactic(auto, using(crate::proofs::FreshLemmas::fresh_none))]
 fn alloc_all<C: Commons, const ROOM: usize>(
     packets: &mut Packets,
     c: &mut C,
@@ -154,6 +159,7 @@ fn alloc_all<C: Commons, const ROOM: usize>(
     requires few { length slots.old ≤ slot_count }
     requires room { HasRoom ROOM (Act.AllocBulk (length slots.old)) }
     ensures calls { (made : List Made) × Leads C.did C.side c.old made c.new × Performs (Act.AllocBulk (length slots.old)) packets.old (calls_of made) (as_reply result) packets.new }
+    ensures fresh { AreFresh packets.old.limits.population (held_in packets.old.table) (new_elements (as_reply result)) }
     ensures own { Own packets.new (C.side c.new) }
 {
     match packets.alloc_bulk(c, slots) {
@@ -163,6 +169,7 @@ fn alloc_all<C: Commons, const ROOM: usize>(
 }
 
 /// Makes so many packets, and tells of them.
+#[tactic(auto, using(crate::proofs::FreshLemmas::fresh_none))]
 fn alloc_bulk<C: Commons, const ROOM: usize>(
     packets: &mut Packets,
     c: &mut C,
@@ -171,6 +178,7 @@ fn alloc_bulk<C: Commons, const ROOM: usize>(
     requires room { HasRoom ROOM (Act.AllocBulk count) }
     requires own { Own packets.old (C.side c.old) }
     ensures calls { (made : List Made) × Leads C.did C.side c.old made c.new × Performs (Act.AllocBulk count) packets.old (calls_of made) (as_reply result) packets.new }
+    ensures fresh { AreFresh packets.old.limits.population (held_in packets.old.table) (new_elements (as_reply result)) }
     ensures own { Own packets.new (C.side c.new) }
 {
     packets.has_slots();
@@ -190,6 +198,7 @@ fn chain<C: Commons, const ROOM: usize>(
 ) -> Answer<ROOM>
     requires own { Own packets.old (C.side c.old) }
     ensures calls { (made : List Made) × Leads C.did C.side c.old made c.new × Performs (Act.Chain head tail) packets.old (calls_of made) (as_reply result) packets.new }
+    ensures none { new_elements (as_reply result) ≡ [] }
     ensures own { Own packets.new (C.side c.new) }
 {
     if let Err(cause) = packets.chain(c, head, tail) {
@@ -214,6 +223,7 @@ fn elems_in(packets: &Packets, slot: Pid) -> ArrayVec<u32, MAX_SEGS>
 }
 
 /// Clones a packet, and tells of the clone.
+#[tactic(auto, using(crate::proofs::FreshLemmas::fresh_none))]
 fn clone_packet<C: Commons, const ROOM: usize>(
     packets: &mut Packets,
     c: &mut C,
@@ -221,6 +231,7 @@ fn clone_packet<C: Commons, const ROOM: usize>(
 ) -> Answer<ROOM>
     requires own { Own packets.old (C.side c.old) }
     ensures calls { (made : List Made) × Leads C.did C.side c.old made c.new × Performs (Act.ClonePacket p) packets.old (calls_of made) (as_reply result) packets.new }
+    ensures fresh { AreFresh packets.old.limits.population (held_in packets.old.table) (new_elements (as_reply result)) }
     ensures own { Own packets.new (C.side c.new) }
 {
     match packets.clone_packet(c, p) {
@@ -232,7 +243,8 @@ fn clone_packet<C: Commons, const ROOM: usize>(
 /// The reply that tells of the packet in a slot.
 fn told_taken<const ROOM: usize>(packets: &Packets, slot: Pid) -> Answer<ROOM>
     requires there { IsSome (slice_index_or packets.now.table slot None) }
-    ensures { as_reply result ≡ taken_reply slot (slice_index_or packets.now.table slot None) }
+    ensures reply { as_reply result ≡ taken_reply slot (slice_index_or packets.now.table slot None) }
+    ensures none { new_elements (as_reply result) ≡ [] }
 {
     let packet = packets.place(slot).unwrap();
     Answer::Taken(slot, packet.segs().len() as u32, lengths::pkt_len(packet))
@@ -242,6 +254,7 @@ fn told_taken<const ROOM: usize>(packets: &Packets, slot: Pid) -> Answer<ROOM>
 fn take<C: Commons, const ROOM: usize>(packets: &mut Packets, c: &mut C, desk: u32) -> Answer<ROOM>
     requires own { Own packets.old (C.side c.old) }
     ensures calls { (made : List Made) × Leads C.did C.side c.old made c.new × Performs (Act.Take desk) packets.old (calls_of made) (as_reply result) packets.new }
+    ensures none { new_elements (as_reply result) ≡ [] }
     ensures own { Own packets.new (C.side c.new) }
 {
     match packets.take(c, desk) {
@@ -258,6 +271,7 @@ fn take<C: Commons, const ROOM: usize>(packets: &mut Packets, c: &mut C, desk: u
 pub fn perform<C: Commons>(packets: &mut Packets, c: &mut C, act: Act) -> Reply
     requires own { Own packets.old (C.side c.old) }
     ensures calls { (made : List Made) × Leads C.did C.side c.old made c.new × Performs act packets.old (calls_of made) result packets.new }
+    ensures fresh { AreFresh packets.old.limits.population (held_in packets.old.table) (new_elements result) }
     ensures own { Own packets.new (C.side c.new) }
 {
     perform_in(packets, c, act)
@@ -265,6 +279,7 @@ pub fn perform<C: Commons>(packets: &mut Packets, c: &mut C, act: Act) -> Reply
 
 /// Does what `perform` does, and answers with room for a bulk of `ROOM` packets: with none the answer is
 /// small.
+#[tactic(auto, using(crate::proofs::FreshLemmas::fresh_none))]
 pub fn perform_in<C: Commons, const ROOM: usize>(
     packets: &mut Packets,
     c: &mut C,
@@ -273,6 +288,7 @@ pub fn perform_in<C: Commons, const ROOM: usize>(
     requires room { HasRoom ROOM act }
     requires own { Own packets.old (C.side c.old) }
     ensures calls { (made : List Made) × Leads C.did C.side c.old made c.new × Performs act packets.old (calls_of made) (as_reply result) packets.new }
+    ensures fresh { AreFresh packets.old.limits.population (held_in packets.old.table) (new_elements (as_reply result)) }
     ensures own { Own packets.new (C.side c.new) }
 {
     match act {

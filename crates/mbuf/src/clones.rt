@@ -146,6 +146,7 @@ pub fn clone_segs<C: Commons>(
     ensures hand { (i : ℕ) → (C.side c.new).hand i ≡ bag worker.new.cache i }
     ensures holds { OnOk result ((i : ℕ) → (C.side c.new).holds i ≡ (C.side c.old).holds i + bag (holds_of_packet (slice_index_or packets.new.items slot [])) i) }
     ensures headers { OnOk result ((i : ℕ) → (C.side c.new).headers i ≡ (C.side c.old).headers i + bag (map (λ seg. seg.elem) (slice_index_or packets.new.items slot [])) i) }
+    ensures unheld { OnOk result ((i : ℕ) → 0 < bag (map (λ seg. seg.elem) (slice_index_or packets.new.items slot [])) i → (C.side c.old).holds i ≡ 0) }
     ensures holds_err { OnErr result ((i : ℕ) → (C.side c.new).holds i ≡ (C.side c.old).holds i) }
     ensures headers_err { OnErr result ((i : ℕ) → (C.side c.new).headers i ≡ (C.side c.old).headers i) }
     ensures limits { (C.side c.new).limits ≡ (C.side c.old).limits }

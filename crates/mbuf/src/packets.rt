@@ -1,4 +1,4 @@
-ghost use Rattle.std.specs.Prelude.{◌≡◌, ◌≢◌, ◌<◌, ◌≤◌, ◌+◌, ◌++◌, [], ◌∷◌, ℕ, List, IfOk, IfErr, OnErr, MatchOption, MatchResult, IsSome, Option, None, Some, length, map, replicate, slice_index_or, slice_set, take, vec_len};
+ghost use Rattle.std.specs.Prelude.{◌≡◌, ◌≢◌, ◌<◌, ◌≤◌, ◌+◌, ◌++◌, [], ◌∷◌, ℕ, List, IfOk, IfErr, OnOk, OnErr, MatchOption, MatchResult, IsSome, Option, None, Some, length, map, replicate, slice_index_or, slice_set, take, vec_len};
 ghost use Rattle.commons.specs.Bounds.{IsPool};
 ghost use Rattle.commons.specs.Bag.{bag, one};
 ghost use Rattle.commons.specs.Calls.{Claim, Did, Made, Leads, calls_of, with_list};
@@ -11,9 +11,10 @@ ghost use Rattle.mbuf.specs.inside.Changes.{resized, not_resized};
 ghost use Rattle.mbuf.specs.Lengths.{pkt_len as len_of, appended, prepended, adjusted, trimmed};
 ghost use Rattle.mbuf.specs.inside.Kept.{KeepsHolds};
 ghost use Rattle.mbuf.specs.Desks.{Offers, Takes};
+ghost use Rattle.mbuf.specs.Fresh.{AreFresh, own_in_slots};
 ghost use Rattle.mbuf.specs.Sharing.{Attaches, Clones, CountsOf, Detaches, detachable, pair_in};
 ghost use Rattle.mbuf.specs.inside.Cloning.{ArePair, IsIndirect};
-ghost use Rattle.commons.specs.Packets.{HasItsData, max_segs};
+ghost use Rattle.commons.specs.Packets.{HasItsData, held_in, max_segs};
 
 use crate::free_slots::FreeSlots;
 use crate::freed::Freed;
@@ -172,6 +173,7 @@ impl Packets {
     pub fn alloc<C: Commons>(&mut self, c: &mut C) -> Result<Pid, Refusal>
         requires own { Own self.old (C.side c.old) }
         ensures calls { (made : List Made) × Leads C.did C.side c.old made c.new × Allocs self.old (calls_of made) result self.new }
+        ensures fresh { IfOk result (λ slot. AreFresh self.old.limits.population (held_in self.old.table) (own_in_slots self.new.table (slot ∷ []))) }
         ensures own { Own self.new (C.side c.new) }
         ensures refused { OnErr result ((C.side c.new ≡ C.side c.old) × (self.new ≡ self.old)) }
     {
@@ -196,6 +198,7 @@ impl Packets {
     pub fn alloc_bulk<C: Commons>(&mut self, c: &mut C, out: &mut [Pid]) -> Result<(), Refusal>
         requires own { Own self.old (C.side c.old) }
         ensures calls { (made : List Made) × Leads C.did C.side c.old made c.new × AllocsBulk self.old (length out.old) (calls_of made) (with_list result out.new) self.new }
+        ensures fresh { OnOk result (AreFresh self.old.limits.population (held_in self.old.table) (own_in_slots self.new.table out.new)) }
         ensures own { Own self.new (C.side c.new) }
         ensures refused { OnErr result ((C.side c.new ≡ C.side c.old) × (self.new ≡ self.old)) }
     {
@@ -515,6 +518,7 @@ impl Packets {
         ensures holds_err { OnErr result ((i : ℕ) → (C.side c.new).holds i ≡ (C.side c.old).holds i) }
         ensures headers_err { OnErr result ((i : ℕ) → (C.side c.new).headers i ≡ (C.side c.old).headers i) }
         ensures table_err { OnErr result (self.new.table ≡ self.old.table) }
+        ensures fresh { IfOk result (λ slot. AreFresh self.old.limits.population (held_in self.old.table) (own_in_slots self.new.table (slot ∷ []))) }
         ensures own { Own self.new (C.side c.new) }
     {
         let Some(source) = self.slot(p) else {

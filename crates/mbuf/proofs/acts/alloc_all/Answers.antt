@@ -1,4 +1,8 @@
-use Rattle.std.proofs.Common.{Ok, Err, refl, ap, rules, arith}
+use Rattle.std.proofs.Common.{ℕ, List, Ok, Err, map, refl, sym, ap, subst, ◌∙◌, rules, arith}
+use Rattle.commons.specs.Packets.{held_in}
+use Rattle.mbuf.specs.Fresh.{AreFresh}
+use Rattle.mbuf.specs.declared.acts.NewPacket.{NewPacket}
+use Rattle.mbuf.proofs.FreshLemmas.{bulk_elements}
 use Rattle.mbuf.specs.declared.acts.Answer.TheVariants.{Bulk}
 use Rattle.mbuf.proofs.ActLemmas.{bulk_there, list_is}
 use Rattle.mbuf.proofs.acts.alloc_all.Goals as goal
@@ -16,3 +20,10 @@ returns-in-Ok-clause-calls g c =
 
 pub returns-in-Err-clause-calls : goal.returns-in-Err-clause-calls
 returns-in-Err-clause-calls g c = let done = c.in-Err.ensures.calls in (done.0, done.1, (Err c.in-Err.cause, done.2, refl))
+
+pub returns-in-Ok-clause-fresh : goal.returns-in-Ok-clause-fresh
+returns-in-Ok-clause-fresh g c =
+    let done = c.in-Ok.ensures.calls in
+    let m = c.args.packets.now in
+    subst (λ (es : List ℕ). AreFresh m.limits.population (held_in m.table) es)
+    (bulk_elements _ _ _ _ _ done.2 ∙ ap (λ (list : List NewPacket). map (λ (packet : NewPacket). packet.elem) list) (sym c.new_packets.ensures)) c.in-Ok.ensures.fresh

@@ -1,4 +1,7 @@
-use Rattle.std.proofs.Common.{Ok, Err, refl, ap}
+use Rattle.std.proofs.Common.{ℕ, List, Ok, Err, refl, sym, ap, subst, ◌∙◌}
+use Rattle.commons.specs.Packets.{held_in}
+use Rattle.mbuf.specs.Fresh.{AreFresh}
+use Rattle.mbuf.proofs.FreshLemmas.{slot_elements}
 use Rattle.mbuf.specs.declared.acts.Answer.TheVariants.{Cloned}
 use Rattle.mbuf.proofs.ActLemmas.{cloned_there, list_is}
 use Rattle.mbuf.proofs.acts.clone_packet.Goals as goal
@@ -13,3 +16,8 @@ returns-in-Ok-clause-calls g c =
 
 pub returns-in-Err-clause-calls : goal.returns-in-Err-clause-calls
 returns-in-Err-clause-calls g c = let done = c.in-Err.ensures.calls in (done.0, done.1, (Err c.in-Err.cause, done.2, refl))
+
+pub returns-in-Ok-clause-fresh : goal.returns-in-Ok-clause-fresh
+returns-in-Ok-clause-fresh g c =
+    let m = c.args.packets.now in
+    subst (λ (es : List ℕ). AreFresh m.limits.population (held_in m.table) es) (slot_elements c.clone_packet.new.self.table c.in-Ok.slot ∙ sym c.elems_in.ensures) c.in-Ok.ensures.fresh

@@ -6,7 +6,7 @@ pub told_taken-requires : goal.told_taken-requires
 told_taken-requires g c = let done = c.in-Ok.ensures.calls in (search rules, taken_there _ _ _ _ _ done.2)
 
 pub returns-in-Ok-clause-calls : goal.returns-in-Ok-clause-calls
-returns-in-Ok-clause-calls g c = let done = c.in-Ok.ensures.calls in (done.0, done.1, (Ok c.in-Ok.slot, done.2, c.told_taken.ensures))
+returns-in-Ok-clause-calls g c = let done = c.in-Ok.ensures.calls in (done.0, done.1, (Ok c.in-Ok.slot, done.2, c.told_taken.ensures.reply))
 
 pub returns-in-Err-clause-calls : goal.returns-in-Err-clause-calls
 returns-in-Err-clause-calls g c = let done = c.in-Err.ensures.calls in (done.0, done.1, (Err c.in-Err.cause, done.2, refl))

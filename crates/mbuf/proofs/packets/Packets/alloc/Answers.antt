@@ -10,6 +10,11 @@ use Rattle.mbuf.specs.Members.{Member}
 use Rattle.mbuf.specs.Own.{Own}
 use Rattle.mbuf.specs.PacketRules.{free_slots, fresh_seg, stood, Full, NotGot, Fresh}
 use Rattle.mbuf.proofs.FreeLemmas.{length-free, first_free, none_free, taken_first, own_stood}
+use Rattle.commons.specs.Packets.{held_in}
+use Rattle.mbuf.specs.Fresh.{own_in_slots}
+use Rattle.mbuf.proofs.CloneLemmas.{single_is, unheld}
+use Rattle.mbuf.proofs.FreshLemmas.{fresh_headers, own_in_one}
+use Rattle.mbuf.proofs.OwnLemmas.{free_slot-is}
 use Rattle.mbuf.proofs.TableLemmas.{member_is}
 use Rattle.mbuf.proofs.packets.Packets.alloc.Goals as goal
 
@@ -99,3 +104,27 @@ returns-in-Ok-clause-own g c =
     w.cache (e ∷ []) own (effect.limits ∙ got.limits)
     (some_free c.count.result (length (free_slots table)) c.if-count-eq0.false (length-free 0 c.self.inside.free c.self.inside.packets.items (inv.packets ∙ sym inv.flags) ∙ sym c.count.ensures))
     (λ i. omega (arith, got.hand i, bag-single e i)) got.holds got.headers (λ i. omega (arith, effect.hand i, bag-single e i)) (λ i. omega (arith, effect.holds i, bag-single e i)) (λ i. omega (arith, effect.headers i, bag-single e i)))
+
+pub returns-in-Ok-clause-fresh : goal.returns-in-Ok-clause-fresh
+returns-in-Ok-clause-fresh g c =
+    let table = shown c.self.inside.free c.self.inside.packets.items in
+    let slot = c.stand.result in
+    let e = c.in-Ok.elem in
+    let l = c.self.inside.worker.limits in
+    let w = c.get_one.new.worker in
+    let got = c.in-Ok.ensures in
+    let stand = c.stand.ensures in
+    let effect = stand.did.step.effect in
+    let side = g.C.Commons.side in
+    let mid = c.get_one.new.c in
+    let last = c.stand.new.c in
+    let met = g.met.C.Commons in
+    let own = rw (sym c.self.view_is) at c.requires.own in
+    let list : own_in_slots c.stand.new.self.table (slot ∷ []) ≡ e ∷ [] =
+    ap (λ (m : Member). own_in_slots m.table (slot ∷ [])) stand.stood ∙ own_in_one table slot (fresh_seg w.limits e ∷ []) (free_slot-is table slot stand.slot).0 in
+    let none = unheld ((side mid).hand e) ((side mid).holds e) (met.apart mid e) (omega (arith, own.cached e, got.hand e, one-same e)) in
+    let nobodys : held_in table e ≡ 0 = omega (arith, none, ap (λ (f : ℕ → ℕ). f e) got.holds, own.held e) in
+    let same : (side last).limits.population ≡ l.population = ap (λ (x : Limits). x.population) (effect.limits ∙ got.limits ∙ sym own.limits) in
+    rw (sym c.self.view_is, list)
+    (fresh_headers (side mid) (side last) l.population (held_in table) (e ∷ []) (met.header_once last) (met.header_held last) (λ i b. met.holds_below last i (omega (arith, same, b)))
+    (λ i. omega (arith, effect.headers i, bag-single e i)) (λ i some. rw (single_is e i some) nobodys))

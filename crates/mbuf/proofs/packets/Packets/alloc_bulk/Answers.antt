@@ -1,4 +1,4 @@
-use Rattle.std.proofs.Common.{◌≡◌, ◌++◌, [], ℕ, List, length, take, refl, sym, ap, subst, ◌∙◌, Result, Ok, arith}
+use Rattle.std.proofs.Common.{◌≡◌, ◌≤◌, ◌++◌, [], ℕ, List, length, take, refl, sym, ap, subst, ◌∙◌, Result, Ok, arith}
 use Rattle.commons.specs.Calls.{Call, calls_of}
 use Rattle.commons.specs.declared.limits.Limits.{Limits}
 use Rattle.commons.specs.declared.refusal.Refusal.{Refusal}
@@ -7,7 +7,11 @@ use Rattle.mbuf.specs.inside.Kept.{member_of, shown}
 use Rattle.mbuf.specs.Members.{Member}
 use Rattle.mbuf.specs.Own.{Own}
 use Rattle.mbuf.specs.PacketRules.{free_slots, stood, TooFull, BulkNotGot, FreshBulk}
+use Rattle.commons.specs.Packets.{held_in}
+use Rattle.mbuf.specs.Fresh.{own_in_slots}
+use Rattle.mbuf.proofs.CloneLemmas.{unheld}
 use Rattle.mbuf.proofs.FreeLemmas.{length-free, own_stood}
+use Rattle.mbuf.proofs.FreshLemmas.{fresh_headers, own_in_stood}
 use Rattle.mbuf.proofs.TableLemmas.{member_is}
 use Rattle.mbuf.proofs.packets.Packets.alloc_bulk.Goals as goal
 
@@ -96,3 +100,34 @@ returns-in-Ok-clause-own g c =
     w.cache es own (stand.limits ∙ got.limits)
     (omega (arith, length-free 0 c.self.inside.free c.self.inside.packets.items (inv.packets ∙ sym inv.flags), c.count.ensures, c.if-count-out.false, c.get_bulk.auto.out))
     got.hand got.holds got.headers stand.hand stand.holds stand.headers)
+
+pub returns-in-Ok-clause-fresh : goal.returns-in-Ok-clause-fresh
+returns-in-Ok-clause-fresh g c =
+    let inv = c.self.invariant in
+    let table = shown c.self.inside.free c.self.inside.packets.items in
+    let es = c.get_bulk.new.out in
+    let before = c.self.inside.worker in
+    let w = c.get_bulk.new.self in
+    let number = c.in-Ok.ensures.number in
+    let got = c.in-Ok.ensures in
+    let stand = c.stand_all.ensures in
+    let slots = take (length es) (free_slots table) in
+    let mid = c.get_bulk.new.c in
+    let last = c.stand_all.new.c in
+    let side = g.C.Commons.side in
+    let is = stand.stood
+    ∙ ap (λ (out : List ℕ). let m : Member = record { limits = w.limits; number = w.number; cache = w.cache; table = stood w.limits es out table } in m) stand.slots
+    ∙ member_is w.limits before.limits w.number before.number w.cache (stood w.limits es slots table) (stood before.limits es slots table) number.limits number.number
+    (ap (λ (l : Limits). stood l es slots table) number.limits) in
+    let own = rw (sym c.self.view_is) at c.requires.own in
+    let met = g.met.C.Commons in
+    let l = before.limits in
+    let room : length es ≤ length (free_slots table) = omega (arith, length-free 0 c.self.inside.free c.self.inside.packets.items (inv.packets ∙ sym inv.flags), c.count.ensures, c.if-count-out.false, c.get_bulk.auto.out) in
+    let list : own_in_slots c.stand_all.new.self.table c.stand_all.new.out ≡ es =
+    ap (λ (m : Member). own_in_slots m.table c.stand_all.new.out) is ∙ ap (λ (out : List ℕ). own_in_slots (stood l es slots table) out) stand.slots ∙ own_in_stood l es table room in
+    let same : (side last).limits.population ≡ l.population = ap (λ (x : Limits). x.population) (stand.limits ∙ got.limits ∙ sym own.limits) in
+    rw (sym c.self.view_is, list)
+    (fresh_headers (side mid) (side last) l.population (held_in table) es (met.header_once last) (met.header_held last) (λ i b. met.holds_below last i (omega (arith, same, b))) stand.headers
+    (λ i some.
+    let none = unheld ((side mid).hand i) ((side mid).holds i) (met.apart mid i) (omega (arith, own.cached i, got.hand i, some)) in
+    omega (arith, none, ap (λ (f : ℕ → ℕ). f i) got.holds, own.held i)))
