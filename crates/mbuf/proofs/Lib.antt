@@ -7,6 +7,7 @@ pub mod EndLemmas
 pub mod FreeLemmas
 pub mod FreshLemmas
 pub mod ListLemmas
+pub mod MemberLemmas
 pub mod OwnLemmas
 pub mod PacketCases
 pub mod ResizeLemmas

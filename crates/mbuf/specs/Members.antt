@@ -1,5 +1,5 @@
 -- What a contract sees of a `Packets`.
-use Rattle.std.specs.Prelude.{ℕ, List, Option}
+use Rattle.std.specs.Prelude.{ℕ, ◌≡◌, length, List, Option}
 use Rattle.commons.specs.declared.limits.Limits.{Limits}
 use Rattle.commons.specs.declared.packet.Seg.{Seg}
 
@@ -14,3 +14,9 @@ pub record Member : Type 0 where
 -- how many packets a table has room for
 abbrev pub slots : ℕ
 slots = 256
+
+-- it is the same worker of the same pool, and its table has all its slots
+pub record KeepsMember (old new : Member) : Type 0 where
+  pub limits : new.limits ≡ old.limits
+  pub number : new.number ≡ old.number
+  pub table : length new.table ≡ slots

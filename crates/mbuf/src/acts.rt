@@ -5,7 +5,7 @@ ghost use Rattle.commons.specs.Calls.{Made, Leads, calls_of};
 ghost use Rattle.mbuf.specs.Acts.{HasRoom, Performs, as_reply, chained, first_elem, new_packet, told_len as len_reply, told_taken as taken_reply};
 ghost use Rattle.commons.specs.Packets.{held_in, own_in_slot};
 ghost use Rattle.mbuf.specs.Fresh.{AreFresh, new_elements};
-ghost use Rattle.mbuf.specs.Members.{slots as slot_count};
+ghost use Rattle.mbuf.specs.Members.{KeepsMember, slots as slot_count};
 ghost use Rattle.mbuf.specs.Own.{Own};
 
 use crate::freed::Freed;
@@ -267,24 +267,39 @@ fn take<C: Commons, const ROOM: usize>(packets: &mut Packets, c: &mut C, desk: u
 ///
 /// Each act is the call of `Packets` of that name, with its refusals. A count of `AllocBulk` above
 /// 256 is refused `PacketsFull`. After a refusal packets, cache and holds are as before, but that a
-/// refused clone may share out the free elements otherwise between cache and stack.
+/// refused clone may share out the free elements otherwise between cache and stack. The worker keeps
+/// its number, its limits and its 256 slots.
 pub fn perform<C: Commons>(packets: &mut Packets, c: &mut C, act: Act) -> Reply
     requires own { Own packets.old (C.side c.old) }
     ensures calls { (made : List Made) × Leads C.did C.side c.old made c.new × Performs act packets.old (calls_of made) result packets.new }
     ensures fresh { AreFresh packets.old.limits.population (held_in packets.old.table) (new_elements result) }
     ensures own { Own packets.new (C.side c.new) }
+    ensures member { KeepsMember packets.old packets.new }
 {
     perform_in(packets, c, act)
 }
 
 /// Does what `perform` does, and answers with room for a bulk of `ROOM` packets: with none the answer is
 /// small.
-#[tactic(auto, using(crate::proofs::FreshLemmas::fresh_none))]
 pub fn perform_in<C: Commons, const ROOM: usize>(
     packets: &mut Packets,
     c: &mut C,
     act: Act,
 ) -> Answer<ROOM>
+    requires room { HasRoom ROOM act }
+    requires own { Own packets.old (C.side c.old) }
+    ensures calls { (made : List Made) × Leads C.did C.side c.old made c.new × Performs act packets.old (calls_of made) (as_reply result) packets.new }
+    ensures fresh { AreFresh packets.old.limits.population (held_in packets.old.table) (new_elements (as_reply result)) }
+    ensures own { Own packets.new (C.side c.new) }
+    ensures member { KeepsMember packets.old packets.new }
+{
+    packets.has_slots();
+    act_in(packets, c, act)
+}
+
+/// Does this with a worker's packets.
+#[tactic(auto, using(crate::proofs::FreshLemmas::fresh_none))]
+fn act_in<C: Commons, const ROOM: usize>(packets: &mut Packets, c: &mut C, act: Act) -> Answer<ROOM>
     requires room { HasRoom ROOM act }
     requires own { Own packets.old (C.side c.old) }
     ensures calls { (made : List Made) × Leads C.did C.side c.old made c.new × Performs act packets.old (calls_of made) (as_reply result) packets.new }

@@ -1,63 +1,9 @@
-use Rattle.std.proofs.Common.{[], Ok, Err, refl, sym}
-use Rattle.mbuf.proofs.FreshLemmas.{fresh_none}
+use Rattle.commons.specs.Calls.{calls_of}
+use Rattle.mbuf.specs.Acts.{as_reply}
+use Rattle.mbuf.proofs.MemberLemmas.{performs_keeps}
 use Rattle.mbuf.proofs.acts.perform_in.Goals as goal
 
-pub returns-in-Ok-clause-calls : goal.returns-in-Ok-clause-calls
-returns-in-Ok-clause-calls g c = let done = c.in-Ok.ensures.calls in rw c.in-Free.is (done.0, done.1, (Ok c.in-Ok.freed, done.2, refl))
-
-pub returns-in-Append-clause-calls : goal.returns-in-Append-clause-calls
-returns-in-Append-clause-calls g c = rw c.in-Append.is ([], sym c.append.ensures.no_call, (c.append.result, c.append.ensures.resized, refl, c.told_len.ensures.reply))
-
-pub returns-in-Prepend-clause-calls : goal.returns-in-Prepend-clause-calls
-returns-in-Prepend-clause-calls g c = rw c.in-Prepend.is ([], sym c.prepend.ensures.no_call, (c.prepend.result, c.prepend.ensures.resized, refl, c.told_len-in-Prepend.ensures.reply))
-
-pub returns-in-Adj-clause-calls : goal.returns-in-Adj-clause-calls
-returns-in-Adj-clause-calls g c = rw c.in-Adj.is ([], sym c.adj.ensures.no_call, (c.adj.result, c.adj.ensures.resized, refl, c.told_len-in-Adj.ensures.reply))
-
-pub returns-in-Trim-clause-calls : goal.returns-in-Trim-clause-calls
-returns-in-Trim-clause-calls g c = rw c.in-Trim.is ([], sym c.trim.ensures.no_call, (c.trim.result, c.trim.ensures.resized, refl, c.told_len-in-Trim.ensures.reply))
-
-pub returns-in-Flush-clause-calls : goal.returns-in-Flush-clause-calls
-returns-in-Flush-clause-calls g c = let done = c.flush.ensures.calls in rw c.in-Flush.is (done.0, done.1, (c.flush.result, done.2, c.flush.ensures.packets, refl))
-
-pub returns-in-Ok-attach-clause-calls : goal.returns-in-Ok-attach-clause-calls
-returns-in-Ok-attach-clause-calls g c = let done = c.in-Ok-attach.ensures.calls in rw c.in-Attach.is (done.0, done.1, (Ok tt, done.2, refl))
-
-pub returns-in-Err-attach-clause-calls : goal.returns-in-Err-attach-clause-calls
-returns-in-Err-attach-clause-calls g c = let done = c.in-Err-attach.ensures.calls in rw c.in-Attach.is (done.0, done.1, (Err c.in-Err-attach.cause, done.2, refl))
-
-pub returns-in-Ok-detach-clause-calls : goal.returns-in-Ok-detach-clause-calls
-returns-in-Ok-detach-clause-calls g c = let done = c.in-Ok-detach.ensures.calls in rw c.in-Detach.is (done.0, done.1, (Ok c.in-Ok-detach.freed, done.2, refl))
-
-pub returns-in-Err-detach-clause-calls : goal.returns-in-Err-detach-clause-calls
-returns-in-Err-detach-clause-calls g c = let done = c.in-Err-detach.ensures.calls in rw c.in-Detach.is (done.0, done.1, (Err c.in-Err-detach.cause, done.2, refl))
-
-pub returns-in-Ok-count_of-clause-calls : goal.returns-in-Ok-count_of-clause-calls
-returns-in-Ok-count_of-clause-calls g c = let done = c.in-Ok-count_of.ensures.calls in rw c.in-CountOf.is (done.0, done.1, (Ok c.in-Ok-count_of.count, done.2, refl, refl))
-
-pub returns-in-Ok-offer-clause-calls : goal.returns-in-Ok-offer-clause-calls
-returns-in-Ok-offer-clause-calls g c = let done = c.in-Ok-offer.ensures.calls in rw c.in-Offer.is (done.0, done.1, (Ok tt, done.2, refl))
-
-pub returns-in-Err-offer-clause-calls : goal.returns-in-Err-offer-clause-calls
-returns-in-Err-offer-clause-calls g c = let done = c.in-Err-offer.ensures.calls in rw c.in-Offer.is (done.0, done.1, (Err c.in-Err-offer.cause, done.2, refl))
-
-pub returns-in-Append-clause-fresh : goal.returns-in-Append-clause-fresh
-returns-in-Append-clause-fresh g c = rw c.told_len.ensures.none (fresh_none _ _)
-
-pub returns-in-Prepend-clause-fresh : goal.returns-in-Prepend-clause-fresh
-returns-in-Prepend-clause-fresh g c = rw c.told_len-in-Prepend.ensures.none (fresh_none _ _)
-
-pub returns-in-Adj-clause-fresh : goal.returns-in-Adj-clause-fresh
-returns-in-Adj-clause-fresh g c = rw c.told_len-in-Adj.ensures.none (fresh_none _ _)
-
-pub returns-in-Trim-clause-fresh : goal.returns-in-Trim-clause-fresh
-returns-in-Trim-clause-fresh g c = rw c.told_len-in-Trim.ensures.none (fresh_none _ _)
-
-pub returns-in-PktLen-clause-fresh : goal.returns-in-PktLen-clause-fresh
-returns-in-PktLen-clause-fresh g c = rw c.told_len-in-PktLen.ensures.none (fresh_none _ _)
-
-pub returns-in-Chain-clause-fresh : goal.returns-in-Chain-clause-fresh
-returns-in-Chain-clause-fresh g c = rw c.chain.ensures.none (fresh_none _ _)
-
-pub returns-in-Take-clause-fresh : goal.returns-in-Take-clause-fresh
-returns-in-Take-clause-fresh g c = rw c.take.ensures.none (fresh_none _ _)
+pub returns-clause-member : goal.returns-clause-member
+returns-clause-member g c =
+    let done = c.act_in.ensures.calls in
+    performs_keeps c.args.act c.args.packets.now (calls_of done.0) (as_reply c.act_in.result) c.act_in.new.packets done.2 c.has_slots.ensures
