@@ -2,6 +2,7 @@
 use Rattle.std.proofs.Common.{ℕ, ◌≡◌, List, [], ◌∷◌, ◌++◌, Ok, Err, refl, sym, ◌∙◌, ap, subst}
 use Rattle.commons.specs.declared.plain.PlainCommons.{PlainCommons}
 use Rattle.commons.specs.declared.refusal.Refusal.TheVariants.{NoEntries, HeadSpent, RefSpent, DeskTaken, DeskEmpty, NoSuchDesk}
+use Rattle.commons.specs.Beside.{LeavesOthers}
 use Rattle.commons.specs.Calls.{Call, GetList, PutList, Claim, CountOf, Raise, Lower, Offer, Take, CommonCount, Reading, Made, Leads, Side, calls_of}
 use Rattle.commons.specs.Lists.{Lists, IsTable, KeepsOthers, DidPlain, DidOnLists, side_of}
 use Rattle.commons.specs.PlainCalls.{LeadsPlain}
@@ -94,3 +95,17 @@ did_limits w s (CommonCount n) t d = ap (λ (x : Lists). x.limits) d.1
 pub LeadsPlain-limits : (w : ℕ) (s : Lists) (calls : List Call) (t : Lists) → LeadsPlain w s calls t → t.limits ≡ s.limits
 LeadsPlain-limits w s calls t h =
     LeadsPlain-keeps (λ (x : Lists). x.limits) (λ c. Unit {0}) w (λ c cs u. tt) (λ s c cs t u d. did_limits w s c t d) s calls t tt h
+
+-- the other workers have what they had
+pub leaves_others : (s : PlainCommons) (made : List Made) (t : PlainCommons) → Leads DidAt side_at s made t → LeavesOthers s t
+leaves_others s made t h =
+    let p = plainly s made t h in
+    let limits = LeadsPlain-limits s.worker s.site.now (calls_of made) t.site.now p.led in record {
+      site = p.same;
+      worker = p.worker;
+      sides = record {
+        table = t.table;
+        limits = limits;
+        others = λ v l e. record { limits = limits; hand = λ i. p.others.hands v i e; holds = λ i. p.others.holds v i l e; headers = λ i. p.others.headers v i e };
+      };
+    }

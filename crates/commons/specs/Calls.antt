@@ -160,6 +160,13 @@ pub record Side : Type 0 where
   -- which elements are headers of the worker's own packets: once or never
   pub headers : ℕ → ℕ
 
+-- the two have the same limits, and the same of each element
+pub record SameSide (before after : Side) : Type 0 where
+  pub limits : after.limits ≡ before.limits
+  pub hand : (i : ℕ) → after.hand i ≡ before.hand i
+  pub holds : (i : ℕ) → after.holds i ≡ before.holds i
+  pub headers : (i : ℕ) → after.headers i ≡ before.headers i
+
 -- these elements come into the hand
 pub record IsGet (xs : List ℕ) (before after : Side) : Type 0 where
   pub limits : after.limits ≡ before.limits

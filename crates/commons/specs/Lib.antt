@@ -1,4 +1,5 @@
 pub mod Bag
+pub mod Beside
 pub mod Bounds
 pub mod Calls
 pub mod Lists

@@ -12,3 +12,5 @@ mod memory;
 mod packets;
 #[cfg(test)]
 mod rows;
+#[cfg(test)]
+mod several;

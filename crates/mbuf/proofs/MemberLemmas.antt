@@ -41,11 +41,11 @@ other m after cache table len e = record {
 slot_other : (m after : Member) (cache : List ℕ) (slot : ℕ) (new : Option (List Seg)) → after ≡ record m { cache = cache; table = set m.table slot new } → Keeps m after
 slot_other m after cache slot new e = other m after cache (set m.table slot new) (length-set m.table slot new) e
 
-length-stood : (l : Limits) (es slots : List ℕ) (table : List (Option (List Seg))) → length (stood l es slots table) ≡ length table
-length-stood l [] slots table = refl
+length-stood : (l : Limits) (es free : List ℕ) (table : List (Option (List Seg))) → length (stood l es free table) ≡ length table
+length-stood l [] free table = refl
 length-stood l (e ∷ es) [] table = refl
-length-stood l (e ∷ es) (slot ∷ slots) table =
-    length-stood l es slots (set table slot (Some (fresh_seg l e ∷ []))) ∙ length-set table slot (Some (fresh_seg l e ∷ []))
+length-stood l (e ∷ es) (slot ∷ free) table =
+    length-stood l es free (set table slot (Some (fresh_seg l e ∷ []))) ∙ length-set table slot (Some (fresh_seg l e ∷ []))
 
 alloc_keeps : (m : Member) (calls : List Call) (answer : Result ℕ Refusal) (after : Member) → Allocs m calls answer after → Keeps m after
 alloc_keeps m calls answer after (Full f c a k) = same m after k

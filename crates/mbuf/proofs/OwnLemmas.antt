@@ -4,7 +4,7 @@ use Rattle.std.specs.Prelude.{is_none}
 use Rattle.std.proofs.lemmas.Bool.{cases_lt}
 use Rattle.std.proofs.lemmas.List.Quantifiers.{position-Some}
 use Rattle.commons.specs.Bag.{bag}
-use Rattle.commons.specs.Calls.{Side}
+use Rattle.commons.specs.Calls.{SameSide, Side}
 use Rattle.commons.specs.declared.packet.Seg.{Seg}
 use Rattle.commons.proofs.Bags.{bag-nil}
 use Rattle.commons.specs.Packets.{holds_of_packet, held_in, own_in}
@@ -36,6 +36,15 @@ own_new s number no_hand no_hold = record {
   cached = λ i. omega (arith, no_hand i, bag-nil i);
   held = λ i. omega (arith, no_hold i, held_in-empty slots i);
   headed = λ i. omega (arith, own_in-empty slots i);
+}
+
+-- what is the same of each element is so for the packets
+pub own_same : (m : Member) (s t : Side) → Own m s → SameSide s t → Own m t
+own_same m s t own same = record {
+  limits = own.limits ∙ sym same.limits;
+  cached = λ i. same.hand i ∙ own.cached i;
+  held = λ i. same.holds i ∙ own.held i;
+  headed = λ i. omega (arith, own.headed i, same.headers i);
 }
 
 -- a packet's holds have ended, and its slot is free
