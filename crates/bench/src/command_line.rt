@@ -92,7 +92,7 @@ fn number(word: Option<&str>) -> Option<u64> {
     word.and_then(|word| word.parse::<u64>().ok())
 }
 
-// `bench [WORKLOAD] [--rounds N] [--runs R]`.
+/// `bench [WORKLOAD] [--rounds N] [--runs R]`.
 fn command<'a>(alloc: Global) -> Result<Command<'a>, clap::Error> {
     let workload = Arg::new(alloc, "WORKLOAD").help(
         "What is measured; none: the list of workloads",

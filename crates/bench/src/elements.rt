@@ -38,7 +38,7 @@ pub fn measure<R: Runtime + AllocGlobal>(
     Ok(())
 }
 
-// The least of so many runs, by a worker with a cache.
+/// The least of so many runs, by a worker with a cache.
 fn by_cache<R: Clock + AllocGlobal>(
     rt: &R,
     population: u64,
@@ -90,7 +90,7 @@ fn get_and_put<C: Commons>(worker: &mut Worker, c: &mut C, list: &mut [u32])
     }
 }
 
-// The least of so many runs, by the stack calls alone.
+/// The least of so many runs, by the stack calls alone.
 fn by_stack<R: Clock + AllocGlobal>(
     rt: &R,
     count: usize,

@@ -18,7 +18,7 @@ fn main(rt: HostRuntime) -> ExitCode {
     ExitCode::from(run(&rt))
 }
 
-// Measures what the command line asks for, and gives the status that the program ends with.
+/// Measures what the command line asks for, and gives the status that the program ends with.
 fn run<R: Runtime + AllocGlobal>(rt: &R) -> u8 {
     match measure(rt) {
         Ok(()) => 0,

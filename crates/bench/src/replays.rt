@@ -9,7 +9,7 @@ use std::fmt::Write;
 use std::rt::Runtime;
 use std::time::{Clock, Instant};
 
-// The commands of a script.
+/// The commands of a script.
 #[derive(Clone, Copy, PartialEq, Eq, Debug)]
 enum Commands {
     // An alloc and a free in turn.
@@ -79,7 +79,7 @@ fn script_of(alloc: Global, commands: Commands) -> Result<String, Failure> {
     }
 }
 
-// A pool line, and the commands.
+/// A pool line, and the commands.
 fn write_script(script: &mut String, commands: Commands) -> fmt::Result {
     match commands {
         Commands::Alloc => {

@@ -27,11 +27,17 @@ IsOfWords (CommandLine error) = Unit {0}
 IsOfWords (Unreadable named) = ⊥
 IsOfWords (Fault refusal) = refusal ≡ refusals.OutOfMemory
 
--- a failure of the replay of this file: one that names it, or a refusal that some bytes are the cause of
+-- a failure to read this file: one that names it, or no memory
+abbrev pub IsOfReading : List ℕ → Failure → Type 0
+IsOfReading file (CommandLine error) = ⊥
+IsOfReading file (Unreadable named) = named.now ≡ file
+IsOfReading file (Fault refusal) = refusal ≡ refusals.OutOfMemory
+
+-- a failure of the replay of these bytes: a refusal of which they are the cause
 abbrev pub IsOfReplay : List ℕ → Failure → Type 0
-IsOfReplay file (CommandLine error) = ⊥
-IsOfReplay file (Unreadable named) = named.now ≡ file
-IsOfReplay file (Fault refusal) = (bytes : List ℕ) × IsCause bytes refusal
+IsOfReplay script (CommandLine error) = ⊥
+IsOfReplay script (Unreadable named) = ⊥
+IsOfReplay script (Fault refusal) = IsCause script refusal
 
 -- 0 where help or the version was asked for, and 2 for a mistake
 abbrev pub status_of_kind : ErrorKind → ℕ

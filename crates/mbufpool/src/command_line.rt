@@ -10,7 +10,7 @@ use std::alloc::Global;
 use std::env::Env;
 use std::{env, io};
 
-// What `--version` tells behind the program's name.
+/// What `--version` tells behind the program's name.
 const VERSION: &str = "0.1.0";
 
 /// The words of the command line, the program's name first.
@@ -45,7 +45,7 @@ pub fn file<'a>(alloc: Global, words: &'a [String]) -> Result<&'a str, Failure<'
     }
 }
 
-// The file that a parse of the words finds.
+/// The file that a parse of the words finds.
 fn file_named<'a>(alloc: Global, words: &'a [String]) -> Result<Option<&'a str>, Error> {
     let matches = command(alloc)?.try_get_matches_from(words)?;
     Ok(
@@ -55,7 +55,7 @@ fn file_named<'a>(alloc: Global, words: &'a [String]) -> Result<Option<&'a str>,
     )
 }
 
-// What is said of words that are wrong in a way that a parse doesn't tell.
+/// What is said of words that are wrong in a way that a parse doesn't tell.
 fn wrong(alloc: Global, message: &str) -> Failure<'static>
     ensures { IsOfWords result }
 {
@@ -68,7 +68,7 @@ fn wrong_words(alloc: Global, message: &str) -> Result<Error, Error> {
     Ok(command(alloc)?.error(ErrorKind::InvalidValue, message)?)
 }
 
-// `mbufpool replay FILE`.
+/// `mbufpool replay FILE`.
 fn command<'a>(alloc: Global) -> Result<Command<'a>, Error> {
     let file = Arg::new(alloc, "FILE").required(true).help("The script");
     let replay = Command::new(alloc, "replay")

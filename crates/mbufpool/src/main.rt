@@ -8,25 +8,32 @@ mod report;
 #[cfg(test)]
 mod tests;
 
+use crate::failures::Failure;
 use std::process::ExitCode;
-use std::rt::Runtime;
+use std::rt::{Files, Runtime};
 
 fn main(rt: HostRuntime) -> ExitCode {
     ExitCode::from(run(&rt))
 }
 
-// Does what the command line asks for, and gives the status that the program ends with.
+/// Does what the command line asks for, and gives the status that the program ends with.
 fn run<R: Runtime + AllocGlobal>(rt: &R) -> u8 {
     let words = match command_line::words(rt) {
         Ok(words) => words,
         Err(failure) => return report::failure(rt, &failure),
     };
-    let text = match command_line::file(rt.alloc(), words.as_slice()) {
-        Ok(file) => replay::text(rt, file),
-        Err(failure) => Err(failure),
-    };
-    match text {
+    match replayed(rt, words.as_slice()) {
         Ok(text) => report::text(rt, text.as_slice()),
         Err(failure) => report::failure(rt, &failure),
     }
+}
+
+/// What is printed of the script in the file that the words name.
+fn replayed<'a, R: Files + AllocGlobal>(
+    rt: &R,
+    words: &'a [String],
+) -> Result<Vec<u8>, Failure<'a>> {
+    let file = command_line::file(rt.alloc(), words)?;
+    let script = replay::script(rt, file)?;
+    replay::text(rt.alloc(), script.as_slice())
 }

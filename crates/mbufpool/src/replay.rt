@@ -1,40 +1,49 @@
-//! The replay of a script in a file.
-ghost use Rattle.std.specs.Prelude.{ℕ, List, IfErr, IfOk};
+//! The script in a file, and its replay.
+ghost use Rattle.std.specs.Prelude.{IfErr, IfOk};
 ghost use Rattle.script.specs.Printed.{IsPrintedFor};
-ghost use Rattle.mbufpool.specs.Failures.{IsOfReplay};
+ghost use Rattle.mbufpool.specs.Failures.{IsOfReading, IsOfReplay};
 
 use crate::failures::Failure;
 use commons::refusal::Refusal;
 use script::{MAX_BYTES, run_replay};
+use std::alloc::Global;
 use std::fs::File;
 use std::io;
 use std::io::Read;
 use std::rt::Files;
 
-// How many bytes of a script are read: one more than a script may have.
+/// How many bytes of a script are read: one more than a script may have.
 const BYTES_READ: u64 = MAX_BYTES as u64 + 1;
 
-/// What the replay of the script in `file` prints.
+/// The bytes of a file, or as many of them as show that they are too many for a script.
 ///
-/// `Unreadable` where the file can't be read, and `Fault` where the bytes are no script (`ScriptFault`),
-/// where no pool can be made within the script's limits (`BadPool`), or where memory was refused.
-pub fn text<'a, R: Files + AllocGlobal>(rt: &R, file: &'a str) -> Result<Vec<u8>, Failure<'a>>
-    ensures printed { IfOk result (λ out. (bytes : List ℕ) × IsPrintedFor bytes out.items) }
-    ensures cause { IfErr result (IsOfReplay file.entry.now) }
+/// `Unreadable` where the file can't be opened or read, and `Fault` with `OutOfMemory` where memory was
+/// refused.
+pub fn script<'a, R: Files + AllocGlobal>(rt: &R, file: &'a str) -> Result<Vec<u8>, Failure<'a>>
+    ensures { IfErr result (IsOfReading file.entry.now) }
 {
-    let script = match read(rt, file) {
-        Ok(script) => script,
-        Err(error) => return Err(unread(file, error.kind())),
-    };
-    match run_replay(rt.alloc(), script.as_slice()) {
+    match read(rt, file) {
+        Ok(script) => Ok(script),
+        Err(error) => Err(unread(file, error.kind())),
+    }
+}
+
+/// What the replay of these bytes prints.
+///
+/// `Fault` where they are no script (`ScriptFault`), where no pool can be made within the script's limits
+/// (`BadPool`), or where memory was refused.
+pub fn text(alloc: Global, script: &[u8]) -> Result<Vec<u8>, Failure<'static>>
+    ensures printed { IfOk result (λ out. IsPrintedFor script.now out.items) }
+    ensures cause { IfErr result (IsOfReplay script.now) }
+{
+    match run_replay(alloc, script) {
         Ok(text) => Ok(text),
         Err(refusal) => Err(Failure::Fault(refusal)),
     }
 }
 
-/// The bytes of a file, or as many of them as show that they are too many for a script. The error of the
-/// first call that fails: to open the file, to read it, or to take memory.
-pub fn read<R: Files + AllocGlobal>(rt: &R, file: &str) -> io::Result<Vec<u8>> {
+/// The bytes, or the error of the first call that fails: to open the file, to read it, or to take memory.
+fn read<R: Files + AllocGlobal>(rt: &R, file: &str) -> io::Result<Vec<u8>> {
     let mut bytes = Vec::new(rt.alloc());
     File::open(rt, file)?
         .take(BYTES_READ)
@@ -42,9 +51,9 @@ pub fn read<R: Files + AllocGlobal>(rt: &R, file: &str) -> io::Result<Vec<u8>> {
     Ok(bytes)
 }
 
-// What an error says that reading the file gave.
+/// What an error says that reading the file gave.
 fn unread(file: &str, kind: io::ErrorKind) -> Failure<'_>
-    ensures { IsOfReplay file.entry.now result }
+    ensures { IsOfReading file.entry.now result }
 {
     match kind {
         io::ErrorKind::OutOfMemory => Failure::Fault(Refusal::OutOfMemory),

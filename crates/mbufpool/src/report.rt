@@ -26,7 +26,7 @@ pub fn failure<R: Print + Eprint>(rt: &R, failure: &Failure<'_>) -> u8
     status_after(told, failure.status())
 }
 
-// The status of what was written, which is not 0 where the writing failed.
+/// The status of what was written, which is not 0 where the writing failed.
 fn status_after(written: io::Result<()>, status: u8) -> u8
     ensures written { OnOk written (result ≡ status) }
     ensures failed { OnErr written (result ≡ max status 1) }

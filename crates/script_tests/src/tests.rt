@@ -396,7 +396,7 @@ fn a_replay_answers_each_command_and_places_each_element(rt: HostRuntime) -> Res
     Ok(())
 }
 
-// Whichever request for memory is refused, the same is printed or nothing.
+/// Whichever request for memory is refused, the same is printed or nothing.
 #[test]
 fn refused_memory_changes_no_answer(rt: HostRuntime) {
     match printed(rt.alloc(), FIRST_RUN) {

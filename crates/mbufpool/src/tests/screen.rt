@@ -20,7 +20,7 @@ impl Screen {
         }
     }
 
-    // What was written to the standard output, and to the standard error.
+    /// What was written to the standard output, and to the standard error.
     pub fn written(&self, alloc: Global) -> Result<(String, String), Fail> {
         let output = self.output.try_replace(String::new(alloc))?;
         let errors = self.errors.try_replace(String::new(alloc))?;

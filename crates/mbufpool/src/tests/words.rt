@@ -13,8 +13,8 @@ fn line(alloc: Global, words: &[&str]) -> Result<Vec<String>, AllocError> {
     Ok(line)
 }
 
-// What is told of words that name no file, on the output and as errors, and two statuses: where that is
-// written, and where it can't be.
+/// What is told of words that name no file, on the output and as errors, and two statuses: where that is
+/// written, and where it can't be.
 fn told(alloc: Global, words: &[&str]) -> Result<(String, String, u8, u8), Fail> {
     let words = line(alloc, words)?;
     match file(alloc, words.as_slice()) {

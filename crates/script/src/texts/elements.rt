@@ -6,7 +6,7 @@ use commons::seq::Seq;
 use std::io;
 use std::io::Write;
 
-// How many elements these are, and which, to the end of the line.
+/// How many elements these are, and which, to the end of the line.
 #[tactic(auto, unfolding(crate::specs::StatementText::elements_text))]
 pub(super) fn write_elements(out: &mut Vec<u8>, elements: &[u32]) -> io::Result<()>
     ensures { OnOk result (out.new.items ≡ out.old.items ++ elements_text elements.now) }
@@ -16,7 +16,7 @@ pub(super) fn write_elements(out: &mut Vec<u8>, elements: &[u32]) -> io::Result<
     writeln!(out)
 }
 
-// Each element behind a space.
+/// Each element behind a space.
 pub(super) fn write_joined(out: &mut Vec<u8>, elements: &[u32]) -> io::Result<()>
     ensures { OnOk result (out.new.items ≡ out.old.items ++ joined decimal elements.now) }
 {
@@ -26,7 +26,7 @@ pub(super) fn write_joined(out: &mut Vec<u8>, elements: &[u32]) -> io::Result<()
     Ok(())
 }
 
-// A line for each worker's cache.
+/// A line for each worker's cache.
 pub(super) fn write_caches(out: &mut Vec<u8>, caches: &[Seq<u32>]) -> io::Result<()>
     ensures { OnOk result (out.new.items ≡ out.old.items ++ caches_text 1 caches.now) }
 {
@@ -36,7 +36,7 @@ pub(super) fn write_caches(out: &mut Vec<u8>, caches: &[Seq<u32>]) -> io::Result
     Ok(())
 }
 
-// The line of one worker's cache.
+/// The line of one worker's cache.
 #[tactic(auto, unfolding(crate::specs::StatementText::cache_text))]
 fn write_cache(out: &mut Vec<u8>, worker: usize, cache: &[u32]) -> io::Result<()>
     ensures { OnOk result (out.new.items ≡ out.old.items ++ cache_text worker cache.now) }

@@ -7,7 +7,7 @@ use pool_model::statement::{Held, Holder};
 use std::io;
 use std::io::Write;
 
-// A line for each held element.
+/// A line for each held element.
 pub(super) fn write_held(out: &mut Vec<u8>, held: &[Held]) -> io::Result<()>
     ensures { OnOk result (out.new.items ≡ out.old.items ++ flat_map held_text held.now) }
 {
@@ -26,7 +26,7 @@ fn write_element(out: &mut Vec<u8>, held: &Held) -> io::Result<()>
     writeln!(out)
 }
 
-// Each holder behind a space.
+/// Each holder behind a space.
 fn write_joined(out: &mut Vec<u8>, holders: &[Holder]) -> io::Result<()>
     ensures { OnOk result (out.new.items ≡ out.old.items ++ joined holder_text holders.now) }
 {

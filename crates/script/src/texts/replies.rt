@@ -65,7 +65,7 @@ fn write_reply<const ROOM: usize>(out: &mut Vec<u8>, reply: &Answer<ROOM>) -> io
     }
 }
 
-// The elements of new packets.
+/// The elements of new packets.
 fn write_bulk(out: &mut Vec<u8>, packets: &[NewPacket]) -> io::Result<()>
     ensures { OnOk result (out.new.items ≡ out.old.items ++ codes "ok" ++ new_elements_text packets.now) }
 {
@@ -76,7 +76,7 @@ fn write_bulk(out: &mut Vec<u8>, packets: &[NewPacket]) -> io::Result<()>
     Ok(())
 }
 
-// The elements of a clone.
+/// The elements of a clone.
 fn write_cloned(out: &mut Vec<u8>, elems: &[u32]) -> io::Result<()>
     ensures { OnOk result (out.new.items ≡ out.old.items ++ codes "ok" ++ joined decimal elems.now) }
 {
@@ -92,7 +92,7 @@ fn write_freed(out: &mut Vec<u8>, freed: Freed) -> io::Result<()>
     write_put_off(out, freed.put_off)
 }
 
-// What a flush did.
+/// What a flush did.
 #[tactic(auto, unfolding(crate::specs::ReplyText::put_text))]
 fn write_put(out: &mut Vec<u8>, put: Put) -> io::Result<()>
     ensures { OnOk result (out.new.items ≡ out.old.items ++ put_text put) }
@@ -104,7 +104,7 @@ fn write_put(out: &mut Vec<u8>, put: Put) -> io::Result<()>
     }
 }
 
-// The last push that was refused, and why.
+/// The last push that was refused, and why.
 #[tactic(auto, unfolding(crate::specs::ReplyText::put_off_text))]
 fn write_put_off(out: &mut Vec<u8>, put_off: Option<(u32, Refusal)>) -> io::Result<()>
     ensures { OnOk result (out.new.items ≡ out.old.items ++ put_off_text put_off) }

@@ -9,7 +9,7 @@ use pool_model::statement::{DeskPacket, PlacedPacket};
 use std::io;
 use std::io::Write;
 
-// A line for each packet of a worker.
+/// A line for each packet of a worker.
 pub(super) fn write_packets(out: &mut Vec<u8>, packets: &[PlacedPacket]) -> io::Result<()>
     ensures { OnOk result (out.new.items ≡ out.old.items ++ flat_map packet_text packets.now) }
 {
@@ -27,7 +27,7 @@ fn write_packet(out: &mut Vec<u8>, packet: &PlacedPacket) -> io::Result<()>
     write_segments(out, packet.segs.as_slice())
 }
 
-// A line for each packet on a desk.
+/// A line for each packet on a desk.
 pub(super) fn write_desks(out: &mut Vec<u8>, desks: &[DeskPacket]) -> io::Result<()>
     ensures { OnOk result (out.new.items ≡ out.old.items ++ flat_map desk_text desks.now) }
 {
@@ -45,7 +45,7 @@ fn write_desk(out: &mut Vec<u8>, desk: &DeskPacket) -> io::Result<()>
     write_segments(out, desk.segs.as_slice())
 }
 
-// How many segments these are, how long their data is, and which they are, to the end of the line.
+/// How many segments these are, how long their data is, and which they are, to the end of the line.
 #[tactic(auto, unfolding(crate::specs::StatementText::segments_text))]
 fn write_segments(out: &mut Vec<u8>, segs: &[Seg]) -> io::Result<()>
     ensures { OnOk result (out.new.items ≡ out.old.items ++ segments_text segs.now) }
@@ -55,14 +55,14 @@ fn write_segments(out: &mut Vec<u8>, segs: &[Seg]) -> io::Result<()>
     writeln!(out)
 }
 
-// How long the data of these segments is. A sum of so many lengths fits 128 bits.
+/// How long the data of these segments is. A sum of so many lengths fits 128 bits.
 fn data_len(segs: &[Seg]) -> u128
     ensures { result ≡ pkt_len segs.now }
 {
     segs.iter().map(|seg| u128::from(seg.data_len)).sum()
 }
 
-// Each segment behind a space.
+/// Each segment behind a space.
 fn write_joined(out: &mut Vec<u8>, segs: &[Seg]) -> io::Result<()>
     ensures { OnOk result (out.new.items ≡ out.old.items ++ joined segment_text segs.now) }
 {
@@ -82,7 +82,7 @@ fn write_segment(out: &mut Vec<u8>, seg: &Seg) -> io::Result<()>
     write!(out, "@{}+{}/{}", seg.data_off, seg.data_len, seg.buf_len)
 }
 
-// The element whose buffer an indirect segment uses.
+/// The element whose buffer an indirect segment uses.
 fn write_base(out: &mut Vec<u8>, base: Option<u32>) -> io::Result<()>
     ensures { OnOk result (out.new.items ≡ out.old.items ++ base_text base) }
 {

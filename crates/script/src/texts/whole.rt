@@ -39,7 +39,7 @@ fn write_statement(out: &mut Vec<u8>, statement: &Statement) -> io::Result<()>
     write_held(out, statement.held.as_slice())
 }
 
-// The population, how many elements are available, and how many are in use.
+/// The population, how many elements are available, and how many are in use.
 #[tactic(auto, unfolding(crate::specs::StatementText::totals_text))]
 fn write_totals(out: &mut Vec<u8>, statement: &Statement) -> io::Result<()>
     ensures { OnOk result (out.new.items ≡ out.old.items ++ totals_text statement.now) }
