@@ -157,7 +157,8 @@ pub record Side : Type 0 where
   pub hand : ℕ → ℕ
   -- how often the worker holds each element
   pub holds : ℕ → ℕ
-  -- which elements are headers of the worker's own packets: once or never
+  -- which of the elements that the worker holds are its headers, once or never: those that it claimed or that came as
+  -- own elements of a packet, until it offers their packet or its last hold of them ends
   pub headers : ℕ → ℕ
 
 -- the two have the same limits, and the same of each element

@@ -6,8 +6,11 @@ ghost use Rattle.commons.specs.Packets.{holds_of_packet, own_of_packet};
 use crate::packet::Packet;
 use crate::refusal::{Lowered, Refusal};
 
-/// What a worker of a packet pool shares with others, the common stack, with its own side of it:
-/// its hand, its holds and the headers of its packets.
+/// What a worker of a packet pool shares with others, the common stack, with its own side of it.
+/// The worker's hand is the free elements that it took off the stack and has neither claimed nor put
+/// back. Its holds are the references that it has to elements, each as often as it has one. Its headers
+/// are elements that it holds: those that it claimed, or that came as own elements of a packet, until
+/// it offers their packet or its last hold of them ends.
 pub trait Commons {
     /// What the worker has of the pool: its limits, and the worker's hand, holds and headers.
     ghost side: { Self → Side };
@@ -108,7 +111,8 @@ pub trait Commons {
         ensures did { Did did side self.old (Take desk result) self.new }
         ensures apart { IfOk result (λ packet. (i : ℕ) → (side self.old).headers i + bag (own_of_packet packet) i ≤ 1) };
 
-    /// The number of elements on the common stack, as read at one moment of the call.
+    /// The length word of the common stack, as read at one moment of the call. While another worker is
+    /// within a call it may lag behind the stack itself; on the lists it is the list's length.
     ///
     /// After rte_stack_lf_generic.h, `__rte_stack_lf_count` (DPDK 21.11).
     fn common_count(&mut self) -> u32

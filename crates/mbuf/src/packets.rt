@@ -221,7 +221,8 @@ impl Packets {
     /// stack refuses is no refusal: `put_off` tells of the last one, and the elements stay in the
     /// cache.
     ///
-    /// After rte_mbuf.h, `rte_pktmbuf_free` (DPDK 21.11).
+    /// After rte_mbuf.h, `rte_pktmbuf_free` (DPDK 21.11). That a base's hold ends before its segment's
+    /// own is our order.
     pub fn free<C: Commons>(&mut self, c: &mut C, p: Pid) -> Result<Freed, Refusal>
         requires own { Own self.old (C.side c.old) }
         ensures calls { (made : List Made) × Leads C.did C.side c.old made c.new × Frees self.old p (calls_of made) result self.new }
@@ -450,7 +451,8 @@ impl Packets {
     /// is indirect, `InUse` where a count other than 1 was read of its element, and `RefSpent` or
     /// `Contended` as the raise of the buffer's count is. Nothing changes then.
     ///
-    /// After rte_mbuf.h, `rte_pktmbuf_attach` (DPDK 21.11), which asserts what we refuse.
+    /// After rte_mbuf.h, `rte_pktmbuf_attach` (DPDK 21.11), which asserts that the packet to attach is
+    /// direct and its count is 1, in builds with `RTE_ENABLE_ASSERT` alone, and asks nothing else.
     pub fn attach<C: Commons>(&mut self, c: &mut C, mi: Pid, target: Pid) -> Result<(), Refusal>
         requires own { Own self.old (C.side c.old) }
         ensures calls { (made : List Made) × Leads C.did C.side c.old made c.new × Attaches self.old mi target (calls_of made) result self.new }

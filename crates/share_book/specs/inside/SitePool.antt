@@ -1,4 +1,4 @@
--- How a `SitePool` is kept. Only the type's view and invariant cite this module.
+-- How a `SitePool` is kept. No public clause cites this module.
 use Rattle.std.specs.Prelude.{ℕ, ◌≡◌, ◌+◌, ◌<◌, List, length, slice_index_or}
 use Rattle.commons.specs.Lists.{Lists, IsTable}
 use Rattle.mbuf.specs.declared.acts.Act.{Act}
