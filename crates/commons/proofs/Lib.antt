@@ -1,5 +1,6 @@
 pub mod Answers
 pub mod Bags
+pub mod Closings
 pub mod DeskTables
 pub mod Effects
 pub mod EndedRows

@@ -13,7 +13,8 @@ use Rattle.commons.specs.declared.packet.Seg.{Seg}
 use Rattle.commons.proofs.Bags.{bag-nil, bag-cons, bag-head, bag-append, bag-single}
 
 -- a slot that has something is in the table
-pub stands_within : (table : List (Option (List Seg))) (slot : ℕ) (segs : List Seg) → get_or table slot None ≡ Some segs → slot < length table
+pub stands_within : (table : List (Option (List Seg))) (slot : ℕ) (segs : List Seg) →
+    get_or table slot None ≡ Some segs → slot < length table
 stands_within table slot segs e = elim (cases_lt slot (length table)) [
   | inl h ↦ h
   | inr h ↦ absurd (none-some segs (sym (get_or_past table slot None h) ∙ e))
@@ -21,18 +22,23 @@ stands_within table slot segs e = elim (cases_lt slot (length table)) [
 
 -- a slot with other contents
 pub held_in-set : (table : List (Option (List Seg))) (k : ℕ) (new : Option (List Seg)) (i : ℕ) → k < length table →
-    held_in (set table k new) i + bag (holds_in_slot (get_or table k None)) i ≡ held_in table i + bag (holds_in_slot new) i
+    held_in (set table k new) i + bag (holds_in_slot (get_or table k None)) i
+    ≡ held_in table i + bag (holds_in_slot new) i
 held_in-set table k new i l = sum_by-set (λ (slot : Option (List Seg)). bag (holds_in_slot slot) i) table k new None l
 
+-- the own elements of a slot's packet go with it, and those of the new packet come
 pub own_in-set : (table : List (Option (List Seg))) (k : ℕ) (new : Option (List Seg)) (i : ℕ) → k < length table →
     own_in (set table k new) i + bag (own_in_slot (get_or table k None)) i ≡ own_in table i + bag (own_in_slot new) i
 own_in-set table k new i l = sum_by-set (λ (slot : Option (List Seg)). bag (own_in_slot slot) i) table k new None l
 
 -- what is in a slot holds no more than the table
-pub held_in-slot : (table : List (Option (List Seg))) (k : ℕ) (i : ℕ) → k < length table → bag (holds_in_slot (get_or table k None)) i ≤ held_in table i
+pub held_in-slot : (table : List (Option (List Seg))) (k : ℕ) (i : ℕ) → k < length table →
+    bag (holds_in_slot (get_or table k None)) i ≤ held_in table i
 held_in-slot table k i l = get_or-le-sum_by (λ (slot : Option (List Seg)). bag (holds_in_slot slot) i) table k None l
 
-pub own_in-slot : (table : List (Option (List Seg))) (k : ℕ) (i : ℕ) → k < length table → bag (own_in_slot (get_or table k None)) i ≤ own_in table i
+-- the packet in a slot has no more own elements than the table
+pub own_in-slot : (table : List (Option (List Seg))) (k : ℕ) (i : ℕ) → k < length table →
+    bag (own_in_slot (get_or table k None)) i ≤ own_in table i
 own_in-slot table k i l = get_or-le-sum_by (λ (slot : Option (List Seg)). bag (own_in_slot slot) i) table k None l
 
 -- a segment holds its base and its own element
@@ -55,15 +61,24 @@ own_held (seg ∷ segs) i = omega (
 own_at : (segs : List Seg) (k : ℕ) (d : Seg) → k < length segs → 0 < bag (own_of_packet segs) (get_or segs k d).elem
 own_at [] k d h = absurd (omega arith)
 own_at (seg ∷ segs) zero d h = bag-head seg.elem (own_of_packet segs)
-own_at (seg ∷ segs) (suc k) d h = omega (arith, bag-cons seg.elem (own_of_packet segs) (get_or segs k d).elem, own_at segs k d (omega arith))
+own_at (seg ∷ segs) (suc k) d h =
+    omega (
+      arith,
+      bag-cons seg.elem (own_of_packet segs) (get_or segs k d).elem,
+      own_at segs k d (omega arith),
+    )
 
-pub own_below : (n : ℕ) (segs : List Seg) → ((i : ℕ) → 0 < bag (own_of_packet segs) i → i < n) → All (λ seg. seg.elem < n) segs
+-- where own elements are below a bound, each segment's element is
+pub own_below : (n : ℕ) (segs : List Seg) → ((i : ℕ) → 0 < bag (own_of_packet segs) i → i < n) →
+    All (λ seg. seg.elem < n) segs
 own_below n segs h k d l = h (get_or segs k d).elem (own_at segs k d l)
 
+-- a slot's packet holds its own elements, and an empty slot has neither
 own_held-slot : (slot : Option (List Seg)) (i : ℕ) → bag (own_in_slot slot) i ≤ bag (holds_in_slot slot) i
 own_held-slot None i = omega arith
 own_held-slot (Some segs) i = own_held segs i
 
+-- in a whole table too, own elements are held ones
 pub own_in-held : (table : List (Option (List Seg))) (i : ℕ) → own_in table i ≤ held_in table i
 own_in-held [] i = omega arith
 own_in-held (slot ∷ table) i = omega (
@@ -77,25 +92,41 @@ own_in-held (slot ∷ table) i = omega (
 -- ---- the segments so far
 
 -- one segment more
-pub holds-suc : (segs : List Seg) (k : ℕ) (d : Seg) → k < length segs → holds_of_packet (take (k + 1) segs) ≡ holds_of_packet (take k segs) ++ holds_of_seg (get_or segs k d)
+pub holds-suc : (segs : List Seg) (k : ℕ) (d : Seg) → k < length segs →
+    holds_of_packet (take (k + 1) segs) ≡ holds_of_packet (take k segs)
+    ++ holds_of_seg (get_or segs k d)
 holds-suc segs k d within =
     let e : k + 1 ≡ suc k = omega arith in
     ap (λ (n : ℕ). holds_of_packet (take n segs)) e ∙ ap holds_of_packet (take-suc segs k d within)
-    ∙ flat_map-append holds_of_seg (take k segs) (get_or segs k d ∷ []) ∙ ap (λ (es : List ℕ). holds_of_packet (take k segs) ++ es) (append-nil (holds_of_seg (get_or segs k d)))
+    ∙ flat_map-append holds_of_seg (take k segs) (get_or segs k d ∷ [])
+    ∙ ap (λ (es : List ℕ). holds_of_packet (take k segs) ++ es)
+    (append-nil (holds_of_seg (get_or segs k d)))
 
+-- one segment more adds what that segment holds, counted at each element
 pub bag-holds_suc : (segs : List Seg) (k i : ℕ) (d : Seg) → k < length segs →
-    bag (holds_of_packet (take (k + 1) segs)) i ≡ bag (holds_of_packet (take k segs)) i + bag (holds_of_seg (get_or segs k d)) i
-bag-holds_suc segs k i d within = ap (λ (es : List ℕ). bag es i) (holds-suc segs k d within) ∙ bag-append (holds_of_packet (take k segs)) (holds_of_seg (get_or segs k d)) i
+    bag (holds_of_packet (take (k + 1) segs)) i
+    ≡ bag (holds_of_packet (take k segs)) i + bag (holds_of_seg (get_or segs k d)) i
+bag-holds_suc segs k i d within =
+    ap (λ (es : List ℕ). bag es i) (holds-suc segs k d within)
+    ∙ bag-append (holds_of_packet (take k segs)) (holds_of_seg (get_or segs k d)) i
 
 -- the segments so far hold no more than all
 pub holds_so_far : (segs : List Seg) (k i : ℕ) → bag (holds_of_packet (take k segs)) i ≤ bag (holds_of_packet segs) i
 holds_so_far segs k i =
-    let whole = ap (λ (es : List ℕ). bag es i) (sym (flat_map-append holds_of_seg (take k segs) (drop k segs)) ∙ ap holds_of_packet (take-append-drop k segs)) in
+    let whole =
+    ap (λ (es : List ℕ). bag es i) (
+    sym (flat_map-append holds_of_seg (take k segs) (drop k segs))
+    ∙ ap holds_of_packet (take-append-drop k segs)) in
     omega (arith, whole, bag-append (holds_of_packet (take k segs)) (holds_of_packet (drop k segs)) i)
 
 -- where nothing stands, nothing is held
 pub held_in-empty : (n i : ℕ) → held_in (replicate n None) i ≡ 0
-held_in-empty n i = sum_by-replicate (λ (slot : Option (List Seg)). bag (holds_in_slot slot) i) n None ∙ rw (bag-nil i) (omega arith)
+held_in-empty n i =
+    sum_by-replicate (λ (slot : Option (List Seg)). bag (holds_in_slot slot) i) n None
+    ∙ rw (bag-nil i) (omega arith)
 
+-- where nothing stands, there are no own elements
 pub own_in-empty : (n i : ℕ) → own_in (replicate n None) i ≡ 0
-own_in-empty n i = sum_by-replicate (λ (slot : Option (List Seg)). bag (own_in_slot slot) i) n None ∙ rw (bag-nil i) (omega arith)
+own_in-empty n i =
+    sum_by-replicate (λ (slot : Option (List Seg)). bag (own_in_slot slot) i) n None
+    ∙ rw (bag-nil i) (omega arith)

@@ -9,11 +9,14 @@ use Rattle.commons.specs.PlainCalls.{LeadsPlain}
 
 -- what the trait's relation is at the lists
 abbrev pub DidAt : PlainCommons → Call → List Reading → PlainCommons → Type 0
-DidAt s call rs t = (t.site.ghost_name ≡ s.site.ghost_name) × (t.worker ≡ s.worker) × DidOnLists s.worker s.site.now call rs t.site.now
+DidAt s call rs t =
+    (t.site.ghost_name ≡ s.site.ghost_name) × (t.worker ≡ s.worker)
+    × DidOnLists s.worker s.site.now call rs t.site.now
 
 pub KeepsOthers-refl : (w : ℕ) (s : Lists) → KeepsOthers w s s
 KeepsOthers-refl w s = record { hands = λ v i e. refl; holds = λ v i l e. refl; headers = λ v i e. refl }
 
+-- what the others have through one call and the next, they have through both
 pub KeepsOthers-trans : (w : ℕ) (s t u : Lists) → KeepsOthers w s t → KeepsOthers w t u → KeepsOthers w s u
 KeepsOthers-trans w s t u a b = record {
   hands = λ v i e. b.hands v i e ∙ a.hands v i e;
@@ -31,36 +34,52 @@ pub record Plainly (s : PlainCommons) (calls : List Call) (t : PlainCommons) : T
   pub led : LeadsPlain s.worker s.site.now calls t.site.now
   pub others : KeepsOthers s.worker s.site.now t.site.now
 
-pub plainly : (s : PlainCommons) (made : List Made) (t : PlainCommons) → Leads DidAt side_at s made t → Plainly s (calls_of made) t
+-- each call leaves site and worker the same, so a run of calls is one of this worker on these lists
+pub plainly : (s : PlainCommons) (made : List Made) (t : PlainCommons) →
+    Leads DidAt side_at s made t → Plainly s (calls_of made) t
 plainly s [] t h = record {
   same = ap (λ (x : PlainCommons). x.site.ghost_name) (sym h);
   worker = ap (λ (x : PlainCommons). x.worker) (sym h);
   led = ap (λ (x : PlainCommons). x.site.now) h;
-  others = subst (λ (x : PlainCommons). KeepsOthers s.worker s.site.now x.site.now) h (KeepsOthers-refl s.worker s.site.now);
+  others =
+      subst (λ (x : PlainCommons). KeepsOthers s.worker s.site.now x.site.now) h
+      (KeepsOthers-refl s.worker s.site.now);
 }
 plainly s (m ∷ made) t h =
     let rest = plainly h.0 made t h.2 in
     record {
       same = rest.same ∙ h.1.led.0;
       worker = rest.worker ∙ h.1.led.1;
-      led = (h.0.site.now, h.1.led.2.did, h.1.led.2.before, h.1.led.2.after, subst (λ w. LeadsPlain w h.0.site.now (calls_of made) t.site.now) h.1.led.1 rest.led);
-      others = KeepsOthers-trans s.worker s.site.now h.0.site.now t.site.now h.1.led.2.others (subst (λ w. KeepsOthers w h.0.site.now t.site.now) h.1.led.1 rest.others);
+      led = (
+        h.0.site.now,
+        h.1.led.2.did,
+        h.1.led.2.before,
+        h.1.led.2.after,
+        subst (λ w. LeadsPlain w h.0.site.now (calls_of made) t.site.now) h.1.led.1 rest.led,
+      );
+      others =
+          KeepsOthers-trans s.worker s.site.now h.0.site.now t.site.now h.1.led.2.others
+          (subst (λ w. KeepsOthers w h.0.site.now t.site.now) h.1.led.1 rest.others);
     }
 
 -- what leads on leads through some state
-pub LeadsPlain-split : (w : ℕ) (s : Lists) (a b : List Call) (t : Lists) → LeadsPlain w s (a ++ b) t → (between : Lists) × LeadsPlain w s a between × LeadsPlain w between b t
+pub LeadsPlain-split : (w : ℕ) (s : Lists) (a b : List Call) (t : Lists) →
+    LeadsPlain w s (a ++ b) t →
+    (between : Lists) × LeadsPlain w s a between × LeadsPlain w between b t
 LeadsPlain-split w s [] b t h = (s, refl, h)
 LeadsPlain-split w s (call ∷ a) b t h =
     let rest = LeadsPlain-split w h.0 a b t h.4 in
     (rest.0, (h.0, h.1, h.2, h.3, rest.1), rest.2)
 
 -- the lists stay a table
-pub LeadsPlain-table : (w : ℕ) (s : Lists) (calls : List Call) (t : Lists) → IsTable s → LeadsPlain w s calls t → IsTable t
+pub LeadsPlain-table : (w : ℕ) (s : Lists) (calls : List Call) (t : Lists) → IsTable s →
+    LeadsPlain w s calls t → IsTable t
 LeadsPlain-table w s [] t table h = subst IsTable h table
 LeadsPlain-table w s (call ∷ calls) t table h = LeadsPlain-table w h.0 calls t h.3 h.4
 
 -- what each of the calls keeps of the lists is kept along them; Are says which calls they are
-pub LeadsPlain-keeps : {A : Type 0} (f : Lists → A) (Are : List Call → Type 0) (w : ℕ) → ((call : Call) (calls : List Call) → Are (call ∷ calls) → Are calls) →
+pub LeadsPlain-keeps : {A : Type 0} (f : Lists → A) (Are : List Call → Type 0) (w : ℕ) →
+    ((call : Call) (calls : List Call) → Are (call ∷ calls) → Are calls) →
     ((s : Lists) (call : Call) (calls : List Call) (t : Lists) → Are (call ∷ calls) → DidPlain w s call t → f t ≡ f s) →
     (s : Lists) (calls : List Call) (t : Lists) → Are calls → LeadsPlain w s calls t → f t ≡ f s
 LeadsPlain-keeps f Are w others one s [] t are h = ap f (sym h)
@@ -92,12 +111,16 @@ did_limits w s (Take desk (Err DeskEmpty)) t d = ap (λ (x : Lists). x.limits) d
 did_limits w s (Take desk (Err _)) t d = absurd d
 did_limits w s (CommonCount n) t d = ap (λ (x : Lists). x.limits) d.1
 
-pub LeadsPlain-limits : (w : ℕ) (s : Lists) (calls : List Call) (t : Lists) → LeadsPlain w s calls t → t.limits ≡ s.limits
+-- no call changes a limit, so no run of calls does
+pub LeadsPlain-limits : (w : ℕ) (s : Lists) (calls : List Call) (t : Lists) →
+    LeadsPlain w s calls t → t.limits ≡ s.limits
 LeadsPlain-limits w s calls t h =
-    LeadsPlain-keeps (λ (x : Lists). x.limits) (λ c. Unit {0}) w (λ c cs u. tt) (λ s c cs t u d. did_limits w s c t d) s calls t tt h
+    LeadsPlain-keeps (λ (x : Lists). x.limits) (λ c. Unit {0}) w (λ c cs u. tt)
+    (λ s c cs t u d. did_limits w s c t d) s calls t tt h
 
 -- the other workers have what they had
-pub leaves_others : (s : PlainCommons) (made : List Made) (t : PlainCommons) → Leads DidAt side_at s made t → LeavesOthers s t
+pub leaves_others : (s : PlainCommons) (made : List Made) (t : PlainCommons) →
+    Leads DidAt side_at s made t → LeavesOthers s t
 leaves_others s made t h =
     let p = plainly s made t h in
     let limits = LeadsPlain-limits s.worker s.site.now (calls_of made) t.site.now p.led in record {
@@ -106,6 +129,13 @@ leaves_others s made t h =
       sides = record {
         table = t.table;
         limits = limits;
-        others = λ v l e. record { limits = limits; hand = λ i. p.others.hands v i e; holds = λ i. p.others.holds v i l e; headers = λ i. p.others.headers v i e };
+        others =
+            λ v l e.
+            record {
+              limits = limits;
+              hand = λ i. p.others.hands v i e;
+              holds = λ i. p.others.holds v i l e;
+              headers = λ i. p.others.headers v i e;
+            };
       };
     }

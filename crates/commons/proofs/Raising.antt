@@ -10,7 +10,8 @@ use Rattle.commons.proofs.Single.{held_place}
 use Rattle.commons.proofs.Tables.{row_below, hold_of_other}
 
 -- a worker holds an element no more often than all do
-pub hold_le_count : (s : Lists) (w i : ℕ) → IsTable s → 1 ≤ w → w ≤ s.limits.workers → holds_of s w i ≤ held_count (place_of s i)
+pub hold_le_count : (s : Lists) (w i : ℕ) → IsTable s → 1 ≤ w → w ≤ s.limits.workers →
+    holds_of s w i ≤ held_count (place_of s i)
 hold_le_count s w i t l b = omega (arith, t.counted i, hold_le s.holds (w - 1) i (row_below s w t l b).0)
 
 module _ (s : Lists) (w i : ℕ) (t : IsTable s) (l : 1 ≤ w) (b : w ≤ s.limits.workers) (p : 0 < holds_of s w i) where
@@ -30,7 +31,9 @@ module _ (s : Lists) (w i : ℕ) (t : IsTable s) (l : 1 ≤ w) (b : w ≤ s.limi
   -- nothing comes into a hand, and nothing leaves it
   pub hand_raise : (v j : ℕ) → hand_of (after_raise w i s) v j ≡ hand_of s v j
   hand_raise v j = elim (apart_or_same i j) [
-    | inl e ↦ rw (e, get_or-set_same s.places i (Held (held_count (place_of s i) + 1)) nowhere in_places) (ap (in_hand v) (sym held))
+    | inl e ↦
+        rw (e, get_or-set_same s.places i (Held (held_count (place_of s i) + 1)) nowhere in_places)
+        (ap (in_hand v) (sym held))
     | inr e ↦ rw (get_or-set_other s.places i j (Held (held_count (place_of s i) + 1)) nowhere e) refl
   ]
 
@@ -59,22 +62,40 @@ module _ (s : Lists) (w i : ℕ) (t : IsTable s) (l : 1 ≤ w) (b : w ≤ s.limi
     pool = t.pool;
     elements = length-set s.places i (Held (held_count (place_of s i) + 1)) ∙ t.elements;
     shown = λ j. elim (apart_or_same i j) [
-      | inl e ↦ rw (e, get_or-set_same s.places i (Held (held_count (place_of s i) + 1)) nowhere in_places) (t.shown i ∙ ap in_common held)
+      | inl e ↦
+          rw
+          (e, get_or-set_same s.places i (Held (held_count (place_of s i) + 1)) nowhere in_places)
+          (t.shown i ∙ ap in_common held)
       | inr e ↦ rw (get_or-set_other s.places i j (Held (held_count (place_of s i) + 1)) nowhere e) (t.shown j)
     ];
     somewhere = λ j m. elim (apart_or_same i j) [
-      | inl e ↦ rw (e, get_or-set_same s.places i (Held (held_count (place_of s i) + 1)) nowhere in_places) (omega arith)
+      | inl e ↦
+          rw
+          (e, get_or-set_same s.places i (Held (held_count (place_of s i) + 1)) nowhere in_places)
+          (omega arith)
       | inr e ↦ rw (get_or-set_other s.places i j (Held (held_count (place_of s i) + 1)) nowhere e) (t.somewhere j m)
     ];
     workers = length-set s.holds (w - 1) (set (get_or s.holds (w - 1) []) i (holds_of s w i + 1)) ∙ t.workers;
-    rows = λ v m. length-row s.holds (w - 1) i (holds_of s w i + 1) v s.limits.population row_ok.0 row_ok.1 (t.rows v m);
+    rows =
+        λ v m.
+        length-row s.holds (w - 1) i (holds_of s w i + 1) v s.limits.population row_ok.0 row_ok.1
+        (t.rows v m);
     counted = λ j. elim (apart_or_same i j) [
       | inl e ↦ rw (e, get_or-set_same s.places i (Held (held_count (place_of s i) + 1)) nowhere in_places)
           (omega (arith, sum-there s.holds (w - 1) i (holds_of s w i + 1) row_ok.0 in_row, t.counted i))
-      | inr e ↦ rw (get_or-set_other s.places i j (Held (held_count (place_of s i) + 1)) nowhere e) (omega (arith, t.counted j, sum-elsewhere s.holds (w - 1) i (holds_of s w i + 1) j row_ok.0 e))
+      | inr e ↦
+          rw (get_or-set_other s.places i j (Held (held_count (place_of s i) + 1)) nowhere e)
+          (omega (
+            arith,
+            t.counted j,
+            sum-elsewhere s.holds (w - 1) i (holds_of s w i + 1) j row_ok.0 e,
+          ))
     ];
     limited = λ j. elim (apart_or_same i j) [
-      | inl e ↦ rw (e, get_or-set_same s.places i (Held (held_count (place_of s i) + 1)) nowhere in_places) (omega (arith, below))
+      | inl e ↦
+          rw
+          (e, get_or-set_same s.places i (Held (held_count (place_of s i) + 1)) nowhere in_places)
+          (omega (arith, below))
       | inr e ↦ rw (get_or-set_other s.places i j (Held (held_count (place_of s i) + 1)) nowhere e) (t.limited j)
     ];
     header_places = t.header_places;

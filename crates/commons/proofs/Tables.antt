@@ -34,7 +34,8 @@ moved s common places changes = record s { common = common; places = places; cha
 
 -- elements that moved from one place to another, of which none is held, leave a table
 table_moved : (s : Lists) (common : List ℕ) (places : List Place) (changes : ℕ) (old new : Place) → IsTable s →
-    length places ≡ length s.places → held_count old ≡ 0 → held_count new ≡ 0 → 0 < weight s.limits.workers new → changes ≤ spent →
+    length places ≡ length s.places → held_count old ≡ 0 → held_count new ≡ 0 →
+    0 < weight s.limits.workers new → changes ≤ spent →
     ((i : ℕ) → ((get_or places i nowhere ≡ place_of s i) × (bag common i ≡ bag s.common i))
     ⊎ ((place_of s i ≡ old) × (get_or places i nowhere ≡ new) × (bag common i ≡ in_common new))) →
     IsTable (moved s common places changes)
@@ -86,8 +87,11 @@ others_moved s common places changes old new w same each = record {
 
 -- a get moves elements from the common list into a hand
 got_each : (s : Lists) (w n : ℕ) → IsTable s → (i : ℕ) →
-    ((get_or (placed (take n s.common) (Hand w) s.places) i nowhere ≡ place_of s i) × (bag (drop n s.common) i ≡ bag s.common i))
-    ⊎ ((place_of s i ≡ Common) × (get_or (placed (take n s.common) (Hand w) s.places) i nowhere ≡ Hand w) × (bag (drop n s.common) i ≡ in_common (Hand w)))
+    ((get_or (placed (take n s.common) (Hand w) s.places) i nowhere ≡ place_of s i)
+    × (bag (drop n s.common) i ≡ bag s.common i))
+    ⊎ ((place_of s i ≡ Common)
+    × (get_or (placed (take n s.common) (Hand w) s.places) i nowhere ≡ Hand w)
+    × (bag (drop n s.common) i ≡ in_common (Hand w)))
 got_each s w n t i =
     let a = bag-take-drop n s.common i in
     elim (zero_or_more (bag (take n s.common) i)) [
@@ -101,12 +105,16 @@ got_each s w n t i =
           )
     ]
 
-pub table_get : (s : Lists) (w n : ℕ) → IsTable s → 1 ≤ w → w ≤ s.limits.workers → s.changes < spent → IsTable (after_get w n s)
+-- the top elements are in the hand instead of in the list, so the table still shows each once
+pub table_get : (s : Lists) (w n : ℕ) → IsTable s → 1 ≤ w → w ≤ s.limits.workers →
+    s.changes < spent → IsTable (after_get w n s)
 unfolding moved
 table_get s w n t l h c =
     table_moved s (drop n s.common) (placed (take n s.common) (Hand w) s.places) (s.changes + 1) Common (Hand w) t
-    (length-placed (take n s.common) (Hand w) s.places) refl refl (weight-hand s.limits.workers w l h) (omega arith) (got_each s w n t)
+    (length-placed (take n s.common) (Hand w) s.places) refl refl
+    (weight-hand s.limits.workers w l h) (omega arith) (got_each s w n t)
 
+-- what leaves the common list comes to this worker's hand, so no other one's changes
 pub others_get : (s : Lists) (w n : ℕ) → IsTable s → KeepsOthers w s (after_get w n s)
 unfolding moved
 others_get s w n t =
@@ -114,7 +122,8 @@ others_get s w n t =
     (λ v h. sym (in_hand-other v w h)) (got_each s w n t)
 
 -- a get brings its elements into the hand
-pub hand_get : (s : Lists) (w n : ℕ) → IsTable s → (i : ℕ) → hand_of (after_get w n s) w i ≡ hand_of s w i + bag (take n s.common) i
+pub hand_get : (s : Lists) (w n : ℕ) → IsTable s → (i : ℕ) →
+    hand_of (after_get w n s) w i ≡ hand_of s w i + bag (take n s.common) i
 hand_get s w n t i =
     let a = bag-take-drop n s.common i in
     elim (zero_or_more (bag (take n s.common) i)) [
@@ -123,13 +132,19 @@ hand_get s w n t i =
           let c : 0 < in_common (place_of s i) = omega (arith, t.shown i, a) in
           let e = is_common (place_of s i) c in
           let k : bag (take n s.common) i ≡ 1 = omega (arith, t.shown i, a, in_common-le (place_of s i)) in
-          rw (placed-in (take n s.common) (Hand w) nowhere s.places i p (stands_in_common s.places i c), e, k) (in_hand-same w)
+          rw (
+            placed-in (take n s.common) (Hand w) nowhere s.places i p
+                (stands_in_common s.places i c),
+            e,
+            k,
+          ) (in_hand-same w)
     ]
 
 -- a put moves elements from a hand into the common list
 put_each : (s : Lists) (w : ℕ) (xs : List ℕ) → IsTable s → ((i : ℕ) → bag xs i ≤ hand_of s w i) → (i : ℕ) →
     ((get_or (placed xs Common s.places) i nowhere ≡ place_of s i) × (bag (reverse xs ++ s.common) i ≡ bag s.common i))
-    ⊎ ((place_of s i ≡ Hand w) × (get_or (placed xs Common s.places) i nowhere ≡ Common) × (bag (reverse xs ++ s.common) i ≡ in_common Common))
+    ⊎ ((place_of s i ≡ Hand w) × (get_or (placed xs Common s.places) i nowhere ≡ Common)
+    × (bag (reverse xs ++ s.common) i ≡ in_common Common))
 put_each s w xs t h i =
     let a = bag-append (reverse xs) s.common i in
     let b = bag-reverse xs i in
@@ -146,25 +161,32 @@ put_each s w xs t h i =
           )
     ]
 
-pub table_put : (s : Lists) (w : ℕ) (xs : List ℕ) → IsTable s → ((i : ℕ) → bag xs i ≤ hand_of s w i) → s.changes < spent → IsTable (after_put xs s)
+-- the elements are in the list instead of in the hand, so the table still shows each once
+pub table_put : (s : Lists) (w : ℕ) (xs : List ℕ) → IsTable s →
+    ((i : ℕ) → bag xs i ≤ hand_of s w i) → s.changes < spent → IsTable (after_put xs s)
 unfolding moved
 table_put s w xs t h c =
     table_moved s (reverse xs ++ s.common) (placed xs Common s.places) (s.changes + 1) (Hand w) Common t
     (length-placed xs Common s.places) refl refl (omega arith) (omega arith) (put_each s w xs t h)
 
-pub others_put : (s : Lists) (w : ℕ) (xs : List ℕ) → IsTable s → ((i : ℕ) → bag xs i ≤ hand_of s w i) → KeepsOthers w s (after_put xs s)
+-- what leaves this worker's hand comes to the common list, so no other one's changes
+pub others_put : (s : Lists) (w : ℕ) (xs : List ℕ) → IsTable s →
+    ((i : ℕ) → bag xs i ≤ hand_of s w i) → KeepsOthers w s (after_put xs s)
 unfolding moved
 others_put s w xs t h =
     others_moved s (reverse xs ++ s.common) (placed xs Common s.places) (s.changes + 1) (Hand w) Common w
     (λ v e. in_hand-other v w e) (put_each s w xs t h)
 
-pub hand_put : (s : Lists) (w : ℕ) (xs : List ℕ) → ((i : ℕ) → bag xs i ≤ hand_of s w i) → (i : ℕ) → hand_of s w i ≡ hand_of (after_put xs s) w i + bag xs i
+-- a hand has an element at most once, so what was put has left it, and all else is still there
+pub hand_put : (s : Lists) (w : ℕ) (xs : List ℕ) → ((i : ℕ) → bag xs i ≤ hand_of s w i) → (i : ℕ) →
+    hand_of s w i ≡ hand_of (after_put xs s) w i + bag xs i
 hand_put s w xs h i =
     elim (zero_or_more (bag xs i)) [
       | inl z ↦ rw (placed-out xs Common nowhere s.places i z, z) (omega arith)
       | inr p ↦
           let c : 0 < in_hand w (place_of s i) = omega (arith, h i) in
-          rw (placed-in xs Common nowhere s.places i p (stands_in_hand s.places w i c)) (omega (arith, h i, in_hand-le w (place_of s i)))
+          rw (placed-in xs Common nowhere s.places i p (stands_in_hand s.places w i c))
+          (omega (arith, h i, in_hand-le w (place_of s i)))
     ]
 
 -- no element is both in the common list and in a hand
@@ -174,11 +196,13 @@ apart w (Hand v) = omega (arith, in_hand-le w (Hand v))
 apart w (Held n) = omega arith
 
 -- past the population there is none
-past : (w : ℕ) (places : List Place) (i : ℕ) → length places ≤ i → in_common (get_or places i nowhere) + in_hand w (get_or places i nowhere) ≡ 0
+past : (w : ℕ) (places : List Place) (i : ℕ) → length places ≤ i →
+    in_common (get_or places i nowhere) + in_hand w (get_or places i nowhere) ≡ 0
 past w places i l = rw (get_or_past places i nowhere l) refl
 
 -- the common list, with elements of a hand, is at most the population
-pub room_put : (s : Lists) (w : ℕ) (xs : List ℕ) → IsTable s → ((i : ℕ) → bag xs i ≤ hand_of s w i) → length s.common + length xs ≤ s.limits.population
+pub room_put : (s : Lists) (w : ℕ) (xs : List ℕ) → IsTable s →
+    ((i : ℕ) → bag xs i ≤ hand_of s w i) → length s.common + length xs ≤ s.limits.population
 room_put s w xs t h =
     let e = length-le s.limits.population (s.common ++ xs)
     (λ i. omega (arith, bag-append s.common xs i, t.shown i, h i, apart w (place_of s i)))
@@ -194,7 +218,8 @@ pub length_common : (s : Lists) → IsTable s → length s.common ≤ s.limits.p
 length_common s t = omega (arith, room_put s 0 [] t (λ i. omega (arith, bag-nil i)))
 
 -- a worker's row of holds
-pub row_below : (s : Lists) (w : ℕ) → IsTable s → 1 ≤ w → w ≤ s.limits.workers → (w - 1 < length s.holds) × (length (get_or s.holds (w - 1) []) ≡ s.limits.population)
+pub row_below : (s : Lists) (w : ℕ) → IsTable s → 1 ≤ w → w ≤ s.limits.workers →
+    (w - 1 < length s.holds) × (length (get_or s.holds (w - 1) []) ≡ s.limits.population)
 row_below s w t l h = (omega (arith, t.workers), t.rows (w - 1) (omega arith))
 
 -- who is in a hand isn't held
@@ -207,7 +232,9 @@ not_on_desk s w i t h = let k = rw (is_hand w (place_of s i) h) at (t.counted i)
 not_common : (s : Lists) (w i : ℕ) → IsTable s → 0 < hand_of s w i → bag s.common i ≡ 0
 not_common s w i t h = omega (arith, t.shown i, apart w (place_of s i))
 
-pub table_claim : (s : Lists) (w i : ℕ) → IsTable s → 1 ≤ w → w ≤ s.limits.workers → 0 < hand_of s w i → IsTable (after_claim w i s)
+-- the element leaves the hand with count 1, which is the one hold in the worker's row
+pub table_claim : (s : Lists) (w i : ℕ) → IsTable s → 1 ≤ w → w ≤ s.limits.workers →
+    0 < hand_of s w i → IsTable (after_claim w i s)
 table_claim s w i t l h p =
     let k = row_below s w t l h in
     let below : i < length s.places = stands_in_hand s.places w i p in
@@ -227,8 +254,16 @@ table_claim s w i t l h p =
       rows = λ v b. length-row s.holds (w - 1) i 1 v s.limits.population k.0 k.1 (t.rows v b);
       counted = λ j. elim (apart_or_same i j) [
         | inl e ↦ rw (e, get_or-set_same s.places i (Held 1) nowhere below)
-            (omega (arith, sum-there s.holds (w - 1) i 1 k.0 within, not_held s w i t p, not_on_desk s w i t p, hold_le s.holds (w - 1) i k.0))
-        | inr e ↦ rw (get_or-set_other s.places i j (Held 1) nowhere e) (omega (arith, t.counted j, sum-elsewhere s.holds (w - 1) i 1 j k.0 e))
+            (omega (
+              arith,
+              sum-there s.holds (w - 1) i 1 k.0 within,
+              not_held s w i t p,
+              not_on_desk s w i t p,
+              hold_le s.holds (w - 1) i k.0,
+            ))
+        | inr e ↦
+            rw (get_or-set_other s.places i j (Held 1) nowhere e)
+            (omega (arith, t.counted j, sum-elsewhere s.holds (w - 1) i 1 j k.0 e))
       ];
       limited = λ j. elim (apart_or_same i j) [
         | inl e ↦ rw (e, get_or-set_same s.places i (Held 1) nowhere below) t.pool.refs_low
@@ -248,7 +283,9 @@ table_claim s w i t l h p =
             omega (arith, t.headers_held v j b f, hold_elsewhere s.holds w i 1 v j k.0 b e)
       ];
       headers_apart = λ j. elim (apart_or_same i j) [
-        | inl e ↦ rw (e, get_or-set_same s.headers i (Some w) None heads) (omega (arith, own_in-held s.desks i, not_on_desk s w i t p))
+        | inl e ↦
+            rw (e, get_or-set_same s.headers i (Some w) None heads)
+            (omega (arith, own_in-held s.desks i, not_on_desk s w i t p))
         | inr e ↦ rw (get_or-set_other s.headers i j (Some w) None e) (t.headers_apart j)
       ];
       desks = t.desks;
@@ -262,9 +299,10 @@ bag-at (x ∷ xs) zero d h = bag-head x xs
 bag-at (x ∷ xs) (suc k) d h = omega (arith, bag-cons x xs (get_or xs k d), bag-at xs k d (omega arith))
 
 -- what is in a list of which no element is n or more
-all_below : (n : ℕ) (xs : List ℕ) → ((i : ℕ) → n ≤ i → bag xs i ≡ 0) → All (λ x. x < n) xs
+pub all_below : (n : ℕ) (xs : List ℕ) → ((i : ℕ) → n ≤ i → bag xs i ≡ 0) → All (λ x. x < n) xs
 all_below n xs h k d l =
-    elim (cases_lt (get_or xs k d) n) [ inl b ↦ b | inr b ↦ absurd (omega (arith, h (get_or xs k d) b, bag-at xs k d l)) ]
+    elim (cases_lt (get_or xs k d) n)
+    [ inl b ↦ b | inr b ↦ absurd (omega (arith, h (get_or xs k d) b, bag-at xs k d l)) ]
 
 -- what is taken is below the population
 pub taken_below : (s : Lists) (n : ℕ) → IsTable s → All (λ x. x < s.limits.population) (take n s.common)
@@ -273,5 +311,6 @@ taken_below s n t =
     (λ i l. omega (arith, bag-take-drop n s.common i, t.shown i, past 0 s.places i (omega (arith, t.elements))))
 
 -- and so is what is put back
-pub put_below : (s : Lists) (w : ℕ) (xs : List ℕ) → IsTable s → ((i : ℕ) → bag xs i ≤ hand_of s w i) → All (λ x. x < s.limits.population) xs
+pub put_below : (s : Lists) (w : ℕ) (xs : List ℕ) → IsTable s →
+    ((i : ℕ) → bag xs i ≤ hand_of s w i) → All (λ x. x < s.limits.population) xs
 put_below s w xs t h = all_below s.limits.population xs (λ i l. omega (arith, h i, hand_below_lem s w i t l))

@@ -2,6 +2,7 @@ pub mod Bag
 pub mod Beside
 pub mod Bounds
 pub mod Calls
+pub mod Closing
 pub mod Lists
 pub mod Packets
 pub mod PlainCalls

@@ -1,5 +1,5 @@
 -- The shared pool as lists: what a contract sees of a `PlainSite`, and what each call does to it.
-use Rattle.std.specs.Prelude.{ℕ, zero, suc, ◌≡◌, ◌≢◌, nat_lt, ◌+◌, ◌-◌, ◌<◌, ◌≤◌, ◌==◌, cond, if◌then◌else◌, List, [], ◌∷◌, ◌++◌, length, take, drop, reverse, replicate, slice_index, slice_index_or, slice_set, Result, Ok, Err, Option, Some, None, sum_by}
+use Rattle.std.specs.Prelude.{ℕ, zero, suc, ◌≡◌, ◌≢◌, ◌+◌, ◌-◌, ◌<◌, ◌≤◌, ◌==◌, cond, if◌then◌else◌, List, [], ◌∷◌, ◌++◌, length, take, drop, reverse, replicate, slice_index, slice_index_or, slice_set, Result, Ok, Err, Option, Some, None, sum_by}
 use Rattle.std.specs.List.{range_with_len}
 use Rattle.commons.specs.declared.limits.Limits.{Limits}
 use Rattle.commons.specs.declared.packet.Seg.{Seg}
@@ -77,7 +77,12 @@ header_of s w i = is_owner w (slice_index_or s.headers i None)
 
 -- what a worker has of the pool
 abbrev pub side_of : Lists → ℕ → Side
-side_of s w = record { limits = s.limits; hand = λ i. hand_of s w i; holds = λ i. holds_of s w i; headers = λ i. header_of s w i }
+side_of s w = record {
+  limits = s.limits;
+  hand = λ i. hand_of s w i;
+  holds = λ i. holds_of s w i;
+  headers = λ i. header_of s w i;
+}
 
 -- how many workers' header it is
 abbrev pub owners : Option ℕ → ℕ
@@ -150,24 +155,43 @@ headers_left w i left headers = slice_set headers i (owner_left w left (slice_in
 
 -- what a get leaves
 abbrev pub after_get : ℕ → ℕ → Lists → Lists
-after_get w n s = record s { common = drop n s.common; places = placed (take n s.common) (Hand w) s.places; changes = s.changes + 1 }
+after_get w n s = record s {
+  common = drop n s.common;
+  places = placed (take n s.common) (Hand w) s.places;
+  changes = s.changes + 1;
+}
 
 -- what a put leaves
 abbrev pub after_put : List ℕ → Lists → Lists
-after_put xs s = record s { common = reverse xs ++ s.common; places = placed xs Common s.places; changes = s.changes + 1 }
+after_put xs s = record s {
+  common = reverse xs ++ s.common;
+  places = placed xs Common s.places;
+  changes = s.changes + 1;
+}
 
 -- what a claim leaves
 abbrev pub after_claim : ℕ → ℕ → Lists → Lists
-after_claim w i s = record s { places = slice_set s.places i (Held 1); holds = with_hold w i 1 s.holds; headers = slice_set s.headers i (Some w) }
+after_claim w i s = record s {
+  places = slice_set s.places i (Held 1);
+  holds = with_hold w i 1 s.holds;
+  headers = slice_set s.headers i (Some w);
+}
 
 -- what one hold more leaves
 abbrev pub after_raise : ℕ → ℕ → Lists → Lists
-after_raise w i s = record s { places = slice_set s.places i (Held (held_count (place_of s i) + 1)); holds = with_hold w i (holds_of s w i + 1) s.holds }
+after_raise w i s = record s {
+  places = slice_set s.places i (Held (held_count (place_of s i) + 1));
+  holds = with_hold w i (holds_of s w i + 1) s.holds;
+}
 
 -- what the end of the last hold leaves, and that of another
 abbrev pub after_lower : ℕ → ℕ → Place → Lists → Lists
 after_lower w i place s =
-    record s { places = slice_set s.places i place; holds = with_hold w i (holds_of s w i - 1) s.holds; headers = headers_left w i (holds_of s w i - 1) s.headers }
+    record s {
+      places = slice_set s.places i place;
+      holds = with_hold w i (holds_of s w i - 1) s.holds;
+      headers = headers_left w i (holds_of s w i - 1) s.headers;
+    }
 
 -- where an element with this place is once a hold of it has ended, and what is told
 abbrev pub WasLowered : ℕ → Place → Place → Lowered → Type 0
@@ -175,11 +199,13 @@ WasLowered w p q Last = (p ≡ Held 1) × (q ≡ Hand w)
 WasLowered w p q Still = (1 < held_count p) × (q ≡ Held (held_count p - 1))
 
 abbrev pub DidLower : ℕ → Lists → ℕ → Lowered → Lists → Type 0
-DidLower w s i answer t = (place : Place) × WasLowered w (place_of s i) place answer × (t ≡ after_lower w i place s)
+DidLower w s i answer t =
+    (place : Place) × WasLowered w (place_of s i) place answer × (t ≡ after_lower w i place s)
 
 -- a get of n on the lists, by its answer and what it leaves
 abbrev pub DidGet : ℕ → Lists → ℕ → Result (List ℕ) Refusal → Lists → Type 0
-DidGet w s n (Ok xs) t = (n ≤ length s.common) × (s.changes < spent) × (xs ≡ take n s.common) × (t ≡ after_get w n s)
+DidGet w s n (Ok xs) t =
+    (n ≤ length s.common) × (s.changes < spent) × (xs ≡ take n s.common) × (t ≡ after_get w n s)
 DidGet w s n (Err NoEntries) t = (length s.common < n) × (t ≡ s)
 DidGet w s n (Err HeadSpent) t = (n ≤ length s.common) × (s.changes ≡ spent) × (t ≡ s)
 DidGet w s n (Err _) t = ⊥
@@ -200,24 +226,30 @@ pub record HasMore (w : ℕ) (packet : List Seg) (s t : Lists) : Type 0 where
   pub holds : (i : ℕ) → holds_of t w i ≡ holds_of s w i + bag (holds_of_packet packet) i
   pub headers : (i : ℕ) → header_of t w i ≡ header_of s w i + bag (own_of_packet packet) i
 
--- Worker w has a packet less in the second lists: its holds are gone, and its own elements are headers no more; nor
--- is what the worker then doesn't hold.
+-- Worker w has a packet less in the second lists: its holds are gone, and its own elements, which were headers, are so
+-- no more; nor is what the worker then doesn't hold.
 pub record HasLess (w : ℕ) (packet : List Seg) (s t : Lists) : Type 0 where
   pub holds : (i : ℕ) → holds_of s w i ≡ holds_of t w i + bag (holds_of_packet packet) i
-  pub headers : (i : ℕ) → header_of t w i ≡ (if nat_lt 0 (holds_of t w i) then header_of s w i - bag (own_of_packet packet) i else 0)
+  pub own : (i : ℕ) → bag (own_of_packet packet) i ≤ header_of s w i
+  pub left : (i : ℕ) → 0 < holds_of t w i → header_of s w i ≡ header_of t w i + bag (own_of_packet packet) i
+  pub ended : (i : ℕ) → holds_of t w i ≡ 0 → header_of t w i ≡ 0
 
 -- this is on the desk afterwards; holds and headers may differ, and nothing else does
 abbrev pub IsPassed : ℕ → Option (List Seg) → Lists → Lists → Type 0
-IsPassed d packet s t = t ≡ record s { holds = t.holds; headers = t.headers; desks = slice_set s.desks d packet }
+IsPassed d packet s t =
+    t ≡ record s { holds = t.holds; headers = t.headers; desks = slice_set s.desks d packet }
 
 abbrev pub DidOffer : ℕ → Lists → ℕ → List Seg → Result (Unit {0}) Refusal → Lists → Type 0
-DidOffer w s d packet (Ok _) t = (d < s.limits.desks) × (desk_of s d ≡ None) × IsPassed d (Some packet) s t × HasLess w packet s t
+DidOffer w s d packet (Ok _) t =
+    (d < s.limits.desks) × (desk_of s d ≡ None) × IsPassed d (Some packet) s t
+    × HasLess w packet s t
 DidOffer w s d packet (Err NoSuchDesk) t = (s.limits.desks ≤ d) × (t ≡ s)
 DidOffer w s d packet (Err DeskTaken) t = (d < s.limits.desks) × (desk_of s d ≢ None) × (t ≡ s)
 DidOffer w s d packet (Err _) t = ⊥
 
 abbrev pub DidTake : ℕ → Lists → ℕ → Result (List Seg) Refusal → Lists → Type 0
-DidTake w s d (Ok packet) t = (d < s.limits.desks) × (desk_of s d ≡ Some packet) × IsPassed d None s t × HasMore w packet s t
+DidTake w s d (Ok packet) t =
+    (d < s.limits.desks) × (desk_of s d ≡ Some packet) × IsPassed d None s t × HasMore w packet s t
 DidTake w s d (Err NoSuchDesk) t = (s.limits.desks ≤ d) × (t ≡ s)
 DidTake w s d (Err DeskEmpty) t = (d < s.limits.desks) × (desk_of s d ≡ None) × (t ≡ s)
 DidTake w s d (Err _) t = ⊥

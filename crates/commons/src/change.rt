@@ -1,3 +1,5 @@
+//! The four changes of a packet's lengths, as a value that a script names and a packet carries out.
+
 /// A change of a packet's lengths, by so many bytes.
 #[derive(Clone, Copy, PartialEq, Eq, Debug)]
 pub enum Change {

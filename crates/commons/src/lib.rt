@@ -2,6 +2,7 @@
 #![tactic(auto)]
 
 pub mod change;
+pub mod closed;
 pub mod laws;
 pub mod limits;
 pub mod packet;

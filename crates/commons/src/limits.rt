@@ -1,3 +1,5 @@
+//! The numbers that a pool is made of, and the bounds within which each has to be.
+
 use crate::refusal::Refusal;
 
 /// The most elements of a pool.

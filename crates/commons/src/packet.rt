@@ -1,3 +1,5 @@
+//! A packet as its segments, and what holds of these wherever a packet is: in a slot, or on a desk.
+
 use arrayvec::ArrayVec;
 use std::marker::Model;
 use std::mem;

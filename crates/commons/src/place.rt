@@ -1,3 +1,5 @@
+//! Where an element of the lists is: in exactly one of three places.
+
 /// Where an element is.
 #[derive(Clone, Copy, PartialEq, Eq, Debug)]
 pub enum Place {

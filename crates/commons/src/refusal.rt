@@ -1,3 +1,5 @@
+//! The causes for which a call of any layer is refused, with their numbers and names as printed.
+
 ghost use Rattle.std.specs.Prelude.{◌≡◌};
 ghost use Rattle.commons.specs.Refusals.{name_of, number_of};
 

@@ -1,3 +1,5 @@
+//! A list that contracts see as its values alone.
+
 use std::marker::Model;
 
 /// A list of values, which contracts see as that list and nothing else: a `Vec` whose capacity

@@ -1,4 +1,6 @@
-ghost use Rattle.std.specs.Prelude.{◌≡◌, ◌<◌, ◌≤◌, ◌+◌, ℕ, List, length, IfOk, IfErr};
+//! The trait through which one worker uses what all workers of a pool share, however it is kept.
+
+ghost use Rattle.std.specs.Prelude.{◌≡◌, ◌<◌, ◌≤◌, ℕ, List, length, IfErr};
 ghost use Rattle.commons.specs.Bag.{bag, one};
 ghost use Rattle.commons.specs.Calls.{Reading, Call, GetList, PutList, Claim, CountOf, Raise, Lower, Offer, Take, CommonCount, with_list, without_packet, Did, Side};
 ghost use Rattle.commons.specs.Packets.{holds_of_packet, own_of_packet};
@@ -11,6 +13,9 @@ use crate::refusal::{Lowered, Refusal};
 /// back. Its holds are the references that it has to elements, each as often as it has one. Its headers
 /// are elements that it holds: those that it claimed, or that came as own elements of a packet, until
 /// it offers their packet or its last hold of them ends.
+///
+/// Each answer has its cause in the last that the call read of the kind. Where a call changes a word
+/// by an exchange, that is the value which the exchange saw, so that it costs nothing to know.
 pub trait Commons {
     /// What the worker has of the pool: its limits, and the worker's hand, holds and headers.
     ghost side: { Self → Side };
@@ -23,7 +28,8 @@ pub trait Commons {
     ///
     /// Refused `NoEntries` where a length below `out.len()` was read, `HeadSpent` where the spent
     /// modification count was read, and `Contended` after `tries` lost tries. Hand, holds and
-    /// headers are then as before, and nothing is said of `out`.
+    /// headers are then as before, and nothing is said of `out`. A get that is met read a
+    /// modification count below the spent one, as the last.
     ///
     /// After rte_stack_lf_generic.h, `__rte_stack_lf_pop_elems` (DPDK 21.11). `Contended` and
     /// `HeadSpent` are our own.
@@ -35,7 +41,8 @@ pub trait Commons {
     /// them, or none. On the lists the last one is on top then.
     ///
     /// Refused `HeadSpent` where the spent modification count was read, and `Contended` after
-    /// `tries` lost tries. Hand, holds and headers are then as before.
+    /// `tries` lost tries. Hand, holds and headers are then as before. A put that is met read a
+    /// modification count below the spent one, as the last.
     ///
     /// After rte_stack_lf_generic.h, `__rte_stack_lf_push_elems` (DPDK 21.11), which can't be
     /// refused.
@@ -52,20 +59,19 @@ pub trait Commons {
         ensures did { Did did side self.old (Claim element) self.new };
 
     /// The reference count of an element that this worker holds, as read at one moment of the call:
-    /// the number of holds of all holders, at most the pool's reference limit. 1 says that there is
-    /// no other hold.
+    /// the number of holds of all holders, at least the worker's own and at most the pool's reference
+    /// limit. 1 says that there is no other hold.
     ///
     /// After rte_mbuf.h, `rte_mbuf_refcnt_read` (DPDK 21.11).
     fn count(&mut self, element: u32) -> u32
         requires { 0 < (side self.old).holds element }
-        ensures did { Did did side self.old (CountOf element result) self.new }
-        ensures own { (side self.old).holds element ≤ result }
-        ensures limited { result ≤ (side self.old).limits.ref_limit };
+        ensures did { Did did side self.old (CountOf element result) self.new };
 
     /// Makes one more hold by this worker of an element that it holds.
     ///
-    /// Refused `RefSpent` where a count equal to the pool's reference limit was read, and
-    /// `Contended` after `tries` lost tries. Hand, holds and headers are then as before.
+    /// Refused `RefSpent` where the last count of the element that was read is the pool's reference
+    /// limit, and `Contended` after `tries` lost tries. Hand, holds and headers are then as before.
+    /// Of a raise that is met it is below the limit.
     ///
     /// After rte_mbuf.h, `rte_mbuf_refcnt_update` (DPDK 21.11), which knows no limit. `RefSpent` and
     /// `Contended` are our own.
@@ -90,7 +96,8 @@ pub trait Commons {
     ///
     /// Refused `NoSuchDesk` exactly where the pool has no such desk, and `DeskTaken` where a desk
     /// word other than 0, that of an empty desk, was read. The packet comes back then, and hand,
-    /// holds and headers are as before.
+    /// holds and headers are as before. Of an offer that is met the last word of the desk that was
+    /// read is that of an empty one.
     ///
     /// Desks are our own; DPDK passes mbufs between lcores over an `rte_ring`.
     fn offer(&mut self, desk: u32, packet: Packet) -> Result<(), (Refusal, Packet)>
@@ -105,11 +112,11 @@ pub trait Commons {
     ///
     /// Refused `NoSuchDesk` exactly where the pool has no such desk, and `DeskEmpty` where a desk
     /// word other than 2, that of a full desk, was read. Hand, holds and headers are then as before.
+    /// Of a take that is met the last word of the desk that was read is that of a full one.
     ///
     /// Desks are our own; DPDK passes mbufs between lcores over an `rte_ring`.
     fn take(&mut self, desk: u32) -> Result<Packet, Refusal>
-        ensures did { Did did side self.old (Take desk result) self.new }
-        ensures apart { IfOk result (λ packet. (i : ℕ) → (side self.old).headers i + bag (own_of_packet packet) i ≤ 1) };
+        ensures did { Did did side self.old (Take desk result) self.new };
 
     /// The length word of the common stack, as read at one moment of the call. While another worker is
     /// within a call it may lag behind the stack itself; on the lists it is the list's length.

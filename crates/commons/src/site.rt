@@ -1,8 +1,18 @@
+//! The shared part of a pool as lists, for one thread. Its calls alone change them:
+//! `common` is the common stack, its top last: `get` and `put` change it, and count `changes`.
+//! `places` says of each element where it is: `get`, `put`, `claim`, `raise` and `lower` write it.
+//! `holds` has a row for each worker, how often it holds each element: `claim`, `raise` and `lower`
+//! change one number of it, `offer` and `take` those of a packet.
+//! `headers` names the worker whose header an element is: `claim` and `take` set it, `lower` and
+//! `offer` clear it.
+//! `desks` has the packet on each desk: `offer` puts one there, and `take` takes it off.
+
 ghost use Rattle.std.specs.Prelude.{◌≡◌, ◌+◌, ◌<◌, ◌≤◌, ◌==◌, [], length, take, drop, reverse, replicate, slice_index, slice_index_or, slice_set, All, IfOk, vec_len, vec_capacity, None};
 ghost use Rattle.std.specs.List.{range_with_len};
 ghost use Rattle.commons.specs.Bounds.{IsPool};
 ghost use Rattle.commons.specs.Lists.{placed, place_of, owner_left, held_count, WasLowered, opening, IsTable};
 
+use crate::closed::{Closed, words};
 use crate::limits::{Limits, SPENT};
 use crate::packet::Packet;
 use crate::passing::{add_holds, end_holds, owner_left, set_owner};
@@ -40,6 +50,7 @@ impl PlainSite {
     ghost use Rattle.std.specs.Prelude.{◌≡◌, ◌<◌, ◌≤◌, ℕ, length, reverse, IfOk, IfErr};
     ghost use Rattle.commons.specs.Bag.{bag};
     ghost use Rattle.commons.specs.Calls.{with_list, without_packet};
+    ghost use Rattle.commons.specs.Closing.{closed_of};
     ghost use Rattle.commons.specs.Lists.{DidGet, DidPut, DidRaise, DidLower, DidOffer, DidTake, IsTable, KeepsOthers, hand_of, holds_of, header_of, after_claim, opening, IsMakeCause};
     ghost use Rattle.commons.specs.Packets.{holds_of_packet, own_of_packet};
 
@@ -280,6 +291,37 @@ impl PlainSite {
         set_owner(&mut self.headers, packet.segs(), Some(worker));
         self.desks[desk].take().ok_or(Refusal::DeskEmpty)
     }
+
+    /// Ends the pool's shared part, and leaves it as plain data.
+    ///
+    /// Refused `OutOfMemory` where memory was refused. The site comes back then, as it was.
+    pub fn close(self, alloc: Global) -> Result<Closed, (Refusal, PlainSite)>
+        ensures closed { IfOk result (λ c. c ≡ closed_of self) }
+        ensures memory { IfErr result (λ refused. refused.0 ≡ Refusal.OutOfMemory) }
+        ensures back { IfErr result (λ refused. refused.1 ≡ self) }
+    {
+        match words(alloc, &self.common, &self.places) {
+            Ok((top, links, counts)) => {
+                let PlainSite {
+                    limits: _,
+                    common,
+                    places: _,
+                    holds: _,
+                    headers: _,
+                    desks,
+                    changes: _,
+                } = self;
+                Ok(Closed {
+                    top,
+                    length: common.len() as u64,
+                    links: Seq::new(links),
+                    counts: Seq::new(counts),
+                    desks: Seq::new(desks),
+                })
+            }
+            Err(_) => Err((Refusal::OutOfMemory, self)),
+        }
+    }
 }
 
 /// A pool within these limits, or a refusal of memory.
@@ -318,7 +360,11 @@ fn downwards(alloc: Global, count: u32) -> Result<Vec<u32>, AllocError>
 }
 
 /// So many times the same value.
-fn copies<T: Copy + Drop>(alloc: Global, value: T, count: usize) -> Result<Vec<T>, AllocError>
+pub(crate) fn copies<T: Copy + Drop>(
+    alloc: Global,
+    value: T,
+    count: usize,
+) -> Result<Vec<T>, AllocError>
     ensures { IfOk result (λ v. v.items ≡ replicate count value) }
 {
     let mut values = Vec::with_capacity(alloc, count)?;
@@ -395,7 +441,7 @@ fn set_hold(rows: &mut Vec<Seq<u32>>, row: usize, element: usize, count: u32)
 }
 
 /// How often an element with this place is held.
-fn count_in(place: Place) -> u32
+pub(crate) fn count_in(place: Place) -> u32
     ensures { result ≡ held_count place }
 {
     match place {

@@ -15,7 +15,9 @@ pub Alone-trans : (s t u : PlainCommons) → Alone s t → Alone t u → Alone s
 Alone-trans s t u a b = record {
   same = b.same ∙ a.same;
   worker = b.worker ∙ a.worker;
-  others = KeepsOthers-trans s.worker s.site.now t.site.now u.site.now a.others (subst (λ w. KeepsOthers w t.site.now u.site.now) a.worker b.others);
+  others =
+      KeepsOthers-trans s.worker s.site.now t.site.now u.site.now a.others
+      (subst (λ w. KeepsOthers w t.site.now u.site.now) a.worker b.others);
 }
 
 -- calls were made one after another

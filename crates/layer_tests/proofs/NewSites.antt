@@ -13,5 +13,10 @@ new_hand s l w i e = rw e (nothing_in_hand l.population w i)
 pub new_holds : (s : Lists) (l : Limits) (w i : ℕ) → s ≡ opening l → holds_of s w i ≡ 0
 new_holds s l w i e = rw e (nothing_held l.workers l.population (w - 1) i)
 
-pub new_own : (s : Lists) (l : Limits) (w : ℕ) (m : Member) → s ≡ opening l → m ≡ record { limits = l; number = w; cache = []; table = replicate slots None } → Own m (side_of s w)
-new_own s l w m e f = rw (f, e) (own_new (side_of (opening l) w) w (nothing_in_hand l.population w) (nothing_held l.workers l.population (w - 1)))
+-- a new site has nothing in a hand and nothing held, as new packets have nothing
+pub new_own : (s : Lists) (l : Limits) (w : ℕ) (m : Member) → s ≡ opening l →
+    m ≡ record { limits = l; number = w; cache = []; table = replicate slots None } →
+    Own m (side_of s w)
+new_own s l w m e f =
+    rw (f, e) (own_new (side_of (opening l) w) w (nothing_in_hand l.population w)
+    (nothing_held l.workers l.population (w - 1)))

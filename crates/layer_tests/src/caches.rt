@@ -1,3 +1,5 @@
+//! A worker's cache on the lists: bulks through it and past it, flushes, and a new worker's.
+
 use commons::limits::Limits;
 use commons::plain::PlainCommons;
 use commons::refusal::Refusal;

@@ -1,3 +1,5 @@
+//! The shared part as lists: what each of its calls moves, counts and refuses.
+
 ghost use Rattle.std.specs.Prelude.{◌≡◌, ◌≤◌, ◌+◌, ℕ, IfOk};
 ghost use Rattle.commons.specs.Bag.{bag, one};
 ghost use Rattle.commons.specs.Packets.{holds_of_packet, own_of_packet};

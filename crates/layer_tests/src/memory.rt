@@ -1,3 +1,5 @@
+//! What is made of the pool and its workers where memory is refused.
+
 use commons::limits::Limits;
 use commons::place::Place;
 use commons::refusal::Refusal;

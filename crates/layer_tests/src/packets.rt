@@ -1,3 +1,5 @@
+//! Plays the tables of `rows` on the lists, and looks at what each worker is told and what is left.
+
 ghost use Rattle.std.specs.Prelude.{◌≡◌, ℕ};
 ghost use Rattle.commons.specs.Lists.{KeepsOthers, hand_of, holds_of};
 ghost use Rattle.layer_tests.specs.Alone.{IsOwn, Alone};

@@ -1,3 +1,5 @@
+//! Tables of what workers do on new pools, and what they are told, worked out by hand.
+
 use commons::limits::Limits;
 use mbuf::acts::Act;
 

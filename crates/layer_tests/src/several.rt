@@ -1,3 +1,5 @@
+//! Two workers of one pool, each with packets of its own, which the other's calls leave so.
+
 ghost use Rattle.std.specs.Prelude.{◌≡◌, ◌≤◌, ℕ, length};
 ghost use Rattle.commons.specs.Beside.{KeepsSides, LeavesOthers};
 ghost use Rattle.commons.specs.Lists.{hand_of, holds_of, side_of};

@@ -17,24 +17,33 @@ use Rattle.mbuf.specs.Sharing.{Clones, NotClonable, WasGivenUp, WasCloned, clona
 use Rattle.mbuf.proofs.FreeLemmas.{stood_there}
 use Rattle.mbuf.proofs.OwnLemmas.{free_slot-is}
 
+-- a slot that shows a packet shows something
 some_there : (slot : Option (List Seg)) (segs : List Seg) → slot ≡ Some segs → IsSome slot
 some_there slot segs e = subst (λ (o : Option (List Seg)). IsSome o) (sym e) refl
 
 -- the slot of a clone is free
-pub clonable_free : (source : Option (List Seg)) (free : Option ℕ) (segs : List Seg) (slot : ℕ) → clonable source free ≡ Ok (segs, slot) → free ≡ Some slot
+pub clonable_free : (source : Option (List Seg)) (free : Option ℕ) (segs : List Seg) (slot : ℕ) →
+    clonable source free ≡ Ok (segs, slot) → free ≡ Some slot
 clonable_free None free segs slot e = absurd cc
 clonable_free (Some x) None segs slot e = absurd cc
 clonable_free (Some x) (Some s) segs slot e = ap (λ (p : List Seg × ℕ). Some p.1) (ok-is (x, s) (segs, slot) e)
 
-pub allocated_there : (m after : Member) (calls : List Call) (slot : ℕ) → Allocs m calls (Ok slot) after → IsSome (get_or after.table slot None)
+-- an alloc fills the slot that it answers
+pub allocated_there : (m after : Member) (calls : List Call) (slot : ℕ) →
+    Allocs m calls (Ok slot) after → IsSome (get_or after.table slot None)
 allocated_there m after calls slot (Full f c a k) = absurd cc
 allocated_there m after calls slot (NotGot s f cause g a k) = absurd cc
 allocated_there m after calls slot (Fresh s e f got left g c a k) =
     let same : slot ≡ s = cc in
     some_there (get_or after.table slot None) (fresh_seg m.limits e ∷ [])
-    (ap (λ (x : Member). get_or x.table slot None) k ∙ rw same (get_or-set_same m.table s (Some (fresh_seg m.limits e ∷ [])) None (free_slot-is m.table s f).0))
+    (ap (λ (x : Member). get_or x.table slot None) k
+    ∙ rw same (get_or-set_same m.table s (Some (fresh_seg m.limits e ∷ [])) None
+    (free_slot-is m.table s f).0))
 
-pub bulk_there : (m after : Member) (n : ℕ) (calls : List Call) (slots : List ℕ) → AllocsBulk m n calls (Ok slots) after → All (λ slot. IsSome (get_or after.table slot None)) slots
+-- a bulk fills each slot that it answers
+pub bulk_there : (m after : Member) (n : ℕ) (calls : List Call) (slots : List ℕ) →
+    AllocsBulk m n calls (Ok slots) after →
+    All (λ slot. IsSome (get_or after.table slot None)) slots
 bulk_there m after n calls slots (TooFull f c a k) = absurd cc
 bulk_there m after n calls slots (BulkNotGot f cause g a k) = absurd cc
 bulk_there m after n calls slots (FreshBulk es long room got left g c a k) =
@@ -49,22 +58,27 @@ pub list_is : {A : Type 0} (list : ArrayVec A) (items : List A) → list.items �
 list_is list items e = rw (← e) refl
 
 -- a clone is there
-pub cloned_there : (m after : Member) (p : ℕ) (calls : List Call) (slot : ℕ) → Clones m p calls (Ok slot) after → IsSome (get_or after.table slot None)
+pub cloned_there : (m after : Member) (p : ℕ) (calls : List Call) (slot : ℕ) →
+    Clones m p calls (Ok slot) after → IsSome (get_or after.table slot None)
 cloned_there m after p calls slot (NotClonable cause f c a k) = absurd cc
 cloned_there m after p calls slot (WasGivenUp segs s f cause left g a k) = absurd cc
 cloned_there m after p calls slot (WasCloned segs s f new left g a k) =
     let same : slot ≡ s = cc in
     some_there (get_or after.table slot None) new
-    (ap (λ (x : Member). get_or x.table slot None) k ∙ rw same (get_or-set_same m.table s (Some new) None (free_slot-is m.table s (clonable_free (get_or m.table p None) (free_slot m.table) segs s f)).0))
+    (ap (λ (x : Member). get_or x.table slot None) k
+    ∙ rw same (get_or-set_same m.table s (Some new) None (free_slot-is m.table s
+    (clonable_free (get_or m.table p None) (free_slot m.table) segs s f)).0))
 
 -- a packet that was taken is there
-pub taken_there : (m after : Member) (desk : ℕ) (calls : List Call) (slot : ℕ) → Takes m desk calls (Ok slot) after → IsSome (get_or after.table slot None)
+pub taken_there : (m after : Member) (desk : ℕ) (calls : List Call) (slot : ℕ) →
+    Takes m desk calls (Ok slot) after → IsSome (get_or after.table slot None)
 taken_there m after desk calls slot (NoDesk h c a k) = absurd cc
 taken_there m after desk calls slot (NoSlot h f c a k) = absurd cc
 taken_there m after desk calls slot (NotTaken h s f cause c a k) = absurd cc
 taken_there m after desk calls slot (WasTaken h s f segs c a k) =
     let same : slot ≡ s = cc in
-    some_there (get_or after.table slot None) segs (ap (λ (x : Member). get_or x.table slot None) k ∙ rw same (get_or-set_same m.table s (Some segs) None (free_slot-is m.table s f).0))
+    some_there (get_or after.table slot None) segs (ap (λ (x : Member). get_or x.table slot None) k
+    ∙ rw same (get_or-set_same m.table s (Some segs) None (free_slot-is m.table s f).0))
 
 -- an answer with room for any bulk is what it is as one
 pub as_reply-same : (r : Reply) → as_reply r ≡ r

@@ -10,60 +10,96 @@ use Rattle.std.proofs.lemmas.List.FromFn.{get_or-map-range_with_len, length-map-
 use Rattle.std.proofs.lemmas.List.Sums.{prefix_len_is, sum_by-set}
 use Rattle.mbuf.specs.inside.Bits.{is_set, flags_of, IsLowestBit}
 
+-- a slot's flag is its bit
 pub flag_at : (words : List ℕ) (slot : ℕ) → slot < 256 → get_or (flags_of words) slot false ≡ is_set words slot
 flag_at words slot h = get_or-map-range_with_len (is_set words) 0 256 slot slot false h (omega arith)
 
+-- four words have 256 flags
 pub length-flags : (words : List ℕ) → length (flags_of words) ≡ 256
 length-flags words = length-map-range_with_len (is_set words) 0 256
 
 -- one of the bits of a slot's word changes
-flag_with : (words : List ℕ) (slot word : ℕ) (b : Bool) → length words ≡ 4 → slot < 256 → (bit_at word (slot % 64) == 1) ≡ b →
+flag_with : (words : List ℕ) (slot word : ℕ) (b : Bool) → length words ≡ 4 → slot < 256 →
+    (bit_at word (slot % 64) == 1) ≡ b →
     ((k : ℕ) → k < 64 → k ≢ slot % 64 → bit_at word k ≡ bit_at (get_or words (slot / 64) 0) k) →
     (k : ℕ) → k < 256 → is_set (set words (slot / 64) word) k ≡ get_or (set (flags_of words) slot b) k false
 flag_with words slot word b len below same others k within =
     let row : slot / 64 < length words = omega (arith, len, below) in
     elim (cases_eq k slot) [
-      | inl e ↦ rw (e, get_or-set_same words (slot / 64) word 0 row, get_or-set_same (flags_of words) slot b false (omega (arith, length-flags words, below))) same
+      | inl e ↦
+          rw (
+            e,
+            get_or-set_same words (slot / 64) word 0 row,
+            get_or-set_same (flags_of words) slot b false
+                (omega (arith, length-flags words, below)),
+          ) same
       | inr e ↦ elim (cases_eq (k / 64) (slot / 64)) [
         | inl f ↦
             let apart : k % 64 ≢ slot % 64 = λ g. e (omega (arith, f, g)) in
-            rw (get_or-set_other (flags_of words) slot k b false e, flag_at words k within, f, get_or-set_same words (slot / 64) word 0 row, others (k % 64) (omega arith) apart) refl
-        | inr f ↦ rw (get_or-set_other (flags_of words) slot k b false e, flag_at words k within, get_or-set_other words (slot / 64) (k / 64) word 0 f) refl
+            rw (
+              get_or-set_other (flags_of words) slot k b false e,
+              flag_at words k within,
+              f,
+              get_or-set_same words (slot / 64) word 0 row,
+              others (k % 64) (omega arith) apart,
+            )
+            refl
+        | inr f ↦
+            rw (
+              get_or-set_other (flags_of words) slot k b false e,
+              flag_at words k within,
+              get_or-set_other words (slot / 64) (k / 64) word 0 f,
+            ) refl
       ]
     ]
 
-pub flags-set : (words : List ℕ) (slot word : ℕ) (b : Bool) → length words ≡ 4 → slot < 256 → (bit_at word (slot % 64) == 1) ≡ b →
+-- A word of which one bit changes, and no other, changes the one flag.
+pub flags-set : (words : List ℕ) (slot word : ℕ) (b : Bool) → length words ≡ 4 → slot < 256 →
+    (bit_at word (slot % 64) == 1) ≡ b →
     ((k : ℕ) → k < 64 → k ≢ slot % 64 → bit_at word k ≡ bit_at (get_or words (slot / 64) 0) k) →
     flags_of (set words (slot / 64) word) ≡ set (flags_of words) slot b
 flags-set words slot word b len below same others =
     let new = set words (slot / 64) word in
-    ext_get_or false (flags_of new) (set (flags_of words) slot b) (length-flags new ∙ sym (length-set (flags_of words) slot b ∙ length-flags words))
-    (λ k h. let within : k < 256 = omega (arith, h, length-flags new) in flag_at new k within ∙ flag_with words slot word b len below same others k within)
+    ext_get_or false (flags_of new) (set (flags_of words) slot b)
+    (length-flags new ∙ sym (length-set (flags_of words) slot b ∙ length-flags words))
+    (λ k h. let within : k < 256 =
+    omega (arith, h, length-flags new) in flag_at new k within
+    ∙ flag_with words slot word b len below same others k within)
 
 -- ---- the lowest
 
 -- the place of the first flag that is up
-first_up : (flags : List Bool) (k : ℕ) → k < length flags → get_or flags k false ≡ true → ((i : ℕ) → i < k → get_or flags i false ≡ false) → position (λ free. free) flags ≡ Some k
+first_up : (flags : List Bool) (k : ℕ) → k < length flags → get_or flags k false ≡ true →
+    ((i : ℕ) → i < k → get_or flags i false ≡ false) → position (λ free. free) flags ≡ Some k
 first_up flags k within up down =
     let p : Bool → Bool = λ free. free in
-    let at : position_or_len p flags ≡ k = prefix_len_is not flags k false (omega arith) (λ i l. ap not (down i l)) (λ l. ap not up) in
+    let at : position_or_len p flags ≡ k =
+    prefix_len_is not flags k false (omega arith) (λ i l. ap not (down i l)) (λ l. ap not up) in
     rw at (cond-true (nat_lt k (length flags)) (Some k) None (lt-ltb k (length flags) within))
 
-none_up : (flags : List Bool) → ((i : ℕ) → i < length flags → get_or flags i false ≡ false) → position (λ free. free) flags ≡ None
+-- a search finds nothing where no flag is up
+none_up : (flags : List Bool) → ((i : ℕ) → i < length flags → get_or flags i false ≡ false) →
+    position (λ free. free) flags ≡ None
 none_up flags down =
     let p : Bool → Bool = λ free. free in
-    let at : position_or_len p flags ≡ length flags = prefix_len_is not flags (length flags) false (omega arith) (λ i l. ap not (down i l)) (λ l. absurd (omega arith)) in
-    rw at (cond-false (nat_lt (length flags) (length flags)) (Some (length flags)) None (le-ltb (length flags) (length flags) (omega arith)))
+    let at : position_or_len p flags ≡ length flags =
+    prefix_len_is not flags (length flags) false (omega arith) (λ i l. ap not (down i l))
+    (λ l. absurd (omega arith)) in
+    rw at (cond-false (nat_lt (length flags) (length flags)) (Some (length flags)) None
+    (le-ltb (length flags) (length flags) (omega arith)))
 
 -- a word's lowest bit is the lowest free slot, where the words before it have none
-pub lowest_is : (words : List ℕ) (index bit : ℕ) → length words ≡ 4 → index < 4 → ((j : ℕ) → j < index → get_or words j 0 ≡ 0) →
+pub lowest_is : (words : List ℕ) (index bit : ℕ) → length words ≡ 4 → index < 4 →
+    ((j : ℕ) → j < index → get_or words j 0 ≡ 0) →
     IsLowestBit (get_or words index 0) bit → position (λ free. free) (flags_of words) ≡ Some (64 * index + bit)
 lowest_is words index bit len within before lowest =
     let low : bit < 64 = lowest.within in
     let slot = 64 * index + bit in
     let row : slot / 64 ≡ index = omega (arith, low) in
     let column : slot % 64 ≡ bit = omega (arith, low) in
-    first_up (flags_of words) slot (omega (arith, length-flags words, low)) (flag_at words slot (omega (arith, low)) ∙ rw (row, column) (eq-eqb (bit_at (get_or words index 0) bit) 1 lowest.up))
+    first_up (flags_of words) slot (omega (arith, length-flags words, low))
+    (flag_at words slot (omega (arith, low))
+    ∙ rw (row, column) (eq-eqb (bit_at (get_or words index 0) bit) 1 lowest.up))
     (λ i l. flag_at words i (omega (arith, low)) ∙ elim (cases_lt (i / 64) index) [
       | inl b ↦ rw (before (i / 64) b) (ap (λ (n : ℕ). n == 1) (bit_at-zero (i % 64)))
       | inr b ↦
@@ -72,7 +108,8 @@ lowest_is words index bit len within before lowest =
     ])
 
 -- where no word has a bit, no slot is free
-pub none_is : (words : List ℕ) → length words ≡ 4 → ((j : ℕ) → j < 4 → get_or words j 0 ≡ 0) → position (λ free. free) (flags_of words) ≡ None
+pub none_is : (words : List ℕ) → length words ≡ 4 → ((j : ℕ) → j < 4 → get_or words j 0 ≡ 0) →
+    position (λ free. free) (flags_of words) ≡ None
 none_is words len zeros =
     none_up (flags_of words) (λ i l.
     let within : i < 256 = omega (arith, l, length-flags words) in
@@ -81,16 +118,19 @@ none_is words len zeros =
 -- ---- how many
 
 -- a flag that goes up counts
-pub counted_up : (flags : List Bool) (k : ℕ) → k < length flags → get_or flags k false ≡ false → count_by (λ free. free) (set flags k true) ≡ count_by (λ free. free) flags + 1
+pub counted_up : (flags : List Bool) (k : ℕ) → k < length flags → get_or flags k false ≡ false →
+    count_by (λ free. free) (set flags k true) ≡ count_by (λ free. free) flags + 1
 counted_up flags k within down =
     let all = sum_by-set (λ (free : Bool). cond free 1 0) flags k true false within in
     omega (arith, rw down at all)
 
 -- one that goes down doesn't any more
-pub counted_down : (flags : List Bool) (k : ℕ) → k < length flags → get_or flags k false ≡ true → count_by (λ free. free) (set flags k false) + 1 ≡ count_by (λ free. free) flags
+pub counted_down : (flags : List Bool) (k : ℕ) → k < length flags → get_or flags k false ≡ true →
+    count_by (λ free. free) (set flags k false) + 1 ≡ count_by (λ free. free) flags
 counted_down flags k within up =
     let all = sum_by-set (λ (free : Bool). cond free 1 0) flags k false false within in
     omega (arith, rw up at all)
 
+-- a number less 1 is the number that it follows
 pub one_fewer : (a b c : ℕ) → a ≡ b → c + 1 ≡ b → a - 1 ≡ c
 one_fewer a b c e h = omega (arith, e, h)

@@ -7,7 +7,7 @@ use Rattle.commons.specs.Bag.{bag, one}
 use Rattle.commons.specs.declared.limits.Limits.{Limits}
 use Rattle.commons.specs.declared.packet.Seg.{Seg}
 use Rattle.commons.specs.declared.refusal.Refusal.{Refusal}
-use Rattle.commons.specs.Calls.{Reading, Call, Made, Side, calls_of, Leads}
+use Rattle.commons.specs.Calls.{Reading, Call, Side, calls_of, Calls}
 use Rattle.commons.proofs.Bags.{bag-cons, bag-append, bag-head, bag-single}
 use Rattle.commons.proofs.Leading.{calls_of-append, Leads-append}
 use Rattle.commons.proofs.Places.{one-apart, apart_or_same}
@@ -18,11 +18,15 @@ use Rattle.mbuf.specs.declared.freed.Freed.{Freed}
 use Rattle.mbuf.proofs.EndLemmas.{Ended}
 
 -- what one segment more holds
-pub holds-more : (segs : List Seg) (seg : Seg) → holds_of_packet (segs ++ seg ∷ []) ≡ holds_of_packet segs ++ holds_of_seg seg
-holds-more segs seg = flat_map-append holds_of_seg segs (seg ∷ []) ∙ ap (λ (es : List ℕ). holds_of_packet segs ++ es) (append-nil (holds_of_seg seg))
+pub holds-more : (segs : List Seg) (seg : Seg) →
+    holds_of_packet (segs ++ seg ∷ []) ≡ holds_of_packet segs ++ holds_of_seg seg
+holds-more segs seg =
+    flat_map-append holds_of_seg segs (seg ∷ [])
+    ∙ ap (λ (es : List ℕ). holds_of_packet segs ++ es) (append-nil (holds_of_seg seg))
 
 -- a clone holds the buffer of the segment and its own element
-pub attached_holds : (e : ℕ) (seg new : Seg) (i : ℕ) → new ≡ attached e seg → bag (holds_of_seg new) i ≡ one (buffer_of seg) i + one e i
+pub attached_holds : (e : ℕ) (seg new : Seg) (i : ℕ) → new ≡ attached e seg →
+    bag (holds_of_seg new) i ≡ one (buffer_of seg) i + one e i
 attached_holds e seg new i is = rw is (omega (arith, bag-cons (buffer_of seg) (e ∷ []) i, bag-single e i))
 
 -- only the one element is in the bag of one
@@ -42,32 +46,63 @@ unheld hand held apart h = elim (cases_lt 0 held) [
 -- ---- the segments so far
 
 -- calls were made by which these segments were cloned
-abbrev pub ClonedSo : {S : Type 0} (did : S → Call → List Reading → S → Type 0) (side : S → Side) (s t : S) → Limits → List Seg → List ℕ → List Seg → List ℕ → Type 0
-ClonedSo did side s t l segs cache new left = (made : List Made) × Leads did side s made t × ClonesSegs l segs cache (calls_of made) new left
+abbrev pub ClonedSo : {S : Type 0} (did : S → Call → List Reading → S → Type 0) (side : S → Side)
+    (s t : S) → Limits → List Seg → List ℕ → List Seg → List ℕ → Type 0
+ClonedSo did side s t l segs cache new left = Calls did side s t (λ calls. ClonesSegs l segs cache calls new left)
 
-ClonesSegs-append : (l : Limits) (segs : List Seg) (seg : Seg) (cache : List ℕ) (a : List Call) (new : List Seg) (between : List ℕ) (b : List Call) (one : Seg) (left : List ℕ) →
-    ClonesSegs l segs cache a new between → ClonesSeg l seg between b one left → ClonesSegs l (segs ++ seg ∷ []) cache (a ++ b) (new ++ one ∷ []) left
-ClonesSegs-append l [] seg cache a new between b one left h k =
-    (b, [], left, one, [], ap (λ (calls : List Call). calls ++ b) h.0 ∙ sym (append-nil b), ap (λ (segs : List Seg). segs ++ one ∷ []) h.1, subst (λ (c : List ℕ). ClonesSeg l seg c b one left) h.2 k, (refl, refl, refl))
-ClonesSegs-append l (first ∷ segs) seg cache a new between b one left h k =
-    (h.0, h.1 ++ b, h.2, h.3, h.4 ++ one ∷ [], ap (λ (calls : List Call). calls ++ b) h.5 ∙ append_assoc h.0 h.1 b, ap (λ (s : List Seg). s ++ one ∷ []) h.6, h.7, ClonesSegs-append l segs seg h.2 h.1 h.4 between b one left h.8 k)
+-- segments that are cloned, and then one more
+ClonesSegs-append : (l : Limits) (segs : List Seg) (seg : Seg) (cache : List ℕ) (a : List Call)
+    (new : List Seg) (between : List ℕ) (b : List Call) (one : Seg) (left : List ℕ) →
+    ClonesSegs l segs cache a new between → ClonesSeg l seg between b one left →
+    ClonesSegs l (segs ++ seg ∷ []) cache (a ++ b) (new ++ one ∷ []) left
+ClonesSegs-append l [] seg cache a new between b one left h k = (
+  b,
+  [],
+  left,
+  one,
+  [],
+  ap (λ (calls : List Call). calls ++ b) h.0
+      ∙ sym (append-nil b),
+  ap (λ (segs : List Seg). segs ++ one ∷ []) h.1,
+  subst (λ (c : List ℕ). ClonesSeg l seg c b one left) h.2 k,
+  (refl, refl, refl),
+)
+ClonesSegs-append l (first ∷ segs) seg cache a new between b one left h k = (
+  h.0,
+  h.1 ++ b,
+  h.2,
+  h.3,
+  h.4 ++ one ∷ [],
+  ap (λ (calls : List Call). calls ++ b) h.5
+      ∙ append_assoc h.0 h.1 b,
+  ap (λ (s : List Seg). s ++ one ∷ []) h.6,
+  h.7,
+  ClonesSegs-append l segs seg h.2 h.1 h.4 between b one left h.8 k,
+)
 
 -- one segment more
-pub cloned_more : {S : Type 0} (did : S → Call → List Reading → S → Type 0) (side : S → Side) (s t u : S) (l : Limits) (segs : List Seg) (seg : Seg) (cache : List ℕ) (new : List Seg) (one : Seg) (between left : List ℕ) →
-    ClonedSo did side s t l segs cache new between → ((made : List Made) × Leads did side t made u × ClonesSeg l seg between (calls_of made) one left) → ClonedSo did side s u l (segs ++ seg ∷ []) cache (new ++ one ∷ []) left
+pub cloned_more : {S : Type 0} (did : S → Call → List Reading → S → Type 0) (side : S → Side)
+    (s t u : S) (l : Limits) (segs : List Seg) (seg : Seg) (cache : List ℕ) (new : List Seg)
+    (one : Seg) (between left : List ℕ) →
+    ClonedSo did side s t l segs cache new between →
+    Calls did side t u (λ calls. ClonesSeg l seg between calls one left) →
+    ClonedSo did side s u l (segs ++ seg ∷ []) cache (new ++ one ∷ []) left
 cloned_more did side s t u l segs seg cache new one between left h k = (
   h.0 ++ k.0,
   Leads-append did side h.0 k.0 s t u h.1 k.1,
-  subst (λ (calls : List Call). ClonesSegs l (segs ++ seg ∷ []) cache calls (new ++ one ∷ []) left) (sym (calls_of-append h.0 k.0))
+  subst (λ (calls : List Call). ClonesSegs l (segs ++ seg ∷ []) cache calls (new ++ one ∷ []) left)
+      (sym (calls_of-append h.0 k.0))
       (ClonesSegs-append l segs seg cache (calls_of h.0) new between (calls_of k.0) one left h.2 k.2),
 )
 
 -- a segment that isn't cloned, after others that were, and the end of what was held for them
-pub given_up : {S : Type 0} (did : S → Call → List Reading → S → Type 0) (side : S → Side) (s t u v : S) (l : Limits) (segs : List Seg) (k : ℕ) (d : Seg) (cache : List ℕ) (new : List Seg) (kept : List ℕ) (cause : Refusal) (over : Option ℕ) (stopped left : List ℕ) (done : Freed) →
+pub given_up : {S : Type 0} (did : S → Call → List Reading → S → Type 0) (side : S → Side)
+    (s t u v : S) (l : Limits) (segs : List Seg) (k : ℕ) (d : Seg) (cache : List ℕ) (new : List Seg)
+    (kept : List ℕ) (cause : Refusal) (over : Option ℕ) (stopped left : List ℕ) (done : Freed) →
     k < length segs → ClonedSo did side s t l (take k segs) cache new kept →
-    ((made : List Made) × Leads did side t made u × StopsCloning l (get_or segs k d) kept (calls_of made) cause over stopped) →
+    Calls did side t u (λ calls. StopsCloning l (get_or segs k d) kept calls cause over stopped) →
     Ended did side u v l (holds_of_packet new ++ hold_of over) stopped freed_nothing left done →
-    (made : List Made) × Leads did side s made v × GivesUp l segs cache (calls_of made) cause left
+    Calls did side s v (λ calls. GivesUp l segs cache calls cause left)
 given_up did side s t u v l segs k d cache new kept cause over stopped left done within a b e = (
   a.0 ++ b.0 ++ e.0,
   Leads-append did side (a.0 ++ b.0) e.0 s u v (Leads-append did side a.0 b.0 s t u a.1 b.1) e.1,
@@ -79,7 +114,9 @@ given_up did side s t u v l segs k d cache new kept cause over stopped left done
     so_far = calls_of a.0;
     stop = calls_of b.0;
     ends = calls_of e.0;
-    called = calls_of-append (a.0 ++ b.0) e.0 ∙ ap (λ (calls : List Call). calls ++ calls_of e.0) (calls_of-append a.0 b.0);
+    called =
+        calls_of-append (a.0 ++ b.0) e.0
+        ∙ ap (λ (calls : List Call). calls ++ calls_of e.0) (calls_of-append a.0 b.0);
     new = new;
     kept = kept;
     clones = a.2;
@@ -96,14 +133,26 @@ seg_held : (base : Option ℕ) (seg : Seg) → seg.base ≡ base → 0 < bag (ho
 seg_held None seg e = rw e (bag-head seg.elem [])
 seg_held (Some b) seg e = rw e (bag-head b (seg.elem ∷ []))
 
-pub buffer_held : (segs : List Seg) (k : ℕ) (d : Seg) → k < length segs → 0 < bag (holds_of_packet segs) (buffer_of (get_or segs k d))
+-- A packet holds the buffer of each of its segments, the base's or the segment's own.
+pub buffer_held : (segs : List Seg) (k : ℕ) (d : Seg) → k < length segs →
+    0 < bag (holds_of_packet segs) (buffer_of (get_or segs k d))
 buffer_held [] k d within = absurd (omega (arith, within))
-buffer_held (seg ∷ segs) zero d within = omega (arith, seg_held seg.base seg refl, bag-append (holds_of_seg seg) (holds_of_packet segs) (buffer_of seg))
+buffer_held (seg ∷ segs) zero d within =
+    omega (
+      arith,
+      seg_held seg.base seg refl,
+      bag-append (holds_of_seg seg) (holds_of_packet segs) (buffer_of seg),
+    )
 buffer_held (seg ∷ segs) (suc k) d within =
-    omega (arith, buffer_held segs k d (omega (arith, within)), bag-append (holds_of_seg seg) (holds_of_packet segs) (buffer_of (get_or segs k d)))
+    omega (
+      arith,
+      buffer_held segs k d (omega (arith, within)),
+      bag-append (holds_of_seg seg) (holds_of_packet segs) (buffer_of (get_or segs k d)),
+    )
 
 -- where nothing is held in the end that wasn't held before, the headers are as before
-pub same_headers : (h0 h1 h2 o0 o2 add : ℕ) → o2 ≡ o0 → h1 ≡ h0 + add → (0 < add → o0 ≡ 0) → (0 < o2 → h2 ≡ h1) → (0 < h2 → 0 < o2) → (0 < h0 → 0 < o0) → h2 ≡ h0
+pub same_headers : (h0 h1 h2 o0 o2 add : ℕ) → o2 ≡ o0 → h1 ≡ h0 + add → (0 < add → o0 ≡ 0) →
+    (0 < o2 → h2 ≡ h1) → (0 < h2 → 0 < o2) → (0 < h0 → 0 < o0) → h2 ≡ h0
 same_headers h0 h1 h2 o0 o2 add same more unheld kept held held0 = elim (cases_lt 0 o0) [
   | inl some ↦ elim (cases_lt 0 add) [
     | inl here ↦ absurd (omega (arith, unheld here, some))
@@ -118,6 +167,7 @@ same_headers h0 h1 h2 o0 o2 add same more unheld kept held held0 = elim (cases_l
   ]
 ]
 
+-- The front of k segments is k long, where there are k.
 taken : (k : ℕ) (segs : List Seg) → (0 < k → length segs ≡ k) → length (take k segs) ≡ k
 taken zero segs all = refl
 taken (suc k) segs all = omega (arith, length-take (suc k) segs, all (omega arith))
@@ -128,18 +178,26 @@ pub record Follows (old cur : List (List Seg)) (slot k : ℕ) (seg : Seg) (now :
   pub packets : set cur slot now ≡ set old slot (get_or (set cur slot now) slot [])
   pub long : length (get_or (set cur slot now) slot []) ≡ k + 1
 
-pub followed : (old cur : List (List Seg)) (slot k : ℕ) (seg : Seg) (lent now : List Seg) → slot < length old → cur ≡ set old slot (get_or cur slot []) → (0 < k → length (get_or cur slot []) ≡ k) →
+-- A segment that is laid behind the first k leaves those, and makes them one more.
+pub followed : (old cur : List (List Seg)) (slot k : ℕ) (seg : Seg) (lent now : List Seg) →
+    slot < length old → cur ≡ set old slot (get_or cur slot []) →
+    (0 < k → length (get_or cur slot []) ≡ k) →
     lent ≡ get_or cur slot lent → now ≡ take k lent ++ seg ∷ [] → Follows old cur slot k seg now
 followed old cur slot k seg lent now within so all at is =
     let p = get_or cur slot [] in
-    let bound : slot < length cur = omega (arith, within, ap (λ (x : List (List Seg)). length x) so, length-set old slot p) in
+    let bound : slot < length cur =
+    omega (arith, within, ap (λ (x : List (List Seg)). length x) so, length-set old slot p) in
     let lent_is : lent ≡ p = at ∙ get_or_default cur slot lent [] bound in
     let now_is : now ≡ take k p ++ seg ∷ [] = is ∙ ap (λ (x : List Seg). take k x ++ seg ∷ []) lent_is in
     let first : length (take k p) ≡ k = taken k p all in
-    let long : length now ≡ k + 1 = ap (λ (x : List Seg). length x) now_is ∙ omega (arith, first, length-append (take k p) (seg ∷ [])) in
+    let long : length now ≡ k + 1 =
+    ap (λ (x : List Seg). length x) now_is
+    ∙ omega (arith, first, length-append (take k p) (seg ∷ [])) in
     let here : get_or (set cur slot now) slot [] ≡ now = get_or-set_same cur slot now [] bound in
     record {
       so_far = ap (λ (x : List Seg). take (k + 1) x) here ∙ take_all (k + 1) now (omega (arith, long)) ∙ now_is;
-      packets = ap (λ (x : List (List Seg)). set x slot now) so ∙ set-set old slot p now ∙ ap (λ (x : List Seg). set old slot x) (sym here);
+      packets =
+          ap (λ (x : List (List Seg)). set x slot now) so ∙ set-set old slot p now
+          ∙ ap (λ (x : List Seg). set old slot x) (sym here);
       long = ap (λ (x : List Seg). length x) here ∙ long;
     }

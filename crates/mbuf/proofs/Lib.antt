@@ -10,6 +10,9 @@ pub mod ListLemmas
 pub mod MemberLemmas
 pub mod OwnLemmas
 pub mod PacketCases
+pub mod PlaceLemmas
+pub mod RefusedLemmas
 pub mod ResizeLemmas
 pub mod SharingLemmas
+pub mod SlotLemmas
 pub mod TableLemmas

@@ -13,16 +13,20 @@ use Rattle.commons.proofs.PacketBags.{held_in-empty, held_in-set, own_in-empty, 
 use Rattle.mbuf.specs.Own.{Own}
 use Rattle.mbuf.specs.PacketRules.{free_slot}
 
+-- a slot that tests as empty shows nothing
 none_is : (o : Option (List Seg)) → is_none o ≡ true → o ≡ None
 none_is None e = refl
 none_is (Some segs) e = absurd cc
 
 -- a free slot is in the table, and nothing is in it
-pub free_slot-is : (table : List (Option (List Seg))) (slot : ℕ) → free_slot table ≡ Some slot → (slot < length table) × (get_or table slot None ≡ None)
-free_slot-is table slot e = let h = position-Some is_none table slot None e in (h.0, none_is (get_or table slot None) h.1)
+pub free_slot-is : (table : List (Option (List Seg))) (slot : ℕ) → free_slot table ≡ Some slot →
+    (slot < length table) × (get_or table slot None ≡ None)
+free_slot-is table slot e =
+    let h = position-Some is_none table slot None e in (h.0, none_is (get_or table slot None) h.1)
 
 -- what is still an own element is still held, and so a header as before
-pub own_headed : (own before held holds d1 d0 : ℕ) → own ≤ before → before ≤ d0 → own ≤ held → holds ≡ held → (0 < holds → d1 ≡ d0) → own ≤ d1
+pub own_headed : (own before held holds d1 d0 : ℕ) → own ≤ before → before ≤ d0 → own ≤ held →
+    holds ≡ held → (0 < holds → d1 ≡ d0) → own ≤ d1
 own_headed own before held holds d1 d0 a b c e f = elim (cases_lt 0 holds) [
   | inl some ↦ omega (arith, a, b, f some)
   | inr none ↦ omega (arith, c, e, none)
@@ -50,17 +54,23 @@ own_same m s t own same = record {
 -- a packet's holds have ended, and its slot is free
 pub own_free : (m : Member) (s0 s1 : Side) (cache : List ℕ) (slot : ℕ) (segs : List Seg) →
     Own m s0 → s1.limits ≡ s0.limits → slot < length m.table → get_or m.table slot None ≡ Some segs →
-    ((i : ℕ) → s1.hand i ≡ bag cache i) → ((i : ℕ) → s0.holds i ≡ s1.holds i + bag (holds_of_packet segs) i) → ((i : ℕ) → 0 < s1.holds i → s1.headers i ≡ s0.headers i) →
+    ((i : ℕ) → s1.hand i ≡ bag cache i) →
+    ((i : ℕ) → s0.holds i ≡ s1.holds i + bag (holds_of_packet segs) i) →
+    ((i : ℕ) → 0 < s1.holds i → s1.headers i ≡ s0.headers i) →
     Own (record m { cache = cache; table = set m.table slot None }) s1
 own_free m s0 s1 cache slot segs own same within there hand holds headers =
     let left : (i : ℕ) → s1.holds i ≡ held_in (set m.table slot None) i = λ i.
     let t = rw there at (held_in-set m.table slot None i within) in
     omega (arith, holds i, own.held i, t, bag-nil i) in
-    let fewer : (i : ℕ) → own_in (set m.table slot None) i ≤ own_in m.table i = λ i. omega (arith, own_in-set m.table slot None i within, bag-nil i) in
+    let fewer : (i : ℕ) → own_in (set m.table slot None) i ≤ own_in m.table i =
+    λ i. omega (arith, own_in-set m.table slot None i within, bag-nil i) in
     record {
       limits = own.limits ∙ sym same;
       cached = hand;
       held = left;
-      headed = λ i. own_headed (own_in (set m.table slot None) i) (own_in m.table i) (held_in (set m.table slot None) i) (s1.holds i) (s1.headers i) (s0.headers i)
+      headed =
+          λ i.
+          own_headed (own_in (set m.table slot None) i) (own_in m.table i)
+          (held_in (set m.table slot None) i) (s1.holds i) (s1.headers i) (s0.headers i)
           (fewer i) (own.headed i) (own_in-held (set m.table slot None) i) (left i) (headers i);
     }

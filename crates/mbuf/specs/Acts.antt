@@ -91,7 +91,8 @@ attached (Err cause) = reply.Refused cause
 
 -- the reply to a clone, by its answer and the table afterwards
 abbrev pub cloned : Result ℕ Refusal → List (Option (List Seg)) → Reply
-cloned (Ok slot) table = reply.Cloned slot (record { items = own_in_slot (slice_index_or table slot None) })
+cloned (Ok slot) table =
+    reply.Cloned slot (record { items = own_in_slot (slice_index_or table slot None) })
 cloned (Err cause) table = reply.Refused cause
 
 abbrev pub offered : Result (Unit {0}) Refusal → Reply
@@ -115,20 +116,46 @@ told_count (Err cause) = reply.Refused cause
 -- what an act does: the calls that are made on the shared pool with their answers, the reply, and what the worker
 -- has afterwards
 abbrev pub Performs : Act → Member → List Call → Reply → Member → Type 0
-Performs act.Alloc m calls r after = (answer : Result ℕ Refusal) × Allocs m calls answer after × (r ≡ allocated answer after.table)
-Performs (act.AllocBulk n) m calls r after = (answer : Result (List ℕ) Refusal) × AllocsBulk m n calls answer after × (r ≡ allocated_bulk answer after.table)
-Performs (act.Free p) m calls r after = (answer : Result Freed Refusal) × Frees m p calls answer after × (r ≡ freed answer)
-Performs (act.Append p n) m calls r after = (answer : Result ℕ Refusal) × Resizes (appended n) NoRoom m p answer after × (calls ≡ []) × (r ≡ told_len answer)
-Performs (act.Prepend p n) m calls r after = (answer : Result ℕ Refusal) × Resizes (prepended n) NoRoom m p answer after × (calls ≡ []) × (r ≡ told_len answer)
-Performs (act.Adj p n) m calls r after = (answer : Result ℕ Refusal) × Resizes (adjusted n) TooShort m p answer after × (calls ≡ []) × (r ≡ told_len answer)
-Performs (act.Trim p n) m calls r after = (answer : Result ℕ Refusal) × Resizes (trimmed n) TooShort m p answer after × (calls ≡ []) × (r ≡ told_len answer)
-Performs (act.Chain head tail) m calls r after = (answer : Result (Unit {0}) Refusal) × Chains m head tail answer after × (calls ≡ []) × (r ≡ chained answer (slice_index_or after.table head None))
-Performs (act.Attach mi target) m calls r after = (answer : Result (Unit {0}) Refusal) × Attaches m mi target calls answer after × (r ≡ attached answer)
-Performs (act.Detach p) m calls r after = (answer : Result Freed Refusal) × Detaches m p calls answer after × (r ≡ freed answer)
-Performs (act.ClonePacket p) m calls r after = (answer : Result ℕ Refusal) × Clones m p calls answer after × (r ≡ cloned answer after.table)
-Performs (act.Offer p desk) m calls r after = (answer : Result (Unit {0}) Refusal) × Offers m p desk calls answer after × (r ≡ offered answer)
-Performs (act.Take desk) m calls r after = (answer : Result ℕ Refusal) × Takes m desk calls answer after × (r ≡ taken answer after.table)
-Performs (act.CountOf p) m calls r after = (answer : Result ℕ Refusal) × CountsOf (slice_index_or m.table p None) calls answer × (after ≡ m) × (r ≡ told_count answer)
-Performs (act.PktLen p) m calls r after = (after ≡ m) × (calls ≡ []) × (r ≡ told_len (of_packet pkt_len (slice_index_or m.table p None)))
-Performs (act.NbSegs p) m calls r after = (after ≡ m) × (calls ≡ []) × (r ≡ told_segs (of_packet length (slice_index_or m.table p None)))
-Performs act.Flush m calls r after = (put : Put) × Flushes m.cache calls put after.cache × (after ≡ record m { cache = after.cache }) × (r ≡ reply.Put put)
+Performs act.Alloc m calls r after =
+    (answer : Result ℕ Refusal) × Allocs m calls answer after × (r ≡ allocated answer after.table)
+Performs (act.AllocBulk n) m calls r after =
+    (answer : Result (List ℕ) Refusal) × AllocsBulk m n calls answer after
+    × (r ≡ allocated_bulk answer after.table)
+Performs (act.Free p) m calls r after =
+    (answer : Result Freed Refusal) × Frees m p calls answer after × (r ≡ freed answer)
+Performs (act.Append p n) m calls r after =
+    (answer : Result ℕ Refusal) × Resizes (appended n) NoRoom m p answer after × (calls ≡ [])
+    × (r ≡ told_len answer)
+Performs (act.Prepend p n) m calls r after =
+    (answer : Result ℕ Refusal) × Resizes (prepended n) NoRoom m p answer after × (calls ≡ [])
+    × (r ≡ told_len answer)
+Performs (act.Adj p n) m calls r after =
+    (answer : Result ℕ Refusal) × Resizes (adjusted n) TooShort m p answer after × (calls ≡ [])
+    × (r ≡ told_len answer)
+Performs (act.Trim p n) m calls r after =
+    (answer : Result ℕ Refusal) × Resizes (trimmed n) TooShort m p answer after × (calls ≡ [])
+    × (r ≡ told_len answer)
+Performs (act.Chain head tail) m calls r after =
+    (answer : Result (Unit {0}) Refusal) × Chains m head tail answer after × (calls ≡ [])
+    × (r ≡ chained answer (slice_index_or after.table head None))
+Performs (act.Attach mi target) m calls r after =
+    (answer : Result (Unit {0}) Refusal) × Attaches m mi target calls answer after
+    × (r ≡ attached answer)
+Performs (act.Detach p) m calls r after =
+    (answer : Result Freed Refusal) × Detaches m p calls answer after × (r ≡ freed answer)
+Performs (act.ClonePacket p) m calls r after =
+    (answer : Result ℕ Refusal) × Clones m p calls answer after × (r ≡ cloned answer after.table)
+Performs (act.Offer p desk) m calls r after =
+    (answer : Result (Unit {0}) Refusal) × Offers m p desk calls answer after × (r ≡ offered answer)
+Performs (act.Take desk) m calls r after =
+    (answer : Result ℕ Refusal) × Takes m desk calls answer after × (r ≡ taken answer after.table)
+Performs (act.CountOf p) m calls r after =
+    (answer : Result ℕ Refusal) × CountsOf (slice_index_or m.table p None) calls answer
+    × (after ≡ m) × (r ≡ told_count answer)
+Performs (act.PktLen p) m calls r after =
+    (after ≡ m) × (calls ≡ []) × (r ≡ told_len (of_packet pkt_len (slice_index_or m.table p None)))
+Performs (act.NbSegs p) m calls r after =
+    (after ≡ m) × (calls ≡ []) × (r ≡ told_segs (of_packet length (slice_index_or m.table p None)))
+Performs act.Flush m calls r after =
+    (put : Put) × Flushes m.cache calls put after.cache × (after ≡ record m { cache = after.cache })
+    × (r ≡ reply.Put put)

@@ -5,5 +5,7 @@ pub mod Lengths
 pub mod Members
 pub mod Own
 pub mod PacketRules
+pub mod Refused
 pub mod Sharing
+pub mod Slots
 pub mod inside

@@ -45,18 +45,46 @@ attachable (Some segs) None same = Err NoSuchPacket
 attachable (Some segs) (Some target) same = if same then Err SamePacket else if_alone segs target
 
 abbrev pub pair_in : Member → ℕ → ℕ → Result (ℕ × Seg) Refusal
-pair_in m mi target = attachable (slice_index_or m.table mi None) (slice_index_or m.table target None) (mi == target)
+pair_in m mi target =
+    attachable (slice_index_or m.table mi None) (slice_index_or m.table target None) (mi == target)
 
 -- what an attach of the packet in the slot mi does
-pub data Attaches (m : Member) (mi target : ℕ) (calls : List Call) (answer : Result (Unit {0}) Refusal) (after : Member) : Type 0 where
+pub data Attaches (m : Member) (mi target : ℕ) (calls : List Call)
+    (answer : Result (Unit {0}) Refusal) (after : Member) : Type 0 where
   -- the two can't be attached: nothing is asked for
-  NotAttachable : (cause : Refusal) → pair_in m mi target ≡ Err cause → calls ≡ [] → answer ≡ Err cause → after ≡ m → Attaches m mi target calls answer after
+  NotAttachable :
+      (cause : Refusal) →
+      pair_in m mi target ≡ Err cause →
+      calls ≡ [] →
+      answer ≡ Err cause →
+      after ≡ m →
+      Attaches m mi target calls answer after
   -- the element has other holds
-  HeldElsewhere : (e n : ℕ) (seg : Seg) → pair_in m mi target ≡ Ok (e, seg) → n ≢ 1 → calls ≡ CountOf e n ∷ [] → answer ≡ Err InUse → after ≡ m → Attaches m mi target calls answer after
+  HeldElsewhere :
+      (e n : ℕ) (seg : Seg) →
+      pair_in m mi target ≡ Ok (e, seg) →
+      n ≢ 1 →
+      calls ≡ CountOf e n ∷ [] →
+      answer ≡ Err InUse →
+      after ≡ m →
+      Attaches m mi target calls answer after
   -- the count of the buffer's element isn't raised
-  NotRaised : (e : ℕ) (seg : Seg) → pair_in m mi target ≡ Ok (e, seg) → (cause : Refusal) → calls ≡ CountOf e 1 ∷ Raise (buffer_of seg) (Err cause) ∷ [] → answer ≡ Err cause → after ≡ m → Attaches m mi target calls answer after
+  NotRaised :
+      (e : ℕ) (seg : Seg) →
+      pair_in m mi target ≡ Ok (e, seg) →
+      (cause : Refusal) →
+      calls ≡ CountOf e 1 ∷ Raise (buffer_of seg) (Err cause) ∷ [] →
+      answer ≡ Err cause →
+      after ≡ m →
+      Attaches m mi target calls answer after
   -- it is, and the packet has its buffer and lengths
-  WasAttached : (e : ℕ) (seg : Seg) → pair_in m mi target ≡ Ok (e, seg) → calls ≡ CountOf e 1 ∷ Raise (buffer_of seg) (Ok tt) ∷ [] → answer ≡ Ok tt → after ≡ record m { table = slice_set m.table mi (Some (attached e seg ∷ [])) } → Attaches m mi target calls answer after
+  WasAttached :
+      (e : ℕ) (seg : Seg) →
+      pair_in m mi target ≡ Ok (e, seg) →
+      calls ≡ CountOf e 1 ∷ Raise (buffer_of seg) (Ok tt) ∷ [] →
+      answer ≡ Ok tt →
+      after ≡ record m { table = slice_set m.table mi (Some (attached e seg ∷ [])) } →
+      Attaches m mi target calls answer after
 
 -- ---- detaching
 
@@ -73,16 +101,34 @@ detachable (Some (seg ∷ (other ∷ segs))) = Err TooManySegs
 detachable _ = Err NoSuchPacket
 
 -- what a detach of the packet in a slot does
-pub data Detaches (m : Member) (slot : ℕ) (calls : List Call) (answer : Result Freed Refusal) (after : Member) : Type 0 where
+pub data Detaches (m : Member) (slot : ℕ) (calls : List Call) (answer : Result Freed Refusal)
+    (after : Member) : Type 0 where
   -- it can't be detached: nothing is asked for
-  NotDetachable : (cause : Refusal) → detachable (slice_index_or m.table slot None) ≡ Err cause → calls ≡ [] → answer ≡ Err cause → after ≡ m → Detaches m slot calls answer after
+  NotDetachable :
+      (cause : Refusal) →
+      detachable (slice_index_or m.table slot None) ≡ Err cause →
+      calls ≡ [] →
+      answer ≡ Err cause →
+      after ≡ m →
+      Detaches m slot calls answer after
   -- the hold of its base ends, and it has its own buffer, as a fresh packet has
-  WasDetached : (e base : ℕ) → detachable (slice_index_or m.table slot None) ≡ Ok (e, base) → (left : List ℕ) (done : Freed) → EndsHold m.limits base m.cache freed_nothing calls left done → answer ≡ Ok done → after ≡ record m { cache = left; table = slice_set m.table slot (Some (fresh_seg m.limits e ∷ [])) } → Detaches m slot calls answer after
+  WasDetached :
+      (e base : ℕ) →
+      detachable (slice_index_or m.table slot None) ≡ Ok (e, base) →
+      (left : List ℕ) (done : Freed) →
+      EndsHold m.limits base m.cache freed_nothing calls left done →
+      answer ≡ Ok done →
+      after ≡ record m {
+        cache = left;
+        table = slice_set m.table slot (Some (fresh_seg m.limits e ∷ []));
+      } →
+      Detaches m slot calls answer after
 
 -- ---- cloning
 
 -- a segment is cloned: an element is got by a get of one, claimed, and attached
-pub record ClonesSeg (l : Limits) (seg : Seg) (cache : List ℕ) (calls : List Call) (new : Seg) (left : List ℕ) : Type 0 where
+pub record ClonesSeg (l : Limits) (seg : Seg) (cache : List ℕ) (calls : List Call) (new : Seg)
+    (left : List ℕ) : Type 0 where
   pub elem : ℕ
   pub get : List Call
   pub got : Gets l cache 1 get (Ok (elem ∷ [])) left
@@ -90,21 +136,33 @@ pub record ClonesSeg (l : Limits) (seg : Seg) (cache : List ℕ) (calls : List C
   pub is : new ≡ attached elem seg
 
 -- a segment isn't cloned, for this cause, and perhaps an element is left over that was claimed for it
-pub data StopsCloning (l : Limits) (seg : Seg) (cache : List ℕ) (calls : List Call) (cause : Refusal) (over : Option ℕ) (left : List ℕ) : Type 0 where
+pub data StopsCloning (l : Limits) (seg : Seg) (cache : List ℕ) (calls : List Call)
+    (cause : Refusal) (over : Option ℕ) (left : List ℕ) : Type 0 where
   -- the get is refused
-  NoElement : Gets l cache 1 calls (Err cause) cache → over ≡ None → left ≡ cache → StopsCloning l seg cache calls cause over left
+  NoElement :
+      Gets l cache 1 calls (Err cause) cache →
+      over ≡ None →
+      left ≡ cache →
+      StopsCloning l seg cache calls cause over left
   -- the raise is
-  NoRaise : (elem : ℕ) (get : List Call) → Gets l cache 1 get (Ok (elem ∷ [])) left → calls ≡ get ++ Claim elem ∷ Raise (buffer_of seg) (Err cause) ∷ [] → over ≡ Some elem → StopsCloning l seg cache calls cause over left
+  NoRaise :
+      (elem : ℕ) (get : List Call) →
+      Gets l cache 1 get (Ok (elem ∷ [])) left →
+      calls ≡ get ++ Claim elem ∷ Raise (buffer_of seg) (Err cause) ∷ [] →
+      over ≡ Some elem →
+      StopsCloning l seg cache calls cause over left
 
 -- segments are cloned in order
 abbrev pub ClonesSegs : Limits → List Seg → List ℕ → List Call → List Seg → List ℕ → Type 0
 ClonesSegs l [] cache calls new left = (calls ≡ []) × (new ≡ []) × (left ≡ cache)
 ClonesSegs l (seg ∷ segs) cache calls new left =
-    (first : List Call) × (others : List Call) × (between : List ℕ) × (one : Seg) × (more : List Seg) × (calls ≡ first ++ others) × (new ≡ one ∷ more)
+    (first : List Call) × (others : List Call) × (between : List ℕ) × (one : Seg)
+    × (more : List Seg) × (calls ≡ first ++ others) × (new ≡ one ∷ more)
     × ClonesSeg l seg cache first one between × ClonesSegs l segs between others more left
 
 -- A segment isn't cloned: the holds of the clones so far end in order, and then that of an element that is left over.
-pub record GivesUp (l : Limits) (segs : List Seg) (cache : List ℕ) (calls : List Call) (cause : Refusal) (left : List ℕ) : Type 0 where
+pub record GivesUp (l : Limits) (segs : List Seg) (cache : List ℕ) (calls : List Call)
+    (cause : Refusal) (left : List ℕ) : Type 0 where
   pub cloned : List Seg
   pub seg : Seg
   pub others : List Seg
@@ -129,17 +187,39 @@ clonable (Some segs) None = Err PacketsFull
 clonable (Some segs) (Some slot) = Ok (segs, slot)
 
 -- what a clone of the packet in a slot does
-pub data Clones (m : Member) (source : ℕ) (calls : List Call) (answer : Result ℕ Refusal) (after : Member) : Type 0 where
+pub data Clones (m : Member) (source : ℕ) (calls : List Call) (answer : Result ℕ Refusal)
+    (after : Member) : Type 0 where
   -- there is no packet, or no free slot: nothing is asked for
-  NotClonable : (cause : Refusal) → clonable (slice_index_or m.table source None) (free_slot m.table) ≡ Err cause → calls ≡ [] → answer ≡ Err cause → after ≡ m → Clones m source calls answer after
+  NotClonable :
+      (cause : Refusal) →
+      clonable (slice_index_or m.table source None) (free_slot m.table) ≡ Err cause →
+      calls ≡ [] →
+      answer ≡ Err cause →
+      after ≡ m →
+      Clones m source calls answer after
   -- a get or a raise is refused
-  WasGivenUp : (segs : List Seg) (slot : ℕ) → clonable (slice_index_or m.table source None) (free_slot m.table) ≡ Ok (segs, slot) → (cause : Refusal) (left : List ℕ) → GivesUp m.limits segs m.cache calls cause left → answer ≡ Err cause → after ≡ record m { cache = left } → Clones m source calls answer after
+  WasGivenUp :
+      (segs : List Seg) (slot : ℕ) →
+      clonable (slice_index_or m.table source None) (free_slot m.table) ≡ Ok (segs, slot) →
+      (cause : Refusal) (left : List ℕ) →
+      GivesUp m.limits segs m.cache calls cause left →
+      answer ≡ Err cause →
+      after ≡ record m { cache = left } →
+      Clones m source calls answer after
   -- each segment is cloned, and the clone stands in the lowest free slot
-  WasCloned : (segs : List Seg) (slot : ℕ) → clonable (slice_index_or m.table source None) (free_slot m.table) ≡ Ok (segs, slot) → (new : List Seg) (left : List ℕ) → ClonesSegs m.limits segs m.cache calls new left → answer ≡ Ok slot → after ≡ record m { cache = left; table = slice_set m.table slot (Some new) } → Clones m source calls answer after
+  WasCloned :
+      (segs : List Seg) (slot : ℕ) →
+      clonable (slice_index_or m.table source None) (free_slot m.table) ≡ Ok (segs, slot) →
+      (new : List Seg) (left : List ℕ) →
+      ClonesSegs m.limits segs m.cache calls new left →
+      answer ≡ Ok slot →
+      after ≡ record m { cache = left; table = slice_set m.table slot (Some new) } →
+      Clones m source calls answer after
 
 -- ---- counting
 
 -- what is told of the count of the packet in a slot: what was read of its first segment's element
 abbrev pub CountsOf : Option (List Seg) → List Call → Result ℕ Refusal → Type 0
 CountsOf None calls answer = (calls ≡ []) × (answer ≡ Err NoSuchPacket)
-CountsOf (Some segs) calls answer = (n : ℕ) × (calls ≡ CountOf (first_seg segs).elem n ∷ []) × (answer ≡ Ok n)
+CountsOf (Some segs) calls answer =
+    (n : ℕ) × (calls ≡ CountOf (first_seg segs).elem n ∷ []) × (answer ≡ Ok n)

@@ -1,12 +1,13 @@
 //! What a worker is asked to do with its packets and its cache, and what is replied.
 
 ghost use Rattle.std.specs.Prelude.{◌≡◌, ◌≤◌, [], All, List, IsSome, None, length, map, slice_index_or};
-ghost use Rattle.commons.specs.Calls.{Made, Leads, calls_of};
+ghost use Rattle.commons.specs.Calls.{Calls};
 ghost use Rattle.mbuf.specs.Acts.{HasRoom, Performs, as_reply, chained, first_elem, new_packet, told_len as len_reply, told_taken as taken_reply};
 ghost use Rattle.commons.specs.Packets.{held_in, own_in_slot};
 ghost use Rattle.mbuf.specs.Fresh.{AreFresh, new_elements};
 ghost use Rattle.mbuf.specs.Members.{KeepsMember, slots as slot_count};
 ghost use Rattle.mbuf.specs.Own.{Own};
+ghost use Rattle.mbuf.specs.Refused.{AsBefore, IfRefused};
 
 use crate::freed::Freed;
 use crate::lengths;
@@ -122,9 +123,13 @@ fn told_len<const ROOM: usize>(answer: Result<u32, Refusal>) -> Answer<ROOM>
 #[tactic(auto, using(crate::proofs::FreshLemmas::fresh_none))]
 fn alloc<C: Commons, const ROOM: usize>(packets: &mut Packets, c: &mut C) -> Answer<ROOM>
     requires own { Own packets.old (C.side c.old) }
-    ensures calls { (made : List Made) × Leads C.did C.side c.old made c.new × Performs Act.Alloc packets.old (calls_of made) (as_reply result) packets.new }
-    ensures fresh { AreFresh packets.old.limits.population (held_in packets.old.table) (new_elements (as_reply result)) }
+    ensures calls { Calls C.did C.side c.old c.new (λ calls.
+        Performs Act.Alloc packets.old calls (as_reply result) packets.new) }
+    ensures fresh { AreFresh packets.old.limits.population (held_in packets.old.table)
+        (new_elements (as_reply result)) }
     ensures own { Own packets.new (C.side c.new) }
+    ensures refused { IfRefused (as_reply result)
+        (AsBefore Act.Alloc packets.old (C.side c.old) packets.new (C.side c.new)) }
 {
     match packets.alloc(c) {
         Ok(slot) => Answer::Allocated(slot, elem_in(packets, slot)),
@@ -158,9 +163,14 @@ fn alloc_all<C: Commons, const ROOM: usize>(
     requires own { Own packets.old (C.side c.old) }
     requires few { length slots.old ≤ slot_count }
     requires room { HasRoom ROOM (Act.AllocBulk (length slots.old)) }
-    ensures calls { (made : List Made) × Leads C.did C.side c.old made c.new × Performs (Act.AllocBulk (length slots.old)) packets.old (calls_of made) (as_reply result) packets.new }
-    ensures fresh { AreFresh packets.old.limits.population (held_in packets.old.table) (new_elements (as_reply result)) }
+    ensures calls { Calls C.did C.side c.old c.new (λ calls.
+        Performs (Act.AllocBulk (length slots.old)) packets.old calls (as_reply result) packets.new) }
+    ensures fresh { AreFresh packets.old.limits.population (held_in packets.old.table)
+        (new_elements (as_reply result)) }
     ensures own { Own packets.new (C.side c.new) }
+    ensures refused { IfRefused (as_reply result)
+        (AsBefore (Act.AllocBulk (length slots.old)) packets.old (C.side c.old)
+        packets.new (C.side c.new)) }
 {
     match packets.alloc_bulk(c, slots) {
         Ok(()) => Answer::Bulk(new_packets(packets, slots)),
@@ -177,9 +187,13 @@ fn alloc_bulk<C: Commons, const ROOM: usize>(
 ) -> Answer<ROOM>
     requires room { HasRoom ROOM (Act.AllocBulk count) }
     requires own { Own packets.old (C.side c.old) }
-    ensures calls { (made : List Made) × Leads C.did C.side c.old made c.new × Performs (Act.AllocBulk count) packets.old (calls_of made) (as_reply result) packets.new }
-    ensures fresh { AreFresh packets.old.limits.population (held_in packets.old.table) (new_elements (as_reply result)) }
+    ensures calls { Calls C.did C.side c.old c.new (λ calls.
+        Performs (Act.AllocBulk count) packets.old calls (as_reply result) packets.new) }
+    ensures fresh { AreFresh packets.old.limits.population (held_in packets.old.table)
+        (new_elements (as_reply result)) }
     ensures own { Own packets.new (C.side c.new) }
+    ensures refused { IfRefused (as_reply result)
+        (AsBefore (Act.AllocBulk count) packets.old (C.side c.old) packets.new (C.side c.new)) }
 {
     packets.has_slots();
     if count > SLOTS {
@@ -197,9 +211,12 @@ fn chain<C: Commons, const ROOM: usize>(
     tail: Pid,
 ) -> Answer<ROOM>
     requires own { Own packets.old (C.side c.old) }
-    ensures calls { (made : List Made) × Leads C.did C.side c.old made c.new × Performs (Act.Chain head tail) packets.old (calls_of made) (as_reply result) packets.new }
+    ensures calls { Calls C.did C.side c.old c.new (λ calls.
+        Performs (Act.Chain head tail) packets.old calls (as_reply result) packets.new) }
     ensures none { new_elements (as_reply result) ≡ [] }
     ensures own { Own packets.new (C.side c.new) }
+    ensures refused { IfRefused (as_reply result)
+        (AsBefore (Act.Chain head tail) packets.old (C.side c.old) packets.new (C.side c.new)) }
 {
     if let Err(cause) = packets.chain(c, head, tail) {
         return Answer::Refused(cause);
@@ -230,9 +247,13 @@ fn clone_packet<C: Commons, const ROOM: usize>(
     p: Pid,
 ) -> Answer<ROOM>
     requires own { Own packets.old (C.side c.old) }
-    ensures calls { (made : List Made) × Leads C.did C.side c.old made c.new × Performs (Act.ClonePacket p) packets.old (calls_of made) (as_reply result) packets.new }
-    ensures fresh { AreFresh packets.old.limits.population (held_in packets.old.table) (new_elements (as_reply result)) }
+    ensures calls { Calls C.did C.side c.old c.new (λ calls.
+        Performs (Act.ClonePacket p) packets.old calls (as_reply result) packets.new) }
+    ensures fresh { AreFresh packets.old.limits.population (held_in packets.old.table)
+        (new_elements (as_reply result)) }
     ensures own { Own packets.new (C.side c.new) }
+    ensures refused { IfRefused (as_reply result)
+        (AsBefore (Act.ClonePacket p) packets.old (C.side c.old) packets.new (C.side c.new)) }
 {
     match packets.clone_packet(c, p) {
         Ok(slot) => Answer::Cloned(slot, elems_in(packets, slot)),
@@ -253,9 +274,12 @@ fn told_taken<const ROOM: usize>(packets: &Packets, slot: Pid) -> Answer<ROOM>
 /// Takes a packet off a desk, and tells of it.
 fn take<C: Commons, const ROOM: usize>(packets: &mut Packets, c: &mut C, desk: u32) -> Answer<ROOM>
     requires own { Own packets.old (C.side c.old) }
-    ensures calls { (made : List Made) × Leads C.did C.side c.old made c.new × Performs (Act.Take desk) packets.old (calls_of made) (as_reply result) packets.new }
+    ensures calls { Calls C.did C.side c.old c.new (λ calls.
+        Performs (Act.Take desk) packets.old calls (as_reply result) packets.new) }
     ensures none { new_elements (as_reply result) ≡ [] }
     ensures own { Own packets.new (C.side c.new) }
+    ensures refused { IfRefused (as_reply result)
+        (AsBefore (Act.Take desk) packets.old (C.side c.old) packets.new (C.side c.new)) }
 {
     match packets.take(c, desk) {
         Ok(slot) => told_taken(packets, slot),
@@ -266,14 +290,16 @@ fn take<C: Commons, const ROOM: usize>(packets: &mut Packets, c: &mut C, desk: u
 /// Lets a worker do this with its packets, and answers what came of it.
 ///
 /// Each act is the call of `Packets` of that name, with its refusals. A count of `AllocBulk` above
-/// 256 is refused `PacketsFull`. After a refusal packets, cache and holds are as before, but that a
-/// refused clone may share out the free elements otherwise between cache and stack. The worker keeps
-/// its number, its limits and its 256 slots.
+/// 256 is refused `PacketsFull`. After a refusal packets, cache, hand, holds and headers are as before,
+/// but that a refused clone may share out the free elements otherwise between cache and stack. The
+/// worker keeps its number, its limits and its 256 slots.
 pub fn perform<C: Commons>(packets: &mut Packets, c: &mut C, act: Act) -> Reply
     requires own { Own packets.old (C.side c.old) }
-    ensures calls { (made : List Made) × Leads C.did C.side c.old made c.new × Performs act packets.old (calls_of made) result packets.new }
+    ensures calls { Calls C.did C.side c.old c.new (λ calls.
+        Performs act packets.old calls result packets.new) }
     ensures fresh { AreFresh packets.old.limits.population (held_in packets.old.table) (new_elements result) }
     ensures own { Own packets.new (C.side c.new) }
+    ensures refused { IfRefused result (AsBefore act packets.old (C.side c.old) packets.new (C.side c.new)) }
     ensures member { KeepsMember packets.old packets.new }
 {
     perform_in(packets, c, act)
@@ -288,9 +314,13 @@ pub fn perform_in<C: Commons, const ROOM: usize>(
 ) -> Answer<ROOM>
     requires room { HasRoom ROOM act }
     requires own { Own packets.old (C.side c.old) }
-    ensures calls { (made : List Made) × Leads C.did C.side c.old made c.new × Performs act packets.old (calls_of made) (as_reply result) packets.new }
-    ensures fresh { AreFresh packets.old.limits.population (held_in packets.old.table) (new_elements (as_reply result)) }
+    ensures calls { Calls C.did C.side c.old c.new (λ calls.
+        Performs act packets.old calls (as_reply result) packets.new) }
+    ensures fresh { AreFresh packets.old.limits.population (held_in packets.old.table)
+        (new_elements (as_reply result)) }
     ensures own { Own packets.new (C.side c.new) }
+    ensures refused { IfRefused (as_reply result)
+        (AsBefore act packets.old (C.side c.old) packets.new (C.side c.new)) }
     ensures member { KeepsMember packets.old packets.new }
 {
     packets.has_slots();
@@ -302,9 +332,13 @@ pub fn perform_in<C: Commons, const ROOM: usize>(
 fn act_in<C: Commons, const ROOM: usize>(packets: &mut Packets, c: &mut C, act: Act) -> Answer<ROOM>
     requires room { HasRoom ROOM act }
     requires own { Own packets.old (C.side c.old) }
-    ensures calls { (made : List Made) × Leads C.did C.side c.old made c.new × Performs act packets.old (calls_of made) (as_reply result) packets.new }
-    ensures fresh { AreFresh packets.old.limits.population (held_in packets.old.table) (new_elements (as_reply result)) }
+    ensures calls { Calls C.did C.side c.old c.new (λ calls.
+        Performs act packets.old calls (as_reply result) packets.new) }
+    ensures fresh { AreFresh packets.old.limits.population (held_in packets.old.table)
+        (new_elements (as_reply result)) }
     ensures own { Own packets.new (C.side c.new) }
+    ensures refused { IfRefused (as_reply result)
+        (AsBefore act packets.old (C.side c.old) packets.new (C.side c.new)) }
 {
     match act {
         Act::Alloc => alloc(packets, c),

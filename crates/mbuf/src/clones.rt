@@ -2,7 +2,7 @@
 
 ghost use Rattle.std.specs.Prelude.{◌≡◌, ◌≢◌, ◌<◌, ◌≤◌, ◌+◌, [], ◌∷◌, ◌++◌, ℕ, List, length, map, take, Ok, Err, OnOk, OnErr, IfOk, MatchResult, slice_index_or, slice_set, vec_len};
 ghost use Rattle.commons.specs.Bag.{bag, one};
-ghost use Rattle.commons.specs.Calls.{Made, IsRaise, Leads, calls_of};
+ghost use Rattle.commons.specs.Calls.{Calls, IsRaise};
 ghost use Rattle.commons.specs.Packets.{HasItsData, IsPacket, hold_of, holds_of_packet, holds_of_seg, max_segs};
 ghost use Rattle.mempool.specs.WorkerCache.{KeepsNumber};
 ghost use Rattle.mbuf.specs.PacketRules.{EndsHolds, freed_nothing};
@@ -43,7 +43,8 @@ pub fn attach<C: Commons>(c: &mut C, elem: u32, target: Seg) -> Result<Seg, Refu
     requires own { 0 < (C.side c.old).holds elem }
     requires held { 0 < (C.side c.old).holds (buffer target) }
     requires data { HasItsData target }
-    ensures calls { (made : List Made) × Leads C.did C.side c.old made c.new × AttachesElem elem target (calls_of made) result }
+    ensures calls { Calls C.did C.side c.old c.new (λ calls.
+        AttachesElem elem target calls result) }
     ensures data { IfOk result HasItsData }
     ensures ok { OnOk result (IsRaise (buffer target) (C.side c.old) (C.side c.new)) }
     ensures refused { OnErr result (C.side c.new ≡ C.side c.old) }
@@ -70,11 +71,13 @@ fn clone_seg<C: Commons>(worker: &mut Worker, c: &mut C, seg: Seg) -> Result<Seg
     requires hand { (i : ℕ) → (C.side c.old).hand i ≡ bag worker.old.cache i }
     requires held { 0 < (C.side c.old).holds (buffer seg) }
     requires data { HasItsData seg }
-    ensures calls { (made : List Made) × Leads C.did C.side c.old made c.new × TriesSeg worker.old.limits seg worker.old.cache (calls_of made) result worker.new.cache }
+    ensures calls { Calls C.did C.side c.old c.new (λ calls.
+        TriesSeg worker.old.limits seg worker.old.cache calls result worker.new.cache) }
     ensures data { IfOk result HasItsData }
     ensures hand { (i : ℕ) → (C.side c.new).hand i ≡ bag worker.new.cache i }
     ensures holds { (i : ℕ) → (C.side c.new).holds i ≡ (C.side c.old).holds i + bag (new_holds result) i }
-    ensures headers { (i : ℕ) → (C.side c.new).headers i ≡ (C.side c.old).headers i + bag (new_headers result) i }
+    ensures headers { (i : ℕ) → (C.side c.new).headers i
+        ≡ (C.side c.old).headers i + bag (new_headers result) i }
     ensures unheld { (i : ℕ) → 0 < bag (new_headers result) i → (C.side c.old).holds i ≡ 0 }
     ensures limits { (C.side c.new).limits ≡ (C.side c.old).limits }
     ensures number { KeepsNumber worker.old worker.new }
@@ -99,10 +102,14 @@ fn give_up<C: Commons>(worker: &mut Worker, c: &mut C, segs: &[Seg], over: Optio
     requires hand { (i : ℕ) → (C.side c.old).hand i ≡ bag worker.old.cache i }
     requires held { (i : ℕ) → bag (holds_of_packet segs.now ++ hold_of over) i ≤ (C.side c.old).holds i }
     requires few { length segs.now < max_segs }
-    ensures calls { (made : List Made) × Leads C.did C.side c.old made c.new × EndsHolds worker.old.limits (holds_of_packet segs.now ++ hold_of over) worker.old.cache freed_nothing (calls_of made) worker.new.cache result }
+    ensures calls { Calls C.did C.side c.old c.new (λ calls.
+        EndsHolds worker.old.limits (holds_of_packet segs.now ++ hold_of over) worker.old.cache
+        freed_nothing calls worker.new.cache result) }
     ensures hand { (i : ℕ) → (C.side c.new).hand i ≡ bag worker.new.cache i }
-    ensures holds { (i : ℕ) → (C.side c.old).holds i ≡ (C.side c.new).holds i + bag (holds_of_packet segs.now ++ hold_of over) i }
-    ensures headers { (i : ℕ) → 0 < (C.side c.new).holds i → (C.side c.new).headers i ≡ (C.side c.old).headers i }
+    ensures holds { (i : ℕ) → (C.side c.old).holds i
+        ≡ (C.side c.new).holds i + bag (holds_of_packet segs.now ++ hold_of over) i }
+    ensures headers { (i : ℕ) → 0 < (C.side c.new).holds i →
+        (C.side c.new).headers i ≡ (C.side c.old).headers i }
     ensures limits { (C.side c.new).limits ≡ (C.side c.old).limits }
     ensures number { KeepsNumber worker.old worker.new }
 {
@@ -140,13 +147,24 @@ pub fn clone_segs<C: Commons>(
     requires apart { source ≢ slot }
     requires limits { (C.side c.old).limits ≡ worker.old.limits }
     requires hand { (i : ℕ) → (C.side c.old).hand i ≡ bag worker.old.cache i }
-    requires held { (i : ℕ) → bag (holds_of_packet (slice_index_or packets.old.items source [])) i ≤ (C.side c.old).holds i }
-    ensures calls { (made : List Made) × Leads C.did C.side c.old made c.new × TriesSegs worker.old.limits (slice_index_or packets.old.items source []) worker.old.cache (calls_of made) (slice_index_or packets.new.items slot []) result worker.new.cache }
-    ensures packets { packets.new.items ≡ slice_set packets.old.items slot (slice_index_or packets.new.items slot []) }
+    requires held { (i : ℕ) → bag (holds_of_packet (slice_index_or packets.old.items source [])) i
+        ≤ (C.side c.old).holds i }
+    ensures calls { Calls C.did C.side c.old c.new (λ calls.
+        TriesSegs worker.old.limits (slice_index_or packets.old.items source [])
+        worker.old.cache calls (slice_index_or packets.new.items slot []) result
+        worker.new.cache) }
+    ensures packets { packets.new.items
+        ≡ slice_set packets.old.items slot (slice_index_or packets.new.items slot []) }
     ensures hand { (i : ℕ) → (C.side c.new).hand i ≡ bag worker.new.cache i }
-    ensures holds { OnOk result ((i : ℕ) → (C.side c.new).holds i ≡ (C.side c.old).holds i + bag (holds_of_packet (slice_index_or packets.new.items slot [])) i) }
-    ensures headers { OnOk result ((i : ℕ) → (C.side c.new).headers i ≡ (C.side c.old).headers i + bag (map (λ seg. seg.elem) (slice_index_or packets.new.items slot [])) i) }
-    ensures unheld { OnOk result ((i : ℕ) → 0 < bag (map (λ seg. seg.elem) (slice_index_or packets.new.items slot [])) i → (C.side c.old).holds i ≡ 0) }
+    ensures holds { OnOk result
+        ((i : ℕ) → (C.side c.new).holds i ≡ (C.side c.old).holds i
+        + bag (holds_of_packet (slice_index_or packets.new.items slot [])) i) }
+    ensures headers { OnOk result
+        ((i : ℕ) → (C.side c.new).headers i ≡ (C.side c.old).headers i
+        + bag (map (λ seg. seg.elem) (slice_index_or packets.new.items slot [])) i) }
+    ensures unheld { OnOk result
+        ((i : ℕ) → 0 < bag (map (λ seg. seg.elem) (slice_index_or packets.new.items slot [])) i →
+        (C.side c.old).holds i ≡ 0) }
     ensures holds_err { OnErr result ((i : ℕ) → (C.side c.new).holds i ≡ (C.side c.old).holds i) }
     ensures headers_err { OnErr result ((i : ℕ) → (C.side c.new).headers i ≡ (C.side c.old).headers i) }
     ensures limits { (C.side c.new).limits ≡ (C.side c.old).limits }

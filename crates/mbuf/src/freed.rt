@@ -1,3 +1,5 @@
+//! What a free did with the elements whose last hold went.
+
 use commons::refusal::Refusal;
 
 /// What freeing did.

@@ -1,9 +1,12 @@
 //! Laws of a worker's packets. Each is a function that does nothing, and its contract is the law.
 
-ghost use Rattle.std.specs.Prelude.{◌≡◌, ℕ, [], None, replicate};
-ghost use Rattle.commons.specs.Calls.{SameSide, Side};
+ghost use Rattle.std.specs.Prelude.{◌≡◌, ℕ, List, [], None, replicate};
+ghost use Rattle.commons.specs.Calls.{Call, SameSide, Side};
+ghost use Rattle.mbuf.specs.Acts.{Performs, Reply};
+ghost use Rattle.mbuf.specs.declared.acts.Act.{Act};
 ghost use Rattle.mbuf.specs.Members.{Member, slots};
 ghost use Rattle.mbuf.specs.Own.{Own};
+ghost use Rattle.mbuf.specs.Slots.{LeavesOtherSlots};
 
 /// The packets of a new worker are its own where it has nothing of the shared pool, in its hand or
 /// held.
@@ -15,4 +18,12 @@ pub fn new_packets_are_own()
 /// A worker's packets stay its own while what it has of the shared pool stays, whatever others do.
 pub fn packets_stay_own()
     ensures { (m : Member) (before after : Side) → Own m before → SameSide before after → Own m after }
+{}
+
+/// An act leaves the slots that it doesn't name, over any shared pool: a free, a change of lengths, a chain, an attach,
+/// a detach and an offer write the slots that they name, and an alloc, a bulk, a clone and a take fill those that
+/// the reply tells. All other slots have what they had, and a slot that was filled was free.
+pub fn an_act_leaves_the_slots_it_does_not_name()
+    ensures { (act : Act) (before after : Member) (calls : List Call) (reply : Reply) →
+        Performs act before calls reply after → LeavesOtherSlots act reply before after }
 {}

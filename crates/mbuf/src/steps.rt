@@ -3,7 +3,7 @@
 ghost use Rattle.std.specs.Prelude.{◌≡◌, ◌<◌, ◌≤◌, ◌+◌, ◌*◌, ℕ, List, length, if◌then◌else◌, nat_lt, IfOk, OnOk, OnErr};
 ghost use Rattle.commons.specs.Bag.{bag, one};
 ghost use Rattle.commons.specs.Bounds.{IsPool, max_population};
-ghost use Rattle.commons.specs.Calls.{Made, Leads, calls_of};
+ghost use Rattle.commons.specs.Calls.{Calls};
 ghost use Rattle.mempool.specs.Caches.{Gets, put_count};
 ghost use Rattle.mempool.specs.WorkerCache.{KeepsNumber};
 ghost use Rattle.mbuf.specs.inside.Kept.{as_list};
@@ -40,8 +40,11 @@ pub fn fresh(limits: &Limits, elem: u32) -> Seg
 /// Gets one element by the cache's rules.
 pub fn get_one<C: Commons>(worker: &mut Worker, c: &mut C) -> Result<u32, Refusal>
     requires limits { (C.side c.old).limits ≡ worker.old.limits }
-    ensures calls { (made : List Made) × Leads C.did C.side c.old made c.new × Gets worker.old.limits worker.old.cache 1 (calls_of made) (as_list result) worker.new.cache }
-    ensures hand { IfOk result (λ e. (i : ℕ) → (C.side c.new).hand i + bag worker.old.cache i ≡ (C.side c.old).hand i + bag worker.new.cache i + one e i) }
+    ensures calls { Calls C.did C.side c.old c.new (λ calls.
+        Gets worker.old.limits worker.old.cache 1 calls (as_list result) worker.new.cache) }
+    ensures hand { IfOk result
+        (λ e. (i : ℕ) → (C.side c.new).hand i + bag worker.old.cache i
+        ≡ (C.side c.old).hand i + bag worker.new.cache i + one e i) }
     ensures refused { OnErr result (C.side c.new ≡ C.side c.old) }
     ensures cache_err { OnErr result (worker.new.cache ≡ worker.old.cache) }
     ensures holds { (C.side c.new).holds ≡ (C.side c.old).holds }
@@ -82,10 +85,12 @@ pub fn end_hold<C: Commons>(worker: &mut Worker, c: &mut C, elem: u32, freed: Fr
     requires held { 0 < (C.side c.old).holds elem }
     requires back { freed.back < 2 * max_segs }
     requires flushed { freed.flushed ≤ max_population * freed.back }
-    ensures calls { (made : List Made) × Leads C.did C.side c.old made c.new × EndsHold worker.old.limits elem worker.old.cache freed (calls_of made) worker.new.cache result }
+    ensures calls { Calls C.did C.side c.old c.new (λ calls.
+        EndsHold worker.old.limits elem worker.old.cache freed calls worker.new.cache result) }
     ensures hand { (i : ℕ) → (C.side c.new).hand i ≡ bag worker.new.cache i }
     ensures holds { (i : ℕ) → (C.side c.old).holds i ≡ (C.side c.new).holds i + one elem i }
-    ensures headers { (i : ℕ) → (C.side c.new).headers i ≡ (if nat_lt 0 ((C.side c.new).holds i) then (C.side c.old).headers i else 0) }
+    ensures headers { (i : ℕ) → (C.side c.new).headers i
+        ≡ (if nat_lt 0 ((C.side c.new).holds i) then (C.side c.old).headers i else 0) }
     ensures limits { (C.side c.new).limits ≡ (C.side c.old).limits }
     ensures number { KeepsNumber worker.old worker.new }
     ensures back { result.back ≤ freed.back + 1 }
@@ -106,10 +111,12 @@ fn end_seg<C: Commons>(worker: &mut Worker, c: &mut C, seg: Seg, freed: Freed) -
     requires held { (i : ℕ) → bag (holds_of_seg seg) i ≤ (C.side c.old).holds i }
     requires back { freed.back + 1 < 2 * max_segs }
     requires flushed { freed.flushed ≤ max_population * freed.back }
-    ensures calls { (made : List Made) × Leads C.did C.side c.old made c.new × EndsHolds worker.old.limits (holds_of_seg seg) worker.old.cache freed (calls_of made) worker.new.cache result }
+    ensures calls { Calls C.did C.side c.old c.new (λ calls.
+        EndsHolds worker.old.limits (holds_of_seg seg) worker.old.cache freed calls worker.new.cache result) }
     ensures hand { (i : ℕ) → (C.side c.new).hand i ≡ bag worker.new.cache i }
     ensures holds { (i : ℕ) → (C.side c.old).holds i ≡ (C.side c.new).holds i + bag (holds_of_seg seg) i }
-    ensures headers { (i : ℕ) → 0 < (C.side c.new).holds i → (C.side c.new).headers i ≡ (C.side c.old).headers i }
+    ensures headers { (i : ℕ) → 0 < (C.side c.new).holds i →
+        (C.side c.new).headers i ≡ (C.side c.old).headers i }
     ensures limits { (C.side c.new).limits ≡ (C.side c.old).limits }
     ensures number { KeepsNumber worker.old worker.new }
     ensures back { result.back ≤ freed.back + 2 }
@@ -137,10 +144,14 @@ pub fn end_segs<C: Commons>(worker: &mut Worker, c: &mut C, segs: &[Seg]) -> Fre
     requires hand { (i : ℕ) → (C.side c.old).hand i ≡ bag worker.old.cache i }
     requires held { (i : ℕ) → bag (holds_of_packet segs.now) i ≤ (C.side c.old).holds i }
     requires few { length segs.now ≤ max_segs }
-    ensures calls { (made : List Made) × Leads C.did C.side c.old made c.new × EndsHolds worker.old.limits (holds_of_packet segs.now) worker.old.cache freed_nothing (calls_of made) worker.new.cache result }
+    ensures calls { Calls C.did C.side c.old c.new (λ calls.
+        EndsHolds worker.old.limits (holds_of_packet segs.now) worker.old.cache freed_nothing
+        calls worker.new.cache result) }
     ensures hand { (i : ℕ) → (C.side c.new).hand i ≡ bag worker.new.cache i }
-    ensures holds { (i : ℕ) → (C.side c.old).holds i ≡ (C.side c.new).holds i + bag (holds_of_packet segs.now) i }
-    ensures headers { (i : ℕ) → 0 < (C.side c.new).holds i → (C.side c.new).headers i ≡ (C.side c.old).headers i }
+    ensures holds { (i : ℕ) → (C.side c.old).holds i
+        ≡ (C.side c.new).holds i + bag (holds_of_packet segs.now) i }
+    ensures headers { (i : ℕ) → 0 < (C.side c.new).holds i →
+        (C.side c.new).headers i ≡ (C.side c.old).headers i }
     ensures limits { (C.side c.new).limits ≡ (C.side c.old).limits }
     ensures number { KeepsNumber worker.old worker.new }
     ensures back { result.back ≤ 2 * length segs.now }

@@ -21,19 +21,56 @@ abbrev pub threshold : Limits → ℕ
 threshold l = l.cache * 3 / 2
 
 -- what a get of n does with a cache, by the calls that it makes, its answer and the cache that it leaves
-pub data Gets (l : Limits) (cache : List ℕ) (n : ℕ) (calls : List Call) (answer : Result (List ℕ) Refusal) (left : List ℕ) : Type 0 where
+pub data Gets (l : Limits) (cache : List ℕ) (n : ℕ) (calls : List Call)
+    (answer : Result (List ℕ) Refusal) (left : List ℕ) : Type 0 where
   -- nothing is asked for
   Nothing : n ≡ 0 → calls ≡ [] → answer ≡ Ok [] → left ≡ cache → Gets l cache n calls answer left
   -- as many as the cache may keep, or more: the stack is asked
-  Direct : 0 < n → l.cache ≤ n → calls ≡ GetList n answer ∷ [] → left ≡ cache → Gets l cache n calls answer left
+  Direct :
+      0 < n →
+      l.cache ≤ n →
+      calls ≡ GetList n answer ∷ [] →
+      left ≡ cache →
+      Gets l cache n calls answer left
   -- the cache has enough
-  FromCache : 0 < n → n < l.cache → n ≤ length cache → calls ≡ [] → answer ≡ Ok (last n cache) → left ≡ without_last n cache → Gets l cache n calls answer left
+  FromCache :
+      0 < n →
+      n < l.cache →
+      n ≤ length cache →
+      calls ≡ [] →
+      answer ≡ Ok (last n cache) →
+      left ≡ without_last n cache →
+      Gets l cache n calls answer left
   -- the cache is refilled first
-  Refill : 0 < n → n < l.cache → length cache < n → n + l.cache ≤ l.population → (more : List ℕ) → calls ≡ GetList (n + l.cache - length cache) (Ok more) ∷ [] → answer ≡ Ok (last n (cache ++ more)) → left ≡ without_last n (cache ++ more) → Gets l cache n calls answer left
+  Refill :
+      0 < n →
+      n < l.cache →
+      length cache < n →
+      n + l.cache ≤ l.population →
+      (more : List ℕ) →
+      calls ≡ GetList (n + l.cache - length cache) (Ok more) ∷ [] →
+      answer ≡ Ok (last n (cache ++ more)) →
+      left ≡ without_last n (cache ++ more) →
+      Gets l cache n calls answer left
   -- the refill is refused, and the stack is asked for n
-  RefillRefused : 0 < n → n < l.cache → length cache < n → n + l.cache ≤ l.population → (cause : Refusal) → calls ≡ GetList (n + l.cache - length cache) (Err cause) ∷ GetList n answer ∷ [] → left ≡ cache → Gets l cache n calls answer left
+  RefillRefused :
+      0 < n →
+      n < l.cache →
+      length cache < n →
+      n + l.cache ≤ l.population →
+      (cause : Refusal) →
+      calls ≡ GetList (n + l.cache - length cache) (Err cause) ∷ GetList n answer ∷ [] →
+      left ≡ cache →
+      Gets l cache n calls answer left
   -- no refill can be met, and the stack is asked for n
-  NoRefill : 0 < n → n < l.cache → length cache < n → l.population < n + l.cache → calls ≡ GetList n answer ∷ [] → left ≡ cache → Gets l cache n calls answer left
+  NoRefill :
+      0 < n →
+      n < l.cache →
+      length cache < n →
+      l.population < n + l.cache →
+      calls ≡ GetList n answer ∷ [] →
+      left ≡ cache →
+      Gets l cache n calls answer left
 
 -- how many elements went to the stack, or were to go there
 abbrev pub put_count : Put → ℕ
@@ -42,27 +79,90 @@ put_count (Flushed k) = k
 put_count (PutOff k e) = k
 
 -- what a put of a list does with a cache
-pub data Puts (l : Limits) (cache list : List ℕ) (calls : List Call) (answer : Put) (left : List ℕ) : Type 0 where
+pub data Puts (l : Limits) (cache list : List ℕ) (calls : List Call) (answer : Put) (left : List ℕ)
+    : Type 0 where
   -- nothing is put
-  NothingPut : list ≡ [] → calls ≡ [] → answer ≡ Kept → left ≡ cache → Puts l cache list calls answer left
+  NothingPut :
+      list ≡ [] →
+      calls ≡ [] →
+      answer ≡ Kept →
+      left ≡ cache →
+      Puts l cache list calls answer left
   -- more than a cache ever keeps goes past it
-  Bypass : max_cache < length list → calls ≡ PutList list (Ok tt) ∷ [] → answer ≡ Flushed (length list) → left ≡ cache → Puts l cache list calls answer left
+  Bypass :
+      max_cache < length list →
+      calls ≡ PutList list (Ok tt) ∷ [] →
+      answer ≡ Flushed (length list) →
+      left ≡ cache →
+      Puts l cache list calls answer left
   -- and stays in it where the stack refuses it
-  BypassPutOff : max_cache < length list → (cause : Refusal) → calls ≡ PutList list (Err cause) ∷ [] → answer ≡ PutOff (length list) cause → left ≡ cache ++ list → Puts l cache list calls answer left
+  BypassPutOff :
+      max_cache < length list →
+      (cause : Refusal) →
+      calls ≡ PutList list (Err cause) ∷ [] →
+      answer ≡ PutOff (length list) cause →
+      left ≡ cache ++ list →
+      Puts l cache list calls answer left
   -- from the threshold on, all beyond the size goes to the stack in one push
-  Flush : 0 < length list → length list ≤ max_cache → threshold l ≤ length (cache ++ list) → l.cache < length (cache ++ list) → calls ≡ PutList (drop l.cache (cache ++ list)) (Ok tt) ∷ [] → answer ≡ Flushed (length (cache ++ list) - l.cache) → left ≡ take l.cache (cache ++ list) → Puts l cache list calls answer left
+  Flush :
+      0 < length list →
+      length list ≤ max_cache →
+      threshold l ≤ length (cache ++ list) →
+      l.cache < length (cache ++ list) →
+      calls ≡ PutList (drop l.cache (cache ++ list)) (Ok tt) ∷ [] →
+      answer ≡ Flushed (length (cache ++ list) - l.cache) →
+      left ≡ take l.cache (cache ++ list) →
+      Puts l cache list calls answer left
   -- and stays in the cache where the stack refuses it
-  FlushPutOff : 0 < length list → length list ≤ max_cache → threshold l ≤ length (cache ++ list) → l.cache < length (cache ++ list) → (cause : Refusal) → calls ≡ PutList (drop l.cache (cache ++ list)) (Err cause) ∷ [] → answer ≡ PutOff (length (cache ++ list) - l.cache) cause → left ≡ cache ++ list → Puts l cache list calls answer left
+  FlushPutOff :
+      0 < length list →
+      length list ≤ max_cache →
+      threshold l ≤ length (cache ++ list) →
+      l.cache < length (cache ++ list) →
+      (cause : Refusal) →
+      calls ≡ PutList (drop l.cache (cache ++ list)) (Err cause) ∷ [] →
+      answer ≡ PutOff (length (cache ++ list) - l.cache) cause →
+      left ≡ cache ++ list →
+      Puts l cache list calls answer left
   -- below it the cache keeps all
-  Keep : 0 < length list → length list ≤ max_cache → (length (cache ++ list) < threshold l) ⊎ (length (cache ++ list) ≤ l.cache) → calls ≡ [] → answer ≡ Kept → left ≡ cache ++ list → Puts l cache list calls answer left
+  Keep :
+      0 < length list →
+      length list ≤ max_cache →
+      (length (cache ++ list) < threshold l) ⊎ (length (cache ++ list) ≤ l.cache) →
+      calls ≡ [] →
+      answer ≡ Kept →
+      left ≡ cache ++ list →
+      Puts l cache list calls answer left
 
 -- all of a cache beyond keep went to the stack in one push, or was refused and stayed
-pub data Pushed {S : Type 0} (did : S → Call → List Reading → S → Type 0) (side : S → Side) (keep : ℕ) (cache : List ℕ) (before : S) (answer : Put) (after : S) (left : List ℕ) : Type 0 where
-  Gone : Did did side before (PutList (drop keep cache) (Ok tt)) after → answer ≡ Flushed (length cache - keep) → left ≡ take keep cache → Pushed did side keep cache before answer after left
-  Stays : (cause : Refusal) → Did did side before (PutList (drop keep cache) (Err cause)) after → answer ≡ PutOff (length cache - keep) cause → left ≡ cache → Pushed did side keep cache before answer after left
+pub data Pushed {S : Type 0} (did : S → Call → List Reading → S → Type 0) (side : S → Side)
+    (keep : ℕ) (cache : List ℕ) (before : S) (answer : Put) (after : S) (left : List ℕ)
+    : Type 0 where
+  Gone :
+      Did did side before (PutList (drop keep cache) (Ok tt)) after →
+      answer ≡ Flushed (length cache - keep) →
+      left ≡ take keep cache →
+      Pushed did side keep cache before answer after left
+  Stays :
+      (cause : Refusal) →
+      Did did side before (PutList (drop keep cache) (Err cause)) after →
+      answer ≡ PutOff (length cache - keep) cause →
+      left ≡ cache →
+      Pushed did side keep cache before answer after left
 
 -- what a flush does: the whole cache goes to the stack in one push, and an empty one is kept
 pub data Flushes (cache : List ℕ) (calls : List Call) (answer : Put) (left : List ℕ) : Type 0 where
   Empty : cache ≡ [] → calls ≡ [] → answer ≡ Kept → left ≡ cache → Flushes cache calls answer left
-  Whole : 0 < length cache → calls ≡ PutList cache (Ok tt) ∷ [] → answer ≡ Flushed (length cache) → left ≡ [] → Flushes cache calls answer left
-  WholePutOff : 0 < length cache → (cause : Refusal) → calls ≡ PutList cache (Err cause) ∷ [] → answer ≡ PutOff (length cache) cause → left ≡ cache → Flushes cache calls answer left
+  Whole :
+      0 < length cache →
+      calls ≡ PutList cache (Ok tt) ∷ [] →
+      answer ≡ Flushed (length cache) →
+      left ≡ [] →
+      Flushes cache calls answer left
+  WholePutOff :
+      0 < length cache →
+      (cause : Refusal) →
+      calls ≡ PutList cache (Err cause) ∷ [] →
+      answer ≡ PutOff (length cache) cause →
+      left ≡ cache →
+      Flushes cache calls answer left

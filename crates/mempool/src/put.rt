@@ -1,3 +1,5 @@
+//! What a put did with the elements that a cache doesn't keep.
+
 use commons::refusal::Refusal;
 
 /// What a put did with the elements that a cache doesn't keep.

@@ -1,6 +1,8 @@
+//! A worker's cache: what it gets and puts, and when it asks the common stack.
+
 ghost use Rattle.std.specs.Prelude.{◌≡◌, ◌<◌, ◌≤◌, ◌+◌, ◌-◌, ◌++◌, ℕ, List, length, take, drop, reverse, OnOk, OnErr, IsOk, vec_len, vec_capacity};
 ghost use Rattle.commons.specs.Bag.{bag, one};
-ghost use Rattle.commons.specs.Calls.{Made, calls_of, with_list, Leads};
+ghost use Rattle.commons.specs.Calls.{Calls, with_list};
 
 use crate::put::Put;
 use crate::steps;
@@ -109,8 +111,11 @@ impl Worker {
     /// refill can be met at all.
     pub fn get_bulk<C: Commons>(&mut self, c: &mut C, out: &mut [u32]) -> Result<(), Refusal>
         requires limits { (C.side c.old).limits ≡ self.old.limits }
-        ensures calls { (made : List Made) × Leads C.did C.side c.old made c.new × Gets self.old.limits self.old.cache (length out.old) (calls_of made) (with_list result out.new) self.new.cache }
-        ensures hand { OnOk result ((i : ℕ) → (C.side c.new).hand i + bag self.old.cache i ≡ (C.side c.old).hand i + bag self.new.cache i + bag out.new i) }
+        ensures calls { Calls C.did C.side c.old c.new (λ calls.
+            Gets self.old.limits self.old.cache (length out.old) calls (with_list result out.new) self.new.cache) }
+        ensures hand { OnOk result
+            ((i : ℕ) → (C.side c.new).hand i + bag self.old.cache i
+            ≡ (C.side c.old).hand i + bag self.new.cache i + bag out.new i) }
         ensures refused { OnErr result (C.side c.new ≡ C.side c.old) }
         ensures cache_err { OnErr result (self.new.cache ≡ self.old.cache) }
         ensures holds { (C.side c.new).holds ≡ (C.side c.old).holds }
@@ -154,9 +159,11 @@ impl Worker {
     pub fn put_bulk<C: Commons>(&mut self, c: &mut C, list: &[u32]) -> Put
         requires limits { (C.side c.old).limits ≡ self.old.limits }
         requires in_hand { (i : ℕ) → bag self.old.cache i + bag list.now i ≤ (C.side c.old).hand i }
-        ensures calls { (made : List Made) × Leads C.did C.side c.old made c.new × Puts self.old.limits self.old.cache list.now (calls_of made) result self.new.cache }
+        ensures calls { Calls C.did C.side c.old c.new (λ calls.
+            Puts self.old.limits self.old.cache list.now calls result self.new.cache) }
         ensures few { put_count result ≤ self.old.limits.population }
-        ensures hand { (i : ℕ) → (C.side c.new).hand i + bag self.old.cache i + bag list.now i ≡ (C.side c.old).hand i + bag self.new.cache i }
+        ensures hand { (i : ℕ) → (C.side c.new).hand i + bag self.old.cache i + bag list.now i
+            ≡ (C.side c.old).hand i + bag self.new.cache i }
         ensures holds { (C.side c.new).holds ≡ (C.side c.old).holds }
         ensures headers { (C.side c.new).headers ≡ (C.side c.old).headers }
         ensures limits { (C.side c.new).limits ≡ (C.side c.old).limits }
@@ -193,8 +200,10 @@ impl Worker {
     pub fn flush<C: Commons>(&mut self, c: &mut C) -> Put
         requires limits { (C.side c.old).limits ≡ self.old.limits }
         requires in_hand { (i : ℕ) → bag self.old.cache i ≤ (C.side c.old).hand i }
-        ensures calls { (made : List Made) × Leads C.did C.side c.old made c.new × Flushes self.old.cache (calls_of made) result self.new.cache }
-        ensures hand { (i : ℕ) → (C.side c.new).hand i + bag self.old.cache i ≡ (C.side c.old).hand i + bag self.new.cache i }
+        ensures calls { Calls C.did C.side c.old c.new (λ calls.
+            Flushes self.old.cache calls result self.new.cache) }
+        ensures hand { (i : ℕ) → (C.side c.new).hand i + bag self.old.cache i
+            ≡ (C.side c.old).hand i + bag self.new.cache i }
         ensures holds { (C.side c.new).holds ≡ (C.side c.old).holds }
         ensures headers { (C.side c.new).headers ≡ (C.side c.old).headers }
         ensures limits { (C.side c.new).limits ≡ (C.side c.old).limits }

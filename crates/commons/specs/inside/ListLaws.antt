@@ -28,7 +28,9 @@ hand_below_lem s w i t h = rw (get_or_past s.places i nowhere (omega (arith, t.e
 pub holds_below_lem : (s : Lists) (w i : ℕ) → IsTable s → s.limits.population ≤ i → holds_of s w i ≡ 0
 holds_below_lem s w i t h =
     elim (cases_lt (w - 1) (length s.holds)) [
-      | inl l ↦ get_or_past (get_or s.holds (w - 1) []) i 0 (omega (arith, t.rows (w - 1) (omega (arith, t.workers))))
+      | inl l ↦
+          get_or_past (get_or s.holds (w - 1) []) i 0
+          (omega (arith, t.rows (w - 1) (omega (arith, t.workers))))
       | inr l ↦ rw (get_or_past s.holds (w - 1) [] l) refl
     ]
 
@@ -36,7 +38,12 @@ holds_below_lem s w i t h =
 hold_counts : (s : Lists) (w i : ℕ) → IsTable s → 0 < holds_of s w i → 0 < held_count (place_of s i)
 hold_counts s w i t h =
     elim (cases_lt (w - 1) (length s.holds)) [
-      | inl l ↦ omega (arith, t.counted i, sum_by-set (λ (row : List ℕ). get_or row i 0) s.holds (w - 1) [] [] l)
+      | inl l ↦
+          omega (
+            arith,
+            t.counted i,
+            sum_by-set (λ (row : List ℕ). get_or row i 0) s.holds (w - 1) [] [] l,
+          )
       | inr l ↦ absurd (let k = rw (get_or_past s.holds (w - 1) [] l) at h in omega (arith, k))
     ]
 

@@ -12,9 +12,11 @@ use Rattle.mbuf.specs.declared.clones.Stop.{Stop}
 
 -- an element is attached to a segment's buffer, or isn't
 abbrev pub AttachesElem : ℕ → Seg → List Call → Result Seg Refusal → Type 0
-AttachesElem e target calls (Ok new) = (calls ≡ CountOf e 1 ∷ Raise (buffer_of target) (Ok tt) ∷ []) × (new ≡ attached e target)
+AttachesElem e target calls (Ok new) =
+    (calls ≡ CountOf e 1 ∷ Raise (buffer_of target) (Ok tt) ∷ []) × (new ≡ attached e target)
 AttachesElem e target calls (Err cause) =
-    ((n : ℕ) × (n ≢ 1) × (calls ≡ CountOf e n ∷ []) × (cause ≡ InUse)) ⊎ (calls ≡ CountOf e 1 ∷ Raise (buffer_of target) (Err cause) ∷ [])
+    ((n : ℕ) × (n ≢ 1) × (calls ≡ CountOf e n ∷ []) × (cause ≡ InUse))
+    ⊎ (calls ≡ CountOf e 1 ∷ Raise (buffer_of target) (Err cause) ∷ [])
 
 -- a segment is cloned, or isn't
 abbrev pub TriesSeg : Limits → Seg → List ℕ → List Call → Result Seg Stop → List ℕ → Type 0
@@ -32,7 +34,8 @@ new_headers (Ok new) = new.elem ∷ []
 new_headers (Err stop) = hold_of stop.over
 
 -- segments are cloned, or given up
-abbrev pub TriesSegs : Limits → List Seg → List ℕ → List Call → List Seg → Result (Unit {0}) Refusal → List ℕ → Type 0
+abbrev pub TriesSegs : Limits → List Seg → List ℕ → List Call → List Seg →
+    Result (Unit {0}) Refusal → List ℕ → Type 0
 TriesSegs l segs cache calls new (Ok _) left = ClonesSegs l segs cache calls new left
 TriesSegs l segs cache calls new (Err cause) left = GivesUp l segs cache calls cause left
 

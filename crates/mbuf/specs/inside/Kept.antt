@@ -18,7 +18,12 @@ shown (free ∷ flags) [] = []
 shown (free ∷ flags) (segs ∷ packets) = unless_free free segs ∷ shown flags packets
 
 abbrev pub member_of : Inside → Member
-member_of p = record { limits = p.worker.limits; number = p.worker.number; cache = p.worker.cache; table = shown p.free p.packets.items }
+member_of p = record {
+  limits = p.worker.limits;
+  number = p.worker.number;
+  cache = p.worker.cache;
+  table = shown p.free p.packets.items;
+}
 
 -- there is a flag and a packet for each slot
 pub record IsKept (p : Inside) : Type 0 where

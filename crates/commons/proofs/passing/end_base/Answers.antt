@@ -3,6 +3,7 @@ use Rattle.commons.proofs.Bags.{bag-single, one-same}
 use Rattle.commons.proofs.EndedRows.{ended-none}
 use Rattle.commons.proofs.passing.end_base.Goals as goal
 
+-- a base that is there is one of the holds that end, so the row has a hold of it
 pub end_hold-requires-clause-held : goal.end_hold-requires-clause-held
 end_hold-requires-clause-held c =
     let e = c.in-Some.element in

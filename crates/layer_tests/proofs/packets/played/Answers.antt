@@ -18,5 +18,7 @@ loop-index-preserved c =
     let others = c.turn.ensures.others in
     record {
       hands = λ w i e. others.hands w i (λ same. omega (arith, same, e)) ∙ inv.hands w i (omega (arith, e));
-      holds = λ w i e. others.holds w i (omega (arith, e)) (λ same. omega (arith, same, e)) ∙ inv.holds w i (omega (arith, e));
+      holds =
+          λ w i e. others.holds w i (omega (arith, e)) (λ same. omega (arith, same, e))
+          ∙ inv.holds w i (omega (arith, e));
     }

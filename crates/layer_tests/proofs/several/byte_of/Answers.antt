@@ -10,7 +10,13 @@ bounds-buffers-segs g c =
     let side = g.C.Commons.side c.args.c.now in
     let segs = c.in-Some.packet.now in
     let e = (first_seg segs).elem in
-    let held : 0 < side.holds e = omega (arith, first_held segs c.segs.ensures.packet.some, in_slot_held c.args.packets.now side c.args.p segs e c.requires.own c.in-Some.ensures) in
+    let held : 0 < side.holds e =
+    omega (
+      arith,
+      first_held segs c.segs.ensures.packet.some,
+      in_slot_held c.args.packets.now side c.args.p segs e c.requires.own c.in-Some.ensures,
+    )
+    in
     let within : e < side.limits.population = elim (cases_lt e side.limits.population) [
       | inl b ↦ b
       | inr b ↦ absurd (omega (arith, held, g.met.C.Commons.holds_below c.args.c.now e b))

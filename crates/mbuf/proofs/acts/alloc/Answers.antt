@@ -5,16 +5,22 @@ use Rattle.mbuf.proofs.FreshLemmas.{allocated_elements}
 use Rattle.mbuf.specs.declared.acts.Answer.TheVariants.{Allocated}
 use Rattle.mbuf.proofs.acts.alloc.Goals as goal
 
+-- The alloc's calls are the act's, and the reply names the slot and the element that stands there.
 pub returns-in-Ok-clause-calls : goal.returns-in-Ok-clause-calls
 returns-in-Ok-clause-calls g c =
     let done = c.in-Ok.ensures.calls in
     (done.0, done.1, (Ok c.in-Ok.slot, done.2, ap (Allocated c.in-Ok.slot) c.elem_in.ensures))
 
+-- The alloc's calls are the act's, and the reply tells the cause.
 pub returns-in-Err-clause-calls : goal.returns-in-Err-clause-calls
-returns-in-Err-clause-calls g c = let done = c.in-Err.ensures.calls in (done.0, done.1, (Err c.in-Err.cause, done.2, refl))
+returns-in-Err-clause-calls g c =
+    let done = c.in-Err.ensures.calls in (done.0, done.1, (Err c.in-Err.cause, done.2, refl))
 
+-- The element that the reply names is the new packet's.
 pub returns-in-Ok-clause-fresh : goal.returns-in-Ok-clause-fresh
 returns-in-Ok-clause-fresh g c =
     let done = c.in-Ok.ensures.calls in
     let m = c.args.packets.now in
-    subst (λ (es : List ℕ). AreFresh m.limits.population (held_in m.table) es) (allocated_elements _ _ _ _ done.2 ∙ ap (λ (e : ℕ). e ∷ []) (sym c.elem_in.ensures)) c.in-Ok.ensures.fresh
+    subst (λ (es : List ℕ). AreFresh m.limits.population (held_in m.table) es)
+    (allocated_elements _ _ _ _ done.2 ∙ ap (λ (e : ℕ). e ∷ []) (sym c.elem_in.ensures))
+    c.in-Ok.ensures.fresh

@@ -7,23 +7,30 @@ use Rattle.mbuf.specs.declared.acts.Answer.TheVariants.{Bulk}
 use Rattle.mbuf.proofs.ActLemmas.{bulk_there, list_is}
 use Rattle.mbuf.proofs.acts.alloc_all.Goals as goal
 
+-- A packet stands in each slot of the bulk, and they are no more than the list has room for.
 pub new_packets-requires : goal.new_packets-requires
 new_packets-requires g c =
     let done = c.in-Ok.ensures.calls in
     let within = c.requires.room c.requires.few in
     (search rules, (omega (arith, c.alloc_bulk.auto.out, within), bulk_there _ _ _ _ _ done.2))
 
+-- The bulk's calls are the act's, and the reply lists its slots with the elements there.
 pub returns-in-Ok-clause-calls : goal.returns-in-Ok-clause-calls
 returns-in-Ok-clause-calls g c =
     let done = c.in-Ok.ensures.calls in
     (done.0, done.1, (Ok c.alloc_bulk.new.out, done.2, ap Bulk (list_is c.new_packets.result _ c.new_packets.ensures)))
 
+-- The bulk's calls are the act's, and the reply tells the cause.
 pub returns-in-Err-clause-calls : goal.returns-in-Err-clause-calls
-returns-in-Err-clause-calls g c = let done = c.in-Err.ensures.calls in (done.0, done.1, (Err c.in-Err.cause, done.2, refl))
+returns-in-Err-clause-calls g c =
+    let done = c.in-Err.ensures.calls in (done.0, done.1, (Err c.in-Err.cause, done.2, refl))
 
+-- The elements that the reply lists are those of the new packets.
 pub returns-in-Ok-clause-fresh : goal.returns-in-Ok-clause-fresh
 returns-in-Ok-clause-fresh g c =
     let done = c.in-Ok.ensures.calls in
     let m = c.args.packets.now in
     subst (λ (es : List ℕ). AreFresh m.limits.population (held_in m.table) es)
-    (bulk_elements _ _ _ _ _ done.2 ∙ ap (λ (list : List NewPacket). map (λ (packet : NewPacket). packet.elem) list) (sym c.new_packets.ensures)) c.in-Ok.ensures.fresh
+    (bulk_elements _ _ _ _ _ done.2 ∙ ap
+    (λ (list : List NewPacket). map (λ (packet : NewPacket). packet.elem) list)
+    (sym c.new_packets.ensures)) c.in-Ok.ensures.fresh

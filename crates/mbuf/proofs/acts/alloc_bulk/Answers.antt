@@ -9,20 +9,48 @@ use Rattle.mbuf.specs.PacketRules.{TooFull}
 use Rattle.mbuf.proofs.FreeLemmas.{free_within}
 use Rattle.mbuf.proofs.acts.alloc_bulk.Goals as goal
 
+-- More are asked for than there are slots, so fewer are free, and nothing is asked.
 pub returns-then-count-gt-SLOTS-clause-calls : goal.returns-then-count-gt-SLOTS-clause-calls
-returns-then-count-gt-SLOTS-clause-calls g c =
-    ([], refl, (Err PacketsFull, TooFull (omega (arith, free_within 0 c.args.packets.now.table, c.has_slots.ensures, c.if-count-gt-SLOTS.true)) refl refl refl, refl))
+returns-then-count-gt-SLOTS-clause-calls g c = (
+  [],
+  refl,
+  (
+    Err PacketsFull,
+    TooFull (omega (
+      arith,
+      free_within 0 c.args.packets.now.table,
+      c.has_slots.ensures,
+      c.if-count-gt-SLOTS.true,
+    )) refl refl refl,
+    refl,
+  ),
+)
 
 -- as many places are lent as are asked for
 lent : (count : ℕ) → count ≤ slots → length (take count (replicate {A = ℕ} slots 0)) ≡ count
 lent count few = omega (arith, length-take count (replicate {A = ℕ} slots 0), few)
 
+-- As many places are lent as are asked for, so the bulk is that of the act.
 pub returns-clause-calls : goal.returns-clause-calls
 returns-clause-calls g c =
-    let done = c.alloc_all.ensures.calls in
-    (done.0, done.1, subst (λ (n : ℕ). Performs (AllocBulk n) c.args.packets.now (calls_of done.0) (as_reply c.alloc_all.result) c.alloc_all.new.packets) (lent c.args.count c.if-count-gt-SLOTS.false) done.2)
+    let done = c.alloc_all.ensures.calls in (
+      done.0,
+      done.1,
+      subst (λ (n : ℕ). Performs (AllocBulk n) c.args.packets.now (calls_of done.0)
+          (as_reply c.alloc_all.result) c.alloc_all.new.packets)
+          (lent c.args.count c.if-count-gt-SLOTS.false) done.2,
+    )
 
+-- As many places are lent as are asked for, which are no more than the slots.
 pub alloc_all-requires : goal.alloc_all-requires
 alloc_all-requires g c =
-    let lent = lent c.args.count c.if-count-gt-SLOTS.false in
-    (search rules, (c.requires.own, (omega (arith, lent, c.if-count-gt-SLOTS.false), subst (λ (n : ℕ). HasRoom g.row.ROOM (AllocBulk n)) (sym lent) c.requires.room)))
+    let lent = lent c.args.count c.if-count-gt-SLOTS.false in (
+      search rules,
+      (
+        c.requires.own,
+        (
+          omega (arith, lent, c.if-count-gt-SLOTS.false),
+          subst (λ (n : ℕ). HasRoom g.row.ROOM (AllocBulk n)) (sym lent) c.requires.room,
+        ),
+      ),
+    )

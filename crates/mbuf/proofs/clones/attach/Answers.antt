@@ -3,6 +3,7 @@ use Rattle.commons.specs.Calls.{CountOf}
 use Rattle.commons.proofs.Leading.{Leads-one, made_by}
 use Rattle.mbuf.proofs.clones.attach.Goals as goal
 
+-- The one call read another count than 1.
 pub returns-then-count-ne1-clause-calls : goal.returns-then-count-ne1-clause-calls
 returns-then-count-ne1-clause-calls g c =
     let did = g.C.Commons.did in
@@ -13,6 +14,7 @@ returns-then-count-ne1-clause-calls g c =
       inl (c.count.result, c.if-count-ne1.true, refl, refl),
     )
 
+-- The count that was read is 1, and then the buffer's count was raised.
 pub returns-in-Ok-clause-calls : goal.returns-in-Ok-clause-calls
 returns-in-Ok-clause-calls g c =
     let count = rw c.if-count-ne1.false at c.count.ensures.did in
@@ -22,6 +24,7 @@ returns-in-Ok-clause-calls g c =
       (refl, c.attached.ensures.seg),
     )
 
+-- The count that was read is 1, but the raise of the buffer's was refused.
 pub returns-in-Err-clause-calls : goal.returns-in-Err-clause-calls
 returns-in-Err-clause-calls g c =
     let count = rw c.if-count-ne1.false at c.count.ensures.did in

@@ -9,13 +9,21 @@ use Rattle.mbuf.proofs.clones.clone_segs.Given as goal
 -- the segments so far are cloned, and what isn't cloned yet stands where it stood
 abbrev pub invariant-loop-index : goal.invariant-loop-index
 invariant-loop-index g l = record {
-  cloned : ClonedSo g.C.Commons.did g.C.Commons.side l.fn.c l.c l.fn.worker.limits (take l.index (get_or l.fn.packets.items l.source [])) l.fn.worker.cache (take l.index (get_or l.packets.items l.slot [])) l.worker.cache;
+  cloned : ClonedSo g.C.Commons.did g.C.Commons.side l.fn.c l.c l.fn.worker.limits
+      (take l.index (get_or l.fn.packets.items l.source [])) l.fn.worker.cache
+      (take l.index (get_or l.packets.items l.slot [])) l.worker.cache;
   packets : l.packets.items ≡ set l.fn.packets.items l.slot (get_or l.packets.items l.slot []);
   all : 0 < l.index → length (get_or l.packets.items l.slot []) ≡ l.index;
   hand : (i : ℕ) → (g.C.Commons.side l.c).hand i ≡ bag l.worker.cache i;
-  holds : (i : ℕ) → (g.C.Commons.side l.c).holds i ≡ (g.C.Commons.side l.fn.c).holds i + bag (holds_of_packet (take l.index (get_or l.packets.items l.slot []))) i;
-  headers : (i : ℕ) → (g.C.Commons.side l.c).headers i ≡ (g.C.Commons.side l.fn.c).headers i + bag (map (λ (seg : Seg). seg.elem) (take l.index (get_or l.packets.items l.slot []))) i;
-  unheld : (i : ℕ) → 0 < bag (map (λ (seg : Seg). seg.elem) (take l.index (get_or l.packets.items l.slot []))) i → (g.C.Commons.side l.fn.c).holds i ≡ 0;
+  holds : (i : ℕ) → (g.C.Commons.side l.c).holds i
+      ≡ (g.C.Commons.side l.fn.c).holds i
+      + bag (holds_of_packet (take l.index (get_or l.packets.items l.slot []))) i;
+  headers : (i : ℕ) → (g.C.Commons.side l.c).headers i
+      ≡ (g.C.Commons.side l.fn.c).headers i
+      + bag (map (λ (seg : Seg). seg.elem) (take l.index (get_or l.packets.items l.slot []))) i;
+  unheld : (i : ℕ) →
+      0 < bag (map (λ (seg : Seg). seg.elem) (take l.index (get_or l.packets.items l.slot []))) i →
+      (g.C.Commons.side l.fn.c).holds i ≡ 0;
   limits : (g.C.Commons.side l.c).limits ≡ (g.C.Commons.side l.fn.c).limits;
   number : KeepsNumber l.fn.worker l.worker;
 }

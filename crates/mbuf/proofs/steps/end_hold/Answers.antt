@@ -4,13 +4,21 @@ use Rattle.commons.specs.declared.refusal.Lowered.TheVariants.{Last, Still}
 use Rattle.mbuf.specs.PacketRules.{Stays, GoesBack}
 use Rattle.mbuf.proofs.steps.end_hold.Goals as goal
 
+-- Another hold was left: the one call lowered the count, and the cache is as before.
 pub returns-in-Still-clause-calls : goal.returns-in-Still-clause-calls
 returns-in-Still-clause-calls g c =
-    let d = c.in-Still.ensures.did in
-    (record { call = Lower c.args.elem Still; readings = d.readings } ∷ [], (c.lower.new.self, d.step, refl), Stays refl refl refl)
+    let d = c.in-Still.ensures.did in (
+      record { call = Lower c.args.elem Still; readings = d.readings } ∷ [],
+      (c.lower.new.self, d.step, refl),
+      Stays refl refl refl,
+    )
 
+-- The last hold went: the calls are the lower and then those of the put of the element.
 pub returns-in-Last-clause-calls : goal.returns-in-Last-clause-calls
 returns-in-Last-clause-calls g c =
     let d = c.in-Last.ensures.did in
-    let e = c.put_bulk.ensures.calls in
-    (record { call = Lower c.args.elem Last; readings = d.readings } ∷ e.0, (c.lower.new.self, d.step, e.1), GoesBack (calls_of e.0) c.put_bulk.result e.2 refl c.counted.ensures.counted)
+    let e = c.put_bulk.ensures.calls in (
+      record { call = Lower c.args.elem Last; readings = d.readings } ∷ e.0,
+      (c.lower.new.self, d.step, e.1),
+      GoesBack (calls_of e.0) c.put_bulk.result e.2 refl c.counted.ensures.counted,
+    )

@@ -3,11 +3,13 @@ use Rattle.commons.proofs.Bags.{bag-of_one}
 use Rattle.mbuf.proofs.ListLemmas.{one_alone}
 use Rattle.mbuf.proofs.steps.get_one.Goals as goal
 
+-- A list of one element is that element alone.
 pub returns-in-Ok-clause-calls : goal.returns-in-Ok-clause-calls
 returns-in-Ok-clause-calls g c =
     let len : length c.get_bulk.new.out ≡ 1 = omega (arith, c.get_bulk.auto.out) in
     rw (sym (one_alone c.get_bulk.new.out len)) c.in-Ok.ensures.calls
 
+-- What left the cache is the one element that was answered.
 pub returns-in-Ok-clause-hand : goal.returns-in-Ok-clause-hand
 returns-in-Ok-clause-hand g c = λ i.
     let len : length c.get_bulk.new.out ≡ 1 = omega (arith, c.get_bulk.auto.out) in

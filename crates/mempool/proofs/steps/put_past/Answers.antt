@@ -3,6 +3,7 @@ use Rattle.std.proofs.Math.Seq.{drop-append_seam}
 use Rattle.mempool.specs.Caches.{Stays}
 use Rattle.mempool.proofs.steps.put_past.Goals as goal
 
+-- The push of the list was refused, and the list stays behind the cache.
 pub returns-in-Err-clause-calls : goal.returns-in-Err-clause-calls
 returns-in-Err-clause-calls g c =
     let cache = c.args.cache.now.items in

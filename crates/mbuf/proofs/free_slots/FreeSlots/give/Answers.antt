@@ -6,9 +6,17 @@ use Rattle.mbuf.specs.inside.Bits.{flags_of}
 use Rattle.mbuf.proofs.BitLemmas.{flags-set, length-flags, counted_up}
 use Rattle.mbuf.proofs.free_slots.FreeSlots.give.Goals as goal
 
+-- The count is that of the flags that are up, of which there are 256 at most.
 pub overflow_add-self : goal.overflow_add-self
-overflow_add-self c = omega (arith, c.self.invariant, count_by-le-length (λ (free : Bool). free) (flags_of c.self.inside.words), length-flags c.self.inside.words)
+overflow_add-self c =
+    omega (
+      arith,
+      c.self.invariant,
+      count_by-le-length (λ (free : Bool). free) (flags_of c.self.inside.words),
+      length-flags c.self.inside.words,
+    )
 
+-- One flag more is up, and the count is one more.
 pub invariant_of-self : goal.invariant_of-self
 invariant_of-self c =
     let slot = c.args.slot in
@@ -21,6 +29,7 @@ invariant_of-self c =
     (λ k l apart. bit_at_set_other w64 _ (slot % 64) low k apart) in
     ap (λ (n : ℕ). n + 1) c.self.invariant ∙ sym more ∙ sym (ap (λ (fs : List Bool). count_by (λ free. free) fs) now)
 
+-- The bit that is set is the slot's flag, and no other bit changes.
 pub returns : goal.returns
 returns c =
     let slot = c.args.slot in

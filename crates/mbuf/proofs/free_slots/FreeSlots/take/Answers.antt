@@ -5,12 +5,14 @@ use Rattle.mbuf.specs.inside.Bits.{flags_of}
 use Rattle.mbuf.proofs.BitLemmas.{flags-set, length-flags, counted_down, one_fewer}
 use Rattle.mbuf.proofs.free_slots.FreeSlots.take.Goals as goal
 
+-- The slot's flag is up, so the count isn't 0.
 pub overflow_sub-self : goal.overflow_sub-self
 overflow_sub-self c =
     let flags = flags_of c.self.inside.words in
     let within : c.args.slot < length flags = omega (arith, c.requires.within, length-flags c.self.inside.words) in
     omega (arith, c.self.invariant, counted_down flags c.args.slot within (rw (sym c.self.view_is) at c.requires.free))
 
+-- One flag fewer is up, and the count is one less.
 pub invariant_of-self : goal.invariant_of-self
 invariant_of-self c =
     let slot = c.args.slot in
@@ -23,6 +25,7 @@ invariant_of-self c =
     (λ k l apart. bit_at_clear_other w64 _ (slot % 64) low k l apart) in
     one_fewer _ _ _ c.self.invariant more ∙ sym (ap (λ (fs : List Bool). count_by (λ free. free) fs) now)
 
+-- The bit that is cleared is the slot's flag, and no other bit changes.
 pub returns : goal.returns
 returns c =
     let slot = c.args.slot in

@@ -18,18 +18,22 @@ use Rattle.mbuf.proofs.OwnLemmas.{free_slot-is}
 use Rattle.mbuf.proofs.TableLemmas.{member_is}
 use Rattle.mbuf.proofs.packets.Packets.alloc.Goals as goal
 
+-- The free slots are as many as their count, which is 0: no slot is free, and nothing is asked.
 pub returns-then-count-eq0-clause-calls : goal.returns-then-count-eq0-clause-calls
 returns-then-count-eq0-clause-calls g c =
     let inv = c.self.invariant in
     let flags = c.self.inside.free in
     let packets = c.self.inside.packets.items in
-    let none = none_free (shown flags packets) (length-free 0 flags packets (inv.packets ∙ sym inv.flags) ∙ sym c.count.ensures ∙ c.if-count-eq0.true) in
+    let none =
+    none_free (shown flags packets) (length-free 0 flags packets (inv.packets ∙ sym inv.flags)
+    ∙ sym c.count.ensures ∙ c.if-count-eq0.true) in
     rw (sym c.self.view_is) ([], refl, Full none refl refl refl)
 
 -- some slot is free
 some_free : (count free : ℕ) → (count ≡ 0 → ⊥) → free ≡ count → 0 < free
 some_free count free some e = omega (arith, some, e)
 
+-- A slot is free, since the count isn't 0; the get was refused, and it left the cache as it was.
 pub returns-in-Err-clause-calls : goal.returns-in-Err-clause-calls
 returns-in-Err-clause-calls g c =
     let inv = c.self.invariant in
@@ -37,27 +41,39 @@ returns-in-Err-clause-calls g c =
     let w = c.get_one.new.worker in
     let before = c.self.inside.worker in
     let got = c.in-Err.ensures.calls in
-    let free = first_free table (some_free c.count.result (length (free_slots table)) c.if-count-eq0.false (length-free 0 c.self.inside.free c.self.inside.packets.items (inv.packets ∙ sym inv.flags) ∙ sym c.count.ensures)) in
+    let free =
+    first_free table (some_free c.count.result (length (free_slots table)) c.if-count-eq0.false
+    (length-free 0 c.self.inside.free c.self.inside.packets.items
+    (inv.packets ∙ sym inv.flags) ∙ sym c.count.ensures)) in
     rw (sym c.self.view_is) (
       got.0,
       got.1,
       NotGot (position_or_len is_none table) free c.in-Err.cause (rw c.in-Err.ensures.cache_err at got.2) refl
-          (member_is w.limits before.limits w.number before.number w.cache table table c.in-Err.ensures.number.limits c.in-Err.ensures.number.number refl
-          ∙ ap (λ (cache : List ℕ). let m : Member = record { limits = before.limits; number = before.number; cache = cache; table = table } in m) c.in-Err.ensures.cache_err),
+          (member_is w.limits before.limits w.number before.number w.cache table table
+          c.in-Err.ensures.number.limits c.in-Err.ensures.number.number refl
+          ∙ ap (λ (cache : List ℕ). let m : Member =
+          record
+          { limits = before.limits; number = before.number; cache = cache; table = table }
+          in m) c.in-Err.ensures.cache_err),
     )
 
+-- The hand has what the cache has and, beside it, the element that was got.
 pub stand-requires-clause-hand : goal.stand-requires-clause-hand
 stand-requires-clause-hand g c =
     let own = rw (sym c.self.view_is) at c.requires.own in
     let e = c.in-Ok.elem in
     omega (arith, own.cached e, c.in-Ok.ensures.hand e, one-same e)
 
+-- The count of the free slots isn't 0, so one of them is free.
 pub stand-requires-clause-free : goal.stand-requires-clause-free
 stand-requires-clause-free g c =
     let inv = c.self.invariant in
     let table = shown c.self.inside.free c.self.inside.packets.items in
-    some_free c.count.result (length (free_slots table)) c.if-count-eq0.false (length-free 0 c.self.inside.free c.self.inside.packets.items (inv.packets ∙ sym inv.flags) ∙ sym c.count.ensures)
+    some_free c.count.result (length (free_slots table)) c.if-count-eq0.false
+    (length-free 0 c.self.inside.free c.self.inside.packets.items (inv.packets ∙ sym inv.flags)
+    ∙ sym c.count.ensures)
 
+-- The calls are those of the get and then the claim of what it gave, whose packet stands lowest.
 pub returns-in-Ok-clause-calls : goal.returns-in-Ok-clause-calls
 returns-in-Ok-clause-calls g c =
     let table = shown c.self.inside.free c.self.inside.packets.items in
@@ -73,12 +89,16 @@ returns-in-Ok-clause-calls g c =
     let made = made_by did side c.get_one.new.c (Claim e) c.stand.new.c stand.did in
     rw (sym c.self.view_is) (
       got.0 ++ made ∷ [],
-      Leads-append did side got.0 (made ∷ []) c.args.c.now c.get_one.new.c c.stand.new.c got.1 (Leads-one did side c.get_one.new.c (Claim e) c.stand.new.c stand.did),
+      Leads-append did side got.0 (made ∷ []) c.args.c.now c.get_one.new.c c.stand.new.c got.1
+          (Leads-one did side c.get_one.new.c (Claim e) c.stand.new.c stand.did),
       Fresh slot e stand.slot (calls_of got.0) w.cache got.2 (calls_of-append got.0 (made ∷ [])) refl
-          (stand.stood ∙ member_is w.limits before.limits w.number before.number w.cache (set table slot (Some (fresh_seg w.limits e ∷ []))) (set table slot (Some (fresh_seg before.limits e ∷ []))) number.limits number.number
+          (stand.stood ∙ member_is w.limits before.limits w.number before.number w.cache
+          (set table slot (Some (fresh_seg w.limits e ∷ [])))
+          (set table slot (Some (fresh_seg before.limits e ∷ []))) number.limits number.number
           (ap (λ (l : Limits). set table slot (Some (fresh_seg l e ∷ []))) number.limits)),
     )
 
+-- The new element left the cache for the table, and one hold and one header came with it.
 pub returns-in-Ok-clause-own : goal.returns-in-Ok-clause-own
 returns-in-Ok-clause-own g c =
     let inv = c.self.invariant in
@@ -96,15 +116,25 @@ returns-in-Ok-clause-own g c =
     let last = c.stand.new.c in
     let side = g.C.Commons.side in
     let rest = taken_first table slot (fresh_seg before.limits e ∷ []) stand.slot in
-    let is = stand.stood ∙ member_is w.limits before.limits w.number before.number w.cache (set table slot (Some (fresh_seg w.limits e ∷ []))) (stood before.limits (e ∷ []) (take 1 (free_slots table)) table) number.limits number.number
+    let is =
+    stand.stood ∙ member_is w.limits before.limits w.number before.number w.cache
+    (set table slot (Some (fresh_seg w.limits e ∷ [])))
+    (stood before.limits (e ∷ []) (take 1 (free_slots table)) table) number.limits
+    number.number
     (rw rest (ap (λ (l : Limits). set table slot (Some (fresh_seg l e ∷ []))) number.limits)) in
     let own = rw (sym c.self.view_is) at c.requires.own in
     subst (λ (m : Member). Own m (side last)) (sym is)
     (own_stood (member_of c.self.inside) (side first) (side mid) (side last)
     w.cache (e ∷ []) own (effect.limits ∙ got.limits)
-    (some_free c.count.result (length (free_slots table)) c.if-count-eq0.false (length-free 0 c.self.inside.free c.self.inside.packets.items (inv.packets ∙ sym inv.flags) ∙ sym c.count.ensures))
-    (λ i. omega (arith, got.hand i, bag-single e i)) got.holds got.headers (λ i. omega (arith, effect.hand i, bag-single e i)) (λ i. omega (arith, effect.holds i, bag-single e i)) (λ i. omega (arith, effect.headers i, bag-single e i)))
+    (some_free c.count.result (length (free_slots table)) c.if-count-eq0.false
+    (length-free 0 c.self.inside.free c.self.inside.packets.items
+    (inv.packets ∙ sym inv.flags) ∙ sym c.count.ensures))
+    (λ i. omega (arith, got.hand i, bag-single e i)) got.holds got.headers
+    (λ i. omega (arith, effect.hand i, bag-single e i))
+    (λ i. omega (arith, effect.holds i, bag-single e i))
+    (λ i. omega (arith, effect.headers i, bag-single e i)))
 
+-- The element was in the hand, and what is in a hand has no holds: so no packet had it.
 pub returns-in-Ok-clause-fresh : goal.returns-in-Ok-clause-fresh
 returns-in-Ok-clause-fresh g c =
     let table = shown c.self.inside.free c.self.inside.packets.items in
@@ -121,10 +151,17 @@ returns-in-Ok-clause-fresh g c =
     let met = g.met.C.Commons in
     let own = rw (sym c.self.view_is) at c.requires.own in
     let list : own_in_slots c.stand.new.self.table (slot ∷ []) ≡ e ∷ [] =
-    ap (λ (m : Member). own_in_slots m.table (slot ∷ [])) stand.stood ∙ own_in_one table slot (fresh_seg w.limits e ∷ []) (free_slot-is table slot stand.slot).0 in
-    let none = unheld ((side mid).hand e) ((side mid).holds e) (met.apart mid e) (omega (arith, own.cached e, got.hand e, one-same e)) in
+    ap (λ (m : Member). own_in_slots m.table (slot ∷ [])) stand.stood
+    ∙ own_in_one table slot (fresh_seg w.limits e ∷ []) (free_slot-is table slot stand.slot).0
+    in
+    let none =
+    unheld ((side mid).hand e) ((side mid).holds e) (met.apart mid e)
+    (omega (arith, own.cached e, got.hand e, one-same e)) in
     let nobodys : held_in table e ≡ 0 = omega (arith, none, ap (λ (f : ℕ → ℕ). f e) got.holds, own.held e) in
-    let same : (side last).limits.population ≡ l.population = ap (λ (x : Limits). x.population) (effect.limits ∙ got.limits ∙ sym own.limits) in
+    let same : (side last).limits.population ≡ l.population =
+    ap (λ (x : Limits). x.population) (effect.limits ∙ got.limits ∙ sym own.limits) in
     rw (sym c.self.view_is, list)
-    (fresh_headers (side mid) (side last) l.population (held_in table) (e ∷ []) (met.header_once last) (met.header_held last) (λ i b. met.holds_below last i (omega (arith, same, b)))
+    (fresh_headers (side mid) (side last) l.population (held_in table) (e ∷ [])
+    (met.header_once last) (met.header_held last)
+    (λ i b. met.holds_below last i (omega (arith, same, b)))
     (λ i. omega (arith, effect.headers i, bag-single e i)) (λ i some. rw (single_is e i some) nobodys))

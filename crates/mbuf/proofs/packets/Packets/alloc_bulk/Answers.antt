@@ -15,12 +15,18 @@ use Rattle.mbuf.proofs.FreshLemmas.{fresh_headers, own_in_stood}
 use Rattle.mbuf.proofs.TableLemmas.{member_is}
 use Rattle.mbuf.proofs.packets.Packets.alloc_bulk.Goals as goal
 
+-- The free slots are as many as their count, which is below what was asked for.
 pub returns-then-count-out-clause-calls : goal.returns-then-count-out-clause-calls
 returns-then-count-out-clause-calls g c =
     let inv = c.self.invariant in
     let free = length-free 0 c.self.inside.free c.self.inside.packets.items (inv.packets ∙ sym inv.flags) in
-    rw (sym c.self.view_is) ([], refl, TooFull (omega (arith, free, c.count.ensures, c.if-count-out.true)) refl refl refl)
+    rw (sym c.self.view_is) (
+      [],
+      refl,
+      TooFull (omega (arith, free, c.count.ensures, c.if-count-out.true)) refl refl refl,
+    )
 
+-- There is room for all, but the get was refused, and it left the cache as it was.
 pub returns-in-Err-clause-calls : goal.returns-in-Err-clause-calls
 returns-in-Err-clause-calls g c =
     let inv = c.self.invariant in
@@ -33,21 +39,40 @@ returns-in-Err-clause-calls g c =
     rw (sym c.self.view_is) (
       got.0,
       got.1,
-      BulkNotGot (omega (arith, free, c.count.ensures, c.if-count-out.false)) c.in-Err.cause (rw c.in-Err.ensures.cache_err at got.2) refl
-          (member_is w.limits before.limits w.number before.number w.cache (shown flags packets) (shown flags packets) c.in-Err.ensures.number.limits c.in-Err.ensures.number.number refl
-          ∙ ap (λ (cache : List ℕ). let m : Member = record { limits = before.limits; number = before.number; cache = cache; table = shown flags packets } in m) c.in-Err.ensures.cache_err),
+      BulkNotGot (omega (arith, free, c.count.ensures, c.if-count-out.false)) c.in-Err.cause
+          (rw c.in-Err.ensures.cache_err at got.2) refl
+          (member_is w.limits before.limits w.number before.number w.cache (shown flags packets)
+          (shown flags packets) c.in-Err.ensures.number.limits c.in-Err.ensures.number.number
+          refl
+          ∙ ap (λ (cache : List ℕ). let m : Member =
+          record {
+            limits = before.limits;
+            number = before.number;
+            cache = cache;
+            table = shown flags packets;
+          } in m) c.in-Err.ensures.cache_err),
     )
 
+-- The hand has what the cache has and, beside it, the elements that were got.
 pub stand_all-requires-clause-hand : goal.stand_all-requires-clause-hand
 stand_all-requires-clause-hand g c = λ i.
     let own = rw (sym c.self.view_is) at c.requires.own in
     omega (arith, own.cached i, c.in-Ok.ensures.hand i)
 
+-- The count of the free slots is no less than what was asked for, and as many were got.
 pub stand_all-requires-clause-free : goal.stand_all-requires-clause-free
 stand_all-requires-clause-free g c =
     let inv = c.self.invariant in
-    omega (arith, length-free 0 c.self.inside.free c.self.inside.packets.items (inv.packets ∙ sym inv.flags), c.count.ensures, c.if-count-out.false, c.get_bulk.auto.out)
+    omega (
+      arith,
+      length-free 0 c.self.inside.free c.self.inside.packets.items
+          (inv.packets ∙ sym inv.flags),
+      c.count.ensures,
+      c.if-count-out.false,
+      c.get_bulk.auto.out,
+    )
 
+-- The calls are those of the get and then a claim of each element, in the order of the get.
 pub returns-in-Ok-clause-calls : goal.returns-in-Ok-clause-calls
 returns-in-Ok-clause-calls g c =
     let inv = c.self.invariant in
@@ -66,15 +91,31 @@ returns-in-Ok-clause-calls g c =
     rw (sym c.self.view_is) (
       got.0 ++ stand.calls.0,
       Leads-append did side got.0 stand.calls.0 c.args.c.now c.get_bulk.new.c c.stand_all.new.c got.1 stand.calls.1,
-      FreshBulk es long (omega (arith, length-free 0 c.self.inside.free c.self.inside.packets.items (inv.packets ∙ sym inv.flags), c.count.ensures, c.if-count-out.false)) (calls_of got.0) w.cache got.2
+      FreshBulk es long (omega (
+        arith,
+        length-free 0 c.self.inside.free c.self.inside.packets.items
+            (inv.packets ∙ sym inv.flags),
+        c.count.ensures,
+        c.if-count-out.false,
+      ))
+          (calls_of got.0) w.cache got.2
           (calls_of-append got.0 stand.calls.0 ∙ ap (λ (calls : List Call). calls_of got.0 ++ calls) stand.calls.2)
           (ap (λ (out : List ℕ). let r : Result (List ℕ) Refusal = Ok out in r) listed)
           (stand.stood
-          ∙ ap (λ (out : List ℕ). let m : Member = record { limits = w.limits; number = w.number; cache = w.cache; table = stood w.limits es out table } in m) listed
-          ∙ member_is w.limits before.limits w.number before.number w.cache (stood w.limits es slots table) (stood before.limits es slots table) number.limits number.number
+          ∙ ap (λ (out : List ℕ). let m : Member =
+          record {
+            limits = w.limits;
+            number = w.number;
+            cache = w.cache;
+            table = stood w.limits es out table;
+          } in m) listed
+          ∙ member_is w.limits before.limits w.number before.number w.cache
+          (stood w.limits es slots table) (stood before.limits es slots table) number.limits
+          number.number
           (ap (λ (l : Limits). stood l es slots table) number.limits)),
     )
 
+-- The new elements left the cache for the table, each with one hold and one header.
 pub returns-in-Ok-clause-own : goal.returns-in-Ok-clause-own
 returns-in-Ok-clause-own g c =
     let inv = c.self.invariant in
@@ -91,16 +132,32 @@ returns-in-Ok-clause-own g c =
     let last = c.stand_all.new.c in
     let side = g.C.Commons.side in
     let is = stand.stood
-    ∙ ap (λ (out : List ℕ). let m : Member = record { limits = w.limits; number = w.number; cache = w.cache; table = stood w.limits es out table } in m) stand.slots
-    ∙ member_is w.limits before.limits w.number before.number w.cache (stood w.limits es slots table) (stood before.limits es slots table) number.limits number.number
+    ∙ ap (λ (out : List ℕ). let m : Member =
+    record {
+      limits = w.limits;
+      number = w.number;
+      cache = w.cache;
+      table = stood w.limits es out table;
+    } in m) stand.slots
+    ∙ member_is w.limits before.limits w.number before.number w.cache
+    (stood w.limits es slots table) (stood before.limits es slots table) number.limits
+    number.number
     (ap (λ (l : Limits). stood l es slots table) number.limits) in
     let own = rw (sym c.self.view_is) at c.requires.own in
     subst (λ (m : Member). Own m (side last)) (sym is)
     (own_stood (member_of c.self.inside) (side first) (side mid) (side last)
     w.cache es own (stand.limits ∙ got.limits)
-    (omega (arith, length-free 0 c.self.inside.free c.self.inside.packets.items (inv.packets ∙ sym inv.flags), c.count.ensures, c.if-count-out.false, c.get_bulk.auto.out))
+    (omega (
+      arith,
+      length-free 0 c.self.inside.free c.self.inside.packets.items
+          (inv.packets ∙ sym inv.flags),
+      c.count.ensures,
+      c.if-count-out.false,
+      c.get_bulk.auto.out,
+    ))
     got.hand got.holds got.headers stand.hand stand.holds stand.headers)
 
+-- The elements were in the hand, and what is in a hand has no holds: so no packet had them.
 pub returns-in-Ok-clause-fresh : goal.returns-in-Ok-clause-fresh
 returns-in-Ok-clause-fresh g c =
     let inv = c.self.invariant in
@@ -116,18 +173,41 @@ returns-in-Ok-clause-fresh g c =
     let last = c.stand_all.new.c in
     let side = g.C.Commons.side in
     let is = stand.stood
-    ∙ ap (λ (out : List ℕ). let m : Member = record { limits = w.limits; number = w.number; cache = w.cache; table = stood w.limits es out table } in m) stand.slots
-    ∙ member_is w.limits before.limits w.number before.number w.cache (stood w.limits es slots table) (stood before.limits es slots table) number.limits number.number
+    ∙ ap (λ (out : List ℕ). let m : Member =
+    record {
+      limits = w.limits;
+      number = w.number;
+      cache = w.cache;
+      table = stood w.limits es out table;
+    } in m) stand.slots
+    ∙ member_is w.limits before.limits w.number before.number w.cache
+    (stood w.limits es slots table) (stood before.limits es slots table) number.limits
+    number.number
     (ap (λ (l : Limits). stood l es slots table) number.limits) in
     let own = rw (sym c.self.view_is) at c.requires.own in
     let met = g.met.C.Commons in
     let l = before.limits in
-    let room : length es ≤ length (free_slots table) = omega (arith, length-free 0 c.self.inside.free c.self.inside.packets.items (inv.packets ∙ sym inv.flags), c.count.ensures, c.if-count-out.false, c.get_bulk.auto.out) in
+    let room : length es ≤ length (free_slots table) =
+    omega (
+      arith,
+      length-free 0 c.self.inside.free c.self.inside.packets.items
+          (inv.packets ∙ sym inv.flags),
+      c.count.ensures,
+      c.if-count-out.false,
+      c.get_bulk.auto.out,
+    ) in
     let list : own_in_slots c.stand_all.new.self.table c.stand_all.new.out ≡ es =
-    ap (λ (m : Member). own_in_slots m.table c.stand_all.new.out) is ∙ ap (λ (out : List ℕ). own_in_slots (stood l es slots table) out) stand.slots ∙ own_in_stood l es table room in
-    let same : (side last).limits.population ≡ l.population = ap (λ (x : Limits). x.population) (stand.limits ∙ got.limits ∙ sym own.limits) in
+    ap (λ (m : Member). own_in_slots m.table c.stand_all.new.out) is
+    ∙ ap (λ (out : List ℕ). own_in_slots (stood l es slots table) out) stand.slots
+    ∙ own_in_stood l es table room in
+    let same : (side last).limits.population ≡ l.population =
+    ap (λ (x : Limits). x.population) (stand.limits ∙ got.limits ∙ sym own.limits) in
     rw (sym c.self.view_is, list)
-    (fresh_headers (side mid) (side last) l.population (held_in table) es (met.header_once last) (met.header_held last) (λ i b. met.holds_below last i (omega (arith, same, b))) stand.headers
+    (fresh_headers (side mid) (side last) l.population (held_in table) es (met.header_once last)
+    (met.header_held last) (λ i b. met.holds_below last i (omega (arith, same, b)))
+    stand.headers
     (λ i some.
-    let none = unheld ((side mid).hand i) ((side mid).holds i) (met.apart mid i) (omega (arith, own.cached i, got.hand i, some)) in
+    let none =
+    unheld ((side mid).hand i) ((side mid).holds i) (met.apart mid i)
+    (omega (arith, own.cached i, got.hand i, some)) in
     omega (arith, none, ap (λ (f : ℕ → ℕ). f i) got.holds, own.held i)))

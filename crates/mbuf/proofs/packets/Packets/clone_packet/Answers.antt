@@ -1,227 +1,193 @@
-use Rattle.std.proofs.Common.{◌≡◌, ◌<◌, ℕ, [], ◌∷◌, List, length, set, get_or, Option, Some, None, Bool, true, false, refl, sym, ap, subst, ◌∙◌, arith}
-use Rattle.std.proofs.lemmas.List.Quantifiers.{position-Some}
+use Rattle.std.proofs.Common.{◌≡◌, ℕ, [], ◌∷◌, List, get_or, Option, Some, None, refl, sym, ap, subst, ◌∙◌, arith}
+use Rattle.commons.specs.declared.limits.Limits.{Limits}
 use Rattle.commons.specs.declared.packet.Seg.{Seg}
 use Rattle.commons.specs.declared.refusal.Refusal.TheVariants.{NoSuchPacket, PacketsFull}
-use Rattle.mbuf.specs.inside.Kept.{member_of, shown}
+use Rattle.commons.specs.Packets.{held_in, own_of_packet}
+use Rattle.mbuf.specs.inside.Kept.{member_of}
+use Rattle.mbuf.specs.Fresh.{own_in_slots}
 use Rattle.mbuf.specs.Members.{Member}
 use Rattle.mbuf.specs.Own.{Own}
 use Rattle.mbuf.specs.PacketRules.{free_slot}
 use Rattle.mbuf.specs.Sharing.{clonable, NotClonable, WasGivenUp, WasCloned}
-use Rattle.mbuf.proofs.OwnLemmas.{free_slot-is}
-use Rattle.commons.specs.declared.limits.Limits.{Limits}
-use Rattle.commons.specs.Packets.{held_in, own_of_packet}
-use Rattle.mbuf.specs.Fresh.{own_in_slots}
 use Rattle.mbuf.proofs.FreshLemmas.{fresh_headers, own_in_one}
+use Rattle.mbuf.proofs.OwnLemmas.{free_slot-is}
+use Rattle.mbuf.proofs.PlaceLemmas.{alike, filled, found, hidden, lowest, standing}
 use Rattle.mbuf.proofs.SharingLemmas.{in_slot_held, own_cloned, own_given_up}
-use Rattle.mbuf.proofs.TableLemmas.{free_slot-shown, shown_some, shown-set, shown_hidden, member_is}
+use Rattle.mbuf.proofs.TableLemmas.{free_slot-shown}
 use Rattle.mbuf.proofs.packets.Packets.clone_packet.Goals as goal
 
+-- No packet stands in the slot, so none can be cloned, and nothing is asked.
 pub returns-in_default-clause-calls : goal.returns-in_default-clause-calls
 returns-in_default-clause-calls g c =
-    let m = c.args.self.now in
-    ([], refl, NotClonable NoSuchPacket (ap (λ (o : Option (List Seg)). clonable o (free_slot m.table)) c.in_default.ensures) refl refl refl)
+    let m = c.args.self.now in (
+      [],
+      refl,
+      NotClonable NoSuchPacket
+          (ap (λ (o : Option (List Seg)). clonable o (free_slot m.table)) c.in_default.ensures)
+          refl refl refl,
+    )
 
+-- A packet stands in the slot, but no slot is free for its clone, and nothing is asked.
 pub returns-in_default-lowest-clause-calls : goal.returns-in_default-lowest-clause-calls
 returns-in_default-lowest-clause-calls g c =
-    let inv = c.self.invariant in
-    let flags = c.self.inside.free in
-    let packets = c.self.inside.packets.items in
-    let alike = inv.packets ∙ sym inv.flags in
+    let p = c.self.inside in
     let source = c.in-Some.source in
     let at = rw (sym c.self.view_is) at c.in-Some.ensures in
-    let src = get_or packets source [] in
-    let there : get_or (shown flags packets) source None ≡ Some src = shown_some flags packets source (omega (arith, at.1, inv.flags)) alike (rw (sym at.0) at at.2) in
-    let full : free_slot (shown flags packets) ≡ None = free_slot-shown flags packets alike ∙ sym c.in_default-lowest.ensures in
-    let find = ap (λ (o : Option (List Seg)). clonable o (free_slot (shown flags packets))) there ∙ ap (λ (o : Option ℕ). clonable (Some src) o) full in
+    let src = standing p source c.args.p c.self.invariant at in
+    let full : free_slot (member_of p).table ≡ None =
+    free_slot-shown p.free p.packets.items (alike p c.self.invariant)
+    ∙ sym c.in_default-lowest.ensures in
+    let find =
+    ap (λ (o : Option (List Seg)). clonable o (free_slot (member_of p).table)) src.there
+    ∙ ap (λ (o : Option ℕ). clonable (Some (get_or p.packets.items source [])) o) full in
     rw (sym c.self.view_is, sym at.0) ([], refl, NotClonable PacketsFull find refl refl refl)
 
+-- A packet stands in the one slot and none in the other, so they differ.
 pub clone_segs-requires-clause-apart : goal.clone_segs-requires-clause-apart
 clone_segs-requires-clause-apart g c = λ same.
-    let inv = c.self.invariant in
-    let flags = c.self.inside.free in
-    let packets = c.self.inside.packets.items in
-    let alike = inv.packets ∙ sym inv.flags in
+    let p = c.self.inside in
     let source = c.in-Some.source in
-    let at = rw (sym c.self.view_is) at c.in-Some.ensures in
-    let src = get_or packets source [] in
-    let there : get_or (shown flags packets) source None ≡ Some src = shown_some flags packets source (omega (arith, at.1, inv.flags)) alike (rw (sym at.0) at at.2) in
     let slot = c.in-Some-lowest.lowest in
-    let free : free_slot (shown flags packets) ≡ Some slot = free_slot-shown flags packets alike ∙ sym c.in-Some-lowest.ensures in
-    let none = sym (free_slot-is (shown flags packets) slot free).1 ∙ ap (λ (n : ℕ). get_or (shown flags packets) n None) (sym same) ∙ there in
+    let at = rw (sym c.self.view_is) at c.in-Some.ensures in
+    let src = standing p source c.args.p c.self.invariant at in
+    let low = lowest p slot c.self.invariant c.in-Some-lowest.ensures in
+    let none =
+    sym (free_slot-is (member_of p).table slot low.free).1
+    ∙ ap (λ (n : ℕ). get_or (member_of p).table n None) (sym same) ∙ src.there in
     cc
 
+-- What the packet holds that is cloned is held by its worker.
 pub clone_segs-requires-clause-held : goal.clone_segs-requires-clause-held
 clone_segs-requires-clause-held g c = λ i.
-    let inv = c.self.invariant in
-    let flags = c.self.inside.free in
-    let packets = c.self.inside.packets.items in
-    let alike = inv.packets ∙ sym inv.flags in
+    let p = c.self.inside in
     let source = c.in-Some.source in
     let at = rw (sym c.self.view_is) at c.in-Some.ensures in
-    let src = get_or packets source [] in
-    let there : get_or (shown flags packets) source None ≡ Some src = shown_some flags packets source (omega (arith, at.1, inv.flags)) alike (rw (sym at.0) at at.2) in
+    let src = standing p source c.args.p c.self.invariant at in
     let own = rw (sym c.self.view_is) at c.requires.own in
-    let now = c.args.c.now in
-    in_slot_held (member_of c.self.inside) (g.C.Commons.side now) source src i own there
+    in_slot_held (member_of p) (g.C.Commons.side c.args.c.now) source
+    (get_or p.packets.items source []) i own src.there
 
+-- The lowest free slot is free.
 pub take-requires-clause-free : goal.take-requires-clause-free
-take-requires-clause-free g c = (position-Some (λ (b : Bool). b) c.self.inside.free c.in-Some-lowest.lowest false (sym c.in-Some-lowest.ensures)).1
+take-requires-clause-free g c =
+    (lowest c.self.inside c.in-Some-lowest.lowest c.self.invariant c.in-Some-lowest.ensures).flag
 
+-- Each segment was cloned, and the clones are what the lowest free slot shows once it is taken.
 pub returns-in-Ok-clause-calls : goal.returns-in-Ok-clause-calls
 returns-in-Ok-clause-calls g c =
-    let inv = c.self.invariant in
-    let flags = c.self.inside.free in
-    let packets = c.self.inside.packets.items in
-    let alike = inv.packets ∙ sym inv.flags in
+    let p = c.self.inside in
     let source = c.in-Some.source in
-    let at = rw (sym c.self.view_is) at c.in-Some.ensures in
-    let src = get_or packets source [] in
-    let there : get_or (shown flags packets) source None ≡ Some src = shown_some flags packets source (omega (arith, at.1, inv.flags)) alike (rw (sym at.0) at at.2) in
     let slot = c.in-Some-lowest.lowest in
-    let free : free_slot (shown flags packets) ≡ Some slot = free_slot-shown flags packets alike ∙ sym c.in-Some-lowest.ensures in
-    let w = c.self.inside.worker in
-    let later = c.clone_segs.new.worker in
-    let number = c.clone_segs.ensures.number in
-    let new = get_or c.clone_segs.new.packets.items slot [] in
-    let find = ap (λ (o : Option (List Seg)). clonable o (free_slot (shown flags packets))) there ∙ ap (λ (o : Option ℕ). clonable (Some src) o) free in
-    let tried = c.clone_segs.ensures.calls in
-    let flag : get_or flags slot false ≡ true = (position-Some (λ (b : Bool). b) flags slot false (sym c.in-Some-lowest.ensures)).1 in
-    let within : slot < length flags = (position-Some (λ (b : Bool). b) flags slot false (sym c.in-Some-lowest.ensures)).0 in
-    let table : shown c.take.new.self c.clone_segs.new.packets.items ≡ set (shown flags packets) slot (Some new) =
-    ap (λ (f : List Bool). shown f c.clone_segs.new.packets.items) c.take.ensures ∙ ap (λ (p : List (List Seg)). shown (set flags slot false) p) c.clone_segs.ensures.packets ∙ shown-set flags packets slot false new within alike in
-    let is = member_is later.limits w.limits later.number w.number later.cache (shown c.take.new.self c.clone_segs.new.packets.items) (set (shown flags packets) slot (Some new)) number.limits number.number table in
+    let at = rw (sym c.self.view_is) at c.in-Some.ensures in
+    let src = standing p source c.args.p c.self.invariant at in
+    let low = lowest p slot c.self.invariant c.in-Some-lowest.ensures in
+    let done = c.clone_segs.new in
+    let new = get_or done.packets.items slot [] in
+    let is =
+    filled p done.worker c.take.new.self done.packets.items slot new c.self.invariant low
+    c.clone_segs.ensures.number c.take.ensures c.clone_segs.ensures.packets in
     let did = c.in-Ok.ensures.calls in
-    rw (sym c.self.view_is, sym at.0) (did.0, did.1, WasCloned src slot find new later.cache did.2 refl is)
+    rw (sym c.self.view_is, sym at.0) (
+      did.0,
+      did.1,
+      WasCloned (get_or p.packets.items source []) slot (found p source slot src low) new
+          done.worker.cache did.2 refl is,
+    )
 
+-- The clone's holds and headers are those that came to the worker, and its cache is its hand.
 pub returns-in-Ok-clause-own : goal.returns-in-Ok-clause-own
 returns-in-Ok-clause-own g c =
-    let inv = c.self.invariant in
-    let flags = c.self.inside.free in
-    let packets = c.self.inside.packets.items in
-    let alike = inv.packets ∙ sym inv.flags in
-    let source = c.in-Some.source in
-    let at = rw (sym c.self.view_is) at c.in-Some.ensures in
-    let src = get_or packets source [] in
-    let there : get_or (shown flags packets) source None ≡ Some src = shown_some flags packets source (omega (arith, at.1, inv.flags)) alike (rw (sym at.0) at at.2) in
+    let p = c.self.inside in
     let slot = c.in-Some-lowest.lowest in
-    let free : free_slot (shown flags packets) ≡ Some slot = free_slot-shown flags packets alike ∙ sym c.in-Some-lowest.ensures in
-    let w = c.self.inside.worker in
-    let later = c.clone_segs.new.worker in
-    let number = c.clone_segs.ensures.number in
-    let new = get_or c.clone_segs.new.packets.items slot [] in
-    let find = ap (λ (o : Option (List Seg)). clonable o (free_slot (shown flags packets))) there ∙ ap (λ (o : Option ℕ). clonable (Some src) o) free in
-    let tried = c.clone_segs.ensures.calls in
-    let flag : get_or flags slot false ≡ true = (position-Some (λ (b : Bool). b) flags slot false (sym c.in-Some-lowest.ensures)).1 in
-    let within : slot < length flags = (position-Some (λ (b : Bool). b) flags slot false (sym c.in-Some-lowest.ensures)).0 in
-    let table : shown c.take.new.self c.clone_segs.new.packets.items ≡ set (shown flags packets) slot (Some new) =
-    ap (λ (f : List Bool). shown f c.clone_segs.new.packets.items) c.take.ensures ∙ ap (λ (p : List (List Seg)). shown (set flags slot false) p) c.clone_segs.ensures.packets ∙ shown-set flags packets slot false new within alike in
-    let is = member_is later.limits w.limits later.number w.number later.cache (shown c.take.new.self c.clone_segs.new.packets.items) (set (shown flags packets) slot (Some new)) number.limits number.number table in
+    let low = lowest p slot c.self.invariant c.in-Some-lowest.ensures in
+    let done = c.clone_segs.new in
+    let new = get_or done.packets.items slot [] in
+    let is =
+    filled p done.worker c.take.new.self done.packets.items slot new c.self.invariant low
+    c.clone_segs.ensures.number c.take.ensures c.clone_segs.ensures.packets in
     let own = rw (sym c.self.view_is) at c.requires.own in
     let side = g.C.Commons.side in
-    let first = c.args.c.now in
-    let last = c.clone_segs.new.c in
     let did = c.in-Ok.ensures in
-    subst (λ (m : Member). Own m (side last)) (sym is)
-    (own_cloned (member_of c.self.inside) (side first) (side last) later.cache slot new own did.limits free did.hand did.holds did.headers)
+    subst (λ (m : Member). Own m (side done.c)) (sym is)
+    (own_cloned (member_of p) (side c.args.c.now) (side done.c) done.worker.cache slot new own
+    did.limits low.free did.hand did.holds did.headers)
 
+-- The clone's own elements are new headers, and nobody held them before.
 pub returns-in-Ok-clause-fresh : goal.returns-in-Ok-clause-fresh
 returns-in-Ok-clause-fresh g c =
-    let inv = c.self.invariant in
-    let flags = c.self.inside.free in
-    let packets = c.self.inside.packets.items in
-    let alike = inv.packets ∙ sym inv.flags in
-    let source = c.in-Some.source in
-    let at = rw (sym c.self.view_is) at c.in-Some.ensures in
-    let src = get_or packets source [] in
-    let there : get_or (shown flags packets) source None ≡ Some src = shown_some flags packets source (omega (arith, at.1, inv.flags)) alike (rw (sym at.0) at at.2) in
+    let p = c.self.inside in
     let slot = c.in-Some-lowest.lowest in
-    let free : free_slot (shown flags packets) ≡ Some slot = free_slot-shown flags packets alike ∙ sym c.in-Some-lowest.ensures in
-    let w = c.self.inside.worker in
-    let later = c.clone_segs.new.worker in
-    let number = c.clone_segs.ensures.number in
-    let new = get_or c.clone_segs.new.packets.items slot [] in
-    let find = ap (λ (o : Option (List Seg)). clonable o (free_slot (shown flags packets))) there ∙ ap (λ (o : Option ℕ). clonable (Some src) o) free in
-    let tried = c.clone_segs.ensures.calls in
-    let flag : get_or flags slot false ≡ true = (position-Some (λ (b : Bool). b) flags slot false (sym c.in-Some-lowest.ensures)).1 in
-    let within : slot < length flags = (position-Some (λ (b : Bool). b) flags slot false (sym c.in-Some-lowest.ensures)).0 in
-    let table : shown c.take.new.self c.clone_segs.new.packets.items ≡ set (shown flags packets) slot (Some new) =
-    ap (λ (f : List Bool). shown f c.clone_segs.new.packets.items) c.take.ensures ∙ ap (λ (p : List (List Seg)). shown (set flags slot false) p) c.clone_segs.ensures.packets ∙ shown-set flags packets slot false new within alike in
-    let is = member_is later.limits w.limits later.number w.number later.cache (shown c.take.new.self c.clone_segs.new.packets.items) (set (shown flags packets) slot (Some new)) number.limits number.number table in
+    let low = lowest p slot c.self.invariant c.in-Some-lowest.ensures in
+    let done = c.clone_segs.new in
+    let new = get_or done.packets.items slot [] in
+    let is =
+    filled p done.worker c.take.new.self done.packets.items slot new c.self.invariant low
+    c.clone_segs.ensures.number c.take.ensures c.clone_segs.ensures.packets in
     let own = rw (sym c.self.view_is) at c.requires.own in
     let side = g.C.Commons.side in
     let first = c.args.c.now in
-    let last = c.clone_segs.new.c in
+    let last = done.c in
+    let l = p.worker.limits in
     let did = c.in-Ok.ensures in
     let met = g.met.C.Commons in
-    let list : own_in_slots (shown c.take.new.self c.clone_segs.new.packets.items) (slot ∷ []) ≡ own_of_packet new =
-    ap (λ (t : List (Option (List Seg))). own_in_slots t (slot ∷ [])) table ∙ own_in_one (shown flags packets) slot new (free_slot-is (shown flags packets) slot free).0 in
-    let same : (side last).limits.population ≡ w.limits.population = ap (λ (x : Limits). x.population) (did.limits ∙ sym own.limits) in
+    let list =
+    ap (λ (m : Member). own_in_slots m.table (slot ∷ [])) is
+    ∙ own_in_one (member_of p).table slot new (free_slot-is (member_of p).table slot low.free).0 in
+    let same : (side last).limits.population ≡ l.population =
+    ap (λ (x : Limits). x.population) (did.limits ∙ sym own.limits) in
     rw (sym c.self.view_is, list)
-    (fresh_headers (side first) (side last) w.limits.population (held_in (shown flags packets)) (own_of_packet new) (met.header_once last) (met.header_held last) (λ i b. met.holds_below last i (omega (arith, same, b))) did.headers
+    (fresh_headers (side first) (side last) l.population (held_in (member_of p).table)
+    (own_of_packet new) (met.header_once last) (met.header_held last)
+    (λ i b. met.holds_below last i (omega (arith, same, b))) did.headers
     (λ i some. sym (own.held i) ∙ did.unheld i some))
 
+-- The clones so far lie in a slot that is free still, where the table shows nothing.
 pub returns-in-Err-clause-table_err : goal.returns-in-Err-clause-table_err
 returns-in-Err-clause-table_err g c =
-    let inv = c.self.invariant in
-    let flags = c.self.inside.free in
-    let packets = c.self.inside.packets.items in
-    let alike = inv.packets ∙ sym inv.flags in
+    let p = c.self.inside in
     let slot = c.in-Some-lowest.lowest in
-    let free : free_slot (shown flags packets) ≡ Some slot = free_slot-shown flags packets alike ∙ sym c.in-Some-lowest.ensures in
-    let new = get_or c.clone_segs.new.packets.items slot [] in
-    let flag : get_or flags slot false ≡ true = (position-Some (λ (b : Bool). b) flags slot false (sym c.in-Some-lowest.ensures)).1 in
-    let table : shown flags c.clone_segs.new.packets.items ≡ shown flags packets = ap (λ (p : List (List Seg)). shown flags p) c.clone_segs.ensures.packets ∙ shown_hidden flags packets slot new flag in
-    rw (sym c.self.view_is) table
+    let low = lowest p slot c.self.invariant c.in-Some-lowest.ensures in
+    let done = c.clone_segs.new in
+    let is =
+    hidden p done.worker done.packets.items slot (get_or done.packets.items slot []) low
+    c.clone_segs.ensures.number c.clone_segs.ensures.packets in
+    rw (sym c.self.view_is) (ap (λ (m : Member). m.table) is)
 
+-- The clones were given up, and the slot where they lie is free still: the table is as before.
 pub returns-in-Err-clause-calls : goal.returns-in-Err-clause-calls
 returns-in-Err-clause-calls g c =
-    let inv = c.self.invariant in
-    let flags = c.self.inside.free in
-    let packets = c.self.inside.packets.items in
-    let alike = inv.packets ∙ sym inv.flags in
+    let p = c.self.inside in
     let source = c.in-Some.source in
-    let at = rw (sym c.self.view_is) at c.in-Some.ensures in
-    let src = get_or packets source [] in
-    let there : get_or (shown flags packets) source None ≡ Some src = shown_some flags packets source (omega (arith, at.1, inv.flags)) alike (rw (sym at.0) at at.2) in
     let slot = c.in-Some-lowest.lowest in
-    let free : free_slot (shown flags packets) ≡ Some slot = free_slot-shown flags packets alike ∙ sym c.in-Some-lowest.ensures in
-    let w = c.self.inside.worker in
-    let later = c.clone_segs.new.worker in
-    let number = c.clone_segs.ensures.number in
-    let new = get_or c.clone_segs.new.packets.items slot [] in
-    let find = ap (λ (o : Option (List Seg)). clonable o (free_slot (shown flags packets))) there ∙ ap (λ (o : Option ℕ). clonable (Some src) o) free in
-    let tried = c.clone_segs.ensures.calls in
-    let flag : get_or flags slot false ≡ true = (position-Some (λ (b : Bool). b) flags slot false (sym c.in-Some-lowest.ensures)).1 in
-    let table : shown flags c.clone_segs.new.packets.items ≡ shown flags packets = ap (λ (p : List (List Seg)). shown flags p) c.clone_segs.ensures.packets ∙ shown_hidden flags packets slot new flag in
-    let is = member_is later.limits w.limits later.number w.number later.cache (shown flags c.clone_segs.new.packets.items) (shown flags packets) number.limits number.number table in
+    let at = rw (sym c.self.view_is) at c.in-Some.ensures in
+    let src = standing p source c.args.p c.self.invariant at in
+    let low = lowest p slot c.self.invariant c.in-Some-lowest.ensures in
+    let done = c.clone_segs.new in
+    let is =
+    hidden p done.worker done.packets.items slot (get_or done.packets.items slot []) low
+    c.clone_segs.ensures.number c.clone_segs.ensures.packets in
     let did = c.in-Err.ensures.calls in
-    rw (sym c.self.view_is, sym at.0) (did.0, did.1, WasGivenUp src slot find c.in-Err.cause later.cache did.2 refl is)
+    rw (sym c.self.view_is, sym at.0) (
+      did.0,
+      did.1,
+      WasGivenUp (get_or p.packets.items source []) slot (found p source slot src low)
+          c.in-Err.cause
+          done.worker.cache did.2 refl is,
+    )
 
+-- What was given up left holds and headers as before, and the table too.
 pub returns-in-Err-clause-own : goal.returns-in-Err-clause-own
 returns-in-Err-clause-own g c =
-    let inv = c.self.invariant in
-    let flags = c.self.inside.free in
-    let packets = c.self.inside.packets.items in
-    let alike = inv.packets ∙ sym inv.flags in
-    let source = c.in-Some.source in
-    let at = rw (sym c.self.view_is) at c.in-Some.ensures in
-    let src = get_or packets source [] in
-    let there : get_or (shown flags packets) source None ≡ Some src = shown_some flags packets source (omega (arith, at.1, inv.flags)) alike (rw (sym at.0) at at.2) in
+    let p = c.self.inside in
     let slot = c.in-Some-lowest.lowest in
-    let free : free_slot (shown flags packets) ≡ Some slot = free_slot-shown flags packets alike ∙ sym c.in-Some-lowest.ensures in
-    let w = c.self.inside.worker in
-    let later = c.clone_segs.new.worker in
-    let number = c.clone_segs.ensures.number in
-    let new = get_or c.clone_segs.new.packets.items slot [] in
-    let find = ap (λ (o : Option (List Seg)). clonable o (free_slot (shown flags packets))) there ∙ ap (λ (o : Option ℕ). clonable (Some src) o) free in
-    let tried = c.clone_segs.ensures.calls in
-    let flag : get_or flags slot false ≡ true = (position-Some (λ (b : Bool). b) flags slot false (sym c.in-Some-lowest.ensures)).1 in
-    let table : shown flags c.clone_segs.new.packets.items ≡ shown flags packets = ap (λ (p : List (List Seg)). shown flags p) c.clone_segs.ensures.packets ∙ shown_hidden flags packets slot new flag in
-    let is = member_is later.limits w.limits later.number w.number later.cache (shown flags c.clone_segs.new.packets.items) (shown flags packets) number.limits number.number table in
+    let low = lowest p slot c.self.invariant c.in-Some-lowest.ensures in
+    let done = c.clone_segs.new in
+    let is =
+    hidden p done.worker done.packets.items slot (get_or done.packets.items slot []) low
+    c.clone_segs.ensures.number c.clone_segs.ensures.packets in
     let own = rw (sym c.self.view_is) at c.requires.own in
     let side = g.C.Commons.side in
-    let first = c.args.c.now in
-    let last = c.clone_segs.new.c in
     let did = c.in-Err.ensures in
-    subst (λ (m : Member). Own m (side last)) (sym is)
-    (own_given_up (member_of c.self.inside) (side first) (side last) later.cache own did.limits did.hand did.holds_err did.headers_err)
+    subst (λ (m : Member). Own m (side done.c)) (sym is)
+    (own_given_up (member_of p) (side c.args.c.now) (side done.c) done.worker.cache own did.limits
+    did.hand did.holds_err did.headers_err)

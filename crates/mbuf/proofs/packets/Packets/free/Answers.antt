@@ -1,77 +1,78 @@
-use Rattle.std.proofs.Common.{◌≡◌, ◌<◌, List, length, set, get_or, Option, Some, None, refl, sym, ap, subst, ◌∙◌, arith}
-use Rattle.commons.specs.Bag.{bag}
-use Rattle.commons.specs.declared.packet.Seg.{Seg}
-use Rattle.mbuf.specs.inside.Kept.{member_of, shown}
-use Rattle.commons.specs.Packets.{holds_in_slot}
+use Rattle.std.proofs.Common.{[], get_or, refl, sym, subst, arith}
+use Rattle.std.proofs.lemmas.List.{set-get_or}
+use Rattle.mbuf.specs.inside.Kept.{member_of}
 use Rattle.mbuf.specs.Members.{Member}
 use Rattle.mbuf.specs.Own.{Own}
 use Rattle.mbuf.specs.PacketRules.{WasFreed}
-use Rattle.commons.proofs.PacketBags.{held_in-slot}
 use Rattle.mbuf.proofs.OwnLemmas.{own_free}
-use Rattle.mbuf.proofs.TableLemmas.{stands, taken_slot, length-shown, shown-free, member_is}
+use Rattle.mbuf.proofs.PlaceLemmas.{alike, emptied, lent, standing}
+use Rattle.mbuf.proofs.SharingLemmas.{in_slot_held}
+use Rattle.mbuf.proofs.TableLemmas.{taken_slot, length-shown}
 use Rattle.mbuf.proofs.packets.Packets.free.Goals as goal
 
+-- What is held by the packet that stands in the slot is held by its worker.
 pub end_segs-freed-requires-clause-held : goal.end_segs-freed-requires-clause-held
 end_segs-freed-requires-clause-held g c = λ i.
-    let inv = c.self.invariant in
-    let flags = c.self.inside.free in
-    let packets = c.self.inside.packets.items in
+    let p = c.self.inside in
     let slot = c.in-Some.slot in
+    let segs = c.segs.result.now in
     let own = rw (sym c.self.view_is) at c.requires.own in
     let at = rw (sym c.self.view_is) at c.in-Some.ensures in
-    let within : slot < length flags = omega (arith, at.1, inv.flags) in
-    let same = inv.packets ∙ sym inv.flags in
-    let there = stands flags packets slot c.index.result.now within same (rw (sym at.0) at at.2) c.index.ensures in
-    rw c.segs.ensures.segs (omega (arith, own.held i, held_in-slot (shown flags packets) slot i (omega (arith, within, length-shown flags packets same)), ap (λ (o : Option (List Seg)). bag (holds_in_slot o) i) there))
+    let stood =
+    lent p slot c.args.p segs c.index.result.now c.self.invariant at c.segs.ensures.segs
+    c.index.ensures in
+    in_slot_held (member_of p) (g.C.Commons.side c.args.c.now) slot segs i own stood.there
 
+-- A packet stands in the slot, so the slot isn't free.
 pub give-requires-clause-taken : goal.give-requires-clause-taken
 give-requires-clause-taken g c =
-    let inv = c.self.invariant in
+    let p = c.self.inside in
     let slot = c.in-Some.slot in
     let at = rw (sym c.self.view_is) at c.in-Some.ensures in
-    taken_slot c.self.inside.free c.self.inside.packets.items slot (omega (arith, at.1, inv.flags)) (inv.packets ∙ sym inv.flags) (rw (sym at.0) at at.2)
+    let src = standing p slot c.args.p c.self.invariant at in
+    taken_slot p.free p.packets.items slot src.within (alike p c.self.invariant)
+    (rw (sym at.0) at at.2)
 
+-- The packet's holds ended in order, and its slot, once it is given back, shows nothing.
 pub returns-clause-calls : goal.returns-clause-calls
 returns-clause-calls g c =
-    let inv = c.self.invariant in
-    let flags = c.self.inside.free in
-    let packets = c.self.inside.packets.items in
+    let p = c.self.inside in
     let slot = c.in-Some.slot in
-    let before = c.self.inside.worker in
-    let w = c.end_segs-freed.new.worker in
     let segs = c.segs.result.now in
+    let w = c.end_segs-freed.new.worker in
     let at = rw (sym c.self.view_is) at c.in-Some.ensures in
-    let within : slot < length flags = omega (arith, at.1, inv.flags) in
-    let same = inv.packets ∙ sym inv.flags in
-    let there : get_or (shown flags packets) slot None ≡ Some segs = rw c.segs.ensures.segs (stands flags packets slot c.index.result.now within same (rw (sym at.0) at at.2) c.index.ensures) in
-    let table : shown c.give.new.self packets ≡ set (shown flags packets) slot None = rw c.give.ensures (shown-free flags packets slot same) in
-    let e = c.end_segs-freed.ensures.calls in
-    let n = c.end_segs-freed.ensures.number in
+    let stood =
+    lent p slot c.args.p segs c.index.result.now c.self.invariant at c.segs.ensures.segs
+    c.index.ensures in
+    let done = c.end_segs-freed.ensures in
+    let is =
+    emptied p w c.give.new.self p.packets.items slot (get_or p.packets.items slot [])
+    c.self.invariant done.number c.give.ensures (sym (set-get_or p.packets.items slot [])) in
     rw (sym c.self.view_is, sym at.0) (
-      e.0,
-      e.1,
-      WasFreed segs w.cache c.end_segs-freed.result there e.2 refl
-          (member_is w.limits before.limits w.number before.number w.cache (shown c.give.new.self packets) (set (shown flags packets) slot None) n.limits n.number table),
+      done.calls.0,
+      done.calls.1,
+      WasFreed segs w.cache c.end_segs-freed.result stood.there done.calls.2 refl is,
     )
 
+-- The table lost the packet's holds, which are those that the worker lost.
 pub returns-clause-own : goal.returns-clause-own
 returns-clause-own g c =
-    let inv = c.self.invariant in
-    let flags = c.self.inside.free in
-    let packets = c.self.inside.packets.items in
+    let p = c.self.inside in
     let slot = c.in-Some.slot in
-    let before = c.self.inside.worker in
-    let w = c.end_segs-freed.new.worker in
     let segs = c.segs.result.now in
+    let w = c.end_segs-freed.new.worker in
     let own = rw (sym c.self.view_is) at c.requires.own in
     let at = rw (sym c.self.view_is) at c.in-Some.ensures in
-    let within : slot < length flags = omega (arith, at.1, inv.flags) in
-    let same = inv.packets ∙ sym inv.flags in
-    let there : get_or (shown flags packets) slot None ≡ Some segs = rw c.segs.ensures.segs (stands flags packets slot c.index.result.now within same (rw (sym at.0) at at.2) c.index.ensures) in
-    let table : shown c.give.new.self packets ≡ set (shown flags packets) slot None = rw c.give.ensures (shown-free flags packets slot same) in
-    let e = c.end_segs-freed.ensures in
+    let stood =
+    lent p slot c.args.p segs c.index.result.now c.self.invariant at c.segs.ensures.segs
+    c.index.ensures in
+    let done = c.end_segs-freed.ensures in
+    let is =
+    emptied p w c.give.new.self p.packets.items slot (get_or p.packets.items slot [])
+    c.self.invariant done.number c.give.ensures (sym (set-get_or p.packets.items slot [])) in
+    let side = g.C.Commons.side in
     let after = c.end_segs-freed.new.c in
-    subst (λ (m : Member). Own m (g.C.Commons.side after))
-    (sym (member_is w.limits before.limits w.number before.number w.cache (shown c.give.new.self packets) (set (shown flags packets) slot None) e.number.limits e.number.number table))
-    (own_free (member_of c.self.inside) (g.C.Commons.side c.args.c.now) (g.C.Commons.side after)
-    w.cache slot segs own e.limits (omega (arith, within, length-shown flags packets same)) there e.hand e.holds e.headers)
+    let long = length-shown p.free p.packets.items (alike p c.self.invariant) in
+    subst (λ (m : Member). Own m (side after)) (sym is)
+    (own_free (member_of p) (side c.args.c.now) (side after) w.cache slot segs own done.limits
+    (omega (arith, stood.within, long)) stood.there done.hand done.holds done.headers)

@@ -1,6 +1,6 @@
-use Rattle.std.proofs.Common.{◌≡◌, ℕ, ◌+◌, List, map, take}
+use Rattle.std.proofs.Common.{◌≡◌, ℕ, ◌+◌, map, take}
 use Rattle.commons.specs.Bag.{bag}
-use Rattle.commons.specs.Calls.{Claim, Made, Leads, calls_of}
+use Rattle.commons.specs.Calls.{Claim, Calls}
 use Rattle.mbuf.proofs.FreeLemmas.{StoodSo}
 use Rattle.mbuf.proofs.packets.Packets.stand_all.Given as goal
 
@@ -8,9 +8,10 @@ use Rattle.mbuf.proofs.packets.Packets.stand_all.Given as goal
 abbrev pub invariant-loop-place : goal.invariant-loop-place
 invariant-loop-place g l = record {
   so_far : StoodSo l.fn.out l.fn.self l.place l.out l.self;
-  calls : (made : List Made) × Leads g.C.Commons.did g.C.Commons.side l.fn.c made l.c × (calls_of made ≡ map Claim (take l.place l.fn.out));
+  calls : Calls g.C.Commons.did g.C.Commons.side l.fn.c l.c (λ calls. calls ≡ map Claim (take l.place l.fn.out));
   hand : (i : ℕ) → (g.C.Commons.side l.fn.c).hand i ≡ (g.C.Commons.side l.c).hand i + bag (take l.place l.fn.out) i;
   holds : (i : ℕ) → (g.C.Commons.side l.c).holds i ≡ (g.C.Commons.side l.fn.c).holds i + bag (take l.place l.fn.out) i;
-  headers : (i : ℕ) → (g.C.Commons.side l.c).headers i ≡ (g.C.Commons.side l.fn.c).headers i + bag (take l.place l.fn.out) i;
+  headers : (i : ℕ) → (g.C.Commons.side l.c).headers i
+      ≡ (g.C.Commons.side l.fn.c).headers i + bag (take l.place l.fn.out) i;
   limits : (g.C.Commons.side l.c).limits ≡ (g.C.Commons.side l.fn.c).limits;
 }

@@ -5,6 +5,7 @@ use Rattle.commons.proofs.Bags.{bag-empty, bag-last, bag-take-drop}
 use Rattle.mempool.specs.Caches.{Direct, NoRefill, RefillRefused, Refill}
 use Rattle.mempool.proofs.worker.Worker.get_bulk.Goals as goal
 
+-- Nothing was asked for, and nothing moves.
 pub returns-then-n-eq0-clause-hand : goal.returns-then-n-eq0-clause-hand
 returns-then-n-eq0-clause-hand g c i = omega (arith, bag-empty c.args.out.now i (omega arith))
 
@@ -13,17 +14,26 @@ pub returns-then-n-size-clause-calls : goal.returns-then-n-size-clause-calls
 returns-then-n-size-clause-calls g c =
     let d = c.get_list.ensures.did in
     rw (sym c.self.view_is) (
-      record { call = GetList (length c.args.out.now) (with_list c.get_list.result c.get_list.new.out); readings = d.readings } ∷ [],
+      record {
+        call = GetList (length c.args.out.now) (with_list c.get_list.result c.get_list.new.out);
+        readings = d.readings;
+      } ∷ [],
       (c.get_list.new.self, d.step, refl),
       Direct (omega arith) (omega arith) refl refl,
     )
 
+-- No refill can be met, so the stack is asked for what is wanted alone.
 pub returns-then-n-size-2-clause-calls : goal.returns-then-n-size-2-clause-calls
 returns-then-n-size-2-clause-calls g c =
     let d = c.get_list-then-n-size-2.ensures.did in
     let ok = c.self.inside.cache.ok in
     rw (sym c.self.view_is) (
-      record { call = GetList (length c.args.out.now) (with_list c.get_list-then-n-size-2.result c.get_list-then-n-size-2.new.out); readings = d.readings } ∷ [],
+      record {
+        call =
+            GetList (length c.args.out.now)
+            (with_list c.get_list-then-n-size-2.result c.get_list-then-n-size-2.new.out);
+        readings = d.readings;
+      } ∷ [],
       (c.get_list-then-n-size-2.new.self, d.step, refl),
       NoRefill (omega arith) (omega arith) (omega (arith, ok)) (omega arith) refl refl,
     )
@@ -47,13 +57,19 @@ returns-in-Ok-clause-calls g c =
     let all = joined c.self.inside.cache.items c.refill.new.cache.items k c.in-Ok.ensures.ok in
     let ok = c.self.inside.cache.ok in
     rw (sym c.self.view_is) (
-      record { call = GetList (length c.args.out.now + c.self.inside.limits.cache - c.len-len.result) (Ok more); readings = d.readings } ∷ [],
+      record {
+        call =
+            GetList (length c.args.out.now + c.self.inside.limits.cache - c.len-len.result) (Ok more);
+        readings = d.readings;
+      } ∷ [],
       (c.refill.new.c, d.step, refl),
-      Refill (omega arith) (omega arith) (omega (arith, ok)) (omega arith) more (let e : c.len-len.result ≡ length c.self.inside.cache.items = omega (arith, ok) in rw e)
+      Refill (omega arith) (omega arith) (omega (arith, ok)) (omega arith) more
+          (let e : c.len-len.result ≡ length c.self.inside.cache.items = omega (arith, ok) in rw e)
           (rw all (ap Ok c.take_last-in-Ok.ensures.out))
           (rw all c.take_last-in-Ok.ensures.cache),
     )
 
+-- The refill put into the cache what came into the hand, and the last of it was given.
 pub returns-in-Ok-clause-hand : goal.returns-in-Ok-clause-hand
 returns-in-Ok-clause-hand g c i =
     let k = vec_len c.self.inside.cache in
@@ -70,8 +86,20 @@ returns-in-Err-clause-calls g c =
     let e = c.get_list-in-Err.ensures.did in
     let ok = c.self.inside.cache.ok in
     rw (sym c.self.view_is) (
-      record { call = GetList (length c.args.out.now + c.self.inside.limits.cache - c.len-len.result) (Err c.in-Err._cause); readings = d.readings }
-          ∷ record { call = GetList (length c.args.out.now) (with_list c.get_list-in-Err.result c.get_list-in-Err.new.out); readings = e.readings } ∷ [],
+      record {
+        call =
+            GetList (length c.args.out.now + c.self.inside.limits.cache - c.len-len.result)
+            (Err c.in-Err._cause);
+        readings = d.readings;
+      }
+          ∷ record {
+            call =
+                GetList (length c.args.out.now)
+                (with_list c.get_list-in-Err.result c.get_list-in-Err.new.out);
+            readings = e.readings;
+          } ∷ [],
       (c.refill.new.c, d.step, (c.get_list-in-Err.new.self, e.step, refl)),
-      RefillRefused (omega arith) (omega arith) (omega (arith, ok)) (omega arith) c.in-Err._cause (let e : c.len-len.result ≡ length c.self.inside.cache.items = omega (arith, ok) in rw e) c.in-Err.ensures.err,
+      RefillRefused (omega arith) (omega arith) (omega (arith, ok)) (omega arith) c.in-Err._cause
+          (let e : c.len-len.result ≡ length c.self.inside.cache.items = omega (arith, ok) in rw e)
+          c.in-Err.ensures.err,
     )

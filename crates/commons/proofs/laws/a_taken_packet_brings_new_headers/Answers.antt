@@ -1,0 +1,8 @@
+use Rattle.std.proofs.Common.{arith}
+use Rattle.commons.proofs.laws.a_taken_packet_brings_new_headers.Goals as goal
+
+-- afterwards each is a header once at most
+pub returns : goal.returns
+returns g c =
+    λ before desk packet after d i.
+    omega (arith, d.step.effect.headers i, g.met.C.Commons.header_once after i)
