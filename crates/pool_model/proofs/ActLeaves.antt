@@ -27,39 +27,69 @@ use Rattle.pool_model.proofs.SharedKeep.{attach_to-keeps, clone_at-keeps, detach
 -- held is how often all packets hold each element, and elsewhere how often without the one in a slot
 pub record AreHolds (others held : ℕ → ℕ) (elsewhere : ℕ → ℕ → ℕ) (m : Member) (s : Shared) : Type 0 where
   pub all : (i : ℕ) → held i ≡ others i + held_in s.desks i + held_in m.table i
-  pub rest : (slot i : ℕ) → slot < length m.table → elsewhere slot i ≡ others i + held_in s.desks i + held_in (set m.table slot None) i
+  pub rest : (slot i : ℕ) → slot < length m.table →
+      elsewhere slot i ≡ others i + held_in s.desks i + held_in (set m.table slot None) i
 
 -- what is told of a packet, or counted, is of no new element
 new-told_len : (r : Result ℕ Refusal) → new_elements (told_len r) ≡ []
 new-told_len (Ok len) = refl
 new-told_len (Err cause) = refl
 
+-- a number of segments names no element, nor does a refusal
 new-told_segs : (r : Result ℕ Refusal) → new_elements (told_segs r) ≡ []
 new-told_segs (Ok segs) = refl
 new-told_segs (Err cause) = refl
 
+-- a count names no element, nor does a refusal
 new-told_count : (r : Result ℕ Refusal) → new_elements (told_count r) ≡ []
 new-told_count (Ok count) = refl
 new-told_count (Err cause) = refl
 
 -- each act
-pub act_leaves : (act : Act) (others held : ℕ → ℕ) (elsewhere : ℕ → ℕ → ℕ) (m : Member) (s : Shared) → AreHolds others held elsewhere m s → Leaves act others m s (member_act act held elsewhere m s)
-act_leaves Alloc others held elsewhere m s h = leaves_kept (alloc_in-keeps _ (free_slot m.table) m s (free_slot-is m.table))
+pub act_leaves : (act : Act) (others held : ℕ → ℕ) (elsewhere : ℕ → ℕ → ℕ) (m : Member) (s : Shared)
+    → AreHolds others held elsewhere m s →
+    Leaves act others m s (member_act act held elsewhere m s)
+act_leaves Alloc others held elsewhere m s h =
+    leaves_kept (alloc_in-keeps _ (free_slot m.table) m s (free_slot-is m.table))
 act_leaves (AllocBulk n) others held elsewhere m s h = leaves_kept (alloc_bulk-keeps _ n m s)
-act_leaves (Free slot) others held elsewhere m s h = leaves_kept (free_in-keeps _ (get_or m.table slot None) (elsewhere slot) slot m s refl (h.rest slot))
-act_leaves (Append slot n) others held elsewhere m s h = leaves_kept (resize_in-keeps _ (get_or m.table slot None) (appended n) NoRoom slot m s refl (appended_holds n) (appended_indirect n))
-act_leaves (Prepend slot n) others held elsewhere m s h = leaves_kept (resize_in-keeps _ (get_or m.table slot None) (prepended n) NoRoom slot m s refl (prepended_holds n) (prepended_indirect n))
-act_leaves (Adj slot n) others held elsewhere m s h = leaves_kept (resize_in-keeps _ (get_or m.table slot None) (adjusted n) TooShort slot m s refl (adjusted_holds n) (adjusted_indirect n))
-act_leaves (Trim slot n) others held elsewhere m s h = leaves_kept (resize_in-keeps _ (get_or m.table slot None) (trimmed n) TooShort slot m s refl (trimmed_holds n) (trimmed_indirect n))
-act_leaves (Chain head tail) others held elsewhere m s h = leaves_kept (chain_in-keeps _ (get_or m.table head None) (get_or m.table tail None) head tail m s refl refl)
-act_leaves (Attach mi target) others held elsewhere m s h = leaves_kept (attach_to-keeps _ (pair_in m mi target) held mi target m s refl h.all)
-act_leaves (Detach slot) others held elsewhere m s h = leaves_kept (detach_from-keeps _ (detachable (get_or m.table slot None)) held slot m s refl h.all)
-act_leaves (ClonePacket source) others held elsewhere m s h = leaves_kept (clone_at-keeps _ (clonable (get_or m.table source None) (free_slot m.table)) held source m s refl h.all)
-act_leaves (Offer slot desk) others held elsewhere m s h = offer_in-leaves others (get_or m.table slot None) slot desk m s refl
+act_leaves (Free slot) others held elsewhere m s h =
+    leaves_kept
+    (free_in-keeps _ (get_or m.table slot None) (elsewhere slot) slot m s refl (h.rest slot))
+act_leaves (Append slot n) others held elsewhere m s h =
+    leaves_kept (resize_in-keeps _ (get_or m.table slot None) (appended n) NoRoom slot m s refl
+    (appended_holds n) (appended_indirect n))
+act_leaves (Prepend slot n) others held elsewhere m s h =
+    leaves_kept (resize_in-keeps _ (get_or m.table slot None) (prepended n) NoRoom slot m s refl
+    (prepended_holds n) (prepended_indirect n))
+act_leaves (Adj slot n) others held elsewhere m s h =
+    leaves_kept (resize_in-keeps _ (get_or m.table slot None) (adjusted n) TooShort slot m s refl
+    (adjusted_holds n) (adjusted_indirect n))
+act_leaves (Trim slot n) others held elsewhere m s h =
+    leaves_kept (resize_in-keeps _ (get_or m.table slot None) (trimmed n) TooShort slot m s refl
+    (trimmed_holds n) (trimmed_indirect n))
+act_leaves (Chain head tail) others held elsewhere m s h =
+    leaves_kept (chain_in-keeps _ (get_or m.table head None) (get_or m.table tail None) head tail m
+    s refl refl)
+act_leaves (Attach mi target) others held elsewhere m s h =
+    leaves_kept (attach_to-keeps _ (pair_in m mi target) held mi target m s refl h.all)
+act_leaves (Detach slot) others held elsewhere m s h =
+    leaves_kept
+    (detach_from-keeps _ (detachable (get_or m.table slot None)) held slot m s refl h.all)
+act_leaves (ClonePacket source) others held elsewhere m s h =
+    leaves_kept (clone_at-keeps _ (clonable (get_or m.table source None) (free_slot m.table)) held
+    source m s refl h.all)
+act_leaves (Offer slot desk) others held elsewhere m s h =
+    offer_in-leaves others (get_or m.table slot None) slot desk m s refl
 act_leaves (Take desk) others held elsewhere m s h = take_off-leaves others desk m s
-act_leaves (CountOf slot) others held elsewhere m s h = leaves_kept (nothing_keeps _ m s _ (new-told_count (of_packet (λ segs. held (first_seg segs).elem) (get_or m.table slot None))))
-act_leaves (PktLen slot) others held elsewhere m s h = leaves_kept (nothing_keeps _ m s _ (new-told_len (of_packet pkt_len (get_or m.table slot None))))
-act_leaves (NbSegs slot) others held elsewhere m s h = leaves_kept (nothing_keeps _ m s _ (new-told_segs (of_packet length (get_or m.table slot None))))
+act_leaves (CountOf slot) others held elsewhere m s h =
+    leaves_kept (nothing_keeps _ m s _
+    (new-told_count (of_packet (λ segs. held (first_seg segs).elem) (get_or m.table slot None))))
+act_leaves (PktLen slot) others held elsewhere m s h =
+    leaves_kept
+    (nothing_keeps _ m s _ (new-told_len (of_packet pkt_len (get_or m.table slot None))))
+act_leaves (NbSegs slot) others held elsewhere m s h =
+    leaves_kept
+    (nothing_keeps _ m s _ (new-told_segs (of_packet length (get_or m.table slot None))))
 act_leaves Flush others held elsewhere m s h = leaves_kept (flush_member-keeps _ m s)
 
 -- how often all members hold an element, once a member has changed
@@ -72,29 +102,52 @@ abbrev pub by_others : Pool → ℕ → ℕ → ℕ
 by_others pool n i = held_by pool.members i - held_in (member_at pool n).table i
 
 -- the other members' holds and this one's are all
-pub by_others-add : (pool : Pool) (n i : ℕ) → n < length pool.members → by_others pool n i + held_in (member_at pool n).table i ≡ held_by pool.members i
-by_others-add pool n i h = omega (arith, get_or-le-sum_by (λ (m : Member). held_in m.table i) pool.members n (nobody pool.limits) h)
+pub by_others-add : (pool : Pool) (n i : ℕ) → n < length pool.members →
+    by_others pool n i + held_in (member_at pool n).table i ≡ held_by pool.members i
+by_others-add pool n i h =
+    omega (
+      arith,
+      get_or-le-sum_by (λ (m : Member). held_in m.table i) pool.members n (nobody pool.limits) h,
+    )
 
-are_holds : (pool : Pool) (n : ℕ) → n < length pool.members → AreHolds (by_others pool n) (held_of pool.members pool.shared.desks) (held_elsewhere pool n) (member_at pool n) pool.shared
+-- a pool's holds are the other members', this one's and the desks'; without a slot, the rest
+are_holds : (pool : Pool) (n : ℕ) → n < length pool.members →
+    AreHolds (by_others pool n) (held_of pool.members pool.shared.desks) (held_elsewhere pool n)
+    (member_at pool n) pool.shared
 are_holds pool n h = record {
   all = λ i. omega (arith, by_others-add pool n i h);
-  rest = λ slot i within. omega (arith, by_others-add pool n i h, held_by-set pool.members n (without_packet slot (member_at pool n)) (nobody pool.limits) i h);
+  rest =
+      λ slot i within.
+      omega (
+        arith,
+        by_others-add pool n i h,
+        held_by-set pool.members n (without_packet slot (member_at pool n)) (nobody pool.limits)
+            i h,
+      );
 }
 
 -- What holds where a stranger is refused, and of each reply and pool in which a worker of this number and what all share
 -- are as an act leaves them, holds of the act.
 pub of_act : (P : Reply × Pool → Type 0) (pool : Pool) (w : ℕ) (act : Act) → P (Refused StrangerShare, pool) →
-    ((n : ℕ) (done : Reply × Member × Shared) → w ≡ n + 1 → n < length pool.members → done ≡ act_on pool n act → Leaves act (by_others pool n) (member_at pool n) pool.shared done → P (done.0, with_member pool n done.1 done.2)) → P (perform pool w act)
+    ((n : ℕ) (done : Reply × Member × Shared) → w ≡ n + 1 → n < length pool.members →
+    done ≡ act_on pool n act →
+    Leaves act (by_others pool n) (member_at pool n) pool.shared done →
+    P (done.0, with_member pool n done.1 done.2)) → P (perform pool w act)
 of_act P pool w act stranger after = elim (cases_Bool (nat_le 1 w && nat_le w (length pool.members))) [
   | inl e ↦
       let k = and_parts (nat_le 1 w) (nat_le w (length pool.members)) e in
       let number : w ≡ w - 1 + 1 = omega (arith, leb-true 1 w k.0) in
-      let within : w - 1 < length pool.members = omega (arith, leb-true 1 w k.0, leb-true w (length pool.members) k.1) in
-      rw e (after (w - 1) (act_on pool (w - 1) act) number within refl (act_leaves act _ _ _ _ _ (are_holds pool (w - 1) within)))
+      let within : w - 1 < length pool.members =
+      omega (arith, leb-true 1 w k.0, leb-true w (length pool.members) k.1) in
+      rw e (after (w - 1) (act_on pool (w - 1) act) number within refl
+      (act_leaves act _ _ _ _ _ (are_holds pool (w - 1) within)))
   | inr e ↦ rw e stranger
 ]
 
 -- What holds of a pool, and of each in which a worker and what all share are as an act leaves them, holds after the act.
 pub after_act : (P : Pool → Type 0) (pool : Pool) (w : ℕ) (act : Act) → P pool →
-    ((n : ℕ) (done : Reply × Member × Shared) → n < length pool.members → Leaves act (by_others pool n) (member_at pool n) pool.shared done → P (with_member pool n done.1 done.2)) → P (perform pool w act).1
-after_act P pool w act before after = of_act (λ r. P r.1) pool w act before (λ n done number within is left. after n done within left)
+    ((n : ℕ) (done : Reply × Member × Shared) → n < length pool.members →
+    Leaves act (by_others pool n) (member_at pool n) pool.shared done →
+    P (with_member pool n done.1 done.2)) → P (perform pool w act).1
+after_act P pool w act before after =
+    of_act (λ r. P r.1) pool w act before (λ n done number within is left. after n done within left)

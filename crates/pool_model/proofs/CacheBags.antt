@@ -1,4 +1,5 @@
--- What a get and a put do with elements: none comes to be, and none is lost. Both leave the desks.
+-- What a get and a put do with elements: none comes to be, and none is lost. Both leave the desks, and neither takes back
+-- a change of the stack.
 use Rattle.std.proofs.Common.{ℕ, ◌≡◌, ◌+◌, ◌-◌, ◌≤◌, ◌==◌, nat_lt, nat_le, inl, inr, List, [], ◌++◌, length, length-append, drop, reverse, Result, Ok, Err, refl, sym, arith}
 use Rattle.std.proofs.lemmas.List.{length-take, length-drop, length-reverse}
 use Rattle.std.proofs.lemmas.Bool.{cases_Bool, leb-true, ltb-false, eqb-true}
@@ -27,11 +28,20 @@ pub record IsAsked (n : ℕ) (s : Shared) (r : Result (List ℕ) Refusal × Shar
   pub given : (i : ℕ) → in_answer r.0 i + bag r.1.common i ≡ bag s.common i
   pub long : HasLength n r.0
   pub desks : r.1.desks ≡ s.desks
+  pub changes : s.changes ≤ r.1.changes
   pub refused : (e : Refusal) → r.0 ≡ Err e → r.1 ≡ s
 
+-- a request that is refused moved no element and left desks and count of changes
 refused-IsAsked : (n : ℕ) (s : Shared) (e : Refusal) → IsAsked n s (Err e, s)
-refused-IsAsked n s e = record { given = λ i. omega arith; long = tt; desks = refl; refused = λ f q. refl }
+refused-IsAsked n s e = record {
+  given = λ i. omega arith;
+  long = tt;
+  desks = refl;
+  changes = omega arith;
+  refused = λ f q. refl;
+}
 
+-- the elements asked for leave the stack from the top, and the count of changes rises by one
 ask-IsAsked : (n : ℕ) (s : Shared) → IsAsked n s (ask n s)
 ask-IsAsked n s = elim (cases_Bool (nat_lt (length s.common) n)) [
   | inl e ↦ rw e (refused-IsAsked n s _)
@@ -41,6 +51,7 @@ ask-IsAsked n s = elim (cases_Bool (nat_lt (length s.common) n)) [
       given = λ i. bag-take-drop n s.common i;
       long = omega (arith, length-take n s.common, ltb-false (length s.common) n e);
       desks = refl;
+      changes = omega arith;
       refused = λ c q. absurd cc;
     })
   ]
@@ -48,10 +59,11 @@ ask-IsAsked n s = elim (cases_Bool (nat_lt (length s.common) n)) [
 
 -- what is pushed goes onto the common list, or nothing changes
 push-bag : (xs : List ℕ) (s : Shared) (P : Result (Unit {0}) Refusal × Shared → Type 0) →
-    ((t : Shared) → ((i : ℕ) → bag t.common i ≡ bag xs i + bag s.common i) → t.desks ≡ s.desks → P (Ok tt, t)) → ((e : Refusal) → P (Err e, s)) → P (push xs s)
+    ((t : Shared) → ((i : ℕ) → bag t.common i ≡ bag xs i + bag s.common i) → t.desks ≡ s.desks →
+    s.changes ≤ t.changes → P (Ok tt, t)) → ((e : Refusal) → P (Err e, s)) → P (push xs s)
 push-bag xs s P goes stays = elim (cases_Bool (s.changes == spent)) [
   | inl f ↦ rw f (stays _)
-  | inr f ↦ rw f (goes _ (λ i. omega (arith, bag-append (reverse xs) s.common i, bag-reverse xs i)) refl)
+  | inr f ↦ rw f (goes _ (λ i. omega (arith, bag-append (reverse xs) s.common i, bag-reverse xs i)) refl (omega arith))
 ]
 
 -- the last of a list and the others are the list
@@ -68,18 +80,30 @@ pub record IsGot (n : ℕ) (cache : List ℕ) (s : Shared) (r : Result (List ℕ
   pub moved : (i : ℕ) → in_answer r.0 i + (bag r.1 i + bag r.2.common i) ≡ bag cache i + bag s.common i
   pub long : HasLength n r.0
   pub desks : r.2.desks ≡ s.desks
+  pub changes : s.changes ≤ r.2.changes
   pub refused : (e : Refusal) → r.0 ≡ Err e → (r.1 ≡ cache) × (r.2 ≡ s)
 
 -- a get from the stack alone moves elements
 direct-IsGot : (n : ℕ) (cache : List ℕ) (s : Shared) → IsGot n cache s (get_direct cache (ask n s))
-direct-IsGot n cache s = let a = ask-IsAsked n s in record { moved = λ i. omega (arith, a.given i); long = a.long; desks = a.desks; refused = λ e q. (refl, a.refused e q) }
+direct-IsGot n cache s =
+    let a = ask-IsAsked n s in
+    record {
+      moved = λ i. omega (arith, a.given i);
+      long = a.long;
+      desks = a.desks;
+      changes = a.changes;
+      refused = λ e q. (refl, a.refused e q);
+    }
 
 -- so does one by a refill
-refilled-IsGot : (n : ℕ) (cache : List ℕ) (s : Shared) (k : ℕ) (r : Result (List ℕ) Refusal × Shared) → n ≤ length cache + k → IsAsked k s r → IsGot n cache s (get_refilled cache n r)
+refilled-IsGot : (n : ℕ) (cache : List ℕ) (s : Shared) (k : ℕ)
+    (r : Result (List ℕ) Refusal × Shared) → n ≤ length cache + k → IsAsked k s r →
+    IsGot n cache s (get_refilled cache n r)
 refilled-IsGot n cache s k (Ok more, t) h a = record {
   moved = λ i. omega (arith, last-bag n (cache ++ more) i, bag-append cache more i, a.given i);
   long = last-length n (cache ++ more) (omega (arith, a.long, length-append cache more));
   desks = a.desks;
+  changes = a.changes;
   refused = λ e q. absurd cc;
 }
 refilled-IsGot n cache s k (Err e, t) h a = rw (a.refused e refl) (direct-IsGot n cache s)
@@ -87,13 +111,30 @@ refilled-IsGot n cache s k (Err e, t) h a = rw (a.refused e refl) (direct-IsGot 
 -- each get moves elements, and gives as many as it is asked for
 pub get-IsGot : (l : Limits) (n : ℕ) (cache : List ℕ) (s : Shared) → IsGot n cache s (get l n cache s)
 get-IsGot l n cache s = elim (cases_Bool (n == 0)) [
-  | inl a ↦ rw a (record { moved = λ i. omega (arith, bag-nil i); long = sym (eqb-true n 0 a); desks = refl; refused = λ e q. absurd cc })
+  | inl a ↦
+      rw a (record {
+        moved = λ i. omega (arith, bag-nil i);
+        long = sym (eqb-true n 0 a);
+        desks = refl;
+        changes = omega arith;
+        refused = λ e q. absurd cc;
+      })
   | inr a ↦ elim (cases_Bool (nat_le l.cache n)) [
     | inl b ↦ rw (a, b) (direct-IsGot n cache s)
     | inr b ↦ elim (cases_Bool (nat_le n (length cache))) [
-      | inl c ↦ rw (a, b, c) (record { moved = λ i. omega (arith, last-bag n cache i); long = last-length n cache (leb-true n (length cache) c); desks = refl; refused = λ e q. absurd cc })
+      | inl c ↦
+          rw (a, b, c) (record {
+            moved = λ i. omega (arith, last-bag n cache i);
+            long = last-length n cache (leb-true n (length cache) c);
+            desks = refl;
+            changes = omega arith;
+            refused = λ e q. absurd cc;
+          })
       | inr c ↦ elim (cases_Bool (nat_le (n + l.cache) l.population)) [
-        | inl d ↦ rw (a, b, c, d) (refilled-IsGot n cache s (n + l.cache - length cache) (ask (n + l.cache - length cache) s) (omega arith) (ask-IsAsked (n + l.cache - length cache) s))
+        | inl d ↦
+            rw (a, b, c, d) (refilled-IsGot n cache s (n + l.cache - length cache)
+            (ask (n + l.cache - length cache) s) (omega arith)
+            (ask-IsAsked (n + l.cache - length cache) s))
         | inr d ↦ rw (a, b, c, d) (direct-IsGot n cache s)
       ]
     ]
@@ -104,13 +145,17 @@ get-IsGot l n cache s = elim (cases_Bool (n == 0)) [
 pub record IsPut (list cache : List ℕ) (s : Shared) (r : Put × List ℕ × Shared) : Type 0 where
   pub moved : (i : ℕ) → bag r.1 i + bag r.2.common i ≡ bag cache i + bag list i + bag s.common i
   pub desks : r.2.desks ≡ s.desks
+  pub changes : s.changes ≤ r.2.changes
 
 -- a flush moves elements, and loses none
 pub flush-IsPut : (cache : List ℕ) (s : Shared) → IsPut [] cache s (flush cache s)
 flush-IsPut cache s = elim (cases_Bool (length cache == 0)) [
-  | inl a ↦ rw a (record { moved = λ i. omega (arith, bag-nil i); desks = refl })
+  | inl a ↦ rw a (record { moved = λ i. omega (arith, bag-nil i); desks = refl; changes = omega arith })
   | inr a ↦ rw a (push-bag cache s (λ r. IsPut [] cache s (put_whole cache r))
-      (λ t h same. record { moved = λ i. omega (arith, h i, bag-nil i); desks = same }) (λ e. record { moved = λ i. omega (arith, bag-nil i); desks = refl }))
+      (λ t h same more.
+      record { moved = λ i. omega (arith, h i, bag-nil i); desks = same; changes = more })
+      (λ e.
+      record { moved = λ i. omega (arith, bag-nil i); desks = refl; changes = omega arith }))
 ]
 
 -- each put moves elements, and loses none
@@ -118,17 +163,35 @@ pub put-IsPut : (l : Limits) (list cache : List ℕ) (s : Shared) → IsPut list
 put-IsPut l list cache s =
     let all : (i : ℕ) → bag (cache ++ list) i ≡ bag cache i + bag list i = bag-append cache list in
     elim (cases_Bool (length list == 0)) [
-      | inl a ↦ rw a (record { moved = λ i. omega (arith, bag-empty list i (eqb-true (length list) 0 a)); desks = refl })
+      | inl a ↦
+          rw a (record {
+            moved = λ i. omega (arith, bag-empty list i (eqb-true (length list) 0 a));
+            desks = refl;
+            changes = omega arith;
+          })
       | inr a ↦ elim (cases_Bool (nat_lt 512 (length list))) [
         | inl b ↦ rw (a, b) (push-bag list s (λ r. IsPut list cache s (put_past cache list r))
-            (λ t h same. record { moved = λ i. omega (arith, h i); desks = same }) (λ e. record { moved = λ i. omega (arith, all i); desks = refl }))
+            (λ t h same more.
+            record { moved = λ i. omega (arith, h i); desks = same; changes = more })
+            (λ e.
+            record { moved = λ i. omega (arith, all i); desks = refl; changes = omega arith }))
         | inr b ↦ elim (cases_Bool (nat_lt (length (cache ++ list)) (threshold l))) [
-          | inl c ↦ rw (a, b, c) (record { moved = λ i. omega (arith, all i); desks = refl })
+          | inl c ↦ rw (a, b, c) (record { moved = λ i. omega (arith, all i); desks = refl; changes = omega arith })
           | inr c ↦ elim (cases_Bool (nat_le (length (cache ++ list)) l.cache)) [
-            | inl d ↦ rw (a, b, c, d) (record { moved = λ i. omega (arith, all i); desks = refl })
-            | inr d ↦ rw (a, b, c, d) (push-bag (drop l.cache (cache ++ list)) s (λ r. IsPut list cache s (put_beyond l.cache (cache ++ list) r))
-                (λ t h same. record { moved = λ i. omega (arith, h i, all i, bag-take-drop l.cache (cache ++ list) i); desks = same })
-                (λ e. record { moved = λ i. omega (arith, all i); desks = refl }))
+            | inl d ↦
+                rw (a, b, c, d) (record
+                { moved = λ i. omega (arith, all i); desks = refl; changes = omega arith })
+            | inr d ↦
+                rw (a, b, c, d) (push-bag (drop l.cache (cache ++ list)) s
+                (λ r. IsPut list cache s (put_beyond l.cache (cache ++ list) r))
+                (λ t h same more.
+                record {
+                  moved =
+                      λ i. omega (arith, h i, all i, bag-take-drop l.cache (cache ++ list) i);
+                  desks = same;
+                  changes = more;
+                })
+                (λ e. record { moved = λ i. omega (arith, all i); desks = refl; changes = omega arith }))
           ]
         ]
       ]

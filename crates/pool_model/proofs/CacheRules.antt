@@ -12,14 +12,22 @@ use Rattle.pool_model.specs.CacheModel.{ask, push, get, put, put_beyond, flush}
 use Rattle.pool_model.specs.CacheLaw.{Meets}
 
 -- the stack's answer to the one call
-answered_get : (s t : Shared) (n : ℕ) (answer : Result (List ℕ) Refusal) (calls : List Call) → calls ≡ GetList n answer ∷ [] → Meets s calls t → (answer, t) ≡ ask n s
-answered_get s t n answer calls c h = let e = subst (λ cs. Meets s cs t) c h in subst (λ (u : Shared). (answer, u) ≡ ask n s) e.2 e.1
+answered_get : (s t : Shared) (n : ℕ) (answer : Result (List ℕ) Refusal) (calls : List Call) →
+    calls ≡ GetList n answer ∷ [] → Meets s calls t → (answer, t) ≡ ask n s
+answered_get s t n answer calls c h =
+    let e = subst (λ cs. Meets s cs t) c h in subst (λ (u : Shared). (answer, u) ≡ ask n s) e.2 e.1
 
-answered_put : (s t : Shared) (list : List ℕ) (answer : Result (Unit {0}) Refusal) (calls : List Call) → calls ≡ PutList list answer ∷ [] → Meets s calls t → (answer, t) ≡ push list s
-answered_put s t list answer calls c h = let e = subst (λ cs. Meets s cs t) c h in subst (λ (u : Shared). (answer, u) ≡ push list s) e.2 e.1
+-- a push that is the only call leaves the stack as the model's push does
+answered_put : (s t : Shared) (list : List ℕ) (answer : Result (Unit {0}) Refusal)
+    (calls : List Call) → calls ≡ PutList list answer ∷ [] → Meets s calls t →
+    (answer, t) ≡ push list s
+answered_put s t list answer calls c h =
+    let e = subst (λ cs. Meets s cs t) c h in
+    subst (λ (u : Shared). (answer, u) ≡ push list s) e.2 e.1
 
 -- a get by the rules, whose calls the stack answers, is the model's
-pub got_by : (s t : Shared) (l : Limits) (cache : List ℕ) (n : ℕ) (calls : List Call) (answer : Result (List ℕ) Refusal) (left : List ℕ) →
+pub got_by : (s t : Shared) (l : Limits) (cache : List ℕ) (n : ℕ) (calls : List Call)
+    (answer : Result (List ℕ) Refusal) (left : List ℕ) →
     Gets l cache n calls answer left → Meets s calls t → (answer, left, t) ≡ get l n cache s
 got_by s t l cache n calls answer left (Nothing z c a k) h =
     let e = subst (λ cs. Meets s cs t) c h in
@@ -32,23 +40,52 @@ got_by s t l cache n calls answer left (FromCache p q r c a k) h =
     rw (ne_eqb n 0 (omega arith), lt-leb l.cache n q, le-leb n (length cache) r, a, k, sym e) refl
 got_by s t l cache n calls answer left (Refill p q r m more c a k) h =
     let f = answered_get s t (n + l.cache - length cache) (Ok more) calls c h in
-    rw (ne_eqb n 0 (omega arith), lt-leb l.cache n q, lt-leb n (length cache) r, le-leb (n + l.cache) l.population m, a, k, ← f) refl
+    rw (
+      ne_eqb n 0 (omega arith),
+      lt-leb l.cache n q,
+      lt-leb n (length cache) r,
+      le-leb (n + l.cache) l.population m,
+      a,
+      k,
+      ← f,
+    ) refl
 got_by s t l cache n calls answer left (RefillRefused p q r m cause c k) h =
     let e = subst (λ cs. Meets s cs t) c h in
     let f = e.1 in
     let g = answered_get e.0 t n answer (GetList n answer ∷ []) refl e.2 in
-    rw (ne_eqb n 0 (omega arith), lt-leb l.cache n q, lt-leb n (length cache) r, le-leb (n + l.cache) l.population m, k, ← f, ← g) refl
+    rw (
+      ne_eqb n 0 (omega arith),
+      lt-leb l.cache n q,
+      lt-leb n (length cache) r,
+      le-leb (n + l.cache) l.population m,
+      k,
+      ← f,
+      ← g,
+    ) refl
 got_by s t l cache n calls answer left (NoRefill p q r m c k) h =
     let f = answered_get s t n answer calls c h in
-    rw (ne_eqb n 0 (omega arith), lt-leb l.cache n q, lt-leb n (length cache) r, lt-leb (n + l.cache) l.population m, k, ← f) refl
+    rw (
+      ne_eqb n 0 (omega arith),
+      lt-leb l.cache n q,
+      lt-leb n (length cache) r,
+      lt-leb (n + l.cache) l.population m,
+      k,
+      ← f,
+    ) refl
 
+-- a test between two equal things makes no difference
 either : {X : Type 0} (b : Bool) (y : X) → cond b y y ≡ y
 either true y = refl
 either false y = refl
 
 -- below the threshold, or at most the size, the first or the second test keeps all
-kept_below : {X : Type 0} (n threshold size : ℕ) (x y z : X) → (n < threshold) ⊎ (n ≤ size) → x ≡ y → x ≡ cond (nat_lt n threshold) y (cond (nat_le n size) y z)
-kept_below n threshold size x y z b e = elim b [ inl h ↦ rw (lt-ltb n threshold h) e | inr h ↦ rw (le-leb n size h) (e ∙ sym (either (nat_lt n threshold) y)) ]
+kept_below : {X : Type 0} (n threshold size : ℕ) (x y z : X) → (n < threshold) ⊎ (n ≤ size) →
+    x ≡ y → x ≡ cond (nat_lt n threshold) y (cond (nat_le n size) y z)
+kept_below n threshold size x y z b e =
+    elim b [
+      | inl h ↦ rw (lt-ltb n threshold h) e
+      | inr h ↦ rw (le-leb n size h) (e ∙ sym (either (nat_lt n threshold) y))
+    ]
 
 -- a put by the rules, whose calls the stack answers, is the model's
 pub put_by : (s t : Shared) (l : Limits) (cache list : List ℕ) (calls : List Call) (answer : Put) (left : List ℕ) →
@@ -64,13 +101,33 @@ put_by s t l cache list calls answer left (BypassPutOff p cause c a k) h =
     rw (ne_eqb (length list) 0 (omega arith), lt-ltb 512 (length list) p, a, k, ← f) refl
 put_by s t l cache list calls answer left (Flush p q r m c a k) h =
     let f = answered_put s t (drop l.cache (cache ++ list)) (Ok tt) calls c h in
-    rw (ne_eqb (length list) 0 (omega arith), le-ltb 512 (length list) q, le-ltb (length (cache ++ list)) (threshold l) r, lt-leb (length (cache ++ list)) l.cache m, a, k, ← f) refl
+    rw (
+      ne_eqb (length list) 0 (omega arith),
+      le-ltb 512 (length list) q,
+      le-ltb (length (cache ++ list)) (threshold l) r,
+      lt-leb (length (cache ++ list)) l.cache m,
+      a,
+      k,
+      ← f,
+    ) refl
 put_by s t l cache list calls answer left (FlushPutOff p q r m cause c a k) h =
     let f = answered_put s t (drop l.cache (cache ++ list)) (Err cause) calls c h in
-    rw (ne_eqb (length list) 0 (omega arith), le-ltb 512 (length list) q, le-ltb (length (cache ++ list)) (threshold l) r, lt-leb (length (cache ++ list)) l.cache m, a, k, ← f) refl
+    rw (
+      ne_eqb (length list) 0 (omega arith),
+      le-ltb 512 (length list) q,
+      le-ltb (length (cache ++ list)) (threshold l) r,
+      lt-leb (length (cache ++ list)) l.cache m,
+      a,
+      k,
+      ← f,
+    ) refl
 put_by s t l cache list calls answer left (Keep p q b c a k) h =
     let e = subst (λ cs. Meets s cs t) c h in
-    let kept = kept_below (length (cache ++ list)) (threshold l) l.cache (answer, left, t) (Kept, cache ++ list, s) (put_beyond l.cache (cache ++ list) (push (drop l.cache (cache ++ list)) s)) b (rw (a, k, sym e) refl) in
+    let kept =
+    kept_below (length (cache ++ list)) (threshold l) l.cache (answer, left, t)
+    (Kept, cache ++ list, s)
+    (put_beyond l.cache (cache ++ list) (push (drop l.cache (cache ++ list)) s)) b
+    (rw (a, k, sym e) refl) in
     rw (ne_eqb (length list) 0 (omega arith), le-ltb 512 (length list) q) kept
 
 -- a flush by the rules, whose calls the stack answers, is the model's

@@ -1,6 +1,6 @@
 mod ActLeaves
 pub mod AfterActs
-mod Balance
+pub mod Balance
 mod BasesDirect
 mod CacheBags
 pub mod CacheRules
@@ -13,12 +13,17 @@ mod HoldersOrder
 mod Leaves
 mod LinkSteps
 mod Links
-mod Listed
+pub mod Listed
 pub mod NewMembers
 pub mod Numbered
 mod PacketsKeep
+pub mod PacketsStand
+mod PacketsStay
 mod Pairs
-mod Placed
+pub mod Placed
 mod PoolActs
 mod Refusals
 pub mod SharedKeep
+mod SlotsLeft
+mod Sound
+mod SoundStatement

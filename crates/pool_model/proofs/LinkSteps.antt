@@ -21,20 +21,28 @@ use Rattle.pool_model.specs.SharingModel.{Cloned, clone_segs, give_up, with_elem
 use Rattle.pool_model.proofs.Links.{LinksAfter, Fewer, NewBase, NewIndirect, based_in, indirect_in, based_packet, indirect_packet, indirect_seg, based_slot, indirect_slot, based_alone, based-more, buffer_in, buffer_packet, held_split, indirect_alone, indirect_in-set, packet-own}
 
 -- two packets that become one
-pub chain_indirect : (table : List (Option (List Seg))) (head tail : ℕ) (first second : List Seg) (i : ℕ) → head < length table → tail < length table → head ≢ tail → get_or table head None ≡ Some first → get_or table tail None ≡ Some second →
+pub chain_indirect : (table : List (Option (List Seg))) (head tail : ℕ) (first second : List Seg)
+    (i : ℕ) → head < length table → tail < length table → head ≢ tail →
+    get_or table head None ≡ Some first → get_or table tail None ≡ Some second →
     indirect_in (set (set table head (Some (first ++ second))) tail None) i ≡ indirect_in table i
 chain_indirect table head tail first second i low high apart at_head at_tail =
     let joined = set table head (Some (first ++ second)) in
-    let other : get_or joined tail None ≡ Some second = get_or-set_other table head tail (Some (first ++ second)) None (λ s. apart (sym s)) ∙ at_tail in
+    let other : get_or joined tail None ≡ Some second =
+    get_or-set_other table head tail (Some (first ++ second)) None (λ s. apart (sym s))
+    ∙ at_tail in
     let bound : tail < length joined = omega (arith, high, length-set table head (Some (first ++ second))) in
     let one = rw at_head at (indirect_in-set table head (Some (first ++ second)) i low) in
     let two = rw other at (indirect_in-set joined tail None i bound) in
     omega (arith, one, two, sum_by-append (λ (s : Seg). indirect_seg s i) first second)
 
 -- what is in two slots holds no more than the table
-two_slots : (table : List (Option (List Seg))) (one two i : ℕ) → one ≢ two → one < length table → two < length table → bag (holds_in_slot (get_or table one None)) i + bag (holds_in_slot (get_or table two None)) i ≤ held_in table i
+two_slots : (table : List (Option (List Seg))) (one two i : ℕ) → one ≢ two → one < length table →
+    two < length table →
+    bag (holds_in_slot (get_or table one None)) i + bag (holds_in_slot (get_or table two None)) i
+    ≤ held_in table i
 two_slots table one two i apart low high =
-    let other : get_or (set table one None) two None ≡ get_or table two None = get_or-set_other table one two None None (λ s. apart (sym s)) in
+    let other : get_or (set table one None) two None ≡ get_or table two None =
+    get_or-set_other table one two None None (λ s. apart (sym s)) in
     omega (
       arith,
       held_in-set table one None i low,
@@ -44,14 +52,17 @@ two_slots table one two i apart low high =
     )
 
 -- packets of one slot aren't attached
-pub pair_apart : (one other : Option (List Seg)) (same : Bool) (pair : ℕ × Seg) → attachable one other same ≡ Ok pair → same ≡ false
+pub pair_apart : (one other : Option (List Seg)) (same : Bool) (pair : ℕ × Seg) →
+    attachable one other same ≡ Ok pair → same ≡ false
 pair_apart None other same pair e = absurd cc
 pair_apart (Some segs) None same pair e = absurd cc
 pair_apart (Some segs) (Some targets) true pair e = absurd cc
 pair_apart (Some segs) (Some targets) false pair e = refl
 
 -- a packet that nothing else holds is attached to another's buffer, which isn't its own then
-module _ (table : List (Option (List Seg))) (mi target e : ℕ) (seg : Seg) (found : Found (get_or table mi None) (get_or table target None) e seg) (apart : mi ≢ target) (outside : ℕ → ℕ) (alone : outside e + held_in table e ≡ 1) where
+module _ (table : List (Option (List Seg))) (mi target e : ℕ) (seg : Seg)
+    (found : Found (get_or table mi None) (get_or table target None) e seg) (apart : mi ≢ target)
+    (outside : ℕ → ℕ) (alone : outside e + held_in table e ≡ 1) where
   mi_within : mi < length table
   mi_within = stands_within table mi (found.own ∷ []) found.here
 
@@ -60,13 +71,22 @@ module _ (table : List (Option (List Seg))) (mi target e : ℕ) (seg : Seg) (fou
 
   own_there : 1 ≤ own_in table e
   own_there =
-      omega (arith, own_in-slot table mi e mi_within, ap (λ (slot : Option (List Seg)). bag (own_in_slot slot) e) found.here, bag-single found.own.elem e, ap (λ (x : ℕ). one x e) found.elem, one-same e)
+      omega (
+        arith,
+        own_in-slot table mi e mi_within,
+        ap (λ (slot : Option (List Seg)). bag (own_in_slot slot) e) found.here,
+        bag-single found.own.elem e,
+        ap (λ (x : ℕ). one x e) found.elem,
+        one-same e,
+      )
 
   other_buffer : one (buffer_of seg) e ≡ 0
   other_buffer = elim (cases_lt 0 (one (buffer_of seg) e)) [
     | inl same ↦
         let b : buffer_of seg ≡ e = one-is (buffer_of seg) e same in
-        let used = subst (λ (x : ℕ). 0 < bag (holds_of_packet (seg ∷ found.others)) x) b (buffer_held (seg ∷ found.others) 0 seg (omega arith)) in
+        let used =
+        subst (λ (x : ℕ). 0 < bag (holds_of_packet (seg ∷ found.others)) x) b
+        (buffer_held (seg ∷ found.others) 0 seg (omega arith)) in
         absurd (omega (
           arith,
           alone,
@@ -82,21 +102,44 @@ module _ (table : List (Option (List Seg))) (mi target e : ℕ) (seg : Seg) (fou
   ]
 
   pub attach_links : (i : ℕ) (after : List (Option (List Seg))) →
-      based_in after i + based_slot (Some (found.own ∷ [])) i ≡ based_in table i + based_slot (Some (attached e seg ∷ [])) i →
-      indirect_in after i + indirect_slot (Some (found.own ∷ [])) i ≡ indirect_in table i + indirect_slot (Some (attached e seg ∷ [])) i →
-      LinksAfter (outside i + held_in table i) (own_in table i) (based_in table i) (indirect_in table i) (based_in after i) (indirect_in after i)
+      based_in after i + based_slot (Some (found.own ∷ [])) i
+      ≡ based_in table i + based_slot (Some (attached e seg ∷ [])) i →
+      indirect_in after i + indirect_slot (Some (found.own ∷ [])) i
+      ≡ indirect_in table i + indirect_slot (Some (attached e seg ∷ [])) i →
+      LinksAfter (outside i + held_in table i) (own_in table i) (based_in table i)
+      (indirect_in table i) (based_in after i) (indirect_in after i)
   attach_links i after based indirect =
       let b = buffer_of seg in
-      let more_based : based_in after i ≡ based_in table i + one b i = omega (arith, based, based_alone None found.own i found.direct, based_alone (Some b) (attached e seg) i refl, bag-nil i, bag-single b i) in
-      let more_indirect : indirect_in after i ≡ indirect_in table i + one e i = omega (arith, indirect, indirect_alone None found.own i found.direct, indirect_alone (Some b) (attached e seg) i refl) in
+      let more_based : based_in after i ≡ based_in table i + one b i =
+      omega (
+        arith,
+        based,
+        based_alone None found.own i found.direct,
+        based_alone (Some b) (attached e seg) i refl,
+        bag-nil i,
+        bag-single b i,
+      ) in
+      let more_indirect : indirect_in after i ≡ indirect_in table i + one e i =
+      omega (
+        arith,
+        indirect,
+        indirect_alone None found.own i found.direct,
+        indirect_alone (Some b) (attached e seg) i refl,
+      ) in
       elim (cases_eq e i) [
-        | inl same ↦ NewIndirect (rw (← same) (omega (arith, alone, own_there))) (omega (arith, more_based, other_buffer, ap (λ (x : ℕ). one b x) same))
+        | inl same ↦
+            NewIndirect (rw (← same) (omega (arith, alone, own_there)))
+            (omega (arith, more_based, other_buffer, ap (λ (x : ℕ). one b x) same))
         | inr not_elem ↦ elim (cases_eq b i) [
           | inl same ↦
               let used = subst (λ (x : ℕ). indirect_in table x < held_in table x) same
-              (buffer_in table target b (seg ∷ found.others) target_within found.there (buffer_packet (seg ∷ found.others) 0 seg (omega arith))) in
-              NewBase (omega (arith, used, held_split table i)) (omega (arith, more_indirect, one-apart e i (λ q. not_elem (sym q))))
-          | inr not_base ↦ Fewer (omega (arith, more_based, one-apart b i (λ q. not_base (sym q)))) (omega (arith, more_indirect, one-apart e i (λ q. not_elem (sym q))))
+              (buffer_in table target b (seg ∷ found.others) target_within found.there
+              (buffer_packet (seg ∷ found.others) 0 seg (omega arith))) in
+              NewBase (omega (arith, used, held_split table i))
+              (omega (arith, more_indirect, one-apart e i (λ q. not_elem (sym q))))
+          | inr not_base ↦
+              Fewer (omega (arith, more_based, one-apart b i (λ q. not_base (sym q))))
+              (omega (arith, more_indirect, one-apart e i (λ q. not_elem (sym q))))
         ]
       ]
 
@@ -107,20 +150,29 @@ abbrev pub OfBases : (ℕ → Type 0) → Cloned → Type 0
 OfBases P (Ok new, cache, s) = (i : ℕ) → 0 < based_packet new i → P i
 OfBases P (Err cause, cache, s) = Unit {0}
 
-element_of : (P : Cloned → Type 0) (r : Result (List ℕ) Refusal × List ℕ × Shared) (met : ℕ → List ℕ → Shared → Cloned) (refused : Refusal → List ℕ → Shared → Cloned) →
-    ((e : ℕ) (left : List ℕ) (t : Shared) → P (met e left t)) → ((cause : Refusal) (left : List ℕ) (t : Shared) → P (refused cause left t)) → P (with_element r met refused)
+-- what holds of a clone that got its element, and of one that was refused it, holds of both
+pub element_of : (P : Cloned → Type 0) (r : Result (List ℕ) Refusal × List ℕ × Shared)
+    (met : ℕ → List ℕ → Shared → Cloned) (refused : Refusal → List ℕ → Shared → Cloned) →
+    ((e : ℕ) (left : List ℕ) (t : Shared) → P (met e left t)) →
+    ((cause : Refusal) (left : List ℕ) (t : Shared) → P (refused cause left t)) →
+    P (with_element r met refused)
 element_of P (Ok [], left, t) met refused a b = b _ left t
 element_of P (Ok (e ∷ es), left, t) met refused a b = a e left t
 element_of P (Err cause, left, t) met refused a b = b cause left t
 
 -- clones have the buffers of the segments as bases
-pub clone_bases : (l : Limits) (held : ℕ → ℕ) (P : ℕ → Type 0) (segs new : List Seg) (cache : List ℕ) (s : Shared) → ((i : ℕ) → 0 < based_packet new i → P i) → ((k : ℕ) (d : Seg) → k < length segs → P (buffer_of (get_or segs k d))) →
+pub clone_bases : (l : Limits) (held : ℕ → ℕ) (P : ℕ → Type 0) (segs new : List Seg)
+    (cache : List ℕ) (s : Shared) → ((i : ℕ) → 0 < based_packet new i → P i) →
+    ((k : ℕ) (d : Seg) → k < length segs → P (buffer_of (get_or segs k d))) →
     OfBases P (clone_segs l held segs new cache s)
 clone_bases l held P [] new cache s so_far later = so_far
 clone_bases l held P (seg ∷ segs) new cache s so_far later =
     let b = buffer_of seg in
     element_of (OfBases P) (get l 1 cache s)
-    (λ e left t. if held b + bag (holds_of_packet new) b == l.ref_limit then give_up l held (holds_of_packet new ++ e ∷ []) RefSpent left t else clone_segs l held segs (new ++ attached e seg ∷ []) left t)
+    (λ e left t.
+    if held b + bag (holds_of_packet new) b == l.ref_limit
+    then give_up l held (holds_of_packet new ++ e ∷ []) RefSpent left t
+    else clone_segs l held segs (new ++ attached e seg ∷ []) left t)
     (λ cause left t. give_up l held (holds_of_packet new) cause left t)
     (λ e left t. elim (cases_Bool (held b + bag (holds_of_packet new) b == l.ref_limit)) [
       | inl full ↦ rw full tt
@@ -134,9 +186,13 @@ clone_bases l held P (seg ∷ segs) new cache s so_far later =
     (λ cause left t. tt)
 
 -- where the clone's elements were nobody's and its bases are buffers in use
-pub clone_links : (outside had : ℕ) (table after : List (Option (List Seg))) (new : List Seg) (i : ℕ) → (0 < based_packet new i → indirect_in table i < held_in table i) → had + min 1 (outside + held_in table i) ≤ 1 → bag (own_of_packet new) i ≤ had →
-    based_in after i ≡ based_in table i + based_packet new i → indirect_in after i ≡ indirect_in table i + indirect_packet new i →
-    LinksAfter (outside + held_in table i) (own_in table i) (based_in table i) (indirect_in table i) (based_in after i) (indirect_in after i)
+pub clone_links : (outside had : ℕ) (table after : List (Option (List Seg))) (new : List Seg)
+    (i : ℕ) → (0 < based_packet new i → indirect_in table i < held_in table i) →
+    had + min 1 (outside + held_in table i) ≤ 1 → bag (own_of_packet new) i ≤ had →
+    based_in after i ≡ based_in table i + based_packet new i →
+    indirect_in after i ≡ indirect_in table i + indirect_packet new i →
+    LinksAfter (outside + held_in table i) (own_in table i) (based_in table i) (indirect_in table i)
+    (based_in after i) (indirect_in after i)
 clone_links outside had table after new i buffer few own based indirect = elim (cases_lt 0 (based_packet new i)) [
   | inl some ↦
       let used = buffer some in

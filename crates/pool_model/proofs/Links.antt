@@ -32,10 +32,12 @@ based_packet segs i = sum_by (λ seg. bag (hold_of seg.base) i) segs
 abbrev pub indirect_packet : List Seg → ℕ → ℕ
 indirect_packet segs i = sum_by (λ seg. indirect_seg seg i) segs
 
+-- how often the packet in a slot has an element as a base
 abbrev pub based_slot : Option (List Seg) → ℕ → ℕ
 based_slot None i = 0
 based_slot (Some segs) i = based_packet segs i
 
+-- how often the packet in a slot has it as the own element of an indirect segment
 abbrev pub indirect_slot : Option (List Seg) → ℕ → ℕ
 indirect_slot None i = 0
 indirect_slot (Some segs) i = indirect_packet segs i
@@ -48,7 +50,9 @@ indirect_in table i = sum_by (λ slot. indirect_slot slot i) table
 
 -- ---- holds are of bases and of own elements
 
-pub packet_split : (segs : List Seg) (i : ℕ) → bag (holds_of_packet segs) i ≡ based_packet segs i + bag (own_of_packet segs) i
+-- a segment holds its own element, and its base where it has one
+pub packet_split : (segs : List Seg) (i : ℕ) →
+    bag (holds_of_packet segs) i ≡ based_packet segs i + bag (own_of_packet segs) i
 packet_split [] i = omega (arith, bag-nil i)
 packet_split (seg ∷ segs) i = omega (
   arith,
@@ -60,10 +64,13 @@ packet_split (seg ∷ segs) i = omega (
   bag-cons seg.elem (own_of_packet segs) i,
 )
 
-slot_split : (slot : Option (List Seg)) (i : ℕ) → bag (holds_in_slot slot) i ≡ based_slot slot i + bag (own_in_slot slot) i
+-- so it is in a slot, and an empty one holds nothing
+slot_split : (slot : Option (List Seg)) (i : ℕ) →
+    bag (holds_in_slot slot) i ≡ based_slot slot i + bag (own_in_slot slot) i
 slot_split None i = omega (arith, bag-nil i)
 slot_split (Some segs) i = packet_split segs i
 
+-- all holds of a table are of bases and of own elements
 pub held_split : (table : List (Option (List Seg))) (i : ℕ) → held_in table i ≡ based_in table i + own_in table i
 held_split [] i = refl
 held_split (slot ∷ table) i = omega (
@@ -80,14 +87,24 @@ indirect-own : (base : Option ℕ) (e i : ℕ) → indirect_one base e i ≤ one
 indirect-own None e i = omega arith
 indirect-own (Some base) e i = omega arith
 
+-- each indirect segment's element is an own one of its packet
 pub packet-own : (segs : List Seg) (i : ℕ) → indirect_packet segs i ≤ bag (own_of_packet segs) i
 packet-own [] i = omega arith
-packet-own (seg ∷ segs) i = omega (arith, packet-own segs i, indirect-own seg.base seg.elem i, sum_by-cons (λ (s : Seg). indirect_seg s i) seg segs, bag-cons seg.elem (own_of_packet segs) i)
+packet-own (seg ∷ segs) i =
+    omega (
+      arith,
+      packet-own segs i,
+      indirect-own seg.base seg.elem i,
+      sum_by-cons (λ (s : Seg). indirect_seg s i) seg segs,
+      bag-cons seg.elem (own_of_packet segs) i,
+    )
 
+-- so it is in a slot, and an empty one has neither
 slot-own : (slot : Option (List Seg)) (i : ℕ) → indirect_slot slot i ≤ bag (own_in_slot slot) i
 slot-own None i = omega arith
 slot-own (Some segs) i = packet-own segs i
 
+-- in a table no element is an indirect segment's more often than it is an own one
 pub indirect_in-own : (table : List (Option (List Seg))) (i : ℕ) → indirect_in table i ≤ own_in table i
 indirect_in-own [] i = omega arith
 indirect_in-own (slot ∷ table) i = omega (
@@ -100,10 +117,12 @@ indirect_in-own (slot ∷ table) i = omega (
 
 -- ---- a slot with other contents
 
+-- the bases of a slot's packet go with it, and those of the new packet come
 pub based_in-set : (table : List (Option (List Seg))) (k : ℕ) (new : Option (List Seg)) (i : ℕ) → k < length table →
     based_in (set table k new) i + based_slot (get_or table k None) i ≡ based_in table i + based_slot new i
 based_in-set table k new i l = sum_by-set (λ (slot : Option (List Seg)). based_slot slot i) table k new None l
 
+-- the indirect segments of a slot's packet go with it, and those of the new packet come
 pub indirect_in-set : (table : List (Option (List Seg))) (k : ℕ) (new : Option (List Seg)) (i : ℕ) → k < length table →
     indirect_in (set table k new) i + indirect_slot (get_or table k None) i ≡ indirect_in table i + indirect_slot new i
 indirect_in-set table k new i l = sum_by-set (λ (slot : Option (List Seg)). indirect_slot slot i) table k new None l
@@ -113,21 +132,39 @@ pub based_in-empty : (n i : ℕ) → based_in (replicate n None) i ≡ 0
 based_in-empty n i = sum_by-replicate (λ (slot : Option (List Seg)). based_slot slot i) n None ∙ omega arith
 
 -- a packet of one segment
-pub based_alone : (base : Option ℕ) (seg : Seg) (i : ℕ) → seg.base ≡ base → based_packet (seg ∷ []) i ≡ bag (hold_of base) i
-based_alone base seg i e = omega (arith, sum_by-cons (λ (s : Seg). bag (hold_of s.base) i) seg [], ap (λ (o : Option ℕ). bag (hold_of o) i) e)
+pub based_alone : (base : Option ℕ) (seg : Seg) (i : ℕ) → seg.base ≡ base →
+    based_packet (seg ∷ []) i ≡ bag (hold_of base) i
+based_alone base seg i e =
+    omega (
+      arith,
+      sum_by-cons (λ (s : Seg). bag (hold_of s.base) i) seg [],
+      ap (λ (o : Option ℕ). bag (hold_of o) i) e,
+    )
 
-pub indirect_alone : (base : Option ℕ) (seg : Seg) (i : ℕ) → seg.base ≡ base → indirect_packet (seg ∷ []) i ≡ indirect_one base seg.elem i
-indirect_alone base seg i e = omega (arith, sum_by-cons (λ (s : Seg). indirect_seg s i) seg [], ap (λ (o : Option ℕ). indirect_one o seg.elem i) e)
+-- a packet of one segment has its element as an indirect one's just where it has a base
+pub indirect_alone : (base : Option ℕ) (seg : Seg) (i : ℕ) → seg.base ≡ base →
+    indirect_packet (seg ∷ []) i ≡ indirect_one base seg.elem i
+indirect_alone base seg i e =
+    omega (
+      arith,
+      sum_by-cons (λ (s : Seg). indirect_seg s i) seg [],
+      ap (λ (o : Option ℕ). indirect_one o seg.elem i) e,
+    )
 
 -- fresh packets add nothing
 fresh_based : (l : Limits) (e i : ℕ) → based_packet (fresh_seg l e ∷ []) i ≡ 0
 fresh_based l e i = omega (arith, based_alone None (fresh_seg l e) i refl, bag-nil i)
 
-pub fresh_links : (l : Limits) (e i : ℕ) → (based_packet (fresh_seg l e ∷ []) i ≡ 0) × (indirect_packet (fresh_seg l e ∷ []) i ≡ 0)
+-- a fresh packet has no base, so it adds neither a base nor an indirect segment
+pub fresh_links : (l : Limits) (e i : ℕ) →
+    (based_packet (fresh_seg l e ∷ []) i ≡ 0) × (indirect_packet (fresh_seg l e ∷ []) i ≡ 0)
 fresh_links l e i = (fresh_based l e i, indirect_alone None (fresh_seg l e) i refl)
 
-pub stood_links : (l : Limits) (es : List ℕ) (table : List (Option (List Seg))) → length es ≤ length (free_slots table) → (i : ℕ) →
-    let after = stood l es (take (length es) (free_slots table)) table in (based_in after i ≡ based_in table i) × (indirect_in after i ≡ indirect_in table i)
+-- fresh packets come into free slots, where nothing stood that had a base
+pub stood_links : (l : Limits) (es : List ℕ) (table : List (Option (List Seg))) →
+    length es ≤ length (free_slots table) → (i : ℕ) →
+    let after = stood l es (take (length es) (free_slots table)) table in
+    (based_in after i ≡ based_in table i) × (indirect_in after i ≡ indirect_in table i)
 stood_links l [] table h i = (refl, refl)
 stood_links l (e ∷ es) table h i =
     let slot = position_or_len is_none table in
@@ -143,7 +180,10 @@ stood_links l (e ∷ es) table h i =
 
 -- ---- a change of lengths
 
-indirect-set : (segs : List Seg) (k : ℕ) (seg : Seg) (i : ℕ) → (seg.elem ≡ (get_or segs k no_seg).elem) × (seg.base ≡ (get_or segs k no_seg).base) → indirect_packet (set segs k seg) i ≡ indirect_packet segs i
+-- a segment with the same element and the same base counts as the one in whose place it stands
+indirect-set : (segs : List Seg) (k : ℕ) (seg : Seg) (i : ℕ) →
+    (seg.elem ≡ (get_or segs k no_seg).elem) × (seg.base ≡ (get_or segs k no_seg).base) →
+    indirect_packet (set segs k seg) i ≡ indirect_packet segs i
 indirect-set [] k seg i h = refl
 indirect-set (first ∷ segs) zero seg i h = omega (
   arith,
@@ -163,42 +203,71 @@ indirect-set (first ∷ segs) (suc k) seg i h = omega (
 abbrev pub SameIndirect : List Seg → List Seg → Type 0
 SameIndirect new segs = (i : ℕ) → indirect_packet new i ≡ indirect_packet segs i
 
-changed_seg : (segs new : List Seg) (k : ℕ) (b : Bool) (seg : Seg) → (seg.elem ≡ (get_or segs k no_seg).elem) × (seg.base ≡ (get_or segs k no_seg).base) → with_seg k segs (cond b (Some seg) None) ≡ Some new → SameIndirect new segs
+-- a change of lengths writes one segment, and leaves its element and its base
+changed_seg : (segs new : List Seg) (k : ℕ) (b : Bool) (seg : Seg) →
+    (seg.elem ≡ (get_or segs k no_seg).elem) × (seg.base ≡ (get_or segs k no_seg).base) →
+    with_seg k segs (cond b (Some seg) None) ≡ Some new → SameIndirect new segs
 changed_seg segs new k false seg h e i = absurd cc
-changed_seg segs new k true seg h e i = ap (λ (s : List Seg). indirect_packet s i) (sym (some-is (set segs k seg) new e)) ∙ indirect-set segs k seg i h
+changed_seg segs new k true seg h e i =
+    ap (λ (s : List Seg). indirect_packet s i) (sym (some-is (set segs k seg) new e))
+    ∙ indirect-set segs k seg i h
 
+-- an append writes the last segment's length alone
 pub appended_indirect : (n : ℕ) (segs new : List Seg) → appended n segs ≡ Some new → SameIndirect new segs
 appended_indirect n segs new e =
     let last = get_or segs (length segs - 1) no_seg in
-    changed_seg segs new (length segs - 1) (nat_le n (last.buf_len - last.data_off - last.data_len)) (record last { data_len = last.data_len + n }) (refl, refl) e
+    changed_seg segs new (length segs - 1) (nat_le n (last.buf_len - last.data_off - last.data_len))
+    (record last { data_len = last.data_len + n }) (refl, refl) e
 
+-- a prepend writes the first segment's offset and length alone
 pub prepended_indirect : (n : ℕ) (segs new : List Seg) → prepended n segs ≡ Some new → SameIndirect new segs
 prepended_indirect n segs new e =
     let first = get_or segs 0 no_seg in
-    changed_seg segs new 0 (nat_le n first.data_off) (record first { data_off = first.data_off - n; data_len = first.data_len + n }) (refl, refl) e
+    changed_seg segs new 0 (nat_le n first.data_off)
+    (record first { data_off = first.data_off - n; data_len = first.data_len + n }) (refl, refl)
+    e
 
+-- an adj writes the first segment's offset and length alone
 pub adjusted_indirect : (n : ℕ) (segs new : List Seg) → adjusted n segs ≡ Some new → SameIndirect new segs
 adjusted_indirect n segs new e =
     let first = get_or segs 0 no_seg in
-    changed_seg segs new 0 (nat_le n first.data_len) (record first { data_off = first.data_off + n; data_len = first.data_len - n }) (refl, refl) e
+    changed_seg segs new 0 (nat_le n first.data_len)
+    (record first { data_off = first.data_off + n; data_len = first.data_len - n }) (refl, refl)
+    e
 
+-- a trim writes the last segment's length alone
 pub trimmed_indirect : (n : ℕ) (segs new : List Seg) → trimmed n segs ≡ Some new → SameIndirect new segs
 trimmed_indirect n segs new e =
     let last = get_or segs (length segs - 1) no_seg in
-    changed_seg segs new (length segs - 1) (nat_le n last.data_len) (record last { data_len = last.data_len - n }) (refl, refl) e
+    changed_seg segs new (length segs - 1) (nat_le n last.data_len)
+    (record last { data_len = last.data_len - n }) (refl, refl) e
 
 -- ---- buffers that segments use
 
 -- the buffer that a segment uses is its base, or its own where it has none
-buffer_seg : (base : Option ℕ) (seg : Seg) → seg.base ≡ base → indirect_seg seg (buffer_of seg) < bag (hold_of seg.base) (buffer_of seg) + one seg.elem (buffer_of seg)
+buffer_seg : (base : Option ℕ) (seg : Seg) → seg.base ≡ base →
+    indirect_seg seg (buffer_of seg)
+    < bag (hold_of seg.base) (buffer_of seg) + one seg.elem (buffer_of seg)
 buffer_seg None seg e = rw e (omega (arith, bag-nil seg.elem, one-same seg.elem))
 buffer_seg (Some base) seg e = rw e (omega (arith, bag-single base base, one-same base))
 
-pub buffer_packet : (segs : List Seg) (k : ℕ) (d : Seg) → k < length segs → indirect_packet segs (buffer_of (get_or segs k d)) < bag (holds_of_packet segs) (buffer_of (get_or segs k d))
+-- a buffer that a segment uses is held more often than it is an indirect segment's own element
+pub buffer_packet : (segs : List Seg) (k : ℕ) (d : Seg) → k < length segs →
+    indirect_packet segs (buffer_of (get_or segs k d))
+    < bag (holds_of_packet segs) (buffer_of (get_or segs k d))
 buffer_packet [] k d within = absurd (omega (arith, within))
 buffer_packet (seg ∷ segs) zero d within =
     let b = buffer_of seg in
-    omega (arith, buffer_seg seg.base seg refl, packet-own segs b, packet_split segs b, packet_split (seg ∷ segs) b, sum_by-cons (λ (s : Seg). indirect_seg s b) seg segs, sum_by-cons (λ (s : Seg). bag (hold_of s.base) b) seg segs, bag-cons seg.elem (own_of_packet segs) b)
+    omega (
+      arith,
+      buffer_seg seg.base seg refl,
+      packet-own segs b,
+      packet_split segs b,
+      packet_split (seg ∷ segs) b,
+      sum_by-cons (λ (s : Seg). indirect_seg s b) seg segs,
+      sum_by-cons (λ (s : Seg). bag (hold_of s.base) b) seg segs,
+      bag-cons seg.elem (own_of_packet segs) b,
+    )
 buffer_packet (seg ∷ segs) (suc k) d within =
     let b = buffer_of (get_or segs k d) in
     omega (
@@ -213,48 +282,102 @@ buffer_packet (seg ∷ segs) (suc k) d within =
     )
 
 -- so is it in a whole table
-pub buffer_in : (table : List (Option (List Seg))) (slot i : ℕ) (segs : List Seg) → slot < length table → get_or table slot None ≡ Some segs → indirect_packet segs i < bag (holds_of_packet segs) i → indirect_in table i < held_in table i
+pub buffer_in : (table : List (Option (List Seg))) (slot i : ℕ) (segs : List Seg) →
+    slot < length table → get_or table slot None ≡ Some segs →
+    indirect_packet segs i < bag (holds_of_packet segs) i → indirect_in table i < held_in table i
 buffer_in table slot i segs within there fewer =
     let indirect = rw there at (indirect_in-set table slot None i within) in
     let held = rw there at (held_in-set table slot None i within) in
-    omega (arith, fewer, indirect, held, bag-nil i, indirect_in-own (set table slot None) i, own_in-held (set table slot None) i)
+    omega (
+      arith,
+      fewer,
+      indirect,
+      held,
+      bag-nil i,
+      indirect_in-own (set table slot None) i,
+      own_in-held (set table slot None) i,
+    )
 
 -- a segment of a packet
-pub based_by_seg : (packet : List Seg) (seg : Seg) (base : ℕ) → Contains packet seg → seg.base ≡ Some base → 0 < based_packet packet base
+pub based_by_seg : (packet : List Seg) (seg : Seg) (base : ℕ) → Contains packet seg →
+    seg.base ≡ Some base → 0 < based_packet packet base
 based_by_seg packet seg base there e =
     let at = get_or-le-sum_by (λ (s : Seg). bag (hold_of s.base) base) packet there.0 seg there.1 in
-    omega (arith, at, ap (λ (s : Seg). bag (hold_of s.base) base) there.2, ap (λ (o : Option ℕ). bag (hold_of o) base) e, bag-single base base, one-same base)
+    omega (
+      arith,
+      at,
+      ap (λ (s : Seg). bag (hold_of s.base) base) there.2,
+      ap (λ (o : Option ℕ). bag (hold_of o) base) e,
+      bag-single base base,
+      one-same base,
+    )
 
-pub indirect_by_seg : (packet : List Seg) (seg : Seg) (base : ℕ) → Contains packet seg → seg.base ≡ Some base → 0 < indirect_packet packet seg.elem
+-- a segment with a base, of a packet, is counted there at its own element
+pub indirect_by_seg : (packet : List Seg) (seg : Seg) (base : ℕ) → Contains packet seg →
+    seg.base ≡ Some base → 0 < indirect_packet packet seg.elem
 indirect_by_seg packet seg base there e =
     let at = get_or-le-sum_by (λ (s : Seg). indirect_seg s seg.elem) packet there.0 seg there.1 in
-    omega (arith, at, ap (λ (s : Seg). indirect_seg s seg.elem) there.2, ap (λ (o : Option ℕ). indirect_one o seg.elem seg.elem) e, one-same seg.elem)
+    omega (
+      arith,
+      at,
+      ap (λ (s : Seg). indirect_seg s seg.elem) there.2,
+      ap (λ (o : Option ℕ). indirect_one o seg.elem seg.elem) e,
+      one-same seg.elem,
+    )
 
 -- the bases of one clone more
-pub based-more : (segs : List Seg) (e : ℕ) (seg : Seg) (i : ℕ) → based_packet (segs ++ attached e seg ∷ []) i ≡ based_packet segs i + one (buffer_of seg) i
-based-more segs e seg i = omega (arith, sum_by-append (λ (s : Seg). bag (hold_of s.base) i) segs (attached e seg ∷ []), based_alone (Some (buffer_of seg)) (attached e seg) i refl, bag-single (buffer_of seg) i)
+pub based-more : (segs : List Seg) (e : ℕ) (seg : Seg) (i : ℕ) →
+    based_packet (segs ++ attached e seg ∷ []) i ≡ based_packet segs i + one (buffer_of seg) i
+based-more segs e seg i =
+    omega (
+      arith,
+      sum_by-append (λ (s : Seg). bag (hold_of s.base) i) segs (attached e seg ∷ []),
+      based_alone (Some (buffer_of seg)) (attached e seg) i refl,
+      bag-single (buffer_of seg) i,
+    )
 
 -- What becomes of an element that packets have as a base so often, and so often as the own one of a segment with a
 -- base: neither is more often so; or more often the first, of a buffer that a segment used already; or the second, of
 -- one that is no base. Held is how often all packets hold it, and own how often it is an own element of these.
 pub data LinksAfter (held own based indirect more_based more_indirect : ℕ) : Type 0 where
   Fewer : more_based ≤ based → more_indirect ≤ indirect → LinksAfter held own based indirect more_based more_indirect
-  NewBase : indirect < based + own → more_indirect ≤ indirect → LinksAfter held own based indirect more_based more_indirect
+  NewBase : indirect < based + own → more_indirect ≤ indirect →
+      LinksAfter held own based indirect more_based more_indirect
   NewIndirect : held ≤ own → more_based ≤ based → LinksAfter held own based indirect more_based more_indirect
 
 -- beside packets that stay
-pub links_beside : (held own based indirect more_based more_indirect : ℕ) (own_stays based_stays indirect_stays : ℕ) → indirect_stays ≤ own_stays → LinksAfter held own based indirect more_based more_indirect →
-    LinksAfter held (own + own_stays) (based + based_stays) (indirect + indirect_stays) (more_based + based_stays) (more_indirect + indirect_stays)
-links_beside held own based indirect more_based more_indirect own_stays based_stays indirect_stays few (Fewer p q) = Fewer (omega (arith, p)) (omega (arith, q))
-links_beside held own based indirect more_based more_indirect own_stays based_stays indirect_stays few (NewBase p q) = NewBase (omega (arith, p, few)) (omega (arith, q))
-links_beside held own based indirect more_based more_indirect own_stays based_stays indirect_stays few (NewIndirect p q) = NewIndirect (omega (arith, p)) (omega (arith, q))
+pub links_beside : (held own based indirect more_based more_indirect : ℕ)
+    (own_stays based_stays indirect_stays : ℕ) → indirect_stays ≤ own_stays →
+    LinksAfter held own based indirect more_based more_indirect →
+    LinksAfter held (own + own_stays) (based + based_stays) (indirect + indirect_stays)
+    (more_based + based_stays) (more_indirect + indirect_stays)
+links_beside held own based indirect more_based more_indirect own_stays based_stays indirect_stays
+    few (Fewer p q) =
+    Fewer (omega (arith, p)) (omega (arith, q))
+links_beside held own based indirect more_based more_indirect own_stays based_stays indirect_stays
+    few (NewBase p q) =
+    NewBase (omega (arith, p, few)) (omega (arith, q))
+links_beside held own based indirect more_based more_indirect own_stays based_stays indirect_stays
+    few (NewIndirect p q) =
+    NewIndirect (omega (arith, p)) (omega (arith, q))
 
 -- where an own element is in at most one segment of all packets, and a base is no indirect segment's, so it is then
-pub links_stay : (own_others based_others indirect_others held own based indirect more_based more_indirect : ℕ) → held ≡ based_others + based + (own_others + own) → own_others + own ≤ 1 → indirect_others ≤ own_others → indirect ≤ own →
-    (0 < based_others + based → indirect_others + indirect ≡ 0) → LinksAfter held own based indirect more_based more_indirect → 0 < based_others + more_based → indirect_others + more_indirect ≡ 0
-links_stay own_others based_others indirect_others held own based indirect more_based more_indirect all once a b direct (Fewer p q) some = omega (arith, q, direct (omega (arith, p, some)))
-links_stay own_others based_others indirect_others held own based indirect more_based more_indirect all once a b direct (NewBase p q) some = elim (cases_lt 0 based) [
-  | inl here ↦ omega (arith, q, direct (omega (arith, here)))
-  | inr none ↦ omega (arith, p, q, none, once, a, b)
-]
-links_stay own_others based_others indirect_others held own based indirect more_based more_indirect all once a b direct (NewIndirect p q) some = absurd (omega (arith, p, q, all, some))
+pub links_stay :
+    (own_others based_others indirect_others held own based indirect more_based more_indirect : ℕ)
+    → held ≡ based_others + based + (own_others + own) → own_others + own ≤ 1 →
+    indirect_others ≤ own_others → indirect ≤ own →
+    (0 < based_others + based → indirect_others + indirect ≡ 0) →
+    LinksAfter held own based indirect more_based more_indirect →
+    0 < based_others + more_based → indirect_others + more_indirect ≡ 0
+links_stay own_others based_others indirect_others held own based indirect more_based more_indirect
+    all once a b direct (Fewer p q) some =
+    omega (arith, q, direct (omega (arith, p, some)))
+links_stay own_others based_others indirect_others held own based indirect more_based more_indirect
+    all once a b direct (NewBase p q) some =
+    elim (cases_lt 0 based) [
+      | inl here ↦ omega (arith, q, direct (omega (arith, here)))
+      | inr none ↦ omega (arith, p, q, none, once, a, b)
+    ]
+links_stay own_others based_others indirect_others held own based indirect more_based more_indirect
+    all once a b direct (NewIndirect p q) some =
+    absurd (omega (arith, p, q, all, some))

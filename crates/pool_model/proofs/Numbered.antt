@@ -12,10 +12,20 @@ use Rattle.pool_model.proofs.AfterActs.{after_acts-keeps}
 use Rattle.pool_model.proofs.DeskStays.{desks_as_many}
 use Rattle.pool_model.proofs.NewMembers.{length-new_members}
 
--- workers with numbers in a row from this one on, each with all its slots
+-- workers with numbers in a row from this one on
+abbrev pub AreInOrder : ℕ → List Member → Type 0
+AreInOrder number [] = Unit {0}
+AreInOrder number (m ∷ members) = (m.number ≡ number) × AreInOrder (number + 1) members
+
+-- and each with all its slots
 abbrev pub AreNumbered : ℕ → List Member → Type 0
 AreNumbered number [] = Unit {0}
 AreNumbered number (m ∷ members) = (m.number ≡ number) × (length m.table ≡ slots) × AreNumbered (number + 1) members
+
+-- workers that are numbered in a row and have all their slots are numbered in a row
+pub numbered_in_order : (number : ℕ) (members : List Member) → AreNumbered number members → AreInOrder number members
+numbered_in_order number [] a = tt
+numbered_in_order number (m ∷ members) a = (a.0, numbered_in_order (number + 1) members a.2)
 
 -- a pool within these limits, with a worker for each number and a place for each desk
 pub record IsNumbered (l : Limits) (pool : Pool) : Type 0 where
@@ -25,13 +35,17 @@ pub record IsNumbered (l : Limits) (pool : Pool) : Type 0 where
   pub desks : length pool.shared.desks ≡ l.desks
 
 -- one of the workers changes
-numbered-set : (number : ℕ) (members : List Member) (n : ℕ) (m d : Member) → m.number ≡ (get_or members n d).number → length m.table ≡ length (get_or members n d).table → AreNumbered number members → AreNumbered number (set members n m)
+numbered-set : (number : ℕ) (members : List Member) (n : ℕ) (m d : Member) →
+    m.number ≡ (get_or members n d).number → length m.table ≡ length (get_or members n d).table →
+    AreNumbered number members → AreNumbered number (set members n m)
 numbered-set number [] n m d same long a = a
 numbered-set number (x ∷ members) zero m d same long a = (same ∙ a.0, long ∙ a.1, a.2)
-numbered-set number (x ∷ members) (suc n) m d same long a = (a.0, a.1, numbered-set (number + 1) members n m d same long a.2)
+numbered-set number (x ∷ members) (suc n) m d same long a =
+    (a.0, a.1, numbered-set (number + 1) members n m d same long a.2)
 
 -- what a worker does
-perform-numbered : (l : Limits) (pool : Pool) (w : ℕ) (act : Act) → IsNumbered l pool → IsNumbered l (perform pool w act).1
+perform-numbered : (l : Limits) (pool : Pool) (w : ℕ) (act : Act) → IsNumbered l pool →
+    IsNumbered l (perform pool w act).1
 perform-numbered l pool w act b = after_act (IsNumbered l) pool w act b (λ n done h left. record {
   limits = b.limits;
   workers = length-set pool.members n done.1 ∙ b.workers;
@@ -42,8 +56,10 @@ perform-numbered l pool w act b = after_act (IsNumbered l) pool w act b (λ n do
 -- a new pool
 numbered-new : (l : Limits) (number n : ℕ) → AreNumbered number (new_members l number n)
 numbered-new l number zero = tt
-numbered-new l number (suc n) = (refl, length-replicate {A = Option (List Seg)} slots None, numbered-new l (number + 1) n)
+numbered-new l number (suc n) =
+    (refl, length-replicate {A = Option (List Seg)} slots None, numbered-new l (number + 1) n)
 
+-- the workers of a new pool are numbered from 1, as many as its limits say
 new_pool-numbered : (l : Limits) → IsNumbered l (new_pool l)
 new_pool-numbered l = record {
   limits = refl;
@@ -57,7 +73,8 @@ pub acts-numbered : (l : Limits) (acts : List (ℕ × Act)) → IsNumbered l (af
 acts-numbered l acts = after_acts-keeps (IsNumbered l) (perform-numbered l) acts (new_pool l) (new_pool-numbered l)
 
 -- the number of each worker
-pub number_at : (number : ℕ) (members : List Member) (k : ℕ) (d : Member) → AreNumbered number members → k < length members → (get_or members k d).number ≡ number + k
+pub number_at : (number : ℕ) (members : List Member) (k : ℕ) (d : Member) →
+    AreNumbered number members → k < length members → (get_or members k d).number ≡ number + k
 number_at number [] k d a h = absurd (omega arith)
 number_at number (m ∷ members) zero d a h = omega (arith, a.0)
 number_at number (m ∷ members) (suc k) d a h = omega (arith, number_at (number + 1) members k d a.2 (omega arith))

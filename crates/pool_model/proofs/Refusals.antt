@@ -28,46 +28,67 @@ same : (m : Member) (s : Shared) (reply : Reply) → SameIfRefused m s (reply, m
 same m s reply cause e = (refl, refl)
 
 -- a get that is refused changed nothing
-fill_slot-same : (slot : ℕ) (m : Member) (s : Shared) (r : Result (List ℕ) Refusal × List ℕ × Shared) → IsGot 1 m.cache s r → SameIfRefused m s (fill_slot slot m r)
+fill_slot-same : (slot : ℕ) (m : Member) (s : Shared)
+    (r : Result (List ℕ) Refusal × List ℕ × Shared) → IsGot 1 m.cache s r →
+    SameIfRefused m s (fill_slot slot m r)
 fill_slot-same slot m s (Ok [], cache, t) got cause e = absurd (omega (arith, got.long))
 fill_slot-same slot m s (Ok (x ∷ xs), cache, t) got cause e = absurd cc
 fill_slot-same slot m s (Err other, cache, t) got cause e =
-    let none = got.refused other refl in (ap (λ (c : List ℕ). let after : Member = record m { cache = c } in after) none.0, none.1)
+    let none = got.refused other refl in
+    (ap (λ (c : List ℕ). let after : Member = record m { cache = c } in after) none.0, none.1)
 
+-- an alloc with no free slot is refused before its get
 alloc_in-same : (slot : Option ℕ) (m : Member) (s : Shared) → SameIfRefused m s (alloc_in slot m s)
 alloc_in-same None m s = same m s _
 alloc_in-same (Some slot) m s = fill_slot-same slot m s (get m.limits 1 m.cache s) (get-IsGot m.limits 1 m.cache s)
 
-fill_slots-same : (n : ℕ) (slots : List ℕ) (m : Member) (s : Shared) (r : Result (List ℕ) Refusal × List ℕ × Shared) → IsGot n m.cache s r → SameIfRefused m s (fill_slots slots m r)
+-- a bulk is refused only where its get was, and a get that is refused changed nothing
+fill_slots-same : (n : ℕ) (slots : List ℕ) (m : Member) (s : Shared)
+    (r : Result (List ℕ) Refusal × List ℕ × Shared) → IsGot n m.cache s r →
+    SameIfRefused m s (fill_slots slots m r)
 fill_slots-same n slots m s (Ok es, cache, t) got cause e = absurd cc
 fill_slots-same n slots m s (Err other, cache, t) got cause e =
-    let none = got.refused other refl in (ap (λ (c : List ℕ). let after : Member = record m { cache = c } in after) none.0, none.1)
+    let none = got.refused other refl in
+    (ap (λ (c : List ℕ). let after : Member = record m { cache = c } in after) none.0, none.1)
 
+-- a bulk with too few free slots is refused before its get
 alloc_bulk-same : (n : ℕ) (m : Member) (s : Shared) → SameIfRefused m s (alloc_bulk n m s)
 alloc_bulk-same n m s = elim (cases_Bool (nat_lt (length (free_slots m.table)) n)) [
   | inl e ↦ rw e (same m s _)
-  | inr e ↦ rw e (fill_slots-same n (take n (free_slots m.table)) m s (get m.limits n m.cache s) (get-IsGot m.limits n m.cache s))
+  | inr e ↦
+      rw e (fill_slots-same n (take n (free_slots m.table)) m s (get m.limits n m.cache s)
+      (get-IsGot m.limits n m.cache s))
 ]
 
-free_in-same : (content : Option (List Seg)) (elsewhere : ℕ → ℕ) (slot : ℕ) (m : Member) (s : Shared) → SameIfRefused m s (free_in content elsewhere slot m s)
+-- a free is refused only where no packet stands
+free_in-same : (content : Option (List Seg)) (elsewhere : ℕ → ℕ) (slot : ℕ) (m : Member)
+    (s : Shared) → SameIfRefused m s (free_in content elsewhere slot m s)
 free_in-same None elsewhere slot m s = same m s _
 free_in-same (Some segs) elsewhere slot m s = λ cause e. absurd cc
 
 -- a change of lengths that is refused
-resize_to-same : (o : Option (List Seg)) (why : Refusal) (slot : ℕ) (m : Member) (s : Shared) → SameIfRefused m s (told_beside s (resize_to o why slot m))
+resize_to-same : (o : Option (List Seg)) (why : Refusal) (slot : ℕ) (m : Member) (s : Shared) →
+    SameIfRefused m s (told_beside s (resize_to o why slot m))
 resize_to-same None why slot m s = same m s _
 resize_to-same (Some new) why slot m s = λ cause e. absurd cc
 
-resize_in-same : (o : Option (List Seg)) (change : List Seg → Option (List Seg)) (why : Refusal) (slot : ℕ) (m : Member) (s : Shared) → SameIfRefused m s (told_beside s (resize_in o change why slot m))
+-- a change of lengths of an empty slot is refused before anything is written
+resize_in-same : (o : Option (List Seg)) (change : List Seg → Option (List Seg)) (why : Refusal)
+    (slot : ℕ) (m : Member) (s : Shared) →
+    SameIfRefused m s (told_beside s (resize_in o change why slot m))
 resize_in-same None change why slot m s = same m s _
 resize_in-same (Some segs) change why slot m s = resize_to-same (change segs) why slot m s
 
 -- of a packet that stands there more is told than a refusal
-told_there : (slot : Option (List Seg)) (segs : List Seg) (cause : Refusal) → slot ≡ Some segs → told_both slot ≢ Refused cause
+told_there : (slot : Option (List Seg)) (segs : List Seg) (cause : Refusal) → slot ≡ Some segs →
+    told_both slot ≢ Refused cause
 told_there None segs cause there e = absurd cc
 told_there (Some other) segs cause there e = absurd cc
 
-chain_in-same : (one two : Option (List Seg)) (head tail : ℕ) (m : Member) (s : Shared) → get_or m.table head None ≡ one → SameIfRefused m s (chained_beside head s (chain_in one two head tail m))
+-- a chain is refused before it writes; one that is done tells of the packet in the head's slot
+chain_in-same : (one two : Option (List Seg)) (head tail : ℕ) (m : Member) (s : Shared) →
+    get_or m.table head None ≡ one →
+    SameIfRefused m s (chained_beside head s (chain_in one two head tail m))
 chain_in-same None two head tail m s there = same m s _
 chain_in-same (Some first) None head tail m s there = same m s _
 chain_in-same (Some first) (Some second) head tail m s there = elim (cases_Bool (head == tail)) [
@@ -77,12 +98,19 @@ chain_in-same (Some first) (Some second) head tail m s there = elim (cases_Bool 
     | inr few ↦
         let joined = set m.table head (Some (first ++ second)) in
         let other : head ≢ tail = eqb-false head tail apart in
-        let stands : get_or (set joined tail None) head None ≡ Some (first ++ second) = get_or-set_other joined tail head None None other ∙ get_or-set_same m.table head (Some (first ++ second)) None (stands_within m.table head first there) in
-        rw (apart, few) (λ cause e. absurd (told_there (get_or (set joined tail None) head None) (first ++ second) cause stands e))
+        let stands : get_or (set joined tail None) head None ≡ Some (first ++ second) =
+        get_or-set_other joined tail head None None other
+        ∙ get_or-set_same m.table head (Some (first ++ second)) None
+        (stands_within m.table head first there) in
+        rw (apart, few) (λ cause e.
+        absurd (told_there (get_or (set joined tail None) head None) (first ++ second) cause
+        stands e))
   ]
 ]
 
-attach_to-same : (found : Result (ℕ × Seg) Refusal) (held : ℕ → ℕ) (mi : ℕ) (m : Member) (s : Shared) → SameIfRefused m s (beside s (attach_to found held mi m))
+-- an attach is refused where another hold or the limit is found, before it writes
+attach_to-same : (found : Result (ℕ × Seg) Refusal) (held : ℕ → ℕ) (mi : ℕ) (m : Member)
+    (s : Shared) → SameIfRefused m s (beside s (attach_to found held mi m))
 attach_to-same (Err why) held mi m s = same m s _
 attach_to-same (Ok (e, seg)) held mi m s = elim (cases_Bool (held e == 1)) [
   | inl alone ↦ elim (cases_Bool (held (buffer_of seg) == m.limits.ref_limit)) [
@@ -92,29 +120,39 @@ attach_to-same (Ok (e, seg)) held mi m s = elim (cases_Bool (held e == 1)) [
   | inr used ↦ rw used (same m s _)
 ]
 
-detach_from-same : (found : Result (ℕ × ℕ) Refusal) (held : ℕ → ℕ) (slot : ℕ) (m : Member) (s : Shared) → SameIfRefused m s (detach_from found held slot m s)
+-- a detach is refused only before its base's hold ends
+detach_from-same : (found : Result (ℕ × ℕ) Refusal) (held : ℕ → ℕ) (slot : ℕ) (m : Member)
+    (s : Shared) → SameIfRefused m s (detach_from found held slot m s)
 detach_from-same (Err why) held slot m s = same m s _
 detach_from-same (Ok (e, base)) held slot m s = λ cause told. absurd cc
 
-offer_onto-same : (place : Option (List Seg)) (segs : List Seg) (slot desk : ℕ) (m : Member) (s : Shared) → SameIfRefused m s (offer_onto place segs slot desk m s)
+-- an offer is refused where the desk is taken, and then nothing was written
+offer_onto-same : (place : Option (List Seg)) (segs : List Seg) (slot desk : ℕ) (m : Member)
+    (s : Shared) → SameIfRefused m s (offer_onto place segs slot desk m s)
 offer_onto-same (Some other) segs slot desk m s = same m s _
 offer_onto-same None segs slot desk m s = λ cause e. absurd cc
 
-offer_in-same : (content : Option (List Seg)) (slot desk : ℕ) (m : Member) (s : Shared) → SameIfRefused m s (offer_in content slot desk m s)
+-- an offer of nothing, or without such a desk, is refused before it looks at what lies there
+offer_in-same : (content : Option (List Seg)) (slot desk : ℕ) (m : Member) (s : Shared) →
+    SameIfRefused m s (offer_in content slot desk m s)
 offer_in-same None slot desk m s = same m s _
 offer_in-same (Some segs) slot desk m s = elim (cases_Bool (nat_le (length s.desks) desk)) [
   | inl past ↦ rw past (same m s _)
   | inr here ↦ rw here (offer_onto-same (get_or s.desks desk None) segs slot desk m s)
 ]
 
-take_from-same : (place : Option (List Seg)) (slot desk : ℕ) (m : Member) (s : Shared) → SameIfRefused m s (take_from place slot desk m s)
+-- a take is refused where the desk is empty, and then nothing was written
+take_from-same : (place : Option (List Seg)) (slot desk : ℕ) (m : Member) (s : Shared) →
+    SameIfRefused m s (take_from place slot desk m s)
 take_from-same None slot desk m s = same m s _
 take_from-same (Some segs) slot desk m s = λ cause e. absurd cc
 
+-- a take with no free slot is refused before it looks at the desk
 take_into-same : (free : Option ℕ) (desk : ℕ) (m : Member) (s : Shared) → SameIfRefused m s (take_into free desk m s)
 take_into-same None desk m s = same m s _
 take_into-same (Some slot) desk m s = take_from-same (get_or s.desks desk None) slot desk m s
 
+-- a take without such a desk is refused first
 take_off-same : (desk : ℕ) (m : Member) (s : Shared) → SameIfRefused m s (take_off desk m s)
 take_off-same desk m s = elim (cases_Bool (nat_le (length s.desks) desk)) [
   | inl past ↦ rw past (same m s _)
@@ -122,17 +160,25 @@ take_off-same desk m s = elim (cases_Bool (nat_le (length s.desks) desk)) [
 ]
 
 -- each act but a clone
-pub same_if_refused : (act : Act) (held : ℕ → ℕ) (elsewhere : ℕ → ℕ → ℕ) (m : Member) (s : Shared) → ((source : ℕ) → act ≢ ClonePacket source) → SameIfRefused m s (member_act act held elsewhere m s)
+pub same_if_refused : (act : Act) (held : ℕ → ℕ) (elsewhere : ℕ → ℕ → ℕ) (m : Member) (s : Shared) →
+    ((source : ℕ) → act ≢ ClonePacket source) →
+    SameIfRefused m s (member_act act held elsewhere m s)
 same_if_refused Alloc held elsewhere m s other = alloc_in-same (free_slot m.table) m s
 same_if_refused (AllocBulk n) held elsewhere m s other = alloc_bulk-same n m s
 same_if_refused (Free slot) held elsewhere m s other = free_in-same (get_or m.table slot None) (elsewhere slot) slot m s
-same_if_refused (Append slot n) held elsewhere m s other = resize_in-same (get_or m.table slot None) (appended n) NoRoom slot m s
-same_if_refused (Prepend slot n) held elsewhere m s other = resize_in-same (get_or m.table slot None) (prepended n) NoRoom slot m s
-same_if_refused (Adj slot n) held elsewhere m s other = resize_in-same (get_or m.table slot None) (adjusted n) TooShort slot m s
-same_if_refused (Trim slot n) held elsewhere m s other = resize_in-same (get_or m.table slot None) (trimmed n) TooShort slot m s
-same_if_refused (Chain head tail) held elsewhere m s other = chain_in-same (get_or m.table head None) (get_or m.table tail None) head tail m s refl
+same_if_refused (Append slot n) held elsewhere m s other =
+    resize_in-same (get_or m.table slot None) (appended n) NoRoom slot m s
+same_if_refused (Prepend slot n) held elsewhere m s other =
+    resize_in-same (get_or m.table slot None) (prepended n) NoRoom slot m s
+same_if_refused (Adj slot n) held elsewhere m s other =
+    resize_in-same (get_or m.table slot None) (adjusted n) TooShort slot m s
+same_if_refused (Trim slot n) held elsewhere m s other =
+    resize_in-same (get_or m.table slot None) (trimmed n) TooShort slot m s
+same_if_refused (Chain head tail) held elsewhere m s other =
+    chain_in-same (get_or m.table head None) (get_or m.table tail None) head tail m s refl
 same_if_refused (Attach mi target) held elsewhere m s other = attach_to-same (pair_in m mi target) held mi m s
-same_if_refused (Detach slot) held elsewhere m s other = detach_from-same (detachable (get_or m.table slot None)) held slot m s
+same_if_refused (Detach slot) held elsewhere m s other =
+    detach_from-same (detachable (get_or m.table slot None)) held slot m s
 same_if_refused (ClonePacket source) held elsewhere m s other = absurd (other source refl)
 same_if_refused (Offer slot desk) held elsewhere m s other = offer_in-same (get_or m.table slot None) slot desk m s
 same_if_refused (Take desk) held elsewhere m s other = take_off-same desk m s
@@ -145,10 +191,13 @@ same_if_refused Flush held elsewhere m s other = λ cause e. absurd cc
 abbrev CacheAlone : Member → Reply × Member × Shared → Type 0
 CacheAlone m done = (cause : Refusal) → done.0 ≡ Refused cause → done.1 ≡ record m { cache = done.1.cache }
 
+-- a clone that was given up stands in no slot, and only the cache was written
 clone_to-packets : (slot : ℕ) (m : Member) (r : Cloned) → CacheAlone m (clone_to slot m r)
 clone_to-packets slot m (Ok new, cache, t) cause e = absurd cc
 clone_to-packets slot m (Err why, cache, t) cause e = refl
 
-pub clone_at-packets : (found : Result (List Seg × ℕ) Refusal) (held : ℕ → ℕ) (m : Member) (s : Shared) → CacheAlone m (clone_at found held m s)
+-- a clone is refused before it begins, or once it was given up
+pub clone_at-packets : (found : Result (List Seg × ℕ) Refusal) (held : ℕ → ℕ) (m : Member)
+    (s : Shared) → CacheAlone m (clone_at found held m s)
 clone_at-packets (Err why) held m s = λ cause e. refl
 clone_at-packets (Ok (segs, slot)) held m s = clone_to-packets slot m (clone_segs m.limits held segs [] m.cache s)

@@ -26,7 +26,8 @@ abbrev pub get_direct : List ℕ → Result (List ℕ) Refusal × Shared → Res
 get_direct cache r = (r.0, cache, r.1)
 
 -- a refill that was met is appended; after one that was refused the stack is asked for n
-abbrev pub get_refilled : List ℕ → ℕ → Result (List ℕ) Refusal × Shared → Result (List ℕ) Refusal × List ℕ × Shared
+abbrev pub get_refilled : List ℕ → ℕ → Result (List ℕ) Refusal × Shared →
+    Result (List ℕ) Refusal × List ℕ × Shared
 get_refilled cache n (Ok more, s) = (Ok (last n (cache ++ more)), without_last n (cache ++ more), s)
 get_refilled cache n (Err _, s) = get_direct cache (ask n s)
 

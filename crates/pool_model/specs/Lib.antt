@@ -4,5 +4,6 @@ pub mod HoldModel
 pub mod PacketModel
 pub mod Pool
 pub mod SharingModel
+pub mod Sound
 pub mod Standing
 pub mod Statements

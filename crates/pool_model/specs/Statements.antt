@@ -19,7 +19,8 @@ use Rattle.pool_model.specs.Pool.{Pool, held_of}
 abbrev pub packets_from : ℕ → ℕ → List (Option (List Seg)) → List PlacedPacket
 packets_from worker slot [] = []
 packets_from worker slot (None ∷ table) = packets_from worker (slot + 1) table
-packets_from worker slot (Some segs ∷ table) = record { worker = worker; slot = slot; segs = segs } ∷ packets_from worker (slot + 1) table
+packets_from worker slot (Some segs ∷ table) =
+    record { worker = worker; slot = slot; segs = segs } ∷ packets_from worker (slot + 1) table
 
 -- the packets of a worker, by slot
 abbrev pub packets_of : Member → List PlacedPacket
@@ -38,18 +39,22 @@ workers_of members i = flat_map (λ member. replicate (held_in member.table i) (
 -- and which desks, the first of which has this number
 abbrev pub desks_of : ℕ → List (Option (List Seg)) → ℕ → List Holder
 desks_of desk [] i = []
-desks_of desk (slot ∷ desks) i = replicate (bag (holds_in_slot slot) i) (Desk desk) ++ desks_of (desk + 1) desks i
+desks_of desk (slot ∷ desks) i =
+    replicate (bag (holds_in_slot slot) i) (Desk desk) ++ desks_of (desk + 1) desks i
 
 -- who holds it: workers, then desks
 abbrev pub holders_of : List Member → List (Option (List Seg)) → ℕ → List Holder
 holders_of members desks i = workers_of members i ++ desks_of 0 desks i
 
 abbrev pub held_entry : List Member → List (Option (List Seg)) → ℕ → Held
-held_entry members desks i = record { elem = i; count = held_of members desks i; holders = holders_of members desks i }
+held_entry members desks i = record
+    { elem = i; count = held_of members desks i; holders = holders_of members desks i }
 
 -- the elements below the population that packets hold, ascending
 abbrev pub held_elements : Pool → List ℕ
-held_elements pool = filter (λ i. nat_lt 0 (held_of pool.members pool.shared.desks i)) (range_with_len 0 pool.limits.population)
+held_elements pool =
+    filter (λ i. nat_lt 0 (held_of pool.members pool.shared.desks i))
+    (range_with_len 0 pool.limits.population)
 
 -- the statement of a pool
 abbrev pub statement_of : Pool → Statement
@@ -66,19 +71,25 @@ statement_of pool = record {
 
 -- how often a statement lists an element: in the common list, in caches, and as a held one
 abbrev pub times_listed : Statement → ℕ → ℕ
-times_listed s i = bag s.common i + sum_by (λ cache. bag cache i) s.caches + bag (map (λ held. held.elem) s.held) i
+times_listed s i =
+    bag s.common i + sum_by (λ cache. bag cache i) s.caches + bag (map (λ held. held.elem) s.held) i
 
 -- how often the packets of a statement hold an element
 abbrev pub packet_holds : Statement → ℕ → ℕ
-packet_holds s i = sum_by (λ placed. bag (holds_of_packet placed.segs) i) s.packets + sum_by (λ desk. bag (holds_of_packet desk.segs) i) s.desks
+packet_holds s i =
+    sum_by (λ placed. bag (holds_of_packet placed.segs) i) s.packets
+    + sum_by (λ desk. bag (holds_of_packet desk.segs) i) s.desks
 
 -- how often an element is the own one of a segment of the packets of a statement
 abbrev pub packet_owns : Statement → ℕ → ℕ
-packet_owns s i = sum_by (λ placed. bag (own_of_packet placed.segs) i) s.packets + sum_by (λ desk. bag (own_of_packet desk.segs) i) s.desks
+packet_owns s i =
+    sum_by (λ placed. bag (own_of_packet placed.segs) i) s.packets
+    + sum_by (λ desk. bag (own_of_packet desk.segs) i) s.desks
 
 -- how often a worker's packets hold it, and a desk's
 abbrev pub worker_holds : Statement → ℕ → ℕ → ℕ
-worker_holds s w i = sum_by (λ placed. cond (placed.worker == w) (bag (holds_of_packet placed.segs) i) 0) s.packets
+worker_holds s w i =
+    sum_by (λ placed. cond (placed.worker == w) (bag (holds_of_packet placed.segs) i) 0) s.packets
 
 abbrev pub desk_holds : Statement → ℕ → ℕ → ℕ
 desk_holds s d i = sum_by (λ desk. cond (desk.desk == d) (bag (holds_of_packet desk.segs) i) 0) s.desks
@@ -114,7 +125,8 @@ pub record ListsEachOnce (s : Statement) : Type 0 where
   pub holders : All (λ held. length held.holders ≡ held.count) s.held
   pub in_order : All (λ held. AllPairs IsNotAfter held.holders) s.held
   pub counts : All (λ held. held.count ≡ packet_holds s held.elem) s.held
-  pub by_worker : All (λ held. (w : ℕ) → count_by (is_worker w) held.holders ≡ worker_holds s w held.elem) s.held
+  pub by_worker : All
+      (λ held. (w : ℕ) → count_by (is_worker w) held.holders ≡ worker_holds s w held.elem) s.held
   pub by_desk : All (λ held. (d : ℕ) → count_by (is_desk d) held.holders ≡ desk_holds s d held.elem) s.held
   pub unheld : (i : ℕ) → bag (map (λ held. held.elem) s.held) i ≡ 0 → packet_holds s i ≡ 0
   pub own_once : (i : ℕ) → packet_owns s i ≤ 1
@@ -130,6 +142,8 @@ pub record PlacesEachOnce (l : Limits) (s : Statement) : Type 0 where
   pub population : s.population ≡ l.population
   pub caches : length s.caches ≡ l.workers
   pub packets : AllPairs StandsBefore s.packets
-  pub slots : All (λ placed. (1 ≤ placed.worker) × (placed.worker ≤ l.workers) × (placed.slot < slots)) s.packets
+  pub slots : All
+      (λ placed. (1 ≤ placed.worker) × (placed.worker ≤ l.workers) × (placed.slot < slots))
+      s.packets
   pub desks : AllPairs (λ one other. one.desk < other.desk) s.desks
   pub on_desks : All (λ packet. packet.desk < l.desks) s.desks

@@ -1,6 +1,6 @@
 //! Laws of the reference model: of its caches, of its desks, and of a pool after any acts.
 
-ghost use Rattle.std.specs.Prelude.{◌≡◌, ◌≢◌, ◌<◌, ◌+◌, ℕ, ◌⊎◌, All, List, length, slice_index_or, None, Some, Result};
+ghost use Rattle.std.specs.Prelude.{◌≡◌, ◌≢◌, ◌<◌, ◌≤◌, ◌+◌, ℕ, ◌⊎◌, All, List, length, slice_index_or, None, Some, Result};
 ghost use Rattle.commons.specs.Bounds.{IsPool};
 ghost use Rattle.commons.specs.Calls.{Call};
 ghost use Rattle.commons.specs.declared.limits.Limits.{Limits};
@@ -14,11 +14,13 @@ ghost use Rattle.mbuf.specs.declared.acts.Act.TheVariants.{ClonePacket, Offer, T
 ghost use Rattle.mbuf.specs.declared.acts.Answer.TheVariants.{Offered, Refused};
 ghost use Rattle.mbuf.specs.Fresh.{AreFresh, new_elements};
 ghost use Rattle.mbuf.specs.PacketRules.{free_slot};
+ghost use Rattle.mbuf.specs.Slots.{LeavesOtherSlots};
 ghost use Rattle.pool_model.specs.CacheLaw.{Meets};
 ghost use Rattle.pool_model.specs.CacheModel.{get as cache_get, put as cache_put, flush as cache_flush};
 ghost use Rattle.pool_model.specs.PacketModel.{after_acts, perform};
 ghost use Rattle.pool_model.specs.Pool.{Pool, Shared, held_of, member_at, new_pool};
-ghost use Rattle.pool_model.specs.Standing.{IsGivenUp, IsInSlot, IsOfAPacket, IsOnDesk, IsWorker, WasGiven, worker_of};
+ghost use Rattle.pool_model.specs.Sound.{IsSound, ListsSoundPackets};
+ghost use Rattle.pool_model.specs.Standing.{GaveOnly, IsGivenUp, IsInSlot, IsOfAPacket, IsOnDesk, IsWorker, WasGiven, worker_of};
 ghost use Rattle.pool_model.specs.Statements.{statement_of, ListsEachOnce, PlacesEachOnce};
 
 /// The reference model's caches keep the rules that a worker's cache keeps over any shared pool:
@@ -73,7 +75,8 @@ pub fn a_packet_stays_on_its_desk()
 
 /// An act that is refused changes nothing, unless it is a clone: the pool is as before. A clone that is refused, in a
 /// pool that acts made of a new one, leaves the limits, all packets, numbers and desks, and the caches of all other
-/// workers; its worker's cache and the common list have each element as often as before, taken together.
+/// workers; its worker's cache and the common list have each element as often as before, taken together, and the number of
+/// changes of the stack doesn't go back.
 pub fn a_refused_act_changes_nothing()
     ensures same { (pool : Pool) (worker : ℕ) (act : Act) (cause : Refusal) → ((source : ℕ) → act ≢ ClonePacket source) →
         (perform pool worker act).0 ≡ Refused cause → (perform pool worker act).1 ≡ pool }
@@ -83,13 +86,21 @@ pub fn a_refused_act_changes_nothing()
 
 /// An act of one worker leaves all that the others have: cache and packets of every worker of another number, and the
 /// packet on every desk but the one that the act names, where it is an offer or a take. The limits stay, and the
-/// number of workers.
+/// number of workers. The number of changes of the stack never goes back.
 pub fn others_keep_what_they_have()
     ensures members { (pool : Pool) (worker n : ℕ) (act : Act) → worker ≢ n + 1 → member_at (perform pool worker act).1 n ≡ member_at pool n }
     ensures desks { (pool : Pool) (worker desk : ℕ) (act : Act) → ((slot : ℕ) → act ≢ Offer slot desk) → act ≢ Take desk →
         slice_index_or (perform pool worker act).1.shared.desks desk None ≡ slice_index_or pool.shared.desks desk None }
     ensures limits { (pool : Pool) (worker : ℕ) (act : Act) → (perform pool worker act).1.limits ≡ pool.limits }
     ensures workers { (pool : Pool) (worker : ℕ) (act : Act) → length (perform pool worker act).1.members ≡ length pool.members }
+    ensures changes { (pool : Pool) (worker : ℕ) (act : Act) → pool.shared.changes ≤ (perform pool worker act).1.shared.changes }
+{}
+
+/// An act leaves the slots of its own worker that it doesn't name: those of the packets that a free, a change of
+/// lengths, a chain, an attach, a detach or an offer is about, and those that its reply says were filled, by an alloc,
+/// a bulk, a clone or a take. All other slots have what they had, and a slot that was filled was free.
+pub fn an_act_leaves_the_slots_it_does_not_name()
+    ensures { (pool : Pool) (worker : ℕ) (act : Act) → let done = perform pool worker act in LeavesOtherSlots act done.0 (worker_of pool worker) (worker_of done.1 worker) }
 {}
 
 /// A base is always direct: in every pool that acts made of a new one, a segment whose own element is the base of
@@ -97,6 +108,14 @@ pub fn others_keep_what_they_have()
 pub fn a_base_is_always_direct()
     ensures { (l : Limits) (acts : List (ℕ × Act)) (seg other : Seg) → let pool = after_acts acts (new_pool l) in
         IsOfAPacket pool seg → IsOfAPacket pool other → seg.base ≡ Some other.elem → other.base ≡ None }
+{}
+
+/// In every pool that acts made of a new one all packets are sound: each, in a slot or on a desk, has 1 to 32 segments,
+/// each with its data within a buffer of the pool; no element is held more often than the reference limit says; and a
+/// base is direct. The pool's statement says the same of what it lists.
+pub fn acts_leave_packets_sound()
+    ensures sound { (l : Limits) (acts : List (ℕ × Act)) → IsPool l → IsSound (after_acts acts (new_pool l)) }
+    ensures stated { (l : Limits) (acts : List (ℕ × Act)) → IsPool l → ListsSoundPackets l (statement_of (after_acts acts (new_pool l))) }
 {}
 
 /// For whoever lets workers act on a `SitePool` without a script: after any acts, by workers of any numbers, a
@@ -109,8 +128,10 @@ pub fn acts_leave_each_element_in_one_place()
 
 /// No element is given again while anything holds it: in every pool that acts made of a new one, the elements that a
 /// worker is told of as new, by an alloc, a bulk or a clone, are elements of the pool, each once, and no packet in a
-/// slot or on a desk held one of them.
+/// slot or on a desk held one of them. After any act, of any pool, they are own elements of segments of its packets, and
+/// no other element has become one, or one more often than before.
 pub fn no_element_is_given_while_it_is_held()
-    ensures { (l : Limits) (acts : List (ℕ × Act)) (worker : ℕ) (act : Act) → let pool = after_acts acts (new_pool l) in
+    ensures fresh { (l : Limits) (acts : List (ℕ × Act)) (worker : ℕ) (act : Act) → let pool = after_acts acts (new_pool l) in
         AreFresh pool.limits.population (held_of pool.members pool.shared.desks) (new_elements (perform pool worker act).0) }
+    ensures own { (pool : Pool) (worker : ℕ) (act : Act) → let done = perform pool worker act in GaveOnly (new_elements done.0) pool done.1 }
 {}

@@ -1,5 +1,5 @@
 -- An act writes one worker, and at most the desk that it names.
-use Rattle.pool_model.proofs.PoolActs.{as_many, other_desk, other_member, same_limits}
+use Rattle.pool_model.proofs.PoolActs.{as_many, as_many_changes, other_desk, other_member, same_limits}
 use Rattle.pool_model.proofs.laws.others_keep_what_they_have.Goals as goal
 
 pub returns-clause-members : goal.returns-clause-members
@@ -13,3 +13,6 @@ returns-clause-limits c = same_limits
 
 pub returns-clause-workers : goal.returns-clause-workers
 returns-clause-workers c = as_many
+
+pub returns-clause-changes : goal.returns-clause-changes
+returns-clause-changes c = as_many_changes

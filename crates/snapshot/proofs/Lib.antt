@@ -1,0 +1,18 @@
+mod AddedHolders
+mod Clean
+mod ClosedPools
+mod ElemFaults
+pub mod FirstFaults
+mod FollowedLinks
+mod HeldEntries
+mod HoldBounds
+mod InOrder
+mod Lawful
+mod Least
+mod MappedSums
+mod Meetings
+mod NamedSums
+mod PlacedShares
+mod Shown
+mod Times
+mod Walks

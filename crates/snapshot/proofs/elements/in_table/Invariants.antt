@@ -1,0 +1,11 @@
+use Rattle.std.proofs.Common.{take, sum_by}
+use Rattle.commons.specs.Bag.{bag}
+use Rattle.commons.specs.Packets.{holds_in_slot}
+use Rattle.snapshot.specs.inside.Least.{IsLeast}
+use Rattle.snapshot.proofs.elements.in_table.Given as goal
+
+-- the least so far
+abbrev pub invariant-loop-place : goal.invariant-loop-place
+invariant-loop-place l =
+    IsLeast l.population
+    (λ e. sum_by (λ place. bag (holds_in_slot place) e) (take l.place-index l.table)) l.least

@@ -1,0 +1,23 @@
+use Rattle.std.proofs.Common.{◌∷◌, [], arith}
+use Rattle.commons.specs.Bag.{bag, one}
+use Rattle.commons.proofs.Bags.{bag-nil, bag-single, one-same}
+use Rattle.snapshot.proofs.Meetings.{met-as, met-none}
+use Rattle.snapshot.proofs.tally.rows.count_base.Goals as goal
+
+-- a base is held once
+pub count-requires : goal.count-requires
+count-requires c =
+    let e = c.in-Some.elem in
+    let below = rw c.in-Some.is at (c.requires e) in
+    below (omega (arith, bag-single e e, one-same e))
+
+-- and is counted once
+pub returns-in-Some : goal.returns-in-Some
+returns-in-Some c = rw c.in-Some.is (met-as (one c.in-Some.elem) (bag (c.in-Some.elem ∷ [])) _ _ c.count.ensures
+    (bag-single c.in-Some.elem))
+
+-- where there is none, nothing is counted
+pub returns-in-None : goal.returns-in-None
+returns-in-None c =
+    rw c.in-None.is
+    (met-none (bag []) c.args.row.now.items (λ i l. omega (arith, c.type_inv.row i 0 l)) bag-nil)

@@ -1,0 +1,5 @@
+-- What serves proofs alone. No public clause cites these modules.
+pub mod Adding
+pub mod Checked
+pub mod Least
+pub mod Tallies

@@ -1,0 +1,14 @@
+//! A closed pool as plain data, and its audit.
+#![tactic(auto)]
+
+pub mod audit;
+pub mod closing;
+mod elements;
+pub mod fault;
+pub mod laws;
+mod packets;
+mod placing;
+mod shape;
+pub mod snapshot;
+mod tally;
+mod walking;

@@ -1,0 +1,68 @@
+//! Rows that count, for each element, how often it was met. Each number stops at the greatest `u32`.
+
+ghost use Rattle.std.specs.Prelude.{◌≡◌, ◌<◌, ◌≤◌, ℕ, IfOk, length};
+ghost use Rattle.commons.specs.Bag.{bag, one};
+ghost use Rattle.commons.specs.Packets.{hold_of, holds_of_packet, holds_of_seg, own_of_packet};
+ghost use Rattle.snapshot.specs.inside.Tallies.{HasMet, IsRow};
+
+use commons::packet::Seg;
+use std::alloc::{AllocError, Global};
+
+/// A row of so many zeros.
+pub(crate) fn zeros(alloc: Global, size: usize) -> Result<Vec<u32>, AllocError>
+    ensures { IfOk result (λ row. IsRow size (λ _. 0) row.items) }
+{
+    vec![in alloc; 0; size]
+}
+
+/// Counts an element.
+fn count(row: &mut Vec<u32>, elem: u32)
+    requires { elem < length row.old.items }
+    ensures { HasMet (one elem) row.old.items row.new.items }
+{
+    let index = elem as usize;
+    row[index] = row[index].saturating_add(1);
+}
+
+/// Counts each of these elements.
+pub(crate) fn count_all(row: &mut Vec<u32>, elems: &[u32])
+    requires { (e : ℕ) → 0 < bag elems.now e → e < length row.old.items }
+    ensures { HasMet (bag elems.now) row.old.items row.new.items }
+{
+    for elem in elems {
+        count(row, *elem);
+    }
+}
+
+/// Counts the base, where there is one.
+fn count_base(row: &mut Vec<u32>, base: Option<u32>)
+    requires { (e : ℕ) → 0 < bag (hold_of base) e → e < length row.old.items }
+    ensures { HasMet (bag (hold_of base)) row.old.items row.new.items }
+{
+    match base {
+        Some(elem) => count(row, elem),
+        None => {}
+    }
+}
+
+/// Counts what a segment holds.
+fn count_seg(row: &mut Vec<u32>, seg: Seg)
+    requires { (e : ℕ) → 0 < bag (holds_of_seg seg) e → e < length row.old.items }
+    ensures { HasMet (bag (holds_of_seg seg)) row.old.items row.new.items }
+{
+    count_base(row, seg.base);
+    count(row, seg.elem);
+}
+
+/// Counts the own elements of segments in the one row, and what they hold in the other.
+pub(crate) fn count_packet(own: &mut Vec<u32>, held: &mut Vec<u32>, segs: &[Seg])
+    requires below { (e : ℕ) → 0 < bag (holds_of_packet segs.now) e → e < length held.old.items }
+    requires same { length own.old.items ≡ length held.old.items }
+    ensures own { HasMet (bag (own_of_packet segs.now)) own.old.items own.new.items }
+    ensures held { HasMet (bag (holds_of_packet segs.now)) held.old.items held.new.items }
+{
+    for seg in segs {
+        count(own, seg.elem);
+        count_seg(held, *seg);
+    }
+}
