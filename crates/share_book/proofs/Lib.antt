@@ -1,7 +1,8 @@
 mod CacheCalls
+mod Closings
+mod Counts
 mod DeskCalls
 mod EndedHolds
-mod Entries
 mod Members
 mod NewPools
 mod PacketCalls

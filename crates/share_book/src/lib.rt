@@ -1,5 +1,11 @@
-//! The pool of all workers on the lists, for one thread, and its statement.
+//! The pool of all workers on the lists, for one thread or under a lock, and its end.
 #![tactic(auto)]
 
-mod placing;
+pub mod ending;
+pub mod locked_site;
 pub mod site_pool;
+
+pub use book::book::{Book, deposit};
+pub use book::settling::{Unsettled, settle};
+pub use book::share::{Share, hand_in, lose_all};
+pub use snapshot::audit::audit;

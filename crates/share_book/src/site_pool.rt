@@ -1,4 +1,10 @@
-ghost use Rattle.std.specs.Prelude.{ℕ, ◌≡◌, ◌<◌, ◌≤◌, ◌+◌, List, length, IfOk, IfErr};
+//! The pool of all workers on the lists. `site` is what they share, and `members` has the packets
+//! and the cache of each, by number: `perform` lets one worker act on both, and writes no other
+//! member; `close` ends both. A contract sees of it a pool of the reference model, and each act is
+//! the model's.
+
+ghost use Rattle.std.specs.Prelude.{ℕ, ◌≡◌, ◌<◌, ◌≤◌, ◌+◌, List, [], length, map, vec_capacity, vec_len, IfOk, IfErr};
+ghost use Rattle.std.specs.List.{range_with_len};
 ghost use Rattle.commons.specs.Bounds.{IsPool};
 ghost use Rattle.commons.specs.Lists.{IsMakeCause};
 ghost use Rattle.commons.specs.Calls.{Call};
@@ -7,7 +13,8 @@ ghost use Rattle.commons.specs.PlainCalls.{LeadsPlain};
 ghost use Rattle.share_book.specs.inside.Own.{Owns, StepsAlone};
 ghost use Rattle.pool_model.specs.Pool.{new_members};
 
-use crate::placing;
+use book::share::{Share, hand_in};
+use commons::closed::Closed;
 use commons::limits::Limits;
 use commons::plain::PlainCommons;
 use commons::refusal::Refusal;
@@ -16,7 +23,7 @@ use mbuf::acts;
 use mbuf::acts::{Act, Answer, Reply};
 use mbuf::packets::Packets;
 use pool_model::laws;
-use pool_model::statement::Statement;
+use snapshot::closing;
 use std::alloc::Global;
 use std::marker::Model;
 
@@ -44,7 +51,12 @@ impl SitePool {
     ghost use Rattle.pool_model.specs.PacketModel.{after_acts, perform};
     ghost use Rattle.mbuf.specs.declared.acts.Act.{Act};
     ghost use Rattle.mbuf.specs.Fresh.{AreFresh, new_elements};
-    ghost use Rattle.pool_model.specs.Statements.{ListsEachOnce, PlacesEachOnce, statement_of};
+    ghost use Rattle.mbuf.specs.Refused.{IfRefused};
+    ghost use Rattle.pool_model.specs.Sound.{ListsSoundPackets};
+    ghost use Rattle.pool_model.specs.Standing.{GaveOnly, PoolAsBefore};
+    ghost use Rattle.pool_model.specs.Statements.{statement_of};
+    ghost use Rattle.snapshot.specs.Closing.{closed_pool, snapshot_of};
+    ghost use Rattle.snapshot.specs.Snapshots.{HasSlots, IsLawful, statement_in};
 
     /// A new pool: all elements in the common list; its workers have nothing, and its desks are empty.
     ///
@@ -77,6 +89,15 @@ impl SitePool {
         let _known = &self.members;
     }
 
+    /// A law of each pool: each packet that its statement lists has 1 to 32 segments, each with its data within its
+    /// buffer, no count is above the reference limit, and a base is direct. It does nothing.
+    pub fn lists_sound_packets(&self)
+        ensures { ListsSoundPackets self.now.limits (statement_of self.now) }
+    {
+        laws::acts_leave_packets_sound();
+        let _known = &self.members;
+    }
+
     /// Ends the pool and gives nothing back.
     pub fn lose(self) {
         let SitePool { site: _, members } = self;
@@ -84,7 +105,8 @@ impl SitePool {
     }
 
     /// Lets a worker, numbered from 1, do this with its packets and its cache, and answers what
-    /// came of it. The elements that the answer tells of as new were held by no packet.
+    /// came of it. The elements that the answer tells of as new were held by no packet; they, and no others, have become
+    /// own elements of packets.
     ///
     /// Refused `StrangerShare` for a worker outside the pool, else as the worker's packets are. A
     /// new packet is refused `PacketsFull` where the worker has too few free slots, else as its
@@ -107,6 +129,8 @@ impl SitePool {
     pub fn perform(&mut self, worker: u32, act: Act) -> Reply
         ensures done { (result, self.new) ≡ perform self.old worker act }
         ensures fresh { AreFresh self.old.limits.population (held_of self.old.members self.old.shared.desks) (new_elements result) }
+        ensures own { GaveOnly (new_elements result) self.old self.new }
+        ensures refused { IfRefused result (PoolAsBefore worker act self.old self.new) }
     {
         self.perform_in(worker, act)
     }
@@ -117,8 +141,11 @@ impl SitePool {
         requires room { HasRoom ROOM act }
         ensures done { (as_reply result, self.new) ≡ perform self.old worker act }
         ensures fresh { AreFresh self.old.limits.population (held_of self.old.members self.old.shared.desks) (new_elements (as_reply result)) }
+        ensures own { GaveOnly (new_elements (as_reply result)) self.old self.new }
+        ensures refused { IfRefused (as_reply result) (PoolAsBefore worker act self.old self.new) }
     {
         laws::no_element_is_given_while_it_is_held();
+        laws::a_refused_act_changes_nothing();
         if worker == 0 || worker as usize > self.members.len() {
             return Answer::Refused(Refusal::StrangerShare);
         }
@@ -126,22 +153,52 @@ impl SitePool {
         act_alone(&mut self.site, packets, worker, act)
     }
 
-    /// Where each element of the pool is: each is listed exactly once, and each packet has a place of
-    /// its own. The pool stays as it was.
+    /// Ends the pool, and gives its limits, what its shared part leaves, and the share of each worker, from the first
+    /// to the last. Together they are a lawful snapshot, with the statement that the pool had.
     ///
-    /// Refused `OutOfMemory` where memory was refused.
-    pub fn statement(&self, alloc: Global) -> Result<Statement, Refusal>
-        ensures ok { IfOk result (λ s. s ≡ statement_of self.now) }
-        ensures once { IfOk result (λ s. ListsEachOnce s) }
-        ensures places { IfOk result (λ s. PlacesEachOnce self.now.limits s) }
-        ensures memory { IfErr result (λ e. e ≡ Refusal.OutOfMemory) }
+    /// Refused `OutOfMemory` where memory was refused. The pool comes back then, as it was.
+    pub fn close(self, alloc: Global) -> Result<(Limits, Closed, Vec<Share>), (Refusal, SitePool)>
+        ensures limits { IfOk result (λ parts. parts.0 ≡ self.limits) }
+        ensures closed { IfOk result (λ parts. parts.1 ≡ closed_pool self) }
+        ensures shares { IfOk result (λ parts. parts.2.items ≡ self.members) }
+        ensures numbers { IfOk result (λ parts. map (λ share. share.number) parts.2.items ≡ range_with_len 1 self.limits.workers) }
+        ensures lawful { IfOk result (λ parts. IsLawful (snapshot_of parts.0 parts.1 parts.2.items)) }
+        ensures slots { IfOk result (λ parts. HasSlots (snapshot_of parts.0 parts.1 parts.2.items)) }
+        ensures statement { IfOk result (λ parts. statement_in (snapshot_of parts.0 parts.1 parts.2.items) ≡ statement_of self) }
+        ensures memory { IfErr result (λ refused. refused.0 ≡ Refusal.OutOfMemory) }
+        ensures back { IfErr result (λ refused. refused.1 ≡ self) }
     {
-        laws::acts_leave_each_element_in_one_place();
-        match placing::statement(alloc, &self.site, &self.members) {
-            Ok(statement) => Ok(statement),
-            Err(_) => Err(Refusal::OutOfMemory),
+        closing::a_closed_pool_is_lawful();
+        let Ok(shares) = Vec::with_capacity(alloc, self.members.len()) else {
+            return Err((Refusal::OutOfMemory, self));
+        };
+        let SitePool { site, members } = self;
+        let limits = site.limits();
+        match site.close(alloc) {
+            Ok(closed) => Ok((limits, closed, handed_in(members, shares))),
+            Err((cause, site)) => {
+                shares.destroy_empty();
+                Err((cause, SitePool { site, members }))
+            }
         }
     }
+}
+
+/// The shares of these workers, in the room that was taken for them.
+fn handed_in(mut members: Vec<Packets>, mut shares: Vec<Share>) -> Vec<Share>
+    requires empty { shares.items ≡ [] }
+    requires room { vec_len members ≤ vec_capacity shares }
+    ensures { result.items ≡ members.items }
+{
+    while let Some(packets) = members.pop() {
+        if let Err(failed) = shares.push(hand_in(packets)) {
+            failed.value.lose();
+            unreachable!()
+        }
+    }
+    members.destroy_empty();
+    shares.reverse();
+    shares
 }
 
 /// Lets a worker's packets act on its part of the lists.

@@ -16,6 +16,7 @@ returns-clause-same g c = let e = c.perform_in.ensures.calls in (plainly c.args.
 pub returns-clause-calls : goal.returns-clause-calls
 returns-clause-calls g c = let e = c.perform_in.ensures.calls in (calls_of e.0, (plainly c.args.c.now e.0 c.perform_in.new.c e.1).led, e.2)
 
+-- the calls change neither the worker nor the pool's limits, and the packets are left its own
 pub returns-clause-own : goal.returns-clause-own
 returns-clause-own g c =
     let e = c.perform_in.ensures.calls in

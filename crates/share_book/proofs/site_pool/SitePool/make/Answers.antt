@@ -3,6 +3,7 @@ use Rattle.share_book.proofs.NewPools.{new_member_owns}
 use Rattle.share_book.proofs.Reaching.{new_is_reached}
 use Rattle.share_book.proofs.site_pool.SitePool.make.Goals as goal
 
+-- a new site is a table on which no worker has anything, and no act is needed to reach it
 pub invariant_of-result : goal.invariant_of-result
 invariant_of-result c = record {
   table = c.in_ok-site.ensures.table;

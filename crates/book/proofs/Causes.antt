@@ -1,0 +1,26 @@
+-- Why a pool isn't settled.
+use Rattle.std.proofs.Common.{◌≡◌, ◌⊎◌, inl, inr, refl, sym, subst}
+use Rattle.snapshot.specs.declared.fault.Fault.{Fault}
+use Rattle.snapshot.specs.declared.fault.Fault.TheVariants.{OutOfMemory}
+use Rattle.snapshot.specs.Faults.{IsFault, IsFirstFault}
+use Rattle.commons.specs.declared.closed.Closed.{Closed}
+use Rattle.book.specs.declared.settling.Unsettled.{Unsettled}
+use Rattle.book.specs.declared.settling.Unsettled.TheVariants.{MissingShare, OutOfMemory as NoMemory, Fault as HasFault}
+use Rattle.book.specs.Books.{IsFull}
+use Rattle.book.specs.Places.{Places}
+use Rattle.book.specs.Settling.{IsUnsettled, snapshot_with}
+use Rattle.book.specs.inside.Causes.{cause_of}
+
+-- what an audit answers where no share is missing
+pub unsettled_is : (b : Places) (closed : Closed) (f : Fault) → IsFull b →
+    (f ≡ OutOfMemory) ⊎ IsFirstFault (snapshot_with b closed) f → IsUnsettled b closed (cause_of f)
+unsettled_is b closed f full (inl e) = subst (λ g. IsUnsettled b closed (cause_of g)) (sym e) full
+unsettled_is b closed OutOfMemory full (inr first) = absurd first.0
+unsettled_is b closed f full (inr first) = (full, first)
+
+-- memory alone was wanting where no share is missing and there is no fault
+pub memory_alone : (b : Places) (closed : Closed) (cause : Unsettled) → IsFull b → ((f : Fault) → ¬ (IsFault (snapshot_with b closed) f)) →
+    IsUnsettled b closed cause → cause ≡ NoMemory
+memory_alone b closed (MissingShare w) full sound is = absurd (full w is.missing)
+memory_alone b closed NoMemory full sound is = refl
+memory_alone b closed (HasFault f) full sound is = absurd (sound f is.1.0)

@@ -1,0 +1,4 @@
+pub mod AllShares
+pub mod Causes
+pub mod FilledPlaces
+pub mod Shares

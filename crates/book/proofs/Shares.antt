@@ -1,0 +1,52 @@
+-- The shares in the places of a book.
+use Rattle.std.proofs.Common.{ℕ, ◌≡◌, ◌+◌, ◌<◌, List, [], ◌∷◌, ◌++◌, length, get_or, map, take, All, Option, Some, None, refl, sym, ◌∙◌, ap, suc}
+use Rattle.std.proofs.lemmas.List.{append-nil, map-append, take_more}
+use Rattle.std.proofs.lemmas.List.Elements.{All-cons, All-nil}
+use Rattle.mbuf.specs.Members.{Member, slots}
+use Rattle.snapshot.specs.declared.snapshot.ShareData.{ShareData}
+use Rattle.book.specs.Books.{shares_in}
+use Rattle.snapshot.specs.Closing.{share_of}
+
+-- the shares of places in two parts
+shares_in-append : (places more : List (Option Member)) → shares_in (places ++ more) ≡ shares_in places ++ shares_in more
+shares_in-append [] more = refl
+shares_in-append (None ∷ places) more = shares_in-append places more
+shares_in-append (Some m ∷ places) more = ap (λ ms. m ∷ ms) (shares_in-append places more)
+
+-- the shares of one place more, as plain data
+shares_more : (places : List (Option Member)) (k : ℕ) (place : Option Member) → k < length places → place ≡ get_or places k place →
+    map share_of (shares_in (take (k + 1) places)) ≡ map share_of (shares_in (take k places)) ++ map share_of (shares_in (place ∷ []))
+shares_more places k place l e =
+    ap (λ ps. map share_of (shares_in ps)) (take_more places k place l)
+    ∙ ap (λ p. map share_of (shares_in (take k places ++ p ∷ []))) (sym e)
+    ∙ ap (map share_of) (shares_in-append (take k places) (place ∷ []))
+    ∙ map-append share_of (shares_in (take k places)) (shares_in (place ∷ []))
+
+-- where a share stands there
+pub share_more : (places : List (Option Member)) (k : ℕ) (place : Option Member) (m : Member) → k < length places →
+    place ≡ get_or places k place → place ≡ Some m →
+    map share_of (shares_in (take (k + 1) places)) ≡ map share_of (shares_in (take k places)) ++ share_of m ∷ []
+share_more places k place m l e f =
+    shares_more places k place l e
+    ∙ ap (λ p. map share_of (shares_in (take k places)) ++ map share_of (shares_in (p ∷ []))) f
+
+-- and where none does
+pub none_more : (places : List (Option Member)) (k : ℕ) (place : Option Member) → k < length places →
+    place ≡ get_or places k place → place ≡ None →
+    map share_of (shares_in (take (k + 1) places)) ≡ map share_of (shares_in (take k places))
+none_more places k place l e f =
+    shares_more places k place l e
+    ∙ ap (λ p. map share_of (shares_in (take k places)) ++ map share_of (shares_in (p ∷ []))) f
+    ∙ append-nil (map share_of (shares_in (take k places)))
+
+-- a share as plain data has all its slots
+abbrev HasSlots : ShareData → Type 0
+HasSlots share = length share.slots ≡ slots
+
+-- the shares of a book have all their slots
+pub all_slots : (places : List (Option Member)) → ((n : ℕ) (m : Member) → get_or places n None ≡ Some m → length m.table ≡ slots) →
+    All HasSlots (map share_of (shares_in places))
+all_slots [] h = All-nil HasSlots
+all_slots (None ∷ places) h = all_slots places (λ n. h (suc n))
+all_slots (Some m ∷ places) h =
+    All-cons HasSlots (share_of m) (map share_of (shares_in places)) (h 0 m refl) (all_slots places (λ n. h (suc n)))

@@ -1,0 +1,18 @@
+use Rattle.std.proofs.Common.{sym}
+use Rattle.book.proofs.Shares.{none_more, share_more}
+use Rattle.book.proofs.copies.shares.Goals as goal
+use Rattle.book.proofs.copies.shares.Goals.{in-Some+in_ok-share_data+in_ok-push, in_default}
+
+-- one place more, with a share or without
+pub loop-place-preserved : goal.loop-place-preserved
+loop-place-preserved c =
+    let places = c.args.places.now in
+    let k = c.loop-place.place-index in
+    let place = c.place-item.result in
+    elim c.match-place.branch [
+      | in-Some+in_ok-share_data+in_ok-push w ↦
+          rw (w.shares-is, w.in_ok-push.ensures.items, w.in_ok-share_data.ensures, w.packets.ensures, c.loop-place.invariant)
+          (sym (share_more places k place w.in-Some.share c.loop-place-test.true c.place-item.is w.in-Some.is))
+      | in_default w ↦
+          rw (w.shares-is, c.loop-place.invariant) (sym (none_more places k place c.loop-place-test.true c.place-item.is w.in_default.is))
+    ]

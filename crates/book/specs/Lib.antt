@@ -1,0 +1,4 @@
+pub mod Books
+pub mod Places
+pub mod Settling
+pub mod inside

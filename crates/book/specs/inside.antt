@@ -1,0 +1,3 @@
+-- What serves proofs and the inside of types alone. No public clause cites these modules.
+pub mod Causes
+pub mod Kept

@@ -1,0 +1,104 @@
+//! A closed pool and its shares as plain data.
+
+ghost use Rattle.std.specs.Prelude.{◌≡◌, IfOk, None, map, slice_index_or};
+ghost use Rattle.book.specs.Books.{shares_in};
+ghost use Rattle.book.specs.Settling.{snapshot_with};
+ghost use Rattle.snapshot.specs.Closing.{share_of};
+
+use crate::book::Book;
+use crate::share::Share;
+use commons::closed::Closed;
+use commons::packet::{Packet, Seg};
+use commons::seq::Seq;
+use mbuf::packets::{Packets, SLOTS};
+use snapshot::snapshot::{ShareData, Snapshot};
+use std::alloc::{AllocError, Global};
+
+/// The snapshot of a closed pool and the shares in its book.
+pub(crate) fn snapshot(alloc: Global, closed: &Closed, book: &Book) -> Result<Snapshot, AllocError>
+    ensures { IfOk result (λ s. s ≡ snapshot_with book.now closed.now) }
+{
+    Ok(Snapshot {
+        limits: *book.limits(),
+        top: closed.top,
+        length: closed.length,
+        links: copied(alloc, closed.links.as_slice())?,
+        counts: copied(alloc, closed.counts.as_slice())?,
+        desks: desks(alloc, closed.desks.as_slice())?,
+        shares: shares(alloc, book.places())?,
+    })
+}
+
+/// A copy of these values.
+fn copied<T: Copy + Drop>(alloc: Global, values: &[T]) -> Result<Seq<T>, AllocError>
+    ensures { IfOk result (λ s. s ≡ values.now) }
+{
+    Ok(Seq::new(Vec::from_slice(alloc, values)?))
+}
+
+/// The segments of the packet on each desk.
+fn desks(alloc: Global, places: &[Option<Packet>]) -> Result<Seq<Option<Seq<Seg>>>, AllocError>
+    ensures { IfOk result (λ s. s ≡ places.now) }
+{
+    let mut desks = Vec::with_capacity(alloc, places.len())?;
+    for place in places {
+        desks.push(desk(alloc, place)?)?;
+    }
+    Ok(Seq::new(desks))
+}
+
+/// The segments of the packet on a desk, if one lies there.
+fn desk(alloc: Global, place: &Option<Packet>) -> Result<Option<Seq<Seg>>, AllocError>
+    ensures { IfOk result (λ segs. segs ≡ place.now) }
+{
+    match place {
+        Some(packet) => Ok(Some(copied(alloc, packet.segs())?)),
+        None => Ok(None),
+    }
+}
+
+/// The shares in these places.
+fn shares(alloc: Global, places: &[Option<Share>]) -> Result<Seq<ShareData>, AllocError>
+    ensures { IfOk result (λ s. s ≡ map share_of (shares_in places.now)) }
+{
+    let mut shares = Vec::with_capacity(alloc, places.len())?;
+    for place in places {
+        if let Some(share) = place {
+            shares.push(share_data(alloc, share.packets())?)?;
+        }
+    }
+    Ok(Seq::new(shares))
+}
+
+/// A worker's number, its cache and its packets.
+fn share_data(alloc: Global, packets: &Packets) -> Result<ShareData, AllocError>
+    ensures { IfOk result (λ d. d ≡ share_of packets.now) }
+{
+    Ok(ShareData {
+        worker: packets.worker(),
+        cache: copied(alloc, packets.cache())?,
+        slots: slots(alloc, packets)?,
+    })
+}
+
+/// The segments of the packet in each slot.
+fn slots(alloc: Global, packets: &Packets) -> Result<Seq<Option<Seq<Seg>>>, AllocError>
+    ensures { IfOk result (λ s. s ≡ packets.now.table) }
+{
+    packets.has_slots();
+    let mut slots = Vec::with_capacity(alloc, SLOTS)?;
+    for number in 0..SLOTS as u32 {
+        slots.push(slot(alloc, packets, number)?)?;
+    }
+    Ok(Seq::new(slots))
+}
+
+/// The segments of the packet in a slot, if one stands there.
+fn slot(alloc: Global, packets: &Packets, number: u32) -> Result<Option<Seq<Seg>>, AllocError>
+    ensures { IfOk result (λ segs. segs ≡ slice_index_or packets.now.table number None) }
+{
+    match packets.place(number) {
+        Some(packet) => Ok(Some(copied(alloc, packet.segs())?)),
+        None => Ok(None),
+    }
+}
