@@ -1,2 +1,3 @@
 mod CommandsKeep
 mod NameLemmas
+mod Outcomes

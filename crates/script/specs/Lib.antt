@@ -1,5 +1,6 @@
 pub mod Printed
 pub mod Replay
 pub mod ReplyText
+pub mod Running
 pub mod StatementText
 pub mod inside

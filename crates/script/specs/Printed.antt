@@ -1,6 +1,7 @@
 -- All that the replay of a script prints.
-use Rattle.std.specs.Prelude.{ℕ, ◌≡◌, List, ◌++◌, flat_map}
+use Rattle.std.specs.Prelude.{ℕ, ◌≡◌, List, ◌++◌, codes, flat_map}
 use Rattle.commons.specs.declared.limits.Limits.{Limits}
+use Rattle.json_text.specs.StatementData.{json_of}
 use Rattle.script_text.specs.declared.commands.Line.{Line}
 use Rattle.script_text.specs.Grammar.{IsScript}
 use Rattle.script.specs.Replay.{replies_to, end_of, new_run}
@@ -18,3 +19,14 @@ pub record IsPrintedFor (bytes out : List ℕ) : Type 0 where
   pub lines : List Line
   pub script : IsScript bytes limits lines
   pub printed : out ≡ printed_for limits lines
+
+-- the JSON of the reference model's statement of the end, as one line
+abbrev pub json_for : Limits → List Line → List ℕ
+json_for limits lines = json_of (statement_of (end_of lines (new_run limits)).pool) ++ codes "\n"
+
+-- the bytes are a script, and this is printed for it as JSON
+pub record IsJsonFor (bytes out : List ℕ) : Type 0 where
+  pub limits : Limits
+  pub lines : List Line
+  pub script : IsScript bytes limits lines
+  pub printed : out ≡ json_for limits lines

@@ -50,23 +50,6 @@ abbrev pub stands_after_free : ℕ → List ℕ → Reply → (ℕ → List ℕ 
 stands_after_free worker name (WasFreed freed) stands = named worker name None stands
 stands_after_free worker name _ stands = stands
 
-abbrev pub alloc_as : ℕ → List ℕ → Run → Reply × Run
-alloc_as worker name run =
-    let done = perform run.pool worker Alloc in
-    (done.0, record { pool = done.1; stands = stands_after_alloc worker name done.0 run.stands })
-
-abbrev pub bulk_as : ℕ → List (List ℕ) → Run → Reply × Run
-bulk_as worker names run =
-    let done = perform run.pool worker (AllocBulk (length names)) in
-    (done.0, record { pool = done.1; stands = stands_after_bulk worker names done.0 run.stands })
-
--- a name that stands for no packet is refused
-abbrev pub free_as : Option ℕ → ℕ → List ℕ → Run → Reply × Run
-free_as None worker name run = (Refused NoSuchPacket, run)
-free_as (Some slot) worker name run =
-    let done = perform run.pool worker (Free slot) in
-    (done.0, record { pool = done.1; stands = stands_after_free worker name done.0 run.stands })
-
 -- a change of lengths as an act on the packet in a slot
 abbrev pub act_of : ℕ → Change → Act
 act_of slot (change.Append n) = Append slot n
@@ -74,84 +57,76 @@ act_of slot (change.Prepend n) = Prepend slot n
 act_of slot (change.Adj n) = Adj slot n
 act_of slot (change.Trim n) = Trim slot n
 
--- an act on the packet of one name, or on those of two, that leaves each name as it stands
-abbrev pub act_as : Option ℕ → (ℕ → Act) → ℕ → Run → Reply × Run
-act_as None act worker run = (Refused NoSuchPacket, run)
-act_as (Some slot) act worker run =
-    let done = perform run.pool worker (act slot) in
-    (done.0, record { pool = done.1; stands = run.stands })
-
-abbrev pub act_as_both : Option ℕ → Option ℕ → (ℕ → ℕ → Act) → ℕ → Run → Reply × Run
-act_as_both None second act worker run = (Refused NoSuchPacket, run)
-act_as_both (Some first) second act worker run = act_as second (act first) worker run
-
 -- a chain that is met takes the second packet's name away
 abbrev pub stands_after_chain : ℕ → List ℕ → Reply → (ℕ → List ℕ → Option ℕ) → ℕ → List ℕ → Option ℕ
 stands_after_chain worker name (Chained segs len) stands = named worker name None stands
 stands_after_chain worker name _ stands = stands
-
-abbrev pub chain_as : Option ℕ → Option ℕ → ℕ → List ℕ → Run → Reply × Run
-chain_as None second worker name run = (Refused NoSuchPacket, run)
-chain_as (Some head) None worker name run = (Refused NoSuchPacket, run)
-chain_as (Some head) (Some tail) worker name run =
-    let done = perform run.pool worker (Chain head tail) in
-    (done.0, record { pool = done.1; stands = stands_after_chain worker name done.0 run.stands })
 
 -- a clone that is met gives its name the clone's slot
 abbrev pub stands_after_clone : ℕ → List ℕ → Reply → (ℕ → List ℕ → Option ℕ) → ℕ → List ℕ → Option ℕ
 stands_after_clone worker name (Cloned slot elems) stands = named worker name (Some slot) stands
 stands_after_clone worker name _ stands = stands
 
-abbrev pub clone_as : Option ℕ → ℕ → List ℕ → Run → Reply × Run
-clone_as None worker made run = (Refused NoSuchPacket, run)
-clone_as (Some slot) worker made run =
-    let done = perform run.pool worker (ClonePacket slot) in
-    (done.0, record { pool = done.1; stands = stands_after_clone worker made done.0 run.stands })
-
 -- an offer that is met takes its name away
 abbrev pub stands_after_offer : ℕ → List ℕ → Reply → (ℕ → List ℕ → Option ℕ) → ℕ → List ℕ → Option ℕ
 stands_after_offer worker name Offered stands = named worker name None stands
 stands_after_offer worker name _ stands = stands
-
-abbrev pub offer_as : Option ℕ → ℕ → ℕ → List ℕ → Run → Reply × Run
-offer_as None desk worker name run = (Refused NoSuchPacket, run)
-offer_as (Some slot) desk worker name run =
-    let done = perform run.pool worker (Offer slot desk) in
-    (done.0, record { pool = done.1; stands = stands_after_offer worker name done.0 run.stands })
 
 -- and a take that is met gives its name the packet's slot
 abbrev pub stands_after_take : ℕ → List ℕ → Reply → (ℕ → List ℕ → Option ℕ) → ℕ → List ℕ → Option ℕ
 stands_after_take worker name (Taken slot segs len) stands = named worker name (Some slot) stands
 stands_after_take worker name _ stands = stands
 
-abbrev pub take_as : ℕ → ℕ → List ℕ → Run → Reply × Run
-take_as desk worker name run =
-    let done = perform run.pool worker (Take desk) in
-    (done.0, record { pool = done.1; stands = stands_after_take worker name done.0 run.stands })
+-- what each name stands for once a worker's command has this reply; the other commands leave each as it stands
+abbrev pub stands_after : ℕ → Command → Reply → (ℕ → List ℕ → Option ℕ) → ℕ → List ℕ → Option ℕ
+stands_after worker (command.Alloc name) reply stands = stands_after_alloc worker name reply stands
+stands_after worker (command.Bulk names) reply stands = stands_after_bulk worker names reply stands
+stands_after worker (command.Free name) reply stands = stands_after_free worker name reply stands
+stands_after worker (command.Chain head tail) reply stands = stands_after_chain worker tail reply stands
+stands_after worker (command.Clone name made) reply stands = stands_after_clone worker made reply stands
+stands_after worker (command.Offer name desk) reply stands = stands_after_offer worker name reply stands
+stands_after worker (command.Take desk name) reply stands = stands_after_take worker name reply stands
+stands_after worker _ reply stands = stands
 
--- a flush leaves each name as it stands
-abbrev pub flush_as : ℕ → Run → Reply × Run
-flush_as worker run = let done = perform run.pool worker Flush in (done.0, record { pool = done.1; stands = run.stands })
+-- an act on the packet of one name, or on those of two; none where a name stands for no packet
+abbrev pub act_on : Option ℕ → (ℕ → Act) → Option Act
+act_on None act = None
+act_on (Some slot) act = Some (act slot)
+
+abbrev pub act_on_both : Option ℕ → Option ℕ → (ℕ → ℕ → Act) → Option Act
+act_on_both None second act = None
+act_on_both (Some first) second act = act_on second (act first)
+
+-- the act that a command asks for, by the slots of the packets that its worker's names stand for
+abbrev pub asked : (List ℕ → Option ℕ) → Command → Option Act
+asked slot_of (command.Alloc name) = Some Alloc
+asked slot_of (command.Bulk names) = Some (AllocBulk (length names))
+asked slot_of (command.Free name) = act_on (slot_of name) Free
+asked slot_of (command.Resize name change) = act_on (slot_of name) (λ slot. act_of slot change)
+asked slot_of (command.Chain head tail) = act_on_both (slot_of head) (slot_of tail) Chain
+asked slot_of (command.Attach name target) = act_on_both (slot_of name) (slot_of target) Attach
+asked slot_of (command.Detach name) = act_on (slot_of name) Detach
+asked slot_of (command.Clone name made) = act_on (slot_of name) ClonePacket
+asked slot_of (command.Count name) = act_on (slot_of name) CountOf
+asked slot_of (command.Offer name desk) = act_on (slot_of name) (λ slot. Offer slot desk)
+asked slot_of (command.Take desk name) = Some (Take desk)
+asked slot_of command.Flush = Some Flush
 
 -- an answer with this room can tell of the command
 abbrev pub CommandHasRoom : ℕ → Command → Type 0
 CommandHasRoom room (command.Bulk names) = HasRoom room (AllocBulk (length names))
 CommandHasRoom room _ = Unit {0}
 
+-- a worker's act, and what each name stands for by its reply; a command that asks for none is refused
+abbrev pub done_for : Option Act → ℕ → Command → Run → Reply × Run
+done_for None worker command run = (Refused NoSuchPacket, run)
+done_for (Some act) worker command run =
+    let done = perform run.pool worker act in
+    (done.0, record { pool = done.1; stands = stands_after worker command done.0 run.stands })
+
 -- the reply to a worker's command, and what is left
 abbrev pub obey : ℕ → Command → Run → Reply × Run
-obey worker (command.Alloc name) run = alloc_as worker name run
-obey worker (command.Bulk names) run = bulk_as worker names run
-obey worker (command.Free name) run = free_as (run.stands worker name) worker name run
-obey worker (command.Resize name change) run = act_as (run.stands worker name) (λ slot. act_of slot change) worker run
-obey worker (command.Chain head tail) run = chain_as (run.stands worker head) (run.stands worker tail) worker tail run
-obey worker (command.Attach name target) run = act_as_both (run.stands worker name) (run.stands worker target) Attach worker run
-obey worker (command.Detach name) run = act_as (run.stands worker name) Detach worker run
-obey worker (command.Clone name made) run = clone_as (run.stands worker name) worker made run
-obey worker (command.Count name) run = act_as (run.stands worker name) CountOf worker run
-obey worker (command.Offer name desk) run = offer_as (run.stands worker name) desk worker name run
-obey worker (command.Take desk name) run = take_as desk worker name run
-obey worker command.Flush run = flush_as worker run
+obey worker command run = done_for (asked (run.stands worker) command) worker command run
 
 -- the reply to each line, with its number
 abbrev pub replies_to : List Line → Run → List (ℕ × Reply)

@@ -1,13 +1,22 @@
-//! Scripts of a packet pool: their replay, and what it prints.
+//! Scripts of a packet pool: their replay, what it prints, and their run in threads.
 #![tactic(auto)]
 
+pub mod gate;
+pub mod json;
 pub mod laws;
 mod names;
 pub mod playing;
 pub mod printing;
+pub mod running;
 pub mod texts;
+pub mod threaded;
 
+pub use gate::{Gate, OpenGate};
+pub use json::run_replay_json;
+pub use json_text::statement_json;
 pub use playing::replay;
 pub use printing::run_replay;
+pub use running::run_script;
 pub use script_text::{MAX_BYTES, parse};
 pub use texts::statement_text;
+pub use threaded::{Grounds, run_threads};

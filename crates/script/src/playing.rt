@@ -1,6 +1,6 @@
 ghost use Rattle.std.specs.Prelude.{◌≡◌, None, IfOk, IfErr, OnOk};
 ghost use Rattle.mbuf.specs.Acts.{as_reply};
-ghost use Rattle.script.specs.Replay.{CommandHasRoom, replies_to, end_of, new_run, act_as_both, act_of as changes_to, all_named, chain_as, obey as obeyed};
+ghost use Rattle.script.specs.Replay.{CommandHasRoom, replies_to, end_of, new_run, act_of as changes_to, all_named, asked as asked_by, obey as obeyed, stands_after};
 ghost use Rattle.script.specs.inside.Standing.{run_of, fresh_run};
 ghost use Rattle.script.specs.inside.Stands.{stands_in};
 ghost use Rattle.pool_model.specs.Statements.{statement_of, ListsEachOnce, PlacesEachOnce};
@@ -12,6 +12,7 @@ use mbuf::acts::{Act, Answer, NewPacket, Reply};
 use mbuf::packets::Pid;
 use pool_model::statement::Statement;
 use script_text::commands::{Command, Line, Name, Script};
+use share_book::ending::settled;
 use share_book::site_pool::SitePool;
 use std::alloc::{AllocError, Global};
 
@@ -28,30 +29,31 @@ pub fn replay(alloc: Global, script: &Script) -> Result<(Vec<(u32, Reply)>, Stat
     ensures places { IfOk result (λ r. PlacesEachOnce script.now.limits r.1) }
     ensures memory { IfErr result (λ e. e ≡ Refusal.OutOfMemory) }
 {
-    let mut pool = SitePool::make(alloc, &script.limits)?;
-    let outcome = play_to_end(alloc, &mut pool, script.lines.as_slice());
-    pool.lose();
-    outcome
+    let pool = SitePool::make(alloc, &script.limits)?;
+    play_to_end(alloc, pool, script.lines.as_slice())
 }
 
-/// The replies to all lines, and the statement of the pool after them.
+/// The replies to all lines, and the statement of the pool after them, which ends it.
 fn play_to_end(
     alloc: Global,
-    pool: &mut SitePool,
+    mut pool: SitePool,
     lines: &[Line],
 ) -> Result<(Vec<(u32, Reply)>, Statement), Refusal>
-    ensures replies { IfOk result (λ r. r.0.items ≡ replies_to lines.now (fresh_run pool.old)) }
-    ensures statement { IfOk result (λ r. r.1 ≡ statement_of (end_of lines.now (fresh_run pool.old)).pool) }
+    ensures replies { IfOk result (λ r. r.0.items ≡ replies_to lines.now (fresh_run pool)) }
+    ensures statement { IfOk result (λ r. r.1 ≡ statement_of (end_of lines.now (fresh_run pool)).pool) }
     ensures once { IfOk result (λ r. ListsEachOnce r.1) }
-    ensures places { IfOk result (λ r. PlacesEachOnce pool.old.limits r.1) }
+    ensures places { IfOk result (λ r. PlacesEachOnce pool.limits r.1) }
     ensures memory { IfErr result (λ e. e ≡ Refusal.OutOfMemory) }
 {
-    match play(alloc, pool, lines) {
+    match play(alloc, &mut pool, lines) {
         Ok(replies) => {
-            let statement = pool.statement(alloc)?;
+            let statement = settled(alloc, pool)?;
             Ok((replies, statement))
         }
-        Err(_) => Err(Refusal::OutOfMemory),
+        Err(_) => {
+            pool.lose();
+            Err(Refusal::OutOfMemory)
+        }
     }
 }
 
@@ -96,40 +98,89 @@ fn act_of(slot: Pid, change: Change) -> Act
     }
 }
 
-/// Chains the packets of two of a worker's names, and keeps that the second name stands for none.
-fn chain<'a, const ROOM: usize>(
-    pool: &mut SitePool,
-    names: &mut Names<'a>,
-    worker: u32,
-    head: &'a [u8],
-    tail: &'a [u8],
-) -> Answer<ROOM>
-    ensures { (as_reply result, run_of pool.new names.new) ≡ chain_as ((run_of pool.old names.old).stands worker head.now) ((run_of pool.old names.old).stands worker tail.now) worker tail.now (run_of pool.old names.old) }
+/// The act that a line asks for, by what its worker's names stand for; none where one of them stands for no packet.
+pub(crate) fn asked<'a>(names: &Names<'a>, line: &'a Line) -> Option<Act>
+    ensures { result ≡ asked_by (stands_in names.now line.now.worker) line.now.command }
 {
-    let (Some(first), Some(second)) = (names.get(worker, head), names.get(worker, tail)) else {
-        return Answer::Refused(Refusal::NoSuchPacket);
-    };
-    let reply = pool.perform_in(worker, Act::Chain(first, second));
-    if let Answer::Chained(_, _) = reply {
-        names.forget(worker, tail);
+    let worker = line.worker;
+    match &line.command {
+        Command::Alloc(_) => Some(Act::Alloc),
+        Command::Bulk(made) => Some(Act::AllocBulk(made.len())),
+        Command::Free(name) => Some(Act::Free(names.get(worker, name.as_slice())?)),
+        Command::Resize(name, change) => {
+            Some(act_of(names.get(worker, name.as_slice())?, *change))
+        }
+        Command::Chain(head, tail) => Some(Act::Chain(
+            names.get(worker, head.as_slice())?,
+            names.get(worker, tail.as_slice())?,
+        )),
+        Command::Attach(name, target) => Some(Act::Attach(
+            names.get(worker, name.as_slice())?,
+            names.get(worker, target.as_slice())?,
+        )),
+        Command::Detach(name) => Some(Act::Detach(names.get(worker, name.as_slice())?)),
+        Command::Clone(name, _) => Some(Act::ClonePacket(names.get(worker, name.as_slice())?)),
+        Command::Count(name) => Some(Act::CountOf(names.get(worker, name.as_slice())?)),
+        Command::Offer(name, desk) => {
+            Some(Act::Offer(names.get(worker, name.as_slice())?, u32::from(*desk)))
+        }
+        Command::Take(desk, _) => Some(Act::Take(u32::from(*desk))),
+        Command::Flush => Some(Act::Flush),
     }
-    reply
 }
 
-/// Attaches the packet of one of a worker's names to the buffer of another's.
-fn attach<'a, const ROOM: usize>(
-    pool: &mut SitePool,
-    names: &Names<'a>,
-    worker: u32,
-    name: &'a [u8],
-    target: &'a [u8],
-) -> Answer<ROOM>
-    ensures { (as_reply result, run_of pool.new names.now) ≡ act_as_both ((run_of pool.old names.now).stands worker name.now) ((run_of pool.old names.now).stands worker target.now) Act.Attach worker (run_of pool.old names.now) }
+/// Keeps which packets a worker's names stand for, once its line has this reply.
+pub(crate) fn note<'a, const ROOM: usize>(
+    names: &mut Names<'a>,
+    line: &'a Line,
+    reply: &Answer<ROOM>,
+) -> Result<(), AllocError>
+    ensures { OnOk result (stands_in names.new ≡ stands_after line.now.worker line.now.command (as_reply reply.now) (stands_in names.old)) }
 {
-    let (Some(mi), Some(target)) = (names.get(worker, name), names.get(worker, target)) else {
-        return Answer::Refused(Refusal::NoSuchPacket);
-    };
-    pool.perform_in(worker, Act::Attach(mi, target))
+    let worker = line.worker;
+    match &line.command {
+        Command::Alloc(name) => {
+            if let Answer::Allocated(slot, _) = reply {
+                names.set(worker, name.as_slice(), *slot)?;
+            }
+        }
+        Command::Bulk(made) => {
+            if let Answer::Bulk(packets) = reply {
+                name_all(names, worker, made.as_slice(), packets.as_slice())?;
+            }
+        }
+        Command::Clone(_, made) => {
+            if let Answer::Cloned(slot, _) = reply {
+                names.set(worker, made.as_slice(), *slot)?;
+            }
+        }
+        Command::Take(_, made) => {
+            if let Answer::Taken(slot, _, _) = reply {
+                names.set(worker, made.as_slice(), *slot)?;
+            }
+        }
+        Command::Free(name) => {
+            if let Answer::Freed(_) = reply {
+                names.forget(worker, name.as_slice());
+            }
+        }
+        Command::Chain(_, tail) => {
+            if let Answer::Chained(_, _) = reply {
+                names.forget(worker, tail.as_slice());
+            }
+        }
+        Command::Offer(packet, _) => {
+            if let Answer::Offered = reply {
+                names.forget(worker, packet.as_slice());
+            }
+        }
+        Command::Resize(_, _)
+        | Command::Attach(_, _)
+        | Command::Detach(_)
+        | Command::Count(_)
+        | Command::Flush => {}
+    }
+    Ok(())
 }
 
 /// Performs one line, and keeps which packet its name stands for.
@@ -152,93 +203,10 @@ pub(crate) fn obey_in<'a, const ROOM: usize>(
     requires room { CommandHasRoom ROOM line.now.command }
     ensures { IfOk result (λ r. (as_reply r, run_of pool.new names.new) ≡ obeyed line.now.worker line.now.command (run_of pool.old names.old)) }
 {
-    let worker = line.worker;
-    match &line.command {
-        Command::Alloc(name) => {
-            let reply = pool.perform_in(worker, Act::Alloc);
-            if let Answer::Allocated(slot, _) = reply {
-                names.set(worker, name.as_slice(), slot)?;
-            }
-            Ok(reply)
-        }
-        Command::Bulk(made) => {
-            let reply = pool.perform_in(worker, Act::AllocBulk(made.len()));
-            if let Answer::Bulk(packets) = &reply {
-                name_all(names, worker, made.as_slice(), packets.as_slice())?;
-            }
-            Ok(reply)
-        }
-        Command::Free(name) => {
-            let name = name.as_slice();
-            let Some(slot) = names.get(worker, name) else {
-                return Ok(Answer::Refused(Refusal::NoSuchPacket));
-            };
-            let reply = pool.perform_in(worker, Act::Free(slot));
-            if let Answer::Freed(_) = reply {
-                names.forget(worker, name);
-            }
-            Ok(reply)
-        }
-        Command::Resize(name, change) => {
-            let Some(slot) = names.get(worker, name.as_slice()) else {
-                return Ok(Answer::Refused(Refusal::NoSuchPacket));
-            };
-            Ok(pool.perform_in(worker, act_of(slot, *change)))
-        }
-        Command::Chain(head, tail) => Ok(chain(
-            pool,
-            names,
-            worker,
-            head.as_slice(),
-            tail.as_slice(),
-        )),
-        Command::Attach(name, target) => Ok(attach(
-            pool,
-            names,
-            worker,
-            name.as_slice(),
-            target.as_slice(),
-        )),
-        Command::Detach(name) => {
-            let Some(slot) = names.get(worker, name.as_slice()) else {
-                return Ok(Answer::Refused(Refusal::NoSuchPacket));
-            };
-            Ok(pool.perform_in(worker, Act::Detach(slot)))
-        }
-        Command::Clone(name, made) => {
-            let Some(slot) = names.get(worker, name.as_slice()) else {
-                return Ok(Answer::Refused(Refusal::NoSuchPacket));
-            };
-            let reply = pool.perform_in(worker, Act::ClonePacket(slot));
-            if let Answer::Cloned(slot, _) = &reply {
-                names.set(worker, made.as_slice(), *slot)?;
-            }
-            Ok(reply)
-        }
-        Command::Offer(packet, desk) => {
-            let packet = packet.as_slice();
-            let Some(slot) = names.get(worker, packet) else {
-                return Ok(Answer::Refused(Refusal::NoSuchPacket));
-            };
-            let reply = pool.perform_in(worker, Act::Offer(slot, u32::from(*desk)));
-            if let Answer::Offered = reply {
-                names.forget(worker, packet);
-            }
-            Ok(reply)
-        }
-        Command::Take(desk, made) => {
-            let reply = pool.perform_in(worker, Act::Take(u32::from(*desk)));
-            if let Answer::Taken(slot, _, _) = reply {
-                names.set(worker, made.as_slice(), slot)?;
-            }
-            Ok(reply)
-        }
-        Command::Count(name) => {
-            let Some(slot) = names.get(worker, name.as_slice()) else {
-                return Ok(Answer::Refused(Refusal::NoSuchPacket));
-            };
-            Ok(pool.perform_in(worker, Act::CountOf(slot)))
-        }
-        Command::Flush => Ok(pool.perform_in(worker, Act::Flush)),
-    }
+    let Some(act) = asked(names, line) else {
+        return Ok(Answer::Refused(Refusal::NoSuchPacket));
+    };
+    let reply = pool.perform_in(line.worker, act);
+    note(names, line, &reply)?;
+    Ok(reply)
 }

@@ -16,6 +16,7 @@ use crate::texts::{push_reply, statement_text};
 use commons::refusal::Refusal;
 use script_text::commands::{Command, Line, Script};
 use script_text::parse;
+use share_book::ending::settled;
 use share_book::site_pool::SitePool;
 use std::alloc::Global;
 
@@ -48,19 +49,30 @@ fn printed(alloc: Global, script: &Script) -> Result<Vec<u8>, Refusal>
     ensures text { IfOk result (λ out. out.items ≡ printed_for script.now.limits script.now.lines) }
     ensures memory { IfErr result (λ refusal. refusal ≡ Refusal.OutOfMemory) }
 {
-    let mut pool = SitePool::make(alloc, &script.limits)?;
-    let outcome = printed_on(alloc, &mut pool, script.lines.as_slice());
-    pool.lose();
-    outcome
+    let pool = SitePool::make(alloc, &script.limits)?;
+    printed_on(alloc, pool, script.lines.as_slice())
 }
 
-/// What is printed for these lines on a pool in which no name stands for a packet.
-fn printed_on(alloc: Global, pool: &mut SitePool, lines: &[Line]) -> Result<Vec<u8>, Refusal>
-    ensures text { IfOk result (λ out. out.items ≡ flat_map (λ p. reply_line p.0 p.1) (replies_to lines.now (fresh_run pool.old)) ++ text_of (statement_of (end_of lines.now (fresh_run pool.old)).pool)) }
+/// What is printed for these lines on a pool in which no name stands for a packet, which they end.
+fn printed_on(alloc: Global, mut pool: SitePool, lines: &[Line]) -> Result<Vec<u8>, Refusal>
+    ensures text { IfOk result (λ out. out.items ≡ flat_map (λ p. reply_line p.0 p.1) (replies_to lines.now (fresh_run pool)) ++ text_of (statement_of (end_of lines.now (fresh_run pool)).pool)) }
     ensures memory { IfErr result (λ refusal. refusal ≡ Refusal.OutOfMemory) }
 {
-    let mut out = reply_lines(alloc, pool, lines)?;
-    let statement = pool.statement(alloc)?;
+    match reply_lines(alloc, &mut pool, lines) {
+        Ok(out) => printed_end(alloc, pool, out),
+        Err(cause) => {
+            pool.lose();
+            Err(cause)
+        }
+    }
+}
+
+/// What was printed so far, and behind it the statement of a pool, which it ends.
+fn printed_end(alloc: Global, pool: SitePool, mut out: Vec<u8>) -> Result<Vec<u8>, Refusal>
+    ensures text { IfOk result (λ all. all.items ≡ out.items ++ text_of (statement_of pool)) }
+    ensures memory { IfErr result (λ refusal. refusal ≡ Refusal.OutOfMemory) }
+{
+    let statement = settled(alloc, pool)?;
     let text = statement_text(alloc, &statement)?;
     match out.extend_from_slice(&text) {
         Ok(()) => Ok(out),

@@ -7,8 +7,10 @@ use mbuf::acts::{Act, Reply};
 use mbuf::freed::Freed;
 use pool_model::statement::{Held, Holder, PlacedPacket, Statement};
 use script::texts::push_reply;
-use script::{replay, run_replay, statement_text};
+use script::{replay, run_replay, run_replay_json, statement_json, statement_text};
 use script_text::parse;
+use serde_json::Value;
+use share_book::ending::settled;
 use share_book::site_pool::SitePool;
 use std::alloc::Global;
 use std::process::Abort;
@@ -19,15 +21,19 @@ mod building;
 mod built;
 mod caches;
 mod desks;
+mod handing;
+mod json;
 mod long;
 mod packets;
 mod pools;
 mod readings;
 mod replies;
+mod settling;
 mod sharing;
 mod shown;
 mod statements;
 mod texts;
+mod threads;
 mod told;
 
 use building::{placed, written};
@@ -99,6 +105,9 @@ struct Places {
 
 /// A name, a statement, and its text.
 type StatementRow = (&'static str, Places, &'static str);
+
+/// A name, a script, the JSON of the statement of its end without its line end, and the population in it.
+type JsonRow = (&'static str, &'static str, &'static str, u64);
 
 /// The limits of a pool line that says no more than one element.
 const DEFAULTS: Limits = Limits {
@@ -190,6 +199,14 @@ fn replay_refusal(alloc: Global, text: &str) -> Option<Refusal> {
     }
 }
 
+/// Why no JSON is printed for a text, if none is.
+fn json_refusal(alloc: Global, text: &str) -> Option<Refusal> {
+    match run_replay_json(alloc, text.as_bytes()) {
+        Ok(_) => None,
+        Err(refusal) => Some(refusal),
+    }
+}
+
 fn refuse_texts<R: Abort + AllocGlobal>(rt: &R, rows: &[TextsRow]) {
     for (name, texts) in rows {
         for (text, refusal) in *texts {
@@ -197,6 +214,8 @@ fn refuse_texts<R: Abort + AllocGlobal>(rt: &R, rows: &[TextsRow]) {
             assert_eq!(rt; parsed, *refusal, "{name}: {text}");
             let printed = replay_refusal(rt.alloc(), text);
             assert_eq!(rt; printed, *refusal, "{name}: {text}");
+            let json = json_refusal(rt.alloc(), text);
+            assert_eq!(rt; json, *refusal, "{name}: {text}");
         }
     }
 }
@@ -236,13 +255,13 @@ fn each_script_is_read_as_its_limits_and_lines(rt: HostRuntime) -> Result<(), Fa
     read_scripts(&rt, readings::ROWS)
 }
 
-/// The text of a pool's statement.
-fn statement_of(alloc: Global, pool: &SitePool) -> Result<String, Fail> {
-    let statement = pool.statement(alloc)?;
+/// The text of a pool's statement, which ends the pool.
+fn statement_of(alloc: Global, pool: SitePool) -> Result<String, Fail> {
+    let statement = settled(alloc, pool)?;
     Ok(String::from_utf8(statement_text(alloc, &statement)?)?)
 }
 
-/// Does what the steps of a row say.
+/// Does what the steps of a row say, but for its statements.
 fn follow<R: Abort + AllocGlobal>(
     rt: &R,
     pool: &mut SitePool,
@@ -267,21 +286,42 @@ fn follow<R: Abort + AllocGlobal>(
                     }
                 }
             }
-            Step::Statement(text) => {
-                let printed = statement_of(rt.alloc(), pool)?;
-                assert_eq!(rt; printed.as_str(), *text, "the row {name}");
-            }
+            Step::Statement(_) => {}
         }
     }
     Ok(())
 }
 
+/// The text of the statement of a new pool after these steps.
+fn statement_after<R: Abort + AllocGlobal>(
+    rt: &R,
+    limits: &Limits,
+    steps: &[Step],
+    name: &str,
+) -> Result<String, Fail> {
+    let mut pool = SitePool::make(rt.alloc(), limits)?;
+    match follow(rt, &mut pool, steps, name) {
+        Ok(()) => statement_of(rt.alloc(), pool),
+        Err(fail) => {
+            pool.lose();
+            Err(fail)
+        }
+    }
+}
+
+/// A statement ends its pool, so for each one of a row its steps so far are done on a new pool.
 fn perform_steps<R: Abort + AllocGlobal>(rt: &R, rows: &[PoolRow]) -> Result<(), Fail> {
     for (name, limits, steps) in rows {
         let mut pool = SitePool::make(rt.alloc(), limits)?;
         let outcome = follow(rt, &mut pool, steps, name);
         pool.lose();
         outcome?;
+        for (at, step) in steps.iter().enumerate() {
+            if let Step::Statement(text) = step {
+                let printed = statement_after(rt, limits, &steps[..at], name)?;
+                assert_eq!(rt; printed.as_str(), *text, "the row {name}");
+            }
+        }
     }
     Ok(())
 }
@@ -339,6 +379,35 @@ fn each_statement_prints_its_text(rt: HostRuntime) -> Result<(), Fail> {
     print_statements(&rt, statements::ROWS)
 }
 
+/// The population that a reader of JSON finds.
+fn population_in(alloc: Global, json: &str) -> Result<Option<u64>, Fail> {
+    let statement = Value::from_str(alloc, json)?;
+    Ok(statement.get("population").and_then(Value::as_u64))
+}
+
+fn print_json<R: Abort + AllocGlobal>(rt: &R, rows: &[JsonRow]) -> Result<(), Fail> {
+    for (name, script, json, population) in rows {
+        let line = format!(in rt.alloc(); "{json}\n")?;
+        let whole = String::from_utf8(run_replay_json(rt.alloc(), script.as_bytes())?)?;
+        assert_eq!(rt; whole.as_str(), line.as_str(), "the row {name}");
+        let (_replies, statement) = played(rt.alloc(), script)?;
+        let end = String::from_utf8(statement_json(rt.alloc(), &statement)?)?;
+        assert_eq!(rt; end.as_str(), line.as_str(), "the end of the row {name}");
+        let found = population_in(rt.alloc(), whole.as_str())?;
+        assert_eq!(rt;
+            found,
+            Some(*population),
+            "the population of the row {name}"
+        );
+    }
+    Ok(())
+}
+
+#[test]
+fn each_script_prints_its_json(rt: HostRuntime) -> Result<(), Fail> {
+    print_json(&rt, json::ROWS)
+}
+
 /// Whether these are the packets of the first run's end.
 fn assert_first_packets(rt: &impl Abort, packets: &[PlacedPacket]) {
     assert_eq!(rt; packets.len(), 1);
@@ -394,6 +463,15 @@ fn a_replay_answers_each_command_and_places_each_element(rt: HostRuntime) -> Res
     assert_eq!(rt; replies.as_slice(), wanted.as_slice());
     assert_first_end(&rt, &statement);
     Ok(())
+}
+
+/// Whichever request for memory is refused, the same JSON is given or none.
+#[test]
+fn refused_memory_changes_no_json(rt: HostRuntime) {
+    match run_replay_json(rt.alloc(), FIRST_RUN.as_bytes()) {
+        Ok(bytes) => assert_eq!(rt; bytes.as_slice(), json::FIRST_RUN_JSON.as_bytes()),
+        Err(refusal) => assert_eq!(rt; refusal, Refusal::OutOfMemory),
+    }
 }
 
 /// Whichever request for memory is refused, the same is printed or nothing.

@@ -20,15 +20,24 @@ use Rattle.script_text.proofs.StepLemmas.{read_skipped, read_as}
 
 -- ---- one line
 
+-- a line that passes the test is short enough, and each of its bytes is a space or printed
 plain_from : (line : List ℕ) → is_plain line ≡ true → IsPlain line
 plain_from line e =
     let h = and_parts (leb (length line) 8192) (list_all is_printed line) e in
-    record { short = leb-true (length line) 8192 h.0; printed = all_from is_printed IsPrinted (λ byte p. within_from 32 126 byte p) line h.1 }
+    record {
+      short = leb-true (length line) 8192 h.0;
+      printed = all_from is_printed IsPrinted (λ byte p. within_from 32 126 byte p) line h.1;
+    }
 
+-- a short line of spaces and printed bytes passes each part of the test
 plain_is : (line : List ℕ) → IsPlain line → is_plain line ≡ true
-plain_is line h = and_from (leb (length line) 8192) (list_all is_printed line) (le-leb (length line) 8192 h.short) (all_to is_printed IsPrinted (λ byte p. within_to 32 126 byte p) line h.printed)
+plain_is line h =
+    and_from (leb (length line) 8192) (list_all is_printed line) (le-leb (length line) 8192 h.short)
+    (all_to is_printed IsPrinted (λ byte p. within_to 32 126 byte p) line h.printed)
 
-pool_takes : (state after : State) (number : ℕ) (line : List ℕ) → state.limits ≡ None → read_pool state (words_of line) ≡ Some after → Takes state number line after
+-- with no limits told yet, what is read is a pool line
+pool_takes : (state after : State) (number : ℕ) (line : List ℕ) → state.limits ≡ None →
+    read_pool state (words_of line) ≡ Some after → Takes state number line after
 pool_takes state after number line none e =
     let l = and_then_some (λ limits. Some (with_limits state limits)) (limits_from (words_of line)) after e in
     gives_pool (record {
@@ -40,11 +49,20 @@ pool_takes state after number line none e =
       after_is = sym (found_is (with_limits state l.0) after l.2);
     })
 
-command_takes : (state after : State) (number : ℕ) (line : List ℕ) (limits : Limits) → state.limits ≡ Some limits → read_command limits.workers state number (words_of line) ≡ Some after → Takes state number line after
+-- behind the pool line what is read is a command line: not one too many, its names made anew
+command_takes : (state after : State) (number : ℕ) (line : List ℕ) (limits : Limits) →
+    state.limits ≡ Some limits →
+    read_command limits.workers state number (words_of line) ≡ Some after →
+    Takes state number line after
 command_takes state after number line limits some e =
-    let few = if_some (ltb (length state.lines) 10000) (option_and_then (add_command state number) (order_from limits.workers (words_of line))) after e in
+    let few =
+    if_some (ltb (length state.lines) 10000)
+    (option_and_then (add_command state number) (order_from limits.workers (words_of line)))
+    after e in
     let c = and_then_some (add_command state number) (order_from limits.workers (words_of line)) after few.1 in
-    let anew = if_none (repeats state.lines c.0.0 (names_made c.0.1)) (Some (with_command state number c.0.0 c.0.1)) after c.2 in
+    let anew =
+    if_none (repeats state.lines c.0.0 (names_made c.0.1))
+    (Some (with_command state number c.0.0 c.0.1)) after c.2 in
     commands (record {
       limits = limits;
       behind_pool = some;
@@ -58,55 +76,93 @@ command_takes state after number line limits some e =
       after_is = sym (found_is (with_command state number c.0.0 c.0.1) after anew.1);
     })
 
-words_take : (limits : Option Limits) (state after : State) (number : ℕ) (line : List ℕ) → state.limits ≡ limits → read_words limits state number (words_of line) ≡ Some after → Takes state number line after
+-- whether limits are told says whether a line is the pool line or a command
+words_take : (limits : Option Limits) (state after : State) (number : ℕ) (line : List ℕ) →
+    state.limits ≡ limits → read_words limits state number (words_of line) ≡ Some after →
+    Takes state number line after
 words_take None state after number line e h = pool_takes state after number line e h
 words_take (Some limits) state after number line e h = command_takes state after number line limits e h
 
-pub reads_from : (state after : State) (number : ℕ) (line : List ℕ) → read_line state number line ≡ Some after → Reads state number line after
+-- a line that is read is plain, and is skipped, or the pool line, or a command
+pub reads_from : (state after : State) (number : ℕ) (line : List ℕ) →
+    read_line state number line ≡ Some after → Reads state number line after
 unfolding read_line
 reads_from state after number line e =
-    let plain = if_some (is_plain line) (cond (is_skipped (words_of line)) (Some state) (read_words state.limits state number (words_of line))) after e in
+    let plain =
+    if_some (is_plain line) (cond (is_skipped (words_of line)) (Some state)
+    (read_words state.limits state number (words_of line))) after e in
     record {
       plain = plain_from line plain.0;
       takes = elim (cases_Bool (is_skipped (words_of line))) [
-        | inl skipped ↦ skips (skipped_from line skipped) (sym (found_is state after (sym (cond-true (is_skipped (words_of line)) (Some state) (read_words state.limits state number (words_of line)) skipped) ∙ plain.1)))
-        | inr counted ↦ words_take state.limits state after number line refl (sym (cond-false (is_skipped (words_of line)) (Some state) (read_words state.limits state number (words_of line)) counted) ∙ plain.1)
+        | inl skipped ↦
+            skips (skipped_from line skipped) (sym (found_is state after (sym
+            (cond-true (is_skipped (words_of line)) (Some state)
+            (read_words state.limits state number (words_of line)) skipped) ∙ plain.1)))
+        | inr counted ↦
+            words_take state.limits state after number line refl (sym (cond-false
+            (is_skipped (words_of line)) (Some state)
+            (read_words state.limits state number (words_of line)) counted) ∙ plain.1)
       ];
     }
 
-pool_is_read : (state after : State) (number : ℕ) (line : List ℕ) → IsPlain line → ReadsPool state line after → read_line state number line ≡ Some after
+-- a pool line of the grammar isn't skipped, and is read as its limits
+pool_is_read : (state after : State) (number : ℕ) (line : List ℕ) → IsPlain line →
+    ReadsPool state line after → read_line state number line ≡ Some after
 pool_is_read state after number line plain h =
     let words : words_of line ≡ h.words = spelled_once h.words line h.spelled in
     let counted : is_skipped (words_of line) ≡ false = ap is_skipped (words ∙ h.is_pool_line.words_are) in
     read_as state number line None (plain_is line plain) counted h.first
-    ∙ ap (option_and_then (λ limits. Some (with_limits state limits))) (ap limits_from words ∙ pool_line_is h.words h.limits h.is_pool_line)
+    ∙ ap (option_and_then (λ limits. Some (with_limits state limits)))
+    (ap limits_from words ∙ pool_line_is h.words h.limits h.is_pool_line)
     ∙ ap (λ (s : State). Some s) (sym h.after_is)
 
 -- a number begins with a digit, and not with `#`
-counted_prefix : (word number : List ℕ) (workers worker : ℕ) (rest : List (List ℕ)) → word ≡ number ++ codes ":" → IsNumber number worker → is_skipped (word ∷ rest) ≡ false
+counted_prefix : (word number : List ℕ) (workers worker : ℕ) (rest : List (List ℕ)) →
+    word ≡ number ++ codes ":" → IsNumber number worker → is_skipped (word ∷ rest) ≡ false
 counted_prefix word [] workers worker rest e h = absurd (omega (arith, h.some))
 counted_prefix word (byte ∷ number) workers worker rest e h =
-    ap (λ (w : List ℕ). is_skipped (w ∷ rest)) e ∙ false_from_ne_true (eqb byte 35) (λ same. let digit = h.digits.0 in omega (arith, digit.0, eqb-true byte 35 same))
+    ap (λ (w : List ℕ). is_skipped (w ∷ rest)) e
+    ∙ false_from_ne_true (eqb byte 35)
+    (λ same. let digit = h.digits.0 in omega (arith, digit.0, eqb-true byte 35 same))
 
-counted_line : (workers : ℕ) (words : List (List ℕ)) (worker : ℕ) (command : Command) → IsCommandLine workers words worker command → is_skipped words ≡ false
+-- neither a verb nor a worker's number begins with `#`, so a command line isn't skipped
+counted_line : (workers : ℕ) (words : List (List ℕ)) (worker : ℕ) (command : Command) →
+    IsCommandLine workers words worker command → is_skipped words ≡ false
 counted_line workers words worker command (alone one h) = counted_command words command h
-counted_line workers words worker command (prefixed word rest e p h) = ap is_skipped e ∙ counted_prefix word p.number workers worker rest p.whole p.is_number
+counted_line workers words worker command (prefixed word rest e p h) =
+    ap is_skipped e ∙ counted_prefix word p.number workers worker rest p.whole p.is_number
 
-command_is_read : (state after : State) (number : ℕ) (line : List ℕ) → IsPlain line → ReadsCommand state number line after → read_line state number line ≡ Some after
+-- a command line of the grammar isn't skipped, and is read as its worker's command
+command_is_read : (state after : State) (number : ℕ) (line : List ℕ) → IsPlain line →
+    ReadsCommand state number line after → read_line state number line ≡ Some after
 command_is_read state after number line plain h =
     let words : words_of line ≡ h.words = spelled_once h.words line h.spelled in
-    let order : order_from h.limits.workers (words_of line) ≡ Some (h.worker, h.command) = ap (order_from h.limits.workers) words ∙ order_is h.limits.workers h.words h.worker h.command h.is_command_line in
-    let counted : is_skipped (words_of line) ≡ false = ap is_skipped words ∙ counted_line h.limits.workers h.words h.worker h.command h.is_command_line in
+    let order : order_from h.limits.workers (words_of line) ≡ Some (h.worker, h.command) =
+    ap (order_from h.limits.workers) words
+    ∙ order_is h.limits.workers h.words h.worker h.command h.is_command_line in
+    let counted : is_skipped (words_of line) ≡ false =
+    ap is_skipped words
+    ∙ counted_line h.limits.workers h.words h.worker h.command h.is_command_line in
     read_as state number line (Some h.limits) (plain_is line plain) counted h.behind_pool
-    ∙ cond-true (ltb (length state.lines) 10000) (option_and_then (add_command state number) (order_from h.limits.workers (words_of line))) None (lt-ltb (length state.lines) 10000 h.few)
+    ∙ cond-true (ltb (length state.lines) 10000)
+    (option_and_then (add_command state number) (order_from h.limits.workers (words_of line)))
+    None (lt-ltb (length state.lines) 10000 h.few)
     ∙ ap (option_and_then (add_command state number)) order
-    ∙ cond-false (repeats state.lines h.worker (names_made h.command)) None (Some (with_command state number h.worker h.command)) (anew_is state.lines h.worker h.command h.anew)
+    ∙ cond-false (repeats state.lines h.worker (names_made h.command)) None
+    (Some (with_command state number h.worker h.command))
+    (anew_is state.lines h.worker h.command h.anew)
     ∙ ap (λ (s : State). Some s) (sym h.after_is)
 
-takes_is_read : (state after : State) (number : ℕ) (line : List ℕ) → IsPlain line → Takes state number line after → read_line state number line ≡ Some after
-takes_is_read state after number line plain (skips skipped after_is) = read_skipped state number line (plain_is line plain) (skipped_is line skipped) ∙ ap (λ (s : State). Some s) (sym after_is)
+-- each of the three things that a line can be is read as that
+takes_is_read : (state after : State) (number : ℕ) (line : List ℕ) → IsPlain line →
+    Takes state number line after → read_line state number line ≡ Some after
+takes_is_read state after number line plain (skips skipped after_is) =
+    read_skipped state number line (plain_is line plain) (skipped_is line skipped)
+    ∙ ap (λ (s : State). Some s) (sym after_is)
 takes_is_read state after number line plain (gives_pool h) = pool_is_read state after number line plain h
 takes_is_read state after number line plain (commands h) = command_is_read state after number line plain h
 
-pub reads_is : (state after : State) (number : ℕ) (line : List ℕ) → Reads state number line after → read_line state number line ≡ Some after
+-- a line's reading in the grammar is the one that the function gives
+pub reads_is : (state after : State) (number : ℕ) (line : List ℕ) → Reads state number line after →
+    read_line state number line ≡ Some after
 reads_is state after number line h = takes_is_read state after number line h.plain h.takes

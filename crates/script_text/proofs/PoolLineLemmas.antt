@@ -18,20 +18,27 @@ use Rattle.script_text.proofs.KeptLemmas.{and_then_some, found_is}
 
 -- ---- a test that chose
 
+-- what came of a test that is needed came where it was met
 pub if_some : {A : Type 0} (b : Bool) (o : Option A) (y : A) → cond b o None ≡ Some y → (b ≡ true) × (o ≡ Some y)
 if_some true o y e = (refl, e)
 if_some false o y e = absurd cc
 
 -- what is found by its spelling is spelled so
-pub spelled_from : {A : Type 0} (spelling : A → List ℕ) (all : List A) (word : List ℕ) (one : A) → find (λ a. bytes_eq word (spelling a)) all ≡ Some one → word ≡ spelling one
+pub spelled_from : {A : Type 0} (spelling : A → List ℕ) (all : List A) (word : List ℕ) (one : A) →
+    find (λ a. bytes_eq word (spelling a)) all ≡ Some one → word ≡ spelling one
 spelled_from spelling [] word one e = absurd cc
 spelled_from spelling (first ∷ others) word one e = elim (cases_Bool (bytes_eq word (spelling first))) [
   | inl same ↦
-      let found : first ≡ one = found_is first one (sym (cond-true (bytes_eq word (spelling first)) (Some first) (find (λ a. bytes_eq word (spelling a)) others) same) ∙ e) in
+      let found : first ≡ one =
+      found_is first one (sym (cond-true (bytes_eq word (spelling first)) (Some first)
+      (find (λ a. bytes_eq word (spelling a)) others) same) ∙ e) in
       (bytes_eq-Decides word (spelling first)).0 same ∙ ap spelling found
-  | inr other ↦ spelled_from spelling others word one (sym (cond-false (bytes_eq word (spelling first)) (Some first) (find (λ a. bytes_eq word (spelling a)) others) other) ∙ e)
+  | inr other ↦
+      spelled_from spelling others word one (sym (cond-false (bytes_eq word (spelling first))
+      (Some first) (find (λ a. bytes_eq word (spelling a)) others) other) ∙ e)
 ]
 
+-- what came of a test that refuses came where it wasn't met
 pub if_none : {A : Type 0} (b : Bool) (o : Option A) (y : A) → cond b None o ≡ Some y → (b ≡ false) × (o ≡ Some y)
 if_none true o y e = absurd cc
 if_none false o y e = (refl, e)
@@ -41,6 +48,7 @@ if_none false o y e = (refl, e)
 key_from : (word : List ℕ) (key : Key) → key_at word ≡ Some key → word ≡ key_word key
 key_from word key e = spelled_from key_word keys word key e
 
+-- each key is found by its own word
 key_at-key_word : (key : Key) → key_at (key_word key) ≡ Some key
 key_at-key_word Cache = refl
 key_at-key_word Workers = refl
@@ -50,13 +58,18 @@ key_at-key_word Refs = refl
 key_at-key_word Tries = refl
 key_at-key_word Start = refl
 
+-- keys with the same word are the same
 same_key-true : (a b : Key) → same_key a b ≡ true → a ≡ b
-same_key-true a b e = found_is a b (sym (key_at-key_word a) ∙ ap key_at ((bytes_eq-Decides (key_word a) (key_word b)).0 e) ∙ key_at-key_word b)
+same_key-true a b e =
+    found_is a b (sym (key_at-key_word a)
+    ∙ ap key_at ((bytes_eq-Decides (key_word a) (key_word b)).0 e) ∙ key_at-key_word b)
 
 same_key-refl : (a : Key) → same_key a a ≡ true
 same_key-refl a = (bytes_eq-Decides (key_word a) (key_word a)).1 refl
 
-with-each : (settings : Settings) (key other : Key) (value : ℕ) → value_of (with_value settings key value) other ≡ value_with settings key value other
+-- the settings have a place for each key, and a new value is written to its own
+with-each : (settings : Settings) (key other : Key) (value : ℕ) →
+    value_of (with_value settings key value) other ≡ value_with settings key value other
 with-each settings key Cache value = refl
 with-each settings key Workers value = refl
 with-each settings key Desks value = refl
@@ -65,14 +78,22 @@ with-each settings key Refs value = refl
 with-each settings key Tries value = refl
 with-each settings key Start value = refl
 
+-- a key that was given a value has it
 with-same : (settings : Settings) (key : Key) (value : ℕ) → value_of (with_value settings key value) key ≡ Some value
-with-same settings key value = with-each settings key key value ∙ cond-true (same_key key key) (Some value) (value_of settings key) (same_key-refl key)
+with-same settings key value =
+    with-each settings key key value
+    ∙ cond-true (same_key key key) (Some value) (value_of settings key) (same_key-refl key)
 
-with-other : (settings : Settings) (key other : Key) (value : ℕ) → same_key other key ≡ false → value_of (with_value settings key value) other ≡ value_of settings other
-with-other settings key other value e = with-each settings key other value ∙ cond-false (same_key other key) (Some value) (value_of settings other) e
+-- a key keeps its value where another was given one
+with-other : (settings : Settings) (key other : Key) (value : ℕ) → same_key other key ≡ false →
+    value_of (with_value settings key value) other ≡ value_of settings other
+with-other settings key other value e =
+    with-each settings key other value
+    ∙ cond-false (same_key other key) (Some value) (value_of settings other) e
 
 -- ---- pairs
 
+-- the first of two values that is there
 abbrev or_else : Option ℕ → Option ℕ → Option ℕ
 or_else None other = other
 or_else (Some value) other = Some value
@@ -83,29 +104,48 @@ AreFree settings pairs = (key : Key) (value : ℕ) → first_number key pairs �
 
 -- the later settings are the earlier ones with the pairs
 abbrev AreWith : Settings → List (Key × ℕ) → Settings → Type 0
-AreWith settings pairs later = (key : Key) → value_of later key ≡ or_else (first_number key pairs) (value_of settings key)
+AreWith settings pairs later =
+    (key : Key) → value_of later key ≡ or_else (first_number key pairs) (value_of settings key)
 
-first_number-same : (key : Key) (value : ℕ) (pairs : List (Key × ℕ)) → first_number key ((key, value) ∷ pairs) ≡ Some value
-first_number-same key value pairs = cond-true (same_key key key) (Some value) (first_number key pairs) (same_key-refl key)
+-- the first pair's key has that pair's number
+first_number-same : (key : Key) (value : ℕ) (pairs : List (Key × ℕ)) →
+    first_number key ((key, value) ∷ pairs) ≡ Some value
+first_number-same key value pairs =
+    cond-true (same_key key key) (Some value) (first_number key pairs) (same_key-refl key)
 
-first_number-other : (other key : Key) (value : ℕ) (pairs : List (Key × ℕ)) → same_key other key ≡ false → first_number other ((key, value) ∷ pairs) ≡ first_number other pairs
+-- another key has the number that the other pairs give it
+first_number-other : (other key : Key) (value : ℕ) (pairs : List (Key × ℕ)) →
+    same_key other key ≡ false →
+    first_number other ((key, value) ∷ pairs) ≡ first_number other pairs
 first_number-other other key value pairs e = cond-false (same_key other key) (Some value) (first_number other pairs) e
 
-AreWith-more : (settings : Settings) (key : Key) (value : ℕ) (pairs : List (Key × ℕ)) (later : Settings) → first_number key pairs ≡ None → AreWith (with_value settings key value) pairs later → AreWith settings ((key, value) ∷ pairs) later
+-- a first pair gives its key a value, and the others give no second one to it
+AreWith-more : (settings : Settings) (key : Key) (value : ℕ) (pairs : List (Key × ℕ))
+    (later : Settings) → first_number key pairs ≡ None →
+    AreWith (with_value settings key value) pairs later →
+    AreWith settings ((key, value) ∷ pairs) later
 AreWith-more settings key value pairs later none h other =
     elim (cases_Bool (same_key other key)) [
       | inl e ↦
           let same : key ≡ other = sym (same_key-true other key e) in
-          subst (λ (k : Key). value_of later k ≡ or_else (first_number k ((key, value) ∷ pairs)) (value_of settings k)) same
-          (h key ∙ ap (λ (o : Option ℕ). or_else o (value_of (with_value settings key value) key)) none ∙ with-same settings key value ∙ sym (ap (λ (o : Option ℕ). or_else o (value_of settings key)) (first_number-same key value pairs)))
+          subst (λ (k : Key). value_of later k
+          ≡ or_else (first_number k ((key, value) ∷ pairs)) (value_of settings k)) same
+          (h key ∙ ap (λ (o : Option ℕ). or_else o (value_of (with_value settings key value) key))
+          none ∙ with-same settings key value
+          ∙ sym (ap (λ (o : Option ℕ). or_else o (value_of settings key))
+          (first_number-same key value pairs)))
       | inr e ↦
-          h other ∙ ap (or_else (first_number other pairs)) (with-other settings key other value e) ∙ sym (ap (λ (o : Option ℕ). or_else o (value_of settings other)) (first_number-other other key value pairs e))
+          h other ∙ ap (or_else (first_number other pairs)) (with-other settings key other value e)
+          ∙ sym (ap (λ (o : Option ℕ). or_else o (value_of settings other))
+          (first_number-other other key value pairs e))
     ]
 
+-- where nothing can be there, there is nothing
 none_or : {A : Type 0} (o : Option A) → ((x : A) → o ≡ Some x → ⊥) → o ≡ None
 none_or None h = refl
 none_or (Some x) h = absurd (h x refl)
 
+-- where nothing is found to be there, there is nothing
 not_some : {A : Type 0} (o : Option A) → is_some o ≡ false → o ≡ None
 not_some None e = refl
 not_some (Some x) e = absurd (false≢true (sym e))
@@ -119,16 +159,24 @@ record ComeFrom (settings : Settings) (words : List (List ℕ)) (later : Setting
   are_with : AreWith settings pairs later
 
 -- a key that is new, before settings that come from the words behind it
-settings_with : (settings later : Settings) (key : Key) (value : ℕ) (word number : List ℕ) (words : List (List ℕ)) → word ≡ key_word key → IsNumber number value → value_of settings key ≡ None → ComeFrom (with_value settings key value) words later → ComeFrom settings (word ∷ number ∷ words) later
+settings_with : (settings later : Settings) (key : Key) (value : ℕ) (word number : List ℕ)
+    (words : List (List ℕ)) → word ≡ key_word key → IsNumber number value →
+    value_of settings key ≡ None → ComeFrom (with_value settings key value) words later →
+    ComeFrom settings (word ∷ number ∷ words) later
 settings_with settings later key value word number words spells_key is_number before rest =
-    let none : first_number key rest.pairs ≡ None = none_or (first_number key rest.pairs) (λ v f. let clash = sym (with-same settings key value) ∙ rest.free key v f in absurd cc) in
+    let none : first_number key rest.pairs ≡ None =
+    none_or (first_number key rest.pairs)
+    (λ v f. let clash = sym (with-same settings key value) ∙ rest.free key v f in absurd cc)
+    in
     record {
       pairs = (key, value) ∷ rest.pairs;
       are_pairs = (number, words, ap (λ (w : List ℕ). w ∷ number ∷ words) spells_key, is_number, rest.are_pairs);
       once = (none, rest.once);
       free = λ other v f. elim (cases_Bool (same_key other key)) [
         | inl s ↦ ap (value_of settings) (same_key-true other key s) ∙ before
-        | inr s ↦ sym (with-other settings key other value s) ∙ rest.free other v (sym (first_number-other other key value rest.pairs s) ∙ f)
+        | inr s ↦
+            sym (with-other settings key other value s)
+            ∙ rest.free other v (sym (first_number-other other key value rest.pairs s) ∙ f)
       ];
       are_with = AreWith-more settings key value rest.pairs later none rest.are_with;
     }
@@ -142,9 +190,14 @@ record IsPair (settings next : Settings) (word number : List ℕ) : Type 0 where
   before : value_of settings key ≡ None
   next_is : with_value settings key value ≡ next
 
-pair_comes : (settings next : Settings) (word number : List ℕ) → add_pair settings word number ≡ Some next → IsPair settings next word number
+-- a pair that is read is a key, which had no value, and a number
+pair_comes : (settings next : Settings) (word number : List ℕ) →
+    add_pair settings word number ≡ Some next → IsPair settings next word number
 pair_comes settings next word number e =
-    let k = and_then_some (λ key. option_and_then (λ value. add_value settings key value) (number_at number)) (key_at word) next e in
+    let k =
+    and_then_some
+    (λ key. option_and_then (λ value. add_value settings key value) (number_at number))
+    (key_at word) next e in
     let v = and_then_some (λ value. add_value settings k.0 value) (number_at number) next k.2 in
     let added = if_none (is_some (value_of settings k.0)) (Some (with_value settings k.0 v.0)) next v.2 in
     record {
@@ -156,45 +209,64 @@ pair_comes settings next word number e =
       next_is = found_is (with_value settings k.0 v.0) next added.1;
     }
 
-settings_come : (words : List (List ℕ)) (settings later : Settings) → settings_from settings words ≡ Some later → ComeFrom settings words later
+-- settings that are read come from pairs, each key once, and none had a value before
+settings_come : (words : List (List ℕ)) (settings later : Settings) →
+    settings_from settings words ≡ Some later → ComeFrom settings words later
 settings_come [] settings later e = record {
   pairs = [];
   are_pairs = refl;
   once = tt;
   free = λ key value f. absurd cc;
-  are_with = λ key. ap (λ (s : Settings). value_of s key) (sym (found_is settings later (sym (no_settings settings) ∙ e)));
+  are_with =
+      λ key.
+      ap (λ (s : Settings). value_of s key)
+      (sym (found_is settings later (sym (no_settings settings) ∙ e)));
 }
 settings_come (word ∷ []) settings later e = let none = sym (no_number settings word) ∙ e in absurd cc
 settings_come (word ∷ number ∷ words) settings later e =
-    let a = and_then_some (λ more. settings_from more words) (add_pair settings word number) later (sym (one_pair settings word number words) ∙ e) in
+    let a =
+    and_then_some (λ more. settings_from more words) (add_pair settings word number) later
+    (sym (one_pair settings word number words) ∙ e) in
     let p = pair_comes settings a.0 word number a.1 in
     settings_with settings later p.key p.value word number words p.spells_key p.is_number p.before
-    (settings_come words (with_value settings p.key p.value) later (ap (λ (s : Settings). settings_from s words) p.next_is ∙ a.2))
+    (settings_come words (with_value settings p.key p.value) later
+    (ap (λ (s : Settings). settings_from s words) p.next_is ∙ a.2))
 
-settings_go : (pairs : List (Key × ℕ)) (words : List (List ℕ)) (settings : Settings) → ArePairs words pairs → AreOnce pairs → AreFree settings pairs → (later : Settings) × (settings_from settings words ≡ Some later) × AreWith settings pairs later
-settings_go [] words settings p once free = (settings, ap (settings_from settings) p ∙ no_settings settings, λ key. refl)
+-- pairs with each key once, none of which has a value before, are read as settings
+settings_go : (pairs : List (Key × ℕ)) (words : List (List ℕ)) (settings : Settings) →
+    ArePairs words pairs → AreOnce pairs → AreFree settings pairs →
+    (later : Settings) × (settings_from settings words ≡ Some later) × AreWith settings pairs later
+settings_go [] words settings p once free =
+    (settings, ap (settings_from settings) p ∙ no_settings settings, λ key. refl)
 settings_go ((key, value) ∷ pairs) words settings p once free =
     let number = p.0 in
     let rest = p.1 in
     let next = with_value settings key value in
     let before : value_of settings key ≡ None = free key value (first_number-same key value pairs) in
-    let added : add_value settings key value ≡ Some next = cond-false (is_some (value_of settings key)) None (Some next) (ap is_some before) in
+    let added : add_value settings key value ≡ Some next =
+    cond-false (is_some (value_of settings key)) None (Some next) (ap is_some before) in
     let free_next : AreFree next pairs = λ other v f. elim (cases_Bool (same_key other key)) [
-      | inl s ↦ let clash = sym once.0 ∙ ap (λ (k : Key). first_number k pairs) (sym (same_key-true other key s)) ∙ f in absurd cc
+      | inl s ↦ let clash =
+          sym once.0 ∙ ap (λ (k : Key). first_number k pairs) (sym (same_key-true other key s))
+          ∙ f in absurd cc
       | inr s ↦ with-other settings key other value s ∙ free other v (first_number-other other key value pairs s ∙ f)
     ] in
     let more = settings_go pairs rest next p.4 once.1 free_next in (
       more.0,
-      ap (settings_from settings) p.2 ∙ with_pair settings (key_word key) number rest key (Some value) (key_at-key_word key) (number_is number value p.3) ∙ ap (option_and_then (λ s. settings_from s rest)) added ∙ more.1,
+      ap (settings_from settings) p.2 ∙ with_pair settings (key_word key) number rest key
+          (Some value) (key_at-key_word key) (number_is number value p.3)
+          ∙ ap (option_and_then (λ s. settings_from s rest)) added ∙ more.1,
       AreWith-more settings key value pairs more.0 once.0 more.2,
     )
 
 -- ---- the limits
 
+-- a value or nothing is that value
 or_none : (o : Option ℕ) → or_else o None ≡ o
 or_none None = refl
 or_none (Some x) = refl
 
+-- at the beginning no key has a value
 none_value : (key : Key) → value_of none_given key ≡ None
 none_value Cache = refl
 none_value Workers = refl
@@ -204,7 +276,9 @@ none_value Refs = refl
 none_value Tries = refl
 none_value Start = refl
 
-limits_same : (population : ℕ) (pairs : List (Key × ℕ)) (settings : Settings) → AreWith none_given pairs settings → limits_by population settings ≡ limits_with population pairs
+-- each limit is the number that the pairs give its key, or its default
+limits_same : (population : ℕ) (pairs : List (Key × ℕ)) (settings : Settings) →
+    AreWith none_given pairs settings → limits_by population settings ≡ limits_with population pairs
 limits_same population pairs settings h =
     let cache : settings.cache ≡ first_number Cache pairs = h Cache ∙ or_none (first_number Cache pairs) in
     let workers : settings.workers ≡ first_number Workers pairs = h Workers ∙ or_none (first_number Workers pairs) in
@@ -215,10 +289,15 @@ limits_same population pairs settings h =
     let start : settings.start ≡ first_number Start pairs = h Start ∙ or_none (first_number Start pairs) in
     rw (cache, workers, desks, buf, refs, tries, start) refl
 
-pool_from_words : (word : List ℕ) (words : List (List ℕ)) (limits : Limits) → word ≡ codes "pool" → pool_with words ≡ Some limits → IsPoolLine (word ∷ words) limits
+-- behind `pool` stand a number and then pairs, of which the limits are made
+pool_from_words : (word : List ℕ) (words : List (List ℕ)) (limits : Limits) → word ≡ codes "pool" →
+    pool_with words ≡ Some limits → IsPoolLine (word ∷ words) limits
 pool_from_words word [] limits e f = absurd cc
 pool_from_words word (number ∷ words) limits e f =
-    let a = and_then_some (λ population. option_and_then (λ settings. Some (limits_by population settings)) (settings_from none_given words)) (number_at number) limits f in
+    let a =
+    and_then_some (λ population.
+    option_and_then (λ settings. Some (limits_by population settings))
+    (settings_from none_given words)) (number_at number) limits f in
     let b = and_then_some (λ settings. Some (limits_by a.0 settings)) (settings_from none_given words) limits a.2 in
     let c = settings_come words none_given b.0 b.1 in
     record {
@@ -233,16 +312,21 @@ pool_from_words word (number ∷ words) limits e f =
       limits_are = sym (found_is (limits_by a.0 b.0) limits b.2) ∙ limits_same a.0 c.pairs b.0 c.are_with;
     }
 
-pub pool_line_from : (words : List (List ℕ)) (limits : Limits) → limits_from words ≡ Some limits → IsPoolLine words limits
+-- words that are read as a pool line begin with `pool`
+pub pool_line_from : (words : List (List ℕ)) (limits : Limits) → limits_from words ≡ Some limits →
+    IsPoolLine words limits
 pool_line_from [] limits e = absurd cc
 pool_line_from (word ∷ words) limits e =
     let a = if_some (bytes_eq word (codes "pool")) (pool_with words) limits e in
     pool_from_words word words limits ((bytes_eq-Decides word (codes "pool")).0 a.0) a.1
 
+-- a pool line of the grammar is read as its limits
 pub pool_line_is : (words : List (List ℕ)) (limits : Limits) → IsPoolLine words limits → limits_from words ≡ Some limits
 pool_line_is words limits h =
     let s = settings_go h.pairs h.rest none_given h.pairs_are h.once (λ key value f. none_value key) in
     ap limits_from h.words_are
-    ∙ ap (option_and_then (λ population. option_and_then (λ settings. Some (limits_by population settings)) (settings_from none_given h.rest))) (number_is h.number h.population h.population_is)
+    ∙ ap (option_and_then (λ population.
+    option_and_then (λ settings. Some (limits_by population settings))
+    (settings_from none_given h.rest))) (number_is h.number h.population h.population_is)
     ∙ ap (option_and_then (λ settings. Some (limits_by h.population settings))) s.1
     ∙ ap (λ (l : Limits). Some l) (limits_same h.population h.pairs s.0 s.2 ∙ sym h.limits_are)

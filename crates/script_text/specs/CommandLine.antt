@@ -39,7 +39,8 @@ abbrev pub AreVerbAndNames : List (List ℕ) → List ℕ → List ℕ → List 
 AreVerbAndNames words verb first second = (words ≡ verb ∷ first ∷ second ∷ []) × IsName first × IsName second
 
 -- the words are these, with a word for the number among them; the name is one, and the number, of bytes or of a desk, is at most 65535
-pub record AreWithNumber (words : List (List ℕ)) (around : List ℕ → List (List ℕ)) (name : List ℕ) (n : ℕ) : Type 0 where
+pub record AreWithNumber (words : List (List ℕ)) (around : List ℕ → List (List ℕ)) (name : List ℕ)
+    (n : ℕ) : Type 0 where
   pub number : List ℕ
   pub words_are : words ≡ around number
   pub is_name : IsName name
@@ -51,13 +52,15 @@ abbrev pub IsCommand : List (List ℕ) → Command → Type 0
 IsCommand words (Alloc name) = AreVerbAndName words (codes "alloc") name
 IsCommand words (Bulk names) = (words ≡ codes "bulk" ∷ names) × AreNames names
 IsCommand words (Free name) = AreVerbAndName words (codes "free") name
-IsCommand words (Resize name change) = AreWithNumber words (λ number. change_word change ∷ name ∷ number ∷ []) name (bytes_of change)
+IsCommand words (Resize name change) =
+    AreWithNumber words (λ number. change_word change ∷ name ∷ number ∷ []) name (bytes_of change)
 IsCommand words (Chain head tail) = AreVerbAndNames words (codes "chain") head tail
 IsCommand words (Attach first second) = AreVerbAndNames words (codes "attach") first second
 IsCommand words (Detach packet) = AreVerbAndName words (codes "detach") packet
 IsCommand words (Clone packet made) = AreVerbAndNames words (codes "clone") packet made
 IsCommand words (Count packet) = AreVerbAndName words (codes "count") packet
-IsCommand words (Offer packet desk) = AreWithNumber words (λ number. codes "offer" ∷ packet ∷ number ∷ []) packet desk
+IsCommand words (Offer packet desk) =
+    AreWithNumber words (λ number. codes "offer" ∷ packet ∷ number ∷ []) packet desk
 IsCommand words (Take desk made) = AreWithNumber words (λ number. codes "take" ∷ number ∷ made ∷ []) made desk
 IsCommand words Flush = words ≡ codes "flush" ∷ []
 
@@ -74,7 +77,9 @@ pub data IsCommandLine (workers : ℕ) (words : List (List ℕ)) (worker : ℕ) 
   -- a line that names no worker is of the first
   alone : worker ≡ 1 → IsCommand words command → IsCommandLine workers words worker command
   -- and one that does is of the worker that stands in front of the command
-  prefixed : (word : List ℕ) → (rest : List (List ℕ)) → words ≡ word ∷ rest → IsPrefix word workers worker → IsCommand rest command → IsCommandLine workers words worker command
+  prefixed : (word : List ℕ) → (rest : List (List ℕ)) → words ≡ word ∷ rest →
+      IsPrefix word workers worker → IsCommand rest command →
+      IsCommandLine workers words worker command
 
 -- the name is one of these
 abbrev pub IsOneOf : List (List ℕ) → List ℕ → Type 0
@@ -89,7 +94,8 @@ AreApart (name ∷ names) = (IsOneOf names name → ⊥) × AreApart names
 -- one of the lines makes the worker's name
 abbrev pub IsMade : List Line → ℕ → List ℕ → Type 0
 IsMade [] worker name = ⊥
-IsMade (line ∷ lines) worker name = ((line.worker ≡ worker) × IsOneOf (names_made line.command) name) ⊎ IsMade lines worker name
+IsMade (line ∷ lines) worker name =
+    ((line.worker ≡ worker) × IsOneOf (names_made line.command) name) ⊎ IsMade lines worker name
 
 -- no line has made before what the worker's command makes, and it makes each of its names once
 pub record MakesAnew (lines : List Line) (worker : ℕ) (command : Command) : Type 0 where

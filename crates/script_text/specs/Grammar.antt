@@ -81,7 +81,8 @@ pub record IsScript (bytes : List ℕ) (limits : Limits) (lines : List Line) : T
   pub read : AreRead start 1 texts (record { limits = Some limits; lines = lines })
 
 -- the lines before the one with this number are read, and then these lines and this rest are left
-pub record Reaches (bytes : List ℕ) (state : State) (number : ℕ) (left : List (List ℕ)) (rest : List ℕ) : Type 0 where
+pub record Reaches (bytes : List ℕ) (state : State) (number : ℕ) (left : List (List ℕ))
+    (rest : List ℕ) : Type 0 where
   pub before : List (List ℕ)
   pub are_lines : AreLines bytes (before ++ left) rest
   pub read : AreRead start 1 before state

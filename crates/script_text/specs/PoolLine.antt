@@ -25,7 +25,8 @@ same_key key other = bytes_eq (key_word key) (key_word other)
 abbrev pub ArePairs : List (List ℕ) → List (Key × ℕ) → Type 0
 ArePairs words [] = words ≡ []
 ArePairs words (pair ∷ pairs) =
-    (number : List ℕ) × (rest : List (List ℕ)) × (words ≡ key_word pair.0 ∷ number ∷ rest) × IsNumber number pair.1 × ArePairs rest pairs
+    (number : List ℕ) × (rest : List (List ℕ)) × (words ≡ key_word pair.0 ∷ number ∷ rest)
+    × IsNumber number pair.1 × ArePairs rest pairs
 
 -- the first number that stands with a key
 abbrev pub first_number : Key → List (Key × ℕ) → Option ℕ

@@ -54,4 +54,5 @@ Spells line (word ∷ words) = (rest : List ℕ) × BeginsWith line word rest ×
 
 -- spaces alone, or a `#` behind spaces
 abbrev pub IsSkipped : List ℕ → Type 0
-IsSkipped line = AreSpaces line ⊎ ((gap : List ℕ) × (rest : List ℕ) × AreSpaces gap × (line ≡ gap ++ 35 ∷ rest))
+IsSkipped line =
+    AreSpaces line ⊎ ((gap : List ℕ) × (rest : List ℕ) × AreSpaces gap × (line ≡ gap ++ 35 ∷ rest))

@@ -34,7 +34,9 @@ has_made made worker name = contains same_made made.keys (worker, padded_to 16 n
 
 -- the names are those that the lines make
 abbrev pub AreMade : MadeNames → List Line → Type 0
-AreMade made lines = (worker : ℕ) (name : List ℕ) → IsName name → has_made made worker name ≡ is_made lines worker name
+AreMade made lines =
+    (worker : ℕ) (name : List ℕ) → IsName name →
+    has_made made worker name ≡ is_made lines worker name
 
 -- ---- a reader
 

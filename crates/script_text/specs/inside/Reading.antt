@@ -38,7 +38,8 @@ with_byte byte (line ∷ lines) rest = record { lines = (byte ∷ line) ∷ line
 unfoldable pub parts : List ℕ → Parts
 parts [] = record { lines = []; rest = [] }
 parts (byte ∷ bytes) =
-    if byte == 10 then record { lines = [] ∷ (parts bytes).lines; rest = (parts bytes).rest } else with_byte byte (parts bytes).lines (parts bytes).rest
+    if byte == 10 then record { lines = [] ∷ (parts bytes).lines; rest = (parts bytes).rest }
+    else with_byte byte (parts bytes).lines (parts bytes).rest
 
 -- whether a byte is a space or a character that is printed
 abbrev pub is_printed : ℕ → Bool
@@ -84,7 +85,8 @@ is_digit byte = nat_le 48 byte && nat_le byte 57
 -- whether a word is 1 to 20 digits with a value below 2^64
 abbrev pub is_number : List ℕ → Bool
 is_number word =
-    nat_le 1 (length word) && nat_le (length word) 20 && list_all is_digit word && nat_lt (digits_value word) (2 ^ 64)
+    nat_le 1 (length word) && nat_le (length word) 20 && list_all is_digit word
+    && nat_lt (digits_value word) (2 ^ 64)
 
 -- the number that a word spells
 unfoldable pub number_at : List ℕ → Option ℕ
@@ -102,7 +104,8 @@ begins_with_letter (byte ∷ bytes) = is_letter byte
 -- whether a word is 1 to 16 letters and digits, and begins with a letter
 unfoldable pub is_name_word : List ℕ → Bool
 is_name_word word =
-    begins_with_letter word && nat_le (length word) 16 && list_all (λ byte. is_letter byte || is_digit byte) word
+    begins_with_letter word && nat_le (length word) 16
+    && list_all (λ byte. is_letter byte || is_digit byte) word
 
 -- ---- the pool line
 
@@ -142,16 +145,26 @@ with_value settings key value = record {
 
 -- no key was given a value
 abbrev pub none_given : Settings
-none_given = record { cache = None; workers = None; desks = None; buf = None; refs = None; tries = None; start = None }
+none_given = record {
+  cache = None;
+  workers = None;
+  desks = None;
+  buf = None;
+  refs = None;
+  tries = None;
+  start = None;
+}
 
 -- a new value of a key
 abbrev pub add_value : Settings → Key → ℕ → Option Settings
-add_value settings key value = if is_some (value_of settings key) then None else Some (with_value settings key value)
+add_value settings key value =
+    if is_some (value_of settings key) then None else Some (with_value settings key value)
 
 -- the settings once a key's word and its number's are read
 abbrev pub add_pair : Settings → List ℕ → List ℕ → Option Settings
 add_pair settings key number =
-    option_and_then (λ k. option_and_then (λ value. add_value settings k value) (number_at number)) (key_at key)
+    option_and_then (λ k. option_and_then (λ value. add_value settings k value) (number_at number))
+    (key_at key)
 
 -- the settings once all words are read, a pair after a pair
 unfoldable pub settings_from : Settings → List (List ℕ) → Option Settings
@@ -177,7 +190,9 @@ limits_by population settings = record {
 abbrev pub pool_with : List (List ℕ) → Option Limits
 pool_with [] = None
 pool_with (number ∷ words) =
-    option_and_then (λ population. option_and_then (λ settings. Some (limits_by population settings)) (settings_from none_given words)) (number_at number)
+    option_and_then (λ population.
+    option_and_then (λ settings. Some (limits_by population settings))
+    (settings_from none_given words)) (number_at number)
 
 -- the limits that the words of a pool line give
 abbrev pub limits_from : List (List ℕ) → Option Limits
@@ -187,8 +202,10 @@ limits_from (word ∷ words) = if bytes_eq word (codes "pool") then pool_with wo
 -- of each two numbers the first is at most the second in the limits of a pool
 abbrev pub pool_bounds : Limits → List (ℕ × ℕ)
 pool_bounds l =
-    (1, l.population) ∷ (l.population, max_population) ∷ (l.cache, max_cache) ∷ (l.cache * 3 / 2, l.population) ∷ (1, l.workers) ∷ (l.workers, max_workers)
-    ∷ (l.desks, max_desks) ∷ (l.buf, max_buf) ∷ (1, l.ref_limit) ∷ (l.ref_limit, max_refs) ∷ (1, l.tries) ∷ (l.tries, max_tries) ∷ (l.start_count, spent) ∷ []
+    (1, l.population) ∷ (l.population, max_population) ∷ (l.cache, max_cache)
+    ∷ (l.cache * 3 / 2, l.population) ∷ (1, l.workers) ∷ (l.workers, max_workers)
+    ∷ (l.desks, max_desks) ∷ (l.buf, max_buf) ∷ (1, l.ref_limit) ∷ (l.ref_limit, max_refs)
+    ∷ (1, l.tries) ∷ (l.tries, max_tries) ∷ (l.start_count, spent) ∷ []
 
 -- whether a pool can be made within the limits
 abbrev pub is_pool : Limits → Bool
@@ -216,7 +233,10 @@ verb_word verbs.Flush = codes "flush"
 
 -- all verbs
 abbrev pub all_verbs : List Verb
-all_verbs = verbs.Alloc ∷ verbs.Bulk ∷ verbs.Free ∷ verbs.Append ∷ verbs.Prepend ∷ verbs.Adj ∷ verbs.Trim ∷ verbs.Chain ∷ verbs.Attach ∷ verbs.Detach ∷ verbs.Clone ∷ verbs.Count ∷ verbs.Offer ∷ verbs.Take ∷ verbs.Flush ∷ []
+all_verbs =
+    verbs.Alloc ∷ verbs.Bulk ∷ verbs.Free ∷ verbs.Append ∷ verbs.Prepend ∷ verbs.Adj ∷ verbs.Trim
+    ∷ verbs.Chain ∷ verbs.Attach ∷ verbs.Detach ∷ verbs.Clone ∷ verbs.Count ∷ verbs.Offer
+    ∷ verbs.Take ∷ verbs.Flush ∷ []
 
 -- the verb that a word spells
 abbrev pub verb_at : List ℕ → Option Verb
@@ -269,7 +289,10 @@ number_and_name words = option_and_then (λ both. numbered_name both.1 both.0) (
 -- two names
 abbrev pub both_names : List (List ℕ) → Option (List ℕ × List ℕ)
 both_names words =
-    option_and_then (λ both. option_and_then (λ first. option_and_then (λ second. Some (first, second)) (name_at both.1)) (name_at both.0)) (both_of words)
+    option_and_then (λ both.
+    option_and_then
+    (λ first. option_and_then (λ second. Some (first, second)) (name_at both.1))
+    (name_at both.0)) (both_of words)
 
 -- the command of a verb and a name
 abbrev pub name_with : (List ℕ → Command) → List (List ℕ) → Option Command
@@ -317,7 +340,9 @@ command_from (word ∷ words) = option_and_then (λ verb. command_with verb word
 
 -- the part of a word before a colon at its end
 abbrev pub before_colon : List ℕ → Option (List ℕ)
-before_colon word = if bytes_eq (drop (length word - 1) word) (codes ":") then Some (take (length word - 1) word) else None
+before_colon word =
+    if bytes_eq (drop (length word - 1) word) (codes ":") then Some (take (length word - 1) word)
+    else None
 
 -- the worker of this number, if there are so many
 abbrev pub of_workers : ℕ → ℕ → Option ℕ
@@ -334,7 +359,8 @@ order_of worker words = option_and_then (λ command. Some (worker, command)) (co
 -- the same, where the line's words are these, with or without a worker's number in front
 abbrev pub order_by : ℕ → Option (List ℕ) → List (List ℕ) → List (List ℕ) → Option (ℕ × Command)
 order_by workers None all behind = order_of 1 all
-order_by workers (Some number) all behind = option_and_then (λ worker. order_of worker behind) (worker_at workers number)
+order_by workers (Some number) all behind =
+    option_and_then (λ worker. order_of worker behind) (worker_at workers number)
 
 -- the worker and the command that the words of a line are, in a pool of so many workers
 abbrev pub order_from : ℕ → List (List ℕ) → Option (ℕ × Command)
@@ -349,7 +375,8 @@ is_one_of (first ∷ names) name = bytes_eq name first || is_one_of names name
 -- whether one of the lines makes the worker's name
 abbrev pub is_made : List Line → ℕ → List ℕ → Bool
 is_made [] worker name = false
-is_made (line ∷ lines) worker name = (worker == line.worker && is_one_of (names_made line.command) name) || is_made lines worker name
+is_made (line ∷ lines) worker name =
+    (worker == line.worker && is_one_of (names_made line.command) name) || is_made lines worker name
 
 -- the lines with one more, of no number, that makes the worker's name
 abbrev pub with_name : List Line → ℕ → List ℕ → List Line
@@ -358,7 +385,8 @@ with_name lines worker name = record { number = 0; worker = worker; command = Al
 -- whether one of the names was made before, by one of the lines or by a name in front of it
 abbrev pub repeats : List Line → ℕ → List (List ℕ) → Bool
 repeats lines worker [] = false
-repeats lines worker (name ∷ names) = is_made lines worker name || repeats (with_name lines worker name) worker names
+repeats lines worker (name ∷ names) =
+    is_made lines worker name || repeats (with_name lines worker name) worker names
 
 -- ---- a line, and lines one after another
 
@@ -368,12 +396,15 @@ with_limits state limits = record { limits = Some limits; lines = state.lines }
 
 -- what is told after the worker's command on the line with this number, if it makes no name that was made before
 abbrev pub add_command : State → ℕ → ℕ × Command → Option State
-add_command state number order = if repeats state.lines order.0 (names_made order.1) then None else Some (with_command state number order.0 order.1)
+add_command state number order =
+    if repeats state.lines order.0 (names_made order.1) then None
+    else Some (with_command state number order.0 order.1)
 
 -- what is told after these words, where the limits are told and have so many workers
 abbrev pub read_command : ℕ → State → ℕ → List (List ℕ) → Option State
 read_command workers state number words =
-    if nat_lt (length state.lines) 10000 then option_and_then (add_command state number) (order_from workers words) else None
+    if nat_lt (length state.lines) 10000
+    then option_and_then (add_command state number) (order_from workers words) else None
 
 -- what is told after these words, where no limits are told
 abbrev pub read_pool : State → List (List ℕ) → Option State
@@ -387,7 +418,8 @@ read_words (Some limits) state number words = read_command limits.workers state 
 -- what is told after a line, if it has a reading
 unfoldable pub read_line : State → ℕ → List ℕ → Option State
 read_line state number line =
-    if is_plain line then (if is_skipped (words_of line) then Some state else read_words state.limits state number (words_of line)) else None
+    if is_plain line then (if is_skipped (words_of line) then Some state
+    else read_words state.limits state number (words_of line)) else None
 
 -- whether a pool can be made within the limits, if they are told
 abbrev pub are_ready : Option Limits → Bool

@@ -6,6 +6,7 @@ use Rattle.script.specs.Replay.{new_run}
 use Rattle.script.proofs.CommandsKeep.{end_is_reached}
 use Rattle.script.proofs.laws.each_element_is_listed_once.Goals as goal
 
+-- the acts of the lines, one after another on a new pool, lead to the same pool
 pub returns : goal.returns
 returns c = λ l lines range.
     let reached = end_is_reached lines (new_run l) in

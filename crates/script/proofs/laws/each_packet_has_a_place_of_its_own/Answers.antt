@@ -6,6 +6,7 @@ use Rattle.script.specs.Replay.{new_run}
 use Rattle.script.proofs.CommandsKeep.{end_is_reached}
 use Rattle.script.proofs.laws.each_packet_has_a_place_of_its_own.Goals as goal
 
+-- the acts of the lines lead to the same pool, whose workers and desks are those of the limits
 pub returns : goal.returns
 returns c = λ l lines.
     let reached = end_is_reached lines (new_run l) in

@@ -7,6 +7,7 @@ use Rattle.script.specs.inside.Stands.{stands_in}
 use Rattle.script.proofs.NameLemmas.{all_named-end}
 use Rattle.script.proofs.playing.name_all.Goals as goal
 
+-- the next name is set to the next packet's slot, as the model does with the first of what is left
 pub loop-index-preserved : goal.loop-index-preserved
 loop-index-preserved c =
     let made = c.args.made.now in
@@ -25,6 +26,7 @@ loop-index-preserved c =
     ∙ sym (ap (λ (ps : List NewPacket). all_named c.args.worker (drop k made) ps (stands_in c.loop-index.names)) second)
     ∙ c.loop-index.invariant
 
+-- the names or the packets are at their end, so each name that is left stands as it did
 pub returns : goal.returns
 returns c =
     let made = c.args.made.now in

@@ -7,8 +7,9 @@ use Rattle.script.specs.inside.Standing.{fresh_run}
 use Rattle.script.proofs.CommandsKeep.{end_of-limits}
 use Rattle.script.proofs.playing.play_to_end.Goals as goal
 
+-- no line changes the limits, so the statement's places are within those at the start
 pub returns-in_ok-statement-in-Ok-clause-places : goal.returns-in_ok-statement-in-Ok-clause-places
 returns-in_ok-statement-in-Ok-clause-places c =
     let statement = c.in_ok-statement-in-Ok.statement in
-    let same = ap (λ (p : Pool). p.limits) c.in-Ok.ensures.pool ∙ end_of-limits c.args.lines.now (fresh_run c.args.pool.now) in
+    let same = ap (λ (p : Pool). p.limits) c.in-Ok.ensures.pool ∙ end_of-limits c.args.lines.now (fresh_run c.args.pool) in
     subst (λ (l : Limits). PlacesEachOnce l statement) same c.in_ok-statement-in-Ok.ensures.places

@@ -6,6 +6,7 @@ use Rattle.script_text.proofs.line.next_line.Goals as goal
 pub returns-in_err-end-clause-lines : goal.returns-in_err-end-clause-lines
 returns-in_err-end-clause-lines c = rw c.from_residual.ensures (parts_none c.args.text.now (sym c.in_err-end.ensures))
 
+-- the line ends before the first line feed, and what is behind that has the other lines
 pub returns-clause-lines : goal.returns-clause-lines
 returns-clause-lines c =
     let end = c.in_ok-end.end in

@@ -5,4 +5,8 @@ use Rattle.script_text.specs.inside.Reading.{is_digit}
 use Rattle.script_text.proofs.number.number_of.Given as goal
 
 abbrev pub invariant-loop-byte : goal.invariant-loop-byte
-invariant-loop-byte l = record { fits : l.value < 2 ^ 64; value_is : l.value ≡ digits_value (take l.byte-index l.word); digits : list_all is_digit (take l.byte-index l.word) ≡ true }
+invariant-loop-byte l = record {
+  fits : l.value < 2 ^ 64;
+  value_is : l.value ≡ digits_value (take l.byte-index l.word);
+  digits : list_all is_digit (take l.byte-index l.word) ≡ true;
+}

@@ -7,5 +7,8 @@ returns-clause-read c = is_read c.script_of.result c.args.bytes.now c.script_of.
 pub returns-clause-faults : goal.returns-clause-faults
 returns-clause-faults c = is_caused c.script_of.result c.args.bytes.now c.script_of.ensures
 
+-- a script of the grammar is what the text is read as, and there is one reading
 pub returns-clause-only : goal.returns-clause-only
-returns-clause-only c = λ limits lines h. only_one c.script_of.result c.args.bytes.now limits lines h c.script_of.ensures
+returns-clause-only c =
+    λ limits lines h.
+    only_one c.script_of.result c.args.bytes.now limits lines h c.script_of.ensures

@@ -9,6 +9,8 @@ use Rattle.script_text.specs.inside.Reading.{is_made, repeats, with_name}
 use Rattle.script_text.proofs.NameRuns.{not_so, with_name-made, with_names, with_names-more, with_names-made}
 use Rattle.script_text.proofs.reader.Reader.claim.Goals as goal
 
+-- the name was new, so the set has what the lines and the names so far make,
+-- and whether one repeats is left to the names behind.
 pub loop-name-preserved : goal.loop-name-preserved
 loop-name-preserved c =
     let inv = c.loop-name.invariant in
@@ -19,14 +21,26 @@ loop-name-preserved c =
     let name = c.name-item.result in
     let within = c.loop-name-test.true in
     let so_far = with_names lines worker (take i names) in
-    let more : take (i + 1) names ≡ take i names ++ name ∷ [] = take_more names i name within ∙ ap (λ (n : List ℕ). take i names ++ n ∷ []) (sym c.name-item.is) in
-    let next : with_names lines worker (take (i + 1) names) ≡ with_name so_far worker name = ap (with_names lines worker) more ∙ with_names-more lines worker (take i names) name in
-    let here : drop i names ≡ name ∷ drop (i + 1) names = drop_more names i name within ∙ ap (λ (n : List ℕ). n ∷ drop (i + 1) names) (sym c.name-item.is) in
-    let named : IsName name = subst IsName (sym c.name-item.is) (All-from_recursion IsName names c.requires.named i name within) in
+    let more : take (i + 1) names ≡ take i names ++ name ∷ [] =
+    take_more names i name within
+    ∙ ap (λ (n : List ℕ). take i names ++ n ∷ []) (sym c.name-item.is) in
+    let next : with_names lines worker (take (i + 1) names) ≡ with_name so_far worker name =
+    ap (with_names lines worker) more ∙ with_names-more lines worker (take i names) name in
+    let here : drop i names ≡ name ∷ drop (i + 1) names =
+    drop_more names i name within
+    ∙ ap (λ (n : List ℕ). n ∷ drop (i + 1) names) (sym c.name-item.is) in
+    let named : IsName name =
+    subst IsName (sym c.name-item.is)
+    (All-from_recursion IsName names c.requires.named i name within) in
     let done = rw c.as_slice.ensures at c.in_ok-add.ensures in
-    let anew : is_made so_far worker name ≡ false = sym (inv.made worker name named) ∙ not_so _ (sym done.added ∙ c.if-not-branch.false) in
+    let anew : is_made so_far worker name ≡ false =
+    sym (inv.made worker name named) ∙ not_so _ (sym done.added ∙ c.if-not-branch.false) in
     record {
-      made = λ w other h. done.more w other h ∙ ap (λ (b : Bool). (w == worker && bytes_eq other name) || b) (inv.made w other h) ∙ sym (ap (λ (ls : List Line). is_made ls w other) next ∙ with_name-made so_far worker name w other);
+      made =
+          λ w other h. done.more w other h
+          ∙ ap (λ (b : Bool). (w == worker && bytes_eq other name) || b) (inv.made w other h)
+          ∙ sym (ap (λ (ls : List Line). is_made ls w other) next
+          ∙ with_name-made so_far worker name w other);
       left = ap (λ (ls : List Line). repeats ls worker (drop (i + 1) names)) next
           ∙ sym (ap (λ (b : Bool). b || repeats (with_name so_far worker name) worker (drop (i + 1) names)) anew)
           ∙ sym (ap (repeats so_far worker) here) ∙ inv.left;
@@ -34,10 +48,12 @@ loop-name-preserved c =
       lines = inv.lines;
     }
 
+-- no name is left, so the set has what the lines and all these names make
 pub returns-clause-made : goal.returns-clause-made
 returns-clause-made c = λ e other name h.
     let names = c.args.names.now in
     let lines = c.args.self.now.lines.items in
     c.loop-name.invariant.made other name h
-    ∙ ap (λ (ns : List (List ℕ)). is_made (with_names lines c.args.worker ns) other name) (take_all c.loop-name.name-index names c.loop-name-test.false)
+    ∙ ap (λ (ns : List (List ℕ)). is_made (with_names lines c.args.worker ns) other name)
+    (take_all c.loop-name.name-index names c.loop-name-test.false)
     ∙ with_names-made lines c.args.worker names other name

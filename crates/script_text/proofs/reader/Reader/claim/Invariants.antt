@@ -8,8 +8,11 @@ use Rattle.script_text.proofs.reader.Reader.claim.Given as goal
 -- the names so far are made, and the others are still to be looked at
 abbrev pub invariant-loop-name : goal.invariant-loop-name
 invariant-loop-name l = record {
-  made : (w : ℕ) (other : List ℕ) → IsName other → has_made l.self.made w other ≡ is_made (with_names l.fn.self.lines.items l.worker (take l.name-index l.names)) w other;
-  left : repeats (with_names l.fn.self.lines.items l.worker (take l.name-index l.names)) l.worker (drop l.name-index l.names) ≡ repeats l.fn.self.lines.items l.worker l.names;
+  made : (w : ℕ) (other : List ℕ) → IsName other →
+      has_made l.self.made w other
+      ≡ is_made (with_names l.fn.self.lines.items l.worker (take l.name-index l.names)) w other;
+  left : repeats (with_names l.fn.self.lines.items l.worker (take l.name-index l.names)) l.worker
+      (drop l.name-index l.names) ≡ repeats l.fn.self.lines.items l.worker l.names;
   limits : l.self.limits ≡ l.fn.self.limits;
   lines : l.self.lines ≡ l.fn.self.lines;
 }

@@ -4,10 +4,13 @@ use Rattle.script_text.proofs.KeptLemmas.{of_pool}
 use Rattle.script_text.proofs.PoolLemmas.{pool_from}
 use Rattle.script_text.proofs.reader.Reader.finish.Goals as goal
 
+-- limits that were told are a pool's, and each line's worker is of it
 pub invariant_of-result : goal.invariant_of-result
 invariant_of-result c =
     let limits = c.in_ok-limits.limits in
     record {
       pool = pool_from limits (rw c.in_ok-limits.was at c.requires.ready);
-      workers = subst (AreOfPool limits.workers) (sym c.new.ensures) (of_pool limits.workers c.args.self.lines.items (rw c.in_ok-limits.was at c.requires.workers));
+      workers =
+          subst (AreOfPool limits.workers) (sym c.new.ensures) (of_pool limits.workers
+          c.args.self.lines.items (rw c.in_ok-limits.was at c.requires.workers));
     }

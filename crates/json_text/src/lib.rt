@@ -1,0 +1,47 @@
+//! A pool's statement as JSON.
+#![tactic(auto)]
+
+pub mod laws;
+mod values;
+
+ghost use Rattle.std.specs.Prelude.{◌≡◌, ◌++◌, codes, IfErr, IfOk, Some};
+ghost use Rattle.serde_json.specs.Read.{read};
+ghost use Rattle.json_text.specs.StatementData.{json_of, statement_data};
+
+use commons::refusal::Refusal;
+use pool_model::statement::Statement;
+use std::alloc::{AllocError, Global};
+
+/// The compact text of a statement, with a line feed at its end.
+///
+/// Refused `OutOfMemory` where memory was refused.
+pub fn statement_json(alloc: Global, statement: &Statement) -> Result<Vec<u8>, Refusal>
+    ensures text { IfOk result (λ out. out.items ≡ json_of statement.now ++ codes "\n") }
+    // A reader of JSON finds the statement in it.
+    ensures reads_back { IfOk result (λ _. read (json_of statement.now) ≡ Some (statement_data statement.now)) }
+    ensures memory { IfErr result (λ e. e ≡ Refusal.OutOfMemory) }
+{
+    match line(alloc, statement) {
+        Ok(line) => Ok(line),
+        Err(_) => Err(Refusal::OutOfMemory),
+    }
+}
+
+/// The text with the line feed.
+fn line(alloc: Global, statement: &Statement) -> Result<Vec<u8>, AllocError>
+    ensures text { IfOk result (λ out. out.items ≡ json_of statement.now ++ codes "\n") }
+    ensures reads_back { IfOk result (λ _. read (json_of statement.now) ≡ Some (statement_data statement.now)) }
+{
+    let mut out = compact(alloc, statement)?;
+    out.push(b'\n')?;
+    Ok(out)
+}
+
+/// The text without it.
+fn compact(alloc: Global, statement: &Statement) -> Result<Vec<u8>, AllocError>
+    ensures text { IfOk result (λ out. out.items ≡ json_of statement.now) }
+    ensures reads_back { IfOk result (λ _. read (json_of statement.now) ≡ Some (statement_data statement.now)) }
+{
+    let text = values::statement(alloc, statement)?.to_vec(alloc)?;
+    Ok(text)
+}

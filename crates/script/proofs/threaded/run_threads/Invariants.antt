@@ -1,0 +1,6 @@
+use Rattle.std.specs.Prelude.{◌≡◌}
+use Rattle.script.proofs.threaded.run_threads.Given as goal
+
+-- the pool under the lock is of the script's limits
+abbrev pub ghosts-run_locked : goal.ghosts-run_locked
+ghosts-run_locked g a = record { allows = λ l. l ≡ a.script.now.limits }

@@ -1,0 +1,43 @@
+//! What a replay prints as JSON: the statement at the end.
+ghost use Rattle.std.specs.Prelude.{◌≡◌, List, IfErr, IfOk, MatchResult};
+ghost use Rattle.commons.specs.declared.limits.Limits.{Limits};
+ghost use Rattle.script_text.specs.declared.commands.Line.{Line};
+ghost use Rattle.script_text.specs.Grammar.{IsCause, IsScript};
+ghost use Rattle.script.specs.Printed.{json_for, IsJsonFor};
+
+use crate::playing::replay;
+use commons::refusal::Refusal;
+use json_text::statement_json;
+use script_text::commands::Script;
+use script_text::parse;
+use std::alloc::Global;
+
+/// All that the replay of a script prints as JSON: the statement that places every element, as one
+/// line, and no reply lines.
+///
+/// Refused as `run_replay` is.
+pub fn run_replay_json(alloc: Global, bytes: &[u8]) -> Result<Vec<u8>, Refusal>
+    // What is printed is the JSON of the reference model's statement, for the script that the bytes are.
+    ensures printed { IfOk result (λ out. IsJsonFor bytes.now out.items) }
+
+    // Why nothing is printed.
+    ensures faults { IfErr result (λ refusal. IsCause bytes.now refusal) }
+
+    // Where the bytes are a script, nothing else is printed, and only memory can be missing.
+    ensures only { (limits : Limits) (lines : List Line) → IsScript bytes.now limits lines →
+        MatchResult result (λ out. out.items ≡ json_for limits lines) (λ refusal. refusal ≡ Refusal.OutOfMemory) }
+{
+    match parse(alloc, bytes) {
+        Ok(script) => end(alloc, &script),
+        Err(refusal) => Err(refusal),
+    }
+}
+
+/// The JSON of the statement at a script's end.
+fn end(alloc: Global, script: &Script) -> Result<Vec<u8>, Refusal>
+    ensures text { IfOk result (λ out. out.items ≡ json_for script.now.limits script.now.lines) }
+    ensures memory { IfErr result (λ refusal. refusal ≡ Refusal.OutOfMemory) }
+{
+    let (_replies, statement) = replay(alloc, script)?;
+    statement_json(alloc, &statement)
+}

@@ -1,0 +1,44 @@
+//! A run of a script in threads, from its bytes to the statement at its end.
+
+ghost use Rattle.std.specs.Prelude.{◌≤◌, IfErr, IfOk};
+ghost use Rattle.pool_model.specs.Statements.{ListsEachOnce};
+ghost use Rattle.script_text.specs.Grammar.{IsCause};
+ghost use Rattle.script.specs.Running.{RunsTo};
+
+use crate::gate::OpenGate;
+use crate::threaded::{Grounds, run_threads};
+use commons::refusal::Refusal;
+use pool_model::statement::Statement;
+use script_text::parse;
+use std::alloc::Global;
+use std::sync::Wait;
+use std::thread::Threads;
+
+/// The statement at the end of a run of the script that the bytes are, with a thread for each worker. A line that finds
+/// others in its way is tried up to `turns` times in all.
+///
+/// Refused as reading the script is: `BadPool` where no pool can be made within the limits of its pool line, and
+/// `ScriptFault` with the number of the first faulty line, or 0 where the bytes are more than a script has.
+/// `OutOfMemory` comes only where memory was refused or a thread couldn't be started.
+pub fn run_script<R: Threads + Wait + Sync>(
+    rt: &R,
+    alloc: Global,
+    bytes: &[u8],
+    grounds: Grounds,
+    turns: u32,
+) -> Result<Statement, Refusal>
+    requires turns { 1 ≤ turns }
+    // Some order of acts on a new pool of the script's limits leads to the same statement.
+    ensures ran { IfOk result (RunsTo bytes.now) }
+    ensures once { IfOk result (λ s. ListsEachOnce s) }
+    // Why there is none.
+    ensures faults { IfErr result (IsCause bytes.now) }
+{
+    match parse(alloc, bytes) {
+        Ok(script) => match run_threads(rt, alloc, &script, grounds, turns, &OpenGate) {
+            Ok(statement) => Ok(statement),
+            Err(cause) => Err(cause),
+        },
+        Err(refusal) => Err(refusal),
+    }
+}

@@ -1,0 +1,40 @@
+//! A packet that one worker makes and another frees, as a library's user writes it.
+
+use super::DEFAULTS;
+use commons::limits::Limits;
+use commons::refusal::Refusal;
+use mbuf::acts::Act;
+use share_book::ending::settled;
+use share_book::site_pool::SitePool;
+use std::alloc::Global;
+use std::process::Abort;
+
+/// How many elements are free once one worker has made a packet, and another has taken it off a desk and freed it.
+fn handed_over(alloc: Global, limits: &Limits) -> Result<u64, Refusal> {
+    let mut pool = SitePool::make(alloc, limits)?;
+    let _made = pool.perform(1, Act::Alloc);
+    let _left = pool.perform(1, Act::Offer(0, 0));
+    let _taken = pool.perform(2, Act::Take(0));
+    let _freed = pool.perform(2, Act::Free(0));
+    let statement = settled(alloc, pool)?;
+    Ok(statement.available)
+}
+
+#[test]
+fn a_packet_is_made_by_one_worker_and_freed_by_another(rt: HostRuntime) {
+    let two = Limits {
+        population: 4,
+        workers: 2,
+        desks: 1,
+        ..DEFAULTS
+    };
+    match handed_over(rt.alloc(), &two) {
+        Ok(available) => assert!(rt; available == 4, "an element is still in use"),
+        Err(cause) => assert!(rt; cause == Refusal::OutOfMemory, "the pool wasn't made"),
+    }
+    // Without a desk the packet stays with the worker that made it.
+    match handed_over(rt.alloc(), &Limits { desks: 0, ..two }) {
+        Ok(available) => assert!(rt; available == 3, "the packet isn't in use"),
+        Err(cause) => assert!(rt; cause == Refusal::OutOfMemory, "the pool wasn't made"),
+    }
+}

@@ -1,0 +1,260 @@
+//! How a pool is settled with the shares of its workers, and what is refused.
+
+use super::building::written;
+use super::{DEFAULTS, Field, Part};
+use commons::closed::Closed;
+use commons::limits::Limits;
+use commons::refusal::Refusal;
+use mbuf::acts::Act;
+use pool_model::statement::Statement;
+use script::statement_text;
+use share_book::site_pool::SitePool;
+use share_book::{Book, Share, Unsettled, lose_all, settle};
+use std::alloc::Global;
+use std::process::Abort;
+use std::test::Fail;
+
+/// The pool of four workers and two desks.
+const FOUR: Limits = Limits {
+    population: 16,
+    workers: 4,
+    desks: 2,
+    ..DEFAULTS
+};
+
+/// Plays the lines of four workers, of whom two each want one desk, worker by worker.
+fn play_four(pool: &mut SitePool) {
+    for worker in 1..5 {
+        let desk = (worker - 1) / 2;
+        let acts = [
+            Act::Alloc,
+            Act::ClonePacket(0),
+            Act::Free(0),
+            Act::Offer(1, desk),
+            Act::Free(1),
+        ];
+        for act in acts {
+            let _ = pool.perform(worker, act);
+        }
+    }
+}
+
+/// Closes a pool, and tries once more with what a refusal handed back.
+fn closed_at_last(alloc: Global, pool: SitePool) -> Option<(Limits, Closed, Vec<Share>)> {
+    match pool.close(alloc) {
+        Ok(parts) => Some(parts),
+        Err((_, pool)) => match pool.close(alloc) {
+            Ok(parts) => Some(parts),
+            Err((_, pool)) => {
+                pool.lose();
+                None
+            }
+        },
+    }
+}
+
+/// An empty book, made at the second try where the first is refused.
+fn book_at_last(alloc: Global, limits: &Limits) -> Option<Book> {
+    match Book::make(alloc, limits) {
+        Ok(book) => Some(book),
+        Err(_) => match Book::make(alloc, limits) {
+            Ok(book) => Some(book),
+            Err(_) => None,
+        },
+    }
+}
+
+/// Settles a closed pool, and tries once more with what a refusal handed back.
+fn settled_at_last(alloc: Global, closed: Closed, book: Book) -> Option<Statement> {
+    match settle(alloc, closed, book) {
+        Ok(statement) => Some(statement),
+        Err((_, closed, book)) => match settle(alloc, closed, book) {
+            Ok(statement) => Some(statement),
+            Err((_, _, book)) => {
+                book.lose();
+                None
+            }
+        },
+    }
+}
+
+/// Puts a share in a book, where there is one and its place is free.
+fn deposit_one(book: &mut Book, share: Option<Share>) {
+    if let Some(share) = share {
+        if let Err((_, share)) = book.deposit(share) {
+            share.lose();
+        }
+    }
+}
+
+/// Settles with the shares of all workers but the third, and then with that one too. Tells why the
+/// first was refused.
+fn settled_late(
+    alloc: Global,
+    closed: Closed,
+    mut book: Book,
+    mut shares: Vec<Share>,
+) -> (Option<Unsettled>, Option<Statement>) {
+    deposit_one(&mut book, shares.pop());
+    let third = shares.pop();
+    deposit_one(&mut book, shares.pop());
+    deposit_one(&mut book, shares.pop());
+    lose_all(shares);
+    match settle(alloc, closed, book) {
+        Ok(statement) => {
+            if let Some(share) = third {
+                share.lose();
+            }
+            (None, Some(statement))
+        }
+        Err((cause, closed, mut book)) => {
+            deposit_one(&mut book, third);
+            (Some(cause), settled_at_last(alloc, closed, book))
+        }
+    }
+}
+
+/// Plays the lines, closes the pool, and settles it late.
+fn settle_four(alloc: Global) -> Result<(Option<Unsettled>, Option<Statement>), Refusal> {
+    let mut pool = SitePool::make(alloc, &FOUR)?;
+    play_four(&mut pool);
+    match closed_at_last(alloc, pool) {
+        Some((limits, closed, shares)) => match book_at_last(alloc, &limits) {
+            Some(book) => Ok(settled_late(alloc, closed, book, shares)),
+            None => {
+                lose_all(shares);
+                Ok((None, None))
+            }
+        },
+        None => Ok((None, None)),
+    }
+}
+
+/// Workers 1 and 3 were the first at their desks, and what workers 2 and 4 made went back: of each
+/// clone its base first.
+const FOUR_TEXT: &str = "population 16\navailable 12\nin use 4\n\
+    common 12: 5 4 6 7 8 9 10 11 12 13 14 15\ncache 1 0:\ncache 2 0:\ncache 3 0:\ncache 4 0:\n\
+    desk 0 segs 1 len 0: 1>0@128+0/2048\ndesk 1 segs 1 len 0: 2>3@128+0/2048\n\
+    held 0 count 1: d0\nheld 1 count 1: d0\nheld 2 count 1: d1\nheld 3 count 1: d1\n";
+
+/// Whether the statement is that of the four workers' pool, where there is memory to print it.
+fn assert_end<R: Abort + AllocGlobal>(rt: &R, statement: &Statement) {
+    match statement_text(rt.alloc(), statement) {
+        Ok(text) => assert_eq!(rt; text.as_slice(), FOUR_TEXT.as_bytes()),
+        Err(refusal) => assert_eq!(rt; refusal, Refusal::OutOfMemory),
+    }
+}
+
+/// Whichever request for memory is refused, a missing share is told of, and what was handed back settles.
+#[test]
+fn a_missing_share_is_named_and_what_is_handed_back_settles(rt: HostRuntime) {
+    match settle_four(rt.alloc()) {
+        Ok((cause, Some(statement))) => {
+            assert_eq!(rt; cause, Some(Unsettled::MissingShare(3)));
+            assert_end(&rt, &statement);
+        }
+        Ok((_, None)) => assert!(rt; false, "what was handed back doesn't settle"),
+        Err(refusal) => assert_eq!(rt; refusal, Refusal::OutOfMemory),
+    }
+}
+
+/// A pool of as many workers and desks as there can be.
+const MOST: Limits = Limits {
+    population: 130,
+    workers: 64,
+    desks: 64,
+    ..DEFAULTS
+};
+
+/// Each worker has a packet, and the packet's clone is on the worker's desk.
+const MOST_TEXT: &[Part] = &[
+    Part::Text("population 130\navailable 2\nin use 128\ncommon 2: 128 129\n"),
+    Part::Each(64, &[Field("cache ", 1, 1)], " 0:\n"),
+    Part::Each(
+        64,
+        &[Field("packet ", 1, 1), Field(" 0 segs 1 len 0: ", 0, 2)],
+        "@128+0/2048\n",
+    ),
+    Part::Each(
+        64,
+        &[
+            Field("desk ", 0, 1),
+            Field(" segs 1 len 0: ", 1, 2),
+            Field(">", 0, 2),
+        ],
+        "@128+0/2048\n",
+    ),
+    Part::Each(
+        64,
+        &[
+            Field("held ", 0, 2),
+            Field(" count 2: ", 1, 1),
+            Field(" d", 0, 1),
+            Field("\nheld ", 1, 2),
+            Field(" count 1: d", 0, 1),
+        ],
+        "\n",
+    ),
+];
+
+/// Lets each worker make a packet and leave its clone on the desk of the worker's own.
+fn play_most(pool: &mut SitePool) {
+    for worker in 1..65 {
+        for act in [Act::Alloc, Act::ClonePacket(0), Act::Offer(1, worker - 1)] {
+            let _ = pool.perform(worker, act);
+        }
+    }
+}
+
+/// The statement of a closed pool with these shares, if it settles.
+fn ended(
+    alloc: Global,
+    limits: &Limits,
+    closed: Closed,
+    mut shares: Vec<Share>,
+) -> Option<Statement> {
+    match Book::make(alloc, limits) {
+        Ok(mut book) => {
+            while let Some(share) = shares.pop() {
+                if let Err((_, stranger)) = book.deposit(share) {
+                    stranger.lose();
+                }
+            }
+            shares.destroy_empty();
+            match settle(alloc, closed, book) {
+                Ok(statement) => Some(statement),
+                Err((_, _, book)) => {
+                    book.lose();
+                    None
+                }
+            }
+        }
+        Err(_) => {
+            lose_all(shares);
+            None
+        }
+    }
+}
+
+/// Plays for all workers, closes the pool and settles it.
+fn settle_most(alloc: Global) -> Result<Option<Statement>, Refusal> {
+    let mut pool = SitePool::make(alloc, &MOST)?;
+    play_most(&mut pool);
+    match closed_at_last(alloc, pool) {
+        Some((limits, closed, shares)) => Ok(ended(alloc, &limits, closed, shares)),
+        None => Ok(None),
+    }
+}
+
+#[test]
+fn sixty_four_workers_and_desks_settle(rt: HostRuntime) -> Result<(), Fail> {
+    let text = written(rt.alloc(), MOST_TEXT)?;
+    match settle_most(rt.alloc())? {
+        Some(statement) => {
+            let printed = String::from_utf8(statement_text(rt.alloc(), &statement)?)?;
+            assert_eq!(rt; printed.as_str(), text.as_str());
+        }
+        None => assert!(rt; false, "the pool doesn't settle"),
+    }
+    Ok(())
+}

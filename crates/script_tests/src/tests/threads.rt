@@ -1,0 +1,393 @@
+//! Workers in threads of their own, on a pool under a lock, and a book that threads put shares in.
+
+ghost use Rattle.std.specs.Prelude.{◌≤◌};
+
+use super::building::written;
+use super::{DEFAULTS, Field, Part};
+use commons::closed::Closed;
+use commons::limits::Limits;
+use commons::refusal::Refusal;
+use crossbeam_utils::Backoff;
+use mbuf::acts::Act;
+use pool_model::statement::Statement;
+use script::{Gate, Grounds, OpenGate, run_threads};
+use script_text::parse;
+use share_book::site_pool::SitePool;
+use share_book::{Book, Share, deposit, lose_all, settle};
+use std::alloc::Global;
+use std::process::Abort;
+use std::sync::atomic::{AtomicBool, AtomicU32, Ordering};
+use std::sync::{Mutex, Wait};
+use std::test::Fail;
+use std::thread;
+use std::thread::Threads;
+
+/// The most tries of a line, and the most looks of a gate that holds a worker.
+const TURNS: u32 = 1_000_000;
+
+/// Two workers want desk 0, and two want desk 1.
+const FOUR_WORKERS: &str = "pool 16 workers 4 desks 2\n\
+    alloc a\nclone a b\nfree a\noffer b 0\nfree b\n\
+    2: alloc a\n2: clone a b\n2: free a\n2: offer b 0\n2: free b\n\
+    3: alloc a\n3: clone a b\n3: free a\n3: offer b 1\n3: free b\n\
+    4: alloc a\n4: clone a b\n4: free a\n4: offer b 1\n4: free b\n";
+
+/// The limits that its first line says.
+const FOUR: Limits = Limits {
+    population: 16,
+    workers: 4,
+    desks: 2,
+    ..DEFAULTS
+};
+
+/// Two workers who each make a packet.
+const TWO_WORKERS: &str = "pool 2 workers 2\nalloc a\n2: alloc a\n";
+
+/// A packet goes from one worker to another, who frees it.
+const HANDED_OVER: &str = "pool 4 workers 2 desks 1\nalloc a\noffer a 0\n2: take 0 x\n2: free x\n";
+
+/// The number of each of 64 workers.
+const WORKER: Field = Field("", 1, 1);
+
+/// Each worker has a desk, and takes from another's. What is met depends on who comes first: 100
+/// elements don't last for three packets each.
+const CROWD: &[Part] = &[
+    Part::Text("pool 100 cache 2 workers 64 desks 64\n"),
+    Part::Each(64, &[WORKER], ": alloc a\n"),
+    Part::Each(64, &[WORKER], ": clone a b\n"),
+    Part::Each(64, &[WORKER, Field(": offer b ", 0, 1)], "\n"),
+    Part::Each(64, &[WORKER, Field(": take ", 63, -1)], " c\n"),
+    Part::Each(64, &[WORKER], ": free a\n"),
+    Part::Each(64, &[WORKER, Field(": offer c ", 0, 1)], "\n"),
+    Part::Each(64, &[WORKER], ": bulk d e\n"),
+    Part::Each(64, &[WORKER], ": free e\n"),
+    Part::Each(64, &[WORKER], ": flush\n"),
+];
+
+/// Each worker puts a packet on a desk of its own, takes that of another worker, and frees it.
+const CIRCLE: &[Part] = &[
+    Part::Text("pool 64 workers 64 desks 64\n"),
+    Part::Each(64, &[WORKER], ": alloc a\n"),
+    Part::Each(64, &[WORKER, Field(": offer a ", 0, 1)], "\n"),
+    Part::Each(64, &[WORKER, Field(": take ", 63, -1)], " b\n"),
+    Part::Each(64, &[WORKER], ": free b\n"),
+];
+
+/// Waits until as many as these have come. False where none comes for too long.
+fn wait_for(came: &AtomicU32, all: u32) -> bool {
+    let backoff = Backoff::new();
+    for _ in 0..TURNS {
+        if came.load(Ordering::SeqCst) >= all {
+            return true;
+        }
+        backoff.snooze();
+    }
+    false
+}
+
+/// Holds each of two workers ahead of its first line until the other has come there too.
+#[derive(Drop)]
+struct Meeting {
+    came: AtomicU32,
+    failed: AtomicBool,
+}
+
+impl Gate for Meeting {
+    fn before(&self, _worker: u32, nth: u32) {
+        if nth == 1 {
+            self.came.fetch_add(1, Ordering::SeqCst);
+            if !wait_for(&self.came, 2) {
+                self.failed.store(true, Ordering::SeqCst);
+            }
+        }
+    }
+
+    fn after(&self, _worker: u32, _nth: u32) {}
+}
+
+/// Holds worker 2 ahead of its first line until worker 1's second line is done.
+#[derive(Drop)]
+struct Handover {
+    done: AtomicU32,
+    failed: AtomicBool,
+}
+
+impl Gate for Handover {
+    fn before(&self, worker: u32, nth: u32) {
+        if worker == 2 && nth == 1 && !wait_for(&self.done, 1) {
+            self.failed.store(true, Ordering::SeqCst);
+        }
+    }
+
+    fn after(&self, worker: u32, nth: u32) {
+        if worker == 1 && nth == 2 {
+            self.done.store(1, Ordering::SeqCst);
+        }
+    }
+}
+
+/// The elements that a statement lists, ascending: those in the common list, in caches, and held.
+fn listed(alloc: Global, statement: &Statement) -> Result<Vec<u32>, Fail> {
+    let mut elems = statement.common.as_slice().to_vec(alloc)?;
+    for cache in statement.caches.as_slice() {
+        elems.extend_from_slice(cache.as_slice())?;
+    }
+    for held in statement.held.as_slice() {
+        elems.push(held.elem)?;
+    }
+    elems.sort_unstable();
+    Ok(elems)
+}
+
+/// A statement lists each of so many elements once, and no other.
+fn assert_each_once<R: Abort>(
+    rt: &R,
+    alloc: Global,
+    statement: &Statement,
+    population: u32,
+) -> Result<(), Fail> {
+    let mut all = Vec::new(alloc);
+    for elem in 0..population {
+        all.push(elem)?;
+    }
+    let elems = listed(alloc, statement)?;
+    assert_eq!(rt; elems, all);
+    assert_eq!(rt; statement.population, u64::from(population));
+    Ok(())
+}
+
+/// The worker and the slot of each packet.
+fn places_of(alloc: Global, statement: &Statement) -> Result<Vec<(u32, u32)>, Fail> {
+    let mut places = Vec::new(alloc);
+    for packet in statement.packets.as_slice() {
+        places.push((packet.worker, packet.slot))?;
+    }
+    Ok(places)
+}
+
+/// Whoever came first at a desk has filled it, and all else is free.
+fn assert_four<R: Abort>(rt: &R, alloc: Global, statement: &Statement) -> Result<(), Fail> {
+    let totals = (statement.population, statement.available, statement.in_use);
+    assert_eq!(rt; totals, (16, 12, 4));
+    assert_eq!(rt; statement.desks.len(), 2);
+    assert_eq!(rt; statement.packets.len(), 0);
+    assert_each_once(rt, alloc, statement, 16)
+}
+
+/// The statement of a text's script, with a thread for each worker.
+fn run<G: Gate, R: Threads + Wait + Sync + AllocGlobal>(
+    rt: &R,
+    text: &str,
+    turns: u32,
+    gate: &G,
+) -> Result<Statement, Fail>
+    requires turns { 1 ≤ turns }
+{
+    let script = parse(rt.alloc(), text.as_bytes())?;
+    Ok(run_threads(rt, rt.alloc(), &script, Grounds::Locked, turns, gate)?)
+}
+
+/// The row "four workers".
+#[test]
+fn of_four_workers_two_fill_the_desks(rt: HostRuntime) -> Result<(), Fail> {
+    for _ in 0..200 {
+        let statement = run(&rt, FOUR_WORKERS, 1, &OpenGate)?;
+        assert_four(&rt, rt.alloc(), &statement)?;
+    }
+    Ok(())
+}
+
+/// Two workers meet at a gate, and each makes a packet of its own.
+fn meet<R: Threads + Wait + Sync + Abort + AllocGlobal>(rt: &R, turns: u32) -> Result<(), Fail>
+    requires turns { 1 ≤ turns }
+{
+    let gate = Meeting {
+        came: AtomicU32::new(0),
+        failed: AtomicBool::new(false),
+    };
+    let statement = run(rt, TWO_WORKERS, turns, &gate)?;
+    assert!(rt; !gate.failed.load(Ordering::SeqCst));
+    let places = places_of(rt.alloc(), &statement)?;
+    assert_eq!(rt; places.as_slice(), [(1, 0), (2, 0)].as_slice());
+    assert_each_once(rt, rt.alloc(), &statement, 2)
+}
+
+/// The row "rendezvous".
+#[test]
+fn two_workers_meet_ahead_of_their_first_lines(rt: HostRuntime) -> Result<(), Fail> {
+    meet(&rt, 1)?;
+    meet(&rt, TURNS)
+}
+
+/// A packet is on the desk before its taker's first line.
+fn hand_over<R: Threads + Wait + Sync + Abort + AllocGlobal>(rt: &R, turns: u32) -> Result<(), Fail>
+    requires turns { 1 ≤ turns }
+{
+    let gate = Handover {
+        done: AtomicU32::new(0),
+        failed: AtomicBool::new(false),
+    };
+    let statement = run(rt, HANDED_OVER, turns, &gate)?;
+    assert!(rt; !gate.failed.load(Ordering::SeqCst));
+    assert_eq!(rt; statement.available, 4);
+    assert_eq!(rt; statement.common.as_slice(), [0, 1, 2, 3].as_slice());
+    Ok(())
+}
+
+/// The row "handed over in time".
+#[test]
+fn a_packet_is_handed_over_in_time(rt: HostRuntime) -> Result<(), Fail> {
+    hand_over(&rt, 1)?;
+    hand_over(&rt, TURNS)
+}
+
+/// 64 workers and 64 desks, whoever comes first.
+#[test]
+fn a_crowd_of_workers_leaves_each_element_once(rt: HostRuntime) -> Result<(), Fail> {
+    let text = written(rt.alloc(), CROWD)?;
+    for _ in 0..100 {
+        let statement = run(&rt, text.as_str(), 1, &OpenGate)?;
+        assert_each_once(&rt, rt.alloc(), &statement, 100)?;
+    }
+    Ok(())
+}
+
+/// Each of 64 workers waits for a packet, and each gets one.
+#[test]
+fn a_take_is_tried_until_the_packet_is_there(rt: HostRuntime) -> Result<(), Fail> {
+    let text = written(rt.alloc(), CIRCLE)?;
+    let statement = run(&rt, text.as_str(), TURNS, &OpenGate)?;
+    assert_eq!(rt; (statement.available, statement.in_use), (64, 0));
+    assert_each_once(&rt, rt.alloc(), &statement, 64)
+}
+
+/// Plays the lines of the four workers, worker by worker.
+fn play_four(pool: &mut SitePool) {
+    for worker in 1..5 {
+        let desk = (worker - 1) / 2;
+        let acts = [
+            Act::Alloc,
+            Act::ClonePacket(0),
+            Act::Free(0),
+            Act::Offer(1, desk),
+            Act::Free(1),
+        ];
+        for act in acts {
+            let _ = pool.perform(worker, act);
+        }
+    }
+}
+
+/// Puts a share in a book, and notes a failure where that is refused.
+fn deposit_slot<R: Wait>(
+    rt: &R,
+    book: &Mutex<Book>,
+    failed: &AtomicBool,
+    slot: &mut Option<Share>,
+) {
+    if let Some(share) = slot.take() {
+        if let Err((_, share)) = deposit(rt, book, share) {
+            share.lose();
+            failed.store(true, Ordering::SeqCst);
+        }
+    }
+}
+
+/// A thread for each share puts it in a book. False where one was refused or couldn't be started.
+fn deposit_each<R: Threads + Wait + Sync>(
+    rt: &R,
+    book: &Mutex<Book>,
+    slots: &mut [Option<Share>],
+) -> bool {
+    let failed = AtomicBool::new(false);
+    let noted = &failed;
+    thread::scope(thread::scope_env(), rt, |scope| {
+        for slot in slots.iter_mut() {
+            if let Err(_) = scope.spawn(move || deposit_slot(rt, book, noted, slot)) {
+                noted.store(true, Ordering::SeqCst);
+            }
+        }
+    });
+    !failed.load(Ordering::SeqCst)
+}
+
+/// A slot for each share, out of which a thread can take it.
+fn slots_of(alloc: Global, shares: Vec<Share>) -> Vec<Option<Share>> {
+    let mut shares = shares;
+    let mut slots = Vec::new(alloc);
+    while let Some(share) = shares.pop() {
+        if let Err(failed) = slots.push(Some(share)) {
+            if let Some(share) = failed.value {
+                share.lose();
+            }
+        }
+    }
+    shares.destroy_empty();
+    slots
+}
+
+/// Ends what no thread took.
+fn lose_slots(slots: Vec<Option<Share>>) {
+    let mut slots = slots;
+    while let Some(slot) = slots.pop() {
+        if let Some(share) = slot {
+            share.lose();
+        }
+    }
+    slots.destroy_empty();
+}
+
+/// Settles what a pool left with the shares that threads put in a book.
+fn settled_by_threads<R: Threads + Wait + Sync>(
+    rt: &R,
+    alloc: Global,
+    closed: Closed,
+    book: Book,
+    shares: Vec<Share>,
+) -> Option<Statement> {
+    let book = Mutex::new(book);
+    let mut slots = slots_of(alloc, shares);
+    let all = deposit_each(rt, &book, slots.as_mut_slice());
+    lose_slots(slots);
+    match settle(alloc, closed, book.into_inner()) {
+        Ok(statement) if all => Some(statement),
+        Ok(_) => None,
+        Err((_, _, book)) => {
+            book.lose();
+            None
+        }
+    }
+}
+
+/// Plays the lines in one thread, closes the pool, and settles it with shares of four threads.
+fn settle_four<R: Threads + Wait + Sync + AllocGlobal>(
+    rt: &R,
+) -> Result<Option<Statement>, Refusal> {
+    let mut pool = SitePool::make(rt.alloc(), &FOUR)?;
+    play_four(&mut pool);
+    match pool.close(rt.alloc()) {
+        Ok((limits, closed, shares)) => match Book::make(rt.alloc(), &limits) {
+            Ok(book) => Ok(settled_by_threads(rt, rt.alloc(), closed, book, shares)),
+            Err(cause) => {
+                lose_all(shares);
+                Err(cause)
+            }
+        },
+        Err((cause, pool)) => {
+            pool.lose();
+            Err(cause)
+        }
+    }
+}
+
+/// The row "four workers", worker by worker, with its shares deposited by four threads.
+#[test]
+fn shares_of_four_threads_settle(rt: HostRuntime) -> Result<(), Fail> {
+    for _ in 0..100 {
+        match settle_four(&rt)? {
+            Some(statement) => assert_four(&rt, rt.alloc(), &statement)?,
+            None => assert!(rt; false, "the shares of four threads don't settle"),
+        }
+    }
+    Ok(())
+}
