@@ -1,0 +1,9 @@
+use Rattle.std.proofs.Common.{◌≡◌, ◌≤◌, take}
+use Rattle.commons.specs.Bag.{bag}
+use Rattle.step_core.proofs.elems.Elems.count.Given as goal
+
+abbrev pub invariant-loop-element : goal.invariant-loop-element
+invariant-loop-element l = record {
+  times : l.times ≡ bag (take l.element-index l.element-items) l.number;
+  few : l.times ≤ l.element-index;
+}

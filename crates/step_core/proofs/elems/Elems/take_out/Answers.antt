@@ -1,0 +1,44 @@
+use Rattle.std.proofs.Common.{◌≡◌, ◌<◌, ◌∙◌, List, ℕ, refl, sym, ap, arith, length, remove, get_or}
+use Rattle.step_core.specs.Bags.{without}
+use Rattle.step_core.proofs.ElemLemmas.{none_so_far, take_none, without_at, without_none, read_at, none_in_all}
+use Rattle.step_core.proofs.elems.Elems.take_out.Goals as goal
+
+pub loop-i-init : goal.loop-i-init
+loop-i-init c = record { same = refl; none = take_none c.self.inside.items.items c.args.element }
+
+-- the first that is the element goes
+pub returns-then-index-element : goal.returns-then-index-element
+returns-then-index-element c =
+    let items : c.loop-i.self-inside.items.items ≡ c.self.inside.items.items = cc (c.loop-i.invariant.same) in
+    let inside : c.loop-i.i < length c.self.inside.items.items = omega (arith, c.self.inside.items.ok) in
+    let there : c.index.result.now
+    ≡ get_or c.self.inside.items.items c.loop-i.i c.index.result.now =
+    c.index.ensures ∙ ap (λ (xs : List ℕ). get_or xs c.loop-i.i c.index.result.now) items in
+    c.remove.ensures.items ∙ ap (λ (xs : List ℕ). remove xs c.loop-i.i) items
+    ∙ without_at c.self.inside.items.items c.loop-i.i c.args.element inside c.loop-i.invariant.none
+    (read_at _ c.loop-i.i _ inside there ∙ c.if-index-element.true)
+    ∙ ap (without c.args.element) c.self.view_is
+
+pub loop-i-preserved : goal.loop-i-preserved
+loop-i-preserved c =
+    let items : c.loop-i.self-inside.items.items ≡ c.self.inside.items.items = cc (c.loop-i.invariant.same) in
+    let inside : c.loop-i.i < length c.self.inside.items.items = omega (arith, c.self.inside.items.ok) in
+    let there : c.index.result.now
+    ≡ get_or c.self.inside.items.items c.loop-i.i c.index.result.now =
+    c.index.ensures ∙ ap (λ (xs : List ℕ). get_or xs c.loop-i.i c.index.result.now) items in
+    record {
+      same = c.loop-i.invariant.same;
+      none =
+          none_so_far c.self.inside.items.items c.loop-i.i c.args.element inside
+          c.loop-i.invariant.none
+          (λ e. c.if-index-element.false (sym (read_at _ c.loop-i.i _ inside there) ∙ e));
+    }
+
+-- it stands nowhere
+pub returns : goal.returns
+returns c =
+    let items : c.loop-i.self-inside.items.items ≡ c.self.inside.items.items = cc (c.loop-i.invariant.same) in
+    items ∙ sym (without_none c.self.inside.items.items c.args.element (none_in_all
+    c.self.inside.items.items c.loop-i.i c.args.element
+    (omega (arith, c.self.inside.items.ok)) c.loop-i.invariant.none))
+    ∙ ap (without c.args.element) c.self.view_is

@@ -1,0 +1,11 @@
+use Rattle.std.proofs.Common.{take}
+use Rattle.step_core.specs.Kept.{IsWorld}
+use Rattle.step_core.specs.Runs.{Reaches}
+use Rattle.step_core.proofs.run.run.Given as goal
+
+abbrev pub invariant-loop-i : goal.invariant-loop-i
+invariant-loop-i l = record {
+  first : IsWorld l.fn.world;
+  reached : Reaches l.fn.world (take l.i l.steps) l.outcomes.items l.world;
+  kept : IsWorld l.world;
+}

@@ -1,0 +1,14 @@
+pub mod Bags
+pub mod World
+pub mod Links
+pub mod Law
+pub mod Table
+pub mod Shows
+pub mod Steps
+pub mod Opening
+pub mod Changes
+pub mod Schedules
+pub mod Kept
+pub mod Sights
+pub mod Runs
+pub mod Headline

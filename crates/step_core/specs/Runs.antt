@@ -1,0 +1,54 @@
+-- Schedules that are played, and what is so of every world that they pass.
+use Rattle.std.specs.Prelude.{◌≡◌, List, [], ◌∷◌, ◌++◌, Some, None, ⊤}
+use Rattle.commons.specs.declared.refusal.Refusal.{Refusal}
+use Rattle.commons.specs.declared.refusal.Refusal.TheVariants.{OutOfMemory, StepRefused}
+use Rattle.step_core.specs.Table.{Table}
+use Rattle.step_core.specs.World.{World}
+use Rattle.step_core.specs.Law.{Lawful}
+use Rattle.step_core.specs.Shows.{Shows, Happens}
+use Rattle.step_core.specs.Steps.{Outcome, play, event_of}
+use Rattle.step_core.specs.Kept.{IsWorld}
+use Rattle.step_core.specs.Schedules.{Schedule}
+
+-- the schedule is played from the first world to the last, with these outcomes
+abbrev pub Reaches : World → Schedule → List Outcome → World → Type 0
+Reaches w [] [] u = u ≡ w
+Reaches w (p ∷ rest) (o ∷ os) u = (v : World) × (play w p.0 p.1 ≡ Some (o, v)) × Reaches v rest os u
+Reaches w [] (o ∷ os) u = ⊥
+Reaches w (p ∷ rest) [] u = ⊥
+
+-- The same, and each world on the way is lawful and shows a table, from this one on: the next table follows by the
+-- step's one event, by the worker that steps, or is the same.
+abbrev pub Walks : World → Table → Schedule → List Outcome → World → Type 0
+Walks w t [] [] u = Lawful w × Shows w t × (u ≡ w)
+Walks w t (p ∷ rest) (o ∷ os) u =
+    Lawful w × Shows w t × ((v : World) × (s : Table) × (play w p.0 p.1 ≡ Some (o, v))
+    × Happens w.limits.population p.0 (event_of w p.0 p.1) t s × Walks v s rest os u)
+Walks w t [] (o ∷ os) u = ⊥
+Walks w t (p ∷ rest) [] u = ⊥
+
+-- from whichever table the first world shows
+abbrev pub WalksFrom : World → Schedule → List Outcome → World → Type 0
+WalksFrom w schedule os u = (t : Table) → Shows w t → Walks w t schedule os u
+
+-- every schedule that is played from a world of a pool walks so
+abbrev pub EveryScheduleWalks : Type 0
+EveryScheduleWalks =
+    (w : World) (schedule : Schedule) (os : List Outcome) (u : World) → IsWorld w →
+    Reaches w schedule os u → WalksFrom w schedule os u
+
+-- why a run stops before these steps: the condition of the first fails there, or no memory was had
+abbrev pub StopsAt : World → Schedule → Refusal → Type 0
+StopsAt u [] StepRefused = ⊥
+StopsAt u (p ∷ rest) StepRefused = play u p.0 p.1 ≡ None
+StopsAt u rest OutOfMemory = ⊤
+StopsAt u rest _ = ⊥
+
+-- a front of the schedule was played, up to a step that was refused
+pub record Stopped (w : World) (schedule : Schedule) (refusal : Refusal) (u : World) : Type 0 where
+  pub front : Schedule
+  pub rest : Schedule
+  pub outcomes : List Outcome
+  pub parts : schedule ≡ front ++ rest
+  pub walked : WalksFrom w front outcomes u
+  pub cause : StopsAt u rest refusal

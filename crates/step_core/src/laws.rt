@@ -1,0 +1,67 @@
+//! Laws of the machine. Each is a function that does nothing, and its contract is the law.
+
+ghost use Rattle.step_core.specs.Headline.{AllAreThere, LengthIsBounded, FrontThenRest, LostIsLater, ChainIsOfHand, CutGetsAll, SchedulesAreRuns, NotGivenAgain};
+ghost use Rattle.step_core.specs.Runs.{EveryScheduleWalks};
+ghost use Rattle.step_core.specs.Schedules.{OpensLawful, KeepsLaw, MakesItsEvent, ChangesLittle, LawfulShows};
+
+/// The opening world is lawful.
+pub fn the_opening_is_lawful()
+    ensures { OpensLawful }
+{}
+
+/// A step keeps every law, whichever worker with a part takes it.
+pub fn a_step_keeps_the_law()
+    ensures { KeepsLaw }
+{}
+
+/// A step is its one event of the table, by the worker that steps, or none.
+pub fn a_step_is_its_event()
+    ensures { MakesItsEvent }
+{}
+
+/// A step changes at most one word or slot, and no other worker's view.
+pub fn a_step_changes_little()
+    ensures { ChangesLittle }
+{}
+
+/// A lawful world shows a table: each element has one place.
+pub fn a_lawful_world_shows_a_table()
+    ensures { LawfulShows }
+{}
+
+/// Every schedule that is played from a world of a pool, by whichever workers and however long: at each step the world
+/// is lawful and shows a table, and the next table follows by the step's one event, by the worker that steps, or is the
+/// same.
+pub fn every_schedule_walks()
+    ensures { EveryScheduleWalks }
+{}
+
+/// The events of every schedule that is played from a world of a pool are a run of the table.
+pub fn schedules_are_runs()
+    ensures { SchedulesAreRuns }
+{}
+
+/// While an element isn't common, no get lists it, until a put does: from its get on, and as long as it is held.
+pub fn nothing_is_given_again()
+    ensures { NotGivenAgain }
+{}
+
+/// A cut that won gives its whole front, distinct elements, by one get.
+pub fn a_cut_gets_all()
+    ensures { CutGetsAll }
+{}
+
+/// The common list, the hands and the held elements together are the population; the length word with all credits is
+/// never more.
+pub fn all_elements_are_there()
+    ensures all { AllAreThere }
+    ensures length { LengthIsBounded }
+{}
+
+/// What a worker knows of the words: while its look's count stands, the common list begins with the look's front; an
+/// exchange that lost found a greater count; a chain's elements are distinct ones of the hand, with count 1.
+pub fn a_view_knows()
+    ensures front { FrontThenRest }
+    ensures lost { LostIsLater }
+    ensures chain { ChainIsOfHand }
+{}

@@ -1,0 +1,160 @@
+//! What a row says of a world.
+
+use commons::packet::Packet;
+use std::alloc::{AllocError, Global};
+use std::process::Abort;
+use step_core::elems::Elems;
+use step_core::view::{Phase, View};
+use step_core::world::World;
+
+/// A world after a row's steps: the head's top as a link value and its count, the length word, the common list from
+/// the top, each worker's credit, hand and holds, the counts that aren't 1, and each desk's word.
+#[derive(Clone, Copy)]
+pub(super) struct End {
+    pub head: (u32, u64),
+    pub length: u64,
+    pub common: &'static [u32],
+    pub credits: &'static [u64],
+    pub hands: &'static [&'static [u32]],
+    pub holds: &'static [&'static [u32]],
+    pub counts: &'static [(usize, u32)],
+    pub desks: &'static [u64],
+}
+
+/// Whether the world is so.
+pub(super) fn assert_end(rt: &impl Abort, world: &World, end: &End, name: &str) {
+    assert_eq!(rt; (world.head().top, world.head().count), end.head, "{name}");
+    assert_eq!(rt; world.length(), end.length, "{name}");
+    assert_common(rt, world, end.common, name);
+    assert_eq!(rt; world.views().len(), end.credits.len(), "{name}");
+    for (view, credit) in world.views().iter().zip(end.credits) {
+        assert_eq!(rt; view.credit, *credit, "{name}");
+    }
+    for (view, hand) in world.views().iter().zip(end.hands) {
+        assert_eq!(rt; view.hand.as_slice(), *hand, "{name}");
+    }
+    for (view, holds) in world.views().iter().zip(end.holds) {
+        assert_eq!(rt; view.holds.as_slice(), *holds, "{name}");
+    }
+    for (element, count) in world.counts().iter().enumerate() {
+        let wanted = end.counts.iter().find(|other| other.0 == element);
+        assert_eq!(rt;
+            *count,
+            wanted.map_or(1, |other| other.1),
+            "{name}: count of {element}"
+        );
+    }
+    assert_eq!(rt; world.desks().len(), end.desks.len(), "{name}");
+    for (desk, word) in world.desks().iter().zip(end.desks) {
+        assert_eq!(rt; desk.word, *word, "{name}");
+    }
+}
+
+/// Whether the links lead from the top through these elements to the end.
+fn assert_common(rt: &impl Abort, world: &World, common: &[u32], name: &str) {
+    let mut next = world.head().top;
+    for element in common {
+        assert_eq!(rt; u64::from(next), u64::from(*element) + 1, "{name}");
+        next = world.links().get(*element as usize).copied().unwrap_or(0);
+    }
+    assert_eq!(rt; next, 0, "{name}");
+}
+
+/// All numbers of a world, one after another: two worlds that have the same are the same.
+pub(super) fn numbers(alloc: Global, world: &World) -> Result<Vec<u64>, AllocError> {
+    let mut all = Vec::new(alloc);
+    all.push(u64::from(world.head().top))?;
+    all.push(world.head().count)?;
+    all.push(world.length())?;
+    for link in world.links() {
+        all.push(u64::from(*link))?;
+    }
+    for count in world.counts() {
+        all.push(u64::from(*count))?;
+    }
+    for desk in world.desks() {
+        all.push(desk.word)?;
+        match &desk.slot {
+            Some(packet) => add_packet(&mut all, packet)?,
+            None => all.push(0)?,
+        }
+    }
+    for view in world.views() {
+        add_view(&mut all, view)?;
+    }
+    Ok(all)
+}
+
+fn add_view(all: &mut Vec<u64>, view: &View) -> Result<(), AllocError> {
+    add_elems(all, &view.hand)?;
+    add_elems(all, &view.zeros)?;
+    add_elems(all, &view.holds)?;
+    add_elems(all, &view.headers)?;
+    all.push(view.credit)?;
+    all.push(view.seen)?;
+    all.push(view.part)?;
+    match &view.look {
+        Some(look) => {
+            all.push(u64::from(look.head.top))?;
+            all.push(look.head.count)?;
+            add_elems(all, &look.front)?;
+            all.push(u64::from(look.next))?;
+        }
+        None => all.push(u64::MAX)?,
+    }
+    match &view.chain {
+        Some(chain) => {
+            add_elems(all, &chain.items)?;
+            all.push(u64::from(chain.end))?;
+        }
+        None => all.push(u64::MAX)?,
+    }
+    match &view.work {
+        Some(work) => {
+            all.push(u64::from(work.desk))?;
+            add_phase(all, &work.phase)
+        }
+        None => {
+            all.push(u64::MAX)?;
+            Ok(())
+        }
+    }
+}
+
+fn add_phase(all: &mut Vec<u64>, phase: &Phase) -> Result<(), AllocError> {
+    match phase {
+        Phase::ToFill => all.push(0)?,
+        Phase::Filled(packet) => {
+            all.push(1)?;
+            add_packet(all, packet)?;
+        }
+        Phase::Seized(packet) => {
+            all.push(2)?;
+            add_packet(all, packet)?;
+        }
+        Phase::TakenOut => all.push(3)?,
+    }
+    Ok(())
+}
+
+/// How many elements, and then each.
+fn add_elems(all: &mut Vec<u64>, elems: &Elems) -> Result<(), AllocError> {
+    all.push(elems.len() as u64)?;
+    for element in elems.as_slice() {
+        all.push(u64::from(*element))?;
+    }
+    Ok(())
+}
+
+/// How many segments, and then each with its base and lengths.
+fn add_packet(all: &mut Vec<u64>, packet: &Packet) -> Result<(), AllocError> {
+    all.push(packet.segs().len() as u64)?;
+    for seg in packet.segs() {
+        all.push(u64::from(seg.elem))?;
+        all.push(seg.base.map_or(u64::MAX, u64::from))?;
+        all.push(u64::from(seg.data_off))?;
+        all.push(u64::from(seg.data_len))?;
+        all.push(u64::from(seg.buf_len))?;
+    }
+    Ok(())
+}
