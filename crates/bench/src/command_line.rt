@@ -18,9 +18,13 @@ pub enum Workload {
     Elements,
     /// Packets that are made, cloned, passed and freed.
     Packets,
+    /// Audits of a large lawful snapshot, beside a plain pass over its words.
+    Audits,
+    /// The end of a large pool: close, deposits and settling.
+    Endings,
 }
 
-const WORKLOADS: [(Workload, &str, &str); 3] = [
+const WORKLOADS: [(Workload, &str, &str); 5] = [
     (Workload::Replays, "replays", "scripts of 10,000 commands"),
     (
         Workload::Elements,
@@ -31,6 +35,16 @@ const WORKLOADS: [(Workload, &str, &str); 3] = [
         Workload::Packets,
         "packets",
         "packets that are made, cloned, passed over a desk and freed",
+    ),
+    (
+        Workload::Audits,
+        "audits",
+        "an audit of 65,534 elements, and a plain pass over the same words",
+    ),
+    (
+        Workload::Endings,
+        "endings",
+        "a pool of 65,534 elements is closed and settled",
     ),
 ];
 

@@ -1,8 +1,10 @@
 //! Why nothing was measured.
 
+use book::settling::Unsettled;
 use clap::Error;
 use clap::error::ErrorKind;
 use commons::refusal::Refusal;
+use snapshot::fault::Fault;
 use std::alloc::AllocError;
 use std::io;
 use std::io::{Eprint, Print};
@@ -16,6 +18,10 @@ pub enum Failure {
     System(io::Error),
     /// A pool could not be made, or its first packets.
     Refused(Refusal),
+    /// The snapshot that was to be audited isn't lawful, or memory was refused.
+    Unlawful(Fault),
+    /// A pool at its end isn't settled.
+    Unsettled(Unsettled),
 }
 
 impl From<Error> for Failure {
@@ -51,6 +57,8 @@ pub fn tell<R: Print + Eprint>(rt: &R, failure: Failure) -> u8 {
         },
         Failure::System(error) => (rt.eprintln(format_args!("bench: {error}")), 1),
         Failure::Refused(refusal) => (rt.eprintln(format_args!("bench: {refusal}")), 1),
+        Failure::Unlawful(fault) => (rt.eprintln(format_args!("bench: {fault:?}")), 1),
+        Failure::Unsettled(cause) => (rt.eprintln(format_args!("bench: {cause:?}")), 1),
     };
     match told {
         Ok(()) => status,

@@ -1,8 +1,10 @@
 //! Measures the pool on the lists: `bench WORKLOAD [--rounds N] [--runs R]`.
 #![tactic(auto)]
 
+mod audits;
 mod command_line;
 mod elements;
+mod endings;
 mod failures;
 mod figures;
 mod packets;
@@ -34,5 +36,7 @@ fn measure<R: Runtime + AllocGlobal>(rt: &R) -> Result<(), Failure> {
         Some(Workload::Replays) => replays::measure(rt, asked.rounds, asked.runs),
         Some(Workload::Elements) => elements::measure(rt, asked.rounds, asked.runs),
         Some(Workload::Packets) => packets::measure(rt, asked.rounds, asked.runs),
+        Some(Workload::Audits) => audits::measure(rt, asked.rounds, asked.runs),
+        Some(Workload::Endings) => endings::measure(rt, asked.rounds, asked.runs),
     }
 }

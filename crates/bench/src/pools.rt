@@ -8,6 +8,18 @@ use commons::limits::Limits;
 use commons::plain::PlainCommons;
 use mbuf::packets::Packets;
 
+/// The limits of the largest pool, with as many workers and desks as there can be.
+pub const LARGEST: Limits = Limits {
+    population: 65_534,
+    cache: 512,
+    workers: 64,
+    desks: 64,
+    buf: 2_048,
+    ref_limit: 65_535,
+    tries: 64,
+    start_count: 0,
+};
+
 /// A pool of one worker, with a cache of this size, and one desk.
 pub fn limits(population: u64, cache: u64) -> Limits {
     Limits {

@@ -1,9 +1,11 @@
 -- What the program says of a failure, and the status that it ends with.
-use Rattle.std.specs.Prelude.{◌≡◌, ℕ, List, [], ◌++◌, codes, decimal}
+use Rattle.std.specs.Prelude.{◌≡◌, ℕ, List, [], ◌++◌, Option, None, Some, codes, decimal}
 use Rattle.clap.specs.Values.{kind_of}
 use Rattle.clap.specs.declared.error.Error.{Error}
 use Rattle.clap.specs.declared.error.kind.ErrorKind.{ErrorKind}
 use Rattle.clap.specs.declared.error.kind.ErrorKind.TheVariants.{DisplayHelp, DisplayVersion, OutOfMemory}
+use Rattle.std.specs.declared.io.ErrorKind as io
+use Rattle.std.specs.declared.io.ErrorKind.TheVariants as kinds
 use Rattle.commons.specs.declared.refusal.Refusal.{Refusal}
 use Rattle.commons.specs.declared.refusal.Refusal.TheVariants.{MissingShare, ScriptFault}
 use Rattle.commons.specs.declared.refusal.Refusal.TheVariants as refusals
@@ -27,11 +29,17 @@ IsOfWords (CommandLine error) = Unit {0}
 IsOfWords (Unreadable named) = ⊥
 IsOfWords (Fault refusal) = refusal ≡ refusals.OutOfMemory
 
--- a failure to read this file: one that names it, or no memory
-abbrev pub IsOfReading : List ℕ → Failure → Type 0
-IsOfReading file (CommandLine error) = ⊥
-IsOfReading file (Unreadable named) = named.now ≡ file
-IsOfReading file (Fault refusal) = refusal ≡ refusals.OutOfMemory
+-- this file can't be read
+abbrev pub IsUnreadable : List ℕ → Failure → Type 0
+IsUnreadable file (CommandLine error) = ⊥
+IsUnreadable file (Unreadable named) = named.now ≡ file
+IsUnreadable file (Fault refusal) = ⊥
+
+-- what an error of this kind is told as that came of reading this file: no memory as that, and each other kind as a
+-- file that can't be read
+abbrev pub IsUnread : List ℕ → io.ErrorKind → Failure → Type 0
+IsUnread file kinds.OutOfMemory failure = failure ≡ Fault refusals.OutOfMemory
+IsUnread file _ failure = IsUnreadable file failure
 
 -- a failure of the replay of these bytes: a refusal of which they are the cause
 abbrev pub IsOfReplay : List ℕ → Failure → Type 0
@@ -61,3 +69,9 @@ place_text _ = []
 abbrev pub fault_text : Refusal → List ℕ
 fault_text refusal =
     codes "fault " ++ decimal (number_of refusal) ++ codes " " ++ name_of refusal ++ place_text refusal
+
+-- the line that tells of a failure, but for the command line's, whose text is `clap`'s
+abbrev pub line_of : Failure → Option (List ℕ)
+line_of (CommandLine error) = None
+line_of (Unreadable file) = Some (codes "cannot read " ++ file.now ++ codes "\n")
+line_of (Fault refusal) = Some (fault_text refusal ++ codes "\n")

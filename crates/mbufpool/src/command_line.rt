@@ -3,8 +3,10 @@ ghost use Rattle.std.specs.Prelude.{IfErr};
 ghost use Rattle.mbufpool.specs.Failures.{IsOfWords};
 
 use crate::failures::Failure;
+use crate::task::{Form, Task, Turns};
+use clap::builder::ValueParser;
 use clap::error::ErrorKind;
-use clap::{Arg, Command, Error};
+use clap::{Arg, ArgAction, Command, Error};
 use commons::refusal::Refusal;
 use std::alloc::Global;
 use std::env::Env;
@@ -12,6 +14,16 @@ use std::{env, io};
 
 /// What `--version` tells behind the program's name.
 const VERSION: &str = "0.1.0";
+
+/// The most tries of a line that `--turns` may name.
+const MAX_TURNS: u64 = 1_000_000;
+
+/// What the words of the command line ask for: what is to be done with a file.
+#[derive(Drop)]
+pub struct Request<'a> {
+    pub file: &'a str,
+    pub task: Task,
+}
 
 /// The words of the command line, the program's name first.
 ///
@@ -31,28 +43,47 @@ pub fn words<R: Env + AllocGlobal>(rt: &R) -> Result<Vec<String>, Failure<'stati
     }
 }
 
-/// The file whose replay the words ask for.
+/// The file that the words name, and what is to be done with its script.
 ///
 /// `CommandLine` where the words are wrong, or ask for help or the version, and `Fault` with `OutOfMemory` where memory
 /// was refused.
-pub fn file<'a>(alloc: Global, words: &'a [String]) -> Result<&'a str, Failure<'a>>
+pub fn request_of<'a>(alloc: Global, words: &'a [String]) -> Result<Request<'a>, Failure<'a>>
     ensures { IfErr result IsOfWords }
 {
-    match file_named(alloc, words) {
-        Ok(Some(file)) => Ok(file),
+    match requested(alloc, words) {
+        Ok(Some(request)) => Ok(request),
         Ok(None) => Err(wrong(alloc, "no file was given")),
         Err(error) => Err(Failure::from(error)),
     }
 }
 
-/// The file that a parse of the words finds.
-fn file_named<'a>(alloc: Global, words: &'a [String]) -> Result<Option<&'a str>, Error> {
+/// The request that a parse of the words finds.
+fn requested<'a>(alloc: Global, words: &'a [String]) -> Result<Option<Request<'a>>, Error> {
     let matches = command(alloc)?.try_get_matches_from(words)?;
-    Ok(
-        matches
-            .subcommand_matches("replay")
-            .and_then(|replay| replay.get_str("FILE")),
-    )
+    if let Some(replay) = matches.subcommand_matches("replay") {
+        let task = Task::Replay(form_of(replay.get_flag("json")));
+        return Ok(replay.get_str("FILE").map(|file| Request { file, task }));
+    }
+    let Some(run) = matches.subcommand_matches("run") else {
+        return Ok(None);
+    };
+    let turns = Turns::new(
+        run.get_str("turns")
+            .and_then(|word| word.parse().ok())
+            .unwrap_or(0),
+    );
+    match (run.get_str("FILE"), turns) {
+        (Some(file), Some(turns)) => Ok(Some(Request {
+            file,
+            task: Task::Run(turns, form_of(run.get_flag("json"))),
+        })),
+        _ => Ok(None),
+    }
+}
+
+/// The form that is asked for.
+fn form_of(json: bool) -> Form {
+    if json { Form::Json } else { Form::Text }
 }
 
 /// What is said of words that are wrong in a way that a parse doesn't tell.
@@ -68,17 +99,52 @@ fn wrong_words(alloc: Global, message: &str) -> Result<Error, Error> {
     Ok(command(alloc)?.error(ErrorKind::InvalidValue, message)?)
 }
 
-/// `mbufpool replay FILE`.
+/// `mbufpool replay FILE [--json]` and `mbufpool run FILE [--ground locked] [--turns T] [--json]`.
 fn command<'a>(alloc: Global) -> Result<Command<'a>, Error> {
-    let file = Arg::new(alloc, "FILE").required(true).help("The script");
     let replay = Command::new(alloc, "replay")
         .about("Replays a script, and prints each reply and where each element is at the end")
-        .arg(file)?;
+        .arg(script_file(alloc))?
+        .arg(json(alloc).help(
+            "Print where each element is at the end as one line of JSON, and no replies",
+        ))?;
+    let ground = Arg::new(alloc, "ground")
+        .long("ground")
+        .value_name("GROUND")
+        .value_parser(&["locked"][..])
+        .default_value("locked")
+        .help("What the threads share: lists under one lock");
+    let turns = Arg::new(alloc, "turns")
+        .long("turns")
+        .value_name("T")
+        .value_parser(ValueParser::unsigned(1, MAX_TURNS))
+        .default_value("1000")
+        .help("How often a line is tried in all where others are in its way");
+    let run = Command::new(alloc, "run")
+        .about(
+            "Runs a script with a thread for each worker, and prints where each element is at the end",
+        )
+        .arg(script_file(alloc))?
+        .arg(ground)?
+        .arg(turns)?
+        .arg(json(alloc).help("Print it as one line of JSON"))?;
     Ok(
         Command::new(alloc, "mbufpool")
             .about("A pool of packet buffers")
             .version(VERSION)
             .subcommand_required(true)
-            .subcommand(replay)?,
+            .subcommand(replay)?
+            .subcommand(run)?,
     )
+}
+
+/// The file that is named.
+fn script_file<'a>(alloc: Global) -> Arg<'a> {
+    Arg::new(alloc, "FILE").required(true).help("The script")
+}
+
+/// The flag that asks for JSON.
+fn json<'a>(alloc: Global) -> Arg<'a> {
+    Arg::new(alloc, "json")
+        .long("json")
+        .action(ArgAction::SetTrue)
 }

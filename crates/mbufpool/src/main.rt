@@ -1,39 +1,65 @@
-//! Replays scripts of a packet pool: `mbufpool replay FILE`.
+//! Replays and runs scripts of a packet pool: `mbufpool replay FILE` and `mbufpool run FILE`.
 #![tactic(auto)]
 
 mod command_line;
 mod failures;
 mod replay;
 mod report;
+mod running;
+mod scripts;
+mod task;
 #[cfg(test)]
 mod tests;
 
-use crate::failures::Failure;
+ghost use Rattle.std.specs.Prelude.{◌≡◌, ◌≤◌};
+ghost use Rattle.mbufpool.specs.Replays.{PrintsFile};
+
+use crate::command_line::Request;
+use crate::scripts::{Disk, Scripts};
+use std::alloc::Global;
+use std::env::Env;
+use std::io::Write;
 use std::process::ExitCode;
-use std::rt::{Files, Runtime};
+use std::sync::Wait;
+use std::thread::Threads;
 
 fn main(rt: HostRuntime) -> ExitCode {
-    ExitCode::from(run(&rt))
+    ExitCode::from(run(&rt, &Disk(&rt), &mut rt.stdout(), &mut rt.stderr()))
 }
 
 /// Does what the command line asks for, and gives the status that the program ends with.
-fn run<R: Runtime + AllocGlobal>(rt: &R) -> u8 {
+fn run<R: Env + AllocGlobal + Threads + Wait + Sync, S: Scripts, O: Write, E: Write>(
+    rt: &R,
+    scripts: &S,
+    screen: &mut O,
+    errors: &mut E,
+) -> u8 {
     let words = match command_line::words(rt) {
         Ok(words) => words,
-        Err(failure) => return report::failure(rt, &failure),
+        Err(failure) => return report::failure(screen, errors, &failure),
     };
-    match replayed(rt, words.as_slice()) {
-        Ok(text) => report::text(rt, text.as_slice()),
-        Err(failure) => report::failure(rt, &failure),
+    match command_line::request_of(rt.alloc(), words.as_slice()) {
+        Ok(request) => print(rt, rt.alloc(), scripts, &request, screen, errors),
+        Err(failure) => report::failure(screen, errors, &failure),
     }
 }
 
-/// What is printed of the script in the file that the words name.
-fn replayed<'a, R: Files + AllocGlobal>(
+/// Prints what is asked for of the script that a request names, or tells why there is none.
+fn print<R: Threads + Wait + Sync, S: Scripts, O: Write, E: Write>(
     rt: &R,
-    words: &'a [String],
-) -> Result<Vec<u8>, Failure<'a>> {
-    let file = command_line::file(rt.alloc(), words)?;
-    let script = replay::script(rt, file)?;
-    replay::text(rt.alloc(), script.as_slice())
+    alloc: Global,
+    scripts: &S,
+    request: &Request<'_>,
+    screen: &mut O,
+    errors: &mut E,
+) -> u8
+    // With status 0 the screen has the print for what the reading of this file gave, and nothing else new.
+    ensures whole { result ≡ 0 → PrintsFile (S.gives scripts.now request.now.file.now) request.now.task
+        (O.contents screen.old) (O.contents screen.new) }
+    ensures status { result ≤ 1 }
+{
+    match replay::printed(rt, alloc, scripts, request) {
+        Ok(text) => report::text(screen, text.as_slice()),
+        Err(failure) => report::failure(screen, errors, &failure),
+    }
 }

@@ -1,40 +1,85 @@
-//! The script in a file, and its replay.
-ghost use Rattle.std.specs.Prelude.{IfErr, IfOk};
-ghost use Rattle.script.specs.Printed.{IsPrintedFor};
-ghost use Rattle.mbufpool.specs.Failures.{IsOfReading, IsOfReplay};
+//! What is printed of a script: its replay, or what its run comes to, in the form that is asked for.
+ghost use Rattle.std.specs.Prelude.{◌≡◌, IfErr, IfOk};
+ghost use Rattle.script.specs.Printed.{IsJsonFor, IsPrintedFor};
+ghost use Rattle.mbufpool.specs.Failures.{IsOfReplay, IsUnread, status_of};
+ghost use Rattle.mbufpool.specs.Forms.{IsDoneAs, IsPrintedAs};
+ghost use Rattle.mbufpool.specs.Replays.{FailsAt, PrintsReading};
 
+use crate::command_line::Request;
 use crate::failures::Failure;
+use crate::running;
+use crate::scripts::Scripts;
+use crate::task::{Form, Task};
 use commons::refusal::Refusal;
-use script::{MAX_BYTES, run_replay};
+use script::{run_replay, run_replay_json};
 use std::alloc::Global;
-use std::fs::File;
 use std::io;
-use std::io::Read;
-use std::rt::Files;
+use std::sync::Wait;
+use std::thread::Threads;
 
-/// How many bytes of a script are read: one more than a script may have.
-const BYTES_READ: u64 = MAX_BYTES as u64 + 1;
-
-/// The bytes of a file, or as many of them as show that they are too many for a script.
+/// What is printed of the script that a request names.
 ///
-/// `Unreadable` where the file can't be opened or read, and `Fault` with `OutOfMemory` where memory was
-/// refused.
-pub fn script<'a, R: Files + AllocGlobal>(rt: &R, file: &'a str) -> Result<Vec<u8>, Failure<'a>>
-    ensures { IfErr result (IsOfReading file.entry.now) }
+/// `Unreadable` where the reading failed but for memory, `Fault` with `OutOfMemory` where memory was refused,
+/// else as `text`.
+pub fn printed<'a, R: Threads + Wait + Sync, S: Scripts>(
+    rt: &R,
+    alloc: Global,
+    scripts: &S,
+    request: &Request<'a>,
+) -> Result<Vec<u8>, Failure<'a>>
+    // It is the print for bytes that the reading of the file gave,
+    ensures printed { IfOk result (λ out.
+        PrintsReading (S.gives scripts.now request.now.file.now) request.now.task out.items) }
+    // or the failure that came: of that reading, or of the bytes that it gave.
+    ensures cause { IfErr result (FailsAt
+        (S.gives scripts.now request.now.file.now)
+        (S.fails scripts.now request.now.file.now)
+        request.now.file.now) }
+    ensures status { IfErr result (λ failure. status_of failure ≡ 1) }
 {
-    match read(rt, file) {
-        Ok(script) => Ok(script),
-        Err(error) => Err(unread(file, error.kind())),
+    match scripts.read(alloc, request.file) {
+        Ok(script) => done(rt, alloc, script.as_slice(), request.task),
+        Err(error) => Err(unread(request.file, error.kind())),
     }
 }
 
-/// What the replay of these bytes prints.
+/// What is printed of these bytes for a task.
+fn done<R: Threads + Wait + Sync>(
+    rt: &R,
+    alloc: Global,
+    script: &[u8],
+    task: Task,
+) -> Result<Vec<u8>, Failure<'static>>
+    ensures printed { IfOk result (λ out. IsDoneAs task script.now out.items) }
+    ensures cause { IfErr result (IsOfReplay script.now) }
+    ensures status { IfErr result (λ failure. status_of failure ≡ 1) }
+{
+    match task {
+        Task::Replay(form) => text(alloc, script, form),
+        Task::Run(turns, form) => running::text(rt, alloc, script, turns, form),
+    }
+}
+
+/// What the replay of these bytes prints in a form.
 ///
 /// `Fault` where they are no script (`ScriptFault`), where no pool can be made within the script's limits
 /// (`BadPool`), or where memory was refused.
-pub fn text(alloc: Global, script: &[u8]) -> Result<Vec<u8>, Failure<'static>>
+pub fn text(alloc: Global, script: &[u8], form: Form) -> Result<Vec<u8>, Failure<'static>>
+    ensures printed { IfOk result (λ out. IsPrintedAs form script.now out.items) }
+    ensures cause { IfErr result (IsOfReplay script.now) }
+    ensures status { IfErr result (λ failure. status_of failure ≡ 1) }
+{
+    match form {
+        Form::Text => lines(alloc, script),
+        Form::Json => json(alloc, script),
+    }
+}
+
+/// The replies and the statement, line by line.
+fn lines(alloc: Global, script: &[u8]) -> Result<Vec<u8>, Failure<'static>>
     ensures printed { IfOk result (λ out. IsPrintedFor script.now out.items) }
     ensures cause { IfErr result (IsOfReplay script.now) }
+    ensures status { IfErr result (λ failure. status_of failure ≡ 1) }
 {
     match run_replay(alloc, script) {
         Ok(text) => Ok(text),
@@ -42,18 +87,22 @@ pub fn text(alloc: Global, script: &[u8]) -> Result<Vec<u8>, Failure<'static>>
     }
 }
 
-/// The bytes, or the error of the first call that fails: to open the file, to read it, or to take memory.
-fn read<R: Files + AllocGlobal>(rt: &R, file: &str) -> io::Result<Vec<u8>> {
-    let mut bytes = Vec::new(rt.alloc());
-    File::open(rt, file)?
-        .take(BYTES_READ)
-        .read_to_end(&mut bytes)?;
-    Ok(bytes)
+/// The statement as one line of JSON.
+fn json(alloc: Global, script: &[u8]) -> Result<Vec<u8>, Failure<'static>>
+    ensures printed { IfOk result (λ out. IsJsonFor script.now out.items) }
+    ensures cause { IfErr result (IsOfReplay script.now) }
+    ensures status { IfErr result (λ failure. status_of failure ≡ 1) }
+{
+    match run_replay_json(alloc, script) {
+        Ok(line) => Ok(line),
+        Err(refusal) => Err(Failure::Fault(refusal)),
+    }
 }
 
-/// What an error says that reading the file gave.
+/// What is told of an error that came of reading a file.
 fn unread(file: &str, kind: io::ErrorKind) -> Failure<'_>
-    ensures { IsOfReading file.entry.now result }
+    ensures told { IsUnread file.entry.now kind result }
+    ensures status { status_of result ≡ 1 }
 {
     match kind {
         io::ErrorKind::OutOfMemory => Failure::Fault(Refusal::OutOfMemory),

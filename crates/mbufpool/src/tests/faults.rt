@@ -63,9 +63,9 @@ fn a_failure_is_told_on_the_standard_error_alone(rt: HostRuntime) -> Result<(), 
         ),
     ];
     for (failure, line) in &lines {
-        let screen = Screen::new(alloc);
-        let status = report::failure(&screen, failure);
-        let (output, errors) = screen.written(alloc)?;
+        let mut screen = Screen::new(alloc);
+        let status = report::failure(&mut screen.output, &mut screen.errors, failure);
+        let (output, errors) = screen.written()?;
         assert_eq!(rt; status, 1);
         assert_eq!(rt; errors.as_str(), *line);
         assert!(rt; output.is_empty());
@@ -75,12 +75,9 @@ fn a_failure_is_told_on_the_standard_error_alone(rt: HostRuntime) -> Result<(), 
 
 #[test]
 fn a_replay_is_written_whole_or_is_status_1(rt: HostRuntime) -> Result<(), Fail> {
-    let screen = Screen::new(rt.alloc());
-    assert_eq!(rt; report::text(&screen, b"2: ok 0\n"), 0);
-    let (output, errors) = screen.written(rt.alloc())?;
-    assert_eq!(rt; output.as_str(), "2: ok 0\n");
-    assert!(rt; errors.is_empty());
-    assert_eq!(rt; report::text(&Full, b"2: ok 0\n"), 1);
-    assert_eq!(rt; report::text(&Full, b""), 1);
+    let mut output = Vec::new(rt.alloc());
+    assert_eq!(rt; report::text(&mut output, b"2: ok 0\n"), 0);
+    assert_eq!(rt; String::from_utf8(output)?.as_str(), "2: ok 0\n");
+    assert_eq!(rt; report::text(&mut Full, b"2: ok 0\n"), 1);
     Ok(())
 }

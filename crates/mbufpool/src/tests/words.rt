@@ -1,7 +1,8 @@
 use super::screen::{Full, Screen};
-use crate::command_line::file;
+use crate::command_line::request_of;
 use crate::failures::Failure;
 use crate::report;
+use crate::task::{Form, Task};
 use std::alloc::{AllocError, Global};
 use std::test::Fail;
 
@@ -17,32 +18,74 @@ fn line(alloc: Global, words: &[&str]) -> Result<Vec<String>, AllocError> {
 /// written, and where it can't be.
 fn told(alloc: Global, words: &[&str]) -> Result<(String, String, u8, u8), Fail> {
     let words = line(alloc, words)?;
-    match file(alloc, words.as_slice()) {
+    match request_of(alloc, words.as_slice()) {
         Ok(_) => Err(Fail::from("a file")),
         Err(failure) => {
-            let screen = Screen::new(alloc);
-            let status = report::failure(&screen, &failure);
-            let (output, errors) = screen.written(alloc)?;
-            Ok((output, errors, status, report::failure(&Full, &failure)))
+            let mut screen = Screen::new(alloc);
+            let status = report::failure(&mut screen.output, &mut screen.errors, &failure);
+            let (output, errors) = screen.written()?;
+            let untold = report::failure(&mut Full, &mut Full, &failure);
+            Ok((output, errors, status, untold))
         }
     }
 }
 
 #[test]
 fn words_name_a_file_or_are_wrong_or_ask_for_a_text(rt: HostRuntime) -> Result<(), Fail> {
-    let words = line(rt.alloc(), &["replay", "first-run.script"])?;
-    match file(rt.alloc(), words.as_slice()) {
-        Ok(found) => assert_eq!(rt; found, "first-run.script"),
-        Err(_) => return Err(Fail::from("no file")),
+    let named: [(&[&str], &str, Form); 4] = [
+        (
+            &["replay", "first-run.script"],
+            "first-run.script",
+            Form::Text,
+        ),
+        (&["replay", "a", "--json"], "a", Form::Json),
+        (&["replay", "--json", "a"], "a", Form::Json),
+        (&["replay", "--", "--json"], "--json", Form::Text),
+    ];
+    for (words, file, form) in named {
+        let words = line(rt.alloc(), words)?;
+        match request_of(rt.alloc(), words.as_slice()) {
+            Ok(found) => assert_eq!(rt; (found.file, found.task), (file, Task::Replay(form))),
+            Err(_) => return Err(Fail::from("no file")),
+        }
     }
 
-    let wrong: [&[&str]; 6] = [
+    let run: [(&[&str], u32, Form); 4] = [
+        (&["run", "a"], 1_000, Form::Text),
+        (&["run", "a", "--ground", "locked"], 1_000, Form::Text),
+        (&["run", "a", "--turns", "1", "--json"], 1, Form::Json),
+        (&["run", "--turns", "1000000", "a"], 1_000_000, Form::Text),
+    ];
+    for (words, turns, form) in run {
+        let words = line(rt.alloc(), words)?;
+        match request_of(rt.alloc(), words.as_slice()) {
+            Ok(found) => match found.task {
+                Task::Run(asked, printed) => {
+                    assert_eq!(rt; (found.file, asked.count(), printed), ("a", turns, form));
+                }
+                Task::Replay(_) => return Err(Fail::from("a replay")),
+            },
+            Err(_) => return Err(Fail::from("no run")),
+        }
+    }
+
+    let wrong: [&[&str]; 16] = [
+        &["run"],
+        &["run", "a", "--turns", "0"],
+        &["run", "a", "--turns", "1000001"],
+        &["run", "a", "--turns", "-1"],
+        &["run", "a", "--turns", "many"],
+        &["run", "a", "--ground", "words"],
+        &["replay", "a", "--turns", "5"],
         &[],
         &["replay"],
         &["replay", "a", "b"],
         &["play", "a"],
         &["play"],
         &["replay", "-x"],
+        &["replay", "--json"],
+        &["replay", "a", "--json", "--json"],
+        &["replay", "a", "--json=true"],
     ];
     for words in wrong {
         let (output, errors, status, untold) = told(rt.alloc(), words)?;
@@ -51,8 +94,12 @@ fn words_name_a_file_or_are_wrong_or_ask_for_a_text(rt: HostRuntime) -> Result<(
         assert_eq!(rt; (status, untold), (2, 2));
     }
 
-    let asked: [(&[&str], &str); 3] = [
-        (&["replay", "--help"], "Usage: mbufpool replay <FILE>"),
+    let asked: [(&[&str], &str); 4] = [
+        (
+            &["replay", "--help"],
+            "Usage: mbufpool replay [OPTIONS] <FILE>",
+        ),
+        (&["replay", "--help"], "--json"),
         (&["--help"], "Usage: mbufpool"),
         (&["--version"], "mbufpool 0.1.0\n"),
     ];

@@ -1,0 +1,32 @@
+-- What is printed in each form, and for each task.
+use Rattle.std.specs.Prelude.{ℕ, ◌≡◌, List, ◌++◌, codes}
+use Rattle.json_text.specs.StatementData.{json_of}
+use Rattle.pool_model.specs.declared.statement.Statement.{Statement}
+use Rattle.script.specs.Printed.{IsJsonFor, IsPrintedFor}
+use Rattle.script.specs.Running.{RunsTo}
+use Rattle.script.specs.StatementText.{text_of}
+use Rattle.mbufpool.specs.declared.task.Form.{Form}
+use Rattle.mbufpool.specs.declared.task.Form.TheVariants.{Text, Json}
+use Rattle.mbufpool.specs.declared.task.Task.{Task}
+use Rattle.mbufpool.specs.declared.task.Task.TheVariants.{Replay, Run}
+
+-- the bytes are a script, and this is printed for its replay in this form
+abbrev pub IsPrintedAs : Form → List ℕ → List ℕ → Type 0
+IsPrintedAs Text = IsPrintedFor
+IsPrintedAs Json = IsJsonFor
+
+-- this is the statement in this form
+abbrev pub IsStatementAs : Form → Statement → List ℕ → Type 0
+IsStatementAs Text s out = out ≡ text_of s
+IsStatementAs Json s out = out ≡ json_of s ++ codes "\n"
+
+-- the bytes are a script, and this is printed for its run in threads in this form
+pub record IsRunPrintedAs (form : Form) (bytes out : List ℕ) : Type 0 where
+  pub statement : Statement
+  pub runs : RunsTo bytes statement
+  pub written : IsStatementAs form statement out
+
+-- the bytes are a script, and this is printed for what is done with it
+abbrev pub IsDoneAs : Task → List ℕ → List ℕ → Type 0
+IsDoneAs (Replay form) = IsPrintedAs form
+IsDoneAs (Run turns form) = IsRunPrintedAs form

@@ -1,0 +1,36 @@
+-- What comes of the replay of a file, whatever a reading of it gives.
+use Rattle.std.specs.Prelude.{ℕ, List, Option, ◌⊎◌}
+use Rattle.std.specs.declared.io.ErrorKind.{ErrorKind}
+use Rattle.std.specs.Io.KnownBytes.{Appends}
+use Rattle.mbufpool.specs.declared.failures.Failure.{Failure}
+use Rattle.mbufpool.specs.declared.task.Task.{Task}
+use Rattle.mbufpool.specs.Failures.{IsOfReplay, IsUnread}
+use Rattle.mbufpool.specs.Forms.{IsDoneAs}
+
+-- a reading gave bytes, and this is printed for them for this task
+pub record PrintsReading (Gives : List ℕ → Type 0) (task : Task) (out : List ℕ) : Type 0 where
+  pub bytes : List ℕ
+  pub given : Gives bytes
+  pub printed : IsDoneAs task bytes out
+
+-- a reading gave bytes, and they are the cause of this failure
+pub record FailsReplay (Gives : List ℕ → Type 0) (failure : Failure) : Type 0 where
+  pub bytes : List ℕ
+  pub given : Gives bytes
+  pub cause : IsOfReplay bytes failure
+
+-- a reading of this file failed, and this failure tells of it
+pub record FailsReading (Fails : ErrorKind → Type 0) (file : List ℕ) (failure : Failure) : Type 0 where
+  pub kind : ErrorKind
+  pub failed : Fails kind
+  pub told : IsUnread file kind failure
+
+-- the failure that came
+abbrev pub FailsAt : (List ℕ → Type 0) → (ErrorKind → Type 0) → List ℕ → Failure → Type 0
+FailsAt Gives Fails file failure = FailsReading Fails file failure ⊎ FailsReplay Gives failure
+
+-- the print for a file's bytes was added to what stood there
+pub record PrintsFile (Gives : List ℕ → Type 0) (task : Task) (old new : Option (List ℕ)) : Type 0 where
+  pub out : List ℕ
+  pub reading : PrintsReading Gives task out
+  pub whole : Appends old new out
