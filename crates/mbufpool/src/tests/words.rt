@@ -14,6 +14,29 @@ fn line(alloc: Global, words: &[&str]) -> Result<Vec<String>, AllocError> {
     Ok(line)
 }
 
+/// Whether the words ask for a run of this file in so many turns, or for its replay where there are none,
+/// printed in this form.
+fn asks_for(
+    alloc: Global,
+    words: &[&str],
+    file: &str,
+    turns: Option<u32>,
+    form: Form,
+) -> Result<bool, AllocError> {
+    let words = line(alloc, words)?;
+    let is = match request_of(alloc, words.as_slice()) {
+        Ok(found) => {
+            let (asked, printed) = match found.task {
+                Task::Replay(printed) => (None, printed),
+                Task::Run(tries, printed) => (Some(tries.count()), printed),
+            };
+            found.file == file && asked == turns && printed == form
+        }
+        Err(_) => false,
+    };
+    Ok(is)
+}
+
 /// What is told of words that name no file, on the output and as errors, and two statuses: where that is
 /// written, and where it can't be.
 fn told(alloc: Global, words: &[&str]) -> Result<(String, String, u8, u8), Fail> {
@@ -32,41 +55,38 @@ fn told(alloc: Global, words: &[&str]) -> Result<(String, String, u8, u8), Fail>
 
 #[test]
 fn words_name_a_file_or_are_wrong_or_ask_for_a_text(rt: HostRuntime) -> Result<(), Fail> {
-    let named: [(&[&str], &str, Form); 4] = [
+    let named: [(&[&str], &str, Option<u32>, Form); 8] = [
         (
             &["replay", "first-run.script"],
             "first-run.script",
+            None,
             Form::Text,
         ),
-        (&["replay", "a", "--json"], "a", Form::Json),
-        (&["replay", "--json", "a"], "a", Form::Json),
-        (&["replay", "--", "--json"], "--json", Form::Text),
+        (&["replay", "a", "--json"], "a", None, Form::Json),
+        (&["replay", "--json", "a"], "a", None, Form::Json),
+        (&["replay", "--", "--json"], "--json", None, Form::Text),
+        (&["run", "a"], "a", Some(1_000), Form::Text),
+        (
+            &["run", "a", "--ground", "locked"],
+            "a",
+            Some(1_000),
+            Form::Text,
+        ),
+        (
+            &["run", "a", "--turns", "1", "--json"],
+            "a",
+            Some(1),
+            Form::Json,
+        ),
+        (
+            &["run", "--turns", "1000000", "a"],
+            "a",
+            Some(1_000_000),
+            Form::Text,
+        ),
     ];
-    for (words, file, form) in named {
-        let words = line(rt.alloc(), words)?;
-        match request_of(rt.alloc(), words.as_slice()) {
-            Ok(found) => assert_eq!(rt; (found.file, found.task), (file, Task::Replay(form))),
-            Err(_) => return Err(Fail::from("no file")),
-        }
-    }
-
-    let run: [(&[&str], u32, Form); 4] = [
-        (&["run", "a"], 1_000, Form::Text),
-        (&["run", "a", "--ground", "locked"], 1_000, Form::Text),
-        (&["run", "a", "--turns", "1", "--json"], 1, Form::Json),
-        (&["run", "--turns", "1000000", "a"], 1_000_000, Form::Text),
-    ];
-    for (words, turns, form) in run {
-        let words = line(rt.alloc(), words)?;
-        match request_of(rt.alloc(), words.as_slice()) {
-            Ok(found) => match found.task {
-                Task::Run(asked, printed) => {
-                    assert_eq!(rt; (found.file, asked.count(), printed), ("a", turns, form));
-                }
-                Task::Replay(_) => return Err(Fail::from("a replay")),
-            },
-            Err(_) => return Err(Fail::from("no run")),
-        }
+    for (words, file, turns, form) in named {
+        assert!(rt; asks_for(rt.alloc(), words, file, turns, form)?);
     }
 
     let wrong: [&[&str]; 16] = [
