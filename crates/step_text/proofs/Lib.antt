@@ -1,0 +1,2 @@
+mod AscendingLemmas
+mod CommonLemmas
