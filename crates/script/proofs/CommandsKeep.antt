@@ -3,7 +3,7 @@ use Rattle.std.proofs.Common.{ℕ, ◌≡◌, List, [], ◌∷◌, ◌++◌, len
 use Rattle.std.proofs.lemmas.Bool.{cases_Bool}
 use Rattle.mbuf.specs.declared.acts.Act.{Act}
 use Rattle.script_text.specs.declared.commands.Command.{Command}
-use Rattle.script_text.specs.declared.commands.Line.{Line}
+use Rattle.script_text.specs.Commands.{Line}
 use Rattle.pool_model.specs.Pool.{Pool}
 use Rattle.pool_model.specs.PacketModel.{perform, after_acts}
 use Rattle.pool_model.proofs.AfterActs.{after_one_more}

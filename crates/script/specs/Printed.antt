@@ -2,7 +2,7 @@
 use Rattle.std.specs.Prelude.{ℕ, ◌≡◌, List, ◌++◌, codes, flat_map}
 use Rattle.commons.specs.declared.limits.Limits.{Limits}
 use Rattle.json_text.specs.StatementData.{json_of}
-use Rattle.script_text.specs.declared.commands.Line.{Line}
+use Rattle.script_text.specs.Commands.{Line}
 use Rattle.script_text.specs.Grammar.{IsScript}
 use Rattle.script.specs.Replay.{replies_to, end_of, new_run}
 use Rattle.script.specs.ReplyText.{reply_line}

@@ -5,7 +5,7 @@ use Rattle.commons.specs.declared.limits.Limits.{Limits}
 use Rattle.commons.specs.declared.refusal.Refusal.TheVariants.{NoSuchPacket}
 use Rattle.script_text.specs.declared.commands.Command.{Command}
 use Rattle.script_text.specs.declared.commands.Command.TheVariants as command
-use Rattle.script_text.specs.declared.commands.Line.{Line}
+use Rattle.script_text.specs.Commands.{Line}
 use Rattle.mbuf.specs.declared.acts.Act.{Act}
 use Rattle.mbuf.specs.declared.acts.Act.TheVariants.{Alloc, AllocBulk, Free, Append, Prepend, Adj, Trim, Chain, Attach, Detach, ClonePacket, Offer, Take, CountOf, Flush}
 use Rattle.commons.specs.declared.change.Change.{Change}

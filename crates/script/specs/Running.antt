@@ -6,7 +6,7 @@ use Rattle.pool_model.specs.PacketModel.{after_acts}
 use Rattle.pool_model.specs.Pool.{new_pool}
 use Rattle.pool_model.specs.Statements.{statement_of}
 use Rattle.pool_model.specs.declared.statement.Statement.{Statement}
-use Rattle.script_text.specs.declared.commands.Line.{Line}
+use Rattle.script_text.specs.Commands.{Line}
 use Rattle.script_text.specs.Grammar.{IsScript}
 
 -- The bytes are a script, and this is the statement of a new pool of its limits after some acts of its workers, one

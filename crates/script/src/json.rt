@@ -1,7 +1,7 @@
 //! What a replay prints as JSON: the statement at the end.
 ghost use Rattle.std.specs.Prelude.{◌≡◌, List, IfErr, IfOk, MatchResult};
 ghost use Rattle.commons.specs.declared.limits.Limits.{Limits};
-ghost use Rattle.script_text.specs.declared.commands.Line.{Line};
+ghost use Rattle.script_text.specs.Commands.{Line};
 ghost use Rattle.script_text.specs.Grammar.{IsCause, IsScript};
 ghost use Rattle.script.specs.Printed.{json_for, IsJsonFor};
 

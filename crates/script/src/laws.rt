@@ -5,7 +5,7 @@ ghost use Rattle.commons.specs.Bounds.{IsPool};
 ghost use Rattle.commons.specs.declared.limits.Limits.{Limits};
 ghost use Rattle.pool_model.specs.Statements.{statement_of, ListsEachOnce, PlacesEachOnce};
 ghost use Rattle.script.specs.Replay.{new_run, end_of};
-ghost use Rattle.script_text.specs.declared.commands.Line.{Line};
+ghost use Rattle.script_text.specs.Commands.{Line};
 
 use pool_model::laws;
 

@@ -1,7 +1,7 @@
 ghost use Rattle.std.specs.Prelude.{◌≡◌, ◌++◌, List, flat_map, IfOk, IfErr, OnOk, MatchResult};
 ghost use Rattle.commons.specs.declared.limits.Limits.{Limits};
 ghost use Rattle.commons.specs.declared.refusal.Refusal.{Refusal};
-ghost use Rattle.script_text.specs.declared.commands.Line.{Line};
+ghost use Rattle.script_text.specs.Commands.{Line};
 ghost use Rattle.script_text.specs.Grammar.{IsScript, IsCause};
 ghost use Rattle.script.specs.ReplyText.{reply_line};
 ghost use Rattle.script.specs.Printed.{printed_for, IsPrintedFor};

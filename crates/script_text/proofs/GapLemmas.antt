@@ -4,87 +4,95 @@ use Rattle.std.specs.Prelude.{◌⊎◌}
 use Rattle.commons.specs.declared.limits.Limits.{Limits}
 use Rattle.commons.specs.declared.refusal.Refusal.{Refusal}
 use Rattle.commons.specs.declared.refusal.Refusal.TheVariants as refusals
-use Rattle.script_text.specs.Grammar.{State, start, HasBadPool, IsCause, IsSomeScript, HasSomeFault}
-use Rattle.script_text.specs.inside.Reading.{parts, are_ready, read_line, step_with, step, finish, goes_on, read_lines, read_from, read_text}
+use Rattle.script_text.specs.Scripts.{State, start, HasBadPool, IsCause, IsSomeScript, HasSomeFault}
+use Rattle.script_text.specs.inside.Reading.{parts}
+use Rattle.script_text.specs.inside.ScriptReading.{Lexicon, are_ready, read_line, judged_as, judged, finish, goes_on, read_lines, read_from, read_text}
 use Rattle.script_text.proofs.ScriptLemmas.{script_from, cause_from}
+use Rattle.script_text.proofs.Right.{IsRight}
 
-abbrev wants_memory : Result State Refusal
-wants_memory = Err refusals.OutOfMemory
+module _ {C : Type 0} (lexicon : Lexicon C) (right : IsRight lexicon) where
+  -- a refusal for want of memory
+  abbrev wants_memory : Result (State C) Refusal
+  wants_memory = Err refusals.OutOfMemory
 
--- what was read has limits, or was refused, but not for want of memory
-abbrev IsAnswer : Result State Refusal → Type 0
-IsAnswer (Ok state) = (limits : Limits) × (state.limits ≡ Some limits)
-IsAnswer (Err refusal) = refusal ≢ refusals.OutOfMemory
+  -- what was read has limits, or was refused, but not for want of memory
+  abbrev IsAnswer : Result (State C) Refusal → Type 0
+  IsAnswer (Ok state) = (limits : Limits) × (state.limits ≡ Some limits)
+  IsAnswer (Err refusal) = refusal ≢ refusals.OutOfMemory
 
-fault_answers : (number : ℕ) → refusals.ScriptFault number ≢ refusals.OutOfMemory
-fault_answers number e = cc
+  -- a faulty line is no want of memory
+  fault_answers : (number : ℕ) → refusals.ScriptFault number ≢ refusals.OutOfMemory
+  fault_answers number e = cc
 
--- a line's step goes on, or finds a bad pool
-ready_answers : (b : Bool) (next : State) → cond b (Ok next) (Err refusals.BadPool) ≢ wants_memory
-ready_answers true next e = cc
-ready_answers false next e = cc
+  -- a reading goes on, or finds a bad pool
+  ready_answers : (b : Bool) (next : State C) → cond b (Ok next) (Err refusals.BadPool) ≢ wants_memory
+  ready_answers true next e = cc
+  ready_answers false next e = cc
 
--- a line's step goes on, is a fault or finds a bad pool, and never wants memory
-step_answers : (o : Option State) (number : ℕ) → step_with number o ≢ wants_memory
-step_answers None number e = cc
-step_answers (Some next) number e = ready_answers (are_ready next.limits) next e
+  -- a line goes on, is a fault or finds a bad pool, and never wants memory
+  judged_answers : (o : Option (State C)) (number : ℕ) → judged_as number o ≢ wants_memory
+  judged_answers None number e = cc
+  judged_answers (Some next) number e = ready_answers (are_ready next.limits) next e
 
--- at the end there are limits, or a line isn't ended, or no pool line was read
-finish_answers : (o : Option Limits) (state : State) (number : ℕ) (rest : List ℕ) →
-    state.limits ≡ o → IsAnswer (finish o state number rest)
-finish_answers None state number [] e = fault_answers (max 1 (number - 1))
-finish_answers (Some limits) state number [] e = (limits, e)
-finish_answers None state number (byte ∷ rest) e = fault_answers number
-finish_answers (Some limits) state number (byte ∷ rest) e = fault_answers number
+  -- at the end there are limits, or a line isn't ended, or no pool line was read
+  finish_answers : (o : Option Limits) (state : State C) (number : ℕ) (rest : List ℕ) →
+      state.limits ≡ o → IsAnswer (finish o state number rest)
+  finish_answers None state number [] e = fault_answers (max 1 (number - 1))
+  finish_answers (Some limits) state number [] e = (limits, e)
+  finish_answers None state number (byte ∷ rest) e = fault_answers number
+  finish_answers (Some limits) state number (byte ∷ rest) e = fault_answers number
 
--- where no step wants memory, a further one doesn't
-goes_answers : (r : Result State Refusal) (f : State → Result State Refusal) → r ≢ wants_memory →
-    ((next : State) → IsAnswer (f next)) → IsAnswer (goes_on r f)
-goes_answers (Ok next) f h k = k next
-goes_answers (Err refusal) f h k = λ e. h (ap (λ (x : Refusal). Err x) e)
+  -- where no line wants memory, what comes of going on doesn't
+  goes_answers : (r : Result (State C) Refusal) (f : State C → Result (State C) Refusal) → r ≢ wants_memory →
+      ((next : State C) → IsAnswer (f next)) → IsAnswer (goes_on r f)
+  goes_answers (Ok next) f h k = k next
+  goes_answers (Err refusal) f h k = λ e. h (ap (λ (x : Refusal). Err x) e)
 
--- lines one after another give an answer, as each step does and the end
-lines_answer : (lines : List (List ℕ)) (state : State) (number : ℕ) (rest : List ℕ) →
-    IsAnswer (read_lines state number lines rest)
-unfolding read_lines step
-lines_answer [] state number rest = finish_answers state.limits state number rest refl
-lines_answer (line ∷ lines) state number rest =
-    goes_answers (step state number line) (λ next. read_lines next (number + 1) lines rest)
-    (step_answers (read_line state number line) number)
-    (λ next. lines_answer lines next (number + 1) rest)
+  -- lines one after another give an answer, as each line does and the end
+  lines_answer : (lines : List (List ℕ)) (state : State C) (number : ℕ) (rest : List ℕ) →
+      IsAnswer (read_lines lexicon state number lines rest)
+  unfolding read_lines judged
+  lines_answer [] state number rest = finish_answers state.limits state number rest refl
+  lines_answer (line ∷ lines) state number rest =
+      goes_answers (judged lexicon state number line) (λ next. read_lines lexicon next (number + 1) lines rest)
+      (judged_answers (read_line lexicon state number line) number)
+      (λ next. lines_answer lines next (number + 1) rest)
 
--- a text that is too long is a fault, which is an answer
-short_answers : (b : Bool) (read : Result State Refusal) → IsAnswer read →
-    IsAnswer (cond b (Err (refusals.ScriptFault 0)) read)
-short_answers true read h = fault_answers 0
-short_answers false read h = h
+  -- a text that is too long is a fault, which is an answer
+  short_answers : (b : Bool) (read : Result (State C) Refusal) → IsAnswer read →
+      IsAnswer (cond b (Err (refusals.ScriptFault 0)) read)
+  short_answers true read h = fault_answers 0
+  short_answers false read h = h
 
--- each text has an answer by its lines, or is too long
-text_answers : (bytes : List ℕ) → IsAnswer (read_text bytes)
-unfolding read_text read_from
-text_answers bytes =
-    short_answers (ltb 1048576 (length bytes)) (read_from start 1 bytes)
-    (lines_answer (parts bytes).lines start 1 (parts bytes).rest)
+  -- each text has an answer by its lines, or is too long
+  text_answers : (bytes : List ℕ) → IsAnswer (read_text lexicon bytes)
+  unfolding read_text read_from
+  text_answers bytes =
+      short_answers (ltb 1048576 (length bytes)) (read_from lexicon start 1 bytes)
+      (lines_answer (parts bytes).lines start 1 (parts bytes).rest)
 
--- a cause other than want of memory is a faulty line or a bad pool
-fault_or_pool : (refusal : Refusal) (bytes : List ℕ) → refusal ≢ refusals.OutOfMemory →
-    IsCause bytes refusal → HasSomeFault bytes ⊎ HasBadPool bytes
-fault_or_pool refusals.BadPool bytes h cause = inr cause
-fault_or_pool (refusals.ScriptFault number) bytes h cause = inl (record { number = number; fault = cause })
-fault_or_pool refusals.OutOfMemory bytes h cause = absurd (h refl)
-fault_or_pool refusal bytes h cause = absurd cause
+  -- a cause other than want of memory is a faulty line or a bad pool
+  fault_or_pool : (refusal : Refusal) (bytes : List ℕ) → refusal ≢ refusals.OutOfMemory →
+      IsCause lexicon.language bytes refusal → HasSomeFault lexicon.language bytes ⊎ HasBadPool lexicon.language bytes
+  fault_or_pool refusals.BadPool bytes h cause = inr cause
+  fault_or_pool (refusals.ScriptFault number) bytes h cause = inl (record { number = number; fault = cause })
+  fault_or_pool refusals.OutOfMemory bytes h cause = absurd (h refl)
+  fault_or_pool refusal bytes h cause = absurd cause
 
--- what was read is a script of the grammar, and what was refused has its cause
-read_by : (read : Result State Refusal) (bytes : List ℕ) → read_text bytes ≡ read → IsAnswer read →
-    IsSomeScript bytes ⊎ (HasSomeFault bytes ⊎ HasBadPool bytes)
-read_by (Ok state) bytes e h = inl (record {
-  limits = h.0;
-  lines = state.lines;
-  script =
-      script_from bytes h.0 state.lines
-      (e ∙ ap (λ (o : Option Limits). Ok (record { limits = o; lines = state.lines })) h.1);
-})
-read_by (Err refusal) bytes e h = inr (fault_or_pool refusal bytes h (cause_from bytes refusal e))
+  -- what was read is a script of the grammar, and what was refused has its cause
+  read_by : (read : Result (State C) Refusal) (bytes : List ℕ) → read_text lexicon bytes ≡ read → IsAnswer read →
+      IsSomeScript lexicon.language bytes ⊎ (HasSomeFault lexicon.language bytes ⊎ HasBadPool lexicon.language bytes)
+  read_by (Ok state) bytes e h = inl (record {
+    limits = h.0;
+    lines = state.lines;
+    script =
+        script_from lexicon right bytes h.0 state.lines
+        (e ∙ ap (λ (o : Option Limits). Ok (record { limits = o; lines = state.lines })) h.1);
+  })
+  read_by (Err refusal) bytes e h = inr (fault_or_pool refusal bytes h (cause_from lexicon right bytes refusal e))
 
-pub script_or_fault : (bytes : List ℕ) → IsSomeScript bytes ⊎ (HasSomeFault bytes ⊎ HasBadPool bytes)
-script_or_fault bytes = read_by (read_text bytes) bytes refl (text_answers bytes)
+  -- a text has an answer, which is a script of the grammar, or a fault, or a bad pool
+  pub script_or_fault : (bytes : List ℕ) →
+      IsSomeScript lexicon.language bytes ⊎ (HasSomeFault lexicon.language bytes
+      ⊎ HasBadPool lexicon.language bytes)
+  script_or_fault bytes = read_by (read_text lexicon bytes) bytes refl (text_answers bytes)

@@ -1,22 +1,21 @@
 -- A line's reading in the grammar is what the reading function gives, and so are the lines' one after another.
-use Rattle.std.proofs.Common.{◌≡◌, ℕ, true, false, cond, eqb, ltb, leb, List, [], ◌∷◌, ◌++◌, length, Option, Some, None, refl, sym, ap, ◌∙◌, arith, inl, inr}
-use Rattle.std.specs.Prelude.{option_and_then, codes}
+use Rattle.std.proofs.Common.{◌≡◌, ℕ, true, false, cond, ltb, leb, List, length, Option, Some, None, refl, sym, ap, ◌∙◌, inl, inr}
+use Rattle.std.specs.Prelude.{option_and_then}
 use Rattle.std.specs.List.{list_all}
-use Rattle.std.proofs.lemmas.Bool.{cond-true, cond-false, cases_Bool, leb-true, le-leb, ltb-true, lt-ltb, and_parts, and_from, eqb-true, false_from_ne_true}
+use Rattle.std.proofs.lemmas.Bool.{cond-true, cond-false, cases_Bool, leb-true, le-leb, ltb-true, lt-ltb, and_parts, and_from}
 use Rattle.commons.specs.declared.limits.Limits.{Limits}
-use Rattle.script_text.specs.declared.commands.Command.{Command}
-use Rattle.script_text.specs.Numbers.{IsNumber}
-use Rattle.script_text.specs.CommandLine.{IsCommandLine, alone, prefixed}
-use Rattle.script_text.specs.Commands.{names_made}
 use Rattle.script_text.specs.Text.{IsPrinted, IsPlain}
-use Rattle.script_text.specs.Grammar.{State, with_command, ReadsPool, ReadsCommand, Takes, skips, gives_pool, commands, Reads}
-use Rattle.script_text.specs.inside.Reading.{words_of, is_printed, is_plain, is_skipped, repeats, order_from, limits_from, with_limits, add_command, read_command, read_pool, read_words, read_line}
+use Rattle.script_text.specs.Scripts.{State, with_command, ReadsPool, ReadsCommand, Takes, skips, gives_pool, commands, Reads}
+use Rattle.script_text.specs.inside.Reading.{words_of, is_printed, is_plain, is_skipped, limits_from}
+use Rattle.script_text.specs.inside.ScriptReading.{Lexicon, repeats, order_from, with_limits, add_command, read_command, read_pool, read_words, read_line, is_made}
 use Rattle.script_text.proofs.WordLemmas.{spelled_once, words_are, skipped_is, skipped_from}
 use Rattle.script_text.proofs.NumberLemmas.{all_from, all_to, within_from, within_to}
-use Rattle.script_text.proofs.KeptLemmas.{and_then_some, found_is}
-use Rattle.script_text.proofs.PoolLineLemmas.{if_some, if_none, pool_line_from, pool_line_is}
-use Rattle.script_text.proofs.CommandLemmas.{counted_command, order_comes, order_is, anew_is, anew_from}
-use Rattle.script_text.proofs.StepLemmas.{read_skipped, read_as}
+use Rattle.script_text.proofs.PoolLineLemmas.{pool_line_from, pool_line_is}
+use Rattle.script_text.proofs.OrderLemmas.{order_comes, order_is, counted_line}
+use Rattle.script_text.proofs.JudgedLemmas.{read_skipped, read_as}
+use Rattle.script_text.proofs.MakingLemmas.{anew_is, anew_from}
+use Rattle.script_text.proofs.FoundLemmas.{and_then_some, found_is, if_some, if_none}
+use Rattle.script_text.proofs.Right.{IsRight}
 
 -- ---- one line
 
@@ -35,134 +34,119 @@ plain_is line h =
     and_from (leb (length line) 8192) (list_all is_printed line) (le-leb (length line) 8192 h.short)
     (all_to is_printed IsPrinted (λ byte p. within_to 32 126 byte p) line h.printed)
 
--- with no limits told yet, what is read is a pool line
-pool_takes : (state after : State) (number : ℕ) (line : List ℕ) → state.limits ≡ None →
-    read_pool state (words_of line) ≡ Some after → Takes state number line after
-pool_takes state after number line none e =
-    let l = and_then_some (λ limits. Some (with_limits state limits)) (limits_from (words_of line)) after e in
-    gives_pool (record {
-      first = none;
-      words = words_of line;
-      spelled = words_are line;
-      limits = l.0;
-      is_pool_line = pool_line_from (words_of line) l.0 l.1;
-      after_is = sym (found_is (with_limits state l.0) after l.2);
-    })
+module _ {C : Type 0} (lexicon : Lexicon C) (right : IsRight lexicon) where
+  -- in front of the limits what is read is the pool line
+  pool_takes : (state after : State C) (number : ℕ) (line : List ℕ) → state.limits ≡ None →
+      read_pool state (words_of line) ≡ Some after → Takes lexicon.language state number line after
+  pool_takes state after number line none e =
+      let l = and_then_some (λ limits. Some (with_limits state limits)) (limits_from (words_of line)) after e in
+      gives_pool (record {
+        first = none;
+        words = words_of line;
+        spelled = words_are line;
+        limits = l.0;
+        is_pool_line = pool_line_from (words_of line) l.0 l.1;
+        after_is = sym (found_is (with_limits state l.0) after l.2);
+      })
 
--- behind the pool line what is read is a command line: not one too many, its names made anew
-command_takes : (state after : State) (number : ℕ) (line : List ℕ) (limits : Limits) →
-    state.limits ≡ Some limits →
-    read_command limits.workers state number (words_of line) ≡ Some after →
-    Takes state number line after
-command_takes state after number line limits some e =
-    let few =
-    if_some (ltb (length state.lines) 10000)
-    (option_and_then (add_command state number) (order_from limits.workers (words_of line)))
-    after e in
-    let c = and_then_some (add_command state number) (order_from limits.workers (words_of line)) after few.1 in
-    let anew =
-    if_none (repeats state.lines c.0.0 (names_made c.0.1))
-    (Some (with_command state number c.0.0 c.0.1)) after c.2 in
-    commands (record {
-      limits = limits;
-      behind_pool = some;
-      few = ltb-true (length state.lines) 10000 few.0;
-      words = words_of line;
-      spelled = words_are line;
-      worker = c.0.0;
-      command = c.0.1;
-      is_command_line = order_comes limits.workers (words_of line) c.0 c.1;
-      anew = anew_from state.lines c.0.0 c.0.1 anew.0;
-      after_is = sym (found_is (with_command state number c.0.0 c.0.1) after anew.1);
-    })
+  -- behind the pool line what is read is a command line: not one too many, its names made anew
+  command_takes : (state after : State C) (number : ℕ) (line : List ℕ) (limits : Limits) →
+      state.limits ≡ Some limits →
+      read_command lexicon limits.workers state number (words_of line) ≡ Some after →
+      Takes lexicon.language state number line after
+  command_takes state after number line limits some e =
+      let few =
+      if_some (ltb (length state.lines) 10000)
+      (option_and_then (add_command lexicon state number) (order_from lexicon limits.workers (words_of line)))
+      after e in
+      let c = and_then_some (add_command lexicon state number) (order_from lexicon limits.workers (words_of line)) after few.1 in
+      let anew =
+      if_none (repeats (is_made lexicon state.lines) c.0.0 (lexicon.language.names_made c.0.1))
+      (Some (with_command state number c.0.0 c.0.1)) after c.2 in
+      commands (record {
+        limits = limits;
+        behind_pool = some;
+        few = ltb-true (length state.lines) 10000 few.0;
+        words = words_of line;
+        spelled = words_are line;
+        worker = c.0.0;
+        command = c.0.1;
+        is_command_line = order_comes lexicon right limits.workers (words_of line) c.0 c.1;
+        anew = anew_from lexicon state.lines c.0.0 c.0.1 anew.0;
+        after_is = sym (found_is (with_command state number c.0.0 c.0.1) after anew.1);
+      })
 
--- whether limits are told says whether a line is the pool line or a command
-words_take : (limits : Option Limits) (state after : State) (number : ℕ) (line : List ℕ) →
-    state.limits ≡ limits → read_words limits state number (words_of line) ≡ Some after →
-    Takes state number line after
-words_take None state after number line e h = pool_takes state after number line e h
-words_take (Some limits) state after number line e h = command_takes state after number line limits e h
+  -- whether limits are told says whether a line is the pool line or a command
+  words_take : (limits : Option Limits) (state after : State C) (number : ℕ) (line : List ℕ) →
+      state.limits ≡ limits → read_words lexicon limits state number (words_of line) ≡ Some after →
+      Takes lexicon.language state number line after
+  words_take None state after number line e h = pool_takes state after number line e h
+  words_take (Some limits) state after number line e h = command_takes state after number line limits e h
 
--- a line that is read is plain, and is skipped, or the pool line, or a command
-pub reads_from : (state after : State) (number : ℕ) (line : List ℕ) →
-    read_line state number line ≡ Some after → Reads state number line after
-unfolding read_line
-reads_from state after number line e =
-    let plain =
-    if_some (is_plain line) (cond (is_skipped (words_of line)) (Some state)
-    (read_words state.limits state number (words_of line))) after e in
-    record {
-      plain = plain_from line plain.0;
-      takes = elim (cases_Bool (is_skipped (words_of line))) [
-        | inl skipped ↦
-            skips (skipped_from line skipped) (sym (found_is state after (sym
-            (cond-true (is_skipped (words_of line)) (Some state)
-            (read_words state.limits state number (words_of line)) skipped) ∙ plain.1)))
-        | inr counted ↦
-            words_take state.limits state after number line refl (sym (cond-false
-            (is_skipped (words_of line)) (Some state)
-            (read_words state.limits state number (words_of line)) counted) ∙ plain.1)
-      ];
-    }
+  -- a line that is read is plain, and is skipped, or the pool line, or a command
+  pub reads_from : (state after : State C) (number : ℕ) (line : List ℕ) →
+      read_line lexicon state number line ≡ Some after → Reads lexicon.language state number line after
+  unfolding read_line
+  reads_from state after number line e =
+      let plain =
+      if_some (is_plain line) (cond (is_skipped (words_of line)) (Some state)
+      (read_words lexicon state.limits state number (words_of line))) after e in
+      record {
+        plain = plain_from line plain.0;
+        takes = elim (cases_Bool (is_skipped (words_of line))) [
+          | inl skipped ↦
+              skips (skipped_from line skipped) (sym (found_is state after (sym
+              (cond-true (is_skipped (words_of line)) (Some state)
+              (read_words lexicon state.limits state number (words_of line)) skipped) ∙ plain.1)))
+          | inr counted ↦
+              words_take state.limits state after number line refl (sym (cond-false
+              (is_skipped (words_of line)) (Some state)
+              (read_words lexicon state.limits state number (words_of line)) counted) ∙ plain.1)
+        ];
+      }
 
--- a pool line of the grammar isn't skipped, and is read as its limits
-pool_is_read : (state after : State) (number : ℕ) (line : List ℕ) → IsPlain line →
-    ReadsPool state line after → read_line state number line ≡ Some after
-pool_is_read state after number line plain h =
-    let words : words_of line ≡ h.words = spelled_once h.words line h.spelled in
-    let counted : is_skipped (words_of line) ≡ false = ap is_skipped (words ∙ h.is_pool_line.words_are) in
-    read_as state number line None (plain_is line plain) counted h.first
-    ∙ ap (option_and_then (λ limits. Some (with_limits state limits)))
-    (ap limits_from words ∙ pool_line_is h.words h.limits h.is_pool_line)
-    ∙ ap (λ (s : State). Some s) (sym h.after_is)
+  -- a pool line of the grammar isn't skipped, and is read as its limits
+  pool_is_read : (state after : State C) (number : ℕ) (line : List ℕ) → IsPlain line →
+      ReadsPool state line after → read_line lexicon state number line ≡ Some after
+  pool_is_read state after number line plain h =
+      let words : words_of line ≡ h.words = spelled_once h.words line h.spelled in
+      let counted : is_skipped (words_of line) ≡ false = ap is_skipped (words ∙ h.is_pool_line.words_are) in
+      read_as lexicon state number line None (plain_is line plain) counted h.first
+      ∙ ap (option_and_then (λ limits. Some (with_limits state limits)))
+      (ap limits_from words ∙ pool_line_is h.words h.limits h.is_pool_line)
+      ∙ ap (λ (s : State C). Some s) (sym h.after_is)
 
--- a number begins with a digit, and not with `#`
-counted_prefix : (word number : List ℕ) (workers worker : ℕ) (rest : List (List ℕ)) →
-    word ≡ number ++ codes ":" → IsNumber number worker → is_skipped (word ∷ rest) ≡ false
-counted_prefix word [] workers worker rest e h = absurd (omega (arith, h.some))
-counted_prefix word (byte ∷ number) workers worker rest e h =
-    ap (λ (w : List ℕ). is_skipped (w ∷ rest)) e
-    ∙ false_from_ne_true (eqb byte 35)
-    (λ same. let digit = h.digits.0 in omega (arith, digit.0, eqb-true byte 35 same))
+  -- a command line of the grammar isn't skipped, and is read as its worker's command
+  command_is_read : (state after : State C) (number : ℕ) (line : List ℕ) → IsPlain line →
+      ReadsCommand lexicon.language state number line after → read_line lexicon state number line ≡ Some after
+  command_is_read state after number line plain h =
+      let words : words_of line ≡ h.words = spelled_once h.words line h.spelled in
+      let order : order_from lexicon h.limits.workers (words_of line) ≡ Some (h.worker, h.command) =
+      ap (order_from lexicon h.limits.workers) words
+      ∙ order_is lexicon right h.limits.workers h.words h.worker h.command h.is_command_line in
+      let counted : is_skipped (words_of line) ≡ false =
+      ap is_skipped words
+      ∙ counted_line lexicon right h.limits.workers h.words h.worker h.command h.is_command_line in
+      read_as lexicon state number line (Some h.limits) (plain_is line plain) counted h.behind_pool
+      ∙ cond-true (ltb (length state.lines) 10000)
+      (option_and_then (add_command lexicon state number) (order_from lexicon h.limits.workers (words_of line)))
+      None (lt-ltb (length state.lines) 10000 h.few)
+      ∙ ap (option_and_then (add_command lexicon state number)) order
+      ∙ cond-false (repeats (is_made lexicon state.lines) h.worker (lexicon.language.names_made h.command)) None
+      (Some (with_command state number h.worker h.command))
+      (anew_is lexicon state.lines h.worker h.command h.anew)
+      ∙ ap (λ (s : State C). Some s) (sym h.after_is)
 
--- neither a verb nor a worker's number begins with `#`, so a command line isn't skipped
-counted_line : (workers : ℕ) (words : List (List ℕ)) (worker : ℕ) (command : Command) →
-    IsCommandLine workers words worker command → is_skipped words ≡ false
-counted_line workers words worker command (alone one h) = counted_command words command h
-counted_line workers words worker command (prefixed word rest e p h) =
-    ap is_skipped e ∙ counted_prefix word p.number workers worker rest p.whole p.is_number
+  -- each of the three things that a line can be is read as that
+  takes_is_read : (state after : State C) (number : ℕ) (line : List ℕ) → IsPlain line →
+      Takes lexicon.language state number line after → read_line lexicon state number line ≡ Some after
+  takes_is_read state after number line plain (skips skipped after_is) =
+      read_skipped lexicon state number line (plain_is line plain) (skipped_is line skipped)
+      ∙ ap (λ (s : State C). Some s) (sym after_is)
+  takes_is_read state after number line plain (gives_pool h) = pool_is_read state after number line plain h
+  takes_is_read state after number line plain (commands h) = command_is_read state after number line plain h
 
--- a command line of the grammar isn't skipped, and is read as its worker's command
-command_is_read : (state after : State) (number : ℕ) (line : List ℕ) → IsPlain line →
-    ReadsCommand state number line after → read_line state number line ≡ Some after
-command_is_read state after number line plain h =
-    let words : words_of line ≡ h.words = spelled_once h.words line h.spelled in
-    let order : order_from h.limits.workers (words_of line) ≡ Some (h.worker, h.command) =
-    ap (order_from h.limits.workers) words
-    ∙ order_is h.limits.workers h.words h.worker h.command h.is_command_line in
-    let counted : is_skipped (words_of line) ≡ false =
-    ap is_skipped words
-    ∙ counted_line h.limits.workers h.words h.worker h.command h.is_command_line in
-    read_as state number line (Some h.limits) (plain_is line plain) counted h.behind_pool
-    ∙ cond-true (ltb (length state.lines) 10000)
-    (option_and_then (add_command state number) (order_from h.limits.workers (words_of line)))
-    None (lt-ltb (length state.lines) 10000 h.few)
-    ∙ ap (option_and_then (add_command state number)) order
-    ∙ cond-false (repeats state.lines h.worker (names_made h.command)) None
-    (Some (with_command state number h.worker h.command))
-    (anew_is state.lines h.worker h.command h.anew)
-    ∙ ap (λ (s : State). Some s) (sym h.after_is)
-
--- each of the three things that a line can be is read as that
-takes_is_read : (state after : State) (number : ℕ) (line : List ℕ) → IsPlain line →
-    Takes state number line after → read_line state number line ≡ Some after
-takes_is_read state after number line plain (skips skipped after_is) =
-    read_skipped state number line (plain_is line plain) (skipped_is line skipped)
-    ∙ ap (λ (s : State). Some s) (sym after_is)
-takes_is_read state after number line plain (gives_pool h) = pool_is_read state after number line plain h
-takes_is_read state after number line plain (commands h) = command_is_read state after number line plain h
-
--- a line's reading in the grammar is the one that the function gives
-pub reads_is : (state after : State) (number : ℕ) (line : List ℕ) → Reads state number line after →
-    read_line state number line ≡ Some after
-reads_is state after number line h = takes_is_read state after number line h.plain h.takes
+  -- a line's reading in the grammar is the one that the function gives
+  pub reads_is : (state after : State C) (number : ℕ) (line : List ℕ) → Reads lexicon.language state number line after →
+      read_line lexicon state number line ≡ Some after
+  reads_is state after number line h = takes_is_read state after number line h.plain h.takes

@@ -9,12 +9,11 @@ use Rattle.std.specs.HashSet.{contains}
 use Rattle.std.proofs.lemmas.Bool.Decides.{same_from_decides, Decides-and, Decides-like}
 use Rattle.std.proofs.lemmas.List.{ext_get_or}
 use Rattle.std.proofs.lemmas.Slice.Eq.{bytes_eq-Decides}
-use Rattle.script_text.specs.declared.commands.Line.{Line}
+use Rattle.script_text.specs.declared.lines.Line.{Line}
 use Rattle.script_text.specs.declared.made_names.MadeNames.{MadeNames}
-use Rattle.script_text.specs.Commands.{names_made}
 use Rattle.script_text.specs.Names.{IsName, IsLetter}
 use Rattle.script_text.specs.Numbers.{IsDigit}
-use Rattle.script_text.specs.inside.Reading.{is_one_of, is_made}
+use Rattle.script_text.specs.inside.ScriptReading.{Lexicon, is_one_of, is_made}
 use Rattle.script_text.specs.inside.Agreement.{padded_to, same_made, has_made}
 
 -- a padded name has as many bytes as it is padded to
@@ -142,15 +141,15 @@ or_swap false true = refl
 or_swap false false = refl
 
 -- one line more makes its command's names for its worker, beside those made before
-pub is_made-push : (lines : List Line) (line : Line) (worker : ℕ) (name : List ℕ) →
-    is_made (lines ++ line ∷ []) worker name
-    ≡ ((worker == line.worker && is_one_of (names_made line.command) name)
-    || is_made lines worker name)
-is_made-push [] line worker name = refl
-is_made-push (first ∷ lines) line worker name =
-    let one = worker == first.worker && is_one_of (names_made first.command) name in
-    let new = worker == line.worker && is_one_of (names_made line.command) name in
-    ap (λ (t : Bool). one || t) (is_made-push lines line worker name)
-    ∙ or_assoc one new (is_made lines worker name)
-    ∙ ap (λ (t : Bool). t || is_made lines worker name) (or_swap one new)
-    ∙ sym (or_assoc new one (is_made lines worker name))
+pub is_made-push : {C : Type 0} (lexicon : Lexicon C) (lines : List (Line C)) (line : Line C) (worker : ℕ) (name : List ℕ) →
+    is_made lexicon (lines ++ line ∷ []) worker name
+    ≡ ((worker == line.worker && is_one_of (lexicon.language.names_made line.command) name)
+    || is_made lexicon lines worker name)
+is_made-push lexicon [] line worker name = refl
+is_made-push lexicon (first ∷ lines) line worker name =
+    let one = worker == first.worker && is_one_of (lexicon.language.names_made first.command) name in
+    let new = worker == line.worker && is_one_of (lexicon.language.names_made line.command) name in
+    ap (λ (t : Bool). one || t) (is_made-push lexicon lines line worker name)
+    ∙ or_assoc one new (is_made lexicon lines worker name)
+    ∙ ap (λ (t : Bool). t || is_made lexicon lines worker name) (or_swap one new)
+    ∙ sym (or_assoc new one (is_made lexicon lines worker name))

@@ -1,6 +1,6 @@
 -- A number is what the reading function gives, and a name is what passes its test.
-use Rattle.std.proofs.Common.{◌≡◌, ℕ, suc, ◌+◌, ◌-◌, ◌*◌, ◌^◌, ◌<◌, ◌≤◌, Bool, true, false, ltb, leb, List, [], ◌∷◌, ◌++◌, length, get_or, take, drop, Some, None, refl, sym, ap, ◌∙◌, arith, inl, inr}
-use Rattle.std.specs.Prelude.{◌&&◌, ◌||◌, ◌⊎◌}
+use Rattle.std.proofs.Common.{◌≡◌, ℕ, suc, ◌+◌, ◌-◌, ◌*◌, ◌^◌, ◌<◌, ◌≤◌, Bool, true, false, ltb, leb, List, [], ◌∷◌, ◌++◌, length, get_or, take, drop, Some, None, refl, sym, ap, ◌∙◌, arith, inl, inr, subst}
+use Rattle.std.specs.Prelude.{◌&&◌, ◌||◌, ◌⊎◌, option_and_then}
 use Rattle.std.specs.List.{AllByRecursion, list_all}
 use Rattle.std.proofs.lemmas.Bool.{ltb-true, leb-true, lt-ltb, le-leb, le-ltb, and_left, and_right, and_parts, and_from, or_cases, or_left, or_right, cond-true, cond-false, false≢true}
 use Rattle.std.proofs.lemmas.Option.{cond_some}
@@ -9,7 +9,8 @@ use Rattle.std.proofs.lemmas.List.Folds.{list_all_at}
 use Rattle.std.proofs.Math.Nat.{mul-le-mul_left, pow-suc, pow-le-pow_right}
 use Rattle.script_text.specs.Numbers.{IsDigit, digits_value, IsNumber}
 use Rattle.script_text.specs.Names.{IsLetter, IsName}
-use Rattle.script_text.specs.inside.Reading.{is_digit, is_number, number_at, is_letter, is_name_word}
+use Rattle.script_text.proofs.FoundLemmas.{and_then_some, found_is, if_some}
+use Rattle.script_text.specs.inside.Reading.{is_digit, is_number, number_at, short_number, short_number_at, is_letter, is_name_word}
 
 -- ---- a test of each element
 
@@ -147,6 +148,21 @@ number_whole word value n some few n_is fits value_is digits =
       value_is = rw all at value_is;
       fits = fits;
     })
+
+-- a number of at most 65535 that a word spells
+pub short_number_from : (word : List ℕ) (n : ℕ) → short_number_at word ≡ Some n → IsNumber word n × (n ≤ 65535)
+short_number_from word n e =
+    let h = and_then_some short_number (number_at word) n e in
+    let c = if_some (leb h.0 65535) (Some h.0) n h.2 in
+    let same = found_is h.0 n c.1 in (
+      subst (λ (k : ℕ). IsNumber word k) same (number_from word h.0 h.1),
+      subst (λ (k : ℕ). k ≤ 65535) same (leb-true h.0 65535 c.0),
+    )
+
+pub short_number_is : (word : List ℕ) (n : ℕ) → IsNumber word n → n ≤ 65535 → short_number_at word ≡ Some n
+short_number_is word n h short =
+    ap (option_and_then short_number) (number_is word n h)
+    ∙ cond-true (leb n 65535) (Some n) None (le-leb n 65535 short)
 
 -- ---- names
 

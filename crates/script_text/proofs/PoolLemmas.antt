@@ -5,7 +5,8 @@ use Rattle.std.proofs.lemmas.Bool.{leb-true, le-leb}
 use Rattle.std.specs.List.{AllByRecursion}
 use Rattle.commons.specs.Bounds.{IsPool}
 use Rattle.commons.specs.declared.limits.Limits.{Limits}
-use Rattle.script_text.specs.inside.Reading.{pool_bounds, is_pool, are_ready}
+use Rattle.script_text.specs.inside.Reading.{pool_bounds, is_pool}
+use Rattle.script_text.specs.inside.ScriptReading.{are_ready}
 use Rattle.script_text.proofs.NumberLemmas.{all_from, all_to}
 
 abbrev AreWithin : Limits → Type 0

@@ -1,7 +1,6 @@
 -- The pool line's limits are those that the reading function gives, and no others.
-use Rattle.std.proofs.Common.{◌≡◌, ℕ, Bool, true, false, cond, List, [], ◌∷◌, Option, Some, None, refl, sym, ap, ◌∙◌, subst, inl, inr}
+use Rattle.std.proofs.Common.{◌≡◌, ℕ, true, false, List, [], ◌∷◌, Option, Some, None, refl, sym, ap, ◌∙◌, subst, inl, inr}
 use Rattle.std.specs.Prelude.{option_and_then, is_some, codes}
-use Rattle.std.specs.List.{find}
 use Rattle.std.specs.Str.{bytes_eq}
 use Rattle.std.proofs.lemmas.Bool.{cond-true, cond-false, cases_Bool, false≢true}
 use Rattle.std.proofs.lemmas.Slice.Eq.{bytes_eq-Decides}
@@ -14,34 +13,7 @@ use Rattle.script_text.specs.PoolLine.{key_word, same_key, ArePairs, first_numbe
 use Rattle.script_text.specs.inside.Reading.{number_at, keys, key_at, value_of, value_with, with_value, none_given, add_value, add_pair, settings_from, limits_by, pool_with, limits_from}
 use Rattle.script_text.proofs.NumberLemmas.{number_from, number_is}
 use Rattle.script_text.proofs.SettingsLemmas.{no_settings, no_number, one_pair, with_pair}
-use Rattle.script_text.proofs.KeptLemmas.{and_then_some, found_is}
-
--- ---- a test that chose
-
--- what came of a test that is needed came where it was met
-pub if_some : {A : Type 0} (b : Bool) (o : Option A) (y : A) → cond b o None ≡ Some y → (b ≡ true) × (o ≡ Some y)
-if_some true o y e = (refl, e)
-if_some false o y e = absurd cc
-
--- what is found by its spelling is spelled so
-pub spelled_from : {A : Type 0} (spelling : A → List ℕ) (all : List A) (word : List ℕ) (one : A) →
-    find (λ a. bytes_eq word (spelling a)) all ≡ Some one → word ≡ spelling one
-spelled_from spelling [] word one e = absurd cc
-spelled_from spelling (first ∷ others) word one e = elim (cases_Bool (bytes_eq word (spelling first))) [
-  | inl same ↦
-      let found : first ≡ one =
-      found_is first one (sym (cond-true (bytes_eq word (spelling first)) (Some first)
-      (find (λ a. bytes_eq word (spelling a)) others) same) ∙ e) in
-      (bytes_eq-Decides word (spelling first)).0 same ∙ ap spelling found
-  | inr other ↦
-      spelled_from spelling others word one (sym (cond-false (bytes_eq word (spelling first))
-      (Some first) (find (λ a. bytes_eq word (spelling a)) others) other) ∙ e)
-]
-
--- what came of a test that refuses came where it wasn't met
-pub if_none : {A : Type 0} (b : Bool) (o : Option A) (y : A) → cond b None o ≡ Some y → (b ≡ false) × (o ≡ Some y)
-if_none true o y e = absurd cc
-if_none false o y e = (refl, e)
+use Rattle.script_text.proofs.FoundLemmas.{and_then_some, found_is, if_some, if_none, spelled_from}
 
 -- ---- keys
 

@@ -1,12 +1,10 @@
--- Command lines: which words are a command of which worker, and which names commands make.
-use Rattle.std.specs.Prelude.{◌≡◌, ℕ, ◌≤◌, ◌⊎◌, List, [], ◌∷◌, ◌++◌, length, codes}
+-- Commands of a script: which words are one.
+use Rattle.std.specs.Prelude.{◌≡◌, ℕ, ◌≤◌, List, [], ◌∷◌, length, codes}
 use Rattle.std.specs.List.{AllByRecursion}
 use Rattle.commons.specs.declared.change.Change.{Change}
 use Rattle.commons.specs.declared.change.Change.TheVariants.{Append, Prepend, Adj, Trim}
 use Rattle.script_text.specs.declared.commands.Command.{Command}
 use Rattle.script_text.specs.declared.commands.Command.TheVariants.{Alloc, Bulk, Free, Resize, Chain, Attach, Detach, Clone, Count, Offer, Take, Flush}
-use Rattle.script_text.specs.declared.commands.Line.{Line}
-use Rattle.script_text.specs.Commands.{names_made}
 use Rattle.script_text.specs.Names.{IsName}
 use Rattle.script_text.specs.Numbers.{IsNumber}
 
@@ -36,9 +34,11 @@ AreVerbAndName words verb name = (words ≡ verb ∷ name ∷ []) × IsName name
 
 -- the words are this verb and two names
 abbrev pub AreVerbAndNames : List (List ℕ) → List ℕ → List ℕ → List ℕ → Type 0
-AreVerbAndNames words verb first second = (words ≡ verb ∷ first ∷ second ∷ []) × IsName first × IsName second
+AreVerbAndNames words verb first second = (words ≡ verb ∷ first ∷ second ∷ []) × IsName first
+    × IsName second
 
--- the words are these, with a word for the number among them; the name is one, and the number, of bytes or of a desk, is at most 65535
+-- the words are these, with a word for the number among them; the name is one, and the number, of
+-- bytes or of a desk, is at most 65,535
 pub record AreWithNumber (words : List (List ℕ)) (around : List ℕ → List (List ℕ)) (name : List ℕ)
     (n : ℕ) : Type 0 where
   pub number : List ℕ
@@ -61,43 +61,6 @@ IsCommand words (Clone packet made) = AreVerbAndNames words (codes "clone") pack
 IsCommand words (Count packet) = AreVerbAndName words (codes "count") packet
 IsCommand words (Offer packet desk) =
     AreWithNumber words (λ number. codes "offer" ∷ packet ∷ number ∷ []) packet desk
-IsCommand words (Take desk made) = AreWithNumber words (λ number. codes "take" ∷ number ∷ made ∷ []) made desk
+IsCommand words (Take desk made) =
+    AreWithNumber words (λ number. codes "take" ∷ number ∷ made ∷ []) made desk
 IsCommand words Flush = words ≡ codes "flush" ∷ []
-
--- the word is a worker's number, from 1 to that of the last, with a colon behind it
-pub record IsPrefix (word : List ℕ) (workers worker : ℕ) : Type 0 where
-  pub number : List ℕ
-  pub whole : word ≡ number ++ codes ":"
-  pub is_number : IsNumber number worker
-  pub first : 1 ≤ worker
-  pub last : worker ≤ workers
-
--- the words are a line of this worker, in a pool of so many, with this command
-pub data IsCommandLine (workers : ℕ) (words : List (List ℕ)) (worker : ℕ) (command : Command) : Type 0 where
-  -- a line that names no worker is of the first
-  alone : worker ≡ 1 → IsCommand words command → IsCommandLine workers words worker command
-  -- and one that does is of the worker that stands in front of the command
-  prefixed : (word : List ℕ) → (rest : List (List ℕ)) → words ≡ word ∷ rest →
-      IsPrefix word workers worker → IsCommand rest command →
-      IsCommandLine workers words worker command
-
--- the name is one of these
-abbrev pub IsOneOf : List (List ℕ) → List ℕ → Type 0
-IsOneOf [] name = ⊥
-IsOneOf (first ∷ names) name = (first ≡ name) ⊎ IsOneOf names name
-
--- none of these stands twice
-abbrev pub AreApart : List (List ℕ) → Type 0
-AreApart [] = Unit {0}
-AreApart (name ∷ names) = (IsOneOf names name → ⊥) × AreApart names
-
--- one of the lines makes the worker's name
-abbrev pub IsMade : List Line → ℕ → List ℕ → Type 0
-IsMade [] worker name = ⊥
-IsMade (line ∷ lines) worker name =
-    ((line.worker ≡ worker) × IsOneOf (names_made line.command) name) ⊎ IsMade lines worker name
-
--- no line has made before what the worker's command makes, and it makes each of its names once
-pub record MakesAnew (lines : List Line) (worker : ℕ) (command : Command) : Type 0 where
-  pub new : (name : List ℕ) → IsOneOf (names_made command) name → IsMade lines worker name → ⊥
-  pub once : AreApart (names_made command)

@@ -4,5 +4,8 @@ pub mod Grammar
 pub mod Names
 pub mod Numbers
 pub mod PoolLine
+pub mod Scripts
+pub mod StepGrammar
+pub mod StepLine
 pub mod Text
 pub mod inside

@@ -31,7 +31,8 @@ ArePairs words (pair ∷ pairs) =
 -- the first number that stands with a key
 abbrev pub first_number : Key → List (Key × ℕ) → Option ℕ
 first_number key [] = None
-first_number key (pair ∷ pairs) = if same_key key pair.0 then Some pair.1 else first_number key pairs
+first_number key (pair ∷ pairs) = if same_key key pair.0 then Some pair.1
+    else first_number key pairs
 
 -- no key stands there twice
 abbrev pub AreOnce : List (Key × ℕ) → Type 0
@@ -51,7 +52,8 @@ limits_with population pairs = record {
   start_count = unwrap_or (first_number Start pairs) 0;
 }
 
--- the words are `pool`, the number of elements and pairs of a key and a number, each key once, and give these limits
+-- the words are `pool`, the number of elements and pairs of a key and a number, each key once, and
+-- give these limits
 pub record IsPoolLine (words : List (List ℕ)) (limits : Limits) : Type 0 where
   pub number : List ℕ
   pub population : ℕ

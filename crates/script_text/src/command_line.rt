@@ -1,15 +1,16 @@
-//! The words of a command line.
+//! The words of a command.
 
-ghost use Rattle.commons.specs.Bounds.{max_workers};
-ghost use Rattle.std.specs.Prelude.{◌≡◌, ◌≤◌, [], ◌∷◌, codes, IfOk, MatchOption, if◌then◌else◌, Option, None, Some};
+ghost use Rattle.std.specs.Prelude.{◌≡◌, ◌≤◌, [], ◌∷◌, codes, IfOk, MatchOption, Option, None, Some};
 ghost use Rattle.std.specs.Str.{bytes_eq};
 ghost use Rattle.std.specs.Option.{option_copied};
-ghost use Rattle.script_text.specs.inside.Reading.{before_colon, both_names, both_of, command_from, command_with as command_by, name_and_number as name_and_number_of, name_at, names_with, number_and_name as number_and_name_of, numbered_name as numbered_name_of, only_name_of, order_from, short_number_at, verb_at, words_of, worker_at};
+ghost use Rattle.script_text.specs.inside.Reading.{words_of, both_of};
+ghost use Rattle.script_text.specs.inside.CommandReading.{both_names, command_with as command_by, name_and_number as name_and_number_of, name_at, names_with, number_and_name as number_and_name_of, numbered_name as numbered_name_of, only_name_of, verb_at};
 
 use crate::commands::{Command, Name};
-use crate::line::next_word;
+use crate::line::{both_words, next_word};
 use crate::name::is_name;
-use crate::number::number_of;
+use crate::number::short_number_of;
+use crate::spelled::Spelled;
 use commons::change::Change;
 use commons::seq::Seq;
 use std::alloc::{AllocError, Global};
@@ -121,21 +122,6 @@ fn names_of(alloc: Global, rest: &[u8]) -> Result<Option<Seq<Name>>, AllocError>
     }
 }
 
-/// The only two words of a rest of a line.
-fn both_words(rest: &[u8]) -> Option<(&[u8], &[u8])>
-    ensures { MatchOption result
-        (both_of (words_of rest.now) ≡ None)
-        (λ found. both_of (words_of rest.now) ≡ Some (found.0.now, found.1.now)) }
-{
-    let (first, after) = next_word(rest)?;
-    let (second, behind) = next_word(after)?;
-    if next_word(behind).is_none() {
-        Some((first, second))
-    } else {
-        None
-    }
-}
-
 /// A copy of a word, where it is a name.
 fn name_of(alloc: Global, word: &[u8]) -> Result<Option<Name>, AllocError>
     ensures { IfOk result (λ name. name ≡ name_at word.now) }
@@ -144,18 +130,6 @@ fn name_of(alloc: Global, word: &[u8]) -> Result<Option<Name>, AllocError>
         Ok(Some(Seq::new(Vec::from_slice(alloc, word)?)))
     } else {
         Ok(None)
-    }
-}
-
-/// The number that a word spells, at most 65,535, as of a length in bytes or of a desk.
-fn short_number_of(word: &[u8]) -> Option<u16>
-    ensures { result ≡ short_number_at word.now }
-{
-    let number = number_of(word)?;
-    if number <= 65_535 {
-        Some(number as u16)
-    } else {
-        None
     }
 }
 
@@ -280,61 +254,22 @@ fn command_with(alloc: Global, verb: Verb, rest: &[u8]) -> Result<Option<Command
     }
 }
 
-/// The command that words spell, or `None` where they spell none.
-fn command_of(alloc: Global, words: &[u8]) -> Result<Option<Command>, AllocError>
-    ensures { IfOk result (λ command. command ≡ command_from (words_of words.now)) }
-{
-    let Some((word, rest)) = next_word(words) else {
-        return Ok(None);
-    };
-    let Some(verb) = verb_of(word) else {
-        return Ok(None);
-    };
-    command_with(alloc, verb, rest)
-}
+impl Spelled for Command {
+    ghost use Rattle.script_text.specs.inside.CommandReading.{command_lexicon};
 
-/// The part of a word before a colon at its end.
-fn prefix_of(word: &[u8]) -> Option<&[u8]>
-    ensures { option_copied result ≡ before_colon word.now }
-{
-    word.strip_suffix(b":".as_slice())
-}
+    ghost lexicon = { command_lexicon };
 
-/// The worker whose number a word spells, in a pool of so many.
-fn worker_of(workers: u64, number: &[u8]) -> Option<u32>
-    requires { workers ≤ max_workers }
-    ensures { result ≡ worker_at workers number.now }
-{
-    let worker = number_of(number)?;
-    if 1 <= worker && worker <= workers {
-        Some(worker as u32)
-    } else {
-        None
+    fn spelled(alloc: Global, words: &[u8]) -> Result<Option<Command>, AllocError> {
+        let Some((word, rest)) = next_word(words) else {
+            return Ok(None);
+        };
+        let Some(verb) = verb_of(word) else {
+            return Ok(None);
+        };
+        command_with(alloc, verb, rest)
     }
-}
 
-/// The worker and the command that a line spells in a pool of so many workers, or `None` where it
-/// spells none. A line that names no worker is of the first.
-pub(crate) fn order_of(
-    alloc: Global,
-    workers: u64,
-    line: &[u8],
-) -> Result<Option<(u32, Command)>, AllocError>
-    requires { workers ≤ max_workers }
-    ensures { IfOk result (λ order. order ≡ order_from workers (words_of line.now)) }
-{
-    let Some((word, rest)) = next_word(line) else {
-        return Ok(None);
-    };
-    let (worker, words) = match prefix_of(word) {
-        None => (1, line),
-        Some(number) => match worker_of(workers, number) {
-            None => return Ok(None),
-            Some(worker) => (worker, rest),
-        },
-    };
-    match command_of(alloc, words)? {
-        None => Ok(None),
-        Some(command) => Ok(Some((worker, command))),
+    fn names_made(&self) -> &[Name] {
+        self.names_made()
     }
 }

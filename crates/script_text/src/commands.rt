@@ -1,10 +1,7 @@
-//! The commands of a script, and the script itself.
+//! The commands of a script.
 
-ghost use Rattle.commons.specs.Bounds.{IsPool};
-ghost use Rattle.script_text.specs.Commands.{AreOfPool};
-
+use crate::lines;
 use commons::change::Change;
-use commons::limits::Limits;
 use commons::seq::Seq;
 use std::slice;
 
@@ -65,16 +62,11 @@ impl Command {
     }
 }
 
-/// A command with the number of its line, from 1, and the worker that performs it, from 1.
-#[derive(Debug, Drop)]
-pub struct Line {
-    /// The line's number in the script, from 1.
-    pub number: u32,
-    /// The worker, from 1.
-    pub worker: u32,
-    /// What it is to do.
-    pub command: Command,
-}
+/// A line with a command.
+pub type Line = lines::Line<Command>;
+
+/// A script of commands.
+pub type Script = lines::Script<Command>;
 
 /// A key of the pool line.
 #[derive(Clone, Copy, PartialEq, Eq, Debug)]
@@ -93,16 +85,4 @@ pub enum Key {
     Tries,
     /// The modification count at the start.
     Start,
-}
-
-/// A script: the limits of its pool, which can be made, and its commands in the order of the lines,
-/// each by a worker of the pool.
-#[derive(Debug, Drop)]
-pub struct Script {
-    /// The limits that the pool line gives.
-    pub limits: Limits,
-    /// The command lines in order.
-    pub lines: Seq<Line>,
-    pub ghost pool: { IsPool limits },
-    pub ghost workers: { AreOfPool limits.workers lines },
 }

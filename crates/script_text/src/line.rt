@@ -1,8 +1,8 @@
 //! Lines of a script, and the words of a line.
 
-ghost use Rattle.std.specs.Prelude.{◌≡◌, ◌==◌, not, position, ◌+◌, ◌<◌, [], ◌∷◌, length, MatchOption, ⊤};
+ghost use Rattle.std.specs.Prelude.{◌≡◌, ◌==◌, not, position, ◌+◌, ◌<◌, [], ◌∷◌, length, MatchOption, ⊤, Some, None};
 ghost use Rattle.std.specs.List.{list_all};
-ghost use Rattle.script_text.specs.inside.Reading.{parts, is_printed, is_plain as is_plain_line, is_skipped as is_skipped_line, words_of};
+ghost use Rattle.script_text.specs.inside.Reading.{parts, is_printed, is_plain as is_plain_line, is_skipped as is_skipped_line, words_of, only_of, both_of};
 
 /// The most bytes that a line has before its end.
 pub const MAX_LINE: usize = 8_192;
@@ -77,5 +77,34 @@ pub(crate) fn is_skipped(line: &[u8]) -> bool
     match next_word(line) {
         None => true,
         Some((word, _)) => matches!(word, [b'#', ..]),
+    }
+}
+
+/// The only word of a rest of a line.
+pub(crate) fn only_word(rest: &[u8]) -> Option<&[u8]>
+    ensures { MatchOption result
+        (only_of (words_of rest.now) ≡ None)
+        (λ word. only_of (words_of rest.now) ≡ Some word.now) }
+{
+    let (word, after) = next_word(rest)?;
+    if next_word(after).is_none() {
+        Some(word)
+    } else {
+        None
+    }
+}
+
+/// The only two words of a rest of a line.
+pub(crate) fn both_words(rest: &[u8]) -> Option<(&[u8], &[u8])>
+    ensures { MatchOption result
+        (both_of (words_of rest.now) ≡ None)
+        (λ found. both_of (words_of rest.now) ≡ Some (found.0.now, found.1.now)) }
+{
+    let (first, after) = next_word(rest)?;
+    let (second, behind) = next_word(after)?;
+    if next_word(behind).is_none() {
+        Some((first, second))
+    } else {
+        None
     }
 }

@@ -1,9 +1,11 @@
 //! The names that the lines of a script have made so far.
 
-ghost use Rattle.std.specs.Prelude.{◌≡◌, ◌≤◌, ◌&&◌, ◌||◌, ◌==◌, ℕ, List, false, not, length, slice_index, EachIndex, IfOk, OnOk};
-ghost use Rattle.std.specs.Str.{bytes_eq};
+ghost use Rattle.std.specs.Prelude.{◌≡◌, ◌≤◌, ◌&&◌, ◌||◌, ◌==◌, ℕ, List, true, false, not, length, slice_index, EachIndex, IfOk, OnOk, Ok};
+ghost use Rattle.std.specs.List.{AllByRecursion};
 ghost use Rattle.script_text.specs.Names.{IsName};
+ghost use Rattle.script_text.specs.inside.ScriptReading.{with_name, is_one_of, repeats};
 
+use crate::commands::Name;
 use crate::name::MAX_NAME;
 use std::alloc::{AllocError, Global};
 use std::collections::HashSet;
@@ -44,10 +46,27 @@ impl MadeNames {
         requires { IsName name.now }
         ensures added { IfOk result (λ added. added ≡ not (has_made self.old worker name.now)) }
         ensures more { OnOk result ((w : ℕ) (other : List ℕ) → IsName other →
-            has_made self.new w other
-            ≡ ((w == worker && bytes_eq other name.now) || has_made self.old w other)) }
+            has_made self.new w other ≡ with_name (has_made self.old) worker name.now w other) }
     {
         let added = self.keys.insert((worker, padded_name(name)))?;
         Ok(added)
+    }
+
+    /// Notes the names that a worker's command makes, and says whether none of them was there and
+    /// none stands twice.
+    pub(crate) fn claim(&mut self, worker: u32, names: &[Name]) -> Result<bool, AllocError>
+        requires { AllByRecursion IsName names.now }
+        ensures first { IfOk result
+            (λ first. first ≡ not (repeats (has_made self.old) worker names.now)) }
+        ensures made { result ≡ Ok true → (other : ℕ) (name : List ℕ) → IsName name →
+            has_made self.new other name
+            ≡ ((other == worker && is_one_of names.now name) || has_made self.old other name) }
+    {
+        for name in names {
+            if !self.add(worker, name.as_slice())? {
+                return Ok(false);
+            }
+        }
+        Ok(true)
     }
 }

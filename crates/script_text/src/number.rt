@@ -1,7 +1,7 @@
 //! Numbers.
 
 ghost use Rattle.std.specs.Prelude.{◌≡◌, ◌-◌, is_some, IfSome};
-ghost use Rattle.script_text.specs.inside.Reading.{is_digit, number_at};
+ghost use Rattle.script_text.specs.inside.Reading.{is_digit, number_at, short_number_at};
 
 /// The most digits that a number has.
 pub const MAX_DIGITS: usize = 20;
@@ -31,4 +31,16 @@ pub(crate) fn number_of(word: &[u8]) -> Option<u64>
         value = value.checked_mul(10)?.checked_add(digit)?;
     }
     Some(value)
+}
+
+/// The number that a word spells, at most 65,535, as of a length in bytes or of a desk.
+pub(crate) fn short_number_of(word: &[u8]) -> Option<u16>
+    ensures { result ≡ short_number_at word.now }
+{
+    let number = number_of(word)?;
+    if number <= 65_535 {
+        Some(number as u16)
+    } else {
+        None
+    }
 }

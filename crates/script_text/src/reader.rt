@@ -1,18 +1,18 @@
 //! Reading the lines of a script one after another.
 
-ghost use Rattle.std.specs.Prelude.{◌≡◌, ◌&&◌, ◌||◌, ◌==◌, ℕ, List, [], None, Some, Ok, not, IfOk, OnOk, MatchOption, MatchResult, true};
-ghost use Rattle.std.specs.List.{AllByRecursion};
-ghost use Rattle.script_text.specs.Names.{IsName};
+ghost use Rattle.std.specs.Prelude.{◌≡◌, None, Some, Ok, OnOk, MatchOption, MatchResult, true};
 ghost use Rattle.script_text.specs.inside.Agreement.{StopsPool};
-ghost use Rattle.script_text.specs.Grammar.{start};
-ghost use Rattle.script_text.specs.inside.Reading.{words_of, limits_from, is_pool, repeats, is_made, is_one_of, read_command as read_command_line, step};
+ghost use Rattle.script_text.specs.Scripts.{start};
+ghost use Rattle.script_text.specs.inside.Reading.{words_of, limits_from, is_pool};
+ghost use Rattle.script_text.specs.inside.ScriptReading.{read_command as read_command_line, judged};
 ghost use Rattle.script_text.specs.declared.reader.Stop.TheVariants.{OutOfMemory};
 
-use crate::command_line::order_of;
-use crate::commands::{Line, Name, Script};
 use crate::line::{is_plain, is_skipped};
+use crate::lines::{Line, Script};
 use crate::made_names::MadeNames;
+use crate::order::order_of;
 use crate::pool_line::limits_of;
+use crate::spelled::Spelled;
 use commons::limits::Limits;
 use commons::seq::Seq;
 use std::alloc::{AllocError, AllocFailed, Global};
@@ -49,10 +49,10 @@ impl<T: Drop> From<AllocFailed<T>> for Stop {
 
 /// What the lines so far have told.
 #[derive(Drop)]
-pub(crate) struct Reader {
+pub(crate) struct Reader<C> {
     limits: Option<Limits>,
     made: MadeNames,
-    lines: Vec<Line>,
+    lines: Vec<Line<C>>,
 }
 
 /// The limits that a pool line gives, within which a pool can be made.
@@ -70,13 +70,13 @@ fn pool_of(line: &[u8]) -> Result<Limits, Stop>
     }
 }
 
-impl Reader {
-    ghost use Rattle.script_text.specs.inside.Agreement.{state_of, has_made, IsKept, StopsCommand, StopsLine};
+impl<C: Spelled> Reader<C> {
+    ghost use Rattle.script_text.specs.inside.Agreement.{state_of, IsKept, StopsCommand, StopsLine};
 
     /// Before the first line.
-    pub(crate) fn new(alloc: Global) -> Reader
+    pub(crate) fn new(alloc: Global) -> Reader<C>
         ensures state { state_of result ≡ start }
-        ensures kept { IsKept result }
+        ensures kept { IsKept C.lexicon result }
     {
         Reader {
             limits: None,
@@ -87,11 +87,11 @@ impl Reader {
 
     /// Reads the next line, which has this number.
     pub(crate) fn read_line(&mut self, alloc: Global, number: u32, line: &[u8]) -> Result<(), Stop>
-        requires { IsKept self.old }
+        requires { IsKept C.lexicon self.old }
         ensures read { MatchResult result
-            (λ _. step (state_of self.old) number line.now ≡ Ok (state_of self.new))
-            (λ stop. StopsLine stop number (step (state_of self.old) number line.now)) }
-        ensures kept { OnOk result (IsKept self.new) }
+            (λ _. judged C.lexicon (state_of self.old) number line.now ≡ Ok (state_of self.new))
+            (λ stop. StopsLine stop number (judged C.lexicon (state_of self.old) number line.now)) }
+        ensures kept { OnOk result (IsKept C.lexicon self.new) }
     {
         if !is_plain(line) {
             return Err(Stop::Fault);
@@ -116,23 +116,24 @@ impl Reader {
         number: u32,
         line: &[u8],
     ) -> Result<(), Stop>
-        requires kept { IsKept self.old }
+        requires kept { IsKept C.lexicon self.old }
         requires told { self.old.limits ≡ Some limits.now }
         ensures read { MatchResult result
-            (λ _. read_command_line limits.now.workers (state_of self.old) number (words_of line.now)
-            ≡ Some (state_of self.new))
+            (λ _. read_command_line C.lexicon limits.now.workers (state_of self.old) number
+            (words_of line.now) ≡ Some (state_of self.new))
             (λ stop. StopsCommand stop
-            (read_command_line limits.now.workers (state_of self.old) number (words_of line.now))) }
+            (read_command_line C.lexicon limits.now.workers (state_of self.old) number
+            (words_of line.now))) }
         ensures limits { self.new.limits ≡ self.old.limits }
-        ensures kept { OnOk result (IsKept self.new) }
+        ensures kept { OnOk result (IsKept C.lexicon self.new) }
     {
         if self.lines.len() >= MAX_COMMANDS {
             return Err(Stop::Fault);
         }
-        let Some((worker, command)) = order_of(alloc, limits.workers, line)? else {
+        let Some((worker, command)) = order_of::<C>(alloc, limits.workers, line)? else {
             return Err(Stop::Fault);
         };
-        if !self.claim(worker, command.names_made())? {
+        if !self.made.claim(worker, command.names_made())? {
             return Err(Stop::Fault);
         }
         self.lines.push(Line {
@@ -143,29 +144,9 @@ impl Reader {
         Ok(())
     }
 
-    /// Notes the names that a worker's command makes, and says whether no line made one of them
-    /// before and none stands twice.
-    fn claim(&mut self, worker: u32, names: &[Name]) -> Result<bool, AllocError>
-        requires kept { IsKept self.old }
-        requires named { AllByRecursion IsName names.now }
-        ensures first { IfOk result (λ first. first ≡ not (repeats self.old.lines.items worker names.now)) }
-        ensures made { result ≡ Ok true → (other : ℕ) (name : List ℕ) → IsName name →
-            has_made self.new.made other name
-            ≡ ((other == worker && is_one_of names.now name) || is_made self.old.lines.items other name) }
-        ensures limits { self.new.limits ≡ self.old.limits }
-        ensures lines { self.new.lines ≡ self.old.lines }
-    {
-        for name in names {
-            if !self.made.add(worker, name.as_slice())? {
-                return Ok(false);
-            }
-        }
-        Ok(true)
-    }
-
     /// The script, where a pool line was read.
-    pub(crate) fn finish(self) -> Option<Script>
-        requires { IsKept self }
+    pub(crate) fn finish(self) -> Option<Script<C>>
+        requires { IsKept C.lexicon self }
         ensures { MatchOption result
             (self.limits ≡ None)
             (λ script. (self.limits ≡ Some script.limits) × (script.lines ≡ self.lines.items)) }

@@ -1,4 +1,5 @@
--- How what the crate's own functions return agrees with the functions on lists. No public clause cites this module.
+-- How what the crate's own functions return agrees with the functions on lists.
+-- No public clause cites this module.
 use Rattle.std.specs.Prelude.{◌≡◌, ◌≤◌, ℕ, zero, suc, Bool, true, false, ◌&&◌, ◌==◌, nat_eq, List, [], ◌∷◌, Option, Some, None, Result, Ok, Err}
 use Rattle.std.specs.List.{AllByRecursion}
 use Rattle.std.specs.Cmp.Lexicographic.{pointwise}
@@ -6,15 +7,16 @@ use Rattle.std.specs.HashSet.{contains}
 use Rattle.commons.specs.declared.limits.Limits.{Limits}
 use Rattle.commons.specs.declared.refusal.Refusal.{Refusal}
 use Rattle.commons.specs.declared.refusal.Refusal.TheVariants as refusals
-use Rattle.script_text.specs.declared.commands.Line.{Line}
-use Rattle.script_text.specs.declared.commands.Script.{Script}
+use Rattle.script_text.specs.declared.lines.Line.{Line}
+use Rattle.script_text.specs.declared.lines.Script.{Script}
 use Rattle.script_text.specs.declared.made_names.MadeNames.{MadeNames}
 use Rattle.script_text.specs.declared.reader.Reader.{Reader}
 use Rattle.script_text.specs.declared.reader.Stop.{Stop}
 use Rattle.script_text.specs.declared.reader.Stop.TheVariants.{Fault, BadPool, OutOfMemory}
 use Rattle.script_text.specs.Names.{IsName}
-use Rattle.script_text.specs.Grammar.{State}
-use Rattle.script_text.specs.inside.Reading.{is_made, are_ready, is_pool}
+use Rattle.script_text.specs.Scripts.{State}
+use Rattle.script_text.specs.inside.Reading.{is_pool}
+use Rattle.script_text.specs.inside.ScriptReading.{Lexicon, is_made, are_ready}
 
 -- ---- names that were made
 
@@ -33,15 +35,15 @@ unfoldable pub has_made : MadeNames → ℕ → List ℕ → Bool
 has_made made worker name = contains same_made made.keys (worker, padded_to 16 name)
 
 -- the names are those that the lines make
-abbrev pub AreMade : MadeNames → List Line → Type 0
-AreMade made lines =
+abbrev pub AreMade : {C : Type 0} → Lexicon C → MadeNames → List (Line C) → Type 0
+AreMade lexicon made lines =
     (worker : ℕ) (name : List ℕ) → IsName name →
-    has_made made worker name ≡ is_made lines worker name
+    has_made made worker name ≡ is_made lexicon lines worker name
 
 -- ---- a reader
 
 -- what the lines so far have told
-abbrev pub state_of : Reader → State
+abbrev pub state_of : {C : Type 0} → Reader C → State C
 state_of reader = record { limits = reader.limits; lines = reader.lines.items }
 
 -- the worker is one of so many
@@ -49,15 +51,15 @@ abbrev pub IsAmong : ℕ → ℕ → Type 0
 IsAmong workers worker = (1 ≤ worker) × (worker ≤ workers)
 
 -- no line comes before the limits, and then each is of one of their workers
-abbrev pub AreWithin : Option Limits → List Line → Type 0
+abbrev pub AreWithin : {C : Type 0} → Option Limits → List (Line C) → Type 0
 AreWithin None lines = lines ≡ []
 AreWithin (Some limits) lines = AllByRecursion (λ line. IsAmong limits.workers line.worker) lines
 
 -- what each reader keeps
-pub record IsKept (reader : Reader) : Type 0 where
+pub record IsKept {C : Type 0} (lexicon : Lexicon C) (reader : Reader C) : Type 0 where
   pub ready : are_ready reader.limits ≡ true
   pub workers : AreWithin reader.limits reader.lines.items
-  pub made : AreMade reader.made reader.lines.items
+  pub made : AreMade lexicon reader.made reader.lines.items
 
 -- why a pool line wasn't read
 abbrev pub StopsPool : Stop → Option Limits → Type 0
@@ -66,13 +68,13 @@ StopsPool BadPool read = (limits : Limits) × (read ≡ Some limits) × (is_pool
 StopsPool OutOfMemory read = ⊥
 
 -- why a command line wasn't read
-abbrev pub StopsCommand : Stop → Option State → Type 0
+abbrev pub StopsCommand : {C : Type 0} → Stop → Option (State C) → Type 0
 StopsCommand Fault read = read ≡ None
 StopsCommand BadPool read = ⊥
 StopsCommand OutOfMemory read = Unit {0}
 
 -- why the line with this number wasn't read
-abbrev pub StopsLine : Stop → ℕ → Result State Refusal → Type 0
+abbrev pub StopsLine : {C : Type 0} → Stop → ℕ → Result (State C) Refusal → Type 0
 StopsLine Fault number read = read ≡ Err (refusals.ScriptFault number)
 StopsLine BadPool number read = read ≡ Err refusals.BadPool
 StopsLine OutOfMemory number read = Unit {0}
@@ -86,11 +88,11 @@ refusal_at OutOfMemory number = refusals.OutOfMemory
 -- ---- a script
 
 -- the reading was refused likewise; of a refusal for want of memory nothing is said
-abbrev pub Fails : Refusal → Result State Refusal → Type 0
+abbrev pub Fails : {C : Type 0} → Refusal → Result (State C) Refusal → Type 0
 Fails refusals.OutOfMemory read = Unit {0}
 Fails refusal read = read ≡ Err refusal
 
 -- what was returned is what the bytes are read as, unless memory was refused
-abbrev pub Gives : Result Script Refusal → Result State Refusal → Type 0
+abbrev pub Gives : {C : Type 0} → Result (Script C) Refusal → Result (State C) Refusal → Type 0
 Gives (Ok script) read = read ≡ Ok (record { limits = Some script.limits; lines = script.lines })
 Gives (Err refusal) read = Fails refusal read

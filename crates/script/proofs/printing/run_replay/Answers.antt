@@ -1,6 +1,6 @@
 use Rattle.std.proofs.Common.{List, ◌∙◌, ap}
 use Rattle.commons.specs.declared.limits.Limits.{Limits}
-use Rattle.script_text.specs.declared.commands.Line.{Line}
+use Rattle.script_text.specs.Commands.{Line}
 use Rattle.script.specs.Printed.{printed_for}
 use Rattle.script.proofs.Outcomes.{either_outcome}
 use Rattle.script.proofs.printing.run_replay.Goals as goal

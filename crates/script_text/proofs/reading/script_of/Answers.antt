@@ -1,30 +1,30 @@
 use Rattle.std.proofs.Common.{◌≡◌, ℕ, ◌-◌, length, max, Err, sym, ap, ◌∙◌, arith}
 use Rattle.std.proofs.lemmas.Bool.{eqb-true, eqb-false}
 use Rattle.commons.specs.declared.refusal.Refusal.TheVariants.{ScriptFault}
-use Rattle.script_text.specs.inside.Reading.{read_text}
+use Rattle.script_text.specs.inside.ScriptReading.{read_text}
 use Rattle.script_text.specs.inside.Agreement.{state_of}
-use Rattle.script_text.proofs.StepLemmas.{read_more, stops, unfinished_rest, no_pool_line, whole_script, text_too_long, text_short, same_state}
+use Rattle.script_text.proofs.JudgedLemmas.{read_more, stops, unfinished_rest, no_pool_line, whole_script, text_too_long, text_short, same_state}
 use Rattle.script_text.proofs.reading.script_of.Goals as goal
 
 pub returns-then-bytes-gt-MAX_BYTES : goal.returns-then-bytes-gt-MAX_BYTES
-returns-then-bytes-gt-MAX_BYTES c = text_too_long c.args.bytes.now c.if-bytes-gt-MAX_BYTES.true
+returns-then-bytes-gt-MAX_BYTES g c = text_too_long g.C.Spelled.lexicon c.args.bytes.now c.if-bytes-gt-MAX_BYTES.true
 
 -- the lines before were read, so what stops this one is the text's refusal, with its number
 pub returns-in-Err : goal.returns-in-Err
-returns-in-Err c =
-    let whole = c.loop-line.invariant.same ∙ sym (text_short c.args.bytes.now c.if-bytes-gt-MAX_BYTES.false) in
-    rw c.refused_at.ensures (stops c.in-Err.stop (state_of c.loop-line.reader) c.loop-line.number
-    c.loop-line.rest.now c.in-Some.line.now c.in-Some.after.now (read_text c.args.bytes.now)
+returns-in-Err g c =
+    let whole = c.loop-line.invariant.same ∙ sym (text_short g.C.Spelled.lexicon c.args.bytes.now c.if-bytes-gt-MAX_BYTES.false) in
+    rw c.refused_at.ensures (stops g.C.Spelled.lexicon c.in-Err.stop (state_of c.loop-line.reader) c.loop-line.number
+    c.loop-line.rest.now c.in-Some.line.now c.in-Some.after.now (read_text g.C.Spelled.lexicon c.args.bytes.now)
     c.in-Some.ensures.lines c.in-Err.ensures.read whole)
 
 -- one line more was read, and reading on from there is reading the whole
 pub loop-line-preserved : goal.loop-line-preserved
-loop-line-preserved c = record {
+loop-line-preserved g c = record {
   positive = omega arith;
   counted = omega (arith, c.in-Some.ensures.shorter, c.loop-line.invariant.counted);
   kept = c.in_default-read_line.ensures.kept;
   same =
-      sym (read_more (state_of c.loop-line.reader) (state_of c.read_line.new.self)
+      sym (read_more g.C.Spelled.lexicon (state_of c.loop-line.reader) (state_of c.read_line.new.self)
       c.loop-line.number c.loop-line.rest.now c.in-Some.line.now c.in-Some.after.now
       c.in-Some.ensures.lines c.in_default-read_line.ensures.read)
       ∙ c.loop-line.invariant.same;
@@ -32,31 +32,31 @@ loop-line-preserved c = record {
 
 -- no line feed is left and some bytes are, so the line of this number isn't ended
 pub returns-then-not-is_empty : goal.returns-then-not-is_empty
-returns-then-not-is_empty c =
-    let whole = c.loop-line.invariant.same ∙ sym (text_short c.args.bytes.now c.if-bytes-gt-MAX_BYTES.false) in
+returns-then-not-is_empty g c =
+    let whole = c.loop-line.invariant.same ∙ sym (text_short g.C.Spelled.lexicon c.args.bytes.now c.if-bytes-gt-MAX_BYTES.false) in
     let some = eqb-false (length c.loop-line.rest.now) 0 (sym c.is_empty.ensures ∙ c.if-not-is_empty.true) in
-    unfinished_rest (state_of c.loop-line.reader) c.loop-line.number c.loop-line.rest.now
-    (read_text c.args.bytes.now) c.in_default.ensures.lines (omega (arith, some)) whole
+    unfinished_rest g.C.Spelled.lexicon (state_of c.loop-line.reader) c.loop-line.number c.loop-line.rest.now
+    (read_text g.C.Spelled.lexicon c.args.bytes.now) c.in_default.ensures.lines (omega (arith, some)) whole
 
 -- nothing is left behind the last line and limits were told, so the text is this script
 pub returns-in-Some-finish : goal.returns-in-Some-finish
-returns-in-Some-finish c =
-    let whole = c.loop-line.invariant.same ∙ sym (text_short c.args.bytes.now c.if-bytes-gt-MAX_BYTES.false) in
+returns-in-Some-finish g c =
+    let whole = c.loop-line.invariant.same ∙ sym (text_short g.C.Spelled.lexicon c.args.bytes.now c.if-bytes-gt-MAX_BYTES.false) in
     let none = eqb-true (length c.loop-line.rest.now) 0 (sym c.is_empty.ensures ∙ c.if-not-is_empty.false) in
     let s = state_of c.loop-line.reader in
     let script = c.in-Some-finish.script in
-    same_state s script.limits script.lines (read_text c.args.bytes.now) c.in-Some-finish.ensures.0
+    same_state g.C.Spelled.lexicon s script.limits script.lines (read_text g.C.Spelled.lexicon c.args.bytes.now) c.in-Some-finish.ensures.0
     c.in-Some-finish.ensures.1
-    (whole_script s c.loop-line.number c.loop-line.rest.now script.limits
-    (read_text c.args.bytes.now) c.in_default.ensures.lines none c.in-Some-finish.ensures.0
+    (whole_script g.C.Spelled.lexicon s c.loop-line.number c.loop-line.rest.now script.limits
+    (read_text g.C.Spelled.lexicon c.args.bytes.now) c.in_default.ensures.lines none c.in-Some-finish.ensures.0
     whole)
 
 -- nothing is left and no limits were told, so every line was skipped
 pub returns-in-None : goal.returns-in-None
-returns-in-None c =
-    let whole = c.loop-line.invariant.same ∙ sym (text_short c.args.bytes.now c.if-bytes-gt-MAX_BYTES.false) in
+returns-in-None g c =
+    let whole = c.loop-line.invariant.same ∙ sym (text_short g.C.Spelled.lexicon c.args.bytes.now c.if-bytes-gt-MAX_BYTES.false) in
     let none = eqb-true (length c.loop-line.rest.now) 0 (sym c.is_empty.ensures ∙ c.if-not-is_empty.false) in
     let same : max 1 (c.loop-line.number - 1) ≡ c.max.result = omega (arith, c.max.ensures) in
-    no_pool_line (state_of c.loop-line.reader) c.loop-line.number c.loop-line.rest.now
-    (read_text c.args.bytes.now) c.in_default.ensures.lines none c.in-None.ensures whole
+    no_pool_line g.C.Spelled.lexicon (state_of c.loop-line.reader) c.loop-line.number c.loop-line.rest.now
+    (read_text g.C.Spelled.lexicon c.args.bytes.now) c.in_default.ensures.lines none c.in-None.ensures whole
     ∙ ap (λ (n : ℕ). Err (ScriptFault n)) same

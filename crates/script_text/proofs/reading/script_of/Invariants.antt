@@ -1,16 +1,16 @@
 use Rattle.std.proofs.Common.{◌≡◌, ◌+◌, ◌≤◌, length}
-use Rattle.script_text.specs.Grammar.{start}
-use Rattle.script_text.specs.inside.Reading.{read_from}
+use Rattle.script_text.specs.Scripts.{start}
+use Rattle.script_text.specs.inside.ScriptReading.{read_from}
 use Rattle.script_text.specs.inside.Agreement.{IsKept, state_of}
 use Rattle.script_text.proofs.reading.script_of.Given as goal
 
 abbrev pub invariant-loop-line : goal.invariant-loop-line
-invariant-loop-line l = record {
+invariant-loop-line g l = record {
   positive : 1 ≤ l.number;
   counted : l.number + length l.rest ≤ length l.bytes + 1;
-  kept : IsKept l.reader;
-  same : read_from (state_of l.reader) l.number l.rest ≡ read_from start 1 l.bytes;
+  kept : IsKept g.C.Spelled.lexicon l.reader;
+  same : read_from g.C.Spelled.lexicon (state_of l.reader) l.number l.rest ≡ read_from g.C.Spelled.lexicon start 1 l.bytes;
 }
 
 abbrev pub decreases-loop-line : goal.decreases-loop-line
-decreases-loop-line l = length l.rest
+decreases-loop-line g l = length l.rest

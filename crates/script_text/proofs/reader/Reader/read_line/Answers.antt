@@ -1,61 +1,61 @@
 use Rattle.std.proofs.Common.{ap, ◌∙◌, sym, Some, None}
 use Rattle.std.specs.Prelude.{option_and_then}
 use Rattle.std.proofs.lemmas.Result.{err_from_is_err_and, MatchResult-weaker}
-use Rattle.script_text.specs.inside.Reading.{with_limits, are_ready}
+use Rattle.script_text.specs.inside.ScriptReading.{with_limits, are_ready}
 use Rattle.script_text.specs.inside.Agreement.{state_of}
-use Rattle.script_text.proofs.StepLemmas.{read_not_plain, read_skipped, read_as, step_ok, step_fault, stops_command, stops_pool}
+use Rattle.script_text.proofs.JudgedLemmas.{read_not_plain, read_skipped, read_as, judged_ok, judged_fault, stops_command, stops_pool}
 use Rattle.script_text.proofs.reader.Reader.read_line.Goals as goal
 
--- a line that isn't plain has no reading, so its step is a fault
+-- a line that isn't plain has no reading, so it is a fault
 pub returns-then-not-is_plain-clause-read : goal.returns-then-not-is_plain-clause-read
-returns-then-not-is_plain-clause-read c =
+returns-then-not-is_plain-clause-read g c =
     let s = state_of c.args.self.now in
-    step_fault s c.args.number c.args.line.now (read_not_plain s c.args.number c.args.line.now
+    judged_fault g.C.Spelled.lexicon s c.args.number c.args.line.now (read_not_plain g.C.Spelled.lexicon s c.args.number c.args.line.now
     (sym c.is_plain.ensures ∙ c.if-not-is_plain.true))
 
 -- a skipped line tells nothing, and what was told is still a pool's
 pub returns-then-is_skipped-clause-read : goal.returns-then-is_skipped-clause-read
-returns-then-is_skipped-clause-read c =
+returns-then-is_skipped-clause-read g c =
     let s = state_of c.args.self.now in
-    step_ok s s c.args.number c.args.line.now (read_skipped s c.args.number c.args.line.now
+    judged_ok g.C.Spelled.lexicon s s c.args.number c.args.line.now (read_skipped g.C.Spelled.lexicon s c.args.number c.args.line.now
     (sym c.is_plain.ensures ∙ c.if-not-is_plain.false)
     (sym c.is_skipped.ensures ∙ c.if-is_skipped.true)) c.requires.ready
 
 -- with no limits told the line has to be the pool line, and what stops that stops it
 pub returns-in_err-pool_of-in-None-clause-read : goal.returns-in_err-pool_of-in-None-clause-read
-returns-in_err-pool_of-in-None-clause-read c =
+returns-in_err-pool_of-in-None-clause-read g c =
     let s = state_of c.args.self.now in
     let p = err_from_is_err_and c.from_residual.result c.from_residual.ensures.1 in
     let read =
-    read_as s c.args.number c.args.line.now None
+    read_as g.C.Spelled.lexicon s c.args.number c.args.line.now None
     (sym c.is_plain.ensures ∙ c.if-not-is_plain.false)
     (sym c.is_skipped.ensures ∙ c.if-is_skipped.false) c.in-None.is in
-    rw (p.1, p.2) (stops_pool c.in_err-pool_of-in-None.field-0.0 s c.args.number c.args.line.now
+    rw (p.1, p.2) (stops_pool g.C.Spelled.lexicon c.in_err-pool_of-in-None.field-0.0 s c.args.number c.args.line.now
     read c.in_err-pool_of-in-None.ensures)
 
 -- with no limits told the line is the pool line, and its limits are a pool's
 pub returns-in_ok-pool_of-in-None-clause-read : goal.returns-in_ok-pool_of-in-None-clause-read
-returns-in_ok-pool_of-in-None-clause-read c =
+returns-in_ok-pool_of-in-None-clause-read g c =
     let s = state_of c.args.self.now in
     let limits = c.in_ok-pool_of-in-None.field-0 in
     let read =
-    read_as s c.args.number c.args.line.now None
+    read_as g.C.Spelled.lexicon s c.args.number c.args.line.now None
     (sym c.is_plain.ensures ∙ c.if-not-is_plain.false)
     (sym c.is_skipped.ensures ∙ c.if-is_skipped.false) c.in-None.is in
-    step_ok s (with_limits s limits) c.args.number c.args.line.now (read
+    judged_ok g.C.Spelled.lexicon s (with_limits s limits) c.args.number c.args.line.now (read
     ∙ ap (option_and_then (λ l. Some (with_limits s l))) c.in_ok-pool_of-in-None.ensures.0)
     c.in_ok-pool_of-in-None.ensures.1
 
 -- behind the pool line the line is a command, or what stops that stops it
 pub returns-in-Some-clause-read : goal.returns-in-Some-clause-read
-returns-in-Some-clause-read c =
+returns-in-Some-clause-read g c =
     let s = state_of c.args.self.now in
     let next = state_of c.read_command.new.self in
     let n = c.args.number in
     let line = c.args.line.now in
     let read =
-    read_as s n line (Some c.in-Some.limits) (sym c.is_plain.ensures ∙ c.if-not-is_plain.false)
+    read_as g.C.Spelled.lexicon s n line (Some c.in-Some.limits) (sym c.is_plain.ensures ∙ c.if-not-is_plain.false)
     (sym c.is_skipped.ensures ∙ c.if-is_skipped.false) c.in-Some.is in
     MatchResult-weaker c.read_command.result c.read_command.ensures.read
-    (λ x h. step_ok s next n line (read ∙ h) (ap are_ready c.read_command.ensures.limits ∙ c.requires.ready))
-    (λ stop h. stops_command stop s n line _ read h)
+    (λ x h. judged_ok g.C.Spelled.lexicon s next n line (read ∙ h) (ap are_ready c.read_command.ensures.limits ∙ c.requires.ready))
+    (λ stop h. stops_command g.C.Spelled.lexicon stop s n line _ read h)

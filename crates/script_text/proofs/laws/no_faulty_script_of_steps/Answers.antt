@@ -1,0 +1,10 @@
+use Rattle.script_text.specs.inside.StepReading.{step_lexicon}
+use Rattle.script_text.proofs.StepLineLemmas.{steps_are_right}
+use Rattle.script_text.proofs.ScriptLemmas.{line_or_script, pool_or_script}
+use Rattle.script_text.proofs.laws.no_faulty_script_of_steps.Goals as goal
+
+pub returns-clause-line : goal.returns-clause-line
+returns-clause-line c = line_or_script step_lexicon steps_are_right
+
+pub returns-clause-pool : goal.returns-clause-pool
+returns-clause-pool c = pool_or_script step_lexicon steps_are_right

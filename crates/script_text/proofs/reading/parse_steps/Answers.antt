@@ -1,0 +1,16 @@
+use Rattle.script_text.specs.inside.StepReading.{step_lexicon}
+use Rattle.script_text.proofs.StepLineLemmas.{steps_are_right}
+use Rattle.script_text.proofs.ScriptLemmas.{is_read, is_caused, only_one}
+use Rattle.script_text.proofs.reading.parse_steps.Goals as goal
+
+pub returns-clause-read : goal.returns-clause-read
+returns-clause-read c = is_read step_lexicon steps_are_right c.script_of.result c.args.bytes.now c.script_of.ensures
+
+pub returns-clause-faults : goal.returns-clause-faults
+returns-clause-faults c = is_caused step_lexicon steps_are_right c.script_of.result c.args.bytes.now c.script_of.ensures
+
+-- a script of the grammar is what the text is read as, and there is one reading
+pub returns-clause-only : goal.returns-clause-only
+returns-clause-only c =
+    λ limits lines h.
+    only_one step_lexicon steps_are_right c.script_of.result c.args.bytes.now limits lines h c.script_of.ensures

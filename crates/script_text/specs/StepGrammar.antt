@@ -1,0 +1,37 @@
+-- The grammar of scripts of steps: which bytes are which script, and which line is the first
+-- faulty one.
+use Rattle.std.specs.Prelude.{ℕ, List}
+use Rattle.commons.specs.declared.limits.Limits.{Limits}
+use Rattle.commons.specs.declared.refusal.Refusal.{Refusal}
+use Rattle.script_text.specs.declared.steps.Step.{Step}
+use Rattle.script_text.specs.StepLine.{StepLine, IsStep, no_names}
+use Rattle.script_text.specs.Scripts as scripts
+use Rattle.script_text.specs.Scripts.{Language}
+
+-- the language of steps
+abbrev pub steps : Language Step
+steps = record { IsCommand = IsStep; names_made = no_names }
+
+-- the bytes are the script with these limits and steps
+abbrev pub IsStepScript : List ℕ → Limits → List StepLine → Type 0
+IsStepScript bytes limits lines = scripts.IsScript steps bytes limits lines
+
+-- the first faulty line has this number; it is 0 where there are more bytes than a script has
+abbrev pub IsFirstStepFault : List ℕ → ℕ → Type 0
+IsFirstStepFault bytes number = scripts.IsFirstFault steps bytes number
+
+-- the pool line has a reading, as each line before it, and no pool can be made within its limits
+abbrev pub HasBadStepPool : List ℕ → Type 0
+HasBadStepPool bytes = scripts.HasBadPool steps bytes
+
+-- why the bytes are refused; of a refusal for want of memory nothing is said, and no other is given
+abbrev pub IsStepCause : List ℕ → Refusal → Type 0
+IsStepCause bytes refusal = scripts.IsCause steps bytes refusal
+
+-- the bytes are some script of steps
+abbrev pub IsSomeStepScript : List ℕ → Type 0
+IsSomeStepScript bytes = scripts.IsSomeScript steps bytes
+
+-- some line of the bytes is the first faulty one
+abbrev pub HasSomeStepFault : List ℕ → Type 0
+HasSomeStepFault bytes = scripts.HasSomeFault steps bytes

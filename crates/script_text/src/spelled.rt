@@ -1,0 +1,28 @@
+//! What the lines of one kind of script say.
+
+ghost use Rattle.std.specs.Prelude.{◌≡◌, IfOk, IfSome};
+ghost use Rattle.std.specs.List.{AllByRecursion};
+ghost use Rattle.script_text.specs.Names.{IsName};
+ghost use Rattle.script_text.specs.inside.Reading.{words_of};
+ghost use Rattle.script_text.specs.inside.ScriptReading.{Lexicon};
+
+use crate::commands::Name;
+use std::alloc::{AllocError, Global};
+
+/// A command that words spell, as one kind of script has them in its lines, behind the pool line
+/// and a worker's number.
+pub(crate) trait Spelled: Drop {
+    /// Which words are which command, and which names it makes.
+    ghost lexicon: { Lexicon Self };
+
+    /// The command that words spell, or `None` where they spell none.
+    fn spelled(alloc: Global, words: &[u8]) -> Result<Option<Self>, AllocError>
+        ensures read { IfOk result
+            (λ command. command ≡ lexicon.command_from (words_of words.now)) }
+        ensures named { IfOk result (λ command.
+            IfSome command (λ c. AllByRecursion IsName (lexicon.language.names_made c))) };
+
+    /// The names that the command makes.
+    fn names_made(&self) -> &[Name]
+        ensures { result.now ≡ lexicon.language.names_made self.now };
+}
