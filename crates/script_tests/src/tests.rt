@@ -8,7 +8,7 @@ use mbuf::freed::Freed;
 use pool_model::statement::{Held, Holder, PlacedPacket, Statement};
 use script::texts::push_reply;
 use script::{replay, run_replay, run_replay_json, statement_json, statement_text};
-use script_text::parse;
+use script_text::{parse, parse_steps};
 use serde_json::Value;
 use share_book::ending::settled;
 use share_book::site_pool::SitePool;
@@ -32,13 +32,15 @@ mod settling;
 mod sharing;
 mod shown;
 mod statements;
+mod step_readings;
+mod step_texts;
 mod texts;
 mod threads;
 mod told;
 
 use building::{placed, written};
 use pools::{FIRST_RUN, FIRST_RUN_TEXT};
-use shown::shown_lines;
+use shown::{shown_lines, shown_steps};
 use told::{Told, reply};
 
 /// A name, a script, and what its replay prints.
@@ -253,6 +255,44 @@ fn read_scripts<R: Abort + AllocGlobal>(rt: &R, rows: &[ReadRow]) -> Result<(), 
 #[test]
 fn each_script_is_read_as_its_limits_and_lines(rt: HostRuntime) -> Result<(), Fail> {
     read_scripts(&rt, readings::ROWS)
+}
+
+/// The steps of a script are compared as their `Debug` shows them.
+fn read_steps<R: Abort + AllocGlobal>(rt: &R, rows: &[ReadRow]) -> Result<(), Fail> {
+    for (name, text, limits, lines) in rows {
+        let script = parse_steps(rt.alloc(), text.as_bytes())?;
+        assert_eq!(rt; script.limits, *limits, "the row {name}");
+        let shown = shown_steps(rt.alloc(), script.lines.as_slice())?;
+        assert_eq!(rt; shown.as_str(), *lines, "the row {name}");
+    }
+    Ok(())
+}
+
+#[test]
+fn each_script_of_steps_is_read_as_its_limits_and_steps(rt: HostRuntime) -> Result<(), Fail> {
+    read_steps(&rt, step_readings::ROWS)
+}
+
+/// The refusal of a text by `parse_steps`, if it has one.
+fn steps_refusal(alloc: Global, text: &str) -> Option<Refusal> {
+    match parse_steps(alloc, text.as_bytes()) {
+        Ok(_) => None,
+        Err(refusal) => Some(refusal),
+    }
+}
+
+fn refuse_texts_of_steps<R: Abort + AllocGlobal>(rt: &R, rows: &[TextsRow]) {
+    for (name, texts) in rows {
+        for (text, refusal) in *texts {
+            let parsed = steps_refusal(rt.alloc(), text);
+            assert_eq!(rt; parsed, *refusal, "{name}: {text}");
+        }
+    }
+}
+
+#[test]
+fn each_text_is_a_script_of_steps_or_refused(rt: HostRuntime) {
+    refuse_texts_of_steps(&rt, step_texts::ROWS);
 }
 
 /// The text of a pool's statement, which ends the pool.

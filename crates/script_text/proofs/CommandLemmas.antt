@@ -18,11 +18,12 @@ use Rattle.script_text.specs.inside.CommandReading.{are_names, names_with, name_
 use Rattle.script_text.specs.inside.ScriptReading.{before_colon}
 use Rattle.script_text.specs.inside.Reading.{is_marked}
 use Rattle.script_text.proofs.NumberLemmas.{all_from, all_to, name_from, name_is, short_number_from, short_number_is}
-use Rattle.script_text.proofs.FoundLemmas.{and_then_some, found_is, if_some, spelled_from}
-use Rattle.script_text.proofs.Right.{IsRight, BeginsPlainly}
+use Rattle.script_text.proofs.FoundLemmas.{and_then_some, both_is, found_is, if_some, spelled_from, without_words_is}
+use Rattle.script_text.proofs.Right.{IsRight, BeginsPlainly, begins}
 
 -- ---- commands
 
+-- the only word is a name
 only_name_is : (words : List (List ℕ)) (name : List ℕ) → only_name_of words ≡ Some name →
     (words ≡ name ∷ []) × (is_name_word name ≡ true)
 only_name_is [] name e = absurd cc
@@ -31,14 +32,9 @@ only_name_is (word ∷ []) name e =
     (ap (λ (w : List ℕ). w ∷ []) h.1, sym (ap is_name_word h.1) ∙ h.0)
 only_name_is (word ∷ other ∷ words) name e = absurd cc
 
+-- the verb that is found for a word is written so
 verb_from : (word : List ℕ) (verb : Verb) → verb_at word ≡ Some verb → word ≡ verb_word verb
 verb_from word verb e = spelled_from verb_word all_verbs word verb e
-
--- a verb that stands alone is followed by no word
-without_words_is : (command given : Command) (words : List (List ℕ)) →
-    without_words command words ≡ Some given → (words ≡ []) × (command ≡ given)
-without_words_is command given [] e = (refl, found_is command given e)
-without_words_is command given (word ∷ words) e = absurd cc
 
 -- the command of a verb and one name
 named_is : (verb : Verb) (make : List ℕ → Command) →
@@ -51,13 +47,6 @@ named_is verb make by words command e =
     let only = only_name_is words n.0 n.1 in
     subst (λ (c : Command). IsCommand (verb_word verb ∷ words) c) (found_is (make n.0) command n.2)
     (by (verb_word verb ∷ words) n.0 (ap (λ (ws : List (List ℕ)). verb_word verb ∷ ws) only.0, name_from n.0 only.1))
-
--- the only two words are those
-both_is : (words : List (List ℕ)) (both : List ℕ × List ℕ) → both_of words ≡ Some both → words ≡ both.0 ∷ both.1 ∷ []
-both_is [] both e = absurd cc
-both_is (word ∷ []) both e = absurd cc
-both_is (word ∷ other ∷ []) both e = let same = found_is (word, other) both e in rw (← same) refl
-both_is (word ∷ other ∷ third ∷ words) both e = absurd cc
 
 -- a word that is taken for a name is that name
 name_is_at : (word name : List ℕ) → name_at word ≡ Some name → (word ≡ name) × IsName name
@@ -235,6 +224,7 @@ command_of_verb verbs.Flush words command e =
     subst (λ (c : Command). IsCommand (verb_word verbs.Flush ∷ words) c) b.1
     (ap (λ (ws : List (List ℕ)). verb_word verbs.Flush ∷ ws) b.0)
 
+-- words that are read as a command are that command
 command_comes : (words : List (List ℕ)) (command : Command) →
     command_from words ≡ Some command → IsCommand words command
 command_comes [] command e = absurd cc
@@ -243,9 +233,11 @@ command_comes (word ∷ words) command e =
     subst (λ (w : List ℕ). IsCommand (w ∷ words) command) (sym (verb_from word v.0 v.1))
     (command_of_verb v.0 words command v.2)
 
+-- a name that stands alone is the only name
 only_name : (name : List ℕ) → IsName name → only_name_of (name ∷ []) ≡ Some name
 only_name name h = cond-true (is_name_word name) (Some name) None (name_is name h)
 
+-- a name is read as the command of it
 name_by_words : (make : List ℕ → Command) (name : List ℕ) → IsName name → name_with make (name ∷ []) ≡ Some (make name)
 name_by_words make name h = ap (option_and_then (λ n. Some (make n))) (only_name name h)
 
@@ -260,6 +252,7 @@ numbered_by_words : (make : List ℕ → ℕ → Command) (name number : List �
     numbered_with make (numbered_name name number) ≡ Some (make name n)
 numbered_by_words make name number n h k short = rw (name_at_is name h, short_number_is number n k short) refl
 
+-- a command is read from its words, whatever its verb
 command_is : (words : List (List ℕ)) (command : Command) → IsCommand words command →
     command_from words ≡ Some command
 command_is words (Alloc name) h = ap command_from h.0 ∙ name_by_words (λ n. Alloc n) name h.1
@@ -291,12 +284,6 @@ command_is words (Take desk made) h =
     ap command_from h.words_are
     ∙ numbered_by_words (λ m k. Take k m) made h.number desk h.is_name h.is_number h.short
 command_is words Flush h = ap command_from h
-
--- a command begins with a verb, which has no colon at its end and is not marked
-begins : (words : List (List ℕ)) (word : List ℕ) (rest : List (List ℕ)) → words ≡ word ∷ rest →
-    before_colon word ≡ None → is_marked word ≡ false → BeginsPlainly words
-begins words word rest e no_colon unmarked = record
-    { word = word; rest = rest; words_are = e; no_colon = no_colon; unmarked = unmarked }
 
 -- each command's first word is its verb
 verb_first : (words : List (List ℕ)) (command : Command) → IsCommand words command → BeginsPlainly words
@@ -335,6 +322,7 @@ named : (verb : Verb) (words : List (List ℕ)) (o : Option Command) → o ≡ c
 named verb words None e = tt
 named verb words (Some command) e = names_by (verb_word verb ∷ words) command (command_of_verb verb words command (sym e))
 
+-- a command that was read makes names alone
 pub read_is_named : {E : Type 0} (verb : Verb) (words : List (List ℕ)) (read : Result (Option Command) E) →
     IfOk read (λ o. o ≡ command_with verb words) →
     IfOk read (λ o. IfSome o (λ command. AllByRecursion IsName (names_made command)))

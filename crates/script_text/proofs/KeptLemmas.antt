@@ -12,6 +12,7 @@ use Rattle.script_text.specs.inside.Agreement.{has_made, AreMade, IsAmong}
 use Rattle.script_text.proofs.MadeLemmas.{is_made-push}
 
 module _ {C : Type 0} where
+  -- lines that are each of one of the pool's workers are of the pool
   pub of_pool : (workers : ℕ) (lines : List (Line C)) → AllByRecursion (λ line. IsAmong workers line.worker) lines → AreOfPool workers lines
   of_pool workers lines h = All-from_recursion (λ line. (1 ≤ line.worker) × (line.worker ≤ workers)) lines h
 

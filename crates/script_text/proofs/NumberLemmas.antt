@@ -159,6 +159,7 @@ short_number_from word n e =
       subst (λ (k : ℕ). k ≤ 65535) same (leb-true h.0 65535 c.0),
     )
 
+-- a number that is at most 65,535 is taken as a length or a desk
 pub short_number_is : (word : List ℕ) (n : ℕ) → IsNumber word n → n ≤ 65535 → short_number_at word ≡ Some n
 short_number_is word n h short =
     ap (option_and_then short_number) (number_is word n h)

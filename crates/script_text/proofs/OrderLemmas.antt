@@ -133,6 +133,7 @@ module _ {C : Type 0} (lexicon : Lexicon C) (right : IsRight lexicon) where
       ∙ ap (λ (o : Option (List ℕ)). order_by lexicon workers o (v.word ∷ v.rest) v.rest) v.no_colon
       ∙ ap (order_of lexicon 1) (sym v.words_are)
 
+  -- the words of a command begin with a verb, which isn't marked by `#`
   pub counted_command : (words : List (List ℕ)) (command : C) → lexicon.language.IsCommand words command → is_skipped words ≡ false
   counted_command words command h = let v = right.plainly words command h in ap is_skipped v.words_are ∙ v.unmarked
 
@@ -152,6 +153,7 @@ module _ {C : Type 0} (lexicon : Lexicon C) (right : IsRight lexicon) where
       ∙ ap (option_and_then (λ w. order_of lexicon w rest)) (worker_is p.number workers worker p.is_number p.first p.last)
       ∙ order_as worker rest command h
 
+  -- neither a verb nor a worker's number begins with `#`, so a command line isn't skipped
   pub counted_line : (workers : ℕ) (words : List (List ℕ)) (worker : ℕ) (command : C) →
       IsCommandLine lexicon.language workers words worker command → is_skipped words ≡ false
   counted_line workers words worker command (alone one h) = counted_command words command h

@@ -64,6 +64,7 @@ other_byte byte = not (byte == 62)
 one_byte : length {A = ℕ} (62 ∷ []) ≡ 1
 one_byte = refl
 
+-- a `>` is a byte, whatever stands behind it
 some_byte : (other : List ℕ) → 1 ≤ length {A = ℕ} (62 ∷ other)
 some_byte other = omega arith
 
@@ -152,6 +153,7 @@ segment_is word element (Some base) h =
 
 -- ---- the segments
 
+-- no segments behind others leave them as they are
 append-none : (xs : List StepSegment) → xs ++ [] ≡ xs
 append-none [] = refl
 append-none (x ∷ xs) = ap (λ (ys : List StepSegment). x ∷ ys) (append-none xs)

@@ -13,11 +13,11 @@ use Rattle.script_text.specs.StepLine.{IsElementOrEnd, IsDesk, AreVerbAnd, AreVe
 use Rattle.script_text.specs.inside.Reading.{is_marked, number_at, short_number_at, both_of, only_of, without_words}
 use Rattle.script_text.specs.inside.ScriptReading.{before_colon}
 use Rattle.script_text.specs.inside.StepReading.{step_word, all_step_verbs, step_verb_at, element_at, one_at, two_at, step_of, step_with, step_from, step_lexicon}
-use Rattle.script_text.proofs.FoundLemmas.{and_then_some, found_is, spelled_from}
+use Rattle.script_text.proofs.FoundLemmas.{and_then_some, both_is, found_is, only_is, spelled_from, without_words_is}
 use Rattle.script_text.proofs.NumberLemmas.{number_from, number_is, short_number_from, short_number_is}
 use Rattle.script_text.specs.inside.PutInReading.{put_in_from}
 use Rattle.script_text.proofs.PutInLemmas.{put_in_comes, put_in_is}
-use Rattle.script_text.proofs.Right.{IsRight, BeginsPlainly}
+use Rattle.script_text.proofs.Right.{IsRight, BeginsPlainly, begins}
 
 -- ---- words
 
@@ -66,24 +66,6 @@ element_is word (Some n) h = cond-false (bytes_eq word (codes "-")) (Some None) 
 elements : IsReadAs IsElementOrEnd element_at
 elements = record { from = element_from; is = element_is }
 
--- the only word is that one
-only_is : (words : List (List ℕ)) (word : List ℕ) → only_of words ≡ Some word → words ≡ word ∷ []
-only_is [] word e = absurd cc
-only_is (first ∷ []) word e = ap (λ (w : List ℕ). w ∷ []) (found_is first word e)
-only_is (first ∷ other ∷ words) word e = absurd cc
-
--- the only two words are those
-both_is : (words : List (List ℕ)) (both : List ℕ × List ℕ) → both_of words ≡ Some both → words ≡ both.0 ∷ both.1 ∷ []
-both_is [] both e = absurd cc
-both_is (word ∷ []) both e = absurd cc
-both_is (word ∷ other ∷ []) both e = let same = found_is (word, other) both e in rw (← same) refl
-both_is (word ∷ other ∷ third ∷ words) both e = absurd cc
-
--- a verb that stands alone is followed by no word
-without_is : (step given : Step) (words : List (List ℕ)) → without_words step words ≡ Some given → (words ≡ []) × (step ≡ given)
-without_is step given [] e = (refl, found_is step given e)
-without_is step given (word ∷ words) e = absurd cc
-
 -- ---- steps by what stands behind their verb
 
 -- a verb that stands alone is its step
@@ -92,7 +74,7 @@ alone_is : (verb : StepVerb) (kind : Step) →
     (words : List (List ℕ)) (step : Step) → without_words kind words ≡ Some step →
     IsStep (step_word verb ∷ words) step
 alone_is verb kind by words step e =
-    let b = without_is kind step words e in
+    let b = without_words_is kind step words e in
     subst (λ (s : Step). IsStep (step_word verb ∷ words) s) b.1
     (by (step_word verb ∷ words) (ap (λ (ws : List (List ℕ)). step_word verb ∷ ws) b.0))
 
@@ -223,12 +205,6 @@ step_is words (kinds.Open desk) h = ap step_from h.1 ∙ one_by IsDesk short_num
 step_is words (kinds.Seize desk) h = ap step_from h.1 ∙ one_by IsDesk short_number_at desks (λ a. kinds.Seize a) h.0 desk h.2
 step_is words (kinds.TakeOut desk) h = ap step_from h.1 ∙ one_by IsDesk short_number_at desks (λ a. kinds.TakeOut a) h.0 desk h.2
 step_is words (kinds.Clear desk) h = ap step_from h.1 ∙ one_by IsDesk short_number_at desks (λ a. kinds.Clear a) h.0 desk h.2
-
--- words that begin with a verb: it has no colon at its end and isn't marked by `#`
-begins : (words : List (List ℕ)) (word : List ℕ) (rest : List (List ℕ)) → words ≡ word ∷ rest →
-    before_colon word ≡ None → is_marked word ≡ false → BeginsPlainly words
-begins words word rest e no_colon unmarked = record
-    { word = word; rest = rest; words_are = e; no_colon = no_colon; unmarked = unmarked }
 
 -- each step begins with a verb
 step_first : (words : List (List ℕ)) (step : Step) → IsStep words step → BeginsPlainly words

@@ -2,6 +2,7 @@
 
 use commons::change::Change;
 use script_text::commands::{Command, Line, Name};
+use script_text::steps::StepLine;
 use std::alloc::Global;
 use std::test::Fail;
 
@@ -72,6 +73,15 @@ pub(super) fn shown_lines(alloc: Global, lines: &[Line]) -> Result<String, Fail>
         write!(text, "{} {} ", line.number, line.worker)?;
         push_command(&mut text, &line.command)?;
         text.push_str("; ")?;
+    }
+    Ok(text)
+}
+
+/// What each line of a script of steps says, with a semicolon behind each.
+pub(super) fn shown_steps(alloc: Global, lines: &[StepLine]) -> Result<String, Fail> {
+    let mut text = String::new(alloc);
+    for line in lines {
+        write!(text, "{} {} {:?}; ", line.number, line.worker, line.command)?;
     }
     Ok(text)
 }

@@ -4,6 +4,7 @@ use Rattle.script_text.specs.Numbers.{digits_value}
 use Rattle.script_text.specs.inside.Reading.{is_digit}
 use Rattle.script_text.proofs.number.number_of.Given as goal
 
+-- the bytes so far are digits, and this is their value
 abbrev pub invariant-loop-byte : goal.invariant-loop-byte
 invariant-loop-byte l = record {
   fits : l.value < 2 ^ 64;

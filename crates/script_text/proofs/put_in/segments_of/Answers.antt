@@ -8,6 +8,7 @@ use Rattle.script_text.specs.inside.PutInReading.{segments_from}
 use Rattle.script_text.proofs.PutInLemmas.{no_more, none_at_all, too_many, one_more}
 use Rattle.script_text.proofs.put_in.segments_of.Goals as goal
 
+-- a word stands behind 32 segments
 pub returns-then-len-eq-MAX_SEGMENTS : goal.returns-then-len-eq-MAX_SEGMENTS
 returns-then-len-eq-MAX_SEGMENTS c =
     let segments = c.loop-word.segments.items in
@@ -15,6 +16,7 @@ returns-then-len-eq-MAX_SEGMENTS c =
     sym (too_many segments c.in-Some.word.now (words_of c.in-Some.after.now) full)
     ∙ sym (ap (segments_from segments) c.in-Some.ensures.words) ∙ c.loop-word.invariant.same
 
+-- a word that is no segment leaves none
 pub returns-in_default-segment_of : goal.returns-in_default-segment_of
 returns-in_default-segment_of c =
     let segments = c.loop-word.segments.items in
@@ -23,7 +25,7 @@ returns-in_default-segment_of c =
     sym (one_more segments c.in-Some.word.now (words_of c.in-Some.after.now) None room none)
     ∙ sym (ap (segments_from segments) c.in-Some.ensures.words) ∙ c.loop-word.invariant.same
 
--- one pair more is read, and the settings with it are those of what is left
+-- one segment more is read, and those with it and behind it are the whole
 pub loop-word-preserved : goal.loop-word-preserved
 loop-word-preserved c =
     let segments = c.loop-word.segments.items in
@@ -39,7 +41,7 @@ loop-word-preserved c =
           omega (arith, long, length_push segments segment, c.loop-word.invariant.few, room);
     }
 
--- a word without bytes, or of more than 20, is no number
+-- no word is left and none was there
 pub returns-then-is_empty : goal.returns-then-is_empty
 returns-then-is_empty c =
     let segments = c.loop-word.segments.items in
@@ -47,6 +49,7 @@ returns-then-is_empty c =
     let empty : length segments ≡ 0 = omega (arith, c.loop-word.segments.ok.0, none) in
     sym (none_at_all segments empty) ∙ sym (ap (segments_from segments) c.in_default.ensures.words) ∙ c.loop-word.invariant.same
 
+-- no word is left, so the segments so far are all
 pub returns-else-is_empty : goal.returns-else-is_empty
 returns-else-is_empty c =
     let segments = c.loop-word.segments.items in

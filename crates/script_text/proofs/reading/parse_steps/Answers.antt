@@ -3,9 +3,11 @@ use Rattle.script_text.proofs.StepLineLemmas.{steps_are_right}
 use Rattle.script_text.proofs.ScriptLemmas.{is_read, is_caused, only_one}
 use Rattle.script_text.proofs.reading.parse_steps.Goals as goal
 
+-- what was read is what the text is read as, which is a script of the grammar
 pub returns-clause-read : goal.returns-clause-read
 returns-clause-read c = is_read step_lexicon steps_are_right c.script_of.result c.args.bytes.now c.script_of.ensures
 
+-- what refused is what refuses the text, which has its cause
 pub returns-clause-faults : goal.returns-clause-faults
 returns-clause-faults c = is_caused step_lexicon steps_are_right c.script_of.result c.args.bytes.now c.script_of.ensures
 

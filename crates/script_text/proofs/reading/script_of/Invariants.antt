@@ -4,6 +4,7 @@ use Rattle.script_text.specs.inside.ScriptReading.{read_from}
 use Rattle.script_text.specs.inside.Agreement.{IsKept, state_of}
 use Rattle.script_text.proofs.reading.script_of.Given as goal
 
+-- reading what is left from what was told so far is reading the whole
 abbrev pub invariant-loop-line : goal.invariant-loop-line
 invariant-loop-line g l = record {
   positive : 1 ≤ l.number;
