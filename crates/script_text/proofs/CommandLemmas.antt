@@ -1,5 +1,5 @@
 -- A command is what the reading function gives.
-use Rattle.std.proofs.Common.{◌≡◌, ℕ, ◌≤◌, leb, true, false, List, [], ◌∷◌, length, Option, Some, None, refl, sym, ap, ◌∙◌, subst}
+use Rattle.std.proofs.Common.{◌≡◌, ℕ, ◌≤◌, leb, true, List, [], ◌∷◌, length, Option, Some, None, refl, sym, ap, ◌∙◌, subst}
 use Rattle.std.specs.Prelude.{◌&&◌, option_and_then, codes, IfSome, IfOk, Result, Ok, Err}
 use Rattle.std.specs.List.{AllByRecursion, list_all}
 use Rattle.std.proofs.lemmas.Bool.{leb-true, le-leb, cond-true, and_parts, and_from}
@@ -13,10 +13,8 @@ use Rattle.script_text.specs.Commands.{names_made}
 use Rattle.script_text.specs.Names.{IsName}
 use Rattle.script_text.specs.Numbers.{IsNumber}
 use Rattle.script_text.specs.CommandLine.{AreNames, AreVerbAndName, AreVerbAndNames, AreWithNumber, IsCommand}
-use Rattle.script_text.specs.inside.Reading.{is_name_word, short_number_at, both_of, without_words}
+use Rattle.script_text.specs.inside.Reading.{is_name_word, short_number_at, both_of}
 use Rattle.script_text.specs.inside.CommandReading.{are_names, names_with, name_at, numbered_name, name_and_number, number_and_name, both_names, name_with, both_with, numbered_with, verb_word, all_verbs, verb_at, only_name_of, command_with, command_from, command_lexicon}
-use Rattle.script_text.specs.inside.ScriptReading.{before_colon}
-use Rattle.script_text.specs.inside.Reading.{is_marked}
 use Rattle.script_text.proofs.NumberLemmas.{all_from, all_to, name_from, name_is, short_number_from, short_number_is}
 use Rattle.script_text.proofs.FoundLemmas.{and_then_some, both_is, found_is, if_some, spelled_from, without_words_is}
 use Rattle.script_text.proofs.Right.{IsRight, BeginsPlainly, begins}

@@ -10,8 +10,7 @@ use Rattle.script_text.specs.declared.step_line.StepVerb.{StepVerb}
 use Rattle.script_text.specs.declared.step_line.StepVerb.TheVariants.{LoadLength, Reserve, Add, LoadHead, LoadLink, Cut, StoreLink, Push, Claim, Sole, SoleFree, Raise, Lower, Reset, Hold, Open, Seize, TakeOut, Clear}
 use Rattle.script_text.specs.Numbers.{IsNumber}
 use Rattle.script_text.specs.StepLine.{IsElementOrEnd, IsDesk, AreVerbAnd, AreVerbAndTwo, IsStep}
-use Rattle.script_text.specs.inside.Reading.{is_marked, number_at, short_number_at, both_of, only_of, without_words}
-use Rattle.script_text.specs.inside.ScriptReading.{before_colon}
+use Rattle.script_text.specs.inside.Reading.{number_at, short_number_at, both_of, only_of, without_words}
 use Rattle.script_text.specs.inside.StepReading.{step_word, all_step_verbs, step_verb_at, element_at, one_at, two_at, step_of, step_with, step_from, step_lexicon}
 use Rattle.script_text.proofs.FoundLemmas.{and_then_some, both_is, found_is, only_is, spelled_from, without_words_is}
 use Rattle.script_text.proofs.NumberLemmas.{number_from, number_is, short_number_from, short_number_is}
