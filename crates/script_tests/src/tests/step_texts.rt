@@ -9,31 +9,58 @@ pub(super) const ROWS: &[TextsRow] = &[
         &[
             ("pool 3\nloadlink 18446744073709551615\n", None),
             ("pool 3\nloadlink -\n", None),
-            ("pool 3\nloadlink 18446744073709551616\n", Some(ScriptFault(2))),
+            (
+                "pool 3\nloadlink 18446744073709551616\n",
+                Some(ScriptFault(2)),
+            ),
             ("pool 3\nclaim 18446744073709551616\n", Some(ScriptFault(2))),
             ("pool 3\nsole 18446744073709551616\n", Some(ScriptFault(2))),
-            ("pool 3\nsolefree 18446744073709551616\n", Some(ScriptFault(2))),
-            ("pool 3\nraise 18446744073709551616 1\n", Some(ScriptFault(2))),
+            (
+                "pool 3\nsolefree 18446744073709551616\n",
+                Some(ScriptFault(2)),
+            ),
+            (
+                "pool 3\nraise 18446744073709551616 1\n",
+                Some(ScriptFault(2)),
+            ),
             ("pool 3\nlower 18446744073709551616\n", Some(ScriptFault(2))),
             ("pool 3\nreset 18446744073709551616\n", Some(ScriptFault(2))),
-            ("pool 3\nstorelink 18446744073709551616 0\n", Some(ScriptFault(2))),
-            ("pool 3\nstorelink 0 18446744073709551616\n", Some(ScriptFault(2))),
+            (
+                "pool 3\nstorelink 18446744073709551616 0\n",
+                Some(ScriptFault(2)),
+            ),
+            (
+                "pool 3\nstorelink 0 18446744073709551616\n",
+                Some(ScriptFault(2)),
+            ),
             ("pool 3\nloadlink --\n", Some(ScriptFault(2))),
             ("pool 3\nloadlink -1\n", Some(ScriptFault(2))),
             ("pool 3\nloadlink a\n", Some(ScriptFault(2))),
-            ("pool 3\nloadlink 000000000000000000000\n", Some(ScriptFault(2))),
+            (
+                "pool 3\nloadlink 000000000000000000000\n",
+                Some(ScriptFault(2)),
+            ),
         ],
     ),
     (
         "other numbers are below 2^64, and none is the end",
         &[
-            ("pool 3\nreserve 18446744073709551616 1\n", Some(ScriptFault(2))),
-            ("pool 3\nreserve 1 18446744073709551616\n", Some(ScriptFault(2))),
+            (
+                "pool 3\nreserve 18446744073709551616 1\n",
+                Some(ScriptFault(2)),
+            ),
+            (
+                "pool 3\nreserve 1 18446744073709551616\n",
+                Some(ScriptFault(2)),
+            ),
             ("pool 3\nreserve - 1\n", Some(ScriptFault(2))),
             ("pool 3\nreserve 1 -\n", Some(ScriptFault(2))),
             ("pool 3\nadd 18446744073709551616\n", Some(ScriptFault(2))),
             ("pool 3\nadd -\n", Some(ScriptFault(2))),
-            ("pool 3\nraise 0 18446744073709551616\n", Some(ScriptFault(2))),
+            (
+                "pool 3\nraise 0 18446744073709551616\n",
+                Some(ScriptFault(2)),
+            ),
             ("pool 3\nraise 0 -\n", Some(ScriptFault(2))),
         ],
     ),
@@ -56,7 +83,10 @@ pub(super) const ROWS: &[TextsRow] = &[
     (
         "a segment is an element, or two with `>` between",
         &[
-            ("pool 3\nputin 0 18446744073709551615>18446744073709551615\n", None),
+            (
+                "pool 3\nputin 0 18446744073709551615>18446744073709551615\n",
+                None,
+            ),
             ("pool 3\nputin 0 -\n", Some(ScriptFault(2))),
             ("pool 3\nputin 0 ->0\n", Some(ScriptFault(2))),
             ("pool 3\nputin 0 0>-\n", Some(ScriptFault(2))),
@@ -66,8 +96,14 @@ pub(super) const ROWS: &[TextsRow] = &[
             ("pool 3\nputin 0 0>1>2\n", Some(ScriptFault(2))),
             ("pool 3\nputin 0 0<1\n", Some(ScriptFault(2))),
             ("pool 3\nputin 0 0 > 1\n", Some(ScriptFault(2))),
-            ("pool 3\nputin 0 18446744073709551616\n", Some(ScriptFault(2))),
-            ("pool 3\nputin 0 0>18446744073709551616\n", Some(ScriptFault(2))),
+            (
+                "pool 3\nputin 0 18446744073709551616\n",
+                Some(ScriptFault(2)),
+            ),
+            (
+                "pool 3\nputin 0 0>18446744073709551616\n",
+                Some(ScriptFault(2)),
+            ),
         ],
     ),
     (
