@@ -1,14 +1,15 @@
 -- Every schedule walks.
-use Rattle.std.proofs.Common.{◌≡◌, ℕ, suc, ◌+◌, ◌<◌, List, [], ◌∷◌, ◌++◌, Option, Some, None, Err, length, take, drop, get_or, refl, sym, ap, subst, ◌∙◌, arith}
+use Rattle.std.proofs.Common.{◌≡◌, ℕ, suc, ◌+◌, ◌<◌, List, [], ◌∷◌, ◌++◌, Option, Some, None, Err, length, take, drop, get_or, inl, inr, refl, sym, ap, subst, ◌∙◌, arith}
+use Rattle.std.specs.Prelude.{IsSome}
 use Rattle.std.proofs.Math.Seq.{take-suc, drop-cons}
 use Rattle.std.proofs.lemmas.List.{take-append-drop}
 use Rattle.commons.specs.declared.refusal.Refusal.{Refusal}
 use Rattle.commons.specs.declared.refusal.Refusal.TheVariants.{OutOfMemory, StepRefused}
 use Rattle.step_core.specs.World.{World, view_of, view_at}
 use Rattle.step_core.specs.Steps.{Step, Outcome, Play, play, played}
-use Rattle.step_core.specs.Kept.{IsWorld, AnswersTo}
+use Rattle.step_core.specs.Kept.{IsWorld, Grows, AnswersTo}
 use Rattle.step_core.specs.Schedules.{Schedule}
-use Rattle.step_core.specs.Runs.{Reaches, EveryScheduleWalks, Stopped, StopsAt}
+use Rattle.step_core.specs.Runs.{Reaches, EveryScheduleWalks, Stopped}
 use Rattle.step_core.proofs.Regroup.{four_of_eight}
 use Rattle.step_core.proofs.Shows.{shows, shown_table}
 use Rattle.step_core.proofs.Theorem.{play_is, played_row, makes_its_event}
@@ -84,20 +85,30 @@ stops_refused w steps i d os u is l r e = record {
   cause = e;
 }
 
-pub stops_without : (w : World) (steps : Schedule) (i : ℕ) (os : List Outcome) (u : World) →
-    IsWorld w → Reaches w (take i steps) os u → Stopped w steps OutOfMemory u
-stops_without w steps i os u is r = record {
-  front = take i steps;
-  rest = drop i steps;
-  outcomes = os;
-  parts = sym (take-append-drop i steps);
-  walked = every_schedule_walks w (take i steps) os u is r;
-  cause = cause (drop i steps);
+-- nothing was played, for want of memory
+pub stops_first : (w : World) (steps : Schedule) → IsWorld w → Stopped w steps OutOfMemory w
+stops_first w steps is = record {
+  front = [];
+  rest = steps;
+  outcomes = [];
+  parts = refl;
+  walked = every_schedule_walks w [] [] w is refl;
+  cause = inl refl;
 }
-  where
-    cause : (rest : Schedule) → StopsAt u rest OutOfMemory
-    cause [] = tt
-    cause (x ∷ xs) = tt
+
+-- the step at this index found no memory for the list that it makes longer
+pub stops_without : (w : World) (steps : Schedule) (i : ℕ) (d : ℕ × Step) (os : List Outcome)
+    (u : World) → IsWorld w → i < length steps → Reaches w (take i steps) os u
+    → Grows (get_or steps i d).1 × IsSome (play u (get_or steps i d).0 (get_or steps i d).1)
+    → Stopped w steps OutOfMemory u
+stops_without w steps i d os u is l r a = record {
+  front = take i steps;
+  rest = get_or steps i d ∷ drop (suc i) steps;
+  outcomes = os;
+  parts = sym (take-append-drop i steps) ∙ ap (λ (xs : Schedule). take i steps ++ xs) (drop-cons steps i d l);
+  walked = every_schedule_walks w (take i steps) os u is r;
+  cause = inr a;
+}
 
 -- a refusal of the step at this index
 pub stops : (w : World) (steps : Schedule) (i : ℕ) (d : ℕ × Step) (os : List Outcome) (u v : World)
@@ -107,7 +118,8 @@ pub stops : (w : World) (steps : Schedule) (i : ℕ) (d : ℕ × Step) (os : Lis
 stops w steps i d os u v StepRefused is l r a =
     subst (Stopped w steps StepRefused) (sym a.1) (stops_refused w steps i d os u is l r a.0)
 stops w steps i d os u v OutOfMemory is l r a =
-    subst (Stopped w steps OutOfMemory) (sym a.2) (stops_without w steps i os u is r)
+    subst (Stopped w steps OutOfMemory) (sym a.2)
+    (stops_without w steps i d os u is l r (a.0, a.1))
 stops w steps i d os u v _ is l r a = absurd a
 
 -- the same by the step that was read
@@ -125,6 +137,3 @@ module _ (w : World) (steps : Schedule) (i : ℕ) (x : ℕ × Step) (os : List O
   read_stops v refusal a =
       stops w steps i x os u v refusal is l r
       (subst (λ (y : ℕ × Step). AnswersTo y.1 (play u y.0 y.1) u (Err refusal) v) read a)
-
-  pub read_full : (o : Outcome) (v : World) → play u x.0 x.1 ≡ Some (o, v) → Stopped w steps OutOfMemory v
-  read_full o v e = stops_without w steps (i + 1) (os ++ o ∷ []) v is (read_next o v e)

@@ -1,5 +1,5 @@
 -- Schedules that are played, and what is so of every world that they pass.
-use Rattle.std.specs.Prelude.{◌≡◌, List, [], ◌∷◌, ◌++◌, Some, None, ⊤}
+use Rattle.std.specs.Prelude.{◌≡◌, ◌⊎◌, List, [], ◌∷◌, ◌++◌, Some, None, IsSome}
 use Rattle.commons.specs.declared.refusal.Refusal.{Refusal}
 use Rattle.commons.specs.declared.refusal.Refusal.TheVariants.{OutOfMemory, StepRefused}
 use Rattle.step_core.specs.Table.{Table}
@@ -7,7 +7,7 @@ use Rattle.step_core.specs.World.{World}
 use Rattle.step_core.specs.Law.{Lawful}
 use Rattle.step_core.specs.Shows.{Shows, Happens}
 use Rattle.step_core.specs.Steps.{Outcome, play, event_of}
-use Rattle.step_core.specs.Kept.{IsWorld}
+use Rattle.step_core.specs.Kept.{IsWorld, Grows}
 use Rattle.step_core.specs.Schedules.{Schedule}
 
 -- the schedule is played from the first world to the last, with these outcomes
@@ -37,12 +37,23 @@ EveryScheduleWalks =
     (w : World) (schedule : Schedule) (os : List Outcome) (u : World) → IsWorld w →
     Reaches w schedule os u → WalksFrom w schedule os u
 
--- why a run stops before these steps: the condition of the first fails there, or no memory was had
-abbrev pub StopsAt : World → Schedule → Refusal → Type 0
-StopsAt u [] StepRefused = ⊥
-StopsAt u (p ∷ rest) StepRefused = play u p.0 p.1 ≡ None
-StopsAt u rest OutOfMemory = ⊤
-StopsAt u rest _ = ⊥
+-- the first of these steps isn't played at u: its condition fails
+abbrev pub FailsFirst : World → Schedule → Type 0
+FailsFirst u [] = ⊥
+FailsFirst u (p ∷ rest) = play u p.0 p.1 ≡ None
+
+-- the first of these steps is played at u, and makes a list longer
+abbrev pub GrowsFirst : World → Schedule → Type 0
+GrowsFirst u [] = ⊥
+GrowsFirst u (p ∷ rest) = Grows p.1 × IsSome (play u p.0 p.1)
+
+-- Why a run stops at u, between the steps that it played and the rest: the condition of the rest's
+-- first fails there. Or no memory was had: for the outcomes, before the first step, or for a list
+-- that the rest's first makes longer.
+abbrev pub StopsAt : World → Schedule → Schedule → Refusal → Type 0
+StopsAt u front rest StepRefused = FailsFirst u rest
+StopsAt u front rest OutOfMemory = (front ≡ []) ⊎ GrowsFirst u rest
+StopsAt u front rest _ = ⊥
 
 -- a front of the schedule was played, up to a step that was refused
 pub record Stopped (w : World) (schedule : Schedule) (refusal : Refusal) (u : World) : Type 0 where
@@ -51,4 +62,4 @@ pub record Stopped (w : World) (schedule : Schedule) (refusal : Refusal) (u : Wo
   pub outcomes : List Outcome
   pub parts : schedule ≡ front ++ rest
   pub walked : WalksFrom w front outcomes u
-  pub cause : StopsAt u rest refusal
+  pub cause : StopsAt u front rest refusal

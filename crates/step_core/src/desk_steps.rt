@@ -77,9 +77,9 @@ pub fn clear(words: &mut Words, index: usize, desk: u32) -> Result<Outcome, Refu
     let view = &words.views[index];
     match view.phase_at(desk) {
         Some(Phase::TakenOut) => {}
-        Some(Phase::ToFill) => return Err(Refusal::StepRefused),
-        Some(Phase::Filled(_)) => return Err(Refusal::StepRefused),
-        Some(Phase::Seized(_)) => return Err(Refusal::StepRefused),
+        Some(Phase::ToFill | Phase::Filled(_) | Phase::Seized(_)) => {
+            return Err(Refusal::StepRefused);
+        }
         None => return Err(Refusal::StepRefused),
     }
     words.desks[at].word = 0;

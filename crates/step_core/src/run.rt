@@ -9,10 +9,12 @@ use crate::world::World;
 use commons::refusal::Refusal;
 use std::alloc::Global;
 
-/// Plays the steps in order, each by the worker of this number, up to the first that is refused, and answers their
-/// outcomes.
+/// Plays the steps in order, each by the worker of this number, up to the first that is refused,
+/// and answers their outcomes.
 ///
-/// After a refusal the world is as the steps before it left it.
+/// Refused `StepRefused` where a step's condition fails, and `OutOfMemory` where there is no memory
+/// for the outcomes, before the first step, or for a list that a step would make longer. The world
+/// is then as the steps before it left it, and no step behind it was played.
 pub fn run(alloc: Global, world: &mut World, steps: &[(u32, Step)]) -> Result<Vec<Outcome>, Refusal>
     ensures whole { IfOk result (λ outcomes. WalksFrom world.old steps.now outcomes.items world.new) }
     ensures stopped { IfErr result (λ refusal. Stopped world.old steps.now refusal world.new) }
@@ -25,11 +27,8 @@ pub fn run(alloc: Global, world: &mut World, steps: &[(u32, Step)]) -> Result<Ve
     for i in 0..steps.len() {
         let step = &steps[i];
         match world.step_by(step.0, &step.1) {
-            Ok(outcome) => {
-                if outcomes.push(outcome).is_err() {
-                    return Err(Refusal::OutOfMemory);
-                }
-            }
+            // The room for all outcomes was taken before the first step.
+            Ok(outcome) => outcomes.push_reserved(outcome),
             Err(refusal) => return Err(refusal),
         }
     }

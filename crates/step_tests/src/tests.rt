@@ -116,14 +116,14 @@ fn refused_rows<R: Abort + AllocGlobal>(rt: &R, rows: &[RefusedRow]) -> Result<(
                 let answer = world.step(*worker, step_of(*act));
                 assert!(rt; answer.is_ok(), "{name}: {act:?}: {answer:?}");
             }
-            let before = numbers(rt.alloc(), &world)?;
+            let before = numbers(&world)?;
             for (worker, act) in *refused {
                 let answer = world.step(*worker, step_of(*act));
                 assert!(rt;
                     is_told(&answer, &Told::Refused),
                     "{name}: {act:?}: {answer:?}"
                 );
-                let after = numbers(rt.alloc(), &world)?;
+                let after = numbers(&world)?;
                 assert_eq!(rt; after.as_slice(), before.as_slice(), "{name}: {act:?}");
             }
         }
@@ -144,10 +144,10 @@ fn refused_memory_changes_no_answer(rt: HostRuntime) -> Result<(), Fail> {
     let (name, limits, steps, end) = schedules::FOR_MEMORY;
     if let Some(mut world) = opened(&rt, &limits, name) {
         for (worker, act, told) in steps {
-            let before = numbers(rt.alloc(), &world)?;
+            let before = numbers(&world)?;
             let mut answer = world.step(*worker, step_of(*act));
             if let Err(Refusal::OutOfMemory) = answer {
-                let after = numbers(rt.alloc(), &world)?;
+                let after = numbers(&world)?;
                 assert_eq!(&rt; after.as_slice(), before.as_slice(), "{name}");
                 answer = world.step(*worker, step_of(*act));
             }

@@ -1,7 +1,7 @@
 //! What a row says of a world.
 
+use arrayvec::{ArrayVec, CapacityError};
 use commons::packet::Packet;
-use std::alloc::{AllocError, Global};
 use std::process::Abort;
 use step_core::elems::Elems;
 use step_core::view::{Phase, View};
@@ -60,23 +60,29 @@ fn assert_common(rt: &impl Abort, world: &World, common: &[u32], name: &str) {
     assert_eq!(rt; next, 0, "{name}");
 }
 
+/// Room for the numbers of a row's world, which takes no memory.
+pub(super) type Numbers = ArrayVec<u64, 256>;
+
+/// The numbers of a world are more.
+type Full = CapacityError<u64>;
+
 /// All numbers of a world, one after another: two worlds that have the same are the same.
-pub(super) fn numbers(alloc: Global, world: &World) -> Result<Vec<u64>, AllocError> {
-    let mut all = Vec::new(alloc);
-    all.push(u64::from(world.head().top))?;
-    all.push(world.head().count)?;
-    all.push(world.length())?;
+pub(super) fn numbers(world: &World) -> Result<Numbers, Full> {
+    let mut all = Numbers::new();
+    all.try_push(u64::from(world.head().top))?;
+    all.try_push(world.head().count)?;
+    all.try_push(world.length())?;
     for link in world.links() {
-        all.push(u64::from(*link))?;
+        all.try_push(u64::from(*link))?;
     }
     for count in world.counts() {
-        all.push(u64::from(*count))?;
+        all.try_push(u64::from(*count))?;
     }
     for desk in world.desks() {
-        all.push(desk.word)?;
+        all.try_push(desk.word)?;
         match &desk.slot {
             Some(packet) => add_packet(&mut all, packet)?,
-            None => all.push(0)?,
+            None => all.try_push(0)?,
         }
     }
     for view in world.views() {
@@ -85,76 +91,76 @@ pub(super) fn numbers(alloc: Global, world: &World) -> Result<Vec<u64>, AllocErr
     Ok(all)
 }
 
-fn add_view(all: &mut Vec<u64>, view: &View) -> Result<(), AllocError> {
+fn add_view(all: &mut Numbers, view: &View) -> Result<(), Full> {
     add_elems(all, &view.hand)?;
     add_elems(all, &view.zeros)?;
     add_elems(all, &view.holds)?;
     add_elems(all, &view.headers)?;
-    all.push(view.credit)?;
-    all.push(view.seen)?;
-    all.push(view.part)?;
+    all.try_push(view.credit)?;
+    all.try_push(view.seen)?;
+    all.try_push(view.part)?;
     match &view.look {
         Some(look) => {
-            all.push(u64::from(look.head.top))?;
-            all.push(look.head.count)?;
+            all.try_push(u64::from(look.head.top))?;
+            all.try_push(look.head.count)?;
             add_elems(all, &look.front)?;
-            all.push(u64::from(look.next))?;
+            all.try_push(u64::from(look.next))?;
         }
-        None => all.push(u64::MAX)?,
+        None => all.try_push(u64::MAX)?,
     }
     match &view.chain {
         Some(chain) => {
             add_elems(all, &chain.items)?;
-            all.push(u64::from(chain.end))?;
+            all.try_push(u64::from(chain.end))?;
         }
-        None => all.push(u64::MAX)?,
+        None => all.try_push(u64::MAX)?,
     }
     match &view.work {
         Some(work) => {
-            all.push(u64::from(work.desk))?;
+            all.try_push(u64::from(work.desk))?;
             add_phase(all, &work.phase)
         }
         None => {
-            all.push(u64::MAX)?;
+            all.try_push(u64::MAX)?;
             Ok(())
         }
     }
 }
 
-fn add_phase(all: &mut Vec<u64>, phase: &Phase) -> Result<(), AllocError> {
+fn add_phase(all: &mut Numbers, phase: &Phase) -> Result<(), Full> {
     match phase {
-        Phase::ToFill => all.push(0)?,
+        Phase::ToFill => all.try_push(0)?,
         Phase::Filled(packet) => {
-            all.push(1)?;
+            all.try_push(1)?;
             add_packet(all, packet)?;
         }
         Phase::Seized(packet) => {
-            all.push(2)?;
+            all.try_push(2)?;
             add_packet(all, packet)?;
         }
-        Phase::TakenOut => all.push(3)?,
+        Phase::TakenOut => all.try_push(3)?,
     }
     Ok(())
 }
 
 /// How many elements, and then each.
-fn add_elems(all: &mut Vec<u64>, elems: &Elems) -> Result<(), AllocError> {
-    all.push(elems.len() as u64)?;
+fn add_elems(all: &mut Numbers, elems: &Elems) -> Result<(), Full> {
+    all.try_push(elems.len() as u64)?;
     for element in elems.as_slice() {
-        all.push(u64::from(*element))?;
+        all.try_push(u64::from(*element))?;
     }
     Ok(())
 }
 
 /// How many segments, and then each with its base and lengths.
-fn add_packet(all: &mut Vec<u64>, packet: &Packet) -> Result<(), AllocError> {
-    all.push(packet.segs().len() as u64)?;
+fn add_packet(all: &mut Numbers, packet: &Packet) -> Result<(), Full> {
+    all.try_push(packet.segs().len() as u64)?;
     for seg in packet.segs() {
-        all.push(u64::from(seg.elem))?;
-        all.push(seg.base.map_or(u64::MAX, u64::from))?;
-        all.push(u64::from(seg.data_off))?;
-        all.push(u64::from(seg.data_len))?;
-        all.push(u64::from(seg.buf_len))?;
+        all.try_push(u64::from(seg.elem))?;
+        all.try_push(seg.base.map_or(u64::MAX, u64::from))?;
+        all.try_push(u64::from(seg.data_off))?;
+        all.try_push(u64::from(seg.data_len))?;
+        all.try_push(u64::from(seg.buf_len))?;
     }
     Ok(())
 }

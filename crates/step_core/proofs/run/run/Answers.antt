@@ -1,33 +1,30 @@
-use Rattle.std.proofs.Common.{◌≡◌, ◌+◌, List, [], ◌∷◌, ◌++◌, take, sym, subst, ◌∙◌}
-use Rattle.std.proofs.lemmas.Bool.{cond-true}
+use Rattle.std.proofs.Common.{◌≡◌, ◌+◌, List, take, sym, subst, arith}
 use Rattle.step_core.specs.Steps.{Outcome}
 use Rattle.step_core.specs.Schedules.{Schedule}
 use Rattle.step_core.specs.Runs.{Reaches}
 use Rattle.step_core.proofs.LinksUp.{take_whole}
-use Rattle.step_core.proofs.Walking.{nothing_reached, read_next, read_stops, read_full, stops_without, every_schedule_walks}
+use Rattle.step_core.proofs.Walking.{stops_first, read_next, read_stops, every_schedule_walks}
 use Rattle.step_core.proofs.run.run.Goals as goal
 
 -- nothing was played
 pub returns-in_default-clause-stopped : goal.returns-in_default-clause-stopped
 returns-in_default-clause-stopped c =
-    stops_without c.args.world.now c.args.steps.now 0 [] c.args.world.now
-    c.limits-known.ensures.world (nothing_reached c.args.world.now c.args.steps.now)
+    stops_first c.args.world.now c.args.steps.now c.limits-known.ensures.world
 
 -- one step more, with its outcome
 pub loop-i-preserved : goal.loop-i-preserved
-loop-i-preserved c =
-    let items : c.push.new.self.items ≡ c.loop-i.outcomes.items ++ c.in-Ok-step_by.outcome ∷ [] =
-    c.push.ensures.items ∙ cond-true _ _ _ c.if-is_err.ensures.negation in
-    record {
-      first = c.loop-i.invariant.first;
-      reached =
-          subst (λ (os : List Outcome). Reaches c.args.world.now
-          (take (c.loop-i.i + 1) c.args.steps.now) os c.step_by.new.self) (sym items)
-          (read_next c.args.world.now c.args.steps.now c.loop-i.i c.index-steps-i.result
-          c.loop-i.outcomes.items c.loop-i.world c.loop-i.invariant.first c.loop-i-test.true
-          c.loop-i.invariant.reached c.index-steps-i.is _ _ c.in-Ok-step_by.ensures.step);
-      kept = c.step_by.ensures.world;
-    }
+loop-i-preserved c = record {
+  first = c.loop-i.invariant.first;
+  reached =
+      subst (λ (os : List Outcome). Reaches c.args.world.now
+      (take (c.loop-i.i + 1) c.args.steps.now) os c.step_by.new.self) (sym c.push_reserved.ensures.items)
+      (read_next c.args.world.now c.args.steps.now c.loop-i.i c.index-steps-i.result
+      c.loop-i.outcomes.items c.loop-i.world c.loop-i.invariant.first c.loop-i-test.true
+      c.loop-i.invariant.reached c.index-steps-i.is _ _ c.in-Ok-step_by.ensures.step);
+  kept = c.step_by.ensures.world;
+  counted = omega arith;
+  room = omega arith;
+}
 
 -- the step was refused, or found no memory
 pub returns-in-Err-clause-stopped : goal.returns-in-Err-clause-stopped
@@ -35,13 +32,6 @@ returns-in-Err-clause-stopped c =
     read_stops c.args.world.now c.args.steps.now c.loop-i.i c.index-steps-i.result
     c.loop-i.outcomes.items c.loop-i.world c.loop-i.invariant.first c.loop-i-test.true
     c.loop-i.invariant.reached c.index-steps-i.is _ _ c.in-Err.ensures.step
-
--- no room for its outcome
-pub returns-then-is_err-clause-stopped : goal.returns-then-is_err-clause-stopped
-returns-then-is_err-clause-stopped c =
-    read_full c.args.world.now c.args.steps.now c.loop-i.i c.index-steps-i.result
-    c.loop-i.outcomes.items c.loop-i.world c.loop-i.invariant.first c.loop-i-test.true
-    c.loop-i.invariant.reached c.index-steps-i.is _ _ c.in-Ok-step_by.ensures.step
 
 -- all steps were played
 pub returns-clause-whole : goal.returns-clause-whole

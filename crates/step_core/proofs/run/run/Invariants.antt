@@ -1,4 +1,4 @@
-use Rattle.std.proofs.Common.{take}
+use Rattle.std.proofs.Common.{◌≡◌, ◌≤◌, length, take, vec_len, vec_capacity}
 use Rattle.step_core.specs.Kept.{IsWorld}
 use Rattle.step_core.specs.Runs.{Reaches}
 use Rattle.step_core.proofs.run.run.Given as goal
@@ -8,4 +8,6 @@ invariant-loop-i l = record {
   first : IsWorld l.fn.world;
   reached : Reaches l.fn.world (take l.i l.steps) l.outcomes.items l.world;
   kept : IsWorld l.world;
+  counted : vec_len l.outcomes ≡ l.i;
+  room : length l.steps ≤ vec_capacity l.outcomes;
 }
