@@ -1,2 +1,3 @@
 mod AscendingLemmas
 mod CommonLemmas
+mod Outcomes

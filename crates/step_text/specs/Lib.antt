@@ -1,2 +1,4 @@
 pub mod Ascending
 pub mod WorldText
+pub mod Playing
+pub mod Printed

@@ -3,6 +3,7 @@ use Rattle.std.specs.Prelude.{ℕ, zero, suc, ◌+◌, ◌≡◌, ◌==◌, List
 use Rattle.std.specs.List.{flat_map}
 use Rattle.commons.specs.Calls.{desk_full}
 use Rattle.step_core.specs.World.{World, Seg, Packet, link_in}
+use Rattle.step_core.specs.declared.view.Head.{Head}
 use Rattle.step_core.specs.declared.view.View.{View}
 use Rattle.step_core.specs.declared.view.Desk.{Desk}
 use Rattle.step_core.specs.Links.{Spells}
@@ -31,9 +32,13 @@ base_text None = []
 unfoldable pub segment_text : Seg → List ℕ
 segment_text seg = decimal seg.elem ++ base_text seg.base
 
--- the head: its top and its count
-unfoldable pub head_text : World → List ℕ
-head_text w = codes "head " ++ end_text w.head.top ++ codes " " ++ decimal w.head.count ++ codes "\n"
+-- a head: its top and its count
+unfoldable pub head_text : Head → List ℕ
+head_text head = codes "head " ++ end_text head.top ++ codes " " ++ decimal head.count
+
+-- the line of the head
+unfoldable pub head_line : Head → List ℕ
+head_line head = head_text head ++ codes "\n"
 
 -- What a worker has: its credit, the elements of its hand ascending, whatever their count, and those that it holds
 -- ascending, each as often as it is held.
@@ -80,7 +85,7 @@ counts_text element (count ∷ counts) = count_text element count ++ counts_text
 -- a world whose common list is this
 unfoldable pub text_with : List ℕ → World → List ℕ
 text_with common w =
-    head_text w ++ codes "length " ++ decimal w.length ++ codes "\n"
+    head_line w.head ++ codes "length " ++ decimal w.length ++ codes "\n"
     ++ codes "common" ++ elements_text common
     ++ views_text 1 w.views ++ desks_text 0 w.desks ++ counts_text 0 w.counts
 

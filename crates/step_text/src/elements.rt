@@ -1,10 +1,11 @@
-//! Lists of elements, and segments.
+//! Heads, lists of elements, and segments.
 ghost use Rattle.std.specs.Prelude.{◌≡◌, ◌++◌, OnOk, decimal};
-ghost use Rattle.step_text.specs.WorldText.{base_text, elements_text, end_text, joined, segment_text};
+ghost use Rattle.step_text.specs.WorldText.{base_text, elements_text, end_text, head_text, joined, segment_text};
 
 use commons::packet::Seg;
 use std::io;
 use std::io::Write;
+use step_core::view::Head;
 
 /// How many elements these are, and which, to the end of the line.
 #[tactic(auto, unfolding(crate::specs::WorldText::elements_text))]
@@ -27,7 +28,7 @@ pub(crate) fn write_joined(out: &mut Vec<u8>, elements: &[u32]) -> io::Result<()
 }
 
 /// A link value: an element, or `-` for the end.
-pub(crate) fn write_end(out: &mut Vec<u8>, value: u32) -> io::Result<()>
+pub(crate) fn write_end(out: &mut Vec<u8>, value: u64) -> io::Result<()>
     ensures { OnOk result (out.new.items ≡ out.old.items ++ end_text value) }
 {
     match value {
@@ -63,4 +64,14 @@ fn write_base(out: &mut Vec<u8>, base: Option<u32>) -> io::Result<()>
         Some(base) => write!(out, ">{base}"),
         None => Ok(()),
     }
+}
+
+/// A head: its top and its count.
+#[tactic(auto, unfolding(crate::specs::WorldText::head_text))]
+pub(crate) fn write_head(out: &mut Vec<u8>, head: Head) -> io::Result<()>
+    ensures { OnOk result (out.new.items ≡ out.old.items ++ head_text head) }
+{
+    write!(out, "head ")?;
+    write_end(out, u64::from(head.top))?;
+    write!(out, " {}", head.count)
 }

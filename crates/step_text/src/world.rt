@@ -1,15 +1,16 @@
 //! The text of a world.
 ghost use Rattle.std.specs.Prelude.{◌≡◌, ◌++◌, IfErr, IfOk, OnOk};
-ghost use Rattle.step_text.specs.WorldText.{IsTextOf, head_text, text_with};
+ghost use Rattle.step_text.specs.WorldText.{IsTextOf, head_line, text_with};
 
 use crate::common_list::common_list;
 use crate::desks::{write_counts, write_desks};
-use crate::elements::{write_elements, write_end};
+use crate::elements::{write_elements, write_head};
 use crate::views::write_views;
 use commons::refusal::Refusal;
 use std::alloc::Global;
 use std::io;
 use std::io::Write;
+use step_core::view::Head;
 use step_core::world::World;
 
 /// The text of a world: the head, the length word, the common list from the top, each worker's credit,
@@ -35,7 +36,7 @@ pub fn world_text(alloc: Global, world: &World) -> Result<Vec<u8>, Refusal>
 fn write_world(out: &mut Vec<u8>, common: &[u32], world: &World) -> io::Result<()>
     ensures { OnOk result (out.new.items ≡ out.old.items ++ text_with common.now world.now) }
 {
-    write_head(out, world)?;
+    write_head_line(out, world.head())?;
     writeln!(out, "length {}", world.length())?;
     write!(out, "common")?;
     write_elements(out, common)?;
@@ -44,12 +45,10 @@ fn write_world(out: &mut Vec<u8>, common: &[u32], world: &World) -> io::Result<(
     write_counts(out, world.counts())
 }
 
-#[tactic(auto, unfolding(crate::specs::WorldText::head_text))]
-fn write_head(out: &mut Vec<u8>, world: &World) -> io::Result<()>
-    ensures { OnOk result (out.new.items ≡ out.old.items ++ head_text world.now) }
+#[tactic(auto, unfolding(crate::specs::WorldText::head_line))]
+fn write_head_line(out: &mut Vec<u8>, head: Head) -> io::Result<()>
+    ensures { OnOk result (out.new.items ≡ out.old.items ++ head_line head) }
 {
-    let head = world.head();
-    write!(out, "head ")?;
-    write_end(out, head.top)?;
-    writeln!(out, " {}", head.count)
+    write_head(out, head)?;
+    writeln!(out)
 }
