@@ -39,13 +39,14 @@ pub(super) const ROWS: &[ReadRow] = &[
         3 1 PutIn { desk: 0, segments: Seq { items: [StepSegment { element: 3, base: None }] } }; \
         5 1 PutIn { desk: 1, segments: Seq { items: [StepSegment { element: 4, base: Some(7) }, \
         StepSegment { element: 7, base: None }, StepSegment { element: 2, base: None }] } }; \
-        6 1 Open { desk: 1 }; 7 1 Seize { desk: 1 }; 8 1 TakeOut { desk: 1 }; 9 1 Clear { desk: 1 }; ",
+        6 1 Open { desk: 1 }; 7 1 Seize { desk: 1 }; 8 1 TakeOut { desk: 1 }; \
+        9 1 Clear { desk: 1 }; ",
     ),
     // Such a step is refused when it is played.
     (
         "the end and any number below 2^64 are read as an element",
-        "pool 9\nloadlink -\nclaim 18446744073709551615\nraise - 18446744073709551615\nreserve 0 0\n\
-        putin 64 18446744073709551615>9\n",
+        "pool 9\nloadlink -\nclaim 18446744073709551615\nraise - 18446744073709551615\n\
+        reserve 0 0\nputin 64 18446744073709551615>9\n",
         OF_NINE,
         "2 1 LoadLink { element: None }; 3 1 Claim { element: Some(18446744073709551615) }; \
         4 1 Raise { element: None, old: 18446744073709551615 }; 5 1 Reserve { old: 0, n: 0 }; \

@@ -116,7 +116,8 @@ pub(super) const ROWS: &[TextsRow] = &[
                 None,
             ),
             (
-                "pool 3\nputin 0 0 0 0 0 0 0 0 0 0 0 0 0 0 0 0 0 0 0 0 0 0 0 0 0 0 0 0 0 0 0 0 0 0\n",
+                "pool 3\n\
+                putin 0 0 0 0 0 0 0 0 0 0 0 0 0 0 0 0 0 0 0 0 0 0 0 0 0 0 0 0 0 0 0 0 0 0\n",
                 Some(ScriptFault(2)),
             ),
         ],
