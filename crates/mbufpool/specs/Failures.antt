@@ -11,6 +11,7 @@ use Rattle.commons.specs.declared.refusal.Refusal.TheVariants.{MissingShare, Scr
 use Rattle.commons.specs.declared.refusal.Refusal.TheVariants as refusals
 use Rattle.commons.specs.Refusals.{name_of, number_of}
 use Rattle.script_text.specs.Grammar.{IsCause}
+use Rattle.script_text.specs.StepGrammar.{IsStepCause}
 use Rattle.mbufpool.specs.declared.failures.Failure.{Failure}
 use Rattle.mbufpool.specs.declared.failures.Failure.TheVariants.{CommandLine, Unreadable, Fault}
 
@@ -41,11 +42,19 @@ abbrev pub IsUnread : List ℕ → io.ErrorKind → Failure → Type 0
 IsUnread file kinds.OutOfMemory failure = failure ≡ Fault refusals.OutOfMemory
 IsUnread file _ failure = IsUnreadable file failure
 
--- a failure of the replay of these bytes: a refusal of which they are the cause
+-- a failure that is a refusal of which these bytes are such a cause
+abbrev pub IsFaultOf : (List ℕ → Refusal → Type 0) → List ℕ → Failure → Type 0
+IsFaultOf Cause script (CommandLine error) = ⊥
+IsFaultOf Cause script (Unreadable named) = ⊥
+IsFaultOf Cause script (Fault refusal) = Cause script refusal
+
+-- a failure of the replay of these bytes
 abbrev pub IsOfReplay : List ℕ → Failure → Type 0
-IsOfReplay script (CommandLine error) = ⊥
-IsOfReplay script (Unreadable named) = ⊥
-IsOfReplay script (Fault refusal) = IsCause script refusal
+IsOfReplay = IsFaultOf IsCause
+
+-- a failure of their steps
+abbrev pub IsOfSteps : List ℕ → Failure → Type 0
+IsOfSteps = IsFaultOf IsStepCause
 
 -- 0 where help or the version was asked for, and 2 for a mistake
 abbrev pub status_of_kind : ErrorKind → ℕ

@@ -5,10 +5,13 @@ use Rattle.pool_model.specs.declared.statement.Statement.{Statement}
 use Rattle.script.specs.Printed.{IsJsonFor, IsPrintedFor}
 use Rattle.script.specs.Running.{RunsTo}
 use Rattle.script.specs.StatementText.{text_of}
+use Rattle.step_text.specs.Printed.{IsStepsPrint}
+use Rattle.mbufpool.specs.declared.failures.Failure.{Failure}
+use Rattle.mbufpool.specs.Failures.{IsOfReplay, IsOfSteps}
 use Rattle.mbufpool.specs.declared.task.Form.{Form}
 use Rattle.mbufpool.specs.declared.task.Form.TheVariants.{Text, Json}
 use Rattle.mbufpool.specs.declared.task.Task.{Task}
-use Rattle.mbufpool.specs.declared.task.Task.TheVariants.{Replay, Run}
+use Rattle.mbufpool.specs.declared.task.Task.TheVariants.{Replay, Run, Steps}
 
 -- the bytes are a script, and this is printed for its replay in this form
 abbrev pub IsPrintedAs : Form → List ℕ → List ℕ → Type 0
@@ -30,3 +33,10 @@ pub record IsRunPrintedAs (form : Form) (bytes out : List ℕ) : Type 0 where
 abbrev pub IsDoneAs : Task → List ℕ → List ℕ → Type 0
 IsDoneAs (Replay form) = IsPrintedAs form
 IsDoneAs (Run turns form) = IsRunPrintedAs form
+IsDoneAs Steps = IsStepsPrint
+
+-- the bytes are the cause of this failure of what is done with them
+abbrev pub IsFailureOf : Task → List ℕ → Failure → Type 0
+IsFailureOf (Replay form) = IsOfReplay
+IsFailureOf (Run turns form) = IsOfReplay
+IsFailureOf Steps = IsOfSteps

@@ -1,11 +1,11 @@
--- What comes of the replay of a file, whatever a reading of it gives.
+-- What comes of a task with a file, whatever a reading of it gives.
 use Rattle.std.specs.Prelude.{ℕ, List, Option, ◌⊎◌}
 use Rattle.std.specs.declared.io.ErrorKind.{ErrorKind}
 use Rattle.std.specs.Io.KnownBytes.{Appends}
 use Rattle.mbufpool.specs.declared.failures.Failure.{Failure}
 use Rattle.mbufpool.specs.declared.task.Task.{Task}
-use Rattle.mbufpool.specs.Failures.{IsOfReplay, IsUnread}
-use Rattle.mbufpool.specs.Forms.{IsDoneAs}
+use Rattle.mbufpool.specs.Failures.{IsUnread}
+use Rattle.mbufpool.specs.Forms.{IsDoneAs, IsFailureOf}
 
 -- a reading gave bytes, and this is printed for them for this task
 pub record PrintsReading (Gives : List ℕ → Type 0) (task : Task) (out : List ℕ) : Type 0 where
@@ -13,11 +13,11 @@ pub record PrintsReading (Gives : List ℕ → Type 0) (task : Task) (out : List
   pub given : Gives bytes
   pub printed : IsDoneAs task bytes out
 
--- a reading gave bytes, and they are the cause of this failure
-pub record FailsReplay (Gives : List ℕ → Type 0) (failure : Failure) : Type 0 where
+-- a reading gave bytes, and they are the cause of this failure of the task
+pub record FailsTask (Gives : List ℕ → Type 0) (task : Task) (failure : Failure) : Type 0 where
   pub bytes : List ℕ
   pub given : Gives bytes
-  pub cause : IsOfReplay bytes failure
+  pub cause : IsFailureOf task bytes failure
 
 -- a reading of this file failed, and this failure tells of it
 pub record FailsReading (Fails : ErrorKind → Type 0) (file : List ℕ) (failure : Failure) : Type 0 where
@@ -26,8 +26,8 @@ pub record FailsReading (Fails : ErrorKind → Type 0) (file : List ℕ) (failur
   pub told : IsUnread file kind failure
 
 -- the failure that came
-abbrev pub FailsAt : (List ℕ → Type 0) → (ErrorKind → Type 0) → List ℕ → Failure → Type 0
-FailsAt Gives Fails file failure = FailsReading Fails file failure ⊎ FailsReplay Gives failure
+abbrev pub FailsAt : (List ℕ → Type 0) → (ErrorKind → Type 0) → List ℕ → Task → Failure → Type 0
+FailsAt Gives Fails file task failure = FailsReading Fails file failure ⊎ FailsTask Gives task failure
 
 -- the print for a file's bytes was added to what stood there
 pub record PrintsFile (Gives : List ℕ → Type 0) (task : Task) (old new : Option (List ℕ)) : Type 0 where

@@ -64,6 +64,10 @@ fn requested<'a>(alloc: Global, words: &'a [String]) -> Result<Option<Request<'a
         let task = Task::Replay(form_of(replay.get_flag("json")));
         return Ok(replay.get_str("FILE").map(|file| Request { file, task }));
     }
+    if let Some(steps) = matches.subcommand_matches("steps") {
+        let task = Task::Steps;
+        return Ok(steps.get_str("FILE").map(|file| Request { file, task }));
+    }
     let Some(run) = matches.subcommand_matches("run") else {
         return Ok(None);
     };
@@ -99,7 +103,8 @@ fn wrong_words(alloc: Global, message: &str) -> Result<Error, Error> {
     Ok(command(alloc)?.error(ErrorKind::InvalidValue, message)?)
 }
 
-/// `mbufpool replay FILE [--json]` and `mbufpool run FILE [--ground locked] [--turns T] [--json]`.
+/// `mbufpool replay FILE [--json]`, `mbufpool run FILE [--ground locked] [--turns T] [--json]` and
+/// `mbufpool steps FILE`.
 fn command<'a>(alloc: Global) -> Result<Command<'a>, Error> {
     let replay = Command::new(alloc, "replay")
         .about("Replays a script, and prints each reply and where each element is at the end")
@@ -127,13 +132,17 @@ fn command<'a>(alloc: Global) -> Result<Command<'a>, Error> {
         .arg(ground)?
         .arg(turns)?
         .arg(json(alloc).help("Print it as one line of JSON"))?;
+    let steps = Command::new(alloc, "steps")
+        .about("Plays a script of steps on the words of the stack, and prints what each saw and the words")
+        .arg(script_file(alloc))?;
     Ok(
         Command::new(alloc, "mbufpool")
             .about("A pool of packet buffers")
             .version(VERSION)
             .subcommand_required(true)
             .subcommand(replay)?
-            .subcommand(run)?,
+            .subcommand(run)?
+            .subcommand(steps)?,
     )
 }
 

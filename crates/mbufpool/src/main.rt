@@ -1,4 +1,5 @@
-//! Replays and runs scripts of a packet pool: `mbufpool replay FILE` and `mbufpool run FILE`.
+//! Replays and runs scripts of a packet pool, and plays scripts of steps: `mbufpool replay FILE`,
+//! `mbufpool run FILE` and `mbufpool steps FILE`.
 #![tactic(auto)]
 
 mod command_line;

@@ -1,8 +1,9 @@
-//! What is printed of a script: its replay, or what its run comes to, in the form that is asked for.
+//! What is printed of a script: its replay, what its run comes to, or its steps, in the form that is asked for.
 ghost use Rattle.std.specs.Prelude.{◌≡◌, IfErr, IfOk};
 ghost use Rattle.script.specs.Printed.{IsJsonFor, IsPrintedFor};
-ghost use Rattle.mbufpool.specs.Failures.{IsOfReplay, IsUnread, status_of};
-ghost use Rattle.mbufpool.specs.Forms.{IsDoneAs, IsPrintedAs};
+ghost use Rattle.mbufpool.specs.Failures.{IsOfReplay, IsOfSteps, IsUnread, status_of};
+ghost use Rattle.mbufpool.specs.Forms.{IsDoneAs, IsFailureOf, IsPrintedAs};
+ghost use Rattle.step_text.specs.Printed.{IsStepsPrint};
 ghost use Rattle.mbufpool.specs.Replays.{FailsAt, PrintsReading};
 
 use crate::command_line::Request;
@@ -11,7 +12,7 @@ use crate::running;
 use crate::scripts::Scripts;
 use crate::task::{Form, Task};
 use commons::refusal::Refusal;
-use script::{run_replay, run_replay_json};
+use script::{run_replay, run_replay_json, run_steps};
 use std::alloc::Global;
 use std::io;
 use std::sync::Wait;
@@ -34,7 +35,8 @@ pub fn printed<'a, R: Threads + Wait + Sync, S: Scripts>(
     ensures cause { IfErr result (FailsAt
         (S.gives scripts.now request.now.file.now)
         (S.fails scripts.now request.now.file.now)
-        request.now.file.now) }
+        request.now.file.now
+        request.now.task) }
     ensures status { IfErr result (λ failure. status_of failure ≡ 1) }
 {
     match scripts.read(alloc, request.file) {
@@ -51,12 +53,13 @@ fn done<R: Threads + Wait + Sync>(
     task: Task,
 ) -> Result<Vec<u8>, Failure<'static>>
     ensures printed { IfOk result (λ out. IsDoneAs task script.now out.items) }
-    ensures cause { IfErr result (IsOfReplay script.now) }
+    ensures cause { IfErr result (IsFailureOf task script.now) }
     ensures status { IfErr result (λ failure. status_of failure ≡ 1) }
 {
     match task {
         Task::Replay(form) => text(alloc, script, form),
         Task::Run(turns, form) => running::text(rt, alloc, script, turns, form),
+        Task::Steps => steps(alloc, script),
     }
 }
 
@@ -95,6 +98,20 @@ fn json(alloc: Global, script: &[u8]) -> Result<Vec<u8>, Failure<'static>>
 {
     match run_replay_json(alloc, script) {
         Ok(line) => Ok(line),
+        Err(refusal) => Err(Failure::Fault(refusal)),
+    }
+}
+
+/// What each step answers, and the world afterwards.
+///
+/// `Fault` as of a replay, of a script of steps.
+fn steps(alloc: Global, script: &[u8]) -> Result<Vec<u8>, Failure<'static>>
+    ensures printed { IfOk result (λ out. IsStepsPrint script.now out.items) }
+    ensures cause { IfErr result (IsOfSteps script.now) }
+    ensures status { IfErr result (λ failure. status_of failure ≡ 1) }
+{
+    match run_steps(alloc, script) {
+        Ok(played) => Ok(played),
         Err(refusal) => Err(Failure::Fault(refusal)),
     }
 }

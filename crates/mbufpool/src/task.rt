@@ -45,4 +45,6 @@ pub enum Task {
     Replay(Form),
     /// Its run with a thread for each worker.
     Run(Turns, Form),
+    /// Its steps, each on one word or slot.
+    Steps,
 }

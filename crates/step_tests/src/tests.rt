@@ -9,12 +9,14 @@ use std::test::Fail;
 use step_core::run::run;
 use step_core::step::{Outcome, Step};
 use step_core::world::World;
+use step_text::run_steps;
 
 mod acts;
 mod heads;
 mod refusals;
 mod schedules;
 mod shown;
+mod texts;
 
 use acts::{Act, Told, is_told, step_of};
 use shown::{End, assert_end, numbers};
@@ -30,17 +32,6 @@ type RefusedRow = (
     &'static [(u32, Act)],
 );
 
-/// The machine of a row's limits.
-fn opened<R: Abort + AllocGlobal>(rt: &R, limits: &Limits, name: &str) -> Option<World> {
-    match World::open(rt.alloc(), limits) {
-        Ok(world) => Some(world),
-        Err(cause) => {
-            assert!(rt; cause == Refusal::OutOfMemory, "{name}: {cause:?}");
-            None
-        }
-    }
-}
-
 #[test]
 fn a_head_has_one_word(rt: HostRuntime) {
     for (top, count, word) in heads::WORDS {
@@ -55,23 +46,23 @@ fn a_head_has_one_word(rt: HostRuntime) {
     }
 }
 
-fn step_rows<R: Abort + AllocGlobal>(rt: &R, rows: &[Row]) {
+fn step_rows<R: Abort + AllocGlobal>(rt: &R, rows: &[Row]) -> Result<(), Fail> {
     for (name, limits, steps, end) in rows {
-        if let Some(mut world) = opened(rt, limits, name) {
-            for (index, (worker, act, told)) in steps.iter().enumerate() {
-                let answer = world.step(*worker, step_of(*act));
-                assert!(rt; is_told(&answer, told), "{name}: step {index}: {answer:?}");
-            }
-            assert_end(rt, &world, end, name);
+        let mut world = World::open(rt.alloc(), limits)?;
+        for (index, (worker, act, told)) in steps.iter().enumerate() {
+            let answer = world.step(*worker, step_of(*act));
+            assert!(rt; is_told(&answer, told), "{name}: step {index}: {answer:?}");
         }
+        assert_end(rt, &world, end, name);
     }
+    Ok(())
 }
 
 #[test]
-fn each_step_answers_as_its_row_says(rt: HostRuntime) {
-    step_rows(&rt, schedules::STACK);
-    step_rows(&rt, schedules::COUNTS);
-    step_rows(&rt, schedules::REFUSED);
+fn each_step_answers_as_its_row_says(rt: HostRuntime) -> Result<(), Fail> {
+    step_rows(&rt, schedules::STACK)?;
+    step_rows(&rt, schedules::COUNTS)?;
+    step_rows(&rt, schedules::REFUSED)
 }
 
 /// The steps of a row as a schedule.
@@ -85,20 +76,15 @@ fn schedule_of(alloc: Global, steps: &[(u32, Act, Told)]) -> Result<Vec<(u32, St
 
 fn run_rows<R: Abort + AllocGlobal>(rt: &R, rows: &[Row]) -> Result<(), Fail> {
     for (name, limits, steps, end) in rows {
-        if let Some(mut world) = opened(rt, limits, name) {
-            let schedule = schedule_of(rt.alloc(), steps)?;
-            match run(rt.alloc(), &mut world, schedule.as_slice()) {
-                Ok(outcomes) => {
-                    assert_eq!(rt; outcomes.len(), steps.len(), "{name}");
-                    for (outcome, (_worker, _act, told)) in outcomes.into_iter().zip(*steps) {
-                        let answer: Result<Outcome, Refusal> = Ok(outcome);
-                        assert!(rt; is_told(&answer, told), "{name}: {answer:?}");
-                    }
-                    assert_end(rt, &world, end, name);
-                }
-                Err(cause) => assert!(rt; cause == Refusal::OutOfMemory, "{name}: {cause:?}"),
-            }
+        let mut world = World::open(rt.alloc(), limits)?;
+        let schedule = schedule_of(rt.alloc(), steps)?;
+        let outcomes = run(rt.alloc(), &mut world, schedule.as_slice())?;
+        assert_eq!(rt; outcomes.len(), steps.len(), "{name}");
+        for (outcome, (_worker, _act, told)) in outcomes.into_iter().zip(*steps) {
+            let answer: Result<Outcome, Refusal> = Ok(outcome);
+            assert!(rt; is_told(&answer, told), "{name}: {answer:?}");
         }
+        assert_end(rt, &world, end, name);
     }
     Ok(())
 }
@@ -111,21 +97,20 @@ fn a_run_has_the_same_outcomes(rt: HostRuntime) -> Result<(), Fail> {
 
 fn refused_rows<R: Abort + AllocGlobal>(rt: &R, rows: &[RefusedRow]) -> Result<(), Fail> {
     for (name, limits, steps, refused) in rows {
-        if let Some(mut world) = opened(rt, limits, name) {
-            for (worker, act) in *steps {
-                let answer = world.step(*worker, step_of(*act));
-                assert!(rt; answer.is_ok(), "{name}: {act:?}: {answer:?}");
-            }
-            let before = numbers(&world)?;
-            for (worker, act) in *refused {
-                let answer = world.step(*worker, step_of(*act));
-                assert!(rt;
-                    is_told(&answer, &Told::Refused),
-                    "{name}: {act:?}: {answer:?}"
-                );
-                let after = numbers(&world)?;
-                assert_eq!(rt; after.as_slice(), before.as_slice(), "{name}: {act:?}");
-            }
+        let mut world = World::open(rt.alloc(), limits)?;
+        for (worker, act) in *steps {
+            let answer = world.step(*worker, step_of(*act));
+            assert!(rt; answer.is_ok(), "{name}: {act:?}: {answer:?}");
+        }
+        let before = numbers(&world)?;
+        for (worker, act) in *refused {
+            let answer = world.step(*worker, step_of(*act));
+            assert!(rt;
+                is_told(&answer, &Told::Refused),
+                "{name}: {act:?}: {answer:?}"
+            );
+            let after = numbers(&world)?;
+            assert_eq!(rt; after.as_slice(), before.as_slice(), "{name}: {act:?}");
         }
     }
     Ok(())
@@ -142,18 +127,48 @@ fn a_refused_step_leaves_the_world_as_it_was(rt: HostRuntime) -> Result<(), Fail
 #[test]
 fn refused_memory_changes_no_answer(rt: HostRuntime) -> Result<(), Fail> {
     let (name, limits, steps, end) = schedules::FOR_MEMORY;
-    if let Some(mut world) = opened(&rt, &limits, name) {
-        for (worker, act, told) in steps {
-            let before = numbers(&world)?;
-            let mut answer = world.step(*worker, step_of(*act));
-            if let Err(Refusal::OutOfMemory) = answer {
-                let after = numbers(&world)?;
-                assert_eq!(&rt; after.as_slice(), before.as_slice(), "{name}");
-                answer = world.step(*worker, step_of(*act));
-            }
-            assert!(&rt; is_told(&answer, told), "{name}: {act:?}: {answer:?}");
+    let mut world = match World::open(rt.alloc(), &limits) {
+        Ok(world) => world,
+        Err(cause) => {
+            assert_eq!(&rt; cause, Refusal::OutOfMemory, "{name}");
+            World::open(rt.alloc(), &limits)?
         }
-        assert_end(&rt, &world, &end, name);
+    };
+    for (worker, act, told) in steps {
+        let before = numbers(&world)?;
+        let mut answer = world.step(*worker, step_of(*act));
+        if let Err(Refusal::OutOfMemory) = answer {
+            let after = numbers(&world)?;
+            assert_eq!(&rt; after.as_slice(), before.as_slice(), "{name}");
+            answer = world.step(*worker, step_of(*act));
+        }
+        assert!(&rt; is_told(&answer, told), "{name}: {act:?}: {answer:?}");
+    }
+    assert_end(&rt, &world, &end, name);
+    Ok(())
+}
+
+#[test]
+fn each_script_of_steps_prints_its_text(rt: HostRuntime) -> Result<(), Fail> {
+    for (name, script, text) in texts::ROWS {
+        let printed = String::from_utf8(run_steps(rt.alloc(), script.as_bytes())?)?;
+        assert_eq!(&rt; printed.as_str(), *text, "{name}");
+    }
+    for (name, text, refusal) in texts::FAULTY {
+        match run_steps(rt.alloc(), text.as_bytes()) {
+            Ok(_) => assert!(&rt; false, "{name} was played"),
+            Err(cause) => assert_eq!(&rt; cause, *refusal, "{name}"),
+        }
     }
     Ok(())
+}
+
+/// Whichever request for memory is refused, the text is as its row says or `OutOfMemory`.
+#[test]
+fn refused_memory_changes_no_text(rt: HostRuntime) {
+    let (name, script, text) = texts::FOR_MEMORY;
+    match run_steps(rt.alloc(), script.as_bytes()) {
+        Ok(printed) => assert_eq!(&rt; printed.as_slice(), text.as_bytes(), "{name}"),
+        Err(cause) => assert_eq!(&rt; cause, Refusal::OutOfMemory, "{name}"),
+    }
 }

@@ -97,6 +97,29 @@ fn a_run_prints_where_each_element_is_at_the_end(rt: HostRuntime) -> Result<(), 
     Ok(())
 }
 
+const STEPS: &str = "pool 1\nloadlength\ncut\n";
+
+const STEPS_TEXT: &str = "2: value 1\n3: refused 21 StepRefused\n\
+    head 0 0\nlength 1\ncommon 1: 0\nview 1 credit 0\nhand 1 0:\nholds 1 0:\n";
+
+#[test]
+fn steps_print_what_each_saw_and_the_words(rt: HostRuntime) -> Result<(), Fail> {
+    let path = path(&rt, "steps")?;
+    let written = [
+        (STEPS, STEPS_TEXT),
+        ("pool 0\n", "fault 1 BadPool\n"),
+        ("pool 1\ncuts\n", "fault 20 ScriptFault line 2\n"),
+        ("pool 1\nalloc a\n", "fault 20 ScriptFault line 2\n"),
+    ];
+    for (script, text) in written {
+        fs::write(&rt, path.as_str(), script)?;
+        let told = outcome(&rt, &Disk(&rt), path.as_str(), Task::Steps)?;
+        fs::remove_file(&rt, path.as_str())?;
+        assert_eq!(rt; told.as_str(), text);
+    }
+    Ok(())
+}
+
 #[test]
 fn of_a_file_that_is_too_long_one_byte_too_many_is_read(rt: HostRuntime) -> Result<(), Fail> {
     let path = path(&rt, "long")?;

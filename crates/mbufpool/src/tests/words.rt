@@ -14,23 +14,25 @@ fn line(alloc: Global, words: &[&str]) -> Result<Vec<String>, AllocError> {
     Ok(line)
 }
 
-/// Whether the words ask for a run of this file in so many turns, or for its replay where there are none,
-/// printed in this form.
+/// What a task is called, in how many turns a line is tried, 0 where none are named, and its form.
+type Asked = (&'static str, u32, Form);
+
+/// Whether the words ask for this with this file.
 fn asks_for(
     alloc: Global,
     words: &[&str],
     file: &str,
-    turns: Option<u32>,
-    form: Form,
+    asked: Asked,
 ) -> Result<bool, AllocError> {
     let words = line(alloc, words)?;
     let is = match request_of(alloc, words.as_slice()) {
         Ok(found) => {
-            let (asked, printed) = match found.task {
-                Task::Replay(printed) => (None, printed),
-                Task::Run(tries, printed) => (Some(tries.count()), printed),
+            let task = match found.task {
+                Task::Replay(form) => ("replay", 0, form),
+                Task::Run(turns, form) => ("run", turns.count(), form),
+                Task::Steps => ("steps", 0, Form::Text),
             };
-            found.file == file && asked == turns && printed == form
+            found.file == file && task == asked
         }
         Err(_) => false,
     };
@@ -55,41 +57,26 @@ fn told(alloc: Global, words: &[&str]) -> Result<(String, String, u8, u8), Fail>
 
 #[test]
 fn words_name_a_file_or_are_wrong_or_ask_for_a_text(rt: HostRuntime) -> Result<(), Fail> {
-    let named: [(&[&str], &str, Option<u32>, Form); 8] = [
-        (
-            &["replay", "first-run.script"],
-            "first-run.script",
-            None,
-            Form::Text,
-        ),
-        (&["replay", "a", "--json"], "a", None, Form::Json),
-        (&["replay", "--json", "a"], "a", None, Form::Json),
-        (&["replay", "--", "--json"], "--json", None, Form::Text),
-        (&["run", "a"], "a", Some(1_000), Form::Text),
-        (
-            &["run", "a", "--ground", "locked"],
-            "a",
-            Some(1_000),
-            Form::Text,
-        ),
-        (
-            &["run", "a", "--turns", "1", "--json"],
-            "a",
-            Some(1),
-            Form::Json,
-        ),
-        (
-            &["run", "--turns", "1000000", "a"],
-            "a",
-            Some(1_000_000),
-            Form::Text,
-        ),
+    let named: [(&[&str], &str, Asked); 10] = [
+        (&["replay", "a.script"], "a.script", ("replay", 0, Form::Text)),
+        (&["replay", "a", "--json"], "a", ("replay", 0, Form::Json)),
+        (&["replay", "--json", "a"], "a", ("replay", 0, Form::Json)),
+        (&["replay", "--", "--json"], "--json", ("replay", 0, Form::Text)),
+        (&["run", "a"], "a", ("run", 1_000, Form::Text)),
+        (&["run", "a", "--ground", "locked"], "a", ("run", 1_000, Form::Text)),
+        (&["run", "a", "--turns", "1", "--json"], "a", ("run", 1, Form::Json)),
+        (&["run", "--turns", "1000000", "a"], "a", ("run", 1_000_000, Form::Text)),
+        (&["steps", "aba.script"], "aba.script", ("steps", 0, Form::Text)),
+        (&["steps", "--", "-"], "-", ("steps", 0, Form::Text)),
     ];
-    for (words, file, turns, form) in named {
-        assert!(rt; asks_for(rt.alloc(), words, file, turns, form)?);
+    for (words, file, asked) in named {
+        assert!(rt; asks_for(rt.alloc(), words, file, asked)?);
     }
 
-    let wrong: [&[&str]; 16] = [
+    let wrong: [&[&str]; 19] = [
+        &["steps"],
+        &["steps", "a", "--json"],
+        &["steps", "a", "b"],
         &["run"],
         &["run", "a", "--turns", "0"],
         &["run", "a", "--turns", "1000001"],

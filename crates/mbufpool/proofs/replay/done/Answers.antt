@@ -8,3 +8,9 @@ pub returns-in-Run-clause-printed : goal.returns-in-Run-clause-printed
 returns-in-Run-clause-printed g c =
     subst (λ (t : Task). IfOk c.text-in-Run.result (λ out. IsDoneAs t c.args.script.now out.items))
     (sym c.in-Run.is) c.text-in-Run.ensures.printed
+
+-- and so for steps
+pub returns-in-Steps-clause-printed : goal.returns-in-Steps-clause-printed
+returns-in-Steps-clause-printed g c =
+    subst (λ (t : Task). IfOk c.steps.result (λ out. IsDoneAs t c.args.script.now out.items))
+    (sym c.in-Steps.is) c.steps.ensures.printed
