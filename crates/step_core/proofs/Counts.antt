@@ -153,13 +153,14 @@ module _ (w : World) (k : ℕ) (here : k < length w.views) (busy : 0 < (view_at 
             (cases_lt i w.limits.population),
       )
 
-  pub claim_step : (i : ℕ) → 0 < bag (view_at w.views k).hand i →
+  pub claim_step : (i : ℕ) (rs : List ℕ) → 0 < bag (view_at w.views k).hand i →
       CountStep w k w.counts (record (view_at w.views k) {
         hand = without i (view_at w.views k).hand;
         holds = (view_at w.views k).holds ++ i ∷ [];
+        headers = rs;
         chain = chain_without i (view_at w.views k).chain;
       })
-  claim_step i h = let v = view_at w.views k in let at = in_hand i h in record {
+  claim_step i rs h = let v = view_at w.views k in let at = in_hand i h in record {
     part = refl;
     credit = refl;
     seen = refl;
@@ -254,12 +255,13 @@ module _ (w : World) (k : ℕ) (here : k < length w.views) (busy : 0 < (view_at 
     counts_limited n le = at_or_else i (λ x. slice_index (set w.counts i n) x ≤ w.limits.ref_limit)
         (omega (arith, count_here n)) (λ x ne. let a = counts.limited x in omega (arith, count_else n x ne))
 
-  pub sole_step : (i : ℕ) → 0 < bag (view_at w.views k).holds i → slice_index w.counts i ≡ 1
+  pub sole_step : (i : ℕ) (rs : List ℕ) → 0 < bag (view_at w.views k).holds i → slice_index w.counts i ≡ 1
       → CountStep w k w.counts (record (view_at w.views k) {
         hand = (view_at w.views k).hand ++ i ∷ [];
         holds = without i (view_at w.views k).holds;
+        headers = rs;
       })
-  sole_step i h one = let v = view_at w.views k in let at = in_holds i h in let c = count_of i h in record {
+  sole_step i rs h one = let v = view_at w.views k in let at = in_holds i h in let c = count_of i h in record {
     part = refl;
     credit = refl;
     seen = refl;
@@ -319,12 +321,13 @@ module _ (w : World) (k : ℕ) (here : k < length w.views) (busy : 0 < (view_at 
   }
 
   -- the last hold ends
-  pub lower_last : (i : ℕ) → 0 < bag (view_at w.views k).holds i → slice_index w.counts i ≡ 1
+  pub lower_last : (i : ℕ) (rs : List ℕ) → 0 < bag (view_at w.views k).holds i → slice_index w.counts i ≡ 1
       → CountStep w k (set w.counts i (slice_index w.counts i - 1)) (record (view_at w.views k) {
         holds = without i (view_at w.views k).holds;
+        headers = rs;
         zeros = (view_at w.views k).zeros ++ i ∷ [];
       })
-  lower_last i h one =
+  lower_last i rs h one =
       let v = view_at w.views k in
       let at = in_holds i h in
       let lt = at.4 in
@@ -362,10 +365,11 @@ module _ (w : World) (k : ℕ) (here : k < length w.views) (busy : 0 < (view_at 
       }
 
   -- a hold ends, and another is left
-  pub lower_still : (i : ℕ) → 0 < bag (view_at w.views k).holds i → slice_index w.counts i ≢ 1
+  pub lower_still : (i : ℕ) (rs : List ℕ) → 0 < bag (view_at w.views k).holds i → slice_index w.counts i ≢ 1
       → CountStep w k (set w.counts i (slice_index w.counts i - 1))
-      (record (view_at w.views k) { holds = without i (view_at w.views k).holds })
-  lower_still i h more =
+      (record (view_at w.views k)
+      { holds = without i (view_at w.views k).holds; headers = rs })
+  lower_still i rs h more =
       let v = view_at w.views k in
       let at = in_holds i h in
       let lt = at.4 in

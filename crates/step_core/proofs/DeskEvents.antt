@@ -13,13 +13,13 @@ use Rattle.step_core.proofs.Events.{read_here, read_else, read_kept, same_at}
 use Rattle.step_core.proofs.HeldEvents.{held_place, is_held, at_place}
 
 module _ (w : World) (k d : ℕ) (here : k < length w.views) (inside : d < length w.desks) (x : Desk)
-    (hs : List ℕ) (work : Option Work) (t s : Table) (a : Shows w t)
-    (b : Shows (worked w k d x hs work) s) where
+    (hs rs : List ℕ) (work : Option Work) (t s : Table) (a : Shows w t)
+    (b : Shows (worked w k d x hs rs work) s) where
   same_list : a.common ≡ b.common
   same_list = spells_same (link_in w.links) w.head.top a.common b.common a.spelled b.spelled
 
   new_view : View
-  new_view = record (view_at w.views k) { holds = hs; work = work }
+  new_view = record (view_at w.views k) { holds = hs; headers = rs; work = work }
 
   desk_here : (i : ℕ) → bag (shelf (desk_at (set w.desks d x) d)) i ≡ bag (shelf x) i
   desk_here i = ap (λ (o : Desk). bag (shelf o) i) (get_or-set_same w.desks d x no_desk inside)
@@ -31,7 +31,7 @@ module _ (w : World) (k d : ℕ) (here : k < length w.views) (inside : d < lengt
       bag (shelf x) i ≡ bag (shelf (desk_at w.desks d)) i → Same (t i) (s i)
   unfolding new_view
   beside i lt holds shelves =
-      same_at w (worked w k d x hs work) t s w.limits.population refl refl a b i lt
+      same_at w (worked w k d x hs rs work) t s w.limits.population refl refl a b i lt
       (ap (λ (xs : List ℕ). bag xs i) same_list) (record {
         hand = λ j. sym (read_kept w.views k new_view here (λ v. bag v.hand i + bag v.zeros i) refl j);
         holder = λ j. sym (read_kept w.views k new_view here (λ v. bag v.holds i) holds j);
@@ -70,7 +70,7 @@ module _ (w : World) (k d : ℕ) (here : k < length w.views) (inside : d < lengt
         let o = a.one i lt in
         let r = b.one i lt in
         let sa = standing w a.common i in
-        let sb = standing (worked w k d x hs work) b.common i in
+        let sb = standing (worked w k d x hs rs work) b.common i in
         let n = bag (holds_of_packet p) i in
         let mine : bag hs i ≡ bag (view_at w.views k).holds i - n =
         ap (λ (xs : List ℕ). bag xs i) is
@@ -150,7 +150,7 @@ module _ (w : World) (k d : ℕ) (here : k < length w.views) (inside : d < lengt
         let o = a.one i lt in
         let r = b.one i lt in
         let sa = standing w a.common i in
-        let sb = standing (worked w k d x hs work) b.common i in
+        let sb = standing (worked w k d x hs rs work) b.common i in
         let n = bag (holds_of_packet p) i in
         let mine : bag hs i ≡ bag (view_at w.views k).holds i + n =
         ap (λ (xs : List ℕ). bag xs i) is

@@ -14,11 +14,11 @@ use Rattle.step_core.proofs.Bags.{times-nil, times-append, times-minus, at_or_el
 use Rattle.step_core.proofs.Frame.{sum_kept, each_view}
 use Rattle.step_core.proofs.StackSteps.{one_view, two_views, busy_view}
 
--- the world after a step on the desk d, which is x afterwards, by a worker whose holds and work change
-abbrev pub worked : World → ℕ → ℕ → Desk → List ℕ → Option Work → World
-worked w k d x hs work = record w {
+-- the world after a step on the desk d, which is x afterwards, by a worker whose holds, headers and work change
+abbrev pub worked : World → ℕ → ℕ → Desk → List ℕ → List ℕ → Option Work → World
+worked w k d x hs rs work = record w {
   desks = set w.desks d x;
-  views = set w.views k (record (view_at w.views k) { holds = hs; work = work });
+  views = set w.views k (record (view_at w.views k) { holds = hs; headers = rs; work = work });
 }
 
 pub if_some_each : {X : Type 0} (o : Option X) (P : X → Type 0) → ((x : X) → o ≡ Some x → P x) → IfSome o P
@@ -50,10 +50,10 @@ record DeskStep (w : World) (k d : ℕ) (x : Desk) (hs : List ℕ) (work : Optio
 
 module _ (w : World) (k d : ℕ) (here : k < length w.views) (busy : 0 < (view_at w.views k).part)
     (law : FourLaws w) where
-  desk_kept : (x : Desk) (hs : List ℕ) (work : Option Work) → DeskStep w k d x hs work →
-      FourLaws (worked w k d x hs work)
-  desk_kept x hs work c =
-      let u : View = record (view_at w.views k) { holds = hs; work = work } in
+  desk_kept : (x : Desk) (hs rs : List ℕ) (work : Option Work) → DeskStep w k d x hs work →
+      FourLaws (worked w k d x hs rs work)
+  desk_kept x hs rs work c =
+      let u : View = record (view_at w.views k) { holds = hs; headers = rs; work = work } in
       let same : (i : ℕ) → all_holds i (set w.views k u) (set w.desks d x) ≡ all_holds i w.views w.desks = λ i.
       (let a = sum_by-set (λ (v : View). bag v.holds i) w.views k u (empty_view 0) here in
       let b = sum_by-set (λ (e : Desk). bag (shelf e) i) w.desks d x no_desk c.inside in
@@ -289,11 +289,11 @@ module _ (w : World) (k d : ℕ) (here : k < length w.views) (law : FourLaws w) 
     pub hold_won : (view_at w.views k).work ≡ None → d < length w.desks →
         (desk_at w.desks d).word ≡ 0 → FourLaws (worked w k d
         (record { word = 1; slot = (desk_at w.desks d).slot }) (view_at w.views k).holds
-        (at_desk d ToFill))
+        (view_at w.views k).headers (at_desk d ToFill))
     hold_won idle inside nought =
         let o = desk_at w.desks d in let f = ap (fills d) idle in let g = ap (empties d) idle in
         let n1 = ap (λ a. one_if (a == 1)) nought in let n3 = ap (λ a. one_if (a == 3)) nought in
-        desk_kept w k d here busy law _ _ _ (record {
+        desk_kept w k d here busy law _ _ _ _ (record {
           inside = inside;
           passes =
               λ i.
@@ -316,13 +316,13 @@ module _ (w : World) (k d : ℕ) (here : k < length w.views) (law : FourLaws w) 
     pub put_in_done : (p : Packet) →
         (view_at w.views k).work ≡ Some (record { desk = d; phase = ToFill }) →
         FourLaws (worked w k d (record { word = (desk_at w.desks d).word; slot = Some p })
-        (view_at w.views k).holds (at_desk d (Filled p)))
+        (view_at w.views k).holds (view_at w.views k).headers (at_desk d (Filled p)))
     put_in_done p work =
         let o = desk_at w.desks d in
         let is = word_filling ToFill work refl in
         let f = fill_count ToFill work in
         let g = empty_count ToFill work in
-        desk_kept w k d here busy law _ _ _ (record {
+        desk_kept w k d here busy law _ _ _ _ (record {
           inside = desk_inside w.desks d (omega arith);
           passes =
               λ i.
@@ -343,12 +343,12 @@ module _ (w : World) (k d : ℕ) (here : k < length w.views) (law : FourLaws w) 
           beside = λ j n y e s. absurd (alone ToFill work j n y e s);
         })
 
-    pub open_done : (p : Packet) →
+    pub open_done : (p : Packet) (rs : List ℕ) →
         (view_at w.views k).work ≡ Some (record { desk = d; phase = Filled p }) →
         Includes (view_at w.views k).holds (holds_of_packet p)
         → FourLaws (worked w k d (record { word = 2; slot = (desk_at w.desks d).slot })
-        (minus (view_at w.views k).holds (holds_of_packet p)) None)
-    open_done p work all =
+        (minus (view_at w.views k).holds (holds_of_packet p)) rs None)
+    open_done p rs work all =
         let o = desk_at w.desks d in
         let is = word_filling (Filled p) work refl in
         let f = fill_count (Filled p) work in
@@ -356,7 +356,7 @@ module _ (w : World) (k d : ℕ) (here : k < length w.views) (law : FourLaws w) 
         let there = slot_now (Filled p) work in
         let n1 = ap (λ a. one_if (a == 1)) is in
         let n3 = ap (λ a. one_if (a == 3)) is in
-        desk_kept w k d here busy law _ _ _ (record {
+        desk_kept w k d here busy law _ _ _ _ (record {
           inside = desk_inside w.desks d (omega arith);
           passes =
               λ i. (let a =
@@ -374,14 +374,14 @@ module _ (w : World) (k d : ℕ) (here : k < length w.views) (law : FourLaws w) 
           beside = λ j n y e s. refl;
         })
 
-    pub seize_won : (p : Packet) → (view_at w.views k).work ≡ None → d < length w.desks →
+    pub seize_won : (p : Packet) (rs : List ℕ) → (view_at w.views k).work ≡ None → d < length w.desks →
         (desk_at w.desks d).word ≡ 2 → (desk_at w.desks d).slot ≡ Some p
         → FourLaws (worked w k d (record { word = 3; slot = (desk_at w.desks d).slot })
-        ((view_at w.views k).holds ++ holds_of_packet p) (at_desk d (Seized p)))
-    seize_won p idle inside two there =
+        ((view_at w.views k).holds ++ holds_of_packet p) rs (at_desk d (Seized p)))
+    seize_won p rs idle inside two there =
         let o = desk_at w.desks d in let f = ap (fills d) idle in let g = ap (empties d) idle in
         let n1 = ap (λ a. one_if (a == 1)) two in let n3 = ap (λ a. one_if (a == 3)) two in
-        desk_kept w k d here busy law _ _ _ (record {
+        desk_kept w k d here busy law _ _ _ _ (record {
           inside = inside;
           passes =
               λ i.
@@ -404,13 +404,13 @@ module _ (w : World) (k d : ℕ) (here : k < length w.views) (law : FourLaws w) 
     pub take_out_done : (p : Packet) →
         (view_at w.views k).work ≡ Some (record { desk = d; phase = Seized p }) →
         FourLaws (worked w k d (record { word = (desk_at w.desks d).word; slot = None })
-        (view_at w.views k).holds (at_desk d TakenOut))
+        (view_at w.views k).holds (view_at w.views k).headers (at_desk d TakenOut))
     take_out_done p work =
         let o = desk_at w.desks d in
         let is = word_emptying (Seized p) work refl in
         let f = fill_count (Seized p) work in
         let g = empty_count (Seized p) work in
-        desk_kept w k d here busy law _ _ _ (record {
+        desk_kept w k d here busy law _ _ _ _ (record {
           inside = desk_inside w.desks d (omega arith);
           passes =
               λ i.
@@ -433,14 +433,14 @@ module _ (w : World) (k d : ℕ) (here : k < length w.views) (law : FourLaws w) 
 
     pub clear_done : (view_at w.views k).work ≡ Some (record { desk = d; phase = TakenOut }) →
         FourLaws (worked w k d (record { word = 0; slot = (desk_at w.desks d).slot })
-        (view_at w.views k).holds None)
+        (view_at w.views k).holds (view_at w.views k).headers None)
     clear_done work =
         let o = desk_at w.desks d in
         let is = word_emptying TakenOut work refl in
         let f = fill_count TakenOut work in
         let g = empty_count TakenOut work in
         let n1 = ap (λ a. one_if (a == 1)) is in let n3 = ap (λ a. one_if (a == 3)) is in
-        desk_kept w k d here busy law _ _ _ (record {
+        desk_kept w k d here busy law _ _ _ _ (record {
           inside = desk_inside w.desks d (omega arith);
           passes =
               λ i.

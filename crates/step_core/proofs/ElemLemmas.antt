@@ -1,10 +1,11 @@
 -- Lists of elements that are searched and shortened.
 use Rattle.std.proofs.Common.{◌≡◌, ◌≢◌, ℕ, zero, suc, ◌+◌, ◌-◌, ◌<◌, ◌≤◌, ◌==◌, true, false, List, [], ◌∷◌, ◌++◌, length, get_or, take, remove, refl, sym, ap, ◌∙◌, subst, arith, ⊎_elim}
 use Rattle.std.proofs.Math.Seq.{take-suc}
+use Rattle.std.proofs.lemmas.List.{map-append}
 use Rattle.step_core.specs.Links.{last_value}
 use Rattle.std.proofs.lemmas.Bool.{cases_eq, lt-ltb, le-ltb, cond-true, cond-false, eq-eqb, ne_eqb}
 use Rattle.commons.specs.Bag.{bag}
-use Rattle.commons.specs.Packets.{holds_of_packet, holds_of_seg}
+use Rattle.commons.specs.Packets.{holds_of_packet, holds_of_seg, own_of_packet}
 use Rattle.commons.specs.declared.packet.Seg.{Seg}
 use Rattle.commons.proofs.PacketBags.{holds-suc}
 use Rattle.step_core.specs.Bags.{has, without, minus}
@@ -144,3 +145,20 @@ minus_segs xs now segs i d h is =
 pub minus_none : (xs : List ℕ) → xs ≡ minus xs []
 unfolding minus
 minus_none xs = refl
+
+-- the own elements of one segment more
+own_suc : (segs : List Seg) (i : ℕ) (d : Seg) → i < length segs →
+    own_of_packet (take (i + 1) segs) ≡ own_of_packet (take i segs) ++ (get_or segs i d).elem ∷ []
+own_suc segs i d h =
+    let t : take (i + 1) segs ≡ take i segs ++ get_or segs i d ∷ [] =
+    ap (λ k. take k segs) (let g : i + 1 ≡ suc i = omega arith in g) ∙ take-suc segs i d h in
+    ap own_of_packet t ∙ map-append (λ (s : Seg). s.elem) (take i segs) (get_or segs i d ∷ [])
+
+-- and that element taken out
+pub minus_owns : (xs now : List ℕ) (segs : List Seg) (i : ℕ) (d : Seg) → i < length segs →
+    now ≡ minus xs (own_of_packet (take i segs)) →
+    without (get_or segs i d).elem now ≡ minus xs (own_of_packet (take (i + 1) segs))
+minus_owns xs now segs i d h is =
+    ap (without (get_or segs i d).elem) is
+    ∙ (sym (minus_push xs (own_of_packet (take i segs)) (get_or segs i d).elem)
+    ∙ ap (minus xs) (sym (own_suc segs i d h)))

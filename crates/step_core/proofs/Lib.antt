@@ -26,3 +26,5 @@ pub mod Readings
 pub mod Telling
 pub mod WorkedSchedules
 pub mod PacketTests
+pub mod HeaderSteps
+pub mod HeaderWalks

@@ -3,7 +3,7 @@ use Rattle.std.proofs.Common.{◌≡◌, ℕ, suc, ◌+◌, ◌-◌, ◌<◌, Bo
 use Rattle.std.specs.Prelude.{slice_index, ◌==◌, ◌&&◌, IfSome}
 use Rattle.std.proofs.lemmas.Bool.{cond_both, eqb-true, ltb-true, and_parts}
 use Rattle.commons.specs.Bag.{bag}
-use Rattle.step_core.specs.Bags.{without}
+use Rattle.step_core.specs.Bags.{without, still_held}
 use Rattle.step_core.specs.Links.{link_value}
 use Rattle.step_core.specs.World.{Look, Chain, Phase, ToFill, Filled, Seized, TakenOut, Packet, View, World, view_at, desk_at, link_in}
 use Rattle.step_core.specs.Table.{Table, SameTable, Event, Moves, Free}
@@ -94,8 +94,11 @@ module _ (w : World) (k : ℕ) (law : FourLaws w) (here : k < length w.views) (b
       let v = view_at w.views k in let at = in_holds w k here busy law.stack law.counts i h in
       cond_both (slice_index w.counts i == 1) (v.zeros ++ i ∷ []) v.zeros
       (λ z. (t s : Table) → Shows w t → Shows (moved w k w.head w.length w.links
-      (set w.counts i (slice_index w.counts i - 1)) (record (view_at w.views k)
-      { holds = without i (view_at w.views k).holds; zeros = z })) s →
+      (set w.counts i (slice_index w.counts i - 1)) (record (view_at w.views k) {
+        holds = without i (view_at w.views k).holds;
+        headers = still_held (view_at w.views k).headers (without i (view_at w.views k).holds);
+        zeros = z;
+      })) s →
       Moves w.limits.population (Free (suc k) i) t s)
       (λ e t s a b. frees_last w k here law _ _ t s a b i h
       (
@@ -117,7 +120,7 @@ module _ (w : World) (k : ℕ) (law : FourLaws w) (here : k < length w.views) (b
 
   hold_goes : (d : ℕ) → d < length w.desks → Goes w (hold w k (view_at w.views k) d)
   hold_goes d inside = cond_both ((desk_at w.desks d).word == 0) _ _ (Goes w)
-      (λ e t s a b. quiet_desk w k d here inside _ _ _ t s a b (λ i. refl)
+      (λ e t s a b. quiet_desk w k d here inside _ _ _ _ t s a b (λ i. refl)
       (λ i.
       no_shelf (record { word = 1; slot = (desk_at w.desks d).slot }) 1 refl
       (λ z. omega arith) i
@@ -129,7 +132,7 @@ module _ (w : World) (k : ℕ) (law : FourLaws w) (here : k < length w.views) (b
   put_in_goes d p ToFill e = λ t s a b.
       let work = phase_there d (view_at w.views k).work ToFill e in
       let is = word_filling w k d here law ToFill work refl in
-      quiet_desk w k d here (desk_inside w.desks d (omega arith)) _ _ _ t s a b (λ i. refl)
+      quiet_desk w k d here (desk_inside w.desks d (omega arith)) _ _ _ _ t s a b (λ i. refl)
       (λ i.
       no_shelf (record { word = (desk_at w.desks d).word; slot = Some p }) 1 is
       (λ z. omega arith) i ∙ sym (no_shelf (desk_at w.desks d) 1 is (λ z. omega arith) i))
@@ -143,7 +146,7 @@ module _ (w : World) (k : ℕ) (law : FourLaws w) (here : k < length w.views) (b
   open_goes d (Filled p) e = when_played (Goes w) _ (open_with w k (view_at w.views k) d p) (λ h t s a b.
       let work = phase_there d (view_at w.views k).work (Filled p) e in
       let is = word_filling w k d here law (Filled p) work refl in
-      offers w k d here (desk_inside w.desks d (omega arith)) _ _ _ t s a b p (includes_true _ _ h) refl
+      offers w k d here (desk_inside w.desks d (omega arith)) _ _ _ _ t s a b p (includes_true _ _ h) refl
       (no_shelf (desk_at w.desks d) 1 is (λ z. omega arith))
       (full_shelf _ p refl (slot_now w k d here law (Filled p) work)))
   open_goes d (Seized p) e = tt
@@ -155,7 +158,7 @@ module _ (w : World) (k : ℕ) (law : FourLaws w) (here : k < length w.views) (b
       (given (desk_at w.desks d).slot (λ p. Some (seize_with w k (view_at w.views k) d p))) _
       (λ o. IfSome o (Goes w))
       (λ two. given_played (Goes w) (desk_at w.desks d).slot _ (λ p e t s a b.
-      takes w k d here inside _ _ _ t s a b p refl
+      takes w k d here inside _ _ _ _ t s a b p refl
       (full_shelf (desk_at w.desks d) p (eqb-true _ _ two) e) (no_shelf
       (record { word = 3; slot = (desk_at w.desks d).slot }) 3 refl (λ z. omega arith))))
       (λ e. nothing)
@@ -167,7 +170,7 @@ module _ (w : World) (k : ℕ) (law : FourLaws w) (here : k < length w.views) (b
   take_out_goes d (Seized p) e = λ t s a b.
       let work = phase_there d (view_at w.views k).work (Seized p) e in
       let is = word_emptying w k d here law (Seized p) work refl in
-      quiet_desk w k d here (desk_inside w.desks d (omega arith)) _ _ _ t s a b (λ i. refl)
+      quiet_desk w k d here (desk_inside w.desks d (omega arith)) _ _ _ _ t s a b (λ i. refl)
       (λ i.
       no_shelf (record { word = (desk_at w.desks d).word; slot = None }) 3 is
       (λ z. omega arith) i ∙ sym (no_shelf (desk_at w.desks d) 3 is (λ z. omega arith) i))
@@ -181,7 +184,7 @@ module _ (w : World) (k : ℕ) (law : FourLaws w) (here : k < length w.views) (b
   clear_goes d TakenOut e = λ t s a b.
       let work = phase_there d (view_at w.views k).work TakenOut e in
       let is = word_emptying w k d here law TakenOut work refl in
-      quiet_desk w k d here (desk_inside w.desks d (omega arith)) _ _ _ t s a b (λ i. refl)
+      quiet_desk w k d here (desk_inside w.desks d (omega arith)) _ _ _ _ t s a b (λ i. refl)
       (λ i.
       no_shelf (record { word = 0; slot = (desk_at w.desks d).slot }) 0 refl
       (λ z. omega arith) i ∙ sym (no_shelf (desk_at w.desks d) 3 is (λ z. omega arith) i))

@@ -3,7 +3,7 @@ use Rattle.std.proofs.Common.{◌≡◌, ℕ, ◌-◌, ◌<◌, ◌≤◌, Bool,
 use Rattle.std.specs.Prelude.{slice_index, ◌==◌, ◌&&◌, IfSome}
 use Rattle.std.proofs.lemmas.Bool.{cond_both, eqb-true, eqb-false, ltb-true, leb-true, and_parts}
 use Rattle.commons.specs.Bag.{bag}
-use Rattle.step_core.specs.Bags.{without}
+use Rattle.step_core.specs.Bags.{without, still_held}
 use Rattle.step_core.specs.Links.{link_value}
 use Rattle.step_core.specs.World.{Head, Look, Chain, Phase, ToFill, Filled, Seized, TakenOut, Packet, View, World, view_at, desk_at}
 use Rattle.step_core.specs.Steps.{Step, LoadLength, Reserve, Add, LoadHead, LoadLink, Cut, StoreLink, Push, Claim, Sole, Raise, Lower, Reset, Hold, PutIn, Open, Seize, TakeOut, Clear, Play, when, given, row, reserve, cut, push, sole, raise, lower, hold, put_in, open_desk, open_with, seize, seize_with, take_out, clear, load_link, same_head, in_range, phase_at}
@@ -87,7 +87,7 @@ module _ (w : World) (k : ℕ) (law : FourLaws w) (here : k < length w.views) (b
   soles i free h = cond_both (free && (slice_index w.counts i == 1)) _ _ After
       (λ e.
       of_count w.counts _ refl
-      (sole_step w k here busy law.stack law.counts i h (eqb-true _ _ (and_parts _ _ e).1)))
+      (sole_step w k here busy law.stack law.counts i _ h (eqb-true _ _ (and_parts _ _ e).1)))
       (λ e. law)
 
   raises : (i old : ℕ) → 0 < bag (view_at w.views k).holds i → old < w.limits.ref_limit →
@@ -100,10 +100,13 @@ module _ (w : World) (k : ℕ) (law : FourLaws w) (here : k < length w.views) (b
   lowers i h = cond_both (slice_index w.counts i == 1) ((view_at w.views k).zeros ++ i ∷ []) (view_at w.views k).zeros
       (λ z.
       FourLaws (moved w k w.head w.length w.links
-      (set w.counts i (slice_index w.counts i - 1)) (record (view_at w.views k)
-      { holds = without i (view_at w.views k).holds; zeros = z })))
-      (λ e. of_count _ _ refl (lower_last w k here busy law.stack law.counts i h (eqb-true _ _ e)))
-      (λ e. of_count _ _ refl (lower_still w k here busy law.stack law.counts i h (eqb-false _ _ e)))
+      (set w.counts i (slice_index w.counts i - 1)) (record (view_at w.views k) {
+        holds = without i (view_at w.views k).holds;
+        headers = still_held (view_at w.views k).headers (without i (view_at w.views k).holds);
+        zeros = z;
+      })))
+      (λ e. of_count _ _ refl (lower_last w k here busy law.stack law.counts i _ h (eqb-true _ _ e)))
+      (λ e. of_count _ _ refl (lower_still w k here busy law.stack law.counts i _ h (eqb-false _ _ e)))
 
   holds_desk : (d : ℕ) → d < length w.desks → (view_at w.views k).work ≡ None → After (hold w k (view_at w.views k) d)
   holds_desk d inside idle =
@@ -121,7 +124,7 @@ module _ (w : World) (k : ℕ) (law : FourLaws w) (here : k < length w.views) (b
       IfSome (open_desk w k (view_at w.views k) d ph) After
   opens d ToFill e = tt
   opens d (Filled p) e = when_played After _ (open_with w k (view_at w.views k) d p)
-      (λ t. open_done w k d here law busy p (phase_there d (view_at w.views k).work (Filled p) e) (includes_true _ _ t))
+      (λ t. open_done w k d here law busy p _ (phase_there d (view_at w.views k).work (Filled p) e) (includes_true _ _ t))
   opens d (Seized p) e = tt
   opens d TakenOut e = tt
 
@@ -133,7 +136,7 @@ module _ (w : World) (k : ℕ) (law : FourLaws w) (here : k < length w.views) (b
       (λ o. IfSome o After)
       (λ e.
       given_played After (desk_at w.desks d).slot _
-      (λ p s. seize_won w k d here law busy p idle inside (eqb-true _ _ e) s))
+      (λ p s. seize_won w k d here law busy p _ idle inside (eqb-true _ _ e) s))
       (λ e. law)
 
   takes_out : (d : ℕ) (ph : Phase) → phase_at d (view_at w.views k).work ≡ Some ph →
@@ -179,7 +182,7 @@ module _ (w : World) (k : ℕ) (law : FourLaws w) (here : k < length w.views) (b
   row_lawful (Claim i) r =
       when_played After _ _ (λ t.
       of_count w.counts _ refl
-      (claim_step w k here busy law.stack law.counts i (ltb-true _ _ t)))
+      (claim_step w k here busy law.stack law.counts i _ (ltb-true _ _ t)))
   row_lawful (Sole i free) r = when_played After _ _ (λ t. soles i free (ltb-true _ _ t))
   row_lawful (Raise i old) r =
       when_played After _ _ (λ t. let both =

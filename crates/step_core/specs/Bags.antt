@@ -1,5 +1,5 @@
 -- What is done to lists of elements of which the order doesn't matter.
-use Rattle.std.specs.Prelude.{◌≡◌, ℕ, ◌≤◌, Bool, true, cond, List, [], ◌∷◌, ◌++◌, nat_lt, ◌==◌, ◌&&◌, if◌then◌else◌}
+use Rattle.std.specs.Prelude.{◌≡◌, ℕ, ◌≤◌, Bool, true, cond, List, [], ◌∷◌, ◌++◌, filter, nat_lt, ◌==◌, ◌&&◌, if◌then◌else◌}
 use Rattle.commons.specs.Bag.{bag}
 
 -- 1 for a test that holds, and 0 for one that fails
@@ -28,6 +28,10 @@ without x (y ∷ ys) = if y == x then ys else y ∷ without x ys
 unfoldable pub minus : List ℕ → List ℕ → List ℕ
 minus xs [] = xs
 minus xs (y ∷ ys) = minus (without y xs) ys
+
+-- those headers that are still among the holds
+abbrev pub still_held : List ℕ → List ℕ → List ℕ
+still_held headers holds = filter (has holds) headers
 
 -- the second is a part of the first
 abbrev pub Includes : List ℕ → List ℕ → Type 0

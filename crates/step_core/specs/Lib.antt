@@ -12,3 +12,4 @@ pub mod Kept
 pub mod Sights
 pub mod Runs
 pub mod Headline
+pub mod Headers

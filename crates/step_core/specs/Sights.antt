@@ -1,8 +1,9 @@
 -- What a step does to the view of the worker that steps.
 use Rattle.std.specs.Prelude.{◌≡◌, ℕ, suc, ◌+◌, ◌-◌, ◌<◌, ◌≤◌, Bool, true, false, [], ◌∷◌, ◌++◌, Option, Some, None, IfSome, length, ◌==◌, if◌then◌else◌}
-use Rattle.step_core.specs.World.{Head, Look, Chain, View}
-use Rattle.step_core.specs.Steps.{can_cut, can_push, chain_without}
-use Rattle.step_core.specs.Bags.{minus, without}
+use Rattle.commons.specs.Packets.{holds_of_packet, own_of_packet}
+use Rattle.step_core.specs.World.{Head, Look, Chain, View, Packet}
+use Rattle.step_core.specs.Steps.{can_cut, can_push, chain_without, headers_left}
+use Rattle.step_core.specs.Bags.{minus, without, still_held}
 use Rattle.step_core.specs.Links.{first_value, link_value}
 
 -- whether the walk of this look goes on at the element
@@ -58,17 +59,39 @@ LinkOf population next (Some link) = (link ≡ link_value next) × (link ≤ pop
 
 -- the view once an element of the hand was claimed
 abbrev pub claimed : View → ℕ → View
-claimed v i = record v
-    { hand = without i v.hand; holds = v.holds ++ i ∷ []; chain = chain_without i v.chain }
+claimed v i = record v {
+  hand = without i v.hand;
+  holds = v.holds ++ i ∷ [];
+  headers = v.headers ++ i ∷ [];
+  chain = chain_without i v.chain;
+}
 
 -- the view once an element that it holds is in the hand again, with count 1
 abbrev pub freed : View → ℕ → View
-freed v i = record v { hand = v.hand ++ i ∷ []; holds = without i v.holds }
+freed v i = record v {
+  hand = v.hand ++ i ∷ [];
+  holds = without i v.holds;
+  headers = still_held v.headers (without i v.holds);
+}
 
 -- the view once a hold of an element has ended, which is in the hand with count 0 where it was the last
 abbrev pub hold_ended : View → ℕ → Bool → View
-hold_ended v i last = record v
-    { holds = without i v.holds; zeros = if last then v.zeros ++ i ∷ [] else v.zeros }
+hold_ended v i last = record v {
+  holds = without i v.holds;
+  headers = still_held v.headers (without i v.holds);
+  zeros = if last then v.zeros ++ i ∷ [] else v.zeros;
+}
+
+-- the view once it gave this packet away, and once it took it
+abbrev pub opened : View → Packet → View
+opened v p = record v
+    { holds = minus v.holds (holds_of_packet p); headers = headers_left v p }
+
+abbrev pub seized : View → Packet → View
+seized v p = record v {
+  holds = v.holds ++ holds_of_packet p;
+  headers = v.headers ++ own_of_packet p;
+}
 
 -- the view once an element of its hand has count 1 again
 abbrev pub was_reset : View → ℕ → View

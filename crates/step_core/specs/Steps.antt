@@ -1,13 +1,13 @@
 -- The 19 kinds of step, a row for each: its condition, its answer, what it changes, and its event.
-use Rattle.std.specs.Prelude.{ℕ, zero, suc, ◌+◌, ◌-◌, Bool, true, [], ◌∷◌, ◌++◌, Option, Some, None, is_none, option_map, option_and_then, length, slice_index, slice_set, nat_lt, nat_le, ◌==◌, ◌&&◌, if◌then◌else◌}
+use Rattle.std.specs.Prelude.{ℕ, zero, suc, ◌+◌, ◌-◌, Bool, true, List, [], ◌∷◌, ◌++◌, Option, Some, None, is_none, option_map, option_and_then, length, slice_index, slice_set, nat_lt, nat_le, ◌==◌, ◌&&◌, if◌then◌else◌}
 pub use Rattle.step_core.specs.declared.step.Step.{Step}
 pub use Rattle.step_core.specs.declared.step.Step.TheVariants.{LoadLength, Reserve, Add, LoadHead, LoadLink, Cut, StoreLink, Push, Claim, Sole, Raise, Lower, Reset, Hold, PutIn, Open, Seize, TakeOut, Clear}
 pub use Rattle.step_core.specs.declared.step.Outcome.{Outcome}
 pub use Rattle.step_core.specs.declared.step.Outcome.TheVariants.{Value, HeadIs, Won, Got, Lost, LostTo, Done, Found}
 use Rattle.commons.specs.Bag.{bag}
 use Rattle.commons.specs.Calls.{spent, desk_empty, desk_full}
-use Rattle.commons.specs.Packets.{holds_of_packet}
-use Rattle.step_core.specs.Bags.{has, without, minus, includes, all_below}
+use Rattle.commons.specs.Packets.{holds_of_packet, own_of_packet}
+use Rattle.step_core.specs.Bags.{has, without, minus, still_held, includes, all_below}
 use Rattle.step_core.specs.Links.{link_value, first_value, last_value}
 use Rattle.step_core.specs.World.{Head, Look, Chain, Phase, ToFill, Filled, Seized, TakenOut, Work, View, Desk, World, Packet, view_at, link_in, desk_at}
 use Rattle.step_core.specs.Table.{Event, Get, Put, Claim as ClaimEvent, Attach, Free, Offer, Take}
@@ -143,8 +143,12 @@ abbrev pub claim : World → ℕ → View → ℕ → Play
 claim w k v i = record {
   outcome = Value (slice_index w.counts i);
   after =
-      knows w k (record v
-      { hand = without i v.hand; holds = v.holds ++ i ∷ []; chain = chain_without i v.chain });
+      knows w k (record v {
+        hand = without i v.hand;
+        holds = v.holds ++ i ∷ [];
+        headers = v.headers ++ i ∷ [];
+        chain = chain_without i v.chain;
+      });
   event = Some (ClaimEvent (suc k) i);
 }
 
@@ -153,7 +157,12 @@ sole w k v i free =
     if free && (slice_index w.counts i == 1)
     then record {
       outcome = Value 1;
-      after = knows w k (record v { hand = v.hand ++ i ∷ []; holds = without i v.holds });
+      after =
+          knows w k (record v {
+            hand = v.hand ++ i ∷ [];
+            holds = without i v.holds;
+            headers = still_held v.headers (without i v.holds);
+          });
       event = Some (Free (suc k) i);
     }
     else quiet (Value (slice_index w.counts i)) w
@@ -179,6 +188,7 @@ lower w k v i = record {
     views =
         slice_set w.views k (record v {
           holds = without i v.holds;
+          headers = still_held v.headers (without i v.holds);
           zeros = if slice_index w.counts i == 1 then v.zeros ++ i ∷ [] else v.zeros;
         });
   };
@@ -222,11 +232,19 @@ put_in w k v d p (Filled q) = None
 put_in w k v d p (Seized q) = None
 put_in w k v d p TakenOut = None
 
+-- the headers once the packet is given away: without its own elements, and without what is held no more
+abbrev pub headers_left : View → Packet → List ℕ
+headers_left v p =
+    still_held (minus v.headers (own_of_packet p)) (minus v.holds (holds_of_packet p))
+
 abbrev pub open_with : World → ℕ → View → ℕ → Packet → Play
 open_with w k v d p = record {
   outcome = Done;
   after =
-      works w k (record v { holds = minus v.holds (holds_of_packet p) }) d
+      works w k (record v {
+        holds = minus v.holds (holds_of_packet p);
+        headers = headers_left v p;
+      }) d
       (record { word = desk_full; slot = (desk_at w.desks d).slot }) None;
   event = Some (Offer (suc k) d (holds_of_packet p));
 }
@@ -241,7 +259,10 @@ abbrev pub seize_with : World → ℕ → View → ℕ → Packet → Play
 seize_with w k v d p = record {
   outcome = Won;
   after =
-      works w k (record v { holds = v.holds ++ holds_of_packet p }) d
+      works w k (record v {
+        holds = v.holds ++ holds_of_packet p;
+        headers = v.headers ++ own_of_packet p;
+      }) d
       (record { word = 3; slot = (desk_at w.desks d).slot }) (at_desk d (Seized p));
   event = Some (Take (suc k) d (holds_of_packet p));
 }

@@ -109,7 +109,7 @@ pub fn open(words: &mut Words, index: usize, desk: u32) -> Result<Outcome, Refus
         return Err(Refusal::StepRefused);
     }
     let view = &mut words.views[index];
-    view.holds.take_packet_out(&packet);
+    view.open(&packet);
     view.work = None;
     words.desks[at].word = 2;
     Ok(Outcome::Done)
@@ -134,7 +134,7 @@ pub fn seize(words: &mut Words, index: usize, desk: u32) -> Result<Outcome, Refu
         None => return Err(Refusal::StepRefused),
     };
     let view = &mut words.views[index];
-    if view.holds.extend_by_packet(&packet).is_err() {
+    if view.seize(&packet).is_err() {
         return Err(Refusal::OutOfMemory);
     }
     view.work = Some(Work {

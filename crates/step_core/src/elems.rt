@@ -1,5 +1,8 @@
 //! Lists of elements.
 
+ghost use Rattle.std.specs.Prelude.{◌≡◌};
+ghost use Rattle.step_core.specs.Bags.{still_held};
+
 use commons::packet::{Packet, Seg};
 use std::alloc::{AllocError, Global};
 use std::marker::Model;
@@ -18,11 +21,27 @@ impl Model for Elems {
     ghost view = { λ e. e.items.items };
 }
 
+/// Keeps those elements that are also among the holds.
+fn keep(items: &mut Vec<u32>, holds: &Elems)
+    ensures { items.new.items ≡ still_held items.old.items holds.now }
+{
+    let mut kept = 0;
+    for i in 0..items.len() {
+        let element = items[i];
+        if !holds.has(element) {
+            continue;
+        }
+        items[kept] = element;
+        kept += 1;
+    }
+    items.truncate(kept);
+}
+
 impl Elems {
-    ghost use Rattle.std.specs.Prelude.{◌≡◌, ◌≤◌, ◌<◌, ◌++◌, ◌∷◌, ◌==◌, [], length, false, true, IfOk, IfErr, OnOk, OnErr, MatchOption, is_ok, if◌then◌else◌};
+    ghost use Rattle.std.specs.Prelude.{◌≡◌, ◌≤◌, ◌<◌, ◌++◌, ◌∷◌, ◌==◌, [], length, false, true, take, IfOk, IfErr, OnOk, OnErr, MatchOption, is_ok, if◌then◌else◌};
     ghost use Rattle.commons.specs.Bag.{bag};
-    ghost use Rattle.commons.specs.Packets.{holds_of_packet, holds_of_seg};
-    ghost use Rattle.step_core.specs.Bags.{has, without, minus, HasFront};
+    ghost use Rattle.commons.specs.Packets.{holds_of_packet, holds_of_seg, own_of_packet};
+    ghost use Rattle.step_core.specs.Bags.{has, without, minus, still_held, HasFront};
 
     /// The empty list, which takes no memory.
     pub fn new(alloc: Global) -> Elems
@@ -108,6 +127,13 @@ impl Elems {
         None
     }
 
+    /// Whether the element stands in the list.
+    pub fn has(&self, element: u32) -> bool
+        ensures { result ≡ has self.now element }
+    {
+        self.find(u64::from(element)).is_some()
+    }
+
     /// How often the element of this number stands in the list.
     pub fn count(&self, number: u32) -> usize
         ensures { result ≡ bag self.now number }
@@ -119,6 +145,46 @@ impl Elems {
             }
         }
         times
+    }
+
+    /// Drops all elements but so many at the front.
+    pub fn truncate(&mut self, count: usize)
+        ensures { self.new ≡ take count self.old }
+    {
+        self.items.truncate(count);
+    }
+
+    /// Keeps those elements that are also among these.
+    pub fn keep_held(&mut self, holds: &Elems)
+        ensures { self.new ≡ still_held self.old holds.now }
+    {
+        keep(&mut self.items, holds);
+    }
+
+    /// Puts the own elements of a packet behind the last, or changes nothing.
+    pub fn extend_by_own(&mut self, packet: &Packet) -> Result<(), AllocError>
+        ensures ok { OnOk result (self.new ≡ self.old ++ own_of_packet packet.now) }
+        ensures err { OnErr result (self.new ≡ self.old) }
+    {
+        let before = self.items.len();
+        let segs = packet.segs();
+        for i in 0..segs.len() {
+            if self.push(segs[i].elem).is_err() {
+                self.items.truncate(before);
+                return Err(AllocError);
+            }
+        }
+        Ok(())
+    }
+
+    /// Takes each own element of a packet in turn out of the list.
+    pub fn take_own_out(&mut self, packet: &Packet)
+        ensures { self.new ≡ minus self.old (own_of_packet packet.now) }
+    {
+        let segs = packet.segs();
+        for i in 0..segs.len() {
+            self.take_out(segs[i].elem);
+        }
     }
 
     /// Puts the holds of a packet behind the last, or changes nothing.

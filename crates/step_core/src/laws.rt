@@ -1,5 +1,6 @@
 //! Laws of the machine. Each is a function that does nothing, and its contract is the law.
 
+ghost use Rattle.step_core.specs.Headers.{OpensWithHeaders, KeepsHeaders, SchedulesKeepHeaders};
 ghost use Rattle.step_core.specs.Headline.{AllAreThere, LengthIsBounded, FrontThenRest, LostIsLater, ChainIsOfHand, CutGetsAll, SchedulesAreRuns, NotGivenAgain};
 ghost use Rattle.step_core.specs.Runs.{EveryScheduleWalks};
 ghost use Rattle.step_core.specs.Schedules.{OpensLawful, KeepsLaw, MakesItsEvent, ChangesLittle, LawfulShows};
@@ -64,4 +65,13 @@ pub fn a_view_knows()
     ensures front { FrontThenRest }
     ensures lost { LostIsLater }
     ensures chain { ChainIsOfHand }
+{}
+
+/// Headers: an element is at most once a header of a worker or an own element of a packet on a full desk, and a worker
+/// holds its headers. So it is in the opening world, and it stays so over every step and every schedule in which each
+/// `Open` gives away a packet whose own elements are distinct headers of its worker.
+pub fn headers_are_kept()
+    ensures opening { OpensWithHeaders }
+    ensures step { KeepsHeaders }
+    ensures schedules { SchedulesKeepHeaders }
 {}

@@ -4,7 +4,7 @@ ghost use Rattle.std.specs.Prelude.{◌≡◌, ◌==◌, ◌+◌, ◌^◌, suc, 
 ghost use Rattle.commons.specs.Calls.{spent};
 ghost use Rattle.commons.specs.Bounds.{max_population};
 ghost use Rattle.step_core.specs.Steps.{chain_after, phase_at};
-ghost use Rattle.step_core.specs.Sights.{walks_to, walked_on, MayCut, MayNotCut, cut_view, MayPush, MayNotPush, push_view, claimed, freed, hold_ended, was_reset};
+ghost use Rattle.step_core.specs.Sights.{walks_to, walked_on, MayCut, MayNotCut, cut_view, MayPush, MayNotPush, push_view, claimed, freed, hold_ended, opened, seized, was_reset};
 ghost use Rattle.step_core.specs.Links.{first_value as first, last_value};
 
 use crate::elems::Elems;
@@ -204,12 +204,18 @@ impl View {
         }
     }
 
-    /// Moves an element from the hand to the holds, and ends a chain with it; or changes nothing.
+    /// Moves an element from the hand to the holds, as a header, and ends a chain with it; or
+    /// changes nothing.
     pub fn claim(&mut self, element: u32) -> Result<(), AllocError>
         ensures ok { OnOk result (self.new ≡ claimed self.old element) }
         ensures err { OnErr result (self.new ≡ self.old) }
     {
-        self.holds.push(element)?;
+        let headers = self.headers.len();
+        self.headers.push(element)?;
+        if self.holds.push(element).is_err() {
+            self.headers.truncate(headers);
+            return Err(AllocError);
+        }
         self.hand.take_out(element);
         let in_chain = match &self.chain {
             None => false,
@@ -228,6 +234,7 @@ impl View {
     {
         self.hand.push(element)?;
         self.holds.take_out(element);
+        self.headers.keep_held(&self.holds);
         Ok(())
     }
 
@@ -240,6 +247,30 @@ impl View {
             self.zeros.push(element)?;
         }
         self.holds.take_out(element);
+        self.headers.keep_held(&self.holds);
+        Ok(())
+    }
+
+    /// Gives away the holds of a packet, with what are headers of them.
+    pub fn open(&mut self, packet: &Packet)
+        ensures { self.new ≡ opened self.old packet.now }
+    {
+        self.holds.take_packet_out(packet);
+        self.headers.take_own_out(packet);
+        self.headers.keep_held(&self.holds);
+    }
+
+    /// Takes the holds of a packet, its own elements as headers; or changes nothing.
+    pub fn seize(&mut self, packet: &Packet) -> Result<(), AllocError>
+        ensures ok { OnOk result (self.new ≡ seized self.old packet.now) }
+        ensures err { OnErr result (self.new ≡ self.old) }
+    {
+        let headers = self.headers.len();
+        self.headers.extend_by_own(packet)?;
+        if self.holds.extend_by_packet(packet).is_err() {
+            self.headers.truncate(headers);
+            return Err(AllocError);
+        }
         Ok(())
     }
 
