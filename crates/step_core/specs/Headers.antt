@@ -1,4 +1,4 @@
--- Headers: an element is a header of one worker, or an own element of a packet on a desk, or neither.
+-- Headers: an element is one of one worker, or an own element of a packet on a desk, or neither.
 use Rattle.std.specs.Prelude.{◌≡◌, ℕ, ◌+◌, ◌<◌, ◌≤◌, sum_by, List, [], ◌∷◌, Option, Some, None, IfSome, ⊤, ◌==◌, if◌then◌else◌}
 use Rattle.commons.specs.Bag.{bag}
 use Rattle.commons.specs.Calls.{desk_full}

@@ -67,9 +67,10 @@ pub fn a_view_knows()
     ensures chain { ChainIsOfHand }
 {}
 
-/// Headers: an element is at most once a header of a worker or an own element of a packet on a full desk, and a worker
-/// holds its headers. So it is in the opening world, and it stays so over every step and every schedule in which each
-/// `Open` gives away a packet whose own elements are distinct headers of its worker.
+/// An element is at most once a header of a worker or an own element of a packet on a full desk,
+/// and a worker holds its headers. So it is in the opening world, and it stays so over every step
+/// and every schedule in which each `Open` gives away a packet whose own elements are distinct
+/// headers of its worker.
 pub fn headers_are_kept()
     ensures opening { OpensWithHeaders }
     ensures step { KeepsHeaders }

@@ -8,7 +8,7 @@ use step_core::view::{Phase, View};
 use step_core::world::World;
 
 /// A world after a row's steps: the head's top as a link value and its count, the length word, the common list from
-/// the top, each worker's credit, hand and holds, the counts that aren't 1, and each desk's word.
+/// the top, each worker's credit, hand, holds and headers, the counts that aren't 1, and each desk's word.
 #[derive(Clone, Copy)]
 pub(super) struct End {
     pub head: (u32, u64),
@@ -17,6 +17,7 @@ pub(super) struct End {
     pub credits: &'static [u64],
     pub hands: &'static [&'static [u32]],
     pub holds: &'static [&'static [u32]],
+    pub headers: &'static [&'static [u32]],
     pub counts: &'static [(usize, u32)],
     pub desks: &'static [u64],
 }
@@ -35,6 +36,9 @@ pub(super) fn assert_end(rt: &impl Abort, world: &World, end: &End, name: &str) 
     }
     for (view, holds) in world.views().iter().zip(end.holds) {
         assert_eq!(rt; view.holds.as_slice(), *holds, "{name}");
+    }
+    for (view, headers) in world.views().iter().zip(end.headers) {
+        assert_eq!(rt; view.headers.as_slice(), *headers, "{name}");
     }
     for (element, count) in world.counts().iter().enumerate() {
         let wanted = end.counts.iter().find(|other| other.0 == element);
