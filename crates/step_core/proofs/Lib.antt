@@ -28,3 +28,4 @@ pub mod WorkedSchedules
 pub mod PacketTests
 pub mod HeaderSteps
 pub mod HeaderWalks
+pub mod Handing

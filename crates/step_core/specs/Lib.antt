@@ -13,3 +13,4 @@ pub mod Sights
 pub mod Runs
 pub mod Headline
 pub mod Headers
+pub mod Handing

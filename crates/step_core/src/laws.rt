@@ -1,5 +1,6 @@
 //! Laws of the machine. Each is a function that does nothing, and its contract is the law.
 
+ghost use Rattle.step_core.specs.Handing.{GivesWhatWasPutIn};
 ghost use Rattle.step_core.specs.Headers.{OpensWithHeaders, KeepsHeaders, SchedulesKeepHeaders};
 ghost use Rattle.step_core.specs.Headline.{AllAreThere, LengthIsBounded, FrontThenRest, LostIsLater, ChainIsOfHand, CutGetsAll, SchedulesAreRuns, NotGivenAgain};
 ghost use Rattle.step_core.specs.Runs.{EveryScheduleWalks};
@@ -75,4 +76,10 @@ pub fn headers_are_kept()
     ensures opening { OpensWithHeaders }
     ensures step { KeepsHeaders }
     ensures schedules { SchedulesKeepHeaders }
+{}
+
+/// Over every schedule, by whichever workers and however long, a `TakeOut` gives the packet that the
+/// last `PutIn` brought to its desk; where there was none, the one that was in the slot before.
+pub fn a_desk_gives_what_was_put_in()
+    ensures { GivesWhatWasPutIn }
 {}
