@@ -11,7 +11,7 @@ use Rattle.step_core.specs.Steps.{Outcome, Cut, Got, Play, played, event_of, row
 use Rattle.step_core.specs.Kept.{IsWorld}
 use Rattle.step_core.specs.Schedules.{Schedule}
 use Rattle.step_core.specs.Runs.{Reaches}
-use Rattle.step_core.specs.Headline.{held_below, AllAreThere, LengthIsBounded, FrontThenRest, LostIsLater, ChainIsOfHand, CutGetsAll, after_of, events_along, SchedulesAreRuns, Gets, Puts, NotGivenAgain}
+use Rattle.step_core.specs.Headline.{held_below, AllAreThere, LengthIsBounded, FrontThenRest, LostIsLater, ChainIsOfHand, CutGetsAll, after_of, events_along, SchedulesAreRuns, Gets, Puts, NotGivenAgain, StoppedKeepsItsView}
 use Rattle.step_core.proofs.Rules.{FourLaws}
 use Rattle.step_core.proofs.Regroup.{four_of_eight}
 use Rattle.step_core.proofs.Bags.{times-append, times-from_length, below-le}
@@ -255,3 +255,12 @@ not_given_again n t u (e ∷ es) i r l away never =
     let next : r.0 i ≢ Common =
     λ h. stays_away i (t i) away e (subst (λ (q : Place). Becomes e i (t i) q) h b) never.0 in
     (got_common i (t i) away e (r.0 i) b, not_given_again n r.0 u es i r.2 l next never.1)
+
+-- no step changes another worker's view
+pub stopped_keeps_its_view : StoppedKeepsItsView
+stopped_keeps_its_view w [] [] u n r none = ap (λ (v : World). view_of v.views n) r
+stopped_keeps_its_view w (x ∷ rest) (o ∷ os) u n r none =
+    stopped_keeps_its_view r.0 rest os u n r.2 none.1
+    ∙ (changes_little w x.0 x.1 o r.0 r.1).others n (λ e. none.0 (sym e))
+stopped_keeps_its_view w [] (o ∷ os) u n r none = absurd r
+stopped_keeps_its_view w (x ∷ rest) [] u n r none = absurd r

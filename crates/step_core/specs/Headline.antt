@@ -84,6 +84,18 @@ SchedulesAreRuns =
     → (t : Table) → Shows w t →
     (s : Table) × Shows u s × Run w.limits.population t (events_along w schedule) s
 
+-- no step of the schedule is this worker's
+abbrev pub NoneBy : ℕ → Schedule → Type 0
+NoneBy worker [] = ⊤
+NoneBy worker (p ∷ rest) = (p.0 ≢ worker) × NoneBy worker rest
+
+-- whatever the others do, a worker that takes no step has and knows what it had and knew
+abbrev pub StoppedKeepsItsView : Type 0
+StoppedKeepsItsView =
+    (w : World) (schedule : Schedule) (os : List Outcome) (u : World) (stopped : ℕ) →
+    Reaches w schedule os u → NoneBy stopped schedule →
+    view_of u.views stopped ≡ view_of w.views stopped
+
 -- a get, and a put, that lists the element
 abbrev pub Gets : ℕ → Event → Type 0
 Gets i (Get w xs) = 0 < bag xs i

@@ -2,7 +2,7 @@
 
 ghost use Rattle.step_core.specs.Handing.{GivesWhatWasPutIn};
 ghost use Rattle.step_core.specs.Headers.{OpensWithHeaders, KeepsHeaders, SchedulesKeepHeaders};
-ghost use Rattle.step_core.specs.Headline.{AllAreThere, LengthIsBounded, FrontThenRest, LostIsLater, ChainIsOfHand, CutGetsAll, SchedulesAreRuns, NotGivenAgain};
+ghost use Rattle.step_core.specs.Headline.{AllAreThere, LengthIsBounded, FrontThenRest, LostIsLater, ChainIsOfHand, CutGetsAll, SchedulesAreRuns, NotGivenAgain, StoppedKeepsItsView};
 ghost use Rattle.step_core.specs.Runs.{EveryScheduleWalks};
 ghost use Rattle.step_core.specs.Schedules.{OpensLawful, KeepsLaw, MakesItsEvent, ChangesLittle, LawfulShows};
 
@@ -82,4 +82,10 @@ pub fn headers_are_kept()
 /// last `PutIn` brought to its desk; where there was none, the one that was in the slot before.
 pub fn a_desk_gives_what_was_put_in()
     ensures { GivesWhatWasPutIn }
+{}
+
+/// A worker that stops keeps what it has, and what it knows: over every schedule without a step of
+/// it, its view stays as it is.
+pub fn a_stopped_worker_keeps_its_view()
+    ensures { StoppedKeepsItsView }
 {}
