@@ -232,7 +232,7 @@ put_in w k v d p (Filled q) = None
 put_in w k v d p (Seized q) = None
 put_in w k v d p TakenOut = None
 
--- the headers once the packet is given away: without its own elements, and without what is held no more
+-- the headers once the packet is given away: without its own elements, and what is held no more
 abbrev pub headers_left : View → Packet → List ℕ
 headers_left v p =
     still_held (minus v.headers (own_of_packet p)) (minus v.holds (holds_of_packet p))

@@ -78,8 +78,8 @@ pub fn headers_are_kept()
     ensures schedules { SchedulesKeepHeaders }
 {}
 
-/// Over every schedule, by whichever workers and however long, a `TakeOut` gives the packet that the
-/// last `PutIn` brought to its desk; where there was none, the one that was in the slot before.
+/// Over every schedule, by whichever workers and however long, a `TakeOut` gives the packet that
+/// the last `PutIn` brought to its desk; where there was none, the one that was in the slot before.
 pub fn a_desk_gives_what_was_put_in()
     ensures { GivesWhatWasPutIn }
 {}

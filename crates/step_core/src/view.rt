@@ -210,10 +210,10 @@ impl View {
         ensures ok { OnOk result (self.new ≡ claimed self.old element) }
         ensures err { OnErr result (self.new ≡ self.old) }
     {
-        let headers = self.headers.len();
+        let before = self.headers.len();
         self.headers.push(element)?;
         if self.holds.push(element).is_err() {
-            self.headers.truncate(headers);
+            self.headers.truncate(before);
             return Err(AllocError);
         }
         self.hand.take_out(element);
@@ -251,7 +251,8 @@ impl View {
         Ok(())
     }
 
-    /// Gives away the holds of a packet, with what are headers of them.
+    /// Gives away the holds of a packet. Its own elements are headers no more, and neither is what
+    /// is held no more.
     pub fn open(&mut self, packet: &Packet)
         ensures { self.new ≡ opened self.old packet.now }
     {

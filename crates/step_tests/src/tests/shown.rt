@@ -7,8 +7,9 @@ use step_core::elems::Elems;
 use step_core::view::{Phase, View};
 use step_core::world::World;
 
-/// A world after a row's steps: the head's top as a link value and its count, the length word, the common list from
-/// the top, each worker's credit, hand, holds and headers, the counts that aren't 1, and each desk's word.
+/// A world after a row's steps: the head's top as a link value and its count, the length word, the
+/// common list from the top, each worker's credit, hand, holds and headers, the counts that aren't
+/// 1, and each desk's word.
 #[derive(Clone, Copy)]
 pub(super) struct End {
     pub head: (u32, u64),
