@@ -88,7 +88,8 @@ outcome_text link (Found packet) = codes "packet" ++ joined segment_text packet
 
 -- the refusal of a step, whose condition fails
 abbrev pub refused_text : List ℕ
-refused_text = codes "refused " ++ decimal (number_of StepRefused) ++ codes " " ++ name_of StepRefused
+refused_text =
+    codes "refused " ++ decimal (number_of StepRefused) ++ codes " " ++ name_of StepRefused
 
 -- what is told of a step that was played, or refused
 abbrev pub reply_of : Asked → Option Outcome → List ℕ

@@ -40,8 +40,8 @@ head_text head = codes "head " ++ end_text head.top ++ codes " " ++ decimal head
 unfoldable pub head_line : Head → List ℕ
 head_line head = head_text head ++ codes "\n"
 
--- What a worker has: its credit, the elements of its hand ascending, whatever their count, and those that it holds
--- ascending, each as often as it is held.
+-- What a worker has: its credit, the elements of its hand ascending, whatever their count, and those
+-- that it holds ascending, each as often as it is held.
 unfoldable pub view_text : ℕ → View → List ℕ
 view_text worker v =
     codes "view " ++ decimal worker ++ codes " credit " ++ decimal v.credit ++ codes "\n"
@@ -65,7 +65,8 @@ shelf_text d = if d.word == desk_full then codes ":" ++ slot_text d.slot else []
 -- a desk: its word, and its packet where it is full
 unfoldable pub desk_text : ℕ → Desk → List ℕ
 desk_text number d =
-    codes "desk " ++ decimal number ++ codes " phase " ++ decimal d.word ++ shelf_text d ++ codes "\n"
+    codes "desk " ++ decimal number ++ codes " phase " ++ decimal d.word
+    ++ shelf_text d ++ codes "\n"
 
 -- a line for each desk, from this number on
 abbrev pub desks_text : ℕ → List Desk → List ℕ
@@ -75,7 +76,8 @@ desks_text number (d ∷ desks) = desk_text number d ++ desks_text (number + 1) 
 -- the count of an element; nothing where it is 1
 unfoldable pub count_text : ℕ → ℕ → List ℕ
 count_text element count =
-    if count == 1 then [] else codes "count " ++ decimal element ++ codes " " ++ decimal count ++ codes "\n"
+    if count == 1 then []
+    else codes "count " ++ decimal element ++ codes " " ++ decimal count ++ codes "\n"
 
 -- a line for each count that isn't 1, from this element on
 abbrev pub counts_text : ℕ → List ℕ → List ℕ

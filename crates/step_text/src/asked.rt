@@ -12,7 +12,8 @@ use step_core::step::Step;
 /// (rte_config.h, `RTE_PKTMBUF_HEADROOM`, DPDK 21.11)
 const HEADROOM: u64 = 128;
 
-/// The step that a line asks for. `None` where it puts in a packet of no segment, or of more than 32.
+/// The step that a line asks for. `None` where it puts in a packet of no segment, or of more than
+/// 32.
 pub(crate) fn step_of(limits: &Limits, asked: &Asked) -> Option<Step>
     requires buf { limits.now.buf ≤ 65535 }
     ensures { result ≡ step_for limits.now asked.now }

@@ -18,12 +18,12 @@ use std::io::Write;
 use step_core::step::Outcome;
 use step_core::world::World;
 
-/// All that the steps of a script print: a line for what each step answered, and then the world that
-/// they lead to. A step that is refused prints so, and the next line goes on.
+/// All that the steps of a script print: a line for what each step answered, and then the world
+/// that they lead to. A step that is refused prints so, and the next line goes on.
 ///
 /// Refused as reading the script is: `BadPool` where no pool can be made within the limits of its
-/// pool line, and `ScriptFault` with the number of the first faulty line, or 0 where the bytes are more
-/// than a script has. `OutOfMemory` comes only where memory was refused.
+/// pool line, and `ScriptFault` with the number of the first faulty line, or 0 where the bytes are
+/// more than a script has. `OutOfMemory` comes only where memory was refused.
 pub fn run_steps(alloc: Global, bytes: &[u8]) -> Result<Vec<u8>, Refusal>
     // What is printed is what the machine's steps say of the script that the bytes are.
     ensures printed { IfOk result (λ out. IsStepsPrint bytes.now out.items) }
@@ -31,9 +31,11 @@ pub fn run_steps(alloc: Global, bytes: &[u8]) -> Result<Vec<u8>, Refusal>
     // Why nothing is printed.
     ensures faults { IfErr result (λ refusal. IsStepCause bytes.now refusal) }
 
-    // Where the bytes are a script of steps, nothing else is printed, and only memory can be missing.
-    ensures only { (limits : Limits) (lines : List SteppedLine) → IsStepScript bytes.now limits lines →
-        MatchResult result (λ out. IsPrintedFor limits lines out.items) (λ refusal. refusal ≡ Refusal.OutOfMemory) }
+    // Where the bytes are a script of steps, nothing else is printed, and only memory can be wanting.
+    ensures only { (limits : Limits) (lines : List SteppedLine) →
+        IsStepScript bytes.now limits lines → MatchResult result
+        (λ out. IsPrintedFor limits lines out.items)
+        (λ refusal. refusal ≡ Refusal.OutOfMemory) }
 {
     match parse_steps(alloc, bytes) {
         Ok(script) => printed(alloc, &script),
@@ -91,7 +93,8 @@ fn play_line(out: &mut Vec<u8>, world: &mut World, line: &StepLine) -> Result<()
 
 /// What a line's step answers, `None` where it is refused.
 fn played(world: &mut World, line: &StepLine) -> Result<Option<Outcome>, Refusal>
-    ensures outcome { IfOk result (λ answer. answer ≡ option_map (λ p. p.0) (played_line world.old line.now)) }
+    ensures outcome { IfOk result
+        (λ answer. answer ≡ option_map (λ p. p.0) (played_line world.old line.now)) }
     ensures world { OnOk result (world.new ≡ after_line world.old line.now) }
     ensures memory { IfErr result (λ refusal. refusal ≡ Refusal.OutOfMemory) }
 {

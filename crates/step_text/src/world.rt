@@ -13,8 +13,8 @@ use std::io::Write;
 use step_core::view::Head;
 use step_core::world::World;
 
-/// The text of a world: the head, the length word, the common list from the top, each worker's credit,
-/// hand and holds, each desk with its packet where it is full, and each count that isn't 1.
+/// The text of a world: the head, the length word, the common list from the top, each worker's
+/// credit, hand and holds, each desk with its packet where it is full, and each count that isn't 1.
 ///
 /// Refused `OutOfMemory` where memory was refused.
 pub fn world_text(alloc: Global, world: &World) -> Result<Vec<u8>, Refusal>
