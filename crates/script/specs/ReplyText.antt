@@ -8,7 +8,7 @@ use Rattle.mbuf.specs.declared.acts.NewPacket.{NewPacket}
 use Rattle.mbuf.specs.Acts.{Reply}
 use Rattle.mbuf.specs.declared.acts.Answer.TheVariants as replies
 use Rattle.mbuf.specs.declared.freed.Freed.{Freed}
-use Rattle.script.specs.StatementText.{joined}
+use Rattle.element_text.specs.Elements.{joined}
 
 -- the last push that was refused, and why; nothing where none was
 unfoldable pub put_off_text : Option (ℕ × Refusal) → List ℕ

@@ -2,6 +2,7 @@
 use Rattle.std.specs.Prelude.{ℕ, ◌+◌, List, [], ◌∷◌, ◌++◌, Option, Some, None, length, codes, decimal}
 use Rattle.std.specs.List.{flat_map}
 use Rattle.commons.specs.declared.packet.Seg.{Seg}
+use Rattle.element_text.specs.Elements.{base_text, elements_text, joined}
 use Rattle.mbuf.specs.Lengths.{pkt_len}
 use Rattle.pool_model.specs.declared.statement.Holder.{Holder}
 use Rattle.pool_model.specs.declared.statement.Holder.TheVariants.{Worker, Desk}
@@ -9,15 +10,6 @@ use Rattle.pool_model.specs.declared.statement.Held.{Held}
 use Rattle.pool_model.specs.declared.statement.PlacedPacket.{PlacedPacket}
 use Rattle.pool_model.specs.declared.statement.DeskPacket.{DeskPacket}
 use Rattle.pool_model.specs.declared.statement.Statement.{Statement}
-
--- each item's text behind a space
-abbrev pub joined : {T : Type 0} → (T → List ℕ) → List T → List ℕ
-joined text items = flat_map (λ item. codes " " ++ text item) items
-
--- the element whose buffer an indirect segment uses, behind a `>`; nothing at a direct one
-abbrev pub base_text : Option ℕ → List ℕ
-base_text (Some base) = codes ">" ++ decimal base
-base_text None = []
 
 -- a segment: its element and base, where its data begins, how long it is, and how long the buffer is
 unfoldable pub segment_text : Seg → List ℕ
@@ -41,11 +33,6 @@ unfoldable pub totals_text : Statement → List ℕ
 totals_text s =
     total_line (codes "population") s.population ++ total_line (codes "available") s.available
     ++ total_line (codes "in use") s.in_use
-
--- how many elements these are, and which: the end of a line
-unfoldable pub elements_text : List ℕ → List ℕ
-elements_text elements =
-    codes " " ++ decimal (length elements) ++ codes ":" ++ joined decimal elements ++ codes "\n"
 
 -- a worker's cache
 unfoldable pub cache_text : ℕ → List ℕ → List ℕ

@@ -1,6 +1,6 @@
 //! What a replay prints: the reply to each command, and the statement at the end.
 
-mod elements;
+mod caches;
 mod held;
 mod replies;
 mod segments;

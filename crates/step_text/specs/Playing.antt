@@ -12,7 +12,8 @@ use Rattle.step_core.specs.declared.step.Step.TheVariants.{LoadLength, Reserve, 
 use Rattle.step_core.specs.declared.step.Outcome.{Outcome}
 use Rattle.step_core.specs.declared.step.Outcome.TheVariants.{Value, HeadIs, Won, Got, Lost, LostTo, Done, Found}
 use Rattle.step_core.specs.Steps.{play}
-use Rattle.step_text.specs.WorldText.{end_text, head_text, joined, segment_text}
+use Rattle.element_text.specs.Elements.{joined}
+use Rattle.step_text.specs.WorldText.{end_text, head_text, segment_text}
 
 -- the number of an element; the end has one that no pool has
 abbrev pub number_or_none : Option ℕ → ℕ

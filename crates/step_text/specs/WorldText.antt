@@ -7,26 +7,13 @@ use Rattle.step_core.specs.declared.view.Head.{Head}
 use Rattle.step_core.specs.declared.view.View.{View}
 use Rattle.step_core.specs.declared.view.Desk.{Desk}
 use Rattle.step_core.specs.Links.{Spells}
+use Rattle.element_text.specs.Elements.{base_text, elements_text, joined}
 use Rattle.step_text.specs.Ascending.{ascending}
-
--- each item's text behind a space
-abbrev pub joined : {T : Type 0} → (T → List ℕ) → List T → List ℕ
-joined text items = flat_map (λ item. codes " " ++ text item) items
 
 -- a link value: an element, or `-` for the end
 abbrev pub end_text : ℕ → List ℕ
 end_text zero = codes "-"
 end_text (suc element) = decimal element
-
--- how many elements these are, and which: the end of a line
-unfoldable pub elements_text : List ℕ → List ℕ
-elements_text elements =
-    codes " " ++ decimal (length elements) ++ codes ":" ++ joined decimal elements ++ codes "\n"
-
--- the element whose buffer a segment uses, behind a `>`; nothing at a direct one
-abbrev pub base_text : Option ℕ → List ℕ
-base_text (Some base) = codes ">" ++ decimal base
-base_text None = []
 
 -- a segment: its element and its base
 unfoldable pub segment_text : Seg → List ℕ

@@ -1,31 +1,13 @@
-//! Heads, lists of elements, and segments.
-ghost use Rattle.std.specs.Prelude.{◌≡◌, ◌++◌, OnOk, decimal};
-ghost use Rattle.step_text.specs.WorldText.{base_text, elements_text, end_text, head_text, joined, segment_text};
+//! Heads, link values and segments.
+ghost use Rattle.std.specs.Prelude.{◌≡◌, ◌++◌, OnOk};
+ghost use Rattle.element_text.specs.Elements.{joined};
+ghost use Rattle.step_text.specs.WorldText.{end_text, head_text, segment_text};
 
 use commons::packet::Seg;
+use element_text::write_base;
 use std::io;
 use std::io::Write;
 use step_core::view::Head;
-
-/// How many elements these are, and which, to the end of the line.
-#[tactic(auto, unfolding(crate::specs::WorldText::elements_text))]
-pub(crate) fn write_elements(out: &mut Vec<u8>, elements: &[u32]) -> io::Result<()>
-    ensures { OnOk result (out.new.items ≡ out.old.items ++ elements_text elements.now) }
-{
-    write!(out, " {}:", elements.len())?;
-    write_joined(out, elements)?;
-    writeln!(out)
-}
-
-/// Each element behind a space.
-pub(crate) fn write_joined(out: &mut Vec<u8>, elements: &[u32]) -> io::Result<()>
-    ensures { OnOk result (out.new.items ≡ out.old.items ++ joined decimal elements.now) }
-{
-    for element in elements {
-        write!(out, " {element}")?;
-    }
-    Ok(())
-}
 
 /// A link value: an element, or `-` for the end.
 pub(crate) fn write_end(out: &mut Vec<u8>, value: u64) -> io::Result<()>
@@ -54,16 +36,6 @@ fn write_segment(out: &mut Vec<u8>, seg: &Seg) -> io::Result<()>
 {
     write!(out, "{}", seg.elem)?;
     write_base(out, seg.base)
-}
-
-/// The element whose buffer an indirect segment uses.
-fn write_base(out: &mut Vec<u8>, base: Option<u32>) -> io::Result<()>
-    ensures { OnOk result (out.new.items ≡ out.old.items ++ base_text base) }
-{
-    match base {
-        Some(base) => write!(out, ">{base}"),
-        None => Ok(()),
-    }
 }
 
 /// A head: its top and its count.

@@ -2,8 +2,9 @@
 ghost use Rattle.std.specs.Prelude.{◌≡◌, ◌++◌, OnOk, codes, decimal};
 ghost use Rattle.step_text.specs.Playing.{outcome_text, reads_link as reads, refused_text, value_text};
 
-use crate::elements::{write_end, write_head, write_joined, write_segments};
+use crate::elements::{write_end, write_head, write_segments};
 use commons::refusal::Refusal;
+use element_text::write_joined;
 use script_text::steps::Step as Asked;
 use std::io;
 use std::io::Write;

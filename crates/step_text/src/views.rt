@@ -3,7 +3,7 @@ ghost use Rattle.std.specs.Prelude.{◌≡◌, ◌++◌, OnOk};
 ghost use Rattle.step_text.specs.WorldText.{view_text, views_text};
 
 use crate::ascending::sorted;
-use crate::elements::write_elements;
+use element_text::write_elements;
 use std::io;
 use std::io::Write;
 use step_core::view::View;

@@ -4,9 +4,10 @@ ghost use Rattle.step_text.specs.WorldText.{IsTextOf, head_line, text_with};
 
 use crate::common_list::common_list;
 use crate::desks::{write_counts, write_desks};
-use crate::elements::{write_elements, write_head};
+use crate::elements::write_head;
 use crate::views::write_views;
 use commons::refusal::Refusal;
+use element_text::write_elements;
 use std::alloc::Global;
 use std::io;
 use std::io::Write;

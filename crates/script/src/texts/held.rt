@@ -1,7 +1,8 @@
 //! The held elements and their holders.
 ghost use Rattle.std.specs.Prelude.{◌≡◌, ◌++◌, OnOk};
 ghost use Rattle.std.specs.List.{flat_map};
-ghost use Rattle.script.specs.StatementText.{held_text, holder_text, joined};
+ghost use Rattle.element_text.specs.Elements.{joined};
+ghost use Rattle.script.specs.StatementText.{held_text, holder_text};
 
 use pool_model::statement::{Held, Holder};
 use std::io;

@@ -2,10 +2,10 @@
 ghost use Rattle.std.specs.Prelude.{◌≡◌, ◌++◌, codes, decimal, IfErr, OnOk};
 ghost use Rattle.mbuf.specs.Acts.{as_reply};
 ghost use Rattle.script.specs.ReplyText.{new_elements_text, freed_text, put_off_text, put_text, reply_line, reply_text};
-ghost use Rattle.script.specs.StatementText.{joined};
+ghost use Rattle.element_text.specs.Elements.{joined};
 
-use super::elements::write_joined;
 use commons::refusal::Refusal;
+use element_text::write_joined;
 use mbuf::acts::{Answer, NewPacket};
 use mbuf::freed::Freed;
 use mempool::put::Put;

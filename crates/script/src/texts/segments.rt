@@ -2,9 +2,11 @@
 ghost use Rattle.std.specs.Prelude.{◌≡◌, ◌++◌, OnOk};
 ghost use Rattle.std.specs.List.{flat_map};
 ghost use Rattle.mbuf.specs.Lengths.{pkt_len};
-ghost use Rattle.script.specs.StatementText.{base_text, desk_text, joined, packet_text, segment_text, segments_text};
+ghost use Rattle.element_text.specs.Elements.{joined};
+ghost use Rattle.script.specs.StatementText.{desk_text, packet_text, segment_text, segments_text};
 
 use commons::packet::Seg;
+use element_text::write_base;
 use pool_model::statement::{DeskPacket, PlacedPacket};
 use std::io;
 use std::io::Write;
@@ -80,14 +82,4 @@ fn write_segment(out: &mut Vec<u8>, seg: &Seg) -> io::Result<()>
     write!(out, "{}", seg.elem)?;
     write_base(out, seg.base)?;
     write!(out, "@{}+{}/{}", seg.data_off, seg.data_len, seg.buf_len)
-}
-
-/// The element whose buffer an indirect segment uses.
-fn write_base(out: &mut Vec<u8>, base: Option<u32>) -> io::Result<()>
-    ensures { OnOk result (out.new.items ≡ out.old.items ++ base_text base) }
-{
-    match base {
-        Some(base) => write!(out, ">{base}"),
-        None => Ok(()),
-    }
 }

@@ -2,10 +2,11 @@
 ghost use Rattle.std.specs.Prelude.{◌≡◌, ◌++◌, IfErr, IfOk, OnOk};
 ghost use Rattle.script.specs.StatementText.{text_of, total_line, totals_text};
 
-use super::elements::{write_caches, write_elements};
+use super::caches::write_caches;
 use super::held::write_held;
 use super::segments::{write_desks, write_packets};
 use commons::refusal::Refusal;
+use element_text::write_elements;
 use pool_model::statement::Statement;
 use std::alloc::Global;
 use std::io;

@@ -1,5 +1,6 @@
 use Rattle.std.proofs.Common.{◌≡◌, ◌++◌, take}
-use Rattle.step_text.specs.WorldText.{joined, segment_text}
+use Rattle.element_text.specs.Elements.{joined}
+use Rattle.step_text.specs.WorldText.{segment_text}
 use Rattle.step_text.proofs.elements.write_segments.Given as goal
 
 abbrev pub invariant-loop-seg : goal.invariant-loop-seg

@@ -1,5 +1,6 @@
 use Rattle.std.proofs.Common.{◌≡◌, ◌++◌, take}
-use Rattle.script.specs.StatementText.{holder_text, joined}
+use Rattle.element_text.specs.Elements.{joined}
+use Rattle.script.specs.StatementText.{holder_text}
 use Rattle.script.proofs.texts.held.write_joined.Given as goal
 
 abbrev pub invariant-loop-holder : goal.invariant-loop-holder

@@ -1,5 +1,6 @@
 use Rattle.std.proofs.Common.{◌≡◌, ◌++◌, take}
-use Rattle.script.specs.StatementText.{joined, segment_text}
+use Rattle.element_text.specs.Elements.{joined}
+use Rattle.script.specs.StatementText.{segment_text}
 use Rattle.script.proofs.texts.segments.write_joined.Given as goal
 
 abbrev pub invariant-loop-seg : goal.invariant-loop-seg

@@ -1,8 +1,0 @@
-use Rattle.std.proofs.Common.{◌≡◌, ◌++◌, take}
-use Rattle.std.specs.Prelude.{decimal}
-use Rattle.script.specs.StatementText.{joined}
-use Rattle.script.proofs.texts.elements.write_joined.Given as goal
-
-abbrev pub invariant-loop-element : goal.invariant-loop-element
-invariant-loop-element l =
-    l.out.items ≡ l.fn.out.items ++ joined decimal (take l.element-index l.elements)

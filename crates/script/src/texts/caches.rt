@@ -1,0 +1,27 @@
+//! The caches.
+ghost use Rattle.std.specs.Prelude.{◌≡◌, ◌++◌, OnOk};
+ghost use Rattle.script.specs.StatementText.{cache_text, caches_text};
+
+use commons::seq::Seq;
+use element_text::write_elements;
+use std::io;
+use std::io::Write;
+
+/// A line for each worker's cache.
+pub(super) fn write_caches(out: &mut Vec<u8>, caches: &[Seq<u32>]) -> io::Result<()>
+    ensures { OnOk result (out.new.items ≡ out.old.items ++ caches_text 1 caches.now) }
+{
+    for (index, cache) in caches.iter().enumerate() {
+        write_cache(out, index + 1, cache.as_slice())?;
+    }
+    Ok(())
+}
+
+/// The line of one worker's cache.
+#[tactic(auto, unfolding(crate::specs::StatementText::cache_text))]
+fn write_cache(out: &mut Vec<u8>, worker: usize, cache: &[u32]) -> io::Result<()>
+    ensures { OnOk result (out.new.items ≡ out.old.items ++ cache_text worker cache.now) }
+{
+    write!(out, "cache {worker}")?;
+    write_elements(out, cache)
+}
