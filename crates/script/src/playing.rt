@@ -3,6 +3,7 @@ ghost use Rattle.mbuf.specs.Acts.{as_reply};
 ghost use Rattle.script.specs.Replay.{CommandHasRoom, replies_to, end_of, new_run, act_of as changes_to, all_named, asked as asked_by, obey as obeyed, stands_after};
 ghost use Rattle.script.specs.inside.Standing.{run_of, fresh_run};
 ghost use Rattle.script.specs.inside.Stands.{stands_in};
+ghost use Rattle.pool_model.specs.Sound.{ListsSoundPackets};
 ghost use Rattle.pool_model.specs.Statements.{statement_of, ListsEachOnce, PlacesEachOnce};
 
 use crate::names::Names;
@@ -24,9 +25,10 @@ use std::alloc::{AllocError, Global};
 pub fn replay(alloc: Global, script: &Script) -> Result<(Vec<(u32, Reply)>, Statement), Refusal>
     ensures replies { IfOk result (λ r. r.0.items ≡ replies_to script.now.lines (new_run script.now.limits)) }
     ensures statement { IfOk result (λ r. r.1 ≡ statement_of (end_of script.now.lines (new_run script.now.limits)).pool) }
-    // Above the model: no element is missing, and none is anywhere twice; and no two packets stand in one place.
+    // Above the model: no element is missing, and none is anywhere twice; no two packets stand in one place; and each is sound.
     ensures once { IfOk result (λ r. ListsEachOnce r.1) }
     ensures places { IfOk result (λ r. PlacesEachOnce script.now.limits r.1) }
+    ensures sound { IfOk result (λ r. ListsSoundPackets script.now.limits r.1) }
     ensures memory { IfErr result (λ e. e ≡ Refusal.OutOfMemory) }
 {
     let pool = SitePool::make(alloc, &script.limits)?;
@@ -43,6 +45,7 @@ fn play_to_end(
     ensures statement { IfOk result (λ r. r.1 ≡ statement_of (end_of lines.now (fresh_run pool)).pool) }
     ensures once { IfOk result (λ r. ListsEachOnce r.1) }
     ensures places { IfOk result (λ r. PlacesEachOnce pool.limits r.1) }
+    ensures sound { IfOk result (λ r. ListsSoundPackets pool.limits r.1) }
     ensures memory { IfErr result (λ e. e ≡ Refusal.OutOfMemory) }
 {
     match play(alloc, &mut pool, lines) {

@@ -1,8 +1,11 @@
 //! A run of a script in threads, from its bytes to the statement at its end.
 
-ghost use Rattle.std.specs.Prelude.{◌≤◌, IfErr, IfOk};
-ghost use Rattle.pool_model.specs.Statements.{ListsEachOnce};
-ghost use Rattle.script_text.specs.Grammar.{IsCause};
+ghost use Rattle.std.specs.Prelude.{◌≤◌, List, IfErr, IfOk};
+ghost use Rattle.commons.specs.declared.limits.Limits.{Limits};
+ghost use Rattle.pool_model.specs.Sound.{ListsSoundPackets};
+ghost use Rattle.pool_model.specs.Statements.{ListsEachOnce, PlacesEachOnce};
+ghost use Rattle.script_text.specs.Commands.{Line};
+ghost use Rattle.script_text.specs.Grammar.{IsCause, IsScript};
 ghost use Rattle.script.specs.Running.{RunsTo};
 
 use crate::gate::OpenGate;
@@ -30,7 +33,13 @@ pub fn run_script<R: Threads + Wait + Sync>(
     requires turns { 1 ≤ turns }
     // Some order of acts on a new pool of the script's limits leads to the same statement.
     ensures ran { IfOk result (RunsTo bytes.now) }
+    // Above the model: no element is missing, and none is anywhere twice; no two packets stand in one place; and each is
+    // sound, by the limits of the script that the bytes are.
     ensures once { IfOk result (λ s. ListsEachOnce s) }
+    ensures places { (limits : Limits) (lines : List Line) → IsScript bytes.now limits lines →
+        IfOk result (λ s. PlacesEachOnce limits s) }
+    ensures sound { (limits : Limits) (lines : List Line) → IsScript bytes.now limits lines →
+        IfOk result (λ s. ListsSoundPackets limits s) }
     // Why there is none.
     ensures faults { IfErr result (IsCause bytes.now) }
 {
