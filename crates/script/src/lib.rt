@@ -18,6 +18,6 @@ pub use playing::replay;
 pub use printing::run_replay;
 pub use running::run_script;
 pub use script_text::{MAX_BYTES, parse};
-pub use texts::statement_text;
 pub use step_text::{run_steps, world_text};
+pub use texts::statement_text;
 pub use threaded::{Grounds, run_threads};
