@@ -133,7 +133,9 @@ fn command<'a>(alloc: Global) -> Result<Command<'a>, Error> {
         .arg(turns)?
         .arg(json(alloc).help("Print it as one line of JSON"))?;
     let steps = Command::new(alloc, "steps")
-        .about("Plays a script of steps on the words of the stack, and prints what each saw and the words")
+        .about(
+            "Plays a script of steps on the words of the stack, and prints what each saw and the words",
+        )
         .arg(script_file(alloc))?;
     Ok(
         Command::new(alloc, "mbufpool")

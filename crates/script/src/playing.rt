@@ -1,3 +1,4 @@
+//! A script, played line by line on a pool: `replay`, and what a thread does of one line.
 ghost use Rattle.std.specs.Prelude.{◌≡◌, None, IfOk, IfErr, OnOk};
 ghost use Rattle.mbuf.specs.Acts.{as_reply};
 ghost use Rattle.script.specs.Replay.{CommandHasRoom, replies_to, end_of, new_run, act_of as changes_to, all_named, asked as asked_by, obey as obeyed, stands_after};

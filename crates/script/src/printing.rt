@@ -1,3 +1,4 @@
+//! All that the replay of a script prints.
 ghost use Rattle.std.specs.Prelude.{◌≡◌, ◌++◌, List, flat_map, IfOk, IfErr, OnOk, MatchResult};
 ghost use Rattle.commons.specs.declared.limits.Limits.{Limits};
 ghost use Rattle.commons.specs.declared.refusal.Refusal.{Refusal};

@@ -67,5 +67,10 @@ followed_whole w front next end f =
 pub followed_fits : AllAreThere → (w : World) (front : List ℕ) (next : ℕ) → Followed w front next →
     length front ≤ length w.links
 followed_fits all w front next f =
-    omega (arith, all w f.law.common f.law f.law.places.spelled, f.law.ranges.links, ap length f.parts,
-    length-append front f.rest)
+    omega (
+      arith,
+      all w f.law.common f.law f.law.places.spelled,
+      f.law.ranges.links,
+      ap length f.parts,
+      length-append front f.rest,
+    )

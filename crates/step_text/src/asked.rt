@@ -23,14 +23,18 @@ pub(crate) fn step_of(limits: &Limits, asked: &Asked) -> Option<Step>
         Asked::Reserve { old, n } => Step::Reserve { old: *old, n: *n },
         Asked::Add { n } => Step::Add { n: *n },
         Asked::LoadHead => Step::LoadHead,
-        Asked::LoadLink { element } => Step::LoadLink { element: number_of(*element) },
+        Asked::LoadLink { element } => Step::LoadLink {
+            element: number_of(*element),
+        },
         Asked::Cut => Step::Cut,
         Asked::StoreLink { element, next } => Step::StoreLink {
             element: number_of(*element),
             next: *next,
         },
         Asked::Push => Step::Push,
-        Asked::Claim { element } => Step::Claim { element: number_of(*element) },
+        Asked::Claim { element } => Step::Claim {
+            element: number_of(*element),
+        },
         Asked::Sole { element, free } => Step::Sole {
             element: number_of(*element),
             free: *free,
@@ -39,16 +43,30 @@ pub(crate) fn step_of(limits: &Limits, asked: &Asked) -> Option<Step>
             element: number_of(*element),
             old: *old,
         },
-        Asked::Lower { element } => Step::Lower { element: number_of(*element) },
-        Asked::Reset { element } => Step::Reset { element: number_of(*element) },
-        Asked::Hold { desk } => Step::Hold { desk: u32::from(*desk) },
+        Asked::Lower { element } => Step::Lower {
+            element: number_of(*element),
+        },
+        Asked::Reset { element } => Step::Reset {
+            element: number_of(*element),
+        },
+        Asked::Hold { desk } => Step::Hold {
+            desk: u32::from(*desk),
+        },
         Asked::PutIn { desk, segments } => {
             return put_in(limits, u32::from(*desk), segments.as_slice());
         }
-        Asked::Open { desk } => Step::Open { desk: u32::from(*desk) },
-        Asked::Seize { desk } => Step::Seize { desk: u32::from(*desk) },
-        Asked::TakeOut { desk } => Step::TakeOut { desk: u32::from(*desk) },
-        Asked::Clear { desk } => Step::Clear { desk: u32::from(*desk) },
+        Asked::Open { desk } => Step::Open {
+            desk: u32::from(*desk),
+        },
+        Asked::Seize { desk } => Step::Seize {
+            desk: u32::from(*desk),
+        },
+        Asked::TakeOut { desk } => Step::TakeOut {
+            desk: u32::from(*desk),
+        },
+        Asked::Clear { desk } => Step::Clear {
+            desk: u32::from(*desk),
+        },
     };
     Some(step)
 }

@@ -1,3 +1,4 @@
+//! Faults: their lines and statuses.
 use super::screen::{Full, Screen};
 use crate::failures::{Failure, FaultLine};
 use crate::report;

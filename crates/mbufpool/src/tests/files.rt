@@ -1,3 +1,4 @@
+//! Files that are replayed, run, played step by step, or can't be read.
 use super::screen::Screen;
 use crate::command_line::Request;
 use crate::scripts::{Disk, Scripts, bytes_of};

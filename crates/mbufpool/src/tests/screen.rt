@@ -1,4 +1,4 @@
-// A terminal that takes nothing, and what another one took.
+//! A terminal that takes nothing, and what another one took.
 use std::alloc::Global;
 use std::io;
 use std::io::Write;

@@ -1,3 +1,4 @@
+//! The words of the command line.
 use super::screen::{Full, Screen};
 use crate::command_line::request_of;
 use crate::failures::Failure;
@@ -18,12 +19,7 @@ fn line(alloc: Global, words: &[&str]) -> Result<Vec<String>, AllocError> {
 type Asked = (&'static str, u32, Form);
 
 /// Whether the words ask for this with this file.
-fn asks_for(
-    alloc: Global,
-    words: &[&str],
-    file: &str,
-    asked: Asked,
-) -> Result<bool, AllocError> {
+fn asks_for(alloc: Global, words: &[&str], file: &str, asked: Asked) -> Result<bool, AllocError> {
     let words = line(alloc, words)?;
     let is = match request_of(alloc, words.as_slice()) {
         Ok(found) => {
@@ -58,15 +54,39 @@ fn told(alloc: Global, words: &[&str]) -> Result<(String, String, u8, u8), Fail>
 #[test]
 fn words_name_a_file_or_are_wrong_or_ask_for_a_text(rt: HostRuntime) -> Result<(), Fail> {
     let named: [(&[&str], &str, Asked); 10] = [
-        (&["replay", "a.script"], "a.script", ("replay", 0, Form::Text)),
+        (
+            &["replay", "a.script"],
+            "a.script",
+            ("replay", 0, Form::Text),
+        ),
         (&["replay", "a", "--json"], "a", ("replay", 0, Form::Json)),
         (&["replay", "--json", "a"], "a", ("replay", 0, Form::Json)),
-        (&["replay", "--", "--json"], "--json", ("replay", 0, Form::Text)),
+        (
+            &["replay", "--", "--json"],
+            "--json",
+            ("replay", 0, Form::Text),
+        ),
         (&["run", "a"], "a", ("run", 1_000, Form::Text)),
-        (&["run", "a", "--ground", "locked"], "a", ("run", 1_000, Form::Text)),
-        (&["run", "a", "--turns", "1", "--json"], "a", ("run", 1, Form::Json)),
-        (&["run", "--turns", "1000000", "a"], "a", ("run", 1_000_000, Form::Text)),
-        (&["steps", "aba.script"], "aba.script", ("steps", 0, Form::Text)),
+        (
+            &["run", "a", "--ground", "locked"],
+            "a",
+            ("run", 1_000, Form::Text),
+        ),
+        (
+            &["run", "a", "--turns", "1", "--json"],
+            "a",
+            ("run", 1, Form::Json),
+        ),
+        (
+            &["run", "--turns", "1000000", "a"],
+            "a",
+            ("run", 1_000_000, Form::Text),
+        ),
+        (
+            &["steps", "aba.script"],
+            "aba.script",
+            ("steps", 0, Form::Text),
+        ),
         (&["steps", "--", "-"], "-", ("steps", 0, Form::Text)),
     ];
     for (words, file, asked) in named {

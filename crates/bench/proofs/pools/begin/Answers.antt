@@ -5,6 +5,7 @@ use Rattle.commons.specs.Lists.{opening, side_of}
 use Rattle.mbuf.proofs.OwnLemmas.{own_new}
 use Rattle.bench.proofs.pools.begin.Goals as goal
 
+-- nobody has anything in a new pool, so new packets are a worker's own
 pub returns : goal.returns
 returns c =
     let l = c.args.packets.now.limits in

@@ -16,6 +16,7 @@ of_acts : (l : Limits) (P : Statement → Type 0) → ((acts : List (ℕ × Act)
 of_acts l P all (Ok s) h = subst P (sym h.1) (all h.0)
 of_acts l P all (Err e) h = tt
 
+-- acts of a new pool led to the end, and acts leave packets sound
 pub returns-clause-sound : goal.returns-clause-sound
 returns-clause-sound g c =
     let l = c.args.script.now.limits in

@@ -6,6 +6,7 @@ use Rattle.step_core.proofs.packets.count_in.Goals as goal
 pub loop-i-init : goal.loop-i-init
 loop-i-init c = record { times = sym (times-nil c.args.element); few = omega arith }
 
+-- what one segment more holds is counted
 pub loop-i-preserved : goal.loop-i-preserved
 loop-i-preserved c = record {
   times =

@@ -16,6 +16,7 @@ returns-then-not-has_seg c =
     sym (ap (λ (ss : List Seg). includes_from c.args.holds.now all (holds_of_packet ss))
     (sym c.segs-segs.ensures.segs) ∙ fails)
 
+-- what one segment more holds is among the holds
 pub loop-i-preserved : goal.loop-i-preserved
 loop-i-preserved c =
     let all = holds_of_packet c.args.packet.now in

@@ -15,6 +15,7 @@ returns-then-not-seg_below c =
     sym (ap (λ (ss : List Seg). all_below c.args.population (holds_of_packet ss))
     (sym c.segs-segs.ensures.segs) ∙ fails)
 
+-- one segment more is below the population
 pub loop-i-preserved : goal.loop-i-preserved
 loop-i-preserved c =
     test_more (all_below c.args.population) (all_below-append c.args.population)

@@ -7,6 +7,7 @@ use Rattle.step_core.proofs.elems.Elems.count.Goals as goal
 pub loop-element-init : goal.loop-element-init
 loop-element-init c = record { times = sym (times-nil c.args.number); few = omega arith }
 
+-- the next element is counted where it is this number
 pub loop-element-preserved : goal.loop-element-preserved
 loop-element-preserved c =
     elim c.if-element-number.branch [

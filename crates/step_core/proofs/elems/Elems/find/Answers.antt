@@ -18,6 +18,7 @@ returns-then-from-number c =
           ∙ has_at _ c.loop-element.element-index c.args.number c.loop-element-test.true here,
     )
 
+-- the next element isn't this number either
 pub loop-element-preserved : goal.loop-element-preserved
 loop-element-preserved c =
     none_so_far c.as_slice-element-items.result.now c.loop-element.element-index c.args.number

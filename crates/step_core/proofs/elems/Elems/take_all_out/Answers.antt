@@ -5,6 +5,7 @@ use Rattle.step_core.proofs.elems.Elems.take_all_out.Goals as goal
 pub loop-element-init : goal.loop-element-init
 loop-element-init c = minus_nothing c.args.self.now c.args.elements.now
 
+-- one element more is out
 pub loop-element-preserved : goal.loop-element-preserved
 loop-element-preserved c =
     c.take_out.ensures ∙ minus_suc c.args.self.now c.args.elements.now c.loop-element.self

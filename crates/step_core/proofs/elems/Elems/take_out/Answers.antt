@@ -19,6 +19,7 @@ returns-then-index-element c =
     (read_at _ c.loop-i.i _ inside there ∙ c.if-index-element.true)
     ∙ ap (without c.args.element) c.self.view_is
 
+-- the next element isn't the one to be taken out, and the list is as it was
 pub loop-i-preserved : goal.loop-i-preserved
 loop-i-preserved c =
     let items : c.loop-i.self-inside.items.items ≡ c.self.inside.items.items = cc (c.loop-i.invariant.same) in

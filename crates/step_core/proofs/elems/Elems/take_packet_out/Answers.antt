@@ -5,6 +5,7 @@ use Rattle.step_core.proofs.elems.Elems.take_packet_out.Goals as goal
 pub loop-i-init : goal.loop-i-init
 loop-i-init c = minus_none c.args.self.now
 
+-- what one segment more holds is out
 pub loop-i-preserved : goal.loop-i-preserved
 loop-i-preserved c =
     c.take_seg_out.ensures ∙ minus_segs c.args.self.now c.loop-i.self c.segs-segs.result.now
