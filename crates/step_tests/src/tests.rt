@@ -13,6 +13,8 @@ use step_text::run_steps;
 
 mod acts;
 mod heads;
+mod places;
+mod random;
 mod refusals;
 mod schedules;
 mod shown;

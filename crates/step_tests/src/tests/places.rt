@@ -1,0 +1,122 @@
+//! Where the elements of a world are, counted anew from its words and views.
+
+ghost use Rattle.std.specs.Prelude.{◌≤◌};
+
+use arrayvec::ArrayVec;
+use std::process::Abort;
+use step_core::view::Desk;
+use step_core::world::World;
+
+/// The most elements of a pool whose elements are counted.
+const ROOM: usize = 6;
+
+/// How often an element is in each kind of place.
+#[derive(Clone, Copy, Debug)]
+struct Places {
+    common: usize,
+    hands: usize,
+    zeros: usize,
+    holds: usize,
+}
+
+/// The common list from the top along the links; none if it has no end within the room.
+fn common_list(world: &World) -> Option<ArrayVec<u32, ROOM>> {
+    let mut common = ArrayVec::new();
+    let mut next = world.head().top;
+    for _ in 0..=ROOM {
+        let Some(element) = next.checked_sub(1) else {
+            return Some(common);
+        };
+        if common.try_push(element).is_err() {
+            return None;
+        }
+        next = *world.links().get(element as usize)?;
+    }
+    None
+}
+
+/// 1 if it is so, else 0.
+fn one_if(is_so: bool) -> usize
+    ensures { result ≤ 1 }
+{
+    if is_so { 1 } else { 0 }
+}
+
+/// How often a desk holds an element: only a full one holds any.
+fn held_on(desk: &Desk, element: u32) -> usize {
+    let mut times = 0usize;
+    if desk.word != 2 {
+        return times;
+    }
+    if let Some(packet) = &desk.slot {
+        for seg in packet.segs() {
+            times = times.saturating_add(one_if(seg.elem == element));
+            times = times.saturating_add(one_if(seg.base == Some(element)));
+        }
+    }
+    times
+}
+
+/// Where an element is.
+fn places_of(world: &World, common: &[u32], element: u32) -> Places {
+    let mut places = Places {
+        common: common.iter().filter(|other| **other == element).count(),
+        hands: 0,
+        zeros: 0,
+        holds: 0,
+    };
+    for view in world.views() {
+        places.hands = places.hands.saturating_add(view.hand.count(element));
+        places.zeros = places.zeros.saturating_add(view.zeros.count(element));
+        places.holds = places.holds.saturating_add(view.holds.count(element));
+    }
+    for desk in world.desks() {
+        places.holds = places.holds.saturating_add(held_on(desk, element));
+    }
+    places
+}
+
+/// Whether the element is in exactly one place: once in the common list or in a hand, or held.
+fn is_once(places: &Places) -> bool {
+    match (places.common, places.hands, places.zeros, places.holds) {
+        (1, 0, 0, 0) | (0, 1, 0, 0) | (0, 0, 1, 0) => true,
+        (0, 0, 0, holds) => holds > 0,
+        _ => false,
+    }
+}
+
+/// The count of an element that is there: how often it is held, else 1, or 0 where a hand says so.
+fn count_of(places: &Places) -> usize {
+    if places.holds > 0 {
+        places.holds
+    } else if places.zeros > 0 {
+        0
+    } else {
+        1
+    }
+}
+
+/// Whether each element is in exactly one place and has the count that goes with it.
+pub(super) fn assert_counted(rt: &impl Abort, world: &World, schedule: u64, step: u64) {
+    let at = (schedule, step);
+    assert_eq!(rt;
+        world.counts().len() as u64,
+        world.limits().population,
+        "{at:?}"
+    );
+    let Some(common) = common_list(world) else {
+        assert!(rt; false, "{at:?}: the common list has no end");
+        return;
+    };
+    let mut element = 0u32;
+    for count in world.counts() {
+        let places = places_of(world, common.as_slice(), element);
+        assert!(rt; is_once(&places), "{at:?}: {element}: {places:?}");
+        assert_eq!(rt;
+            *count as usize,
+            count_of(&places),
+            "{at:?}: {element}: {places:?}"
+        );
+        element = element.saturating_add(1);
+    }
+}
