@@ -201,22 +201,6 @@ fn handed_in(mut members: Vec<Packets>, mut shares: Vec<Share>) -> Vec<Share>
     shares
 }
 
-/// Lets a worker's packets act on its part of the lists.
-fn act_plain<const ROOM: usize>(
-    packets: &mut Packets,
-    c: &mut PlainCommons,
-    act: Act,
-) -> Answer<ROOM>
-    requires room { HasRoom ROOM act }
-    requires own { Owns c.old.site.now c.old.worker packets.old }
-    ensures same { c.new.site.ghost_name ≡ c.old.site.ghost_name }
-    ensures calls { (calls : List Call) × LeadsPlain c.old.worker c.old.site.now calls c.new.site.now × Performs act packets.old calls (as_reply result) packets.new }
-    ensures own { Owns c.new.site.now c.old.worker packets.new }
-    ensures alone { StepsAlone c.old.worker c.old.site.now c.new.site.now }
-{
-    acts::perform_in(packets, c, act)
-}
-
 /// Lets one worker act on the lists.
 fn act_alone<const ROOM: usize>(
     site: &mut PlainSite,
@@ -231,7 +215,7 @@ fn act_alone<const ROOM: usize>(
     ensures alone { StepsAlone worker site.old site.new }
 {
     let mut c = PlainCommons::new(site, worker);
-    act_plain(packets, &mut c, act)
+    acts::perform_in(packets, &mut c, act)
 }
 
 /// For each worker of a pool an empty cache and an empty table.
