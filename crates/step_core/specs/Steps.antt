@@ -1,15 +1,16 @@
 -- The 19 kinds of step, a row for each: its condition, its answer, what it changes, and its event.
-use Rattle.std.specs.Prelude.{ℕ, zero, suc, ◌+◌, ◌-◌, Bool, true, List, [], ◌∷◌, ◌++◌, Option, Some, None, is_none, option_map, option_and_then, length, slice_index, slice_set, nat_lt, nat_le, ◌==◌, ◌&&◌, if◌then◌else◌}
+use Rattle.std.specs.Prelude.{ℕ, zero, suc, ◌+◌, ◌-◌, Bool, true, [], ◌∷◌, ◌++◌, Option, Some, None, is_none, option_map, option_and_then, length, slice_index, slice_set, nat_lt, nat_le, ◌==◌, ◌&&◌, if◌then◌else◌}
 pub use Rattle.step_core.specs.declared.step.Step.{Step}
 pub use Rattle.step_core.specs.declared.step.Step.TheVariants.{LoadLength, Reserve, Add, LoadHead, LoadLink, Cut, StoreLink, Push, Claim, Sole, Raise, Lower, Reset, Hold, PutIn, Open, Seize, TakeOut, Clear}
 pub use Rattle.step_core.specs.declared.step.Outcome.{Outcome}
 pub use Rattle.step_core.specs.declared.step.Outcome.TheVariants.{Value, HeadIs, Won, Got, Lost, LostTo, Done, Found}
-use Rattle.commons.specs.Bag.{bag}
-use Rattle.commons.specs.Calls.{spent, desk_empty, desk_full}
-use Rattle.commons.specs.Packets.{holds_of_packet, own_of_packet}
-use Rattle.step_core.specs.Bags.{has, without, minus, still_held, includes, all_below}
-use Rattle.step_core.specs.Links.{link_value, first_value, last_value}
+use Rattle.commons.specs.Calls.{desk_empty, desk_full}
+use Rattle.commons.specs.Packets.{holds_of_packet}
+use Rattle.step_core.specs.Bags.{has, includes, all_below}
+use Rattle.step_core.specs.Links.{link_value, first_value}
 use Rattle.step_core.specs.World.{Head, Look, Chain, Phase, ToFill, Filled, Seized, TakenOut, Work, View, Desk, World, Packet, view_at, link_in, desk_at}
+pub use Rattle.step_core.specs.Sights.{can_cut, chain_after, can_push, chain_without, at_desk, phase_at, headers_left}
+use Rattle.step_core.specs.Sights.{reserved, given_back, looking_at, cut_view, lost_look, chained, push_view, lost_push, claimed, freed, raised, hold_ended, was_reset, working, opened, seized}
 use Rattle.step_core.specs.Table.{Event, Get, Put, Claim as ClaimEvent, Attach, Free, Offer, Take}
 
 -- what a step makes of the world, what it answers, and the event of the table that it is, if any
@@ -41,20 +42,17 @@ abbrev pub reserve : World → ℕ → View → ℕ → ℕ → Play
 reserve w k v old n =
     if w.length == old
     then quiet Won (record w
-    { length = old - n; views = slice_set w.views k (record v { credit = v.credit + n }) })
+    { length = old - n; views = slice_set w.views k (reserved v n) })
     else quiet (Lost w.length) w
 
 abbrev pub add : World → ℕ → View → ℕ → Play
 add w k v n =
     quiet Done (record w
-    { length = w.length + n; views = slice_set w.views k (record v { credit = v.credit - n }) })
+    { length = w.length + n; views = slice_set w.views k (given_back v n) })
 
 abbrev pub load_head : World → ℕ → View → Play
 load_head w k v =
-    quiet (HeadIs w.head) (knows w k (record v {
-      look = Some (record { head = w.head; front = []; next = w.head.top });
-      seen = w.head.count;
-    }))
+    quiet (HeadIs w.head) (knows w k (looking_at v w.head))
 
 abbrev pub load_link : World → ℕ → View → ℕ → Look → Play
 load_link w k v i l =
@@ -68,11 +66,6 @@ same_head a b = (a.top == b.top) && (a.count == b.count)
 abbrev pub next_head : ℕ → ℕ → Head
 next_head top count = record { top = top; count = count + 1 }
 
--- a front that isn't empty and is reserved, and a count that isn't spent
-abbrev pub can_cut : View → Look → Bool
-can_cut v l =
-    nat_lt 0 (length l.front) && (nat_le (length l.front) v.credit && nat_lt l.head.count spent)
-
 abbrev pub cut : World → ℕ → View → Look → Play
 cut w k v l =
     if same_head w.head l.head
@@ -80,37 +73,18 @@ cut w k v l =
       outcome = Got l.front;
       after = record w {
         head = next_head l.next l.head.count;
-        views =
-            slice_set w.views k (record v {
-              hand = v.hand ++ l.front;
-              credit = v.credit - length l.front;
-              look = None;
-              seen = l.head.count + 1;
-            });
+        views = slice_set w.views k (cut_view v l);
       };
       event = Some (Get (suc k) l.front);
     }
-    else quiet (LostTo w.head) (knows w k (record v { look = None; seen = w.head.count }))
-
--- the chain after the link of i was set to j: its end moves, or it grows at its front, or a new one begins
-abbrev pub chain_after : Option Chain → ℕ → ℕ → Chain
-chain_after None i j = record { items = i ∷ []; end = j }
-chain_after (Some c) i j =
-    if last_value c.items == suc i then record { items = c.items; end = j }
-    else if (bag c.items i == 0) && (j == first_value c.items)
-    then record { items = i ∷ c.items; end = c.end }
-    else record { items = i ∷ []; end = j }
+    else quiet (LostTo w.head) (knows w k (lost_look v w.head.count))
 
 abbrev pub store_link : World → ℕ → View → ℕ → ℕ → Play
 store_link w k v i j =
     quiet Done (record w {
       links = slice_set w.links i j;
-      views = slice_set w.views k (record v { chain = Some (chain_after v.chain i j) });
+      views = slice_set w.views k (chained v i j);
     })
-
--- a chain that ends at the look's top, and a count that isn't spent
-abbrev pub can_push : Look → Chain → Bool
-can_push l c = (c.end == l.head.top) && nat_lt l.head.count spent
 
 abbrev pub push : World → ℕ → View → Look → Chain → Play
 push w k v l c =
@@ -119,36 +93,18 @@ push w k v l c =
       outcome = Won;
       after = record w {
         head = next_head (first_value c.items) l.head.count;
-        views =
-            slice_set w.views k (record v {
-              hand = minus v.hand c.items;
-              credit = v.credit + length c.items;
-              look = None;
-              seen = l.head.count + 1;
-              chain = None;
-            });
+        views = slice_set w.views k (push_view v c (l.head.count + 1));
       };
       event = Some (Put (suc k) c.items);
     }
-    else quiet (LostTo w.head) (knows w k (record v { look = None; seen = w.head.count; chain = None }))
+    else quiet (LostTo w.head) (knows w k (lost_push v w.head.count))
 
 -- ---- pass 2: the counts
-
--- the chain, unless i is in it
-abbrev pub chain_without : ℕ → Option Chain → Option Chain
-chain_without i None = None
-chain_without i (Some c) = if bag c.items i == 0 then Some c else None
 
 abbrev pub claim : World → ℕ → View → ℕ → Play
 claim w k v i = record {
   outcome = Value (slice_index w.counts i);
-  after =
-      knows w k (record v {
-        hand = without i v.hand;
-        holds = v.holds ++ i ∷ [];
-        headers = v.headers ++ i ∷ [];
-        chain = chain_without i v.chain;
-      });
+  after = knows w k (claimed v i);
   event = Some (ClaimEvent (suc k) i);
 }
 
@@ -157,12 +113,7 @@ sole w k v i free =
     if free && (slice_index w.counts i == 1)
     then record {
       outcome = Value 1;
-      after =
-          knows w k (record v {
-            hand = v.hand ++ i ∷ [];
-            holds = without i v.holds;
-            headers = still_held v.headers (without i v.holds);
-          });
+      after = knows w k (freed v i);
       event = Some (Free (suc k) i);
     }
     else quiet (Value (slice_index w.counts i)) w
@@ -174,7 +125,7 @@ raise w k v i old =
       outcome = Won;
       after = record w {
         counts = slice_set w.counts i (old + 1);
-        views = slice_set w.views k (record v { holds = v.holds ++ i ∷ [] });
+        views = slice_set w.views k (raised v i);
       };
       event = Some (Attach (suc k) i);
     }
@@ -185,12 +136,7 @@ lower w k v i = record {
   outcome = Value (slice_index w.counts i);
   after = record w {
     counts = slice_set w.counts i (slice_index w.counts i - 1);
-    views =
-        slice_set w.views k (record v {
-          holds = without i v.holds;
-          headers = still_held v.headers (without i v.holds);
-          zeros = if slice_index w.counts i == 1 then v.zeros ++ i ∷ [] else v.zeros;
-        });
+    views = slice_set w.views k (hold_ended v i (slice_index w.counts i == 1));
   };
   event = Some (Free (suc k) i);
 }
@@ -199,7 +145,7 @@ abbrev pub reset : World → ℕ → View → ℕ → Play
 reset w k v i =
     quiet Done (record w {
       counts = slice_set w.counts i 1;
-      views = slice_set w.views k (record v { hand = v.hand ++ i ∷ []; zeros = without i v.zeros });
+      views = slice_set w.views k (was_reset v i);
     })
 
 -- ---- pass 3: the desks
@@ -207,15 +153,7 @@ reset w k v i =
 -- the world after a step on desk d, which is x afterwards, as the worker's work is
 abbrev pub works : World → ℕ → View → ℕ → Desk → Option Work → World
 works w k v d x work = record w
-    { desks = slice_set w.desks d x; views = slice_set w.views k (record v { work = work }) }
-
-abbrev pub at_desk : ℕ → Phase → Option Work
-at_desk d phase = Some (record { desk = d; phase = phase })
-
--- how far the worker is with desk d, if that is its work
-abbrev pub phase_at : ℕ → Option Work → Option Phase
-phase_at d None = None
-phase_at d (Some x) = if x.desk == d then Some x.phase else None
+    { desks = slice_set w.desks d x; views = slice_set w.views k (working v work) }
 
 abbrev pub hold : World → ℕ → View → ℕ → Play
 hold w k v d =
@@ -232,19 +170,11 @@ put_in w k v d p (Filled q) = None
 put_in w k v d p (Seized q) = None
 put_in w k v d p TakenOut = None
 
--- the headers once the packet is given away: without its own elements, and what is held no more
-abbrev pub headers_left : View → Packet → List ℕ
-headers_left v p =
-    still_held (minus v.headers (own_of_packet p)) (minus v.holds (holds_of_packet p))
-
 abbrev pub open_with : World → ℕ → View → ℕ → Packet → Play
 open_with w k v d p = record {
   outcome = Done;
   after =
-      works w k (record v {
-        holds = minus v.holds (holds_of_packet p);
-        headers = headers_left v p;
-      }) d
+      works w k (opened v p) d
       (record { word = desk_full; slot = (desk_at w.desks d).slot }) None;
   event = Some (Offer (suc k) d (holds_of_packet p));
 }
@@ -259,10 +189,7 @@ abbrev pub seize_with : World → ℕ → View → ℕ → Packet → Play
 seize_with w k v d p = record {
   outcome = Won;
   after =
-      works w k (record v {
-        holds = v.holds ++ holds_of_packet p;
-        headers = v.headers ++ own_of_packet p;
-      }) d
+      works w k (seized v p) d
       (record { word = 3; slot = (desk_at w.desks d).slot }) (at_desk d (Seized p));
   event = Some (Take (suc k) d (holds_of_packet p));
 }
