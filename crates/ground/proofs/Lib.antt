@@ -1,0 +1,5 @@
+pub mod Rules
+pub mod Owning
+pub mod Playing
+pub mod Alone
+pub mod Stepping

@@ -1,0 +1,196 @@
+-- A step of the machine by one seat, on one word, keeps the rule and tells the seat.
+use Rattle.std.proofs.Common.{◌≡◌, ◌≢◌, ℕ, zero, suc, ◌+◌, ◌-◌, ◌*◌, ◌/◌, ◌%◌, ◌<◌, true, List, [], ◌∷◌, ◌++◌, Some, None, length, set, refl, sym, ap, ◌∙◌, subst, ⊎_elim, arith, get_or-set_same}
+use Rattle.std.specs.Prelude.{slice_index, option_map, if◌then◌else◌}
+use Rattle.std.proofs.lemmas.Bool.{lt-ltb}
+use Rattle.std.proofs.lemmas.List.{length-set, get_or_append_left, get_or-append_right, set-append_left, set-append_right}
+use mathlib.Core.Option.{some, some-ne-none, some-injective}
+use lib.ListN.{get_elem?}
+use lib.Seq.{map-set}
+use Rattle.atomic_table.specs.Table.{State, keeps, stepped}
+use Rattle.atomic_table.proofs.Lists.{at_set, at_map, set_again}
+use Rattle.commons.specs.Bounds.{IsPool}
+use Rattle.commons.specs.declared.limits.Limits.{Limits}
+use Rattle.step_core.specs.declared.view.Head.{Head}
+use Rattle.step_core.specs.declared.view.View.{View}
+use Rattle.step_core.specs.declared.step.Step.{Step}
+use Rattle.step_core.specs.declared.step.Outcome.{Outcome}
+use Rattle.step_core.specs.World.{World, empty_view, view_at, view_of}
+use Rattle.step_core.specs.Law.{Lawful}
+use Rattle.step_core.specs.Headers.{HeaderLaw, OpensOwn}
+use Rattle.step_core.specs.Sights.{view_after}
+use Rattle.step_core.specs.Steps.{Play, in_range, row, turn, played, play}
+use Rattle.step_core.proofs.Theorem.{keeps_law, changes_little, same_population}
+use Rattle.step_core.proofs.HeaderWalks.{keeps_headers}
+use Rattle.ground.specs.declared.known.Known.{Known}
+use Rattle.ground.specs.Layout.{pack, unpack, lines, words_of}
+use Rattle.ground.specs.Own.{Owned}
+use Rattle.ground.specs.Rule.{Slot, Sat, Ruled, view_in}
+use Rattle.ground.specs.Tells.{noted, Tells}
+use Rattle.ground.proofs.Rules.{lawful_of, stack_of, counts_of, desks_of}
+use Rattle.ground.proofs.Owning.{owned_of}
+
+abbrev pub St : Type 0
+St = State Slot Known
+
+-- a view that a list has at an index
+pub view_there : (views : List View) (i : ℕ) (v : View) → get_elem? views i ≡ some v →
+    (i < length views) × (view_at views i ≡ v)
+view_there [] i v e = absurd (some-ne-none v (sym e))
+view_there (x ∷ xs) zero v e = (omega arith, some-injective x v e)
+view_there (x ∷ xs) (suc i) v e =
+    let m = view_there xs i v e in
+    let h : i < length xs = m.0 in
+    (omega arith, m.1)
+
+-- each seat with a part knows the limits, also once one of them knows something else
+pub told_again : (l : Limits) (views : List Known) (id : ℕ) (u : Known) →
+    ((j : ℕ) (n : Known) → get_elem? views j ≡ some n → 0 < n.view.part → n.limits ≡ l) →
+    u.limits ≡ l → (j : ℕ) (n : Known) → get_elem? (set views id u) j ≡ some n →
+    0 < n.view.part → n.limits ≡ l
+told_again l views id u others mine j n e =
+    ⊎_elim (λ (x : (j ≡ id) × (u ≡ n)). λ _. ap (λ (m : Known). m.limits) (sym x.1) ∙ mine)
+    (λ (x : (j ≢ id) × (get_elem? views j ≡ some n)). others j n x.1) (at_set views id j u n e)
+
+-- a head is what its word unpacks to
+pub unpack_pack : (h : Head) → h.top < 65536 → unpack (pack h) ≡ h
+unpack_pack h small =
+    let a : (h.count * 65536 + h.top) % 65536 ≡ h.top = omega arith in
+    let b : (h.count * 65536 + h.top) / 65536 ≡ h.count = omega arith in
+    λ i. record { top = a i; count = b i }
+
+-- a step that its row plays is played
+pub row_played : (w : World) (k : ℕ) (v : View) (st : Step) (p : Play) → k < length w.views →
+    view_at w.views k ≡ v → in_range w st ≡ true → row w k v st ≡ Some p →
+    play w (suc k) st ≡ Some (p.outcome, p.after)
+row_played w k v st p here is inside e = ap (option_map (λ (q : Play). (q.outcome, q.after))) all
+  where
+    all : played w (suc k) st ≡ Some p
+    all =
+        ap (λ b. if b then turn w k st else None) (lt-ltb k (length w.views) here)
+        ∙ (ap (λ b. if b then row w k (view_at w.views k) st else None) inside
+        ∙ (ap (λ (u : View). row w k u st) is ∙ e))
+
+module _ (l : Limits) (s : St) (r : Ruled l s) (id : ℕ) (me : Sat) (at : get_elem? s.views id ≡ some me.0) (busy : 0 < me.0.view.part) where
+  pub law : Lawful r.world
+  law = lawful_of r.world r.stack r.counts r.desks
+
+  found_view : get_elem? r.world.views id ≡ some me.0.view
+  found_view =
+      subst (λ (vs : List View). get_elem? vs id ≡ some me.0.view) r.views_are
+      (at_map view_in s.views id me.0 at)
+
+  pub here : id < length r.world.views
+  here = (view_there r.world.views id me.0.view found_view).0
+
+  pub is : view_at r.world.views id ≡ me.0.view
+  is = (view_there r.world.views id me.0.view found_view).1
+
+  pub busy_here : 0 < (view_of r.world.views (suc id)).part
+  busy_here = subst (λ (v : View). 0 < v.part) (sym is) busy
+
+  pub my_limits : me.0.limits ≡ l
+  my_limits = r.told id me.0 at busy
+
+  pub same_views : set r.world.views id me.0.view ≡ r.world.views
+  same_views = set_again r.world.views id me.0.view found_view
+
+  -- what the rule says of the seat's view by itself
+  pub owned : Owned me.0.limits me.0.view
+  owned =
+      subst (λ (k : Limits). Owned k me.0.view) (r.limits ∙ sym my_limits)
+      (owned_of r.world law r.counts.headers id me.0.view is busy
+      (subst IsPool (sym r.limits) r.pool))
+
+  -- the world after a step of this seat, and the seat's view there
+  pub law_after : (st : Step) (o : Outcome) (u : World) → play r.world (suc id) st ≡ Some (o, u) →
+      Lawful u
+  law_after st o u e = keeps_law r.world (suc id) st o u law busy_here e
+
+  pub limits_after : (st : Step) (o : Outcome) (u : World) →
+      play r.world (suc id) st ≡ Some (o, u) → u.limits ≡ l
+  limits_after st o u e =
+      same_population r.world u (suc id) (changes_little r.world (suc id) st o u e) ∙ r.limits
+
+  pub view_there_after : (u : World) (v : View) → u.views ≡ set r.world.views id v →
+      (id < length u.views) × (view_at u.views id ≡ v)
+  view_there_after u v views =
+      let size : length u.views ≡ length r.world.views =
+      ap (λ (vs : List View). length vs) views ∙ length-set r.world.views id v in
+      let inside = here in (
+        omega arith,
+        ap (λ (vs : List View). view_at vs id) views
+            ∙ get_or-set_same r.world.views id v (empty_view 0) here,
+      )
+
+  -- what a step of this seat on one word owes, and gives
+  pub steps : (i x : ℕ) (st : Step) (o : Outcome) (u : World) →
+      OpensOwn (view_at r.world.views id) st → play r.world (suc id) st ≡ Some (o, u) →
+      set (words_of r.world) i x ≡ words_of u →
+      u.views ≡ set r.world.views id (view_after None st o me.0.view) → u.desks ≡ [] →
+      (view_after None st o me.0.view).part ≡ me.0.view.part
+      → Ruled l (stepped s i x id me.1 (noted st o me).0 keeps) × Tells st o me (noted st o me)
+  steps i x st o u own e words views desks part =
+      let v = view_after None st o me.0.view in
+      let kept : Lawful u = law_after st o u e in
+      let headers : HeaderLaw u =
+      keeps_headers r.world (suc id) st o u law r.counts.headers busy_here own e in
+      let limits : u.limits ≡ l = limits_after st o u e in
+      let there = view_there_after u v views in
+      let pool = subst IsPool (sym limits) r.pool in (
+        record {
+          world = u;
+          words_are = ap (λ (ws : List ℕ). set ws i x) r.words_are ∙ words;
+          views_are =
+              map-set view_in s.views id (noted st o me).0
+              ∙ (ap (λ (vs : List View). set vs id v) r.views_are ∙ sym views);
+          limits = limits;
+          pool = r.pool;
+          stack = stack_of u kept;
+          counts = counts_of u kept headers;
+          desks = desks_of u kept desks;
+          told = told_again l s.views id (noted st o me).0 r.told my_limits;
+        },
+        (
+          refl,
+          subst (λ (k : Limits). Owned k v) (limits ∙ sym my_limits)
+              (owned_of u kept headers id v there.1 (subst (λ n. 0 < n) (sym part) busy) pool),
+        ),
+      )
+
+  -- the words as they are read
+  pub read_at : (i : ℕ) → slice_index s.words i ≡ slice_index (words_of r.world) i
+  read_at i = ap (λ (ws : List ℕ). slice_index ws i) r.words_are
+
+  pub read_length : slice_index s.words 8 ≡ r.world.length
+  read_length = read_at 8
+
+  pub read_head : slice_index s.words 0 ≡ pack r.world.head
+  read_head = read_at 0
+
+  pub head_is : unpack (slice_index s.words 0) ≡ r.world.head
+  head_is =
+      let top = r.stack.top in
+      let small = r.pool.population in
+      let pop = ap (λ (k : Limits). k.population) r.limits in
+      ap unpack read_head ∙ unpack_pack r.world.head (omega arith)
+
+  -- a link stands 16 words on
+  pub link_at : (i : ℕ) → i < length r.world.links →
+      slice_index (words_of r.world) (16 + i) ≡ slice_index r.world.links i
+  link_at i inside =
+      let behind : 16 + i - 16 ≡ i = omega arith in
+      get_or-append_right (lines (pack r.world.head) r.world.length)
+      (r.world.links ++ r.world.counts) 16 (16 + i) 0 refl (omega arith)
+      ∙ (ap (λ (j : ℕ). slice_index (r.world.links ++ r.world.counts) j) behind
+      ∙ get_or_append_left r.world.links r.world.counts 0 i inside)
+
+  pub link_set : (i x : ℕ) → i < length r.world.links →
+      set (words_of r.world) (16 + i) x
+      ≡ lines (pack r.world.head) r.world.length ++ (set r.world.links i x ++ r.world.counts)
+  link_set i x inside =
+      let behind : 16 + i - 16 ≡ i = omega arith in
+      set-append_right (lines (pack r.world.head) r.world.length)
+      (r.world.links ++ r.world.counts) 16 (16 + i) x refl (omega arith)
+      ∙ ap (λ (ys : List ℕ). lines (pack r.world.head) r.world.length ++ ys)
+      (ap (λ (j : ℕ). set (r.world.links ++ r.world.counts) j x) behind
+      ∙ set-append_left r.world.links r.world.counts i x inside)

@@ -1,0 +1,17 @@
+use Rattle.std.proofs.Common.{sym, subst, rules}
+use Rattle.step_core.specs.Sights.{MayPush}
+use Rattle.ground.specs.Seats.{Seated}
+use Rattle.ground.proofs.Stepping.{pushes}
+use Rattle.ground.proofs.pool.Ground.push.Goals as goal
+
+-- the exchange keeps the rule
+pub compare_exchange-found-requires : goal.compare_exchange-found-requires
+compare_exchange-found-requires c =
+    let may =
+    subst (λ (z : Seated). MayPush z.known.view c.args.head c.args.first) (sym c.seat.view_is)
+    c.requires.look in (
+      search rules,
+      search rules,
+      pushes _ _ _ _ c.args.head c.args.first _ _ c.word_of-old.ensures c.word_of-new.ensures may
+          c.seat.invariant.busy,
+    )

@@ -1,0 +1,31 @@
+-- What is true of a worker's view by itself, so that no step of another worker can end it.
+use Rattle.std.specs.Prelude.{◌≡◌, ℕ, ◌+◌, ◌<◌, ◌≤◌, [], None, IfSome}
+use Rattle.commons.specs.Bag.{bag}
+use Rattle.commons.specs.Bounds.{IsPool}
+use Rattle.commons.specs.declared.limits.Limits.{Limits}
+use Rattle.step_core.specs.declared.view.View.{View}
+use Rattle.step_core.specs.Links.{first_value}
+
+pub record Owned (l : Limits) (v : View) : Type 0 where
+  pub pool : IsPool l
+  pub busy : 0 < v.part
+  -- an element of the pool is in the hand, or of count 0 for the moment, at most once, and no other element is
+  pub hand_once : (i : ℕ) → bag v.hand i + bag v.zeros i ≤ 1
+  pub hand_below : (i : ℕ) → l.population ≤ i → bag v.hand i + bag v.zeros i ≡ 0
+  -- an element that is held is one of the pool's, and isn't in the hand
+  pub held_below : (i : ℕ) → l.population ≤ i → bag v.holds i ≡ 0
+  pub apart : (i : ℕ) → 0 < bag v.holds i → bag v.hand i + bag v.zeros i ≡ 0
+  -- a header is one once, and is held
+  pub header_once : (i : ℕ) → bag v.headers i ≤ 1
+  pub header_held : (i : ℕ) → 0 < bag v.headers i → 0 < bag v.holds i
+  -- link values are within the population
+  pub look : IfSome v.look (λ k. (k.next ≤ l.population) × (k.head.top ≤ l.population))
+  pub chain :
+      IfSome v.chain (λ c. (c.end ≤ l.population) × (first_value c.items ≤ l.population))
+
+-- between calls: nothing is reserved, nothing chained, no element has count 0, and no desk is in work
+pub record AtRest (v : View) : Type 0 where
+  pub zeros : v.zeros ≡ []
+  pub credit : v.credit ≡ 0
+  pub chain : v.chain ≡ None
+  pub work : v.work ≡ None

@@ -1,0 +1,85 @@
+-- A ground and a seat as contracts see them, and what a step makes of what a seat knows.
+use Rattle.std.specs.Prelude.{◌≡◌, ℕ, zero, suc, min, ◌+◌, ◌≤◌, List, [], ◌∷◌, ◌++◌, length, Option, Some, None, IfSome, Result, Ok, Err}
+use Rattle.atomic_table.specs.Seated.{TableId}
+use Rattle.commons.specs.Bag.{bag}
+use Rattle.commons.specs.declared.limits.Limits.{Limits}
+use Rattle.commons.specs.declared.packet.Seg.{Seg}
+use Rattle.step_core.specs.declared.view.Head.{Head}
+use Rattle.step_core.specs.declared.view.Look.{Look}
+use Rattle.step_core.specs.declared.view.View.{View}
+use Rattle.step_core.specs.declared.step.Step.{Step}
+use Rattle.step_core.specs.declared.step.Outcome.{Outcome}
+use Rattle.step_core.specs.declared.step.Outcome.TheVariants.{Won, Got, Lost, LostTo}
+use Rattle.step_core.specs.Sights.{view_after}
+use Rattle.ground.specs.declared.known.Known.{Known}
+
+-- a seat: its table and number, what it knows, and the slots that are out with it
+pub record Seated : Type 0 where
+  pub table : TableId
+  pub id : ℕ
+  pub known : Known
+  pub slots : List (ℕ × Option (List Seg))
+
+pub record Grounded : Type 0 where
+  pub table : TableId
+  pub limits : Limits
+
+-- the seat is one of this ground
+pub record IsOf (g : Grounded) (s : Seated) : Type 0 where
+  pub table : s.table ≡ g.table
+  pub limits : s.known.limits ≡ g.limits
+
+-- a step with its outcome
+abbrev pub Note : Type 0
+Note = Step × Outcome
+
+-- the seat with this view, and with these steps taken besides
+abbrev pub after : Seated → List Note → View → Seated
+after s notes v = record s {
+  known = record s.known { view = v; steps = s.known.steps ++ notes };
+}
+
+-- the seat took this step, with this outcome, and its view is as the step leaves it
+abbrev pub Steps : Step → Outcome → Seated → Seated → Type 0
+Steps st o s t = t ≡ after s ((st, o) ∷ []) (view_after None st o s.known.view)
+
+-- the outcome of an exchange by its answer: of a count or the length, of a cut with this front, of a push
+abbrev pub outcome_of : Result (Unit {0}) ℕ → Outcome
+outcome_of (Ok _) = Won
+outcome_of (Err found) = Lost found
+
+abbrev pub cut_outcome : Result (Unit {0}) Head → List ℕ → Outcome
+cut_outcome (Ok _) front = Got front
+cut_outcome (Err found) front = LostTo found
+
+abbrev pub push_outcome : Result (Unit {0}) Head → Outcome
+push_outcome (Ok _) = Won
+push_outcome (Err found) = LostTo found
+
+abbrev pub front_of : Option Look → List ℕ
+front_of None = []
+front_of (Some l) = l.front
+
+abbrev pub count_of : Option Look → ℕ
+count_of None = 0
+count_of (Some l) = l.head.count
+
+-- the element that a link value names
+abbrev pub element_of : ℕ → Option ℕ
+element_of zero = None
+element_of (suc i) = Some i
+
+-- how many of the first n are in the bag
+abbrev pub held_below : ℕ → List ℕ → ℕ
+held_below zero xs = 0
+held_below (suc n) xs = held_below n xs + min 1 (bag xs n)
+
+-- A seat of every part knows the length word: it is the population without the hand, the held elements and the credit.
+abbrev pub KnowsLength : Limits → View → ℕ → Type 0
+KnowsLength l v found =
+    v.part ≡ l.workers →
+    found + v.credit + length v.hand + length v.zeros + held_below l.population v.holds ≡ l.population
+
+-- and that a walk to the end of the list has passed all that is reserved
+abbrev pub KnowsEnd : Limits → View → Type 0
+KnowsEnd l v = v.part ≡ l.workers → IfSome v.look (λ k. k.next ≡ 0 → v.credit ≤ length k.front)

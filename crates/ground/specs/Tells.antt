@@ -1,0 +1,92 @@
+-- What each step tells its seat.
+use Rattle.std.specs.Prelude.{◌≡◌, ◌≢◌, ℕ, ◌-◌, ◌%◌, ◌<◌, ◌≤◌, ◌==◌, Bool, true, false, List, [], ◌∷◌, ◌++◌, None}
+use Rattle.atomic_table.specs.Table as table
+use Rattle.step_core.specs.declared.step.Step.{Step}
+use Rattle.step_core.specs.declared.step.Step.TheVariants.{LoadLength, Reserve, Add, LoadHead, LoadLink, Cut, StoreLink, Push}
+use Rattle.step_core.specs.declared.step.Outcome.{Outcome}
+use Rattle.step_core.specs.declared.step.Outcome.TheVariants.{Value, HeadIs, Won, Got, Lost, LostTo, Done}
+use Rattle.step_core.specs.Sights.{view_after}
+use Rattle.ground.specs.declared.known.Known.{Known}
+use Rattle.ground.specs.Layout.{unpack}
+use Rattle.ground.specs.Own.{Owned}
+use Rattle.ground.specs.Rule.{Slot, Sat}
+use Rattle.ground.specs.Seats.{KnowsLength, KnowsEnd, front_of, count_of, element_of}
+
+-- the seat after a step, with its slots as they were
+abbrev pub noted : Step → Outcome → Sat → Sat
+noted st o m = (
+  record {
+    view = view_after None st o m.0.view;
+    steps = m.0.steps ++ (st, o) ∷ [];
+    limits = m.0.limits;
+  },
+  m.1,
+)
+
+-- a step tells what it made of the seat, and what is true of the new view by itself
+abbrev pub Tells : Step → Outcome → Sat → Sat → Type 0
+Tells st o m m' = (m' ≡ noted st o m) × Owned m.0.limits (view_after None st o m.0.view)
+
+-- the outcome of an exchange by whether it found what it expected
+abbrev pub exchanged : Bool → ℕ → Outcome
+exchanged true found = Won
+exchanged false found = Lost found
+
+abbrev pub cut_found : Bool → List ℕ → ℕ → Outcome
+cut_found true front found = Got front
+cut_found false front found = LostTo (unpack found)
+
+abbrev pub push_found : Bool → ℕ → Outcome
+push_found true found = Won
+push_found false found = LostTo (unpack found)
+
+-- an exchange of the head that lost found a head, and a later one than was looked at
+abbrev pub IsLater : Bool → Known → ℕ → Type 0
+IsLater true n found = Unit {0}
+IsLater false n found = (found % 65536 < 65535) × (count_of n.view.look < (unpack found).count)
+
+-- and the seat hasn't every part
+abbrev pub IsShared : Bool → Known → Type 0
+IsShared true n = Unit {0}
+IsShared false n = n.view.part ≢ n.limits.workers
+
+abbrev pub loaded_length : table.Step Slot → Sat → ℕ → Sat → Type 0
+loaded_length st m found m' =
+    Tells LoadLength (Value found) m m' × (found ≤ m.0.limits.population)
+    × KnowsLength m.0.limits m.0.view found
+
+abbrev pub reserved : table.Step Slot → Sat → ℕ → Sat → Type 0
+reserved st m found m' =
+    Tells (Reserve st.first (st.first - st.second)) (exchanged (found == st.first) found) m m'
+    × KnowsLength m.0.limits m.0.view found
+
+abbrev pub added : table.Step Slot → Sat → ℕ → Sat → Type 0
+added st m found m' = Tells (Add st.first) Done m m'
+
+abbrev pub loaded_head : table.Step Slot → Sat → ℕ → Sat → Type 0
+loaded_head st m found m' =
+    Tells LoadHead (HeadIs (unpack found)) m m' × (found % 65536 ≤ m.0.limits.population)
+    × (m.0.view.seen ≤ (unpack found).count)
+    × KnowsEnd m.0.limits (view_after None LoadHead (HeadIs (unpack found)) m.0.view)
+
+abbrev pub loaded_link : table.Step Slot → Sat → ℕ → Sat → Type 0
+loaded_link st m found m' =
+    Tells (LoadLink (st.word - 16)) (Value found) m m' × (found ≤ m.0.limits.population)
+    × KnowsEnd m.0.limits (view_after None (LoadLink (st.word - 16)) (Value found) m.0.view)
+
+abbrev pub cut_tells : table.Step Slot → Sat → ℕ → Sat → Type 0
+cut_tells st m found m' =
+    Tells Cut (cut_found (found == st.first) (front_of m.0.view.look) found) m m'
+    × IsLater (found == st.first) m.0 found × IsShared (found == st.first) m.0
+
+abbrev pub stored_link : table.Step Slot → Sat → ℕ → Sat → Type 0
+stored_link st m found m' = Tells (StoreLink (st.word - 16) (element_of st.first)) Done m m'
+
+abbrev pub push_tells : table.Step Slot → Sat → ℕ → Sat → Type 0
+push_tells st m found m' =
+    Tells Push (push_found (found == st.first) found) m m'
+    × IsLater (found == st.first) m.0 found × IsShared (found == st.first) m.0
+
+-- a load that only looks tells what the seat's view is by itself
+abbrev pub looked : table.Step Slot → Sat → ℕ → Sat → Type 0
+looked st m found m' = (m' ≡ m) × Owned m.0.limits m.0.view

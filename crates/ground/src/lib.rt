@@ -1,0 +1,11 @@
+//! The words of a running pool on one atomic table, a seat for each worker, and the steps of the machine as calls: each
+//! one atomic operation on one word, by one seat.
+#![tactic(auto)]
+
+mod head;
+pub mod known;
+mod plays;
+pub mod pool;
+pub mod rule;
+pub mod seat;
+mod stack;

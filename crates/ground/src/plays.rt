@@ -1,0 +1,69 @@
+//! What each step tells its seat, and how seats part and join.
+
+use crate::known::Known;
+use atomic_table::{Join, Play, Split};
+use commons::packet::Packet;
+
+pub(crate) struct LoadsLength;
+
+impl Play<Option<Packet>, Known> for LoadsLength {
+    ghost use Rattle.ground.specs.Tells.{loaded_length};
+
+    ghost then = { loaded_length };
+}
+
+pub(crate) struct Reserves;
+
+impl Play<Option<Packet>, Known> for Reserves {
+    ghost use Rattle.ground.specs.Tells.{reserved};
+
+    ghost then = { reserved };
+}
+
+pub(crate) struct Adds;
+
+impl Play<Option<Packet>, Known> for Adds {
+    ghost use Rattle.ground.specs.Tells.{added};
+
+    ghost then = { added };
+}
+
+pub(crate) struct LoadsHead;
+
+impl Play<Option<Packet>, Known> for LoadsHead {
+    ghost use Rattle.ground.specs.Tells.{loaded_head};
+
+    ghost then = { loaded_head };
+}
+
+pub(crate) struct LoadsLink;
+
+impl Play<Option<Packet>, Known> for LoadsLink {
+    ghost use Rattle.ground.specs.Tells.{loaded_link};
+
+    ghost then = { loaded_link };
+}
+
+pub(crate) struct Cuts;
+
+impl Play<Option<Packet>, Known> for Cuts {
+    ghost use Rattle.ground.specs.Tells.{cut_tells};
+
+    ghost then = { cut_tells };
+}
+
+pub(crate) struct StoresLink;
+
+impl Play<Option<Packet>, Known> for StoresLink {
+    ghost use Rattle.ground.specs.Tells.{stored_link};
+
+    ghost then = { stored_link };
+}
+
+pub(crate) struct Pushes;
+
+impl Play<Option<Packet>, Known> for Pushes {
+    ghost use Rattle.ground.specs.Tells.{push_tells};
+
+    ghost then = { push_tells };
+}

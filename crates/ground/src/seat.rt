@@ -1,0 +1,40 @@
+//! A worker's seat.
+
+use crate::known::Known;
+use atomic_table::Seat;
+use commons::packet::Packet;
+use std::marker::Model;
+
+/// A worker's seat at the table of a pool: what the worker knows, of no bytes at run time. It can't be dropped, since
+/// what it names would be lost unseen: it ends by `Ground::join`, by `Ground::close` or by `lose`.
+pub struct GroundSeat {
+    pub(crate) seat: Seat<Option<Packet>, Known>,
+}
+
+impl Model for GroundSeat {
+    ghost use Rattle.ground.specs.Seats.{Seated};
+    ghost use Rattle.ground.specs.Own.{Owned};
+
+    ghost Value = { Seated };
+
+    ghost view = { λ s. record { table = s.seat.table_id; id = s.seat.id; known = s.seat.me.0; slots = s.seat.me.1 } };
+
+    ghost invariant = { λ s. Owned s.seat.me.0.limits s.seat.me.0.view };
+}
+
+impl GroundSeat {
+    ghost use Rattle.ground.specs.Own.{Owned};
+
+    /// What the type of a seat keeps, for contracts alone: what is true of its view by itself.
+    pub fn owned(&self)
+        ensures { Owned self.now.known.limits self.now.known.view }
+    {
+        let _ = &self.seat;
+    }
+
+    /// Ends the seat of a worker that has died, and gives nothing back: what it has stays where it is.
+    pub fn lose(self) {
+        let GroundSeat { seat } = self;
+        drop(seat);
+    }
+}

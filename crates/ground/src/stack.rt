@@ -1,0 +1,162 @@
+//! The eight steps of the stack. Each is one atomic operation on one word, by one seat, whose view changes as the
+//! machine's step says, whatever the other seats do.
+
+ghost use Rattle.std.specs.Prelude.{◌≡◌, ◌≢◌, ◌<◌, ◌≤◌, true, IfErr};
+ghost use Rattle.commons.specs.Bag.{bag};
+ghost use Rattle.commons.specs.Calls.{spent};
+ghost use Rattle.step_core.specs.declared.step.Step.TheVariants.{LoadLength, Reserve, Add, LoadHead, LoadLink, Cut, StoreLink, Push};
+ghost use Rattle.step_core.specs.declared.step.Outcome.TheVariants.{Value, HeadIs, Done};
+ghost use Rattle.step_core.specs.Sights.{walks_to, MayCut, MayPush};
+ghost use Rattle.ground.specs.Seats.{IsOf, Steps, outcome_of, cut_outcome, push_outcome, front_of, element_of, KnowsLength, KnowsEnd};
+
+use crate::head::{head_of, word_of};
+use crate::plays::{Adds, Cuts, LoadsHead, LoadsLength, LoadsLink, Pushes, Reserves, StoresLink};
+use crate::pool::Ground;
+use crate::seat::GroundSeat;
+use step_core::view::Head;
+
+/// Where the words stand: the head and the length each on a cache line of 64 bytes, then the links.
+const HEAD: usize = 0;
+
+const LENGTH: usize = 8;
+
+const LINKS: usize = 16;
+
+impl Ground {
+    /// Reads the length word: how many elements of the common list nobody has reserved. A seat of every part learns
+    /// just how many those are (rte_stack_lf.h, __rte_stack_lf_count).
+    pub fn load_length(&self, seat: &mut GroundSeat) -> u64
+        requires of { IsOf self.now seat.old }
+        ensures step { Steps LoadLength (Value result) seat.old seat.new }
+        ensures few { result ≤ self.now.limits.population }
+        ensures known { KnowsLength seat.old.known.limits seat.old.known.view result }
+    {
+        self.table
+            .shared
+            .load::<LoadsLength>(&mut seat.seat, LENGTH)
+    }
+
+    /// Reserves `n` elements of the common list: lowers the length word by `n`, where it is `old`. Else answers what
+    /// it is, and nothing has changed (rte_stack_lf_generic.h, __rte_stack_lf_pop_elems).
+    pub fn reserve(&self, seat: &mut GroundSeat, old: u64, n: u64) -> Result<(), u64>
+        requires of { IsOf self.now seat.old }
+        requires some { 1 ≤ n }
+        requires enough { n ≤ old }
+        ensures step { Steps (Reserve old n) (outcome_of result) seat.old seat.new }
+        ensures lost { IfErr result (λ found. found ≢ old) }
+        ensures known { IfErr result (λ found. KnowsLength seat.old.known.limits seat.old.known.view found) }
+    {
+        let found = self
+            .table
+            .shared
+            .compare_exchange::<Reserves>(&mut seat.seat, LENGTH, old, old - n);
+        if found == old { Ok(()) } else { Err(found) }
+    }
+
+    /// Raises the length word by `n` of the seat's credit: gives back what was reserved, or was pushed.
+    pub fn add(&self, seat: &mut GroundSeat, n: u64)
+        requires of { IsOf self.now seat.old }
+        requires some { 1 ≤ n }
+        requires credit { n ≤ seat.old.known.view.credit }
+        ensures step { Steps (Add n) Done seat.old seat.new }
+    {
+        self.table
+            .shared
+            .fetch_add::<Adds>(&mut seat.seat, LENGTH, n);
+    }
+
+    /// Reads the head. Its count is never below one that the seat has seen.
+    pub fn load_head(&self, seat: &mut GroundSeat) -> Head
+        requires of { IsOf self.now seat.old }
+        ensures step { Steps LoadHead (HeadIs result) seat.old seat.new }
+        ensures seen { seat.old.known.view.seen ≤ result.count }
+        ensures count { result.count ≤ spent }
+        ensures top { result.top ≤ self.now.limits.population }
+        ensures known { KnowsEnd seat.new.known.limits seat.new.known.view }
+    {
+        head_of(self.table.shared.load::<LoadsHead>(&mut seat.seat, HEAD))
+    }
+
+    /// Reads the link of the element to which the seat's walk goes on: 0 for the end of the list, and else the next
+    /// element + 1. Where another seat has changed the stack since the head was read, the link may lead anywhere; the
+    /// cut then loses.
+    pub fn load_link(&self, seat: &mut GroundSeat, element: u32) -> u32
+        requires of { IsOf self.now seat.old }
+        requires next { walks_to seat.old.known.view.look element ≡ true }
+        ensures step { Steps (LoadLink element) (Value result) seat.old seat.new }
+        ensures link { result ≤ self.now.limits.population }
+        ensures known { KnowsEnd seat.new.known.limits seat.new.known.view }
+    {
+        seat.owned();
+        self.table
+            .shared
+            .load::<LoadsLink>(&mut seat.seat, LINKS + element as usize) as u32
+    }
+
+    /// Takes the elements that the seat has walked and reserved: swings the head from the one that was read to what
+    /// follows the walk. Else answers what the head is, which has changed since: its count is greater. A seat of every
+    /// part never loses.
+    pub fn cut(&self, seat: &mut GroundSeat, head: Head, next: u32) -> Result<(), Head>
+        requires of { IsOf self.now seat.old }
+        requires look { MayCut seat.old.known.view head next }
+        ensures step { Steps Cut (cut_outcome result (front_of seat.old.known.view.look)) seat.old seat.new }
+        ensures later { IfErr result (λ found. head.count < found.count) }
+        ensures alone { seat.old.known.view.part ≡ self.now.limits.workers → IfErr result (λ _. ⊥) }
+    {
+        seat.owned();
+        let old = word_of(head);
+        let new = word_of(Head {
+            top: next,
+            count: head.count + 1,
+        });
+        let found = self
+            .table
+            .shared
+            .compare_exchange::<Cuts>(&mut seat.seat, HEAD, old, new);
+        if found == old {
+            Ok(())
+        } else {
+            Err(head_of(found))
+        }
+    }
+
+    /// Writes the link of an element of the seat's hand: 0 for the end of a list, and else the next element + 1.
+    pub fn store_link(&self, seat: &mut GroundSeat, element: u32, link: u32)
+        requires of { IsOf self.now seat.old }
+        requires hand { 0 < bag seat.old.known.view.hand element }
+        requires link { link ≤ self.now.limits.population }
+        ensures step { Steps (StoreLink element (element_of link)) Done seat.old seat.new }
+    {
+        seat.owned();
+        self.table
+            .shared
+            .store::<StoresLink>(&mut seat.seat, LINKS + element as usize, u64::from(link));
+    }
+
+    /// Puts the chain that the seat has linked: swings the head from the one that was read to the chain's first
+    /// element, `first` - 1. Else answers what the head is, which has changed since: its count is greater. A seat of
+    /// every part never loses.
+    pub fn push(&self, seat: &mut GroundSeat, head: Head, first: u32) -> Result<(), Head>
+        requires of { IsOf self.now seat.old }
+        requires look { MayPush seat.old.known.view head first }
+        ensures step { Steps Push (push_outcome result) seat.old seat.new }
+        ensures later { IfErr result (λ found. head.count < found.count) }
+        ensures alone { seat.old.known.view.part ≡ self.now.limits.workers → IfErr result (λ _. ⊥) }
+    {
+        seat.owned();
+        let old = word_of(head);
+        let new = word_of(Head {
+            top: first,
+            count: head.count + 1,
+        });
+        let found = self
+            .table
+            .shared
+            .compare_exchange::<Pushes>(&mut seat.seat, HEAD, old, new);
+        if found == old {
+            Ok(())
+        } else {
+            Err(head_of(found))
+        }
+    }
+}
