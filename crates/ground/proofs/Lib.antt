@@ -3,3 +3,9 @@ pub mod Owning
 pub mod Playing
 pub mod Alone
 pub mod Stepping
+pub mod Reviews
+pub mod Sitting
+pub mod Opens
+pub mod Parts
+pub mod Joining
+pub mod Closes

@@ -6,3 +6,6 @@ pub mod CountRule
 pub mod DeskRule
 pub mod Rule
 pub mod Tells
+pub mod Opening
+pub mod Parting
+pub mod Closing

@@ -4,8 +4,10 @@
 
 mod head;
 pub mod known;
+mod life;
 mod plays;
 pub mod pool;
+mod rows;
 pub mod rule;
 pub mod seat;
 mod stack;

@@ -67,3 +67,29 @@ impl Play<Option<Packet>, Known> for Pushes {
 
     ghost then = { push_tells };
 }
+
+pub(crate) struct Parts;
+
+impl Split<Known> for Parts {
+    ghost use Rattle.ground.specs.Parting.{less_part, newcomer};
+
+    ghost left = { less_part };
+
+    ghost right = { newcomer };
+}
+
+impl Join<Known> for Parts {
+    ghost use Rattle.ground.specs.Parting.{both, spent_seat};
+
+    ghost both = { both };
+
+    ghost spent = { spent_seat };
+}
+
+pub(crate) struct Looks;
+
+impl Play<Option<Packet>, Known> for Looks {
+    ghost use Rattle.ground.specs.Tells.{looked};
+
+    ghost then = { looked };
+}

@@ -16,11 +16,11 @@ use crate::seat::GroundSeat;
 use step_core::view::Head;
 
 /// Where the words stand: the head and the length each on a cache line of 64 bytes, then the links.
-const HEAD: usize = 0;
+pub(crate) const HEAD: usize = 0;
 
-const LENGTH: usize = 8;
+pub(crate) const LENGTH: usize = 8;
 
-const LINKS: usize = 16;
+pub(crate) const LINKS: usize = 16;
 
 impl Ground {
     /// Reads the length word: how many elements of the common list nobody has reserved. A seat of every part learns

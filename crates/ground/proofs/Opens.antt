@@ -1,0 +1,107 @@
+-- The words at the start, and that the rule holds of them.
+use Rattle.std.proofs.Common.{◌≡◌, ℕ, zero, suc, ◌+◌, ◌-◌, ◌<◌, ◌≤◌, List, [], ◌∷◌, ◌++◌, length, replicate, refl, sym, ap, ◌∙◌, arith, append_assoc, length-append}
+use Rattle.std.proofs.lemmas.List.{length-replicate}
+use mathlib.Core.Option.{some-ne-none, some-injective}
+use native.Mathlib.Decide.{dec_lt}
+use Rattle.atomic_table.specs.Table as table
+use Rattle.commons.proofs.Bags.{bag-nil}
+use Rattle.commons.specs.Bounds.{IsPool}
+use Rattle.commons.specs.declared.limits.Limits.{Limits}
+use Rattle.step_core.specs.World.{World, empty_view, no_desk}
+use Rattle.step_core.specs.Opening.{links_up}
+use Rattle.step_core.proofs.OpeningLaw.{length-links_up}
+use Rattle.step_core.proofs.LinksUp.{top_is}
+use Rattle.ground.specs.declared.known.Known.{Known}
+use Rattle.ground.specs.Layout.{pack, words_with, words_of, word_count}
+use Rattle.ground.specs.Opening.{opening_alone, opening_words}
+use Rattle.ground.specs.Own.{Owned}
+use Rattle.ground.specs.Rule.{Ruled, first_known}
+use Rattle.ground.proofs.Reviews.{alone_lawful, alone_headers}
+use Rattle.ground.proofs.Rules.{stack_of, counts_of, desks_of}
+use Rattle.ground.proofs.Sitting.{Told}
+
+-- the first link of at least two elements, and of one
+next_link : (i m : ℕ) → 1 < m → links_up i m ≡ (i + 2) ∷ links_up (i + 1) (m - 1)
+next_link i zero h = absurd (omega arith)
+next_link i (suc zero) h = absurd (omega arith)
+next_link i (suc (suc m)) h =
+    let a : suc (suc i) ≡ i + 2 = omega arith in
+    let b : suc i ≡ i + 1 = omega arith in
+    let c : suc m ≡ suc (suc m) - 1 = omega arith in
+    λ j. a j ∷ links_up (b j) (c j)
+
+last_link : (i m : ℕ) → m ≡ 1 → links_up i m ≡ 0 ∷ []
+last_link i m e = ap (links_up i) e
+
+-- one link more before those that are left
+pub step_link : (ws : List ℕ) (i n x : ℕ) → i < n → (i + 1 < n → x ≡ i + 2) → (n ≤ i + 1 → x ≡ 0) →
+    (ws ++ x ∷ []) ++ links_up (i + 1) (n - (i + 1)) ≡ ws ++ links_up i (n - i)
+step_link ws i n x less next last =
+    append_assoc ws (x ∷ []) (links_up (i + 1) (n - (i + 1)))
+    ∙ ap (λ (l : List ℕ). ws ++ l) (one (dec_lt (i + 1) n))
+  where
+    one : Dec (i + 1 < n) → x ∷ links_up (i + 1) (n - (i + 1)) ≡ links_up i (n - i)
+    one (yes more) =
+        sym (next_link i (n - i) (omega arith)
+        ∙ (λ j. sym (next more) j ∷ links_up (i + 1) (same j)))
+      where
+        same : n - i - 1 ≡ n - (i + 1)
+        same = omega arith
+    one (no none_left) =
+        let done : n ≤ i + 1 = omega arith in
+        let rest : n - (i + 1) ≡ 0 = omega arith in
+        sym (last_link i (n - i) (omega arith)
+        ∙ (λ j. sym (last done) j ∷ links_up (i + 1) (sym rest j)))
+
+words_are : (l : Limits) → IsPool l → opening_words l ≡ words_of (opening_alone l)
+words_are l pool = λ j.
+    words_with
+    (pack (record { top = top_is l.population pool.population_low j; count = l.start_count }))
+    l.population (links_up 0 l.population) (replicate l.population 1)
+
+pub length_words : (l : Limits) → length (opening_words l) ≡ word_count l.population
+length_words l =
+    let a : length (links_up 0 l.population) ≡ l.population = length-links_up 0 l.population in
+    let b : length (replicate {A = ℕ} l.population 1) ≡ l.population =
+    length-replicate l.population 1 in
+    let c : length (links_up 0 l.population ++ replicate l.population 1)
+    ≡ length (links_up 0 l.population) + length (replicate {A = ℕ} l.population 1) =
+    length-append (links_up 0 l.population) (replicate l.population 1) in
+    let d : length (opening_words l)
+    ≡ 16 + length (links_up 0 l.population ++ replicate l.population 1) = omega arith in
+    omega arith
+
+pub owned_none : (l : Limits) (part : ℕ) → IsPool l → 0 < part → Owned l (empty_view part)
+owned_none l part pool busy = record {
+  pool = pool;
+  busy = busy;
+  hand_once = λ i. omega (arith, bag-nil i);
+  hand_below = λ i h. omega (arith, bag-nil i);
+  held_below = λ i h. bag-nil i;
+  apart = λ i h. omega (arith, bag-nil i);
+  header_once = λ i. omega (arith, bag-nil i);
+  header_held = λ i h. h;
+  look = tt;
+  chain = tt;
+}
+
+pub opens : (l : Limits) → IsPool l → l.desks ≡ 0 → (words : List ℕ) → words ≡ opening_words l →
+    Ruled l (table.opening words [] (first_known l))
+opens l pool none words is = record {
+  world = w;
+  words_are = is ∙ words_are l pool;
+  views_are = refl;
+  limits = refl;
+  pool = pool;
+  stack = stack_of w (alone_lawful l pool.refs_low);
+  counts = counts_of w (alone_lawful l pool.refs_low) (alone_headers l);
+  desks = desks_of w (alone_lawful l pool.refs_low) (ap (λ (n : ℕ). replicate n no_desk) none);
+  told = first;
+}
+  where
+    w : World
+    w = opening_alone l
+
+    first : Told l (first_known l ∷ [])
+    first zero n at _ = ap (λ (x : Known). x.limits) (sym (some-injective (first_known l) n at))
+    first (suc id) n at _ = absurd (some-ne-none n (sym at))

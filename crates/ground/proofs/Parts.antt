@@ -1,0 +1,65 @@
+-- What a seat knows is cut in two, and the rule stands.
+use Rattle.std.proofs.Common.{◌≡◌, ℕ, ◌≤◌, List, [], ◌∷◌, ◌++◌, set, sym, ap, ◌∙◌, subst, arith}
+use Rattle.std.proofs.lemmas.List.{map-append}
+use lib.Seq.{map-set}
+use Rattle.atomic_table.specs.Table.{Splits}
+use Rattle.commons.specs.declared.limits.Limits.{Limits}
+use Rattle.step_core.specs.declared.view.View.{View}
+use Rattle.step_core.specs.World.{World, view_at, empty_view}
+use Rattle.step_core.specs.Law.{Lawful}
+use Rattle.step_core.specs.Headers.{HeaderLaw}
+use Rattle.ground.specs.declared.known.Known.{Known}
+use Rattle.ground.specs.Own.{Owned}
+use Rattle.ground.specs.Parting.{less, less_part, newcomer}
+use Rattle.ground.specs.Rule.{Ruled, view_in}
+use Rattle.ground.proofs.Reviews.{split_lawful, split_headers}
+use Rattle.ground.proofs.Rules.{stack_of, counts_of, desks_of}
+use Rattle.ground.proofs.Sitting.{law_of, here, is, told_set, told_push}
+
+pub owned_less : (l : Limits) (v : View) → 2 ≤ v.part → Owned l v → Owned l (less v)
+owned_less l v two o = record {
+  pool = o.pool;
+  busy = omega arith;
+  hand_once = o.hand_once;
+  hand_below = o.hand_below;
+  held_below = o.held_below;
+  apart = o.apart;
+  header_once = o.header_once;
+  header_held = o.header_held;
+  look = o.look;
+  chain = o.chain;
+}
+
+-- the world once this view, at this index, is cut in two
+abbrev split_at : World → ℕ → View → World
+split_at w id v = record w { views = set w.views id (less v) ++ empty_view 1 ∷ [] }
+
+pub splits : (l : Limits) (id : ℕ) (n : Known) → 2 ≤ n.view.part →
+    Splits (Ruled l) id n (less_part n) (newcomer n)
+splits l id n two s r at =
+    let w = r.world in
+    let mine : n.limits ≡ l = r.told id n at (omega arith) in
+    let same = is l s r id n at in
+    let two' : 2 ≤ (view_at w.views id).part = subst (λ (v : View). 2 ≤ v.part) (sym same) two in
+    let law =
+    subst (λ (v : View). Lawful (split_at w id v)) same
+    (split_lawful w id (here l s r id n at) two' (law_of l s r) r.counts.headers) in
+    let headers =
+    subst (λ (v : View). HeaderLaw (split_at w id v)) same
+    (split_headers w id (here l s r id n at) two' (law_of l s r) r.counts.headers) in
+    record {
+      world = split_at w id n.view;
+      words_are = r.words_are;
+      views_are =
+          map-append view_in (set s.views id (less_part n)) (newcomer n ∷ [])
+          ∙ ap (λ (vs : List View). vs ++ empty_view 1 ∷ [])
+          (map-set view_in s.views id (less_part n)
+          ∙ ap (λ (vs : List View). set vs id (less n.view)) r.views_are);
+      limits = r.limits;
+      pool = r.pool;
+      stack = stack_of _ law;
+      counts = counts_of _ law headers;
+      desks = desks_of _ law r.desks.none;
+      told = told_push l (set s.views id (less_part n)) (newcomer n)
+          (told_set l s.views id (less_part n) r.told (λ _. mine)) mine;
+    }

@@ -1,0 +1,28 @@
+use Rattle.std.proofs.Common.{◌≡◌, ◌∙◌, rules, ap, sym, subst, length}
+use Rattle.commons.specs.Bounds.{IsPool}
+use Rattle.ground.specs.Opening.{opening_words}
+use Rattle.ground.specs.Own.{Owned}
+use Rattle.ground.specs.Rule.{Sat}
+use Rattle.ground.proofs.Opens.{opens, length_words, owned_none}
+use Rattle.ground.proofs.pool.Ground.make.Goals as goal
+
+-- the rule holds of the words at the start
+pub of_words-requires : goal.of_words-requires
+of_words-requires c =
+    opens c.args.limits.now (search rules) (search rules) c.as_slice.result.now (search rules)
+
+-- there are so many words
+pub invariant_of-ground : goal.invariant_of-ground
+invariant_of-ground c =
+    let e = c.in-Ok-of_words.ensures in
+    let is : c.as_slice.result.now ≡ opening_words c.args.limits.now = search rules in
+    (e.0 ∙ (ap length is ∙ length_words c.args.limits.now), search rules, search rules)
+
+-- the first seat names nothing
+pub invariant_of-result : goal.invariant_of-result
+invariant_of-result c =
+    let l = c.args.limits.now in
+    let pool : IsPool l = search rules in
+    let e = c.in-Ok-of_words.ensures in
+    subst (λ (m : Sat). Owned m.0.limits m.0.view) (sym e.4)
+    (owned_none l l.workers pool pool.workers_low)

@@ -1,0 +1,152 @@
+//! The life of a ground: it is made with one seat, seats are split and joined, and it is closed with one.
+
+ghost use Rattle.std.specs.Prelude.{◌≡◌, ◌<◌, ◌≤◌, [], IfOk, IfErr};
+ghost use Rattle.commons.specs.Bounds.{IsPool};
+ghost use Rattle.ground.specs.Closing.{LeftOf};
+ghost use Rattle.ground.specs.Opening.{IsGroundCause};
+ghost use Rattle.ground.specs.Own.{Owned, AtRest};
+ghost use Rattle.ground.specs.Parting.{less_part, newcomer, both};
+ghost use Rattle.ground.specs.Rule.{first_known};
+ghost use Rattle.ground.specs.Seats.{IsOf};
+
+use crate::head::head_of;
+use crate::known::Known;
+use crate::plays::{Looks, Parts};
+use crate::pool::Ground;
+use crate::rows::{empty, opening_words, read_row};
+use crate::rule::PoolRule;
+use crate::seat::GroundSeat;
+use crate::stack::{HEAD, LENGTH, LINKS};
+use atomic_table::{Seat, Shared, Table};
+use commons::closed::Closed;
+use commons::limits::Limits;
+use commons::packet::Packet;
+use commons::refusal::Refusal;
+use commons::seq::Seq;
+use std::alloc::Global;
+
+impl Ground {
+    /// Makes the words of a pool, and the one seat, which has every part. All elements are in the common list, element
+    /// 0 on top, and the seat names none of them.
+    ///
+    /// Refused `BadPool` where the limits are out of range or there are desks, of which a ground has none as yet, and
+    /// `OutOfMemory` where memory was refused.
+    pub fn make(alloc: Global, limits: &Limits) -> Result<(Ground, GroundSeat), Refusal>
+        ensures limits { IfOk result (λ made. made.0.limits ≡ limits.now) }
+        ensures of { IfOk result (λ made. IsOf made.0 made.1) }
+        ensures known { IfOk result (λ made. made.1.known ≡ first_known limits.now) }
+        ensures slots { IfOk result (λ made. made.1.slots ≡ []) }
+        ensures pool { IfOk result (λ _. IsPool limits.now × (limits.now.desks ≡ 0)) }
+        ensures cause { IfErr result (IsGroundCause limits.now) }
+    {
+        limits.check()?;
+        if limits.desks > 0 {
+            return Err(Refusal::BadPool);
+        }
+        let Ok(words) = opening_words(alloc, limits) else {
+            return Err(Refusal::OutOfMemory);
+        };
+        let Ok((table, seat)) = Table::of_words(alloc, words.as_slice(), limits) else {
+            return Err(Refusal::OutOfMemory);
+        };
+        let ground = Ground {
+            table,
+            limits: *limits,
+            alloc,
+        };
+        Ok((ground, GroundSeat { seat }))
+    }
+
+    /// Makes one more worker's seat, of one part of those that this seat has. This seat keeps all that it names, and
+    /// the new one names nothing and has taken no step.
+    pub fn split(&self, seat: &mut GroundSeat) -> GroundSeat
+        requires of { IsOf self.now seat.old }
+        requires part { 2 ≤ seat.old.known.view.part }
+        ensures old { seat.new ≡ record seat.old { known = less_part seat.old.known } }
+        ensures of { IsOf self.now result }
+        ensures known { result.known ≡ newcomer seat.old.known }
+        ensures slots { result.slots ≡ [] }
+    {
+        let seat = self.table.shared.split_seat::<Parts>(&mut seat.seat);
+        GroundSeat { seat }
+    }
+
+    /// Makes one seat of two that are between calls: it has the elements, holds, headers and parts of both, the later
+    /// of the two counts that they saw of the head, and its own steps. What it had read of the common list is
+    /// forgotten.
+    pub fn join(&self, seat: &mut GroundSeat, other: GroundSeat)
+        requires of { IsOf self.now seat.old }
+        requires other_of { IsOf self.now other }
+        requires rest { AtRest seat.old.known.view }
+        requires other_rest { AtRest other.known.view }
+        requires slots { other.slots ≡ [] }
+        ensures { seat.new ≡ record seat.old { known = both seat.old.known other.known } }
+    {
+        seat.owned();
+        other.owned();
+        let GroundSeat { seat: other } = other;
+        merge(&self.table.shared, &mut seat.seat, other);
+    }
+
+    /// Ends the pool, and leaves its words as plain data: the top and the length of the common list, and each element's
+    /// link and count. They are those of a lawful world in which this seat's view is a worker's. Where the seat has
+    /// every part, all that isn't in the common list is what this seat names.
+    ///
+    /// Refused `OutOfMemory` where memory was refused. Ground and seat come back then, as they were.
+    pub fn close(self, seat: GroundSeat) -> Result<Closed, (Refusal, Ground, GroundSeat)>
+        requires { IsOf self seat }
+        ensures closed { IfOk result (LeftOf self.limits seat.known.view) }
+        ensures memory { IfErr result (λ refused. refused.0 ≡ Refusal.OutOfMemory) }
+        ensures back { IfErr result (λ refused. (refused.1 ≡ self) × (refused.2 ≡ seat)) }
+    {
+        let population = self.limits.population as usize;
+        let Ok(mut links) = Vec::with_capacity(self.alloc, population) else {
+            return Err((Refusal::OutOfMemory, self, seat));
+        };
+        let Ok(mut counts) = Vec::with_capacity(self.alloc, population) else {
+            return Err((Refusal::OutOfMemory, self, seat));
+        };
+        let Ground {
+            table,
+            limits: _,
+            alloc,
+        } = self;
+        let GroundSeat { seat } = seat;
+        let mut left = table.close_with(seat);
+        let head = head_of(left.word(HEAD));
+        let length = left.word(LENGTH);
+        read_row(&left, LINKS, population, &mut links);
+        read_row(&left, LINKS + population, population, &mut counts);
+        empty(&mut left);
+        left.free();
+        Ok(Closed {
+            top: head.top,
+            length,
+            links: Seq::new(links),
+            counts: Seq::new(counts),
+            desks: Seq::new(Vec::new(alloc)),
+        })
+    }
+}
+
+/// Makes one seat of two, and then reads a word, whatever it is: a view changes at a step alone, and the step tells
+/// what the rule says of the seat that came of both.
+fn merge(
+    shared: &Shared<Option<Packet>, Known, Limits, PoolRule>,
+    seat: &mut Seat<Option<Packet>, Known>,
+    other: Seat<Option<Packet>, Known>,
+)
+    requires of { seat.old.table_id ≡ shared.now.table_id }
+    requires other_of { other.table_id ≡ shared.now.table_id }
+    requires words { 0 < shared.now.table_id.words }
+    requires part { 0 < seat.old.me.0.view.part }
+    requires rest { AtRest seat.old.me.0.view }
+    requires other_rest { AtRest other.me.0.view }
+    requires slots { other.me.1 ≡ [] }
+    ensures same { (seat.new.table_id ≡ seat.old.table_id) × (seat.new.id ≡ seat.old.id) }
+    ensures me { seat.new.me ≡ (both seat.old.me.0 other.me.0, seat.old.me.1) }
+    ensures own { Owned seat.new.me.0.limits seat.new.me.0.view }
+{
+    shared.join_seat::<Parts>(seat, other);
+    shared.load::<Looks>(seat, HEAD);
+}

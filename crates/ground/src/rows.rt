@@ -1,0 +1,96 @@
+//! The words of a ground as a row of numbers.
+
+ghost use Rattle.std.specs.Prelude.{◌≡◌, ℕ, ◌+◌, ◌<◌, ◌≤◌, ◌++◌, IfOk, replicate, [], take, drop, false, slice_index, slice_index_or};
+ghost use Rattle.std.specs.Slots.{IsFull, slots_items, slots_len, slots_filled};
+ghost use Rattle.std.specs.Vec.{vec_len, vec_capacity};
+ghost use Rattle.commons.specs.Bounds.{IsPool};
+ghost use Rattle.step_core.specs.Opening.{links_up};
+ghost use Rattle.ground.specs.Opening.{opening_words};
+
+use crate::head::word_of;
+use atomic_table::Closed as Left;
+use commons::limits::Limits;
+use commons::packet::Packet;
+use std::alloc::{AllocError, Global};
+use step_core::view::Head;
+
+/// The words at the start: the head and the length on a line each, then a link for each element, to the next, and a
+/// count of 1.
+pub(crate) fn opening_words(alloc: Global, limits: &Limits) -> Result<Vec<u64>, AllocError>
+    requires { IsPool limits.now }
+    ensures { IfOk result (λ v. v.items ≡ opening_words limits.now) }
+{
+    let mut words = Vec::with_capacity(alloc, 16 + 2 * limits.population as usize)?;
+    words.push(word_of(Head {
+        top: 1,
+        count: limits.start_count,
+    }))?;
+    push_many(&mut words, 0, 7)?;
+    words.push(limits.population)?;
+    push_many(&mut words, 0, 7)?;
+    push_links(&mut words, limits.population)?;
+    push_many(&mut words, 1, limits.population)?;
+    Ok(words)
+}
+
+/// Pushes the same word so many times.
+fn push_many(words: &mut Vec<u64>, word: u64, count: u64) -> Result<(), AllocError>
+    ensures { IfOk result (λ _. words.new.items ≡ words.old.items ++ replicate count word) }
+{
+    for _ in 0..count {
+        words.push(word)?;
+    }
+    Ok(())
+}
+
+/// Pushes links that lead from element 0 through all.
+fn push_links(words: &mut Vec<u64>, count: u64) -> Result<(), AllocError>
+    requires { count ≤ 65534 }
+    ensures { IfOk result (λ _. words.new.items ≡ words.old.items ++ links_up 0 count) }
+{
+    for i in 0..count {
+        words.push(link_after(i, count))?;
+    }
+    Ok(())
+}
+
+/// The link of an element at the start: to the next, and of the last to the end.
+fn link_after(element: u64, count: u64) -> u64
+    requires few { count ≤ 65534 }
+    requires below { element < count }
+    ensures next { element + 1 < count → result ≡ element + 2 }
+    ensures last { count ≤ element + 1 → result ≡ 0 }
+{
+    if element + 1 < count { element + 2 } else { 0 }
+}
+
+/// Reads the words from one index on into a list that has room for them.
+pub(crate) fn read_row(
+    left: &Left<Option<Packet>, Global>,
+    from: usize,
+    count: usize,
+    out: &mut Vec<u32>,
+)
+    requires full { IsFull left.now.words }
+    requires within { from + count ≤ slots_len left.now.words }
+    requires small { (i : ℕ) → from ≤ i → slice_index (slots_items left.now.words) i < 4294967296 }
+    requires empty { (out.old.items ≡ []) × (vec_len out.old ≡ 0) }
+    requires room { count ≤ vec_capacity out.old }
+    ensures { out.new.items ≡ take count (drop from (slots_items left.now.words)) }
+{
+    for i in 0..count {
+        out.push_reserved(left.word(from + i) as u32);
+    }
+}
+
+/// Takes out what is in the slots.
+pub(crate) fn empty(left: &mut Left<Option<Packet>, Global>)
+    requires { IsFull left.old.slots }
+    ensures words { left.new.words ≡ left.old.words }
+    ensures slots { slots_len left.new.slots ≡ slots_len left.old.slots }
+    ensures empty { (k : ℕ) → k < slots_len left.new.slots → slice_index_or (slots_filled left.new.slots) k false ≡ false }
+{
+    for i in 0..left.slot_count() {
+        drop(left.take(i));
+    }
+}
