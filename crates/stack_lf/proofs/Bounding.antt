@@ -1,0 +1,213 @@
+-- The number of steps of a call.
+use Rattle.std.proofs.Common.{◌≡◌, ℕ, zero, suc, ◌+◌, ◌*◌, ◌<◌, ◌≤◌, ⊎_elim, List, [], ◌∷◌, ◌++◌, length, map, All, refl, sym, ap, ◌∙◌, subst, arith}
+use Rattle.std.specs.Prelude.{Result, Ok, Err}
+use Rattle.std.proofs.lemmas.List.{length-append, length-map}
+use Rattle.std.proofs.Math.Nat.{mul-le-mul_right, suc-mul}
+use Rattle.commons.specs.Calls.{Call, GetList, PutList, CommonCount}
+use Rattle.commons.specs.declared.limits.Limits.{Limits}
+use Rattle.commons.specs.declared.refusal.Refusal.{Refusal}
+use Rattle.commons.specs.declared.refusal.Refusal.TheVariants.{NoEntries, Contended, HeadSpent}
+use Rattle.step_core.specs.declared.view.Head.{Head}
+use Rattle.step_core.specs.declared.step.Step.TheVariants.{Cut as CutStep, Push as PushStep}
+use Rattle.step_core.specs.declared.step.Outcome.TheVariants.{LostTo, Won, Got}
+use Rattle.ground.specs.Seats.{Note}
+use Rattle.stack_lf.specs.Tries.{Try, Walk, IsWalk, Short, Reserved, Added, Ended, Beaten, link_note, elements, element_in, stores, notes, notes_of, IsMiss, IsLostCut, IsWonCut, IsLostPush, IsWonPush, IsSpent, IsGet, IsPut, IsOfCall}
+use Rattle.stack_lf.specs.Bounds.{most_steps}
+use Rattle.stack_lf.proofs.Composing.{notes_of-append}
+use Rattle.stack_lf.proofs.Reading.{all_tail}
+
+steps-append : (xs ys : List Try) → length (notes_of (xs ++ ys))
+    ≡ length (notes_of xs) + length (notes_of ys)
+steps-append xs ys = ap (λ (l : List Note). length l) (notes_of-append xs ys)
+    ∙ length-append (notes_of xs) (notes_of ys)
+
+steps-cons : (x : Try) (ys : List Try) →
+    length (notes_of (x ∷ ys)) ≡ length (notes x) + length (notes_of ys)
+steps-cons x ys = length-append (notes x) (notes_of ys)
+
+-- so many tries of so many steps each
+each_bounded : (P : Try → Type 0) (m : ℕ) (ts : List Try) →
+    ((x : Try) → P x → length (notes x) ≤ m) → All P ts → length (notes_of ts) ≤ length ts * m
+each_bounded P m [] f h = omega arith
+each_bounded P m (x ∷ ts) f h =
+    let one = f x (h 0 x (omega arith)) in
+    let more = each_bounded P m ts f (all_tail P x ts h) in
+    let e : length (x ∷ ts) ≡ suc (length ts) = refl in
+    let p : length (x ∷ ts) * m ≡ length ts * m + m = suc-mul (length ts) m in
+    omega (arith, steps-cons x ts)
+
+-- fewer tries than there may be, with one more
+times_less : (k tries m : ℕ) → k < tries → k * m + m ≤ tries * m
+times_less k tries m h = let a : suc k * m ≤ tries * m = mul-le-mul_right m h in
+    omega (arith, suc-mul k m)
+
+by_eq : (x y : Try) (m : ℕ) → x ≡ y → length (notes y) ≤ m → length (notes x) ≤ m
+by_eq x y m e h = subst (λ (t : Try). length (notes t) ≤ m) (sym e) h
+
+miss_steps : (n : ℕ) (x : Try) → IsMiss n x → length (notes x) ≤ 2
+miss_steps n x h = by_eq x _ 2 h.4 (omega arith)
+
+one_end : (l : List Note) (x : Note) → length (l ++ x ∷ []) ≡ length l + 1
+one_end l x = length-append l (x ∷ [])
+
+links : (ps : Walk) → length (map link_note ps) ≡ length ps
+links ps = length-map ps link_note
+
+lost_cut_steps : (n : ℕ) (x : Try) → IsLostCut n x → length (notes x) ≤ n + 2
+lost_cut_steps n x h = ⊎_elim
+    (λ (a : (k : Head) × (ps : Walk) × (length ps < n) × IsWalk k.top ps 0 × (x ≡ Ended k ps)).
+    by_eq x _ (n + 2) a.4 (let len = a.2 in omega (arith, links a.1)))
+    (λ (b : (k found : Head) × (ps : Walk) × (u : ℕ) × (length ps ≡ n) × (k.count < found.count)
+    × IsWalk k.top ps u × (x ≡ Beaten k ps found)).
+    by_eq x _ (n + 2) b.7 (let len = b.4 in
+    omega (arith, links b.2, one_end (map link_note b.2) (CutStep, LostTo b.1))))
+    h
+
+stored : (v : ℕ) (xs : List ℕ) → length (stores v xs) ≡ length xs
+stored v [] = refl
+stored v (x ∷ xs) = ap suc (stored (suc x) xs)
+
+won_cut_steps : (xs : List ℕ) (x : Try) → IsWonCut xs x → length (notes x) ≤ length xs + 2
+won_cut_steps xs x h = by_eq x _ (length xs + 2) h.6 (let e = ap (λ (l : List ℕ). length l) h.3 in
+    omega (
+      arith,
+      e,
+      length-map h.1 element_in,
+      links h.1,
+      one_end (map link_note h.1)
+          (CutStep, Got (elements h.1)),
+    ))
+
+lost_push_steps : (xs : List ℕ) (x : Try) → IsLostPush xs x → length (notes x) ≤ length xs + 2
+lost_push_steps xs x h = by_eq x _ (length xs + 2) h.3 (let k = h.0 in
+    omega (arith, stored k.top xs, one_end (stores k.top xs) (PushStep, LostTo h.1)))
+
+won_push_steps : (xs : List ℕ) (x : Try) → IsWonPush xs x → length (notes x) ≤ length xs + 2
+won_push_steps xs x h = by_eq x _ (length xs + 2) h.2 (let k = h.0 in
+    omega (arith, stored k.top xs, one_end (stores k.top xs) (PushStep, Won)))
+
+spent_steps : (x : Try) → IsSpent x → length (notes x) ≤ 1
+spent_steps x h = by_eq x _ 1 h.2 (omega arith)
+
+split_times : (t n : ℕ) → t * (n + 4) ≡ t * (n + 2) + t * 2
+split_times zero n = omega arith
+split_times (suc t) n = omega (arith, split_times t n, suc-mul t (n + 4), suc-mul t (n + 2))
+
+size : List Try → ℕ
+size ts = length (notes_of ts)
+
+get_bounded : (l : Limits) (n : ℕ) (answer : Result (List ℕ) Refusal) (ts : List Try) →
+    IsGet l.tries n answer ts → length (notes_of ts) ≤ l.tries * (n + 4) + 1
+get_bounded l n (Ok xs) ts d =
+    let misses : List Try = d.0 in
+    let cuts : List Try = d.1 in
+    let x : Try = d.3 in
+    let less = d.4 in let less' = d.7 in
+    let all = ap (λ (z : List Try). length (notes_of z)) d.11 in
+    let a = each_bounded (IsMiss n) 2 misses (miss_steps n) d.5 in
+    let b = each_bounded (IsLostCut n) (n + 2) cuts (lost_cut_steps n) d.8 in
+    let c = won_cut_steps xs x d.10 in
+    let len = d.9 in
+    omega (
+      arith,
+      steps-append misses (Reserved n d.2 ∷ (cuts ++ x ∷ [])),
+      steps-append cuts
+          (x ∷ []),
+      steps-cons x [],
+      split_times l.tries n,
+      times_less (length cuts) l.tries (n + 2) d.7,
+    )
+get_bounded l n (Err NoEntries) ts d =
+    let misses : List Try = d.0 in
+    let less = d.2 in
+    let all = ap (λ (z : List Try). length (notes_of z)) d.5 in
+    let a = each_bounded (IsMiss n) 2 misses (miss_steps n) d.3 in
+    omega (arith, steps-append misses (Short d.1 ∷ []), split_times l.tries n)
+get_bounded l n (Err HeadSpent) ts d =
+    let misses : List Try = d.0 in
+    let cuts : List Try = d.1 in
+    let x : Try = d.3 in
+    let less = d.4 in let less' = d.7 in
+    let all = ap (λ (z : List Try). length (notes_of z)) d.10 in
+    let a = each_bounded (IsMiss n) 2 misses (miss_steps n) d.5 in
+    let b = each_bounded (IsLostCut n) (n + 2) cuts (lost_cut_steps n) d.8 in
+    let c = spent_steps x d.9 in
+    omega (
+      arith,
+      steps-append misses (Reserved n d.2 ∷ (cuts ++ x ∷ Added n ∷ [])),
+      steps-append
+          cuts (x ∷ Added n ∷ []),
+      steps-cons x (Added n ∷ []),
+      split_times l.tries n,
+      times_less
+          (length cuts) l.tries (n + 2) d.7,
+    )
+get_bounded l n (Err Contended) ts d = ⊎_elim
+    (λ (h : (length ts ≡ l.tries) × All (IsMiss n) ts). let a =
+    each_bounded (IsMiss n) 2 ts (miss_steps n) h.1 in let len = h.0 in
+    omega (arith, split_times l.tries n))
+    (λ (h : (misses cuts : List Try) × (v : ℕ) × (length misses < l.tries) × All (IsMiss n) misses
+    × (n ≤ v) × (length cuts ≡ l.tries) × All (IsLostCut n) cuts
+    × (ts ≡ misses ++ Reserved n v ∷ (cuts ++ Added n ∷ []))).
+    let misses : List Try = h.0 in
+    let cuts : List Try = h.1 in
+    let less = h.3 in let len = h.6 in
+    let all = ap (λ (z : List Try). length (notes_of z)) h.8 in
+    let a = each_bounded (IsMiss n) 2 misses (miss_steps n) h.4 in
+    let b = each_bounded (IsLostCut n) (n + 2) cuts (lost_cut_steps n) h.7 in
+    let c = mul-le-mul_right (n + 2) (let e : length cuts ≤ l.tries = omega arith in e) in
+    omega (
+      arith,
+      steps-append misses (Reserved n h.2 ∷ (cuts ++ Added n ∷ [])),
+      steps-append cuts
+          (Added n ∷ []),
+      split_times l.tries n,
+    ))
+    d
+get_bounded l n (Err _) ts d = absurd d
+
+put_bounded : (l : Limits) (xs : List ℕ) (answer : Result (Unit {0}) Refusal) (ts : List Try) →
+    IsPut l.tries xs answer ts → length (notes_of ts) ≤ l.tries * (length xs + 2) + 1
+put_bounded l xs (Ok _) ts d =
+    let pushes : List Try = d.0 in
+    let x : Try = d.1 in
+    let all = ap (λ (z : List Try). length (notes_of z)) d.5 in
+    let b = each_bounded (IsLostPush xs) (length xs + 2) pushes (lost_push_steps xs) d.3 in
+    let c = won_push_steps xs x d.4 in
+    omega (
+      arith,
+      steps-append pushes (x ∷ Added (length xs) ∷ []),
+      steps-cons x
+          (Added (length xs) ∷ []),
+      times_less (length pushes) l.tries (length xs + 2) d.2,
+    )
+put_bounded l xs (Err HeadSpent) ts d =
+    let pushes : List Try = d.0 in
+    let x : Try = d.1 in
+    let all = ap (λ (z : List Try). length (notes_of z)) d.5 in
+    let b = each_bounded (IsLostPush xs) (length xs + 2) pushes (lost_push_steps xs) d.3 in
+    let c = spent_steps x d.4 in
+    omega (
+      arith,
+      steps-append pushes (x ∷ []),
+      steps-cons x [],
+      times_less (length pushes) l.tries
+          (length xs + 2) d.2,
+    )
+put_bounded l xs (Err Contended) ts d =
+    let b = each_bounded (IsLostPush xs) (length xs + 2) ts (lost_push_steps xs) d.1 in
+    let c = mul-le-mul_right (length xs + 2) (let len = d.0 in let e : length ts ≤ l.tries =
+    omega arith in e) in
+    omega arith
+put_bounded l xs (Err _) ts d = absurd d
+
+same_steps : (ts us : List Try) (m : ℕ) → ts ≡ us → length (notes_of us) ≤ m →
+    length (notes_of ts) ≤ m
+same_steps ts us m e h = subst (λ (z : List Try). length (notes_of z) ≤ m) (sym e) h
+
+pub bounded : (l : Limits) (call : Call) (ts : List Try) → IsOfCall l call ts →
+    length (notes_of ts) ≤ most_steps l call
+bounded l (GetList n answer) ts d = get_bounded l n answer ts d
+bounded l (PutList xs answer) ts d = put_bounded l xs answer ts d
+bounded l (CommonCount n) ts d = same_steps ts (Short n ∷ []) 1 d (omega arith)
+bounded l call ts d = absurd d

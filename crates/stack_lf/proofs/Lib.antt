@@ -1,0 +1,9 @@
+pub mod Composing
+pub mod Walks
+pub mod Storing
+pub mod Whole
+pub mod Reading
+pub mod Meeting
+pub mod Bounding
+pub mod Taking
+pub mod Losing

@@ -1,0 +1,161 @@
+-- What the tries of a call read is the cause of its answer.
+use Rattle.std.proofs.Common.{◌≡◌, ℕ, suc, ◌+◌, ◌<◌, ◌≤◌, ⊎_elim, cond, List, [], ◌∷◌, ◌++◌, length, All, refl, sym, ap, ◌∙◌, subst, arith, append_assoc}
+use Rattle.std.specs.Prelude.{Result, Ok, Err, Option, Some, count_by}
+use Rattle.std.proofs.lemmas.List.Concat.{flat_map-append}
+use Rattle.std.proofs.lemmas.List.Sums.{sum_by-append}
+use Rattle.commons.specs.Calls.{Reading, is_lost, HasCause, later, last_in, length_in, head_in, last_length, last_head, IsBelow, Call, GetList, PutList, CommonCount, spent}
+use Rattle.commons.specs.declared.limits.Limits.{Limits}
+use Rattle.commons.specs.declared.refusal.Refusal.{Refusal}
+use Rattle.commons.specs.declared.refusal.Refusal.TheVariants.{NoEntries, Contended, HeadSpent}
+use Rattle.step_core.specs.declared.view.Head.{Head}
+use Rattle.stack_lf.specs.Tries.{Try, Short, Reserved, Added, reads, readings_of, Walk, IsWalk, Ended, Beaten, IsMiss, IsLostCut, IsWonCut, IsLostPush, IsWonPush, IsSpent, IsGet, IsPut, IsOfCall}
+
+losses-append : (xs ys : List Reading) →
+    count_by is_lost (xs ++ ys) ≡ count_by is_lost xs + count_by is_lost ys
+losses-append xs ys = sum_by-append (λ r. cond (is_lost r) 1 0) xs ys
+
+pub all_tail : (P : Try → Type 0) (x : Try) (ts : List Try) → All P (x ∷ ts) → All P ts
+all_tail P x ts h = λ k d l. h (suc k) d (omega arith)
+
+-- where each try reads a loss, there are as many losses as tries
+each_lost : (P : Try → Type 0) (ts : List Try) →
+    ((x : Try) → P x → 1 ≤ count_by is_lost (reads x)) → All P ts →
+    length ts ≤ count_by is_lost (readings_of ts)
+each_lost P [] f h = omega arith
+each_lost P (x ∷ ts) f h =
+    let one = f x (h 0 x (omega arith)) in
+    let more = each_lost P ts f (all_tail P x ts h) in
+    omega (arith, losses-append (reads x) (readings_of ts))
+
+-- a loss within
+losses_within : (front bs : List Try) →
+    count_by is_lost (readings_of bs) ≤ count_by is_lost (readings_of (front ++ bs))
+losses_within front bs =
+    let e = ap (λ (l : List Reading). count_by is_lost l) (flat_map-append reads front bs) in
+    omega (arith, losses-append (readings_of front) (readings_of bs))
+
+losses_before : (front bs : List Try) →
+    count_by is_lost (readings_of front) ≤ count_by is_lost (readings_of (front ++ bs))
+losses_before front bs =
+    let e = ap (λ (l : List Reading). count_by is_lost l) (flat_map-append reads front bs) in
+    omega (arith, losses-append (readings_of front) (readings_of bs))
+
+one_loss : (x y : Try) → x ≡ y → 1 ≤ count_by is_lost (reads y) →
+    1 ≤ count_by is_lost (reads x)
+one_loss x y e h = subst (λ (t : Try). 1 ≤ count_by is_lost (reads t)) (sym e) h
+
+miss_lost : (n : ℕ) (x : Try) → IsMiss n x → 1 ≤ count_by is_lost (reads x)
+miss_lost n x h = one_loss x _ h.4 (omega arith)
+
+cut_lost_read : (n : ℕ) (x : Try) → IsLostCut n x → 1 ≤ count_by is_lost (reads x)
+cut_lost_read n x h = ⊎_elim
+    (λ (a : (k : Head) × (ps : Walk) × (length ps < n) × IsWalk k.top ps 0 × (x ≡ Ended k ps)).
+    one_loss x _ a.4 (omega arith))
+    (λ (b : (k found : Head) × (ps : Walk) × (u : ℕ) × (length ps ≡ n)
+    × (k.count < found.count) × IsWalk k.top ps u × (x ≡ Beaten k ps found)).
+    one_loss x _ b.7 (omega arith))
+    h
+
+push_lost_read : (xs : List ℕ) (x : Try) → IsLostPush xs x → 1 ≤ count_by is_lost (reads x)
+push_lost_read xs x h = one_loss x _ h.3 (omega arith)
+
+-- what was read last by the end of a list was read last by the whole
+kind_after : (f : Reading → Option ℕ) (n : ℕ) (xs ys : List Reading) →
+    last_in f ys ≡ Some n → last_in f (xs ++ ys) ≡ Some n
+kind_after f n [] ys h = h
+kind_after f n (x ∷ xs) ys h =
+    ap (λ (o : Option ℕ). later (f x) o) (kind_after f n xs ys h)
+
+-- and so by the tries
+kind_of : (f : Reading → Option ℕ) (n : ℕ) (ts front back : List Try) → ts ≡ front ++ back →
+    last_in f (readings_of back) ≡ Some n → last_in f (readings_of ts) ≡ Some n
+kind_of f n ts front back e h =
+    subst (λ (l : List Try). last_in f (readings_of l) ≡ Some n) (sym e)
+    (subst (λ (l : List Reading). last_in f l ≡ Some n) (sym (flat_map-append reads front back))
+    (kind_after f n (readings_of front) (readings_of back) h))
+
+head_read : (h : Head) (x y : Try) (back : List Try) → x ≡ y →
+    last_head (readings_of (y ∷ back)) ≡ Some h.count →
+    last_head (readings_of (x ∷ back)) ≡ Some h.count
+head_read h x y back e d =
+    subst (λ (t : Try). last_head (readings_of (t ∷ back)) ≡ Some h.count) (sym e) d
+
+-- a value that was read, and is below another
+below : (n c : ℕ) (o : Option ℕ) → o ≡ Some c → c < n → IsBelow n o
+below n c o e h = subst (λ (z : Option ℕ). IsBelow n z) (sym e) h
+
+pub cause_get : (l : Limits) (n : ℕ) (answer : Result (List ℕ) Refusal) (ts : List Try) →
+    IsGet l.tries n answer ts → HasCause l (GetList n answer) (readings_of ts)
+cause_get l n (Ok xs) ts d =
+    let misses : List Try = d.0 in
+    let cuts : List Try = d.1 in
+    let x : Try = d.3 in
+    let won : IsWonCut xs x = d.10 in
+    let all : ts ≡ (misses ++ Reserved n d.2 ∷ cuts) ++ x ∷ [] =
+    d.11 ∙ sym (append_assoc misses (Reserved n d.2 ∷ cuts) (x ∷ [])) in (
+      d.9,
+      below spent won.0.count (last_head (readings_of ts))
+          (kind_of head_in won.0.count ts (misses ++ Reserved n d.2 ∷ cuts) (x ∷ []) all
+          (head_read won.0 x _ [] won.6 refl))
+          won.4,
+    )
+cause_get l n (Err NoEntries) ts d =
+    below n d.1 (last_length (readings_of ts))
+    (kind_of length_in d.1 ts d.0 (Short d.1 ∷ []) d.5 refl) d.4
+cause_get l n (Err HeadSpent) ts d =
+    let misses : List Try = d.0 in
+    let cuts : List Try = d.1 in
+    let x : Try = d.3 in
+    let stop : IsSpent x = d.9 in
+    let all : ts ≡ (misses ++ Reserved n d.2 ∷ cuts) ++ x ∷ Added n ∷ [] =
+    d.10 ∙ sym (append_assoc misses (Reserved n d.2 ∷ cuts) (x ∷ Added n ∷ [])) in
+    kind_of head_in spent ts (misses ++ Reserved n d.2 ∷ cuts) (x ∷ Added n ∷ []) all
+    (head_read stop.0 x _ (Added n ∷ []) stop.2 refl ∙ ap Some stop.1)
+cause_get l n (Err Contended) ts d = ⊎_elim
+    (λ (a : (length ts ≡ l.tries) × All (IsMiss n) ts).
+    let more = each_lost (IsMiss n) ts (miss_lost n) a.1 in
+    let len = a.0 in
+    omega arith)
+    (λ (b : (misses cuts : List Try) × (v : ℕ)
+    × (length misses < l.tries) × All (IsMiss n) misses × (n ≤ v)
+    × (length cuts ≡ l.tries) × All (IsLostCut n) cuts
+    × (ts ≡ misses ++ Reserved n v ∷ (cuts ++ Added n ∷ []))).
+    let misses : List Try = b.0 in
+    let cuts : List Try = b.1 in
+    let more = each_lost (IsLostCut n) cuts (cut_lost_read n) b.7 in
+    let len = b.6 in
+    let all : ts ≡ (misses ++ Reserved n b.2 ∷ []) ++ (cuts ++ Added n ∷ []) =
+    b.8 ∙ sym (append_assoc misses (Reserved n b.2 ∷ []) (cuts ++ Added n ∷ [])) in
+    let e = ap (λ (z : List Try). count_by is_lost (readings_of z)) all in
+    omega (
+      arith,
+      losses_within (misses ++ Reserved n b.2 ∷ []) (cuts ++ Added n ∷ []),
+      losses_before cuts (Added n ∷ []),
+    ))
+    d
+cause_get l n (Err _) ts d = d
+
+pub cause_put : (l : Limits) (xs : List ℕ) (answer : Result (Unit {0}) Refusal) (ts : List Try) →
+    IsPut l.tries xs answer ts → HasCause l (PutList xs answer) (readings_of ts)
+cause_put l xs (Ok _) ts d =
+    let won : IsWonPush xs d.1 = d.4 in
+    below spent won.0.count (last_head (readings_of ts))
+    (kind_of head_in won.0.count ts d.0 (d.1 ∷ Added (length xs) ∷ []) d.5
+    (head_read won.0 d.1 _ (Added (length xs) ∷ []) won.2 refl))
+    won.1
+cause_put l xs (Err HeadSpent) ts d =
+    let stop : IsSpent d.1 = d.4 in
+    kind_of head_in spent ts d.0 (d.1 ∷ []) d.5
+    (head_read stop.0 d.1 _ [] stop.2 refl ∙ ap Some stop.1)
+cause_put l xs (Err Contended) ts d =
+    let more = each_lost (IsLostPush xs) ts (push_lost_read xs) d.1 in
+    let len = d.0 in
+    omega arith
+cause_put l xs (Err _) ts d = d
+
+pub causes : (l : Limits) (call : Call) (ts : List Try) → IsOfCall l call ts →
+    HasCause l call (readings_of ts)
+causes l (GetList n answer) ts d = cause_get l n answer ts d
+causes l (PutList xs answer) ts d = cause_put l xs answer ts d
+causes l (CommonCount n) ts d = kind_of length_in n ts [] (Short n ∷ []) d refl
+causes l call ts d = absurd d

@@ -1,0 +1,17 @@
+use Rattle.std.proofs.Common.{◌≡◌, ◌∙◌, sym, subst, length}
+use Rattle.commons.specs.declared.limits.Limits.{Limits}
+use Rattle.stack_lf.specs.Leaves.{Gets}
+use Rattle.stack_lf.proofs.Meeting.{get_did}
+use Rattle.stack_lf.proofs.words.WordCommons.get_list.Goals as goal
+
+-- what the get leaves, by the tries that the seat's limits allow
+pub returns-clause-did : goal.returns-clause-did
+returns-clause-did c =
+    let me = c.args.self.now in
+    let n = length c.args.out.now in
+    let same : c.limits.result ≡ me.seat.known.limits =
+    c.limits.ensures.limits ∙ sym me.of.limits in
+    let got =
+    subst (λ (l : Limits). Gets l.tries n c.get.new.out c.get.result me.seat c.get.new.seat)
+    same c.get.ensures.got in
+    get_did n c.get.new.out c.get.result me.seat c.get.new.seat got

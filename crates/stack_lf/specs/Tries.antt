@@ -1,0 +1,175 @@
+-- The tries of a call over words: their steps, and what they read.
+use Rattle.std.specs.Prelude.{◌≡◌, ◌≢◌, ℕ, suc, ◌<◌, ◌≤◌, List, [], ◌∷◌, ◌++◌, ◌⊎◌, length, map, flat_map, All, Result, Ok, Err}
+use Rattle.commons.specs.Calls.{Reading, Length, Head as HeadRead, Lost as LostRead, Call, GetList, PutList, CommonCount, spent}
+use Rattle.commons.specs.declared.limits.Limits.{Limits}
+use Rattle.commons.specs.declared.refusal.Refusal.{Refusal}
+use Rattle.commons.specs.declared.refusal.Refusal.TheVariants.{NoEntries, Contended, HeadSpent}
+use Rattle.step_core.specs.declared.view.Head.{Head}
+use Rattle.step_core.specs.declared.step.Step.TheVariants.{LoadLength, Reserve, Add, LoadHead, LoadLink, Cut, StoreLink, Push}
+use Rattle.step_core.specs.declared.step.Outcome.TheVariants.{Value, HeadIs, Won, Got, Lost, LostTo, Done}
+use Rattle.ground.specs.Seats.{Seated, Note, element_of}
+
+-- links that were walked, each an element with the value of its link
+abbrev pub Walk : Type 0
+Walk = List (ℕ × ℕ)
+
+abbrev pub element_in : ℕ × ℕ → ℕ
+element_in p = p.0
+
+-- the elements of a walk
+abbrev pub elements : Walk → List ℕ
+elements ps = map element_in ps
+
+-- the walk leads from the first value to the second
+abbrev pub IsWalk : ℕ → Walk → ℕ → Type 0
+IsWalk v [] u = v ≡ u
+IsWalk v (p ∷ ps) u = (v ≡ suc p.0) × IsWalk p.1 ps u
+
+-- A try of a call, or what follows the last one.
+pub data Try : Type 0 where
+  -- a length was read
+  Short : (length : ℕ) → Try
+  -- a length was read, and the exchange of it lost, or won
+  Missed : (n length found : ℕ) → Try
+  Reserved : (n length : ℕ) → Try
+  -- a head was read, and no more
+  Stopped : (head : Head) → Try
+  -- a head was read, links were walked, and the walk ended early, or the exchange of the head lost, or won
+  Ended : (head : Head) (walk : Walk) → Try
+  Beaten : (head : Head) (walk : Walk) (found : Head) → Try
+  Cutoff : (head : Head) (walk : Walk) → Try
+  -- a head was read, the links of a list were stored, and the exchange of the head lost, or won
+  Unpushed : (head : Head) (list : List ℕ) (found : Head) → Try
+  Pushed : (head : Head) (list : List ℕ) → Try
+  -- what was reserved, or pushed, was added to the length
+  Added : (n : ℕ) → Try
+
+abbrev pub link_note : ℕ × ℕ → Note
+link_note p = (LoadLink p.0, Value p.1)
+
+-- the steps that store the links of a list, its first element's to this value and each other's to the one before
+abbrev pub stores : ℕ → List ℕ → List Note
+stores v [] = []
+stores v (x ∷ xs) = (StoreLink x (element_of v), Done) ∷ stores (suc x) xs
+
+-- the value that leads to the last of a list, or this one where it is empty
+abbrev pub last_of : ℕ → List ℕ → ℕ
+last_of v [] = v
+last_of v (x ∷ xs) = last_of (suc x) xs
+
+-- the steps of a try
+abbrev pub notes : Try → List Note
+notes (Short v) = (LoadLength, Value v) ∷ []
+notes (Missed n v found) = (LoadLength, Value v) ∷ (Reserve v n, Lost found) ∷ []
+notes (Reserved n v) = (LoadLength, Value v) ∷ (Reserve v n, Won) ∷ []
+notes (Stopped h) = (LoadHead, HeadIs h) ∷ []
+notes (Ended h ps) = (LoadHead, HeadIs h) ∷ map link_note ps
+notes (Beaten h ps found) =
+    (LoadHead, HeadIs h) ∷ (map link_note ps ++ (Cut, LostTo found) ∷ [])
+notes (Cutoff h ps) =
+    (LoadHead, HeadIs h) ∷ (map link_note ps ++ (Cut, Got (elements ps)) ∷ [])
+notes (Unpushed h xs found) =
+    (LoadHead, HeadIs h) ∷ (stores h.top xs ++ (Push, LostTo found) ∷ [])
+notes (Pushed h xs) = (LoadHead, HeadIs h) ∷ (stores h.top xs ++ (Push, Won) ∷ [])
+notes (Added n) = (Add n, Done) ∷ []
+
+-- what a try read
+abbrev pub reads : Try → List Reading
+reads (Short v) = Length v ∷ []
+reads (Missed n v found) = Length v ∷ Length found ∷ LostRead ∷ []
+reads (Reserved n v) = Length v ∷ []
+reads (Stopped h) = HeadRead h.count ∷ []
+reads (Ended h ps) = HeadRead h.count ∷ LostRead ∷ []
+reads (Beaten h ps found) = HeadRead h.count ∷ HeadRead found.count ∷ LostRead ∷ []
+reads (Cutoff h ps) = HeadRead h.count ∷ []
+reads (Unpushed h xs found) = HeadRead h.count ∷ HeadRead found.count ∷ LostRead ∷ []
+reads (Pushed h xs) = HeadRead h.count ∷ []
+reads (Added n) = []
+
+abbrev pub notes_of : List Try → List Note
+notes_of ts = flat_map notes ts
+
+abbrev pub readings_of : List Try → List Reading
+readings_of ts = flat_map reads ts
+
+-- a try to reserve n that lost: a length of at least n was read, and another stood there
+abbrev pub IsMiss : ℕ → Try → Type 0
+IsMiss n x = (v found : ℕ) × (n ≤ v) × (found ≢ v) × (x ≡ Missed n v found)
+
+-- a try to cut n off that lost: the list ended before, or the head was a later one
+abbrev pub IsLostCut : ℕ → Try → Type 0
+IsLostCut n x =
+    ((h : Head) × (ps : Walk) × (length ps < n) × IsWalk h.top ps 0 × (x ≡ Ended h ps))
+    ⊎ ((h found : Head) × (ps : Walk) × (u : ℕ) × (length ps ≡ n) × (h.count < found.count)
+    × IsWalk h.top ps u × (x ≡ Beaten h ps found))
+
+-- a try to cut that won, and gave these
+abbrev pub IsWonCut : List ℕ → Try → Type 0
+IsWonCut xs x =
+    (h : Head) × (ps : Walk) × (u : ℕ) × (xs ≡ elements ps) × (h.count < spent)
+    × IsWalk h.top ps u × (x ≡ Cutoff h ps)
+
+-- a try to push a list that lost to a later head, or won
+abbrev pub IsLostPush : List ℕ → Try → Type 0
+IsLostPush xs x = (h found : Head) × (h.count < found.count) × (x ≡ Unpushed h xs found)
+
+abbrev pub IsWonPush : List ℕ → Try → Type 0
+IsWonPush xs x = (h : Head) × (h.count < spent) × (x ≡ Pushed h xs)
+
+-- the spent count was read
+abbrev pub IsSpent : Try → Type 0
+IsSpent x = (h : Head) × (h.count ≡ spent) × (x ≡ Stopped h)
+
+-- The tries of a get of n elements, of at most so many lost ones in each loop, by its answer. What was reserved is
+-- added again before each refusal that comes after it.
+abbrev pub IsGet : ℕ → ℕ → Result (List ℕ) Refusal → List Try → Type 0
+IsGet tries n (Ok xs) ts =
+    (misses cuts : List Try) × (v : ℕ) × (x : Try)
+    × (length misses < tries) × All (IsMiss n) misses × (n ≤ v)
+    × (length cuts < tries) × All (IsLostCut n) cuts × (length xs ≡ n) × IsWonCut xs x
+    × (ts ≡ misses ++ Reserved n v ∷ (cuts ++ x ∷ []))
+IsGet tries n (Err NoEntries) ts =
+    (misses : List Try) × (v : ℕ) × (length misses < tries) × All (IsMiss n) misses × (v < n)
+    × (ts ≡ misses ++ Short v ∷ [])
+IsGet tries n (Err HeadSpent) ts =
+    (misses cuts : List Try) × (v : ℕ) × (x : Try)
+    × (length misses < tries) × All (IsMiss n) misses × (n ≤ v)
+    × (length cuts < tries) × All (IsLostCut n) cuts × IsSpent x
+    × (ts ≡ misses ++ Reserved n v ∷ (cuts ++ x ∷ Added n ∷ []))
+IsGet tries n (Err Contended) ts =
+    ((length ts ≡ tries) × All (IsMiss n) ts)
+    ⊎ ((misses cuts : List Try) × (v : ℕ)
+    × (length misses < tries) × All (IsMiss n) misses × (n ≤ v)
+    × (length cuts ≡ tries) × All (IsLostCut n) cuts
+    × (ts ≡ misses ++ Reserved n v ∷ (cuts ++ Added n ∷ [])))
+IsGet tries n (Err _) ts = ⊥
+
+-- The tries of a put of a list. The length is raised after the list is on the stack.
+abbrev pub IsPut : ℕ → List ℕ → Result (Unit {0}) Refusal → List Try → Type 0
+IsPut tries xs (Ok _) ts =
+    (pushes : List Try) × (x : Try) × (length pushes < tries) × All (IsLostPush xs) pushes
+    × IsWonPush xs x × (ts ≡ pushes ++ x ∷ Added (length xs) ∷ [])
+IsPut tries xs (Err HeadSpent) ts =
+    (pushes : List Try) × (x : Try) × (length pushes < tries) × All (IsLostPush xs) pushes
+    × IsSpent x × (ts ≡ pushes ++ x ∷ [])
+IsPut tries xs (Err Contended) ts = (length ts ≡ tries) × All (IsLostPush xs) ts
+IsPut tries xs (Err _) ts = ⊥
+
+-- The tries of a call. The other calls aren't made over words as yet.
+abbrev pub IsOfCall : Limits → Call → List Try → Type 0
+IsOfCall l (GetList n answer) ts = IsGet l.tries n answer ts
+IsOfCall l (PutList xs answer) ts = IsPut l.tries xs answer ts
+IsOfCall l (CommonCount n) ts = ts ≡ Short n ∷ []
+IsOfCall l _ ts = ⊥
+
+-- what a call over words did: it took the steps of these tries, by this seat, and read what they read
+pub record DidOnWords (s : Seated) (call : Call) (rs : List Reading) (t : Seated) : Type 0 where
+  pub table : t.table ≡ s.table
+  pub seat : t.id ≡ s.id
+  pub limits : t.known.limits ≡ s.known.limits
+  pub part : t.known.view.part ≡ s.known.view.part
+  pub slots : t.slots ≡ s.slots
+  pub tries : List Try
+  pub made : IsOfCall s.known.limits call tries
+  pub steps : t.known.steps ≡ s.known.steps ++ notes_of tries
+  pub read : rs ≡ readings_of tries

@@ -1,0 +1,164 @@
+//! The two loops of a get.
+
+ghost use Rattle.std.specs.Prelude.{◌≡◌, ◌≢◌, ◌<◌, ◌≤◌, Err, Some, None, length, IfSome, IfNone};
+ghost use Rattle.ground.specs.Seats.{IsOf, KnowsEnd};
+ghost use Rattle.ground.specs.Own.{Owned};
+ghost use Rattle.stack_lf.specs.Tries.{Walk, elements};
+ghost use Rattle.stack_lf.specs.Leaves.{IsAlone, start, Walked, TriesReserve, TriesCut, Reserves, Cuts, Gets};
+
+use crate::tried::Tried;
+use commons::limits::SPENT;
+use commons::refusal::Refusal;
+use crossbeam_utils::Backoff;
+use ground::pool::Ground;
+use ground::seat::GroundSeat;
+use step_core::view::Head;
+
+/// Takes `n` off the length, if it is still what was read.
+fn try_reserve(ground: &Ground, seat: &mut GroundSeat, n: u64) -> Tried
+    requires of { IsOf ground.now seat.old }
+    requires some { 1 ≤ n }
+    ensures one { TriesReserve n result seat.old seat.new }
+    ensures alone { IsAlone seat.old → result ≢ Tried.Lost }
+{
+    let length = ground.load_length(seat);
+    if length < n {
+        return Tried::Refused(Refusal::NoEntries);
+    }
+    match ground.reserve(seat, length, n) {
+        Ok(()) => Tried::Won,
+        Err(_) => Tried::Lost,
+    }
+}
+
+/// Takes `n` off the length, by at most `tries` lost tries.
+fn reserve(ground: &Ground, seat: &mut GroundSeat, n: u64, tries: u64) -> Result<(), Refusal>
+    requires of { IsOf ground.now seat.old }
+    requires some { 1 ≤ n }
+    ensures reserves { Reserves tries n result seat.old seat.new }
+    ensures alone { IsAlone seat.old → 1 ≤ tries → result ≢ Err Refusal.Contended }
+{
+    let backoff = Backoff::new();
+    for _ in 0..tries {
+        match try_reserve(ground, seat, n) {
+            Tried::Won => return Ok(()),
+            Tried::Refused(cause) => return Err(cause),
+            Tried::Lost => backoff.spin(),
+        }
+    }
+    Err(Refusal::Contended)
+}
+
+/// Walks one link for each place of `out`, and lists the elements there. Answers what is next, or nothing where the
+/// list ends before, as it does for no seat of every part that has reserved as many.
+fn walk(ground: &Ground, seat: &mut GroundSeat, head: Head, out: &mut [u32]) -> Option<u32>
+    requires of { IsOf ground.now seat.old }
+    requires look { seat.old.known.view.look ≡ Some (start head) }
+    requires end { KnowsEnd seat.old.known.limits seat.old.known.view }
+    requires top { head.top ≤ ground.now.limits.population }
+    requires small { ground.now.limits.population ≤ 65534 }
+    ensures some { IfSome result (λ next. (ps : Walk) × Walked head ps next seat.old seat.new × (out.new ≡ elements ps)) }
+    ensures none { IfNone result ((ps : Walk) × Walked head ps 0 seat.old seat.new × (length ps < length out.old)) }
+    ensures alone { IsAlone seat.old → length out.old ≤ seat.old.known.view.credit → result ≢ None }
+    ensures len { length out.new ≡ length out.old }
+{
+    let mut next = head.top;
+    for k in 0..out.len() {
+        if next == 0 {
+            return None;
+        }
+        let element = next - 1;
+        out[k] = element;
+        next = ground.load_link(seat, element);
+    }
+    Some(next)
+}
+
+/// Loads the head, walks as many links as `out` has places, and swings the head past them, if it is still what was
+/// read.
+fn try_cut(ground: &Ground, seat: &mut GroundSeat, out: &mut [u32]) -> Tried
+    requires of { IsOf ground.now seat.old }
+    requires some { 1 ≤ length out.old }
+    requires reserved { length out.old ≤ seat.old.known.view.credit }
+    ensures one { TriesCut (length out.old) out.new result seat.old seat.new }
+    ensures alone { IsAlone seat.old → result ≢ Tried.Lost }
+    ensures len { length out.new ≡ length out.old }
+{
+    seat.owned();
+    let head = ground.load_head(seat);
+    if SPENT <= head.count {
+        return Tried::Refused(Refusal::HeadSpent);
+    }
+    match walk(ground, seat, head, out) {
+        None => Tried::Lost,
+        Some(next) => match ground.cut(seat, head, next) {
+            Ok(()) => Tried::Won,
+            Err(_) => Tried::Lost,
+        },
+    }
+}
+
+/// Takes as many elements as `out` has places from the top of the stack, by at most `tries` lost tries.
+fn cut(ground: &Ground, seat: &mut GroundSeat, out: &mut [u32], tries: u64) -> Result<(), Refusal>
+    requires of { IsOf ground.now seat.old }
+    requires some { 1 ≤ length out.old }
+    requires reserved { length out.old ≤ seat.old.known.view.credit }
+    ensures cuts { Cuts tries (length out.old) out.new result seat.old seat.new }
+    ensures alone { IsAlone seat.old → 1 ≤ tries → result ≢ Err Refusal.Contended }
+    ensures len { length out.new ≡ length out.old }
+{
+    let backoff = Backoff::new();
+    for _ in 0..tries {
+        match try_cut(ground, seat, out) {
+            Tried::Won => return Ok(()),
+            Tried::Refused(cause) => return Err(cause),
+            Tried::Lost => backoff.spin(),
+        }
+    }
+    Err(Refusal::Contended)
+}
+
+/// Takes as many elements as `out` has places, or gives back what was reserved.
+fn get_or_return(
+    ground: &Ground,
+    seat: &mut GroundSeat,
+    out: &mut [u32],
+    tries: u64,
+) -> Result<(), Refusal>
+    requires of { IsOf ground.now seat.old }
+    requires some { 1 ≤ length out.old }
+    ensures got { Gets tries (length out.old) out.new result seat.old seat.new }
+    ensures alone { IsAlone seat.old → 1 ≤ tries → result ≢ Err Refusal.Contended }
+    ensures len { length out.new ≡ length out.old }
+{
+    let n = out.len() as u64;
+    match reserve(ground, seat, n, tries) {
+        Err(cause) => Err(cause),
+        Ok(()) => match cut(ground, seat, out, tries) {
+            Ok(()) => Ok(()),
+            Err(cause) => {
+                ground.add(seat, n);
+                Err(cause)
+            }
+        },
+    }
+}
+
+/// The same, with what the seat's type keeps.
+pub(crate) fn get(
+    ground: &Ground,
+    seat: &mut GroundSeat,
+    out: &mut [u32],
+    tries: u64,
+) -> Result<(), Refusal>
+    requires of { IsOf ground.now seat.old }
+    requires some { 1 ≤ length out.old }
+    ensures got { Gets tries (length out.old) out.new result seat.old seat.new }
+    ensures alone { IsAlone seat.old → 1 ≤ tries → result ≢ Err Refusal.Contended }
+    ensures len { length out.new ≡ length out.old }
+    ensures own { Owned seat.new.known.limits seat.new.known.view }
+{
+    let answer = get_or_return(ground, seat, out, tries);
+    seat.owned();
+    answer
+}

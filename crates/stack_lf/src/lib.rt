@@ -1,0 +1,10 @@
+//! The shared part of a pool over the words of its ground, as one worker sees it: by many threads at once, without a
+//! lock.
+#![tactic(auto)]
+
+mod counting;
+mod getting;
+pub mod laws;
+mod putting;
+mod tried;
+pub mod words;
