@@ -58,7 +58,7 @@ module _ (w : World) (law : Lawful w) (bare : w.desks ≡ []) (k : ℕ) (here : 
   none : (j : ℕ) → j ≢ k → NamesNothing (view_at w.views j)
   none = others_idle w law k whole
 
-  my_holds : (i : ℕ) → all_holds i w.views w.desks ≡ bag v.holds i
+  pub my_holds : (i : ℕ) → all_holds i w.views w.desks ≡ bag v.holds i
   my_holds i =
       let s = alone_sum (λ (u : View). bag u.holds i) w.views k here (times-nil i)
       (λ j ne. times-from_length i (view_at w.views j).holds (none j ne).holds) in
@@ -136,3 +136,9 @@ knows_end w law bare l limits k here v is whole = all v.look refl
         (end_known w law bare k here
         (ap (λ (u : View). u.part) is ∙ (whole ∙ sym (ap (λ (m : Limits). m.workers) limits))) x
         (ap (λ (u : View). u.look) is ∙ e) ends)
+
+-- and how often each element is held
+pub holds_known : (w : World) → Lawful w → w.desks ≡ [] → (k : ℕ) → k < length w.views →
+    (view_at w.views k).part ≡ w.limits.workers → (i : ℕ) →
+    all_holds i w.views w.desks ≡ bag (view_at w.views k).holds i
+holds_known w law bare k here whole i = my_holds w law bare k here whole i

@@ -9,3 +9,4 @@ pub mod Opens
 pub mod Parts
 pub mod Joining
 pub mod Closes
+pub mod Tallies

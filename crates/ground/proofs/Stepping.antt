@@ -55,7 +55,7 @@ module _ (l : Limits) (s : St) (r : Ruled l s) (id : ℕ) (me : Sat) (at : get_e
       (read_length l s r id me at busy)
 
   -- the views may be written as they are
-  views_kept : r.world.views ≡ set r.world.views id me.0.view
+  pub views_kept : r.world.views ≡ set r.world.views id me.0.view
   views_kept = sym (same_views l s r id me at busy)
 
 pub loads_length : (l : Limits) (slots id : ℕ) (me : Sat) → 0 < me.0.view.part →
@@ -81,7 +81,7 @@ loads_length l slots id me busy s r _ at _ =
     )
 
 -- where the row's test holds, its play is what becomes of the step
-played_when : (test : Bool) (p : Play) → test ≡ true → when test p ≡ Some p
+pub played_when : (test : Bool) (p : Play) → test ≡ true → when test p ≡ Some p
 played_when test p e = ap (λ (b : Bool). when b p) e
 
 pub reserves : (l : Limits) (slots id : ℕ) (me : Sat) (old new : ℕ) → new < old → 0 < me.0.view.part →
@@ -158,7 +158,7 @@ module _ (l : Limits) (s : St) (r : Ruled l s) (id : ℕ) (me : Sat) (at : get_e
       ap (λ (n : ℕ). lines n r.world.length ++ (r.world.links ++ r.world.counts))
       (read_head l s r id me at busy)
 
-  my_population : me.0.limits.population ≡ r.world.limits.population
+  pub my_population : me.0.limits.population ≡ r.world.limits.population
   my_population =
       ap (λ (k : Limits). k.population) (my_limits l s r id me at busy)
       ∙ sym (ap (λ (k : Limits). k.population) r.limits)

@@ -83,3 +83,7 @@ KnowsLength l v found =
 -- and that a walk to the end of the list has passed all that is reserved
 abbrev pub KnowsEnd : Limits → View → Type 0
 KnowsEnd l v = v.part ≡ l.workers → IfSome v.look (λ k. k.next ≡ 0 → v.credit ≤ length k.front)
+
+-- and the count of each element that it holds, which is how often it does
+abbrev pub KnowsCount : Limits → View → ℕ → ℕ → Type 0
+KnowsCount l v i count = v.part ≡ l.workers → count ≡ bag v.holds i

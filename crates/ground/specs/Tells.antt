@@ -1,8 +1,9 @@
 -- What each step tells its seat.
-use Rattle.std.specs.Prelude.{◌≡◌, ◌≢◌, ℕ, ◌-◌, ◌%◌, ◌<◌, ◌≤◌, ◌==◌, Bool, true, false, List, [], ◌∷◌, ◌++◌, None}
+use Rattle.std.specs.Prelude.{◌≡◌, ◌≢◌, ℕ, ◌+◌, ◌-◌, ◌%◌, ◌<◌, ◌≤◌, ◌==◌, Bool, true, false, List, [], ◌∷◌, ◌++◌, None}
 use Rattle.atomic_table.specs.Table as table
+use Rattle.commons.specs.Bag.{bag}
 use Rattle.step_core.specs.declared.step.Step.{Step}
-use Rattle.step_core.specs.declared.step.Step.TheVariants.{LoadLength, Reserve, Add, LoadHead, LoadLink, Cut, StoreLink, Push}
+use Rattle.step_core.specs.declared.step.Step.TheVariants.{LoadLength, Reserve, Add, LoadHead, LoadLink, Cut, StoreLink, Push, Claim, Sole, Raise, Lower, Reset}
 use Rattle.step_core.specs.declared.step.Outcome.{Outcome}
 use Rattle.step_core.specs.declared.step.Outcome.TheVariants.{Value, HeadIs, Won, Got, Lost, LostTo, Done}
 use Rattle.step_core.specs.Sights.{view_after}
@@ -10,7 +11,7 @@ use Rattle.ground.specs.declared.known.Known.{Known}
 use Rattle.ground.specs.Layout.{unpack}
 use Rattle.ground.specs.Own.{Owned}
 use Rattle.ground.specs.Rule.{Slot, Sat}
-use Rattle.ground.specs.Seats.{KnowsLength, KnowsEnd, front_of, count_of, element_of}
+use Rattle.ground.specs.Seats.{KnowsLength, KnowsEnd, KnowsCount, front_of, count_of, element_of}
 
 -- the seat after a step, with its slots as they were
 abbrev pub noted : Step → Outcome → Sat → Sat
@@ -90,3 +91,30 @@ push_tells st m found m' =
 -- a load that only looks tells what the seat's view is by itself
 abbrev pub looked : table.Step Slot → Sat → ℕ → Sat → Type 0
 looked st m found m' = (m' ≡ m) × Owned m.0.limits m.0.view
+
+-- ---- the counts: the element is the one whose count the word is
+
+abbrev pub counted_by : table.Step Slot → Known → ℕ
+counted_by st n = st.word - (16 + n.limits.population)
+
+abbrev pub claim_tells : table.Step Slot → Sat → ℕ → Sat → Type 0
+claim_tells st m found m' = Tells (Claim (counted_by st m.0)) (Value found) m m' × (found ≡ 1)
+
+abbrev pub sole_tells : Bool → table.Step Slot → Sat → ℕ → Sat → Type 0
+sole_tells free st m found m' =
+    Tells (Sole (counted_by st m.0) free) (Value found) m m'
+    × (bag m.0.view.holds (counted_by st m.0) ≤ found) × (found ≤ m.0.limits.ref_limit)
+    × KnowsCount m.0.limits m.0.view (counted_by st m.0) found
+
+abbrev pub raise_tells : table.Step Slot → Sat → ℕ → Sat → Type 0
+raise_tells st m found m' =
+    Tells (Raise (counted_by st m.0) st.first) (exchanged (found == st.first) found) m m'
+    × KnowsCount m.0.limits m.0.view (counted_by st m.0) found
+
+abbrev pub lower_tells : table.Step Slot → Sat → ℕ → Sat → Type 0
+lower_tells st m found m' =
+    Tells (Lower (counted_by st m.0)) (Value found) m m'
+    × (bag m.0.view.holds (counted_by st m.0) ≤ found) × (found ≤ m.0.limits.ref_limit)
+
+abbrev pub reset_tells : table.Step Slot → Sat → ℕ → Sat → Type 0
+reset_tells st m found m' = Tells (Reset (counted_by st m.0)) Done m m'

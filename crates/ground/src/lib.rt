@@ -2,6 +2,7 @@
 //! one atomic operation on one word, by one seat.
 #![tactic(auto)]
 
+mod counts;
 mod head;
 pub mod known;
 mod life;

@@ -93,3 +93,53 @@ impl Play<Option<Packet>, Known> for Looks {
 
     ghost then = { looked };
 }
+
+pub(crate) struct Claims;
+
+impl Play<Option<Packet>, Known> for Claims {
+    ghost use Rattle.ground.specs.Tells.{claim_tells};
+
+    ghost then = { claim_tells };
+}
+
+pub(crate) struct ReadsCount;
+
+impl Play<Option<Packet>, Known> for ReadsCount {
+    ghost use Rattle.std.specs.Prelude.{false};
+    ghost use Rattle.ground.specs.Tells.{sole_tells};
+
+    ghost then = { sole_tells false };
+}
+
+pub(crate) struct Frees;
+
+impl Play<Option<Packet>, Known> for Frees {
+    ghost use Rattle.std.specs.Prelude.{true};
+    ghost use Rattle.ground.specs.Tells.{sole_tells};
+
+    ghost then = { sole_tells true };
+}
+
+pub(crate) struct Raises;
+
+impl Play<Option<Packet>, Known> for Raises {
+    ghost use Rattle.ground.specs.Tells.{raise_tells};
+
+    ghost then = { raise_tells };
+}
+
+pub(crate) struct Lowers;
+
+impl Play<Option<Packet>, Known> for Lowers {
+    ghost use Rattle.ground.specs.Tells.{lower_tells};
+
+    ghost then = { lower_tells };
+}
+
+pub(crate) struct Resets;
+
+impl Play<Option<Packet>, Known> for Resets {
+    ghost use Rattle.ground.specs.Tells.{reset_tells};
+
+    ghost then = { reset_tells };
+}

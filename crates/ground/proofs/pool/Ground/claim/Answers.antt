@@ -1,0 +1,30 @@
+use Rattle.std.proofs.Common.{◌≡◌, ◌<◌, sym, ap, subst, rules, arith}
+use Rattle.commons.specs.Bag.{bag}
+use Rattle.commons.specs.declared.limits.Limits.{Limits}
+use Rattle.ground.specs.Seats.{Seated, Grounded}
+use Rattle.ground.proofs.Stepping.{hand_inside}
+use Rattle.ground.proofs.Tallies.{claims}
+use Rattle.ground.proofs.pool.Ground.claim.Goals as goal
+
+-- the word is one of the table, and the operation keeps the rule
+pub load-requires : goal.load-requires
+load-requires c =
+    let seat = c.args.seat.now in
+    let has =
+    subst (λ (z : Seated). 0 < bag z.known.view.hand c.args.element) (sym c.seat.view_is)
+    c.requires.hand in
+    let inside =
+    hand_inside seat.known.limits seat.known.view c.args.element c.owned.ensures
+    c.requires.hand in
+    let mine : seat.known.limits.population ≡ c.args.self.now.limits.population =
+    ap (λ (z : Limits). z.population) c.requires.of.limits in
+    let here : c.self.inside.limits.population ≡ c.args.self.now.limits.population =
+    ap (λ (z : Grounded). z.limits.population) c.self.view_is in
+    let key : c.self.inside.table.shared.key.population ≡ c.self.inside.limits.population =
+    ap (λ (z : Limits). z.population) c.self.invariant.2 in
+    let words = c.self.invariant.0 in
+    let at = c.count_word.ensures in (
+      search rules,
+      omega arith,
+      claims _ _ _ _ c.args.element _ (omega arith) (omega arith) has c.seat.invariant.busy,
+    )
