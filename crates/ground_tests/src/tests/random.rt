@@ -1,0 +1,199 @@
+//! Random schedules of the eight steps of the stack, by two players beside the machine.
+
+use super::acts::Act;
+use super::{assert_closed, assert_views, step_both};
+use crate::pair::Pair;
+use commons::limits::Limits;
+use std::process::Abort;
+use std::test::Fail;
+use step_core::elems::Elems;
+use step_core::view::View;
+use step_core::world::World;
+
+/// Where the generator starts.
+const SEED: u64 = 20_261_125;
+
+const SCHEDULES: u64 = 1_000;
+
+/// Steps of a schedule, the refused ones too.
+const STEPS: u64 = 40;
+
+/// An act of each kind of step, from those that are drawn seldom to those drawn often. Their numbers say nothing.
+const KINDS: [Act; 8] = [
+    Act::Add(0),
+    Act::LoadLength,
+    Act::LoadHead,
+    Act::Reserve(0, 0),
+    Act::LoadLink(0),
+    Act::Cut,
+    Act::StoreLink(0, None),
+    Act::Push,
+];
+
+/// A linear congruential generator.
+#[derive(Drop)]
+struct Draws {
+    state: u64,
+}
+
+impl Draws {
+    ghost use Rattle.std.specs.Prelude.{◌<◌};
+
+    /// The next number below this bound.
+    fn below(&mut self, bound: u64) -> u64
+        requires { 0 < bound }
+        ensures { result < bound }
+    {
+        let product = self.state.wrapping_mul(6_364_136_223_846_793_005);
+        self.state = product.wrapping_add(1_442_695_040_888_963_407);
+        (self.state >> 32) % bound
+    }
+
+    /// One of these elements, or none where there is none.
+    fn pick(&mut self, elems: &Elems) -> Option<u32> {
+        let items = elems.as_slice();
+        if items.is_empty() {
+            return None;
+        }
+        let at = self.below(items.len() as u64);
+        Some(items[at as usize])
+    }
+}
+
+/// The limits of a small pool for two workers.
+fn limits_of(draws: &mut Draws) -> Limits {
+    Limits {
+        population: 1 + draws.below(6),
+        cache: 0,
+        workers: 2,
+        desks: 0,
+        buf: 2048,
+        ref_limit: 1,
+        tries: 1,
+        start_count: 0,
+    }
+}
+
+/// The element of a link value, none at the end.
+fn element_of(link: u32) -> Option<u64> {
+    link.checked_sub(1).map(u64::from)
+}
+
+/// An act of this kind with any numbers, some of them of no pool.
+fn any_act(kind: Act, draws: &mut Draws) -> Act {
+    let element = draws.below(8);
+    let number = draws.below(8);
+    match kind {
+        Act::LoadLength | Act::LoadHead | Act::Cut | Act::Push => kind,
+        Act::Reserve(..) => Act::Reserve(element, number),
+        Act::Add(_) => Act::Add(number),
+        Act::LoadLink(_) => Act::LoadLink(element),
+        Act::StoreLink(..) => Act::StoreLink(element, number.checked_sub(1)),
+    }
+}
+
+/// A reservation of a part of the length word.
+fn reserve_of(world: &World, draws: &mut Draws) -> Option<Act> {
+    let length = world.length();
+    if length == 0 {
+        return None;
+    }
+    Some(Act::Reserve(length, 1 + draws.below(length)))
+}
+
+/// A part of the credit that is given back.
+fn add_of(view: &View, draws: &mut Draws) -> Option<Act> {
+    if view.credit == 0 {
+        return None;
+    }
+    Some(Act::Add(1 + draws.below(view.credit)))
+}
+
+/// A link from an element of the hand to the look's top, the chain's first element or the end.
+fn store_link_of(view: &View, draws: &mut Draws) -> Option<Act> {
+    let element = u64::from(draws.pick(&view.hand)?);
+    let next = match (draws.below(4), &view.look, &view.chain) {
+        (0 | 1, Some(look), _) => element_of(look.head.top),
+        (2, _, Some(chain)) => chain.items.as_slice().first().copied().map(u64::from),
+        _ => None,
+    };
+    Some(Act::StoreLink(element, next))
+}
+
+/// Whether the chain ends at the look's top.
+fn may_push(view: &View) -> bool {
+    match (&view.look, &view.chain) {
+        (Some(look), Some(chain)) => chain.end == look.head.top,
+        _ => false,
+    }
+}
+
+/// An act of this kind that the worker of this number can play, if there is one.
+fn fit_act(kind: Act, world: &World, worker: u32, draws: &mut Draws) -> Option<Act> {
+    let view = world.views().get(worker.checked_sub(1)? as usize)?;
+    match kind {
+        Act::LoadLength => Some(kind),
+        Act::LoadHead if view.look.is_none() => Some(kind),
+        Act::Reserve(..) => reserve_of(world, draws),
+        Act::Add(_) => add_of(view, draws),
+        Act::LoadLink(_) => Some(Act::LoadLink(element_of(view.look.as_ref()?.next)?)),
+        Act::Cut if view.cut_expected().is_some() => Some(kind),
+        Act::StoreLink(..) => store_link_of(view, draws),
+        Act::Push if may_push(view) => Some(kind),
+        _ => None,
+    }
+}
+
+/// A kind by its place in the table, a worker and an act: four times in five an act that the worker can play, if one is
+/// soon found, and else any, by workers that aren't there too.
+fn drawn_act(world: &World, draws: &mut Draws) -> (usize, u32, Act) {
+    if draws.below(5) > 0 {
+        for _ in 0..32 {
+            // Those further down need what those above them made.
+            let kind = draws.below(8).max(draws.below(8)) as usize;
+            let worker = 1 + draws.below(2) as u32;
+            if let Some(act) = fit_act(KINDS[kind], world, worker, draws) {
+                return (kind, worker, act);
+            }
+        }
+    }
+    let kind = draws.below(8) as usize;
+    let worker = draws.below(4) as u32;
+    (kind, worker, any_act(KINDS[kind], draws))
+}
+
+/// Plays a schedule by both, and compares each answer and the words at the end. Notes which kinds were played.
+fn play_schedule<R: Abort + AllocGlobal>(
+    rt: &R,
+    draws: &mut Draws,
+    played: &mut [bool; 8],
+) -> Result<(), Fail> {
+    let limits = limits_of(draws);
+    let mut world = World::open(rt.alloc(), &limits)?;
+    let mut pair = Pair::make(rt.alloc(), &limits)?;
+    for _ in 0..STEPS {
+        let (kind, worker, act) = drawn_act(&world, draws);
+        let is_played = step_both(rt, &mut world, &mut pair, worker, act, "random");
+        if let Some(noted) = played.get_mut(kind) {
+            *noted = *noted || is_played;
+        }
+    }
+    assert_views(rt, &world, &pair, "random");
+    let closed = pair.close()?;
+    assert_closed(rt, &world, &closed, "random");
+    Ok(())
+}
+
+#[test]
+fn two_players_answer_random_schedules_as_the_machine_does(rt: HostRuntime) -> Result<(), Fail> {
+    let mut draws = Draws { state: SEED };
+    let mut played = [false; 8];
+    for _ in 0..SCHEDULES {
+        play_schedule(&rt, &mut draws, &mut played)?;
+    }
+    for kind in 0..8 {
+        let act = KINDS[kind];
+        assert!(&rt; played[kind], "{act:?} was never played");
+    }
+    Ok(())
+}
