@@ -1,0 +1,43 @@
+//! What a pool leaves: each element once, in the common list or in a hand.
+
+use commons::closed::Closed;
+use std::alloc::{AllocError, Global};
+use std::process::Abort;
+use std::test::Fail;
+
+/// The elements of the common list, its top first. A list that doesn't end has one more than the pool.
+fn common_list(alloc: Global, closed: &Closed) -> Result<Vec<u32>, AllocError> {
+    let links = closed.links.as_slice();
+    let mut list = Vec::new(alloc);
+    let mut word = closed.top;
+    for _ in links {
+        if word > 0 {
+            let element = word - 1;
+            list.push(element)?;
+            word = links.get(element as usize).copied().unwrap_or(0);
+        }
+    }
+    if word > 0 {
+        list.push(word - 1)?;
+    }
+    Ok(list)
+}
+
+/// The common list is as long as its length word says, and it and the hands list each element once.
+pub fn assert_each_once<R: Abort>(
+    rt: &R,
+    alloc: Global,
+    closed: &Closed,
+    kept: &[u32],
+    name: &str,
+) -> Result<(), Fail> {
+    let mut list = common_list(alloc, closed)?;
+    assert_eq!(rt; list.len() as u64, closed.length, "{name}: the length");
+    list.extend_from_slice(kept)?;
+    list.sort_unstable();
+    assert_eq!(rt; list.len(), closed.links.len(), "{name}: the elements");
+    for (element, place) in list.iter().zip(0u32..) {
+        assert_eq!(rt; *element, place, "{name}: each element once");
+    }
+    Ok(())
+}

@@ -1,0 +1,91 @@
+//! Workers who get lists and put them back.
+
+ghost use Rattle.std.specs.Prelude.{◌≡◌, ◌<◌, ◌≤◌, length};
+ghost use Rattle.stack_tests.specs.Idle.{IsIdle, Stays};
+
+use commons::refusal::Refusal;
+use ground::pool::Ground;
+use ground::seat::GroundSeat;
+use stack_lf::words::WordCommons;
+use std::alloc::Global;
+
+/// The most elements that a worker gets at once.
+pub const MOST: usize = 32;
+
+/// A worker of a pool, who can be sent to a thread: where none takes it, its seat is lost.
+pub struct Worker {
+    pub seat: GroundSeat,
+}
+
+impl Drop for Worker {
+    fn drop(self) {
+        let Worker { seat } = self;
+        seat.lose();
+    }
+}
+
+impl Worker {
+    /// The worker's seat.
+    fn into_seat(self) -> GroundSeat
+        ensures { result ≡ self.seat }
+    {
+        let Worker { seat } = self;
+        seat
+    }
+}
+
+/// What a worker has done.
+pub struct Played {
+    pub seat: GroundSeat,
+    /// The elements of the worker's hand.
+    pub kept: Vec<u32>,
+    /// How many calls were refused `NoEntries` or `Contended`.
+    pub refused: u64,
+    /// False where a call was refused otherwise, or memory was.
+    pub sound: bool,
+}
+
+/// Gets as many elements as `out` has places for, and puts the same back: the answer of the put, where the get was met.
+pub fn there_and_back(c: &mut WordCommons, out: &mut [u32]) -> Result<Result<(), Refusal>, Refusal>
+    requires { 0 < length out.old }
+    ensures { Stays c.old.seat c.new.seat }
+{
+    c.get_list(out)?;
+    Ok(c.put_list(out))
+}
+
+/// A worker who gets a list of `n` elements and puts it back, again and again. A list whose put is refused stays in the
+/// hand.
+pub fn rounds(alloc: Global, ground: &Ground, worker: Worker, n: usize, times: u32) -> Played
+    requires idle { IsIdle ground.now worker.seat }
+    requires some { 0 < n }
+    requires most { n ≤ 32 }
+    ensures { IsIdle ground.now result.seat }
+{
+    let mut c = WordCommons::new(ground, worker.into_seat());
+    let mut kept = Vec::new(alloc);
+    let mut refused = 0u64;
+    let mut sound = true;
+    for _ in 0..times {
+        let mut places = [0; MOST];
+        let out = &mut places[..n];
+        match there_and_back(&mut c, out) {
+            Ok(Ok(())) => {}
+            Ok(Err(refusal)) => {
+                refused = refused.saturating_add(1);
+                sound &= refusal == Refusal::Contended;
+                sound &= kept.extend_from_slice(out).is_ok();
+            }
+            Err(refusal) => {
+                refused = refused.saturating_add(1);
+                sound &= refusal == Refusal::Contended || refusal == Refusal::NoEntries;
+            }
+        }
+    }
+    Played {
+        seat: c.into_seat(),
+        kept,
+        refused,
+        sound,
+    }
+}

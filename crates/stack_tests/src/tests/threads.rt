@@ -1,0 +1,205 @@
+//! Workers in threads of their own, on the words of one pool.
+
+ghost use Rattle.std.specs.Prelude.{◌≡◌, ◌<◌, ◌≤◌};
+ghost use Rattle.stack_tests.specs.Idle.{IsIdle};
+
+use super::left::assert_each_once;
+use super::playing::{Played, Worker, rounds};
+use super::{closed_of, rows};
+use commons::limits::Limits;
+use commons::refusal::Refusal;
+use ground::pool::Ground;
+use std::alloc::Global;
+use std::process::Abort;
+use std::test::Fail;
+use std::thread;
+use std::thread::Threads;
+
+/// What two workers have done, their seats made one.
+fn joined(ground: &Ground, first: Played, second: Played) -> Played
+    requires first { IsIdle ground.now first.seat }
+    requires second { IsIdle ground.now second.seat }
+    ensures { IsIdle ground.now result.seat }
+{
+    let Played {
+        mut seat,
+        mut kept,
+        refused,
+        sound,
+    } = first;
+    let Played {
+        seat: other,
+        kept: more,
+        refused: besides,
+        sound: as_well,
+    } = second;
+    let all = kept.extend_from_slice(more.as_slice()).is_ok();
+    ground.join(&mut seat, other);
+    Played {
+        seat,
+        kept,
+        refused: refused.saturating_add(besides),
+        sound: sound && as_well && all,
+    }
+}
+
+/// Two workers, each in a thread of its own.
+fn two_play<R: Threads + Sync>(
+    rt: &R,
+    alloc: Global,
+    ground: &Ground,
+    workers: (Worker, Worker),
+    n: usize,
+    times: u32,
+) -> Played
+    requires first { IsIdle ground.now workers.0.seat }
+    requires second { IsIdle ground.now workers.1.seat }
+    requires some { 0 < n }
+    requires most { n ≤ 32 }
+    ensures { IsIdle ground.now result.seat }
+{
+    let (first, second) = workers;
+    let (first, second) = thread::join(
+        rt,
+        move || rounds(alloc, ground, first, n, times),
+        move || rounds(alloc, ground, second, n, times),
+    );
+    joined(ground, first, second)
+}
+
+/// Four workers, each in a thread of its own.
+fn four_play<R: Threads + Sync>(
+    rt: &R,
+    alloc: Global,
+    ground: &Ground,
+    workers: (Worker, Worker),
+    more: (Worker, Worker),
+    n: usize,
+    times: u32,
+) -> Played
+    requires first { IsIdle ground.now workers.0.seat }
+    requires second { IsIdle ground.now workers.1.seat }
+    requires third { IsIdle ground.now more.0.seat }
+    requires fourth { IsIdle ground.now more.1.seat }
+    requires some { 0 < n }
+    requires most { n ≤ 32 }
+    ensures { IsIdle ground.now result.seat }
+{
+    let (first, second) = thread::join(
+        rt,
+        move || -> Played
+            requires first { IsIdle ground.now workers.0.seat }
+            requires second { IsIdle ground.now workers.1.seat }
+            requires some { 0 < n }
+            requires most { n ≤ 32 }
+        { two_play(rt, alloc, ground, workers, n, times) },
+        move || -> Played
+            requires first { IsIdle ground.now more.0.seat }
+            requires second { IsIdle ground.now more.1.seat }
+            requires some { 0 < n }
+            requires most { n ≤ 32 }
+        { two_play(rt, alloc, ground, more, n, times) },
+    );
+    joined(ground, first, second)
+}
+
+/// Ends a pool, and demands that each element is in its common list or in a hand, once.
+fn assert_left<R: Abort>(
+    rt: &R,
+    alloc: Global,
+    ground: Ground,
+    played: Played,
+    name: &str,
+) -> Result<(), Fail>
+    requires { IsIdle ground played.seat }
+{
+    let Played {
+        seat,
+        kept,
+        refused: _,
+        sound,
+    } = played;
+    let closed = closed_of(ground, seat)?;
+    assert!(rt; sound, "{name}: a call was refused for another cause");
+    assert_each_once(rt, alloc, &closed, kept.as_slice(), name)
+}
+
+/// Two workers of one pool, which is closed once both threads have ended.
+fn two_of<R: Threads + Sync + Abort>(
+    rt: &R,
+    alloc: Global,
+    population: u64,
+    n: usize,
+    times: u32,
+) -> Result<(), Fail>
+    requires some { 0 < n }
+    requires most { n ≤ 32 }
+{
+    let name = format!(in alloc; "two workers, {n} of {population}")?;
+    let limits = Limits {
+        population,
+        workers: 2,
+        ..rows::THREE
+    };
+    let (ground, mut seat) = Ground::make(alloc, &limits)?;
+    let second = ground.split(&mut seat);
+    let played = two_play(
+        rt,
+        alloc,
+        &ground,
+        (Worker { seat }, Worker { seat: second }),
+        n,
+        times,
+    );
+    assert_left(rt, alloc, ground, played, name.as_str())
+}
+
+/// Four workers of one pool, which is closed once all threads have ended.
+fn four_of<R: Threads + Sync + Abort>(
+    rt: &R,
+    alloc: Global,
+    population: u64,
+    n: usize,
+    times: u32,
+) -> Result<(), Fail>
+    requires some { 0 < n }
+    requires most { n ≤ 32 }
+{
+    let name = format!(in alloc; "four workers, {n} of {population}")?;
+    let limits = Limits {
+        population,
+        workers: 4,
+        ..rows::THREE
+    };
+    let (ground, mut seat) = Ground::make(alloc, &limits)?;
+    let second = ground.split(&mut seat);
+    let third = ground.split(&mut seat);
+    let fourth = ground.split(&mut seat);
+    let played = four_play(
+        rt,
+        alloc,
+        &ground,
+        (Worker { seat }, Worker { seat: second }),
+        (Worker { seat: third }, Worker { seat: fourth }),
+        n,
+        times,
+    );
+    assert_left(rt, alloc, ground, played, name.as_str())
+}
+
+#[test]
+fn two_workers_leave_each_element_once(rt: HostRuntime) -> Result<(), Fail> {
+    two_of(&rt, rt.alloc(), 8, 3, 1_000)
+}
+
+#[test]
+fn four_workers_leave_each_element_once(rt: HostRuntime) -> Result<(), Fail> {
+    for population in [8, 64, 1_024] {
+        four_of(&rt, rt.alloc(), population, 1, 10_000)?;
+        four_of(&rt, rt.alloc(), population, 3, 10_000)?;
+        if population > 8 {
+            four_of(&rt, rt.alloc(), population, 32, 10_000)?;
+        }
+    }
+    Ok(())
+}
