@@ -104,12 +104,13 @@ fn one_worker_is_never_refused(rt: HostRuntime) -> Result<(), Fail> {
     let Played {
         seat,
         kept,
+        met,
         refused,
         sound,
     } = rounds(rt.alloc(), &ground, Worker { seat }, 3, 1_000);
     let closed = closed_of(ground, seat)?;
     assert!(rt; sound, "a call was refused");
-    assert_eq!(rt; refused, 0);
+    assert_eq!(rt; (met, refused), (1_000, 0));
     assert_eq!(rt; closed.length, 8);
     assert_each_once(&rt, rt.alloc(), &closed, kept.as_slice(), "one worker")
 }

@@ -39,9 +39,11 @@ pub struct Played {
     pub seat: GroundSeat,
     /// The elements of the worker's hand.
     pub kept: Vec<u32>,
-    /// How many calls were refused `NoEntries` or `Contended`.
+    /// How many lists went there and back.
+    pub met: u64,
+    /// How many gets or puts were refused.
     pub refused: u64,
-    /// False where a call was refused otherwise, or memory was.
+    /// False where a refusal was neither `NoEntries` nor `Contended`, or memory was refused.
     pub sound: bool,
 }
 
@@ -64,13 +66,14 @@ pub fn rounds(alloc: Global, ground: &Ground, worker: Worker, n: usize, times: u
 {
     let mut c = WordCommons::new(ground, worker.into_seat());
     let mut kept = Vec::new(alloc);
+    let mut met = 0u64;
     let mut refused = 0u64;
     let mut sound = true;
     for _ in 0..times {
         let mut places = [0; MOST];
         let out = &mut places[..n];
         match there_and_back(&mut c, out) {
-            Ok(Ok(())) => {}
+            Ok(Ok(())) => met = met.saturating_add(1),
             Ok(Err(refusal)) => {
                 refused = refused.saturating_add(1);
                 sound &= refusal == Refusal::Contended;
@@ -85,6 +88,7 @@ pub fn rounds(alloc: Global, ground: &Ground, worker: Worker, n: usize, times: u
     Played {
         seat: c.into_seat(),
         kept,
+        met,
         refused,
         sound,
     }

@@ -24,22 +24,25 @@ fn joined(ground: &Ground, first: Played, second: Played) -> Played
     let Played {
         mut seat,
         mut kept,
+        met,
         refused,
         sound,
     } = first;
     let Played {
         seat: other,
         kept: more,
-        refused: besides,
-        sound: as_well,
+        met: met_too,
+        refused: refused_too,
+        sound: sound_too,
     } = second;
     let all = kept.extend_from_slice(more.as_slice()).is_ok();
     ground.join(&mut seat, other);
     Played {
         seat,
         kept,
-        refused: refused.saturating_add(besides),
-        sound: sound && as_well && all,
+        met: met.saturating_add(met_too),
+        refused: refused.saturating_add(refused_too),
+        sound: sound && sound_too && all,
     }
 }
 
@@ -116,11 +119,13 @@ fn assert_left<R: Abort>(
     let Played {
         seat,
         kept,
+        met,
         refused: _,
         sound,
     } = played;
     let closed = closed_of(ground, seat)?;
     assert!(rt; sound, "{name}: a call was refused for another cause");
+    assert!(rt; met > 0, "{name}: no list went there and back");
     assert_each_once(rt, alloc, &closed, kept.as_slice(), name)
 }
 
