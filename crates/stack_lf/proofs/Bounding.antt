@@ -3,15 +3,17 @@ use Rattle.std.proofs.Common.{◌≡◌, ℕ, zero, suc, ◌+◌, ◌*◌, ◌<�
 use Rattle.std.specs.Prelude.{Result, Ok, Err}
 use Rattle.std.proofs.lemmas.List.{length-append, length-map}
 use Rattle.std.proofs.Math.Nat.{mul-le-mul_right, suc-mul}
-use Rattle.commons.specs.Calls.{Call, GetList, PutList, CommonCount}
+use Rattle.commons.specs.Calls.{Call, GetList, PutList, Claim, CountOf, Raise, Lower, Offer, Take, CommonCount}
 use Rattle.commons.specs.declared.limits.Limits.{Limits}
 use Rattle.commons.specs.declared.refusal.Refusal.{Refusal}
-use Rattle.commons.specs.declared.refusal.Refusal.TheVariants.{NoEntries, Contended, HeadSpent}
+use Rattle.commons.specs.declared.refusal.Refusal.TheVariants.{NoEntries, Contended, HeadSpent, RefSpent}
+use Rattle.commons.specs.declared.refusal.Lowered.{Lowered as Answer}
+use Rattle.commons.specs.declared.refusal.Lowered.TheVariants.{Last, Still}
 use Rattle.step_core.specs.declared.view.Head.{Head}
 use Rattle.step_core.specs.declared.step.Step.TheVariants.{Cut as CutStep, Push as PushStep}
 use Rattle.step_core.specs.declared.step.Outcome.TheVariants.{LostTo, Won, Got}
 use Rattle.ground.specs.Seats.{Note}
-use Rattle.stack_lf.specs.Tries.{Try, Walk, IsWalk, Short, Reserved, Added, Ended, Beaten, link_note, elements, element_in, stores, notes, notes_of, IsMiss, IsLostCut, IsWonCut, IsLostPush, IsWonPush, IsSpent, IsGet, IsPut, IsOfCall}
+use Rattle.stack_lf.specs.Tries.{Try, Walk, IsWalk, Taken, Counted, Raised, Freed, Lowered, Lasted, IsLostRaise, IsRaise, IsLower, Short, Reserved, Added, Ended, Beaten, link_note, elements, element_in, stores, notes, notes_of, IsMiss, IsLostCut, IsWonCut, IsLostPush, IsWonPush, IsSpent, IsGet, IsPut, IsOfCall}
 use Rattle.stack_lf.specs.Bounds.{most_steps}
 use Rattle.stack_lf.proofs.Composing.{notes_of-append}
 use Rattle.stack_lf.proofs.Reading.{all_tail}
@@ -205,9 +207,43 @@ same_steps : (ts us : List Try) (m : ℕ) → ts ≡ us → length (notes_of us)
     length (notes_of ts) ≤ m
 same_steps ts us m e h = subst (λ (z : List Try). length (notes_of z) ≤ m) (sym e) h
 
+lost_raise_steps : (l : Limits) (i : ℕ) (x : Try) → IsLostRaise l i x → length (notes x) ≤ 2
+lost_raise_steps l i x h = by_eq x _ 2 h.4 (omega arith)
+
+raise_bounded : (l : Limits) (i : ℕ) (answer : Result (Unit {0}) Refusal) (ts : List Try) →
+    IsRaise l i answer ts → length (notes_of ts) ≤ 2 * l.tries
+raise_bounded l i (Ok _) ts d =
+    let all = ap (λ (z : List Try). length (notes_of z)) d.5 in
+    let b = each_bounded (IsLostRaise l i) 2 d.0 (lost_raise_steps l i) d.3 in
+    let less = d.2 in
+    omega (arith, steps-append d.0 (Raised i d.1 ∷ []), steps-cons (Raised i d.1) [])
+raise_bounded l i (Err RefSpent) ts d =
+    let all = ap (λ (z : List Try). length (notes_of z)) d.3 in
+    let b = each_bounded (IsLostRaise l i) 2 d.0 (lost_raise_steps l i) d.2 in
+    let less = d.1 in
+    omega (arith, steps-append d.0 (Counted i l.ref_limit ∷ []), steps-cons (Counted i l.ref_limit) [])
+raise_bounded l i (Err Contended) ts d =
+    let b = each_bounded (IsLostRaise l i) 2 ts (lost_raise_steps l i) d.1 in
+    let len = d.0 in
+    omega arith
+raise_bounded l i (Err _) ts d = absurd d
+
+lower_steps : (i : ℕ) (answer : Answer) (x : Try) → IsLower i answer x → length (notes x) ≤ 3
+lower_steps i Last x d = ⊎_elim
+    (λ (a : x ≡ Freed i). by_eq x (Freed i) 3 a (omega arith))
+    (λ (b : (c : ℕ) × (1 < c) × (x ≡ Lasted i c)). by_eq x (Lasted i b.0) 3 b.2 (omega arith)) d
+lower_steps i Still x d = by_eq x (Lowered i d.0 d.1) 3 d.4 (omega arith)
+
 pub bounded : (l : Limits) (call : Call) (ts : List Try) → IsOfCall l call ts →
     length (notes_of ts) ≤ most_steps l call
 bounded l (GetList n answer) ts d = get_bounded l n answer ts d
 bounded l (PutList xs answer) ts d = put_bounded l xs answer ts d
+bounded l (Claim i) ts d = same_steps ts (Taken i ∷ []) 1 d (omega arith)
+bounded l (CountOf i n) ts d = same_steps ts (Counted i n ∷ []) 1 d (omega arith)
+bounded l (Raise i answer) ts d = raise_bounded l i answer ts d
+bounded l (Lower i answer) ts d =
+    same_steps ts (d.0 ∷ []) 3 d.2
+    (let one = lower_steps i answer d.0 d.1 in omega (arith, steps-cons d.0 []))
+bounded l (Offer e packet answer) ts d = same_steps ts [] 0 d.2 (omega arith)
+bounded l (Take e answer) ts d = same_steps ts [] 0 d.2 (omega arith)
 bounded l (CommonCount n) ts d = same_steps ts (Short n ∷ []) 1 d (omega arith)
-bounded l call ts d = absurd d

@@ -7,3 +7,4 @@ pub mod Meeting
 pub mod Bounding
 pub mod Taking
 pub mod Losing
+pub mod Tallying

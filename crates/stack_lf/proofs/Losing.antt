@@ -2,12 +2,14 @@
 use Rattle.std.proofs.Common.{◌≡◌, ℕ, ◌<◌, ◌≤◌, ⊎_elim, List, [], ◌∷◌, ◌++◌, length, All, sym, subst, arith}
 use Rattle.std.specs.Prelude.{Result, Ok, Err}
 use Rattle.std.proofs.lemmas.List.Elements.{All-append, All-cons}
-use Rattle.commons.specs.Calls.{Call, GetList, PutList, CommonCount}
+use Rattle.commons.specs.Calls.{Call, GetList, PutList, Claim, CountOf, Raise, Lower, Offer, Take, CommonCount}
 use Rattle.commons.specs.declared.limits.Limits.{Limits}
 use Rattle.commons.specs.declared.refusal.Refusal.{Refusal}
-use Rattle.commons.specs.declared.refusal.Refusal.TheVariants.{NoEntries, Contended, HeadSpent}
+use Rattle.commons.specs.declared.refusal.Refusal.TheVariants.{NoEntries, Contended, HeadSpent, RefSpent}
+use Rattle.commons.specs.declared.refusal.Lowered.{Lowered as Answer}
+use Rattle.commons.specs.declared.refusal.Lowered.TheVariants.{Last, Still}
 use Rattle.step_core.specs.declared.view.Head.{Head}
-use Rattle.stack_lf.specs.Tries.{Try, Walk, IsWalk, Short, Missed, Reserved, Stopped, Ended, Beaten, Cutoff, Unpushed, Pushed, Added, IsMiss, IsLostCut, IsWonCut, IsLostPush, IsWonPush, IsSpent, IsGet, IsPut, IsOfCall}
+use Rattle.stack_lf.specs.Tries.{Try, Walk, IsWalk, Short, Missed, Reserved, Stopped, Ended, Beaten, Cutoff, Unpushed, Pushed, Added, Taken, Counted, Unraised, Raised, Freed, Lowered, Lasted, IsLostRaise, IsRaise, IsLower, IsMiss, IsLostCut, IsWonCut, IsLostPush, IsWonPush, IsSpent, IsGet, IsPut, IsOfCall}
 use Rattle.stack_lf.specs.Notes.{LostToAnother}
 
 by_eq : (x y : Try) → x ≡ y → LostToAnother y → LostToAnother x
@@ -103,10 +105,38 @@ put_lost tries xs (Err HeadSpent) ts d =
 put_lost tries xs (Err Contended) ts d = each (IsLostPush xs) ts (of_lost_push xs) d.1
 put_lost tries xs (Err _) ts d = absurd d
 
+of_lost_raise : (l : Limits) (i : ℕ) (x : Try) → IsLostRaise l i x → LostToAnother x
+of_lost_raise l i x h = by_eq x (Unraised i h.0 h.1) h.4 h.3
+
+alone : (x : Try) → LostToAnother x → All LostToAnother (x ∷ [])
+alone x h = with_one [] [] x none h none
+
+raise_lost : (l : Limits) (i : ℕ) (answer : Result (Unit {0}) Refusal) (ts : List Try) →
+    IsRaise l i answer ts → All LostToAnother ts
+raise_lost l i (Ok _) ts d =
+    of_all ts (d.0 ++ Raised i d.1 ∷ []) d.5
+    (with_one d.0 [] (Raised i d.1) (each (IsLostRaise l i) d.0 (of_lost_raise l i) d.3) tt none)
+raise_lost l i (Err RefSpent) ts d =
+    of_all ts (d.0 ++ Counted i l.ref_limit ∷ []) d.3
+    (with_one d.0 [] (Counted i l.ref_limit) (each (IsLostRaise l i) d.0 (of_lost_raise l i) d.2) tt none)
+raise_lost l i (Err Contended) ts d = each (IsLostRaise l i) ts (of_lost_raise l i) d.1
+raise_lost l i (Err _) ts d = absurd d
+
+of_lower : (i : ℕ) (answer : Answer) (x : Try) → IsLower i answer x → LostToAnother x
+of_lower i Last x d = ⊎_elim
+    (λ (a : x ≡ Freed i). by_eq x (Freed i) a tt)
+    (λ (b : (c : ℕ) × (1 < c) × (x ≡ Lasted i c)). by_eq x (Lasted i b.0) b.2 tt) d
+of_lower i Still x d = by_eq x (Lowered i d.0 d.1) d.4 tt
+
 pub changes : (l : Limits) (call : Call) (ts : List Try) → IsOfCall l call ts →
     All LostToAnother ts
 changes l (GetList n answer) ts d = get_lost l.tries n answer ts d
 changes l (PutList xs answer) ts d = put_lost l.tries xs answer ts d
-changes l (CommonCount n) ts d =
-    of_all ts (Short n ∷ []) d (with_one [] [] (Short n) none tt none)
-changes l call ts d = absurd d
+changes l (Claim i) ts d = of_all ts (Taken i ∷ []) d (alone (Taken i) tt)
+changes l (CountOf i n) ts d = of_all ts (Counted i n ∷ []) d (alone (Counted i n) tt)
+changes l (Raise i answer) ts d = raise_lost l i answer ts d
+changes l (Lower i answer) ts d =
+    of_all ts (d.0 ∷ []) d.2 (alone d.0 (of_lower i answer d.0 d.1))
+changes l (Offer e packet answer) ts d = of_all ts [] d.2 none
+changes l (Take e answer) ts d = of_all ts [] d.2 none
+changes l (CommonCount n) ts d = of_all ts (Short n ∷ []) d (alone (Short n) tt)

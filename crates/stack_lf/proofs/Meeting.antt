@@ -1,18 +1,28 @@
 -- What each call leaves, in the trait's words.
-use Rattle.std.proofs.Common.{◌≡◌, ℕ, ◌≤◌, List, [], ◌∷◌, ◌++◌, reverse, refl, sym, ap, ◌∙◌, subst, arith}
-use Rattle.std.specs.Prelude.{Result, Ok, Err}
-use Rattle.commons.specs.Bag.{bag}
-use Rattle.commons.proofs.Bags.{bag-append, bag-reverse}
-use Rattle.commons.specs.Calls.{Call, GetList, PutList, CommonCount, HasEffect, Did, with_list}
+use Rattle.std.proofs.Common.{◌≡◌, ◌≢◌, ◌==◌, ℕ, ◌+◌, ◌-◌, ◌<◌, ◌≤◌, Bool, true, false, Option, filter, append-nil, ⊎_elim, List, [], ◌∷◌, ◌++◌, reverse, refl, sym, ap, ◌∙◌, subst, arith}
+use Rattle.std.specs.Prelude.{Result, Ok, Err, if◌then◌else◌}
+use Rattle.std.proofs.lemmas.Bool.{cond_both, cond-false, ne_eqb, cases_eq, true≢false}
+use Rattle.commons.specs.Bag.{bag, one}
+use Rattle.commons.proofs.Bags.{bag-append, bag-reverse, bag-nil, bag-cons, bag-single, one-same}
+use Rattle.commons.specs.Calls.{Call, GetList, PutList, Claim, CountOf, Raise, Lower, Offer, Take, CommonCount, HasEffect, Did, with_list, back}
+use Rattle.commons.specs.declared.limits.Limits.{Limits}
+use Rattle.commons.specs.declared.packet.Seg.{Seg}
+use Rattle.commons.specs.declared.refusal.Lowered.{Lowered as Answer}
+use Rattle.commons.specs.declared.refusal.Lowered.TheVariants.{Last, Still}
+use Rattle.commons.specs.declared.refusal.Refusal.TheVariants.{Contended, NoSuchDesk}
 use Rattle.commons.specs.declared.refusal.Refusal.{Refusal}
 use Rattle.step_core.specs.declared.view.View.{View}
-use Rattle.step_core.specs.declared.step.Step.TheVariants.{LoadLength}
+use Rattle.step_core.specs.declared.view.Chain.{Chain}
+use Rattle.step_core.specs.Bags.{has, without, still_held}
+use Rattle.step_core.specs.Sights.{chain_without, claimed, freed, raised, hold_ended}
+use Rattle.step_core.proofs.Bags.{times-without}
+use Rattle.step_core.specs.declared.step.Step.TheVariants.{LoadLength, Sole, Claim as ClaimStep}
 use Rattle.step_core.specs.declared.step.Outcome.TheVariants.{Value}
 use Rattle.ground.specs.Seats.{Grounded, Seated, IsOf, Note, after, Steps}
 use Rattle.ground.specs.Own.{AtRest}
 use Rattle.stack_lf.specs.Sides.{side_of}
-use Rattle.stack_lf.specs.Tries.{Try, Short, notes_of, readings_of, IsOfCall, DidOnWords}
-use Rattle.stack_lf.specs.Leaves.{tried_to, seen_as, put_as, Gets, Puts}
+use Rattle.stack_lf.specs.Tries.{Try, Short, Taken, Counted, notes, notes_of, readings_of, IsOfCall, IsContended, DidOnWords}
+use Rattle.stack_lf.specs.Leaves.{IsAlone, tried_to, seen_as, put_as, Gets, Puts, Raises, Lowers, lowered_as}
 use Rattle.stack_lf.proofs.Composing.{still_of}
 use Rattle.stack_lf.proofs.Storing.{bag-minus}
 use Rattle.stack_lf.proofs.Reading.{causes}
@@ -31,8 +41,9 @@ went_rest s t w r = subst (λ (x : Seated). AtRest x.known.view) (sym w.2) (w.3 
 -- what a call did, from the tries that it made, and their effect
 pub doing : (s : Seated) (call : Call) (t : Seated) (ts : List Try) (v : View) →
     IsOfCall s.known.limits call ts → HasEffect call (side_of s) (side_of t) →
-    t ≡ tried_to s ts v → v.part ≡ s.known.view.part → Did DidOnWords side_of s call t
-doing s call t ts v made effect e part = record {
+    t ≡ tried_to s ts v → v.part ≡ s.known.view.part → (IsAlone s → IsContended call → ⊥) →
+    Did DidOnWords side_of s call t
+doing s call t ts v made effect e part alone = record {
   readings = readings_of ts;
   step = record {
     led = record {
@@ -45,6 +56,7 @@ doing s call t ts v made effect e part = record {
       made = made;
       steps = ap (λ (x : Seated). x.known.steps) e;
       read = refl;
+      alone = alone;
     };
     cause = causes s.known.limits call ts made;
     effect = effect;
@@ -88,15 +100,29 @@ get_effect tries n xs (Ok _) s t g = record {
 }
 get_effect tries n xs (Err e) s t g = ap side_of g.4
 
+-- a refusal after as many lost tries as the pool allows is called so
+get_contended : (n : ℕ) (e : Refusal) → IsContended (GetList n (Err e)) → e ≡ Contended
+get_contended n Contended c = refl
+get_contended n _ c = absurd c
+
+put_contended : (xs : List ℕ) (e : Refusal) → IsContended (PutList xs (Err e)) → e ≡ Contended
+put_contended xs Contended c = refl
+put_contended xs _ c = absurd c
+
+raise_contended : (i : ℕ) (e : Refusal) → IsContended (Raise i (Err e)) → e ≡ Contended
+raise_contended i Contended c = refl
+raise_contended i _ c = absurd c
+
 pub get_did : (n : ℕ) (xs : List ℕ) (r : Result (Unit {0}) Refusal) (s t : Seated) →
-    Gets s.known.limits.tries n xs r s t →
+    Gets s.known.limits.tries n xs r s t → (IsAlone s → r ≢ Err Contended) →
     Did DidOnWords side_of s (GetList n (with_list r xs)) t
-get_did n xs (Ok m) s t g =
+get_did n xs (Ok m) s t g alone =
     doing s (GetList n (Ok xs)) t g.0 _ g.3
-    (get_effect s.known.limits.tries n xs (Ok m) s t g) g.4 refl
-get_did n xs (Err e) s t g =
+    (get_effect s.known.limits.tries n xs (Ok m) s t g) g.4 refl (λ whole c. c)
+get_did n xs (Err e) s t g alone =
     doing s (GetList n (Err e)) t g.0 _ g.3
     (get_effect s.known.limits.tries n xs (Err e) s t g) g.4 refl
+    (λ whole c. alone whole (ap Err (get_contended n e c)))
 
 -- ---- a put
 
@@ -131,13 +157,14 @@ put_effect tries xs (Err e) s t h g = ap side_of g.4
 
 pub put_did : (xs : List ℕ) (r : Result (Unit {0}) Refusal) (s t : Seated) →
     ((i : ℕ) → bag xs i ≤ bag s.known.view.hand i) → Puts s.known.limits.tries xs r s t →
-    Did DidOnWords side_of s (PutList xs r) t
-put_did xs (Ok m) s t h g =
+    (IsAlone s → r ≢ Err Contended) → Did DidOnWords side_of s (PutList xs r) t
+put_did xs (Ok m) s t h g alone =
     doing s (PutList xs (Ok m)) t g.0 _ g.3
-    (put_effect s.known.limits.tries xs (Ok m) s t h g) g.4 refl
-put_did xs (Err e) s t h g =
+    (put_effect s.known.limits.tries xs (Ok m) s t h g) g.4 refl (λ whole c. c)
+put_did xs (Err e) s t h g alone =
     doing s (PutList xs (Err e)) t g.0 _ g.3
     (put_effect s.known.limits.tries xs (Err e) s t h g) g.4 refl
+    (λ whole c. alone whole (ap Err (put_contended xs e c)))
 
 -- ---- a count
 
@@ -147,7 +174,203 @@ length_went n s t g = ((LoadLength, Value n) ∷ [], s.known.view, g, λ r. r)
 pub length_did : (n : ℕ) (s t : Seated) → Steps LoadLength (Value n) s t →
     Did DidOnWords side_of s (CommonCount n) t
 length_did n s t g =
-    doing s (CommonCount n) t (Short n ∷ []) s.known.view refl (ap side_of g) g refl
+    doing s (CommonCount n) t (Short n ∷ []) s.known.view refl (ap side_of g) g refl (λ whole c. c)
+
+-- ---- the counts
+
+-- of one element at least as many are there
+one_below : (e : ℕ) (xs : List ℕ) (i : ℕ) → 0 < bag xs e → one e i ≤ bag xs i
+one_below e xs i h = ⊎_elim
+    (λ (same : e ≡ i). subst (λ (k : ℕ). one e k ≤ bag xs k) same (omega (arith, one-same e)))
+    (λ (n : e ≢ i). let z : one e i ≡ 0 = cond-false (e == i) 1 0 (ne_eqb e i n) in omega arith)
+    (cases_eq e i)
+
+bag-less : (x : ℕ) (xs : List ℕ) (i : ℕ) → bag (without x xs) i ≡ bag xs i - one x i
+bag-less x xs i = omega (arith, times-without i x xs, bag-single x i)
+
+bag-more : (x : ℕ) (xs : List ℕ) (i : ℕ) → bag (xs ++ x ∷ []) i ≡ bag xs i + one x i
+bag-more x xs i = omega (arith, bag-append xs (x ∷ []) i, bag-single x i)
+
+-- what a filter leaves of a list
+kept : (p : ℕ → Bool) (xs : List ℕ) (i : ℕ) → bag (filter p xs) i ≡ (if p i then bag xs i else 0)
+kept p [] i = cond_both (p i) (bag [] i) 0 (λ n. bag [] i ≡ n) (λ e. refl) (λ e. bag-nil i)
+kept p (x ∷ xs) i =
+    let rest = kept p xs i in
+    cond_both (p x) (x ∷ filter p xs) (filter p xs)
+    (λ ys. bag ys i ≡ (if p i then bag (x ∷ xs) i else 0))
+    (λ e. cond_both (p i) (bag (x ∷ xs) i) 0 (λ n. bag (x ∷ filter p xs) i ≡ n)
+    (λ f. let same : bag (filter p xs) i ≡ bag xs i =
+    rest ∙ ap (λ (b : Bool). if b then bag xs i else 0) f in
+    omega (arith, bag-cons x xs i, bag-cons x (filter p xs) i))
+    (λ f. let none : bag (filter p xs) i ≡ 0 =
+    rest ∙ ap (λ (b : Bool). if b then bag xs i else 0) f in
+    let other : x ≢ i = λ same. true≢false (sym e ∙ (ap p same ∙ f)) in
+    let z : one x i ≡ 0 = cond-false (x == i) 1 0 (ne_eqb x i other) in
+    omega (arith, bag-cons x (filter p xs) i)))
+    (λ e. cond_both (p i) (bag (x ∷ xs) i) 0 (λ n. bag (filter p xs) i ≡ n)
+    (λ f. let same : bag (filter p xs) i ≡ bag xs i =
+    rest ∙ ap (λ (b : Bool). if b then bag xs i else 0) f in
+    let other : x ≢ i = λ same_one. true≢false (sym f ∙ (sym (ap p same_one) ∙ e)) in
+    let z : one x i ≡ 0 = cond-false (x == i) 1 0 (ne_eqb x i other) in
+    omega (arith, bag-cons x xs i))
+    (λ f. rest ∙ ap (λ (b : Bool). if b then bag xs i else 0) f))
+
+pub claim_went : (e : ℕ) (s t : Seated) → Steps (ClaimStep e) (Value 1) s t → Went s t
+claim_went e s t g = (
+  (ClaimStep e, Value 1) ∷ [],
+  claimed s.known.view e,
+  g,
+  λ r. record {
+    zeros = r.zeros;
+    credit = r.credit;
+    chain = ap (λ (c : Option Chain). chain_without e c) r.chain;
+    work = r.work;
+  },
+)
+
+claim_effect : (e : ℕ) (s t : Seated) → 0 < bag s.known.view.hand e →
+    Steps (ClaimStep e) (Value 1) s t → HasEffect (Claim e) (side_of s) (side_of t)
+claim_effect e s t here g = record {
+  limits = ap (λ (x : Seated). x.known.limits) g;
+  hand = λ i.
+      let h = ap (λ (x : Seated). bag x.known.view.hand i) g in
+      let m = one_below e s.known.view.hand i here in
+      omega (arith, bag-less e s.known.view.hand i);
+  holds = λ i. ap (λ (x : Seated). bag x.known.view.holds i) g ∙ bag-more e s.known.view.holds i;
+  headers = λ i.
+      ap (λ (x : Seated). bag x.known.view.headers i) g ∙ bag-more e s.known.view.headers i;
+}
+
+pub claim_did : (e : ℕ) (s t : Seated) → 0 < bag s.known.view.hand e →
+    Steps (ClaimStep e) (Value 1) s t → Did DidOnWords side_of s (Claim e) t
+claim_did e s t here g =
+    doing s (Claim e) t (Taken e ∷ []) (claimed s.known.view e) refl (claim_effect e s t here g) g
+    refl (λ whole c. c)
+
+pub count_went : (e n : ℕ) (s t : Seated) → Steps (Sole e false) (Value n) s t → Went s t
+count_went e n s t g = ((Sole e false, Value n) ∷ [], s.known.view, g, λ r. r)
+
+pub count_did : (e n : ℕ) (s t : Seated) → Steps (Sole e false) (Value n) s t →
+    bag s.known.view.holds e ≤ n → n ≤ s.known.limits.ref_limit →
+    Did DidOnWords side_of s (CountOf e n) t
+count_did e n s t g low high =
+    doing s (CountOf e n) t (Counted e n ∷ []) s.known.view refl
+    (record { same = ap side_of g; own = low; limited = high }) g refl (λ whole c. c)
+
+pub raise_went : (l : Limits) (e : ℕ) (r : Result (Unit {0}) Refusal) (s t : Seated) →
+    Raises l e r s t → Went s t
+raise_went l e (Ok _) s t g = (
+  notes_of g.0,
+  raised s.known.view e,
+  g.2,
+  λ r. record { zeros = r.zeros; credit = r.credit; chain = r.chain; work = r.work },
+)
+raise_went l e (Err _) s t g = (notes_of g.0, s.known.view, g.2, λ r. r)
+
+raise_effect : (l : Limits) (e : ℕ) (r : Result (Unit {0}) Refusal) (s t : Seated) →
+    0 < bag s.known.view.holds e → Raises l e r s t →
+    HasEffect (Raise e r) (side_of s) (side_of t)
+raise_effect l e (Ok _) s t held g = record {
+  held = held;
+  limits = ap (λ (x : Seated). x.known.limits) g.2;
+  hand = λ i. ap (λ (x : Seated). bag x.known.view.hand i) g.2;
+  holds = λ i. ap (λ (x : Seated). bag x.known.view.holds i) g.2 ∙ bag-more e s.known.view.holds i;
+  headers = headers_as s t _ _ g.2;
+}
+raise_effect l e (Err _) s t held g = ap side_of g.2
+
+pub raise_did : (e : ℕ) (r : Result (Unit {0}) Refusal) (s t : Seated) →
+    0 < bag s.known.view.holds e → Raises s.known.limits e r s t →
+    (IsAlone s → r ≢ Err Contended) → Did DidOnWords side_of s (Raise e r) t
+raise_did e (Ok m) s t held g alone =
+    doing s (Raise e (Ok m)) t g.0 _ g.1 (raise_effect s.known.limits e (Ok m) s t held g) g.2 refl
+    (λ whole c. c)
+raise_did e (Err cause) s t held g alone =
+    doing s (Raise e (Err cause)) t g.0 _ g.1
+    (raise_effect s.known.limits e (Err cause) s t held g) g.2 refl
+    (λ whole c. alone whole (ap Err (raise_contended e cause c)))
+
+pub lower_went : (e : ℕ) (answer : Answer) (s t : Seated) → Lowers e answer s t → Went s t
+lower_went e Last s t g = (
+  notes g.0,
+  freed s.known.view e,
+  g.2,
+  λ r. record { zeros = r.zeros; credit = r.credit; chain = r.chain; work = r.work },
+)
+lower_went e Still s t g = (
+  notes g.0,
+  hold_ended s.known.view e false,
+  g.2,
+  λ r. record { zeros = r.zeros; credit = r.credit; chain = r.chain; work = r.work },
+)
+
+lower_hand : (e : ℕ) (answer : Answer) (s t : Seated) → Lowers e answer s t → (i : ℕ) →
+    bag t.known.view.hand i ≡ bag s.known.view.hand i + back answer e i
+lower_hand e Last s t g i =
+    ap (λ (x : Seated). bag x.known.view.hand i) g.2 ∙ bag-more e s.known.view.hand i
+lower_hand e Still s t g i =
+    let h = ap (λ (x : Seated). bag x.known.view.hand i) g.2 in omega arith
+
+lowered_holds : (e : ℕ) (answer : Answer) (s t : Seated) → Lowers e answer s t →
+    t.known.view.holds ≡ without e s.known.view.holds
+lowered_holds e Last s t g = ap (λ (x : Seated). x.known.view.holds) g.2
+lowered_holds e Still s t g = ap (λ (x : Seated). x.known.view.holds) g.2
+
+lowered_headers : (e : ℕ) (answer : Answer) (s t : Seated) → Lowers e answer s t →
+    t.known.view.headers ≡ still_held s.known.view.headers (without e s.known.view.holds)
+lowered_headers e Last s t g = ap (λ (x : Seated). x.known.view.headers) g.2
+lowered_headers e Still s t g = ap (λ (x : Seated). x.known.view.headers) g.2
+
+lower_effect : (e : ℕ) (answer : Answer) (s t : Seated) → 0 < bag s.known.view.holds e →
+    Lowers e answer s t → HasEffect (Lower e answer) (side_of s) (side_of t)
+lower_effect e answer s t held g = record {
+  limits = lower_limits answer g;
+  hand = lower_hand e answer s t g;
+  holds = λ i.
+      let h = ap (λ (l : List ℕ). bag l i) (lowered_holds e answer s t g) in
+      let m = one_below e s.known.view.holds i held in
+      omega (arith, bag-less e s.known.view.holds i);
+  headers = λ i.
+      ap (λ (l : List ℕ). bag l i) (lowered_headers e answer s t g)
+      ∙ (kept (has (without e s.known.view.holds)) s.known.view.headers i
+      ∙ ap (λ (l : List ℕ). if has l i then bag s.known.view.headers i else 0)
+      (sym (lowered_holds e answer s t g)));
+}
+  where
+    lower_limits : (a : Answer) → Lowers e a s t → t.known.limits ≡ s.known.limits
+    lower_limits Last g = ap (λ (x : Seated). x.known.limits) g.2
+    lower_limits Still g = ap (λ (x : Seated). x.known.limits) g.2
+
+part_lowered : (e : ℕ) (answer : Answer) (v : View) → (lowered_as e answer v).part ≡ v.part
+part_lowered e Last v = refl
+part_lowered e Still v = refl
+
+pub lower_did : (e : ℕ) (answer : Answer) (s t : Seated) → 0 < bag s.known.view.holds e →
+    Lowers e answer s t → Did DidOnWords side_of s (Lower e answer) t
+lower_did e answer s t held g =
+    doing s (Lower e answer) t (g.0 ∷ []) (lowered_as e answer s.known.view) (g.0, g.1, refl)
+    (lower_effect e answer s t held g)
+    (g.2 ∙ ap (λ (l : List Note). after s l (lowered_as e answer s.known.view))
+    (sym (append-nil (notes g.0))))
+    (part_lowered e answer s.known.view) (λ whole c. c)
+
+-- the seat with no step more
+same_seat : (s : Seated) → s ≡ tried_to s [] s.known.view
+same_seat s =
+    ap (λ (l : List Note). record s { known = record s.known { steps = l } })
+    (sym (append-nil s.known.steps))
+
+pub offer_did : (d : ℕ) (packet : List Seg) (s : Seated) → s.known.limits.desks ≤ d →
+    Did DidOnWords side_of s (Offer d packet (Err NoSuchDesk)) s
+offer_did d packet s none =
+    doing s (Offer d packet (Err NoSuchDesk)) s [] s.known.view (none, refl, refl) refl
+    (same_seat s) refl (λ whole c. c)
+
+pub take_did : (d : ℕ) (s : Seated) → s.known.limits.desks ≤ d →
+    Did DidOnWords side_of s (Take d (Err NoSuchDesk)) s
+take_did d s none =
+    doing s (Take d (Err NoSuchDesk)) s [] s.known.view (none, refl, refl) refl (same_seat s) refl
+    (λ whole c. c)
 
 -- over a call the seat stays one of its ground
 pub did_of : (g : Grounded) (s t : Seated) (call : Call) → Did DidOnWords side_of s call t →

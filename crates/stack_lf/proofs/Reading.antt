@@ -1,14 +1,18 @@
 -- What the tries of a call read is the cause of its answer.
 use Rattle.std.proofs.Common.{◌≡◌, ℕ, suc, ◌+◌, ◌<◌, ◌≤◌, ⊎_elim, cond, List, [], ◌∷◌, ◌++◌, length, All, refl, sym, ap, ◌∙◌, subst, arith, append_assoc}
-use Rattle.std.specs.Prelude.{Result, Ok, Err, Option, Some, count_by}
+use Rattle.std.specs.Prelude.{Result, Ok, Err, Option, Some, None, count_by, ◌==◌}
+use Rattle.std.proofs.lemmas.Bool.{cond-true, eq-eqb}
 use Rattle.std.proofs.lemmas.List.Concat.{flat_map-append}
 use Rattle.std.proofs.lemmas.List.Sums.{sum_by-append}
-use Rattle.commons.specs.Calls.{Reading, is_lost, HasCause, later, last_in, length_in, head_in, last_length, last_head, IsBelow, Call, GetList, PutList, CommonCount, spent}
+use Rattle.commons.specs.Calls.{Reading, is_lost, HasCause, later, last_in, length_in, head_in, count_in, last_length, last_head, last_count, IsBelow, IsAbove, Count, Call, GetList, PutList, Claim, CountOf, Raise, Lower, Offer, Take, CommonCount, spent}
 use Rattle.commons.specs.declared.limits.Limits.{Limits}
 use Rattle.commons.specs.declared.refusal.Refusal.{Refusal}
-use Rattle.commons.specs.declared.refusal.Refusal.TheVariants.{NoEntries, Contended, HeadSpent}
+use Rattle.commons.specs.declared.refusal.Refusal.TheVariants.{NoEntries, Contended, HeadSpent, RefSpent, NoSuchDesk}
+use Rattle.commons.specs.declared.refusal.Lowered.{Lowered as Answer}
+use Rattle.commons.specs.declared.refusal.Lowered.TheVariants.{Last, Still}
+use Rattle.commons.specs.declared.packet.Seg.{Seg}
 use Rattle.step_core.specs.declared.view.Head.{Head}
-use Rattle.stack_lf.specs.Tries.{Try, Short, Reserved, Added, reads, readings_of, Walk, IsWalk, Ended, Beaten, IsMiss, IsLostCut, IsWonCut, IsLostPush, IsWonPush, IsSpent, IsGet, IsPut, IsOfCall}
+use Rattle.stack_lf.specs.Tries.{Try, Short, Reserved, Added, Counted, Raised, Freed, Lowered, Lasted, IsLostRaise, IsRaise, IsLower, reads, readings_of, Walk, IsWalk, Ended, Beaten, IsMiss, IsLostCut, IsWonCut, IsLostPush, IsWonPush, IsSpent, IsGet, IsPut, IsOfCall}
 
 losses-append : (xs ys : List Reading) →
     count_by is_lost (xs ++ ys) ≡ count_by is_lost xs + count_by is_lost ys
@@ -153,9 +157,69 @@ cause_put l xs (Err Contended) ts d =
     omega arith
 cause_put l xs (Err _) ts d = d
 
+-- ---- the counts
+
+raise_lost_read : (l : Limits) (i : ℕ) (x : Try) → IsLostRaise l i x → 1 ≤ count_by is_lost (reads x)
+raise_lost_read l i x h = one_loss x _ h.4 (omega arith)
+
+-- a count that was read is found among the readings
+count_read : (i n : ℕ) → last_in (count_in i) (Count i n ∷ []) ≡ Some n
+count_read i n = cond-true (i == i) (Some n) None (eq-eqb i i refl)
+
+-- what one try read last
+by_try : (i n : ℕ) (x y : Try) → x ≡ y → last_in (count_in i) (readings_of (y ∷ [])) ≡ Some n →
+    last_in (count_in i) (readings_of (x ∷ [])) ≡ Some n
+by_try i n x y e h = subst (λ (t : Try). last_in (count_in i) (readings_of (t ∷ [])) ≡ Some n) (sym e) h
+
+pub cause_raise : (l : Limits) (i : ℕ) (answer : Result (Unit {0}) Refusal) (ts : List Try) →
+    IsRaise l i answer ts → HasCause l (Raise i answer) (readings_of ts)
+cause_raise l i (Ok _) ts d =
+    below l.ref_limit d.1 (last_count i (readings_of ts))
+    (kind_of (count_in i) d.1 ts d.0 (Raised i d.1 ∷ []) d.5 (count_read i d.1)) d.4
+cause_raise l i (Err RefSpent) ts d =
+    kind_of (count_in i) l.ref_limit ts d.0 (Counted i l.ref_limit ∷ []) d.3 (count_read i l.ref_limit)
+cause_raise l i (Err Contended) ts d =
+    let more = each_lost (IsLostRaise l i) ts (raise_lost_read l i) d.1 in
+    let len = d.0 in
+    omega arith
+cause_raise l i (Err _) ts d = d
+
+above : (n c : ℕ) (o : Option ℕ) → o ≡ Some c → n < c → IsAbove n o
+above n c o e h = subst (λ (z : Option ℕ). IsAbove n z) (sym e) h
+
+pub cause_lower : (l : Limits) (i : ℕ) (answer : Answer) (x : Try) → IsLower i answer x →
+    HasCause l (Lower i answer) (readings_of (x ∷ []))
+cause_lower l i Last x d = ⊎_elim
+    (λ (a : x ≡ Freed i). by_try i 1 x (Freed i) a (count_read i 1))
+    (λ (b : (c : ℕ) × (1 < c) × (x ≡ Lasted i c)).
+    by_try i 1 x (Lasted i b.0) b.2
+    (kind_after (count_in i) 1 (Count i b.0 ∷ []) (Count i 1 ∷ []) (count_read i 1)))
+    d
+cause_lower l i Still x d =
+    above 1 d.1 (last_count i (readings_of (x ∷ [])))
+    (by_try i d.1 x (Lowered i d.0 d.1) d.4
+    (kind_after (count_in i) d.1 (Count i d.0 ∷ []) (Count i d.1 ∷ []) (count_read i d.1))) d.3
+
+no_desk : (l : Limits) (d : ℕ) (packet : List Seg) (answer : Result (Unit {0}) Refusal) (rs : List Reading) →
+    l.desks ≤ d → answer ≡ Err NoSuchDesk → HasCause l (Offer d packet answer) rs
+no_desk l d packet answer rs none e =
+    subst (λ (a : Result (Unit {0}) Refusal). HasCause l (Offer d packet a) rs) (sym e) none
+
+none_to_take : (l : Limits) (d : ℕ) (answer : Result (List Seg) Refusal) (rs : List Reading) →
+    l.desks ≤ d → answer ≡ Err NoSuchDesk → HasCause l (Take d answer) rs
+none_to_take l d answer rs none e =
+    subst (λ (a : Result (List Seg) Refusal). HasCause l (Take d a) rs) (sym e) none
+
 pub causes : (l : Limits) (call : Call) (ts : List Try) → IsOfCall l call ts →
     HasCause l call (readings_of ts)
 causes l (GetList n answer) ts d = cause_get l n answer ts d
 causes l (PutList xs answer) ts d = cause_put l xs answer ts d
+causes l (Claim i) ts d = tt
+causes l (CountOf i n) ts d = kind_of (count_in i) n ts [] (Counted i n ∷ []) d (count_read i n)
+causes l (Raise i answer) ts d = cause_raise l i answer ts d
+causes l (Lower i answer) ts d =
+    subst (λ (z : List Try). HasCause l (Lower i answer) (readings_of z)) (sym d.2)
+    (cause_lower l i answer d.0 d.1)
+causes l (Offer e packet answer) ts d = no_desk l e packet answer (readings_of ts) d.0 d.1
+causes l (Take e answer) ts d = none_to_take l e answer (readings_of ts) d.0 d.1
 causes l (CommonCount n) ts d = kind_of length_in n ts [] (Short n ∷ []) d refl
-causes l call ts d = absurd d

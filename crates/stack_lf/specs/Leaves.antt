@@ -1,16 +1,20 @@
 -- What one try, a loop of tries, and a whole call leave of a seat.
-use Rattle.std.specs.Prelude.{◌≡◌, ℕ, ◌+◌, ◌-◌, ◌<◌, ◌≤◌, List, [], ◌∷◌, ◌++◌, length, reverse, map, All, Option, Some, None, Result, Ok, Err}
+use Rattle.std.specs.Prelude.{◌≡◌, false, ℕ, ◌+◌, ◌-◌, ◌<◌, ◌≤◌, List, [], ◌∷◌, ◌++◌, length, reverse, map, All, Option, Some, None, Result, Ok, Err}
 use Rattle.commons.specs.declared.refusal.Refusal.{Refusal}
-use Rattle.commons.specs.declared.refusal.Refusal.TheVariants.{NoEntries, Contended, HeadSpent}
+use Rattle.commons.specs.declared.limits.Limits.{Limits}
+use Rattle.commons.specs.declared.refusal.Refusal.TheVariants.{NoEntries, Contended, HeadSpent, RefSpent}
+use Rattle.commons.specs.declared.refusal.Lowered.{Lowered as Answer}
+use Rattle.commons.specs.declared.refusal.Lowered.TheVariants.{Last, Still}
 use Rattle.step_core.specs.declared.view.Head.{Head}
 use Rattle.step_core.specs.declared.view.Look.{Look}
 use Rattle.step_core.specs.declared.view.Chain.{Chain}
 use Rattle.step_core.specs.declared.view.View.{View}
 use Rattle.step_core.specs.Bags.{minus}
+use Rattle.step_core.specs.Sights.{raised, freed, hold_ended}
 use Rattle.ground.specs.Seats.{Seated, after}
 use Rattle.stack_lf.specs.declared.tried.Tried.{Tried}
 use Rattle.stack_lf.specs.declared.tried.Tried.TheVariants as tried
-use Rattle.stack_lf.specs.Tries.{Try, Walk, IsWalk, Short, Reserved, notes, notes_of, elements, link_note, stores, IsMiss, IsLostCut, IsWonCut, IsLostPush, IsWonPush, IsSpent, IsGet, IsPut}
+use Rattle.stack_lf.specs.Tries.{Try, Walk, IsWalk, Short, Reserved, notes, notes_of, elements, link_note, stores, IsMiss, IsLostCut, IsWonCut, IsLostPush, IsWonPush, IsSpent, IsGet, IsPut, Raised, Counted, IsLostRaise, IsRaise, IsLower}
 
 -- the seat after these tries, with this view
 abbrev pub tried_to : Seated → List Try → View → Seated
@@ -176,3 +180,37 @@ Puts tries xs (Ok met) s t =
 Puts tries xs (Err cause) s t =
     (ts : List Try) × (look : Option Look) × (seen : ℕ) × IsPut tries xs (Err cause) ts
     × (t ≡ tried_to s ts (seen_as s.known.view look seen))
+
+-- ---- the counts
+
+-- one try to raise a count
+abbrev pub IsRaiseTry : Limits → ℕ → Tried → Try → Type 0
+IsRaiseTry l i tried.Won x = (c : ℕ) × (c < l.ref_limit) × (x ≡ Raised i c)
+IsRaiseTry l i tried.Lost x = IsLostRaise l i x
+IsRaiseTry l i (tried.Refused RefSpent) x = x ≡ Counted i l.ref_limit
+IsRaiseTry l i (tried.Refused _) x = ⊥
+
+abbrev pub raised_as : ℕ → Tried → View → View
+raised_as i tried.Won v = raised v i
+raised_as i tried.Lost v = v
+raised_as i (tried.Refused _) v = v
+
+abbrev pub TriesRaise : Limits → ℕ → Tried → Seated → Seated → Type 0
+TriesRaise l i r s t =
+    (x : Try) × IsRaiseTry l i r x × (t ≡ after s (notes x) (raised_as i r s.known.view))
+
+-- a raise, by its answer
+abbrev pub Raises : Limits → ℕ → Result (Unit {0}) Refusal → Seated → Seated → Type 0
+Raises l i (Ok met) s t =
+    (ts : List Try) × IsRaise l i (Ok met) ts × (t ≡ tried_to s ts (raised s.known.view i))
+Raises l i (Err cause) s t =
+    (ts : List Try) × IsRaise l i (Err cause) ts × (t ≡ tried_to s ts s.known.view)
+
+-- a lower, by its answer: where the hold was the last, the element is in the hand
+abbrev pub lowered_as : ℕ → Answer → View → View
+lowered_as i Last v = freed v i
+lowered_as i Still v = hold_ended v i false
+
+abbrev pub Lowers : ℕ → Answer → Seated → Seated → Type 0
+Lowers i answer s t =
+    (x : Try) × IsLower i answer x × (t ≡ after s (notes x) (lowered_as i answer s.known.view))

@@ -3,3 +3,4 @@ pub mod Leaves
 pub mod Sides
 pub mod Bounds
 pub mod Notes
+pub mod OwnLaws

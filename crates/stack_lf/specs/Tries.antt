@@ -1,11 +1,13 @@
 -- The tries of a call over words: their steps, and what they read.
-use Rattle.std.specs.Prelude.{◌≡◌, ◌≢◌, ℕ, suc, ◌<◌, ◌≤◌, List, [], ◌∷◌, ◌++◌, ◌⊎◌, length, map, flat_map, All, Result, Ok, Err}
-use Rattle.commons.specs.Calls.{Reading, Length, Head as HeadRead, Lost as LostRead, Call, GetList, PutList, CommonCount, spent}
+use Rattle.std.specs.Prelude.{◌≡◌, ◌≢◌, ℕ, suc, ◌<◌, ◌≤◌, true, false, List, [], ◌∷◌, ◌++◌, ◌⊎◌, length, map, flat_map, All, Result, Ok, Err}
+use Rattle.commons.specs.Calls.{Reading, Length, Head as HeadRead, Count, Lost as LostRead, Call, GetList, PutList, Claim, CountOf, Raise, Lower, Offer, Take, CommonCount, spent}
 use Rattle.commons.specs.declared.limits.Limits.{Limits}
 use Rattle.commons.specs.declared.refusal.Refusal.{Refusal}
-use Rattle.commons.specs.declared.refusal.Refusal.TheVariants.{NoEntries, Contended, HeadSpent}
+use Rattle.commons.specs.declared.refusal.Refusal.TheVariants.{NoEntries, Contended, HeadSpent, RefSpent, NoSuchDesk}
+use Rattle.commons.specs.declared.refusal.Lowered.{Lowered as Answer}
+use Rattle.commons.specs.declared.refusal.Lowered.TheVariants.{Last, Still}
 use Rattle.step_core.specs.declared.view.Head.{Head}
-use Rattle.step_core.specs.declared.step.Step.TheVariants.{LoadLength, Reserve, Add, LoadHead, LoadLink, Cut, StoreLink, Push}
+use Rattle.step_core.specs.declared.step.Step.TheVariants.{LoadLength, Reserve, Add, LoadHead, LoadLink, Cut, StoreLink, Push, Claim as ClaimStep, Sole, Raise as RaiseStep, Lower as LowerStep, Reset}
 use Rattle.step_core.specs.declared.step.Outcome.TheVariants.{Value, HeadIs, Won, Got, Lost, LostTo, Done}
 use Rattle.ground.specs.Seats.{Seated, Note, element_of}
 
@@ -43,6 +45,17 @@ pub data Try : Type 0 where
   Pushed : (head : Head) (list : List ℕ) → Try
   -- what was reserved, or pushed, was added to the length
   Added : (n : ℕ) → Try
+  -- an element of the hand was claimed
+  Taken : (element : ℕ) → Try
+  -- a count was read, and the exchange of it lost, or won
+  Counted : (element count : ℕ) → Try
+  Unraised : (element count found : ℕ) → Try
+  Raised : (element count : ℕ) → Try
+  -- a count of 1 was read, and the hold ended
+  Freed : (element : ℕ) → Try
+  -- a count was read, and then lowered from what it was; from 1, it was set to 1 again
+  Lowered : (element count before : ℕ) → Try
+  Lasted : (element count : ℕ) → Try
 
 abbrev pub link_note : ℕ × ℕ → Note
 link_note p = (LoadLink p.0, Value p.1)
@@ -72,6 +85,13 @@ notes (Unpushed h xs found) =
     (LoadHead, HeadIs h) ∷ (stores h.top xs ++ (Push, LostTo found) ∷ [])
 notes (Pushed h xs) = (LoadHead, HeadIs h) ∷ (stores h.top xs ++ (Push, Won) ∷ [])
 notes (Added n) = (Add n, Done) ∷ []
+notes (Taken i) = (ClaimStep i, Value 1) ∷ []
+notes (Counted i c) = (Sole i false, Value c) ∷ []
+notes (Unraised i c found) = (Sole i false, Value c) ∷ (RaiseStep i c, Lost found) ∷ []
+notes (Raised i c) = (Sole i false, Value c) ∷ (RaiseStep i c, Won) ∷ []
+notes (Freed i) = (Sole i true, Value 1) ∷ []
+notes (Lowered i c before) = (Sole i true, Value c) ∷ (LowerStep i, Value before) ∷ []
+notes (Lasted i c) = (Sole i true, Value c) ∷ (LowerStep i, Value 1) ∷ (Reset i, Done) ∷ []
 
 -- what a try read
 abbrev pub reads : Try → List Reading
@@ -85,6 +105,13 @@ reads (Cutoff h ps) = HeadRead h.count ∷ []
 reads (Unpushed h xs found) = HeadRead h.count ∷ HeadRead found.count ∷ LostRead ∷ []
 reads (Pushed h xs) = HeadRead h.count ∷ []
 reads (Added n) = []
+reads (Taken i) = []
+reads (Counted i c) = Count i c ∷ []
+reads (Unraised i c found) = Count i c ∷ Count i found ∷ LostRead ∷ []
+reads (Raised i c) = Count i c ∷ []
+reads (Freed i) = Count i 1 ∷ []
+reads (Lowered i c before) = Count i c ∷ Count i before ∷ []
+reads (Lasted i c) = Count i c ∷ Count i 1 ∷ []
 
 abbrev pub notes_of : List Try → List Note
 notes_of ts = flat_map notes ts
@@ -155,12 +182,45 @@ IsPut tries xs (Err HeadSpent) ts =
 IsPut tries xs (Err Contended) ts = (length ts ≡ tries) × All (IsLostPush xs) ts
 IsPut tries xs (Err _) ts = ⊥
 
--- The tries of a call. The other calls aren't made over words as yet.
+-- a try to raise a count that lost: one below the limit was read, and another stood there
+abbrev pub IsLostRaise : Limits → ℕ → Try → Type 0
+IsLostRaise l i x =
+    (c found : ℕ) × (c < l.ref_limit) × (found ≢ c) × (x ≡ Unraised i c found)
+
+-- The tries of a raise, by its answer.
+abbrev pub IsRaise : Limits → ℕ → Result (Unit {0}) Refusal → List Try → Type 0
+IsRaise l i (Ok _) ts =
+    (raises : List Try) × (c : ℕ) × (length raises < l.tries) × All (IsLostRaise l i) raises
+    × (c < l.ref_limit) × (ts ≡ raises ++ Raised i c ∷ [])
+IsRaise l i (Err RefSpent) ts =
+    (raises : List Try) × (length raises < l.tries) × All (IsLostRaise l i) raises
+    × (ts ≡ raises ++ Counted i l.ref_limit ∷ [])
+IsRaise l i (Err Contended) ts = (length ts ≡ l.tries) × All (IsLostRaise l i) ts
+IsRaise l i (Err _) ts = ⊥
+
+-- the one try of a lower, by its answer
+abbrev pub IsLower : ℕ → Answer → Try → Type 0
+IsLower i Last x = (x ≡ Freed i) ⊎ ((c : ℕ) × (1 < c) × (x ≡ Lasted i c))
+IsLower i Still x = (c before : ℕ) × (1 < c) × (1 < before) × (x ≡ Lowered i c before)
+
+-- The tries of a call. There are no desks on words as yet, so that an offer and a take are refused without a step.
 abbrev pub IsOfCall : Limits → Call → List Try → Type 0
 IsOfCall l (GetList n answer) ts = IsGet l.tries n answer ts
 IsOfCall l (PutList xs answer) ts = IsPut l.tries xs answer ts
+IsOfCall l (Claim i) ts = ts ≡ Taken i ∷ []
+IsOfCall l (CountOf i n) ts = ts ≡ Counted i n ∷ []
+IsOfCall l (Raise i answer) ts = IsRaise l i answer ts
+IsOfCall l (Lower i answer) ts = (x : Try) × IsLower i answer x × (ts ≡ x ∷ [])
+IsOfCall l (Offer d packet answer) ts = (l.desks ≤ d) × (answer ≡ Err NoSuchDesk) × (ts ≡ [])
+IsOfCall l (Take d answer) ts = (l.desks ≤ d) × (answer ≡ Err NoSuchDesk) × (ts ≡ [])
 IsOfCall l (CommonCount n) ts = ts ≡ Short n ∷ []
-IsOfCall l _ ts = ⊥
+
+-- the call was refused after as many lost tries as the pool allows
+abbrev pub IsContended : Call → Type 0
+IsContended (GetList n (Err Contended)) = Unit {0}
+IsContended (PutList xs (Err Contended)) = Unit {0}
+IsContended (Raise i (Err Contended)) = Unit {0}
+IsContended _ = ⊥
 
 -- what a call over words did: it took the steps of these tries, by this seat, and read what they read
 pub record DidOnWords (s : Seated) (call : Call) (rs : List Reading) (t : Seated) : Type 0 where
@@ -173,3 +233,5 @@ pub record DidOnWords (s : Seated) (call : Call) (rs : List Reading) (t : Seated
   pub made : IsOfCall s.known.limits call tries
   pub steps : t.known.steps ≡ s.known.steps ++ notes_of tries
   pub read : rs ≡ readings_of tries
+  -- a seat of every part is in nobody's way
+  pub alone : s.known.view.part ≡ s.known.limits.workers → IsContended call → ⊥

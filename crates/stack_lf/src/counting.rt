@@ -1,11 +1,17 @@
-//! The words that are only read.
+//! The calls on one count, and the length as it is read.
 
-ghost use Rattle.std.specs.Prelude.{◌≤◌};
-ghost use Rattle.step_core.specs.declared.step.Step.TheVariants.{LoadLength};
+ghost use Rattle.std.specs.Prelude.{◌≡◌, ◌≢◌, ◌<◌, ◌≤◌, Err, false, []};
+ghost use Rattle.commons.specs.Bag.{bag};
+ghost use Rattle.step_core.specs.declared.step.Step.TheVariants.{LoadLength, Sole, Claim as ClaimStep};
 ghost use Rattle.step_core.specs.declared.step.Outcome.TheVariants.{Value};
 ghost use Rattle.ground.specs.Seats.{IsOf, Steps};
 ghost use Rattle.ground.specs.Own.{Owned};
+ghost use Rattle.stack_lf.specs.Leaves.{TriesRaise, Raises, Lowers, IsAlone};
 
+use crate::tried::Tried;
+use commons::limits::Limits;
+use commons::refusal::{Lowered, Refusal};
+use crossbeam_utils::Backoff;
 use ground::pool::Ground;
 use ground::seat::GroundSeat;
 
@@ -19,4 +25,121 @@ pub(crate) fn length(ground: &Ground, seat: &mut GroundSeat) -> u64
     let length = ground.load_length(seat);
     seat.owned();
     length
+}
+
+/// A claim, with what the seat's type keeps.
+pub(crate) fn claim(ground: &Ground, seat: &mut GroundSeat, element: u32)
+    requires of { IsOf ground.now seat.old }
+    requires hand { 0 < bag seat.old.known.view.hand element }
+    ensures step { Steps (ClaimStep element) (Value 1) seat.old seat.new }
+    ensures own { Owned seat.new.known.limits seat.new.known.view }
+{
+    ground.claim(seat, element);
+    seat.owned();
+}
+
+/// A count as read, with what the seat's type keeps.
+pub(crate) fn count(ground: &Ground, seat: &mut GroundSeat, element: u32) -> u64
+    requires of { IsOf ground.now seat.old }
+    requires held { 0 < bag seat.old.known.view.holds element }
+    ensures step { Steps (Sole element false) (Value result) seat.old seat.new }
+    ensures held { bag seat.old.known.view.holds element ≤ result }
+    ensures limited { result ≤ seat.old.known.limits.ref_limit }
+    ensures own { Owned seat.new.known.limits seat.new.known.view }
+{
+    let count = ground.sole(seat, element, false);
+    seat.owned();
+    count
+}
+
+/// Reads a count and raises it, if it is still what was read.
+fn try_raise(ground: &Ground, seat: &mut GroundSeat, element: u32, limits: &Limits) -> Tried
+    requires of { IsOf ground.now seat.old }
+    requires held { 0 < bag seat.old.known.view.holds element }
+    requires limits { limits.now ≡ ground.now.limits }
+    ensures one { TriesRaise limits.now element result seat.old seat.new }
+    ensures alone { IsAlone seat.old → result ≢ Tried.Lost }
+{
+    let count = ground.sole(seat, element, false);
+    if limits.ref_limit <= count {
+        return Tried::Refused(Refusal::RefSpent);
+    }
+    match ground.raise(seat, element, count) {
+        Ok(()) => Tried::Won,
+        Err(_) => Tried::Lost,
+    }
+}
+
+/// Makes one more hold of an element, by at most as many lost tries as the limits allow.
+fn raise_by_tries(
+    ground: &Ground,
+    seat: &mut GroundSeat,
+    element: u32,
+    limits: &Limits,
+) -> Result<(), Refusal>
+    requires of { IsOf ground.now seat.old }
+    requires held { 0 < bag seat.old.known.view.holds element }
+    requires limits { limits.now ≡ ground.now.limits }
+    ensures raised { Raises limits.now element result seat.old seat.new }
+    ensures alone { IsAlone seat.old → 1 ≤ limits.now.tries → result ≢ Err Refusal.Contended }
+{
+    let backoff = Backoff::new();
+    for _ in 0..limits.tries {
+        match try_raise(ground, seat, element, limits) {
+            Tried::Won => return Ok(()),
+            Tried::Refused(cause) => return Err(cause),
+            Tried::Lost => backoff.spin(),
+        }
+    }
+    Err(Refusal::Contended)
+}
+
+/// The same, with what the seat's type keeps.
+pub(crate) fn raise(
+    ground: &Ground,
+    seat: &mut GroundSeat,
+    element: u32,
+    limits: &Limits,
+) -> Result<(), Refusal>
+    requires of { IsOf ground.now seat.old }
+    requires held { 0 < bag seat.old.known.view.holds element }
+    requires limits { limits.now ≡ ground.now.limits }
+    ensures raised { Raises limits.now element result seat.old seat.new }
+    ensures alone { IsAlone seat.old → 1 ≤ limits.now.tries → result ≢ Err Refusal.Contended }
+    ensures own { Owned seat.new.known.limits seat.new.known.view }
+{
+    let answer = raise_by_tries(ground, seat, element, limits);
+    seat.owned();
+    answer
+}
+
+/// Ends one hold of an element: where its count is 1, by the load that read it; else by lowering it, and where that
+/// read 1, by setting it to 1 again.
+fn lower_once(ground: &Ground, seat: &mut GroundSeat, element: u32) -> Lowered
+    requires of { IsOf ground.now seat.old }
+    requires held { 0 < bag seat.old.known.view.holds element }
+    requires zeros { seat.old.known.view.zeros ≡ [] }
+    ensures { Lowers element result seat.old seat.new }
+{
+    if ground.sole(seat, element, true) == 1 {
+        return Lowered::Last;
+    }
+    if ground.lower(seat, element) == 1 {
+        ground.reset(seat, element);
+        return Lowered::Last;
+    }
+    Lowered::Still
+}
+
+/// The same, with what the seat's type keeps.
+pub(crate) fn lower(ground: &Ground, seat: &mut GroundSeat, element: u32) -> Lowered
+    requires of { IsOf ground.now seat.old }
+    requires held { 0 < bag seat.old.known.view.holds element }
+    requires zeros { seat.old.known.view.zeros ≡ [] }
+    ensures lowered { Lowers element result seat.old seat.new }
+    ensures own { Owned seat.new.known.limits seat.new.known.view }
+{
+    let answer = lower_once(ground, seat, element);
+    seat.owned();
+    answer
 }

@@ -1,17 +1,16 @@
 //! `WordCommons`: the shared part of a pool over the words of its ground.
 
-ghost use Rattle.std.specs.Prelude.{◌≡◌, ◌≢◌, ◌<◌, ◌≤◌, Err, length, ℕ};
+ghost use Rattle.std.specs.Prelude.{◌≡◌};
 ghost use Rattle.std.proofs.Props.{props};
-ghost use Rattle.commons.specs.Bag.{bag};
-ghost use Rattle.commons.specs.Calls.{GetList, PutList, CommonCount, with_list, Did};
 ghost use Rattle.ground.specs.Seats.{IsOf};
 ghost use Rattle.ground.specs.Own.{Owned, AtRest};
-ghost use Rattle.stack_lf.specs.Leaves.{IsAlone};
 ghost use Rattle.stack_lf.specs.Sides.{side_of};
 ghost use Rattle.stack_lf.specs.Tries.{DidOnWords};
 
 use crate::{counting, getting, putting};
-use commons::refusal::Refusal;
+use commons::packet::Packet;
+use commons::refusal::{Lowered, Refusal};
+use commons::shared::Commons;
 use ground::pool::Ground;
 use ground::seat::GroundSeat;
 
@@ -30,6 +29,7 @@ pub struct WordCommons<'a> {
     ground: &'a Ground,
     seat: GroundSeat,
     pub ghost of: { IsOf ground.now seat },
+    pub ghost bare: { ground.now.limits.desks ≡ 0 },
     pub ghost rest: { AtRest seat.known.view },
     pub ghost owned: { Owned seat.known.limits seat.known.view } by { Prim.hlevel props },
 }
@@ -42,6 +42,7 @@ impl<'a> WordCommons<'a> {
         ensures seat { result.seat ≡ seat }
     {
         seat.owned();
+        let _ = ground.limits();
         WordCommons { ground, seat }
     }
 
@@ -59,41 +60,25 @@ impl<'a> WordCommons<'a> {
         let WordCommons { ground: _, seat } = self;
         seat.lose();
     }
+}
 
-    /// Moves `out.len()` elements, at least one, from the common stack into the hand: all of them, or none. `out` lists
-    /// them, the top of the stack first. They are reserved first, so that the walk over them is of this length; what
-    /// was reserved is given back before any refusal. Takes `tries * (n + 4) + 1` steps at most.
-    ///
-    /// Refused `NoEntries` where a length below `out.len()` was read, `HeadSpent` where the spent modification count
-    /// was read, and `Contended` after `tries` lost tries, which a seat of every part never comes to. Hand, holds and
-    /// headers are then as before, and nothing is said of `out`. A get that is met read a modification count below the
-    /// spent one, as the last. While another worker is within a call, its elements may be in neither the length nor a
-    /// hand, so `NoEntries` doesn't say that the pool has no more.
-    ///
-    /// After rte_stack_lf_generic.h, `__rte_stack_lf_pop_elems` (DPDK 21.11). `Contended` and `HeadSpent` are our own.
-    pub fn get_list(&mut self, out: &mut [u32]) -> Result<(), Refusal>
-        requires { 0 < length out.old }
-        ensures did { Did DidOnWords side_of self.old.seat (GetList (length out.old) (with_list result out.new)) self.new.seat }
-        ensures alone { IsAlone self.old.seat → result ≢ Err Refusal.Contended }
-    {
+/// Each call takes as many steps at most as is said here, each one atomic operation on one word, and a seat of every part
+/// is never refused `Contended`.
+impl<'a> Commons for WordCommons<'a> {
+    ghost side = { λ c. side_of c.seat };
+
+    ghost did = { λ s call rs t. DidOnWords s.seat call rs t.seat };
+
+    /// Takes `tries * (n + 4) + 1` steps at most. The elements are reserved first, so that the walk over them is of this
+    /// length; what was reserved is given back before any refusal. While another worker is within a call, its elements
+    /// may be in neither the length nor a hand, so `NoEntries` doesn't say that the pool has no more.
+    fn get_list(&mut self, out: &mut [u32]) -> Result<(), Refusal> {
         getting::get(self.ground, &mut self.seat, out, self.ground.limits().tries)
     }
 
-    /// Moves a list of distinct elements, at least one, from the hand onto the common stack: all of them, or none. The
-    /// last one is on top then, unless another worker has changed the stack since. The length is raised after that.
-    /// Takes `tries * (n + 2) + 1` steps at most.
-    ///
-    /// Refused `HeadSpent` where the spent modification count was read, and `Contended` after `tries` lost tries, which
-    /// a seat of every part never comes to. Hand, holds and headers are then as before. A put that is met read a
-    /// modification count below the spent one, as the last.
-    ///
-    /// After rte_stack_lf_generic.h, `__rte_stack_lf_push_elems` (DPDK 21.11), which can't be refused.
-    pub fn put_list(&mut self, list: &[u32]) -> Result<(), Refusal>
-        requires some { 0 < length list.now }
-        requires in_hand { (i : ℕ) → bag list.now i ≤ (side_of self.old.seat).hand i }
-        ensures did { Did DidOnWords side_of self.old.seat (PutList list.now result) self.new.seat }
-        ensures alone { IsAlone self.old.seat → result ≢ Err Refusal.Contended }
-    {
+    /// Takes `tries * (n + 2) + 1` steps at most. The last of the list is on top then, unless another worker has changed
+    /// the stack since; the length is raised after that.
+    fn put_list(&mut self, list: &[u32]) -> Result<(), Refusal> {
         putting::put(
             self.ground,
             &mut self.seat,
@@ -102,13 +87,53 @@ impl<'a> WordCommons<'a> {
         )
     }
 
-    /// The length word of the common stack, as read at one moment of the call. While another worker is within a call it
-    /// may lag behind the stack itself. Takes one step.
-    ///
-    /// After rte_stack_lf.h, `__rte_stack_lf_count` (DPDK 21.11).
-    pub fn common_count(&mut self) -> u32
-        ensures did { Did DidOnWords side_of self.old.seat (CommonCount result) self.new.seat }
-    {
+    /// Takes one step.
+    fn claim(&mut self, element: u32) {
+        counting::claim(self.ground, &mut self.seat, element);
+    }
+
+    /// Takes one step.
+    fn count(&mut self, element: u32) -> u32 {
+        counting::count(self.ground, &mut self.seat, element) as u32
+    }
+
+    /// Takes `2 * tries` steps at most.
+    fn raise(&mut self, element: u32) -> Result<(), Refusal> {
+        let limits = self.ground.limits();
+        counting::raise(self.ground, &mut self.seat, element, &limits)
+    }
+
+    /// Takes three steps at most.
+    fn lower(&mut self, element: u32) -> Lowered {
+        counting::lower(self.ground, &mut self.seat, element)
+    }
+
+    /// A ground has no desks as yet.
+    fn offer(&mut self, _desk: u32, packet: Packet) -> Result<(), (Refusal, Packet)> {
+        Err((Refusal::NoSuchDesk, packet))
+    }
+
+    /// A ground has no desks as yet.
+    fn take(&mut self, _desk: u32) -> Result<Packet, Refusal> {
+        Err(Refusal::NoSuchDesk)
+    }
+
+    /// Takes one step.
+    fn common_count(&mut self) -> u32 {
         counting::length(self.ground, &mut self.seat) as u32
     }
+
+    ghost use Rattle.stack_lf.specs.OwnLaws.{hand_once_of, hand_below_of, apart_of};
+
+    ghost hand_once = { λ c i. hand_once_of c.seat.known.limits c.seat.known.view c.owned i };
+
+    ghost hand_below = { λ c i h. hand_below_of c.seat.known.limits c.seat.known.view c.owned i h };
+
+    ghost holds_below = { λ c i h. c.owned.held_below i h };
+
+    ghost apart = { λ c i h. apart_of c.seat.known.limits c.seat.known.view c.owned i h };
+
+    ghost header_once = { λ c i. c.owned.header_once i };
+
+    ghost header_held = { λ c i h. c.owned.header_held i h };
 }

@@ -5,6 +5,7 @@ ghost use Rattle.ground.specs.Seats.{IsOf};
 use commons::closed::Closed;
 use commons::limits::Limits;
 use commons::refusal::Refusal;
+use commons::shared::Commons;
 use ground::pool::Ground;
 use ground::seat::GroundSeat;
 use stack_lf::words::WordCommons;

@@ -4,6 +4,7 @@ ghost use Rattle.std.specs.Prelude.{◌≡◌, ◌<◌, ◌≤◌, length};
 ghost use Rattle.stack_tests.specs.Idle.{IsIdle, Stays};
 
 use commons::refusal::Refusal;
+use commons::shared::Commons;
 use ground::pool::Ground;
 use ground::seat::GroundSeat;
 use stack_lf::words::WordCommons;

@@ -16,7 +16,7 @@ pub invariant_of-ground : goal.invariant_of-ground
 invariant_of-ground c =
     let e = c.in-Ok-of_words.ensures in
     let is : c.as_slice.result.now ≡ opening_words c.args.limits.now = search rules in
-    (e.0 ∙ (ap length is ∙ length_words c.args.limits.now), search rules, search rules)
+    (e.0 ∙ (ap length is ∙ length_words c.args.limits.now), search rules, search rules, search rules)
 
 -- the first seat names nothing
 pub invariant_of-result : goal.invariant_of-result

@@ -1,12 +1,12 @@
-use Rattle.std.proofs.Common.{◌≡◌, ◌∙◌, sym, subst, length}
+use Rattle.std.proofs.Common.{◌≡◌, ◌∙◌, sym, subst, length, rules}
 use Rattle.commons.specs.declared.limits.Limits.{Limits}
 use Rattle.stack_lf.specs.Leaves.{Gets}
 use Rattle.stack_lf.proofs.Meeting.{get_did}
-use Rattle.stack_lf.proofs.words.WordCommons.get_list.Goals as goal
+use Rattle.stack_lf.proofs.words.WordCommonsCommons.get_list.Goals as goal
 
 -- what the get leaves, by the tries that the seat's limits allow
-pub returns-clause-did : goal.returns-clause-did
-returns-clause-did c =
+pub returns : goal.returns
+returns c =
     let me = c.args.self.now in
     let n = length c.args.out.now in
     let same : c.limits.result ≡ me.seat.known.limits =
@@ -14,4 +14,10 @@ returns-clause-did c =
     let got =
     subst (λ (l : Limits). Gets l.tries n c.get.new.out c.get.result me.seat c.get.new.seat)
     same c.get.ensures.got in
-    get_did n c.get.new.out c.get.result me.seat c.get.new.seat got
+    let d = get_did n c.get.new.out c.get.result me.seat c.get.new.seat got (search rules) in
+    record {
+      did = record {
+        readings = d.readings;
+        step = record { led = d.step.led; cause = d.step.cause; effect = d.step.effect };
+      };
+    }

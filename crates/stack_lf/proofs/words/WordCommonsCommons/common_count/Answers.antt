@@ -1,0 +1,13 @@
+use Rattle.stack_lf.proofs.Meeting.{length_did}
+use Rattle.stack_lf.proofs.words.WordCommonsCommons.common_count.Goals as goal
+
+-- what one load of the length did
+pub returns : goal.returns
+returns c =
+    let d = length_did c.length.result c.args.self.now.seat c.length.new.seat c.length.ensures.step in
+    record {
+      did = record {
+        readings = d.readings;
+        step = record { led = d.step.led; cause = d.step.cause; effect = d.step.effect };
+      };
+    }

@@ -1,0 +1,14 @@
+use Rattle.stack_lf.proofs.Meeting.{lower_did}
+use Rattle.stack_lf.proofs.words.WordCommonsCommons.lower.Goals as goal
+
+-- what the lower leaves
+pub returns : goal.returns
+returns c =
+    let d = lower_did c.args.element c.lower.result c.args.self.now.seat c.lower.new.seat c.requires
+    c.lower.ensures.lowered in
+    record {
+      did = record {
+        readings = d.readings;
+        step = record { led = d.step.led; cause = d.step.cause; effect = d.step.effect };
+      };
+    }

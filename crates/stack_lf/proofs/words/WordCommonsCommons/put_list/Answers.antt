@@ -1,0 +1,23 @@
+use Rattle.std.proofs.Common.{◌≡◌, ◌∙◌, sym, subst, rules}
+use Rattle.commons.specs.declared.limits.Limits.{Limits}
+use Rattle.stack_lf.specs.Leaves.{Puts}
+use Rattle.stack_lf.proofs.Meeting.{put_did}
+use Rattle.stack_lf.proofs.words.WordCommonsCommons.put_list.Goals as goal
+
+-- what the put leaves, by the tries that the seat's limits allow
+pub returns : goal.returns
+returns c =
+    let me = c.args.self.now in
+    let same : c.limits.result ≡ me.seat.known.limits =
+    c.limits.ensures.limits ∙ sym me.of.limits in
+    let put =
+    subst (λ (l : Limits). Puts l.tries c.args.list.now c.put.result me.seat c.put.new.seat)
+    same c.put.ensures.put in
+    let d = put_did c.args.list.now c.put.result me.seat c.put.new.seat c.requires.in_hand put
+    (search rules) in
+    record {
+      did = record {
+        readings = d.readings;
+        step = record { led = d.step.led; cause = d.step.cause; effect = d.step.effect };
+      };
+    }

@@ -1,0 +1,23 @@
+use Rattle.std.proofs.Common.{◌≡◌, ◌∙◌, sym, subst, rules}
+use Rattle.commons.specs.declared.limits.Limits.{Limits}
+use Rattle.stack_lf.specs.Leaves.{Raises}
+use Rattle.stack_lf.proofs.Meeting.{raise_did}
+use Rattle.stack_lf.proofs.words.WordCommonsCommons.raise.Goals as goal
+
+-- what the raise leaves, by the tries that the seat's limits allow
+pub returns : goal.returns
+returns c =
+    let me = c.args.self.now in
+    let same : c.limits-limits.result ≡ me.seat.known.limits =
+    c.limits-limits.ensures.limits ∙ sym me.of.limits in
+    let got =
+    subst (λ (l : Limits). Raises l c.args.element c.raise.result me.seat c.raise.new.seat)
+    same c.raise.ensures.raised in
+    let d = raise_did c.args.element c.raise.result me.seat c.raise.new.seat c.requires got
+    (search rules) in
+    record {
+      did = record {
+        readings = d.readings;
+        step = record { led = d.step.led; cause = d.step.cause; effect = d.step.effect };
+      };
+    }
