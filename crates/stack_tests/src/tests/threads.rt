@@ -106,12 +106,14 @@ fn four_play<R: Threads + Sync>(
     joined(ground, first, second)
 }
 
-/// Ends a pool, and demands that each element is in its common list or in a hand, once.
+/// Ends a pool, and demands that each element is in its common list or in a hand, once, and that a list went there and
+/// back where the pool has that many elements.
 fn assert_left<R: Abort>(
     rt: &R,
     alloc: Global,
     ground: Ground,
     played: Played,
+    enough: bool,
     name: &str,
 ) -> Result<(), Fail>
     requires { IsIdle ground played.seat }
@@ -125,7 +127,7 @@ fn assert_left<R: Abort>(
     } = played;
     let closed = closed_of(ground, seat)?;
     assert!(rt; sound, "{name}: a call was refused for another cause");
-    assert!(rt; met > 0, "{name}: no list went there and back");
+    assert_eq!(rt; met > 0, enough, "{name}: lists that went there and back");
     assert_each_once(rt, alloc, &closed, kept.as_slice(), name)
 }
 
@@ -156,7 +158,8 @@ fn two_of<R: Threads + Sync + Abort>(
         n,
         times,
     );
-    assert_left(rt, alloc, ground, played, name.as_str())
+    let enough = n as u64 <= population;
+    assert_left(rt, alloc, ground, played, enough, name.as_str())
 }
 
 /// Four workers of one pool, which is closed once all threads have ended.
@@ -189,7 +192,8 @@ fn four_of<R: Threads + Sync + Abort>(
         n,
         times,
     );
-    assert_left(rt, alloc, ground, played, name.as_str())
+    let enough = n as u64 <= population;
+    assert_left(rt, alloc, ground, played, enough, name.as_str())
 }
 
 #[test]
@@ -200,10 +204,8 @@ fn two_workers_leave_each_element_once(rt: HostRuntime) -> Result<(), Fail> {
 #[test]
 fn four_workers_leave_each_element_once(rt: HostRuntime) -> Result<(), Fail> {
     for population in [8, 64, 1_024] {
-        four_of(&rt, rt.alloc(), population, 1, 10_000)?;
-        four_of(&rt, rt.alloc(), population, 3, 10_000)?;
-        if population > 8 {
-            four_of(&rt, rt.alloc(), population, 32, 10_000)?;
+        for n in [1, 3, 32] {
+            four_of(&rt, rt.alloc(), population, n, 100_000)?;
         }
     }
     Ok(())
