@@ -6,9 +6,11 @@ use super::acts::{Act, step_of};
 use super::rows::TWO;
 use crate::pair::Pair;
 use crate::player::Player;
+use commons::closed::Closed;
 use commons::limits::Limits;
 use commons::refusal::Refusal;
 use ground::pool::Ground;
+use ground::seat::GroundSeat;
 use std::process::Abort;
 use std::test::Fail;
 use step_core::step::Outcome;
@@ -146,4 +148,44 @@ fn the_least_and_the_greatest_ground_are_made_and_closed(rt: HostRuntime) -> Res
         assert_eq!(&rt; closed.counts.len() as u64, population);
     }
     Ok(())
+}
+
+/// Closes a ground, and where memory was refused closes what came back once more.
+fn closed_at_last(rt: &impl Abort, pool: Ground, seat: GroundSeat) -> Option<Closed>
+    requires { IsOf pool seat }
+{
+    let (pool, seat) = match pool.close(seat) {
+        Ok(closed) => return Some(closed),
+        Err((refusal, pool, seat)) => {
+            assert_eq!(rt; refusal, Refusal::OutOfMemory);
+            (pool, seat)
+        }
+    };
+    match pool.close(seat) {
+        Ok(closed) => Some(closed),
+        Err((_, _, seat)) => {
+            seat.lose();
+            None
+        }
+    }
+}
+
+/// Whichever request for memory is refused, no ground is made, or it is closed with all its words: what a refused close
+/// hands back closes the next time.
+#[test]
+fn refused_memory_loses_no_word(rt: HostRuntime) {
+    let (pool, seat) = match Ground::make(rt.alloc(), &TWO) {
+        Ok(made) => made,
+        Err(refusal) => {
+            assert_eq!(&rt; refusal, Refusal::OutOfMemory);
+            return;
+        }
+    };
+    let Some(closed) = closed_at_last(&rt, pool, seat) else {
+        assert!(&rt; false, "what was handed back didn't close");
+        return;
+    };
+    assert_eq!(&rt; (closed.top, closed.length), (1, 3));
+    assert_eq!(&rt; closed.links.as_slice(), [2, 3, 0].as_slice());
+    assert_eq!(&rt; closed.counts.as_slice(), [1, 1, 1].as_slice());
 }
