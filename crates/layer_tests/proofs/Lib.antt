@@ -1,2 +1,2 @@
-mod AloneLemmas
+mod BesideLemmas
 mod NewSites

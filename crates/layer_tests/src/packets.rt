@@ -1,10 +1,12 @@
 //! Plays the tables of `rows` on the lists, and looks at what each worker is told and what is left.
 
 ghost use Rattle.std.specs.Prelude.{◌≡◌, ℕ};
-ghost use Rattle.commons.specs.Lists.{KeepsOthers, hand_of, holds_of};
-ghost use Rattle.layer_tests.specs.Alone.{IsOwn, Alone};
+ghost use Rattle.commons.specs.Beside.{KeepsSides, LeavesOthers};
+ghost use Rattle.commons.specs.Lists.{hand_of, holds_of};
+ghost use Rattle.layer_tests.specs.OwnAtSite.{OwnAtSite};
 
 use crate::rows::{Left, ONE, REFUSED_AT_A_GET, REFUSED_AT_A_RAISE, ROWS, Show, Step};
+use commons::laws::a_worker_leaves_the_others;
 use commons::limits::Limits;
 use commons::place::Place;
 use commons::plain::PlainCommons;
@@ -17,19 +19,20 @@ use std::test::Fail;
 
 // Lets a worker do this.
 fn acted(packets: &mut Packets, c: &mut PlainCommons, act: Act) -> Reply
-    requires own { IsOwn packets.old c.old }
-    ensures own { IsOwn packets.new c.new }
-    ensures alone { Alone c.old c.new }
+    requires own { OwnAtSite packets.old c.old }
+    ensures own { OwnAtSite packets.new c.new }
+    ensures others { LeavesOthers c.old c.new }
 {
+    a_worker_leaves_the_others();
     perform(packets, c, act)
 }
 
 // Makes packets one at a time, in the slots from 0 on, or chains those from 0 on to the one in slot
 // 0, and says how often that was done.
 fn repeated(packets: &mut Packets, c: &mut PlainCommons, count: u32, chains: bool) -> u32
-    requires own { IsOwn packets.old c.old }
-    ensures own { IsOwn packets.new c.new }
-    ensures alone { Alone c.old c.new }
+    requires own { OwnAtSite packets.old c.old }
+    ensures own { OwnAtSite packets.new c.new }
+    ensures others { LeavesOthers c.old c.new }
 {
     let mut done = 0u32;
     for slot in 0..count {
@@ -69,16 +72,16 @@ fn shown(alloc: Global, packets: &Packets, show: Show) -> Result<String, Fail> {
 }
 
 // Lets a worker take a step, and tells what came of it.
-#[tactic(auto, using(crate::proofs::AloneLemmas::alone))]
+#[tactic(auto, using(crate::proofs::BesideLemmas::beside))]
 fn said(
     alloc: Global,
     packets: &mut Packets,
     c: &mut PlainCommons,
     step: &Step,
 ) -> Result<String, Fail>
-    requires own { IsOwn packets.old c.old }
-    ensures own { IsOwn packets.new c.new }
-    ensures alone { Alone c.old c.new }
+    requires own { OwnAtSite packets.old c.old }
+    ensures own { OwnAtSite packets.new c.new }
+    ensures others { LeavesOthers c.old c.new }
 {
     match step {
         Step::Act(act) => told(alloc, acted(packets, c, *act)),
@@ -109,8 +112,8 @@ fn differs(
     c: &mut PlainCommons,
     steps: &[(Step, &'static str)],
 ) -> Result<Option<String>, Fail>
-    requires own { IsOwn packets.old c.old }
-    ensures alone { Alone c.old c.new }
+    requires own { OwnAtSite packets.old c.old }
+    ensures others { LeavesOthers c.old c.new }
 {
     for (place, (step, wanted)) in steps.iter().enumerate() {
         let said = said(alloc, packets, c, step)?;
@@ -136,7 +139,7 @@ fn are_held(site: &PlainSite, counts: &[u32]) -> bool {
 }
 
 // Lets a worker, who has nothing yet, take its steps, and tells of the first that isn't as wanted.
-#[tactic(auto, using(crate::proofs::AloneLemmas::alone))]
+#[tactic(auto, using(crate::proofs::BesideLemmas::beside))]
 fn turn(
     alloc: Global,
     site: &mut PlainSite,
@@ -145,7 +148,7 @@ fn turn(
 ) -> Result<Option<String>, Fail>
     requires hand { (i : ℕ) → hand_of site.old number i ≡ 0 }
     requires holds { (i : ℕ) → holds_of site.old number i ≡ 0 }
-    ensures others { KeepsOthers number site.old site.new }
+    ensures sides { KeepsSides number site.old site.new }
 {
     let mut packets = Packets::make(alloc, &site.limits(), number)?;
     let mut c = PlainCommons::new(site, number);

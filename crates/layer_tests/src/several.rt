@@ -3,6 +3,7 @@
 ghost use Rattle.std.specs.Prelude.{◌≡◌, ◌≤◌, ℕ, length};
 ghost use Rattle.commons.specs.Beside.{KeepsSides, LeavesOthers};
 ghost use Rattle.commons.specs.Lists.{hand_of, holds_of, side_of};
+ghost use Rattle.layer_tests.specs.OwnAtSite.{OwnAtSite};
 ghost use Rattle.mbuf.specs.Own.{Own};
 
 use commons::laws::a_worker_leaves_the_others;
@@ -30,8 +31,8 @@ const LIMITS: Limits = Limits {
 
 // Makes a packet of one element, at any site.
 fn made(packets: &mut Packets, c: &mut PlainCommons) -> Result<Pid, Refusal>
-    requires own { Own packets.old (side_of c.old.site.now c.old.worker) }
-    ensures own { Own packets.new (side_of c.new.site.now c.new.worker) }
+    requires own { OwnAtSite packets.old c.old }
+    ensures own { OwnAtSite packets.new c.new }
     ensures others { LeavesOthers c.old c.new }
 {
     a_worker_leaves_the_others();

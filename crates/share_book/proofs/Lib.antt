@@ -6,6 +6,5 @@ mod EndedHolds
 mod Members
 mod NewPools
 mod PacketCalls
-mod PlainCalls
 mod Reaching
 mod SharedBuffers

@@ -3,6 +3,7 @@ use Rattle.std.proofs.Common.{ℕ, ◌≡◌, ◌≢◌, ◌+◌, ◌-◌, ◌<�
 use Rattle.std.proofs.lemmas.List.{get_or_default}
 use Rattle.std.proofs.lemmas.List.Sums.{sum_by-set}
 use Rattle.std.proofs.lemmas.Bool.Decides.{nat_tests}
+use Rattle.commons.specs.Beside.{KeepsSides}
 use Rattle.commons.specs.Calls.{Call}
 use Rattle.commons.specs.declared.limits.Limits.{Limits}
 use Rattle.commons.specs.Lists.{Lists, IsTable}
@@ -17,7 +18,7 @@ use Rattle.pool_model.specs.PacketModel.{perform, without_packet}
 use Rattle.pool_model.proofs.Numbered.{AreNumbered, number_at}
 use Rattle.share_book.specs.inside.SitePool.{pool_with}
 use Rattle.commons.specs.PlainCalls.{LeadsPlain}
-use Rattle.share_book.specs.inside.Own.{Owns, StepsAlone}
+use Rattle.share_book.specs.inside.Own.{OwnOnLists}
 use Rattle.share_book.proofs.Counts.{AreMembers, counts_are_holds}
 use Rattle.commons.proofs.PacketBags.{held_in-set, stands_within}
 use Rattle.share_book.proofs.PacketCalls.{Elsewhere, performed_by}
@@ -26,22 +27,24 @@ same_or_other : (i j : ℕ) → (j ≡ i) ⊎ (j ≢ i)
 same_or_other i j = grind arith
 
 -- another worker owns its part as before
-owns_other : (s t : Lists) (w v : ℕ) (m : Member) → StepsAlone w s t → v ≢ w → Owns s v m → Owns t v m
-owns_other s t w v m a e o = record {
-  first = o.first;
-  last = rw a.limits o.last;
-  share = record {
-    limits = o.share.limits ∙ sym a.limits;
-    cached = λ i. a.others.hands v i e ∙ o.share.cached i;
-    held = λ i. a.others.holds v i o.first e ∙ o.share.held i;
-    headed = λ i. omega (arith, o.share.headed i, a.others.headers v i e);
-  };
-}
+own_other : (s t : Lists) (w v : ℕ) (m : Member) → KeepsSides w s t → v ≢ w → OwnOnLists s v m → OwnOnLists t v m
+own_other s t w v m a e o =
+    let side = a.others v o.first e in
+    record {
+      first = o.first;
+      last = rw a.limits o.last;
+      share = record {
+        limits = o.share.limits ∙ sym a.limits;
+        cached = λ i. side.hand i ∙ o.share.cached i;
+        held = λ i. side.holds i ∙ o.share.held i;
+        headed = λ i. omega (arith, o.share.headed i, side.headers i);
+      };
+    }
 
 -- each worker keeps its number and owns its part once one of them has acted
 pub members_after : (s t : Lists) (members : List Member) (n w : ℕ) (m : Member) → w ≡ n + 1 →
     n < length members → length members ≡ s.limits.workers →
-    AreMembers s members → StepsAlone w s t → AreNumbered 1 (set members n m) → Owns t w m →
+    AreMembers s members → KeepsSides w s t → AreNumbered 1 (set members n m) → OwnOnLists t w m →
     AreMembers t (set members n m)
 members_after s t members n w m e l len each a numbers own k b =
     let within : k < s.limits.workers = omega (arith, b, ap (λ (x : Limits). x.workers) a.limits) in
@@ -59,7 +62,7 @@ members_after s t members n w m e l len each a numbers own k b =
               get_or-set_other members n k m (nobody t.limits) f,
               get_or_default members k (nobody t.limits) (nobody s.limits) (omega arith),
             )
-            (owns_other s t w (k + 1) (get_or members k (nobody s.limits)) a
+            (own_other s t w (k + 1) (get_or members k (nobody s.limits)) a
             (λ g. f (omega (arith, e, g))) (each k within).own)
       ];
     }

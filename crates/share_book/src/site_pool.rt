@@ -5,12 +5,13 @@
 
 ghost use Rattle.std.specs.Prelude.{ℕ, ◌≡◌, ◌<◌, ◌≤◌, ◌+◌, List, [], length, map, vec_capacity, vec_len, IfOk, IfErr};
 ghost use Rattle.std.specs.List.{range_with_len};
+ghost use Rattle.commons.specs.Beside.{KeepsSides};
 ghost use Rattle.commons.specs.Bounds.{IsPool};
 ghost use Rattle.commons.specs.Lists.{IsMakeCause};
 ghost use Rattle.commons.specs.Calls.{Call};
 ghost use Rattle.mbuf.specs.Acts.{HasRoom, Performs, as_reply};
 ghost use Rattle.commons.specs.PlainCalls.{LeadsPlain};
-ghost use Rattle.share_book.specs.inside.Own.{Owns, StepsAlone};
+ghost use Rattle.share_book.specs.inside.Own.{OwnOnLists};
 ghost use Rattle.pool_model.specs.Pool.{new_members};
 
 use book::share::{Share, hand_in};
@@ -209,10 +210,10 @@ fn act_alone<const ROOM: usize>(
     act: Act,
 ) -> Answer<ROOM>
     requires room { HasRoom ROOM act }
-    requires own { Owns site.old worker packets.old }
+    requires own { OwnOnLists site.old worker packets.old }
     ensures calls { (calls : List Call) × LeadsPlain worker site.old calls site.new × Performs act packets.old calls (as_reply result) packets.new }
-    ensures own { Owns site.new worker packets.new }
-    ensures alone { StepsAlone worker site.old site.new }
+    ensures own { OwnOnLists site.new worker packets.new }
+    ensures sides { KeepsSides worker site.old site.new }
 {
     let mut c = PlainCommons::new(site, worker);
     acts::perform_in(packets, &mut c, act)

@@ -1,7 +1,7 @@
 -- A worker's part of the lists: what a `PlainSite` keeps for it is what the worker has. No public clause cites
 -- this module.
-use Rattle.std.specs.Prelude.{ℕ, ◌≡◌, ◌≤◌}
-use Rattle.commons.specs.Lists.{Lists, IsTable, KeepsOthers, side_of}
+use Rattle.std.specs.Prelude.{ℕ, ◌≤◌}
+use Rattle.commons.specs.Lists.{Lists, side_of}
 use Rattle.mbuf.specs.Members.{Member}
 use Rattle.mbuf.specs.Own.{Own}
 use Rattle.pool_model.specs.Pool.{Shared}
@@ -11,13 +11,7 @@ abbrev pub shared_of : Lists → Shared
 shared_of s = record { common = s.common; changes = s.changes; desks = s.desks }
 
 -- the packets are a worker's own, with that worker's part of the lists
-pub record Owns (s : Lists) (w : ℕ) (m : Member) : Type 0 where
+pub record OwnOnLists (s : Lists) (w : ℕ) (m : Member) : Type 0 where
   pub first : 1 ≤ w
   pub last : w ≤ s.limits.workers
   pub share : Own m (side_of s w)
-
--- what one worker's calls leave: the same pool, still a table, and what the others have
-pub record StepsAlone (w : ℕ) (s t : Lists) : Type 0 where
-  pub limits : t.limits ≡ s.limits
-  pub after : IsTable t
-  pub others : KeepsOthers w s t

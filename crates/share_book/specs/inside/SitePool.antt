@@ -5,7 +5,7 @@ use Rattle.mbuf.specs.declared.acts.Act.{Act}
 use Rattle.mbuf.specs.Members.{Member}
 use Rattle.pool_model.specs.PacketModel.{after_acts}
 use Rattle.pool_model.specs.Pool.{Pool, new_pool, nobody}
-use Rattle.share_book.specs.inside.Own.{shared_of, Owns}
+use Rattle.share_book.specs.inside.Own.{shared_of, OwnOnLists}
 use Rattle.share_book.specs.declared.site_pool.SitePool.TheInside.{Inside}
 
 -- these lists and these workers as a pool
@@ -22,7 +22,7 @@ IsReached pool = (acts : List (ℕ × Act)) × (pool ≡ after_acts acts (new_po
 -- the worker at n has the number n + 1 and owns its part of the lists
 pub record IsMember (s : Lists) (n : ℕ) (m : Member) : Type 0 where
   pub number : m.number ≡ n + 1
-  pub own : Owns s (n + 1) m
+  pub own : OwnOnLists s (n + 1) m
 
 -- The lists show a table, each worker owns its part of them, and the whole pool is one that acts reach.
 pub record IsSitePool (p : Inside) : Type 0 where

@@ -15,10 +15,14 @@ loop-index-init c =
 pub loop-index-preserved : goal.loop-index-preserved
 loop-index-preserved c =
     let inv = c.loop-index.invariant in
-    let others = c.turn.ensures.others in
+    let others = c.turn.ensures.sides.others in
     record {
-      hands = λ w i e. others.hands w i (λ same. omega (arith, same, e)) ∙ inv.hands w i (omega (arith, e));
+      hands =
+          λ w i e.
+          (others w (omega (arith, e)) (λ same. omega (arith, same, e))).hand i
+          ∙ inv.hands w i (omega (arith, e));
       holds =
-          λ w i e. others.holds w i (omega (arith, e)) (λ same. omega (arith, same, e))
+          λ w i e.
+          (others w (omega (arith, e)) (λ same. omega (arith, same, e))).holds i
           ∙ inv.holds w i (omega (arith, e));
     }

@@ -1,5 +1,5 @@
 use Rattle.commons.specs.Lists.{side_of}
-use Rattle.layer_tests.specs.Alone.{IsOwn}
+use Rattle.layer_tests.specs.OwnAtSite.{OwnAtSite}
 use Rattle.mbuf.proofs.OwnLemmas.{own_new}
 use Rattle.layer_tests.proofs.packets.turn.Goals as goal
 
@@ -8,7 +8,7 @@ pub differs-differs-requires : goal.differs-differs-requires
 differs-differs-requires c =
     let s = c.args.site.now in
     let w = c.args.number in
-    let own : IsOwn c.in_ok-packets.packets c.new-c.result =
+    let own : OwnAtSite c.in_ok-packets.packets c.new-c.result =
     rw (c.in_ok-packets.ensures.ok, c.limits.ensures.limits, c.new-c.ensures.now, c.new-c.ensures.worker)
     (own_new (side_of s w) w c.requires.hand c.requires.holds) in
     record { own = own }

@@ -20,7 +20,7 @@ invariant_of-self g c =
     let members = c.self.inside.members.items in
     let w = c.args.worker in
     let m = c.act_alone.new.packets in
-    let limits = c.act_alone.ensures.alone.limits in
+    let limits = c.act_alone.ensures.sides.limits in
     let n : w ≡ w - 1 + 1 = omega arith in
     let below : w - 1 < length members = omega (arith, c.self.inside.members.ok) in
     let packets = c.index_mut-packets.ensures.value ∙ get_or_default members (w - 1) c.index_mut-packets.result.now (nobody s.limits) below in
@@ -29,9 +29,9 @@ invariant_of-self g c =
     let after = pool_with t (set members (w - 1) m) in
     let reached = reached_further (pool_with s members) after w c.args.act c.self.invariant.reached (ap (λ (d : Reply × Pool). d.1) modelled) limits in
     record {
-      table = c.act_alone.ensures.alone.after;
+      table = c.act_alone.ensures.sides.table;
       workers = length-set members (w - 1) m ∙ c.self.invariant.workers ∙ sym (ap (λ (l : Limits). l.workers) limits);
-      each = members_after s t members (w - 1) w m n below c.self.invariant.workers c.self.invariant.each c.act_alone.ensures.alone (reached_numbered after reached).numbers c.act_alone.ensures.own;
+      each = members_after s t members (w - 1) w m n below c.self.invariant.workers c.self.invariant.each c.act_alone.ensures.sides (reached_numbered after reached).numbers c.act_alone.ensures.own;
       reached = reached;
     }
 
@@ -44,7 +44,7 @@ returns g c =
     let below : w - 1 < length members = omega (arith, c.self.inside.members.ok) in
     let packets = c.index_mut-packets.ensures.value ∙ get_or_default members (w - 1) c.index_mut-packets.result.now (nobody s.limits) below in
     let did = c.act_alone.ensures.calls in
-    let modelled = performed s c.act_alone.new.site members w c.args.act did.0 (as_reply c.act_alone.result) c.act_alone.new.packets c.self.invariant.table c.self.invariant.workers c.self.invariant.each (omega arith) (omega (arith, c.self.inside.members.ok)) c.act_alone.ensures.alone.limits (rw packets at did.2) did.1 in
+    let modelled = performed s c.act_alone.new.site members w c.args.act did.0 (as_reply c.act_alone.result) c.act_alone.new.packets c.self.invariant.table c.self.invariant.workers c.self.invariant.each (omega arith) (omega (arith, c.self.inside.members.ok)) c.act_alone.ensures.sides.limits (rw packets at did.2) did.1 in
     let law = c.no_element_is_given_while_it_is_held.ensures in
     rw (sym c.self.view_is) (record {
       done = modelled;

@@ -1,0 +1,9 @@
+-- A worker's packets beside the lists.
+use Rattle.commons.specs.declared.plain.PlainCommons.{PlainCommons}
+use Rattle.commons.specs.Lists.{side_of}
+use Rattle.mbuf.specs.Members.{Member}
+use Rattle.mbuf.specs.Own.{Own}
+
+-- the packets are the worker's own at its site
+abbrev pub OwnAtSite : Member → PlainCommons → Type 0
+OwnAtSite m c = Own m (side_of c.site.now c.worker)
