@@ -11,7 +11,7 @@ use snapshot::snapshot::Snapshot;
 use std::alloc::Global;
 
 /// How many elements of a closed pool are held, or its first fault.
-pub fn in_use(alloc: Global, snapshot: &Snapshot) -> Result<u64, Fault>
+pub(super) fn in_use(alloc: Global, snapshot: &Snapshot) -> Result<u64, Fault>
     requires pool { IsPool snapshot.now.limits }
     requires slots { HasSlots snapshot.now }
     ensures first { IfErr result (λ f. (f ≡ Fault.OutOfMemory) ⊎ IsFirstFault snapshot.now f) }

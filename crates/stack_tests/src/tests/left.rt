@@ -24,7 +24,7 @@ fn common_list(alloc: Global, closed: &Closed) -> Result<Vec<u32>, AllocError> {
 }
 
 /// The common list is as long as its length word says, and it and the hands list each element once.
-pub fn assert_each_once<R: Abort>(
+pub(super) fn assert_each_once<R: Abort>(
     rt: &R,
     alloc: Global,
     closed: &Closed,

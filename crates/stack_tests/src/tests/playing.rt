@@ -11,10 +11,10 @@ use stack_lf::words::WordCommons;
 use std::alloc::Global;
 
 /// The most elements that a worker gets at once.
-pub const MOST: usize = 32;
+pub(super) const MOST: usize = 32;
 
 /// A worker of a pool, who can be sent to a thread: where none takes it, its seat is lost.
-pub struct Worker {
+pub(super) struct Worker {
     pub seat: GroundSeat,
 }
 
@@ -36,7 +36,7 @@ impl Worker {
 }
 
 /// What a worker has done.
-pub struct Played {
+pub(super) struct Played {
     pub seat: GroundSeat,
     /// The elements of the worker's hand.
     pub kept: Vec<u32>,
@@ -49,7 +49,7 @@ pub struct Played {
 }
 
 /// Gets as many elements as `out` has places for, and puts the same back: the answer of the put, where the get was met.
-pub fn there_and_back(c: &mut WordCommons, out: &mut [u32]) -> Result<Result<(), Refusal>, Refusal>
+pub(super) fn there_and_back(c: &mut WordCommons, out: &mut [u32]) -> Result<Result<(), Refusal>, Refusal>
     requires { 0 < length out.old }
     ensures { Stays c.old.seat c.new.seat }
 {
@@ -59,7 +59,7 @@ pub fn there_and_back(c: &mut WordCommons, out: &mut [u32]) -> Result<Result<(),
 
 /// A worker who gets a list of `n` elements and puts it back, again and again. A list whose put is refused stays in the
 /// hand.
-pub fn rounds(alloc: Global, ground: &Ground, worker: Worker, n: usize, times: u32) -> Played
+pub(super) fn rounds(alloc: Global, ground: &Ground, worker: Worker, n: usize, times: u32) -> Played
     requires idle { IsIdle ground.now worker.seat }
     requires some { 0 < n }
     requires most { n ≤ 32 }

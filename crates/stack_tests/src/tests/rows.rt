@@ -5,7 +5,7 @@ use commons::limits::Limits;
 use commons::refusal::Refusal;
 
 /// The limits of a pool of three.
-pub const THREE: Limits = Limits {
+pub(super) const THREE: Limits = Limits {
     population: 3,
     cache: 0,
     workers: 1,
@@ -16,7 +16,7 @@ pub const THREE: Limits = Limits {
     start_count: 0,
 };
 
-pub const ROWS: &[Row] = &[
+pub(super) const ROWS: &[Row] = &[
     Row {
         name: "lists there and back",
         limits: THREE,
