@@ -19,14 +19,14 @@ pub alike : (p : Inside) → IsKept p → length p.packets.items ≡ length p.fr
 alike p kept = kept.packets ∙ sym kept.flags
 
 -- a slot where a packet stands: the table shows what lies there
-pub record Stands (p : Inside) (slot : ℕ) : Type 0 where
+pub record LiesIn (p : Inside) (slot : ℕ) : Type 0 where
   pub within : slot < length p.free
   pub there : get_or (member_of p).table slot None ≡ Some (get_or p.packets.items slot [])
 
 -- A slot that was found by the packet's number, and that shows something, is such a slot.
 pub standing : (p : Inside) (slot number : ℕ) → IsKept p →
     (slot ≡ number) × (slot < slots) × IsSome (get_or (member_of p).table number None) →
-    Stands p slot
+    LiesIn p slot
 standing p slot number kept at =
     let within : slot < length p.free = omega (arith, at.1, kept.flags) in
     record {
@@ -80,7 +80,7 @@ hidden p w packets slot segs low same laid =
     (rw laid (shown_hidden p.free p.packets.items slot segs low.flag))
 
 -- A packet that stands and a slot that is free are what a clone needs.
-pub found : (p : Inside) (source slot : ℕ) → Stands p source → IsLowest p slot →
+pub found : (p : Inside) (source slot : ℕ) → LiesIn p source → IsLowest p slot →
     clonable (get_or (member_of p).table source None) (free_slot (member_of p).table)
     ≡ Ok (get_or p.packets.items source [], slot)
 found p source slot src low =
