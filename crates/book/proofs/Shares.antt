@@ -1,9 +1,10 @@
 -- The shares in the places of a book.
 use Rattle.std.proofs.Common.{ℕ, ◌≡◌, ◌+◌, ◌<◌, List, [], ◌∷◌, ◌++◌, length, get_or, map, take, All, Option, Some, None, refl, sym, ◌∙◌, ap, suc}
 use Rattle.std.proofs.lemmas.List.{append-nil, map-append, take_more}
-use Rattle.std.proofs.lemmas.List.Elements.{All-cons, All-nil}
+use Rattle.std.proofs.lemmas.List.Elements.{All-append, All-cons, All-nil}
 use Rattle.mbuf.specs.Members.{Member, slots}
 use Rattle.snapshot.specs.declared.snapshot.ShareData.{ShareData}
+use Rattle.snapshot.specs.inside.Checked.{HasPackets, HavePackets}
 use Rattle.book.specs.Books.{shares_in}
 use Rattle.snapshot.specs.Closing.{share_of}
 
@@ -38,6 +39,13 @@ none_more places k place l e f =
     shares_more places k place l e
     ∙ ap (λ p. map share_of (shares_in (take k places)) ++ map share_of (shares_in (p ∷ []))) f
     ∙ append-nil (map share_of (shares_in (take k places)))
+
+-- one share more with packets alone in its slots
+pub packets_more : (shares : List ShareData) (share : ShareData) → HavePackets shares → HasPackets share.slots →
+    HavePackets (shares ++ share ∷ [])
+packets_more shares share all one =
+    let each : ShareData → Type 0 = λ s. HasPackets s.slots in
+    All-append each shares (share ∷ []) all (All-cons each share [] one (All-nil each))
 
 -- a share as plain data has all its slots
 abbrev HasSlots : ShareData → Type 0

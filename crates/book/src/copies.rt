@@ -4,6 +4,7 @@ ghost use Rattle.std.specs.Prelude.{◌≡◌, IfOk, None, map, slice_index_or};
 ghost use Rattle.book.specs.Books.{shares_in};
 ghost use Rattle.book.specs.Settling.{snapshot_with};
 ghost use Rattle.snapshot.specs.Closing.{share_of};
+ghost use Rattle.snapshot.specs.inside.Checked.{HasPackets, HavePackets, IsPacketIn};
 
 use crate::book::Book;
 use crate::share::Share;
@@ -14,9 +15,11 @@ use mbuf::packets::{Packets, SLOTS};
 use snapshot::snapshot::{ShareData, Snapshot};
 use std::alloc::{AllocError, Global};
 
-/// The snapshot of a closed pool and the shares in its book.
+/// The snapshot of a closed pool and the shares in its book. What stands in a slot or lies on a desk is a packet.
 pub(crate) fn snapshot(alloc: Global, closed: &Closed, book: &Book) -> Result<Snapshot, AllocError>
-    ensures { IfOk result (λ s. s ≡ snapshot_with book.now closed.now) }
+    ensures same { IfOk result (λ s. s ≡ snapshot_with book.now closed.now) }
+    ensures on_desks { IfOk result (λ s. HasPackets s.desks) }
+    ensures in_slots { IfOk result (λ s. HavePackets s.shares) }
 {
     Ok(Snapshot {
         limits: *book.limits(),
@@ -38,7 +41,8 @@ fn copied<T: Copy + Drop>(alloc: Global, values: &[T]) -> Result<Seq<T>, AllocEr
 
 /// The segments of the packet on each desk.
 fn desks(alloc: Global, places: &[Option<Packet>]) -> Result<Seq<Option<Seq<Seg>>>, AllocError>
-    ensures { IfOk result (λ s. s ≡ places.now) }
+    ensures same { IfOk result (λ s. s ≡ places.now) }
+    ensures packets { IfOk result (λ s. HasPackets s) }
 {
     let mut desks = Vec::with_capacity(alloc, places.len())?;
     for place in places {
@@ -49,7 +53,8 @@ fn desks(alloc: Global, places: &[Option<Packet>]) -> Result<Seq<Option<Seq<Seg>
 
 /// The segments of the packet on a desk, if one lies there.
 fn desk(alloc: Global, place: &Option<Packet>) -> Result<Option<Seq<Seg>>, AllocError>
-    ensures { IfOk result (λ segs. segs ≡ place.now) }
+    ensures same { IfOk result (λ segs. segs ≡ place.now) }
+    ensures packet { IfOk result (λ segs. IsPacketIn segs) }
 {
     match place {
         Some(packet) => Ok(Some(copied(alloc, packet.segs())?)),
@@ -59,7 +64,8 @@ fn desk(alloc: Global, place: &Option<Packet>) -> Result<Option<Seq<Seg>>, Alloc
 
 /// The shares in these places.
 fn shares(alloc: Global, places: &[Option<Share>]) -> Result<Seq<ShareData>, AllocError>
-    ensures { IfOk result (λ s. s ≡ map share_of (shares_in places.now)) }
+    ensures same { IfOk result (λ s. s ≡ map share_of (shares_in places.now)) }
+    ensures packets { IfOk result (λ s. HavePackets s) }
 {
     let mut shares = Vec::with_capacity(alloc, places.len())?;
     for place in places {
@@ -72,7 +78,8 @@ fn shares(alloc: Global, places: &[Option<Share>]) -> Result<Seq<ShareData>, All
 
 /// A worker's number, its cache and its packets.
 fn share_data(alloc: Global, packets: &Packets) -> Result<ShareData, AllocError>
-    ensures { IfOk result (λ d. d ≡ share_of packets.now) }
+    ensures same { IfOk result (λ d. d ≡ share_of packets.now) }
+    ensures packets { IfOk result (λ d. HasPackets d.slots) }
 {
     Ok(ShareData {
         worker: packets.worker(),
@@ -83,7 +90,8 @@ fn share_data(alloc: Global, packets: &Packets) -> Result<ShareData, AllocError>
 
 /// The segments of the packet in each slot.
 fn slots(alloc: Global, packets: &Packets) -> Result<Seq<Option<Seq<Seg>>>, AllocError>
-    ensures { IfOk result (λ s. s ≡ packets.now.table) }
+    ensures same { IfOk result (λ s. s ≡ packets.now.table) }
+    ensures packets { IfOk result (λ s. HasPackets s) }
 {
     packets.has_slots();
     let mut slots = Vec::with_capacity(alloc, SLOTS)?;
@@ -95,7 +103,8 @@ fn slots(alloc: Global, packets: &Packets) -> Result<Seq<Option<Seq<Seg>>>, Allo
 
 /// The segments of the packet in a slot, if one stands there.
 fn slot(alloc: Global, packets: &Packets, number: u32) -> Result<Option<Seq<Seg>>, AllocError>
-    ensures { IfOk result (λ segs. segs ≡ slice_index_or packets.now.table number None) }
+    ensures same { IfOk result (λ segs. segs ≡ slice_index_or packets.now.table number None) }
+    ensures packet { IfOk result (λ segs. IsPacketIn segs) }
 {
     match packets.place(number) {
         Some(packet) => Ok(Some(copied(alloc, packet.segs())?)),

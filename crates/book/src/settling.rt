@@ -1,6 +1,6 @@
 //! How a closed pool and the shares in its book become a statement, or the reason why they don't.
 
-ghost use Rattle.std.specs.Prelude.{ℕ, ◌≡◌, ◌+◌, IfOk, IfErr, MatchResult};
+ghost use Rattle.std.specs.Prelude.{ℕ, ◌≡◌, ◌≢◌, ◌+◌, IfOk, IfErr, MatchResult};
 ghost use Rattle.pool_model.specs.Statements.{ListsEachOnce, PlacesEachOnce};
 ghost use Rattle.snapshot.specs.Snapshots.{IsLawful, statement_in};
 ghost use Rattle.book.specs.Books.{IsFull, IsLeastMissing};
@@ -46,6 +46,8 @@ pub fn settle(
     ensures places { IfOk result (λ s. PlacesEachOnce book.limits s) }
     ensures whole { IfOk result (λ s. s.available + s.in_use ≡ book.limits.population) }
     ensures unsettled { IfErr result (λ e. IsUnsettled book closed e.0) }
+    // What stands in a slot of a share or lies on a desk is a packet.
+    ensures packets { IfErr result (λ e. e.0 ≢ Unsettled.Fault Fault.BadPacket) }
     // What a whole pool leaves at rest has no fault.
     ensures memory { IsFull book → IsLawful (snapshot_with book closed) → IfErr result (λ e. e.0 ≡ Unsettled.OutOfMemory) }
     ensures back { IfErr result (λ e. (e.1 ≡ closed) × (e.2 ≡ book)) }
@@ -69,6 +71,7 @@ fn statement(alloc: Global, closed: &Closed, book: &Book) -> Result<Statement, U
     ensures once { IfOk result (λ s. ListsEachOnce s) }
     ensures places { IfOk result (λ s. PlacesEachOnce book.now.limits s) }
     ensures unsettled { IfErr result (λ cause. IsUnsettled book.now closed.now cause) }
+    ensures packets { IfErr result (λ cause. cause ≢ Unsettled.Fault Fault.BadPacket) }
 {
     if let Some(worker) = book.missing() {
         return Err(Unsettled::MissingShare(worker));
