@@ -3,7 +3,7 @@ mod Clean
 mod ClosedPools
 mod ElemFaults
 pub mod FirstFaults
-mod FollowedLinks
+pub mod FollowedLinks
 mod HeldEntries
 mod HoldBounds
 mod InOrder
@@ -15,4 +15,4 @@ mod NamedSums
 mod PlacedShares
 mod Shown
 mod Times
-mod Walks
+pub mod Walks

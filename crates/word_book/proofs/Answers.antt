@@ -1,0 +1,46 @@
+-- What a settling answers where there is no fault.
+use Rattle.std.proofs.Common.{◌≡◌, ◌≢◌, length, Result, Ok, Err, refl, ap, ◌∙◌, subst}
+use Rattle.std.specs.Prelude.{IfErr}
+use Rattle.commons.specs.declared.closed.Closed.{Closed}
+use Rattle.pool_model.specs.declared.statement.Statement.{Statement}
+use Rattle.snapshot.specs.declared.fault.Fault.{Fault}
+use Rattle.snapshot.specs.declared.fault.Fault.TheVariants.{BadPacket}
+use Rattle.book.specs.declared.settling.Unsettled.{Unsettled}
+use Rattle.book.specs.declared.settling.Unsettled.TheVariants.{MissingShare, OutOfMemory, Fault as HasFault}
+use Rattle.book.specs.Books.{AreShares, IsFull, shares_in}
+use Rattle.book.specs.Places.{Places}
+use Rattle.book.specs.Settling.{IsUnsettled}
+use Rattle.word_book.specs.Leaving.{IsLeftWith}
+use Rattle.word_book.proofs.Faultless.{faultless}
+use Rattle.word_book.proofs.Wholes.{numbered}
+
+module _ (b : Places) (closed : Closed) (left : IsLeftWith b.limits closed (shares_in b.places)) (workers : length b.places ≡ b.limits.workers) (each : AreShares b.places) where
+  -- a fault is named of a full book alone
+  none_named : (f : Fault) → IsUnsettled b closed (HasFault f) → HasFault f ≢ HasFault BadPacket → ⊥
+  none_named f unsettled packets =
+      faultless b.limits closed (shares_in b.places) left (numbered b workers each unsettled.0) f
+      (λ same. packets (ap HasFault same)) unsettled.1.0
+
+  no_fault : (cause : Unsettled) → IsUnsettled b closed cause → cause ≢ HasFault BadPacket →
+      (f : Fault) → cause ≢ HasFault f
+  no_fault cause unsettled packets f same =
+      none_named f (subst (IsUnsettled b closed) same unsettled) (λ bad. packets (same ∙ bad))
+
+  memory_alone : (cause : Unsettled) → IsFull b → IsUnsettled b closed cause →
+      cause ≢ HasFault BadPacket → cause ≡ OutOfMemory
+  memory_alone (MissingShare w) full unsettled packets = absurd (full w unsettled.missing)
+  memory_alone OutOfMemory full unsettled packets = refl
+  memory_alone (HasFault f) full unsettled packets = absurd (none_named f unsettled packets)
+
+  abbrev Answer : Type 0
+  Answer = Result Statement (Unsettled × Closed × Places)
+
+  pub faults_none : (r : Answer) → IfErr r (λ e. IsUnsettled b closed e.0) →
+      IfErr r (λ e. e.0 ≢ HasFault BadPacket) → IfErr r (λ e. (f : Fault) → e.0 ≢ HasFault f)
+  faults_none (Ok s) unsettled packets = tt
+  faults_none (Err e) unsettled packets = no_fault e.0 unsettled packets
+
+  pub memory_only : (r : Answer) → IsFull b → IfErr r (λ e. IsUnsettled b closed e.0) →
+      IfErr r (λ e. e.0 ≢ HasFault BadPacket) → IfErr r (λ e. e.0 ≡ OutOfMemory)
+  memory_only (Ok s) full unsettled packets = tt
+  memory_only (Err e) full unsettled packets = memory_alone e.0 full unsettled packets

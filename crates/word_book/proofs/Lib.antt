@@ -1,0 +1,5 @@
+mod Answers
+mod Faultless
+mod Sums
+mod Walked
+mod Wholes

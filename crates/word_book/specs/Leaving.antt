@@ -1,0 +1,19 @@
+-- What a pool on words leaves, with the shares of its workers.
+use Rattle.std.specs.Prelude.{◌≡◌, List, length}
+use Rattle.commons.specs.declared.closed.Closed.{Closed}
+use Rattle.commons.specs.declared.limits.Limits.{Limits}
+use Rattle.ground.specs.Closing.{LeftOf}
+use Rattle.ground.specs.Own.{AtRest}
+use Rattle.mbuf.specs.Members.{Member}
+use Rattle.step_core.specs.declared.view.View.{View}
+use Rattle.word_book.specs.Shares.{AreSharesOf}
+
+-- A ground of these limits left it, closed by a seat at rest that had every part; these are the shares of that seat's
+-- view, and there is a place for each desk.
+pub record IsLeftWith (l : Limits) (c : Closed) (members : List Member) : Type 0 where
+  pub view : View
+  pub left : LeftOf l view c
+  pub whole : view.part ≡ l.workers
+  pub rest : AtRest view
+  pub shares : AreSharesOf members view
+  pub desks : length c.desks ≡ l.desks

@@ -1,0 +1,4 @@
+//! The end of a pool on words: what its ground left is settled with the shares of its workers.
+#![tactic(auto)]
+
+pub mod settling;
