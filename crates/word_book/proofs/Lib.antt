@@ -1,5 +1,6 @@
 mod Answers
 mod Faultless
+mod Joined
 mod Sums
 mod Walked
 mod Wholes

@@ -5,6 +5,9 @@ use Rattle.commons.specs.declared.limits.Limits.{Limits}
 use Rattle.ground.specs.Closing.{LeftOf}
 use Rattle.ground.specs.Own.{AtRest}
 use Rattle.mbuf.specs.Members.{Member}
+use Rattle.pool_model.specs.declared.statement.Statement.{Statement}
+use Rattle.snapshot.specs.Closing.{snapshot_of}
+use Rattle.snapshot.specs.Snapshots.{statement_in}
 use Rattle.step_core.specs.declared.view.View.{View}
 use Rattle.word_book.specs.Shares.{AreSharesOf}
 
@@ -17,3 +20,9 @@ pub record IsLeftWith (l : Limits) (c : Closed) (members : List Member) : Type 0
   pub rest : AtRest view
   pub shares : AreSharesOf members view
   pub desks : length c.desks ≡ l.desks
+
+-- The statement of what a ground of these limits left, closed by the seat with this view, and of these shares.
+pub record IsStatementOf (l : Limits) (v : View) (members : List Member) (s : Statement) : Type 0 where
+  pub closed : Closed
+  pub left : LeftOf l v closed
+  pub same : s ≡ statement_in (snapshot_of l closed members)

@@ -1,6 +1,8 @@
 -- When the shares of a pool's workers are what one view has.
 use Rattle.std.specs.Prelude.{ℕ, ◌≡◌, ◌≤◌, List, sum_by}
 use Rattle.commons.specs.Bag.{bag}
+use Rattle.commons.specs.Calls.{Side}
+use Rattle.commons.specs.declared.limits.Limits.{Limits}
 use Rattle.commons.specs.Packets.{own_in}
 use Rattle.mbuf.specs.Members.{Member}
 use Rattle.pool_model.specs.Pool.{held_by}
@@ -21,3 +23,7 @@ pub record AreSharesOf (members : List Member) (v : View) : Type 0 where
   pub caches : (i : ℕ) → cached_by members i ≡ bag v.hand i
   pub packets : (i : ℕ) → held_by members i ≡ bag v.holds i
   pub headers : (i : ℕ) → owned_by members i ≤ bag v.headers i
+
+-- what a worker with this view has of a pool of these limits
+abbrev pub side_in : Limits → View → Side
+side_in l v = record { limits = l; hand = bag v.hand; holds = bag v.holds; headers = bag v.headers }

@@ -1,0 +1,110 @@
+//! The end of a pool on words: its ground is closed by the one seat that is left, the shares of its workers are put in a
+//! book, and the book is settled.
+
+ghost use Rattle.std.specs.Prelude.{◌≡◌, IfOk, IfErr, map};
+ghost use Rattle.std.specs.List.{range_with_len};
+ghost use Rattle.commons.specs.Bounds.{IsPool};
+ghost use Rattle.pool_model.specs.Statements.{ListsEachOnce, PlacesEachOnce};
+ghost use Rattle.snapshot.specs.Closing.{snapshot_of};
+ghost use Rattle.snapshot.specs.Snapshots.{statement_in};
+ghost use Rattle.book.specs.Books.{IsFull, shares_in};
+ghost use Rattle.book.specs.Settling.{snapshot_with};
+ghost use Rattle.ground.specs.Own.{AtRest};
+ghost use Rattle.ground.specs.Seats.{IsOf};
+ghost use Rattle.word_book.specs.Leaving.{IsLeftWith, IsStatementOf};
+ghost use Rattle.word_book.specs.Shares.{AreSharesOf};
+
+use crate::settling::settle_words;
+use book::book::Book;
+use book::deposits::deposit_all;
+use book::settling::Unsettled;
+use book::share::{Share, lose_all};
+use commons::closed::Closed;
+use commons::limits::Limits;
+use commons::refusal::Refusal;
+use ground::pool::Ground;
+use ground::seat::GroundSeat;
+use pool_model::statement::Statement;
+use std::alloc::Global;
+
+/// Closes a ground by the seat that has every part, and settles it with the shares of all its workers, which are what
+/// the seat has. The statement lists each element exactly once, and each packet has a place of its own.
+///
+/// Refused `OutOfMemory` where memory was refused. The pool is ended then too, and nothing is left of it.
+pub fn settled(
+    alloc: Global,
+    ground: Ground,
+    seat: GroundSeat,
+    shares: Vec<Share>,
+) -> Result<Statement, Refusal>
+    requires of { IsOf ground seat }
+    requires whole { seat.known.view.part ≡ ground.limits.workers }
+    requires rest { AtRest seat.known.view }
+    requires workers { map (λ share. share.number) shares.items ≡ range_with_len 1 ground.limits.workers }
+    requires shares { AreSharesOf shares.items seat.known.view }
+    ensures statement { IfOk result (IsStatementOf ground.limits seat.known.view shares.items) }
+    ensures once { IfOk result (λ s. ListsEachOnce s) }
+    ensures places { IfOk result (λ s. PlacesEachOnce ground.limits s) }
+    ensures memory { IfErr result (λ e. e ≡ Refusal.OutOfMemory) }
+{
+    let limits = ground.limits();
+    match ground.close(seat) {
+        Ok(closed) => settled_parts(alloc, &limits, closed, shares),
+        Err((cause, _, seat)) => {
+            seat.lose();
+            lose_all(shares);
+            Err(cause)
+        }
+    }
+}
+
+/// Settles what a ground of these limits left with the shares of all its workers. The statement is the one of the
+/// snapshot that they are.
+///
+/// Refused `OutOfMemory` where memory was refused. Nothing is left of the pool then either.
+pub fn settled_parts(
+    alloc: Global,
+    limits: &Limits,
+    closed: Closed,
+    shares: Vec<Share>,
+) -> Result<Statement, Refusal>
+    requires range { IsPool limits.now }
+    requires workers { map (λ share. share.number) shares.items ≡ range_with_len 1 limits.now.workers }
+    requires left { IsLeftWith limits.now closed shares.items }
+    ensures statement { IfOk result (λ s. s ≡ statement_in (snapshot_of limits.now closed shares.items)) }
+    ensures once { IfOk result (λ s. ListsEachOnce s) }
+    ensures places { IfOk result (λ s. PlacesEachOnce limits.now s) }
+    ensures memory { IfErr result (λ e. e ≡ Refusal.OutOfMemory) }
+{
+    match Book::make(alloc, limits) {
+        Ok(mut book) => {
+            deposit_all(&mut book, shares);
+            settled_book(alloc, closed, book)
+        }
+        Err(cause) => {
+            lose_all(shares);
+            Err(cause)
+        }
+    }
+}
+
+/// Settles what a ground left with a book that has the shares of all its workers.
+fn settled_book(alloc: Global, closed: Closed, book: Book) -> Result<Statement, Refusal>
+    requires full { IsFull book }
+    requires left { IsLeftWith book.limits closed (shares_in book.places) }
+    ensures statement { IfOk result (λ s. s ≡ statement_in (snapshot_with book closed)) }
+    ensures once { IfOk result (λ s. ListsEachOnce s) }
+    ensures places { IfOk result (λ s. PlacesEachOnce book.limits s) }
+    ensures memory { IfErr result (λ e. e ≡ Refusal.OutOfMemory) }
+{
+    match settle_words(alloc, closed, book) {
+        Ok(statement) => Ok(statement),
+        Err((cause, _, book)) => {
+            book.lose();
+            match cause {
+                Unsettled::OutOfMemory => Err(Refusal::OutOfMemory),
+                _ => unreachable!(),
+            }
+        }
+    }
+}

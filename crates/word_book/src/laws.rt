@@ -1,0 +1,23 @@
+//! Laws of shares and seats. Each is a function that does nothing, and its contract is the law.
+
+ghost use Rattle.std.specs.Prelude.{List, [], ◌∷◌, ◌++◌, ℕ};
+ghost use Rattle.commons.specs.declared.limits.Limits.{Limits};
+ghost use Rattle.ground.specs.Parting.{both_views};
+ghost use Rattle.mbuf.specs.Members.{Member};
+ghost use Rattle.mbuf.specs.Own.{Own};
+ghost use Rattle.step_core.specs.World.{empty_view};
+ghost use Rattle.step_core.specs.declared.view.View.{View};
+ghost use Rattle.word_book.specs.Shares.{AreSharesOf, side_in};
+
+/// A worker whose packets are its own, over the view of its seat, has a share of what that view has: all of it. A view
+/// that has nothing is no worker's share.
+pub fn own_packets_are_a_share()
+    ensures one { (l : Limits) (v : View) (m : Member) → Own m (side_in l v) → AreSharesOf (m ∷ []) v }
+    ensures none { (part : ℕ) → AreSharesOf [] (empty_view part) }
+{}
+
+/// Where two seats are joined, the shares of both together are those of the one seat.
+pub fn joined_seats_have_the_shares_of_both()
+    ensures { (v u : View) (first second : List Member) → AreSharesOf first v → AreSharesOf second u →
+        AreSharesOf (first ++ second) (both_views v u) }
+{}
