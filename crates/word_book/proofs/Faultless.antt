@@ -19,7 +19,7 @@ use Rattle.step_core.specs.Bags.{below}
 use Rattle.step_core.specs.Headers.{all_headers}
 use Rattle.step_core.specs.declared.view.Desk.{Desk}
 use Rattle.step_core.specs.declared.view.View.{View}
-use Rattle.step_core.specs.World.{World, all_holds, all_zeros, credits, empty_view, hands, link_in, shelf, view_at}
+use Rattle.step_core.specs.World.{World, all_holds, all_zeros, credits, empty_view, hands, link_in, view_at}
 use Rattle.step_core.proofs.Bags.{below-at, below-le, below-past, times-nil}
 use Rattle.step_core.proofs.StackSteps.{one_view}
 use Rattle.ground.specs.Closing.{Nothing}
@@ -35,6 +35,7 @@ use Rattle.snapshot.proofs.FollowedLinks.{AreLinked, words_linked}
 use Rattle.snapshot.proofs.Walks.{IsBelow, elements_after, words_and, words_of}
 use Rattle.word_book.specs.Leaving.{IsLeftWith}
 use Rattle.word_book.specs.Shares.{cached_by, owned_by}
+use Rattle.word_book.proofs.Desks.{kept_on, shelves_held, shelves_own}
 use Rattle.word_book.proofs.Sums.{alone_sum}
 use Rattle.word_book.proofs.Walked.{linked_by, top_of}
 
@@ -81,12 +82,15 @@ module _ (l : Limits) (c : Closed) (members : List Member) (h : IsLeftWith l c m
       (λ j ne. ap (λ xs. bag xs i) (others j ne).zeros ∙ times-nil i)
       ∙ ap (λ xs. bag xs i) h.rest.zeros ∙ times-nil i
 
-  holds_are : (i : ℕ) → all_holds i w.views w.desks ≡ bag h.view.holds i
+  -- what the pool left on its desks is what lay on full ones
+  on_desks : c.desks ≡ map kept_on w.desks
+  on_desks = h.left.desks ∙ sym (ap (λ (ds : List Desk). map kept_on ds) h.left.no_desks)
+
+  holds_are : (i : ℕ) → all_holds i w.views w.desks ≡ bag h.view.holds i + held_in c.desks i
   holds_are i =
       let views = of_view (λ v. bag v.holds i) (times-nil i)
       (λ j ne. ap (λ xs. bag xs i) (others j ne).holds ∙ times-nil i) in
-      let desks : sum_by (λ (d : Desk). bag (shelf d) i) w.desks ≡ 0 =
-      ap (λ (ds : List Desk). sum_by (λ (d : Desk). bag (shelf d) i) ds) h.left.no_desks in
+      let desks = ap (λ (ps : List (Option (List Seg))). held_in ps i) on_desks ∙ shelves_held w.desks i in
       omega arith
 
   no_credit : credits w.views ≡ 0
@@ -94,7 +98,9 @@ module _ (l : Limits) (c : Closed) (members : List Member) (h : IsLeftWith l c m
 
   -- ---- each element is in one place
 
-  placed : (i : ℕ) → bag common i + cached_by members i + min 1 (held_by members i) ≡ below l.population i
+  placed : (i : ℕ) →
+      bag common i + cached_by members i + min 1 (held_by members i + held_in c.desks i)
+      ≡ below l.population i
   placed i =
       let place = h.left.law.places.one_place i in
       let bound = ap (λ (n : ℕ). below n i) population_is in
@@ -147,26 +153,24 @@ module _ (l : Limits) (c : Closed) (members : List Member) (h : IsLeftWith l c m
       let caches = sum_by-map (λ (share : ShareData). bag share.cache i) share_of members in
       omega arith
 
-  held_is : (i : ℕ) → times_held s i ≡ held_by members i
+  held_is : (i : ℕ) → times_held s i ≡ held_by members i + held_in c.desks i
   held_is i =
       let again : ShareData → Member =
       λ share. record { limits = l; number = share.worker; cache = share.cache; table = share.slots } in
       let hold : Member → ℕ = λ m. held_in m.table i in
-      let shares = sum_by-map hold again (map share_of members)
-      ∙ sum_by-map (λ (share : ShareData). hold (again share)) share_of members in
-      let desks : held_in c.desks i ≡ 0 = ap (λ (ds : List (Option (List Seg))). held_in ds i) h.left.desks in
-      omega arith
+      ap (λ (n : ℕ). n + held_in c.desks i)
+      (sum_by-map hold again (map share_of members)
+      ∙ sum_by-map (λ (share : ShareData). hold (again share)) share_of members)
 
-  named_is : (i : ℕ) → times_named s i ≡ cached_by members i + held_by members i
+  named_is : (i : ℕ) → times_named s i ≡ cached_by members i + (held_by members i + held_in c.desks i)
   named_is i =
       let caches = sum_by-map (λ (share : ShareData). bag share.cache i) share_of members in
       omega (arith, held_is i)
 
-  own_is : (i : ℕ) → times_own s i ≡ owned_by members i
+  own_is : (i : ℕ) → times_own s i ≡ owned_by members i + own_in c.desks i
   own_is i =
-      let shares = sum_by-map (λ (share : ShareData). own_in share.slots i) share_of members in
-      let desks : own_in c.desks i ≡ 0 = ap (λ (ds : List (Option (List Seg))). own_in ds i) h.left.desks in
-      omega arith
+      ap (λ (n : ℕ). n + own_in c.desks i)
+      (sum_by-map (λ (share : ShareData). own_in share.slots i) share_of members)
 
   one_place : (i : ℕ) → times_free s i + min 1 (times_held s i) ≡ below l.population i
   one_place i = omega (arith, placed i, free_is i, held_is i)
@@ -200,6 +204,7 @@ module _ (l : Limits) (c : Closed) (members : List Member) (h : IsLeftWith l c m
   own_once i =
       let one = one_view (λ v. bag v.headers i) w.views h.left.id (times-nil i) in
       let same = ap (λ (v : View). bag v.headers i) is in
+      let desks = ap (λ (ps : List (Option (List Seg))). own_in ps i) on_desks ∙ shelves_own w.desks i in
       let once : all_headers i w.views w.desks ≤ 1 = h.left.headers.once i in
       omega (arith, own_is i, h.shares.headers i)
 

@@ -1,4 +1,5 @@
 mod Answers
+mod Desks
 mod Faultless
 mod Joined
 mod Sums
