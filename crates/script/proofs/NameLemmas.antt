@@ -10,7 +10,7 @@ use Rattle.std.proofs.lemmas.Slice.Eq.{bytes_eq-Decides}
 use Rattle.script.specs.declared.names.Names.{Names}
 use Rattle.mbuf.specs.declared.acts.NewPacket.{NewPacket}
 use Rattle.script.specs.Replay.{named, all_named}
-use Rattle.script.specs.inside.Stands.{same_key, stands_in}
+use Rattle.script.specs.Stands.{same_key, stands_in}
 
 -- it doesn't matter which of two keys comes first
 same_key-flip : (a b : ℕ) (x y : List ℕ) → (eqb a b && bytes_eq x y) ≡ (eqb b a && bytes_eq y x)

@@ -2,5 +2,6 @@ pub mod Printed
 pub mod Replay
 pub mod ReplyText
 pub mod Running
+pub mod Stands
 pub mod StatementText
 pub mod inside

@@ -1,3 +1,2 @@
--- How the code keeps a run of the reference model. No public clause cites these modules.
+-- How the code keeps a run of the reference model. No public clause cites this module.
 pub mod Standing
-pub mod Stands

@@ -4,7 +4,7 @@
 pub mod gate;
 pub mod json;
 pub mod laws;
-mod names;
+pub mod names;
 pub mod playing;
 pub mod printing;
 pub mod running;

@@ -9,15 +9,15 @@ use std::collections::HashMap;
 
 /// The slot of the packet that each worker's name stands for.
 #[derive(Drop)]
-pub(crate) struct Names<'a> {
+pub struct Names<'a> {
     slots: HashMap<(u32, &'a [u8]), Pid>,
 }
 
 impl<'a> Names<'a> {
-    ghost use Rattle.script.specs.inside.Stands.{stands_in};
+    ghost use Rattle.script.specs.Stands.{stands_in};
 
     /// No name stands for a packet.
-    pub(crate) fn new(alloc: Global) -> Names<'a>
+    pub fn new(alloc: Global) -> Names<'a>
         ensures { (worker : ℕ) (name : List ℕ) → stands_in result worker name ≡ None }
     {
         Names {
@@ -26,14 +26,14 @@ impl<'a> Names<'a> {
     }
 
     /// The slot of the packet that a worker's name stands for.
-    pub(crate) fn get(&self, worker: u32, name: &'a [u8]) -> Option<Pid>
+    pub fn get(&self, worker: u32, name: &'a [u8]) -> Option<Pid>
         ensures { result ≡ stands_in self.now worker name.now }
     {
         self.slots.get(&(worker, name)).copied()
     }
 
     /// Lets a worker's name stand for the packet in a slot.
-    pub(crate) fn set(&mut self, worker: u32, name: &'a [u8], slot: Pid) -> Result<(), AllocError>
+    pub fn set(&mut self, worker: u32, name: &'a [u8], slot: Pid) -> Result<(), AllocError>
         ensures { OnOk result ((w : ℕ) (other : List ℕ) → stands_in self.new w other ≡ named worker name.now (Some slot) (stands_in self.old) w other) }
     {
         self.slots.insert((worker, name), slot)?;
@@ -41,7 +41,7 @@ impl<'a> Names<'a> {
     }
 
     /// Lets a worker's name stand for no packet.
-    pub(crate) fn forget(&mut self, worker: u32, name: &'a [u8])
+    pub fn forget(&mut self, worker: u32, name: &'a [u8])
         ensures { (w : ℕ) (other : List ℕ) → stands_in self.new w other ≡ named worker name.now None (stands_in self.old) w other }
     {
         self.slots.remove(&(worker, name));

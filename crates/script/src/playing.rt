@@ -3,7 +3,7 @@ ghost use Rattle.std.specs.Prelude.{◌≡◌, None, IfOk, IfErr, OnOk};
 ghost use Rattle.mbuf.specs.Acts.{as_reply};
 ghost use Rattle.script.specs.Replay.{CommandHasRoom, replies_to, end_of, new_run, act_of as changes_to, all_named, asked as asked_by, obey as obeyed, stands_after};
 ghost use Rattle.script.specs.inside.Standing.{run_of, fresh_run};
-ghost use Rattle.script.specs.inside.Stands.{stands_in};
+ghost use Rattle.script.specs.Stands.{stands_in};
 ghost use Rattle.pool_model.specs.Sound.{ListsSoundPackets};
 ghost use Rattle.pool_model.specs.Statements.{statement_of, ListsEachOnce, PlacesEachOnce};
 
@@ -103,7 +103,7 @@ fn act_of(slot: Pid, change: Change) -> Act
 }
 
 /// The act that a line asks for, by what its worker's names stand for; none where one of them stands for no packet.
-pub(crate) fn asked<'a>(names: &Names<'a>, line: &'a Line) -> Option<Act>
+pub fn asked<'a>(names: &Names<'a>, line: &'a Line) -> Option<Act>
     ensures { result ≡ asked_by (stands_in names.now line.now.worker) line.now.command }
 {
     let worker = line.worker;
@@ -134,7 +134,7 @@ pub(crate) fn asked<'a>(names: &Names<'a>, line: &'a Line) -> Option<Act>
 }
 
 /// Keeps which packets a worker's names stand for, once its line has this reply.
-pub(crate) fn note<'a, const ROOM: usize>(
+pub fn note<'a, const ROOM: usize>(
     names: &mut Names<'a>,
     line: &'a Line,
     reply: &Answer<ROOM>,

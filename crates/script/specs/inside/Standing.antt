@@ -3,7 +3,7 @@ use Rattle.std.specs.Prelude.{None}
 use Rattle.script.specs.declared.names.Names.{Names}
 use Rattle.pool_model.specs.Pool.{Pool}
 use Rattle.script.specs.Replay.{Run}
-use Rattle.script.specs.inside.Stands.{stands_in}
+use Rattle.script.specs.Stands.{stands_in}
 
 -- a pool, and what its names stand for
 abbrev pub run_of : Pool → Names → Run

@@ -3,7 +3,7 @@ use Rattle.std.specs.Prelude.{min}
 use Rattle.std.proofs.lemmas.List.{drop_more, length-drop}
 use Rattle.mbuf.specs.declared.acts.NewPacket.{NewPacket}
 use Rattle.script.specs.Replay.{named, all_named}
-use Rattle.script.specs.inside.Stands.{stands_in}
+use Rattle.script.specs.Stands.{stands_in}
 use Rattle.script.proofs.NameLemmas.{all_named-end}
 use Rattle.script.proofs.playing.name_all.Goals as goal
 

@@ -1,6 +1,6 @@
 use Rattle.std.proofs.Common.{◌≡◌, drop}
 use Rattle.script.specs.Replay.{all_named}
-use Rattle.script.specs.inside.Stands.{stands_in}
+use Rattle.script.specs.Stands.{stands_in}
 use Rattle.script.proofs.playing.name_all.Given as goal
 
 -- once the names that are left stand for theirs, all of them do

@@ -1,4 +1,4 @@
--- Which packet a name stands for, as the map keeps it. No public clause cites this module.
+-- Which packet a name stands for, as the map keeps it.
 use Rattle.std.specs.Prelude.{ℕ, ◌==◌, ◌&&◌, Bool, List, Option}
 use Rattle.std.specs.Borrow.{Bor}
 use Rattle.std.specs.Str.{bytes_eq}
