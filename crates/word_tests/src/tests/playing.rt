@@ -1,0 +1,116 @@
+//! Scripts of one or two workers on the words of a pool, in one thread.
+
+ghost use Rattle.std.specs.Prelude.{◌≡◌, ℕ, IfSome, OnOk};
+ghost use Rattle.stack_tests.specs.Idle.{IsIdle};
+ghost use Rattle.word_tests.specs.Ready.{IsReady};
+
+use super::players::{FreeSeat, Player, Retired};
+use super::settling::Ending;
+use book::settling::Unsettled;
+use commons::limits::Limits;
+use commons::refusal::Refusal;
+use ground::pool::Ground;
+use mbuf::acts::Reply;
+use pool_model::statement::Statement;
+use script::names::Names;
+use script::playing::{asked, note};
+use script_text::commands::{Line, Script};
+use std::alloc::Global;
+use std::test::Fail;
+
+/// The replies to a script, and the statement of its end or why there is none.
+pub type Played = (Vec<Reply>, Result<Statement, Unsettled>);
+
+/// Lets the worker of a line do what the line asks for.
+fn obey<'a>(
+    ground: &Ground,
+    names: &Names<'a>,
+    line: &'a Line,
+    first: &mut Player,
+    second: &mut Option<Player>,
+) -> Reply
+    requires first { IsReady ground.now first.old.c.seat first.old.packets }
+    requires second { IfSome second.old (λ p. IsReady ground.now p.c.seat p.packets) }
+    ensures first { IsReady ground.now first.new.c.seat first.new.packets }
+    ensures second { IfSome second.new (λ p. IsReady ground.now p.c.seat p.packets) }
+{
+    let Some(act) = asked(names, line) else {
+        return Reply::Refused(Refusal::NoSuchPacket);
+    };
+    if line.worker == 1 {
+        return first.act(act);
+    }
+    match second {
+        Some(second) => second.act(act),
+        None => Reply::Refused(Refusal::StrangerShare),
+    }
+}
+
+/// Plays the lines, and lists the replies.
+fn obey_all(
+    alloc: Global,
+    ground: &Ground,
+    lines: &[Line],
+    first: &mut Player,
+    second: &mut Option<Player>,
+) -> Result<Vec<Reply>, Fail>
+    requires first { IsReady ground.now first.old.c.seat first.old.packets }
+    requires second { IfSome second.old (λ p. IsReady ground.now p.c.seat p.packets) }
+    ensures first { OnOk result (IsReady ground.now first.new.c.seat first.new.packets) }
+    ensures second { OnOk result (IfSome second.new (λ p. IsReady ground.now p.c.seat p.packets)) }
+{
+    let mut names = Names::new(alloc);
+    let mut replies = Vec::new(alloc);
+    for line in lines {
+        let reply = obey(ground, &names, line, first, second);
+        note(&mut names, line, &reply)?;
+        replies.push(reply)?;
+    }
+    Ok(replies)
+}
+
+/// Ends the acts of one worker, or of two.
+fn retire(ground: &Ground, first: Player, second: Option<Player>) -> (Retired, Option<Retired>)
+    requires first { IsReady ground.now first.c.seat first.packets }
+    requires second { IfSome second (λ p. IsReady ground.now p.c.seat p.packets) }
+    ensures first { IsIdle ground.now result.0.seat }
+    ensures second { IfSome result.1 (λ other. IsIdle ground.now other.seat) }
+{
+    match second {
+        Some(second) => (first.retire(), Some(second.retire())),
+        None => (first.retire(), None),
+    }
+}
+
+/// Plays a script whose pool has one worker, or two.
+pub fn play(alloc: Global, script: &Script) -> Result<Played, Fail> {
+    let limits = &script.limits;
+    let (ground, seat) = Ground::make(alloc, limits)?;
+    let mut first = FreeSeat { seat };
+    let second = if limits.workers == 2 {
+        Some(FreeSeat {
+            seat: ground.split(&mut first.seat),
+        })
+    } else {
+        None
+    };
+    let mut first = Player::make(alloc, &ground, first, 1)?;
+    let mut second = match second {
+        Some(free) => Some(Player::make(alloc, &ground, free, 2)?),
+        None => None,
+    };
+    let replies = obey_all(
+        alloc,
+        &ground,
+        script.lines.as_slice(),
+        &mut first,
+        &mut second,
+    )?;
+    let (first, second) = retire(&ground, first, second);
+    let mut ending = Ending::begin(alloc, limits, first)?;
+    if let Some(second) = second {
+        ending.add(&ground, second);
+    }
+    let end = ending.settle(alloc, ground)?;
+    Ok((replies, end))
+}
