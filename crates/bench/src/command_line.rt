@@ -1,6 +1,7 @@
 //! The words of the command line.
 
 use crate::failures::Failure;
+use crate::words::{Cells, NAMES};
 use clap::builder::ValueParser;
 use clap::error::ErrorKind;
 use clap::{Arg, Command};
@@ -22,9 +23,11 @@ pub enum Workload {
     Audits,
     /// The end of a large pool: close, deposits and settling.
     Endings,
+    /// Rounds over the words of a pool, by several threads.
+    Words,
 }
 
-const WORKLOADS: [(Workload, &str, &str); 5] = [
+const WORKLOADS: [(Workload, &str, &str); 6] = [
     (Workload::Replays, "replays", "scripts of 10,000 commands"),
     (
         Workload::Elements,
@@ -46,17 +49,24 @@ const WORKLOADS: [(Workload, &str, &str); 5] = [
         "endings",
         "a pool of 65,534 elements is closed and settled",
     ),
+    (
+        Workload::Words,
+        "words",
+        "lists, elements and packets over the words of a pool, by 1, 2 and 4 threads",
+    ),
 ];
 
 /// What the words ask for.
 #[derive(Clone, Copy, Debug)]
-pub struct Asked {
+pub struct Asked<'a> {
     /// The workload. None: the list of all.
     pub workload: Option<Workload>,
     /// How many rounds a run has, where the words say so.
     pub rounds: Option<u64>,
     /// Of how many runs the least is told.
     pub runs: u64,
+    /// What is measured of the words of a pool.
+    pub cells: Cells<'a>,
 }
 
 /// The words of the command line, the program's name first.
@@ -65,7 +75,7 @@ pub fn words<R: Env + AllocGlobal>(rt: &R) -> Result<Vec<String>, Failure> {
 }
 
 /// What the words ask for. `CommandLine` where they are wrong, or ask for help.
-pub fn read(alloc: Global, words: &[String]) -> Result<Asked, Failure> {
+pub fn read<'a>(alloc: Global, words: &'a [String]) -> Result<Asked<'a>, Failure> {
     let matches = command(alloc)?.try_get_matches_from(words)?;
     let workload = match matches.get_str("WORKLOAD") {
         None => None,
@@ -78,6 +88,13 @@ pub fn read(alloc: Global, words: &[String]) -> Result<Asked, Failure> {
         workload,
         rounds: number(matches.get_str("rounds")),
         runs: number(matches.get_str("runs")).unwrap_or(15),
+        cells: Cells {
+            names: matches.get_str("names").unwrap_or(NAMES),
+            threads: matches.get_str("threads").unwrap_or("1,2,4"),
+            caches: matches.get_str("cache").unwrap_or("0,256"),
+            population: number(matches.get_str("population")).unwrap_or(8_192),
+            millis: number(matches.get_str("ms")).unwrap_or(40),
+        },
     })
 }
 
@@ -106,26 +123,53 @@ fn number(word: Option<&str>) -> Option<u64> {
     word.and_then(|word| word.parse::<u64>().ok())
 }
 
-/// `bench [WORKLOAD] [--rounds N] [--runs R]`.
+/// `bench [WORKLOAD] [--rounds N] [--runs R]`, and for the words of a pool `[--workload NAMES] [--threads LIST]
+/// [--cache LIST] [--population N] [--ms N]`.
 fn command<'a>(alloc: Global) -> Result<Command<'a>, clap::Error> {
     let workload = Arg::new(alloc, "WORKLOAD").help(
         "What is measured; none: the list of workloads",
     );
-    let rounds = Arg::new(alloc, "rounds")
-        .long("rounds")
-        .value_name("N")
-        .value_parser(ValueParser::unsigned(1, 1_000_000_000))
-        .help("How many rounds a run has");
-    let runs = Arg::new(alloc, "runs")
-        .long("runs")
-        .value_name("R")
-        .value_parser(ValueParser::unsigned(1, 1_000))
-        .help("Of how many runs the least is told");
+    let names = Arg::new(alloc, "names")
+        .long("workload")
+        .value_name("NAMES")
+        .help("Words: which rounds, with commas between");
+    let threads = Arg::new(alloc, "threads")
+        .long("threads")
+        .value_name("LIST")
+        .help("Words: by how many threads, 1, 2 or 4, with commas between");
+    let caches = Arg::new(alloc, "cache")
+        .long("cache")
+        .value_name("LIST")
+        .help("Words: how large the caches are, with commas between");
     Ok(
         Command::new(alloc, "bench")
-            .about("Measures the pool on the lists")
+            .about("Measures the pool on the lists, and on its words")
             .arg(workload)?
-            .arg(rounds)?
-            .arg(runs)?,
+            .arg(whole(alloc, "rounds", 1_000_000_000, "How many rounds a run has"))?
+            .arg(whole(alloc, "runs", 1_000, "Of how many runs the least is told"))?
+            .arg(names)?
+            .arg(threads)?
+            .arg(caches)?
+            .arg(whole(
+                alloc,
+                "population",
+                65_534,
+                "Words: how many elements a pool has",
+            ))?
+            .arg(whole(
+                alloc,
+                "ms",
+                60_000,
+                "Words: how long a run is, without --rounds",
+            ))?,
     )
+}
+
+/// An option for a whole number from 1 on.
+fn whole<'a>(alloc: Global, name: &'a str, most: u64, help: &'a str) -> Arg<'a> {
+    Arg::new(alloc, name)
+        .long(name)
+        .value_name("N")
+        .value_parser(ValueParser::unsigned(1, most))
+        .help(help)
 }

@@ -72,22 +72,25 @@ fn worker_runs<R: Clock, C: Commons>(
     for _run in 0..runs {
         let start = Instant::now(rt)?;
         for _round in 0..rounds {
-            get_and_put(worker, c, list);
+            let _met = there_and_back(worker, c, list);
         }
         least = least.min(since(rt, start)?);
     }
     Ok(least)
 }
 
-fn get_and_put<C: Commons>(worker: &mut Worker, c: &mut C, list: &mut [u32])
+/// Gets a list and puts it back, and answers whether the get was met.
+pub fn there_and_back<C: Commons>(worker: &mut Worker, c: &mut C, list: &mut [u32]) -> bool
     requires limits { (C.side c.old).limits ≡ worker.old.limits }
     requires cached { (i : ℕ) → bag worker.old.cache i ≤ (C.side c.old).hand i }
     ensures limits { (C.side c.new).limits ≡ worker.new.limits }
     ensures cached { (i : ℕ) → bag worker.new.cache i ≤ (C.side c.new).hand i }
 {
-    if worker.get_bulk(c, list).is_ok() {
-        let _put = worker.put_bulk(c, list);
+    if worker.get_bulk(c, list).is_err() {
+        return false;
     }
+    let _put = worker.put_bulk(c, list);
+    true
 }
 
 /// The least of so many runs, by the stack calls alone.

@@ -22,6 +22,10 @@ pub enum Failure {
     Unlawful(Fault),
     /// A pool at its end isn't settled.
     Unsettled(Unsettled),
+    /// A name or a number of a list isn't one that can be measured.
+    NotInList,
+    /// So many elements aren't back in the common list at the end.
+    Missing(u64),
 }
 
 impl From<Error> for Failure {
@@ -59,6 +63,14 @@ pub fn tell<R: Print + Eprint>(rt: &R, failure: Failure) -> u8 {
         Failure::Refused(refusal) => (rt.eprintln(format_args!("bench: {refusal}")), 1),
         Failure::Unlawful(fault) => (rt.eprintln(format_args!("bench: {fault:?}")), 1),
         Failure::Unsettled(cause) => (rt.eprintln(format_args!("bench: {cause:?}")), 1),
+        Failure::NotInList => (
+            rt.eprintln(format_args!("bench: a list names what can't be measured")),
+            2,
+        ),
+        Failure::Missing(count) => (
+            rt.eprintln(format_args!("bench: {count} elements are missing at the end")),
+            1,
+        ),
     };
     match told {
         Ok(()) => status,

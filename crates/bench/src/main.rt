@@ -1,4 +1,4 @@
-//! Measures the pool on the lists: `bench WORKLOAD [--rounds N] [--runs R]`.
+//! Measures the pool on the lists, and on its words: `bench WORKLOAD [--rounds N] [--runs R]`.
 #![tactic(auto)]
 
 mod audits;
@@ -10,25 +10,27 @@ mod figures;
 mod packets;
 mod pools;
 mod replays;
+mod words;
 
 use command_line::Workload;
 use failures::Failure;
 use std::process::ExitCode;
 use std::rt::Runtime;
+use std::thread::Threads;
 
 fn main(rt: HostRuntime) -> ExitCode {
     ExitCode::from(run(&rt))
 }
 
 /// Measures what the command line asks for, and gives the status that the program ends with.
-fn run<R: Runtime + AllocGlobal>(rt: &R) -> u8 {
+fn run<R: Runtime + AllocGlobal + Threads + Sync>(rt: &R) -> u8 {
     match measure(rt) {
         Ok(()) => 0,
         Err(failure) => failures::tell(rt, failure),
     }
 }
 
-fn measure<R: Runtime + AllocGlobal>(rt: &R) -> Result<(), Failure> {
+fn measure<R: Runtime + AllocGlobal + Threads + Sync>(rt: &R) -> Result<(), Failure> {
     let words = command_line::words(rt)?;
     let asked = command_line::read(rt.alloc(), words.as_slice())?;
     match asked.workload {
@@ -38,5 +40,6 @@ fn measure<R: Runtime + AllocGlobal>(rt: &R) -> Result<(), Failure> {
         Some(Workload::Packets) => packets::measure(rt, asked.rounds, asked.runs),
         Some(Workload::Audits) => audits::measure(rt, asked.rounds, asked.runs),
         Some(Workload::Endings) => endings::measure(rt, asked.rounds, asked.runs),
+        Some(Workload::Words) => words::measure(rt, &asked.cells, asked.rounds, asked.runs),
     }
 }

@@ -1,0 +1,37 @@
+//! Rounds over the words of a pool, by one, two or four threads at once.
+mod bare;
+mod cached;
+mod carried;
+mod cells;
+mod held;
+mod kinds;
+mod span;
+mod threads;
+
+use crate::failures::Failure;
+pub use cells::Cells;
+pub use kinds::NAMES;
+use std::rt::Runtime;
+use std::thread::Threads;
+
+/// Prints what an element that is got and put back takes in each cell, in nanoseconds of one thread: the least, the
+/// median and the greatest of so many runs, and how many of 1,000 elements were refused.
+pub fn measure<R: Runtime + AllocGlobal + Threads + Sync>(
+    rt: &R,
+    asked: &Cells,
+    rounds: Option<u64>,
+    runs: u64,
+) -> Result<(), Failure> {
+    let kinds = cells::kinds_of(rt.alloc(), asked.names)?;
+    let threads = cells::numbers_of(rt.alloc(), asked.threads)?;
+    let caches = cells::numbers_of(rt.alloc(), asked.caches)?;
+    cells::print_head(rt)?;
+    for kind in kinds.as_slice() {
+        for count in threads.as_slice() {
+            for cache in cells::caches_of(*kind, caches.as_slice()) {
+                cells::measure(rt, asked, *kind, *count, *cache, rounds, runs)?;
+            }
+        }
+    }
+    Ok(())
+}

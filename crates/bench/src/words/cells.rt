@@ -1,0 +1,227 @@
+//! The cells of a table: which are asked for, and what is measured in each.
+
+ghost use Rattle.std.specs.Prelude.{◌≡◌};
+
+use super::carried::Carried;
+use super::kinds::{Kind, kind_of, name_of};
+use super::span::Span;
+use super::threads::{Run, Work, four, one, two};
+use crate::failures::Failure;
+use commons::limits::Limits;
+use commons::shared::Commons;
+use ground::pool::Ground;
+use stack_lf::words::WordCommons;
+use std::alloc::{AllocError, Global};
+use std::fmt;
+use std::fmt::{Display, Formatter, Write};
+use std::io::Print;
+use std::thread::Threads;
+use std::time::{Clock, Instant};
+
+/// The cells that are measured: those of each workload, each number of threads and each size of cache.
+#[derive(Clone, Copy, Debug)]
+pub struct Cells<'a> {
+    /// The names of the workloads, with commas between.
+    pub names: &'a str,
+    /// The numbers of threads, 1, 2 or 4.
+    pub threads: &'a str,
+    /// The sizes of the caches. The bare stack, which has none, is measured once.
+    pub caches: &'a str,
+    /// How many elements a pool has.
+    pub population: u64,
+    /// For how many milliseconds a run goes on, where no number of rounds is asked for.
+    pub millis: u64,
+}
+
+/// How many elements are got and put back, about, between two looks at the clock.
+const BATCH: u64 = 20_000;
+
+/// The kinds of these names. `NotInList` where one isn't known.
+pub fn kinds_of(alloc: Global, names: &str) -> Result<Vec<Kind>, Failure> {
+    let mut kinds = Vec::new(alloc);
+    let mut known = true;
+    for name in names.split(',') {
+        match kind_of(name) {
+            Some(kind) => push(&mut kinds, kind)?,
+            None => known = false,
+        }
+    }
+    if known {
+        Ok(kinds)
+    } else {
+        Err(Failure::NotInList)
+    }
+}
+
+/// The numbers that stand here, with commas between. `NotInList` where one is none.
+pub fn numbers_of(alloc: Global, words: &str) -> Result<Vec<u64>, Failure> {
+    let mut numbers = Vec::new(alloc);
+    let mut known = true;
+    for word in words.split(',') {
+        match word.parse::<u64>() {
+            Ok(number) => push(&mut numbers, number)?,
+            Err(_) => known = false,
+        }
+    }
+    if known {
+        Ok(numbers)
+    } else {
+        Err(Failure::NotInList)
+    }
+}
+
+fn push<T: Copy>(items: &mut Vec<T>, item: T) -> Result<(), AllocError> {
+    match items.push(item) {
+        Ok(()) => Ok(()),
+        Err(_) => Err(AllocError),
+    }
+}
+
+/// The caches with which a kind is measured.
+pub fn caches_of(kind: Kind, caches: &[u64]) -> &[u64] {
+    match kind {
+        Kind::Stack(_) => &[0],
+        _ => caches,
+    }
+}
+
+/// Prints what stands in each column.
+pub fn print_head<R: Print>(rt: &R) -> Result<(), Failure> {
+    Ok(rt.println(format_args!(
+        "workload threads  cache  least ns median ns  greatest  refused of 1000"
+    ))?)
+}
+
+/// Measures one cell, and prints it.
+pub fn measure<R: Clock + Print + AllocGlobal + Threads + Sync>(
+    rt: &R,
+    asked: &Cells,
+    kind: Kind,
+    threads: u64,
+    cache: u64,
+    rounds: Option<u64>,
+    runs: u64,
+) -> Result<(), Failure> {
+    let (nanos, batch) = match rounds {
+        Some(rounds) => (0, rounds),
+        None => (
+            asked.millis.saturating_mul(1_000_000),
+            BATCH / kind.size().max(1) + 1,
+        ),
+    };
+    let mut picos = Vec::new(rt.alloc());
+    let mut met = 0u64;
+    let mut refused = 0u64;
+    for _run in 0..runs {
+        let run = run_once(rt, asked.population, cache, kind, threads, nanos, batch)?;
+        push(&mut picos, run.picos / threads.max(1))?;
+        met = met.saturating_add(run.met);
+        refused = refused.saturating_add(run.refused);
+    }
+    picos.sort()?;
+    print_cell(
+        rt,
+        name_of(kind),
+        threads,
+        cache,
+        picos.as_slice(),
+        of_thousand(met, refused),
+    )
+}
+
+/// How many of 1,000 elements were refused.
+fn of_thousand(met: u64, refused: u64) -> u128 {
+    u128::from(refused) * 1_000 / (u128::from(met) + u128::from(refused)).max(1)
+}
+
+/// One run in a new pool, whose fifth seat reads at the end that nothing is missing.
+fn run_once<R: Clock + AllocGlobal + Threads + Sync>(
+    rt: &R,
+    population: u64,
+    cache: u64,
+    kind: Kind,
+    threads: u64,
+    nanos: u64,
+    batch: u64,
+) -> Result<Run, Failure> {
+    let limits = Limits {
+        population,
+        cache,
+        workers: 5,
+        desks: 0,
+        buf: 2_048,
+        ref_limit: 65_535,
+        tries: 64,
+        start_count: 0,
+    };
+    let (ground, mut seat) = Ground::make(rt.alloc(), &limits)?;
+    let first = Carried {
+        seat: ground.split(&mut seat),
+    };
+    let second = Carried {
+        seat: ground.split(&mut seat),
+    };
+    let third = Carried {
+        seat: ground.split(&mut seat),
+    };
+    let fourth = Carried {
+        seat: ground.split(&mut seat),
+    };
+    let own = Carried { seat };
+    let work = Work {
+        alloc: rt.alloc(),
+        ground: &ground,
+        kind,
+        span: Span {
+            made: Instant::now(rt)?,
+            nanos,
+            batch,
+        },
+    };
+    let run = match threads {
+        1 => one(rt, work, first, 1),
+        2 => two(rt, work, (first, second), 1),
+        4 => four(rt, work, (first, second), (third, fourth)),
+        _ => Err(Failure::NotInList),
+    }?;
+    let mut c = WordCommons::new(&ground, own.into_seat());
+    let left = u64::from(c.common_count());
+    c.lose();
+    if left != population {
+        return Err(Failure::Missing(population.saturating_sub(left)));
+    }
+    Ok(run)
+}
+
+fn print_cell<R: Print>(
+    rt: &R,
+    name: &str,
+    threads: u64,
+    cache: u64,
+    picos: &[u64],
+    refused: u128,
+) -> Result<(), Failure> {
+    let least = Nanos(at(picos, 0));
+    let median = Nanos(at(picos, picos.len() / 2));
+    let greatest = Nanos(at(picos, picos.len().saturating_sub(1)));
+    Ok(rt.println(format_args!(
+        "{name:<8} {threads:>7} {cache:>6} {least} {median} {greatest} {refused:>16}"
+    ))?)
+}
+
+fn at(picos: &[u64], place: usize) -> u64 {
+    match picos.get(place) {
+        Some(picos) => *picos,
+        None => 0,
+    }
+}
+
+/// Picoseconds, shown as nanoseconds with two decimals.
+#[derive(Clone, Copy)]
+struct Nanos(u64);
+
+impl Display for Nanos {
+    fn fmt<W: Write>(&self, f: &mut Formatter<W>) -> fmt::Result {
+        write!(f, "{:>6}.{:02}", self.0 / 1_000, self.0 % 1_000 / 10)
+    }
+}

@@ -1,0 +1,67 @@
+//! What is done again and again.
+
+/// What a round is.
+#[derive(Clone, Copy, PartialEq, Eq, Debug)]
+pub enum Kind {
+    /// A list of so many off the bare stack, and back.
+    Stack(usize),
+    /// A get of so many by a worker, and the put of the same.
+    Elements(usize),
+    /// An alloc, and the free of its packet.
+    Alloc,
+    /// A bulk of 32, and the free of each packet.
+    Bulk,
+    /// 240 allocs, and then the frees, the oldest packet first.
+    Kept,
+    /// A clone of a packet of so many segments, and its free.
+    Clone(u32),
+}
+
+const KINDS: [(&str, Kind); 10] = [
+    ("stk1", Kind::Stack(1)),
+    ("stk8", Kind::Stack(8)),
+    ("stk32", Kind::Stack(32)),
+    ("get1", Kind::Elements(1)),
+    ("get32", Kind::Elements(32)),
+    ("pkt1", Kind::Alloc),
+    ("pkt32", Kind::Bulk),
+    ("pkt240", Kind::Kept),
+    ("clone1", Kind::Clone(1)),
+    ("clone4", Kind::Clone(4)),
+];
+
+/// The names of all, with commas between.
+pub const NAMES: &str = "stk1,stk8,stk32,get1,get32,pkt1,pkt32,pkt240,clone1,clone4";
+
+/// What a name stands for.
+pub fn kind_of(name: &str) -> Option<Kind> {
+    for (known, kind) in KINDS {
+        if name == known {
+            return Some(kind);
+        }
+    }
+    None
+}
+
+/// The name of a kind.
+pub fn name_of(kind: Kind) -> &'static str {
+    for (name, known) in KINDS {
+        if kind == known {
+            return name;
+        }
+    }
+    ""
+}
+
+impl Kind {
+    /// How many elements a round gets and puts back.
+    pub fn size(self) -> u64 {
+        match self {
+            Kind::Stack(n) | Kind::Elements(n) => n as u64,
+            Kind::Alloc => 1,
+            Kind::Bulk => 32,
+            Kind::Kept => 240,
+            Kind::Clone(segments) => u64::from(segments),
+        }
+    }
+}
