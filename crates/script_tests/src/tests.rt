@@ -8,6 +8,9 @@ use mbuf::freed::Freed;
 use pool_model::statement::{Held, Holder, PlacedPacket, Statement};
 use script::texts::push_reply;
 use script::{replay, run_replay, run_replay_json, statement_json, statement_text};
+use script_rows::parts::{Part, written};
+use script_rows::pools::{FIRST_RUN, FIRST_RUN_TEXT};
+use script_rows::{BuiltRow, Row, built, caches, desks, packets, pools, sharing};
 use script_text::{parse, parse_steps};
 use serde_json::Value;
 use share_book::ending::settled;
@@ -18,18 +21,12 @@ use std::test::Fail;
 
 mod acts;
 mod building;
-mod built;
-mod caches;
-mod desks;
 mod handing;
 mod json;
 mod long;
-mod packets;
-mod pools;
 mod readings;
 mod replies;
 mod settling;
-mod sharing;
 mod shown;
 mod statements;
 mod step_readings;
@@ -38,27 +35,9 @@ mod texts;
 mod threads;
 mod told;
 
-use building::{placed, written};
-use pools::{FIRST_RUN, FIRST_RUN_TEXT};
+use building::placed;
 use shown::{shown_lines, shown_steps};
 use told::{Told, reply};
-
-/// A name, a script, and what its replay prints.
-type Row = (&'static str, &'static str, &'static str);
-
-/// A text, and behind it a number that is the second for the first line and then grows by the third.
-struct Field(&'static str, i32, i32);
-
-/// A part of a text.
-enum Part {
-    /// Itself.
-    Text(&'static str),
-    /// So many times these fields, each time with this end.
-    Each(i32, &'static [Field], &'static str),
-}
-
-/// A name, the parts of a script, and those of what its replay prints.
-type BuiltRow = (&'static str, &'static [Part], &'static [Part]);
 
 /// A name, and texts with their refusals; a script has none.
 type TextsRow = (&'static str, &'static [(&'static str, Option<Refusal>)]);

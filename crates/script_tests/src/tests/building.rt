@@ -1,35 +1,11 @@
-//! Texts and statements that are made from rows.
+//! Statements that are made from rows.
 
-use super::{Field, Part, Places};
+use super::Places;
 use commons::packet::Seg;
 use commons::seq::Seq;
 use pool_model::statement::{DeskPacket, Held, Holder, PlacedPacket, Statement};
 use std::alloc::Global;
 use std::test::Fail;
-
-/// Adds so many times the fields and the end.
-fn add_each(text: &mut String, count: i32, fields: &[Field], end: &str) -> Result<(), Fail> {
-    for index in 0..count {
-        for Field(front, first, step) in fields {
-            let number = first.wrapping_add(step.wrapping_mul(index));
-            write!(text, "{front}{number}")?;
-        }
-        text.push_str(end)?;
-    }
-    Ok(())
-}
-
-/// The text of these parts.
-pub(super) fn written(alloc: Global, parts: &[Part]) -> Result<String, Fail> {
-    let mut text = String::new(alloc);
-    for part in parts {
-        match part {
-            Part::Text(piece) => text.push_str(piece)?,
-            Part::Each(count, fields, end) => add_each(&mut text, *count, fields, end)?,
-        }
-    }
-    Ok(text)
-}
 
 /// A list of these values.
 fn seq<T: Copy>(alloc: Global, items: &[T]) -> Result<Seq<T>, Fail> {

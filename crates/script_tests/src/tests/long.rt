@@ -1,7 +1,8 @@
 //! Texts at the bounds of a line and of a script.
 
-use super::{LongRow, Part};
+use super::LongRow;
 use commons::refusal::Refusal;
+use script_rows::parts::Part;
 
 pub(super) const ROWS: &[LongRow] = &[
     (

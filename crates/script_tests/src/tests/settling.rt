@@ -1,13 +1,13 @@
 //! How a pool is settled with the shares of its workers, and what is refused.
 
-use super::building::written;
-use super::{DEFAULTS, Field, Part};
+use super::DEFAULTS;
 use commons::closed::Closed;
 use commons::limits::Limits;
 use commons::refusal::Refusal;
 use mbuf::acts::Act;
 use pool_model::statement::Statement;
 use script::statement_text;
+use script_rows::parts::{Field, Part, written};
 use share_book::site_pool::SitePool;
 use share_book::{Book, Share, Unsettled, lose_all, settle};
 use std::alloc::Global;

@@ -2,8 +2,7 @@
 
 ghost use Rattle.std.specs.Prelude.{◌≤◌};
 
-use super::building::written;
-use super::{DEFAULTS, Field, Part};
+use super::DEFAULTS;
 use commons::closed::Closed;
 use commons::limits::Limits;
 use commons::refusal::Refusal;
@@ -11,6 +10,7 @@ use crossbeam_utils::Backoff;
 use mbuf::acts::Act;
 use pool_model::statement::Statement;
 use script::{Gate, Grounds, OpenGate, run_threads};
+use script_rows::parts::{Field, Part, written};
 use script_text::parse;
 use share_book::site_pool::SitePool;
 use share_book::{Book, Share, deposit, lose_all, settle};
