@@ -49,7 +49,10 @@ pub(super) struct Played {
 }
 
 /// Gets as many elements as `out` has places for, and puts the same back: the answer of the put, where the get was met.
-pub(super) fn there_and_back(c: &mut WordCommons, out: &mut [u32]) -> Result<Result<(), Refusal>, Refusal>
+pub(super) fn there_and_back(
+    c: &mut WordCommons,
+    out: &mut [u32],
+) -> Result<Result<(), Refusal>, Refusal>
     requires { 0 < length out.old }
     ensures { Stays c.old.seat c.new.seat }
 {
