@@ -9,6 +9,7 @@ returns-in_err-said c = record {
       c.said.ensures.others;
 }
 
+-- as where the step says no text
 pub returns-in_err-format : goal.returns-in_err-format
 returns-in_err-format c = record {
   others =
@@ -16,6 +17,7 @@ returns-in_err-format c = record {
       c.said.ensures.others;
 }
 
+-- as there, where another text was wanted
 pub returns-then-ne : goal.returns-then-ne
 returns-then-ne c = record {
   others =
@@ -23,6 +25,7 @@ returns-then-ne c = record {
       c.said.ensures.others;
 }
 
+-- as there, and the packets are the worker's own
 pub loop-place-preserved : goal.loop-place-preserved
 loop-place-preserved c = record {
   own = c.said.ensures.own;
