@@ -1,5 +1,5 @@
 -- Where one seat has every part, no other view names anything, and so the seat knows the length of the common list.
-use Rattle.std.proofs.Common.{◌≡◌, ◌≢◌, ℕ, zero, suc, ◌+◌, ◌<◌, ◌≤◌, List, [], ◌∷◌, Option, Some, None, length, set, refl, sym, ap, ◌∙◌, subst, arith, length-append}
+use Rattle.std.proofs.Common.{◌≡◌, ◌≢◌, ℕ, zero, suc, ◌+◌, ◌<◌, ◌≤◌, List, [], ◌∷◌, ◌++◌, Option, Some, None, length, set, refl, sym, ap, ◌∙◌, subst, arith, length-append}
 use Rattle.std.specs.Prelude.{sum_by, IfSome}
 use Rattle.std.proofs.lemmas.List.Sums.{sum_by-set, sum_by-cons}
 use Rattle.commons.specs.Bag.{bag}
@@ -11,7 +11,7 @@ use Rattle.step_core.specs.World.{World, view_at, empty_view, link_in, all_holds
 use Rattle.step_core.specs.Law.{Lawful, NamesNothing, LookRule}
 use Rattle.step_core.specs.Links.{Spells}
 use Rattle.step_core.specs.Headline.{held_below as all_held_below}
-use Rattle.step_core.proofs.Bags.{times-nil, times-from_length}
+use Rattle.step_core.proofs.Bags.{times-nil, times-append, times-from_length}
 use Rattle.step_core.proofs.Frame.{each_view}
 use Rattle.step_core.proofs.StackSteps.{two_views}
 use Rattle.step_core.proofs.Telling.{all_are_there, front_then_rest}
@@ -51,31 +51,58 @@ held_alone w (suc n) xs h =
     let b = h n in
     omega arith
 
-module _ (w : World) (law : Lawful w) (bare : w.desks ≡ []) (k : ℕ) (here : k < length w.views) (whole : (view_at w.views k).part ≡ w.limits.workers) where
+-- what the packets on full desks hold
+pub shelves : List Desk → List ℕ
+shelves [] = []
+shelves (x ∷ xs) = shelf x ++ shelves xs
+
+on_shelves : (i : ℕ) (ds : List Desk) →
+    sum_by (λ (x : Desk). bag (shelf x) i) ds ≡ bag (shelves ds) i
+unfolding shelves
+on_shelves i [] = sym (times-nil i)
+on_shelves i (x ∷ xs) =
+    let rest = on_shelves i xs in
+    omega (
+      arith,
+      sum_by-cons (λ (y : Desk). bag (shelf y) i) x xs,
+      times-append i (shelf x) (shelves xs),
+    )
+
+none_there : (ds : List Desk) → length ds ≡ 0 → shelves ds ≡ []
+unfolding shelves
+none_there [] e = refl
+none_there (x ∷ xs) e = absurd (omega arith)
+
+-- without desks there is none
+pub no_shelves : (w : World) → length w.desks ≡ w.limits.desks → (l : Limits) → w.limits ≡ l →
+    l.desks ≡ 0 → shelves w.desks ≡ []
+no_shelves w count l limits bare =
+    none_there w.desks (count ∙ (ap (λ (m : Limits). m.desks) limits ∙ bare))
+
+module _ (w : World) (law : Lawful w) (k : ℕ) (here : k < length w.views) (whole : (view_at w.views k).part ≡ w.limits.workers) where
   abbrev pub v : View
   v = view_at w.views k
 
   none : (j : ℕ) → j ≢ k → NamesNothing (view_at w.views j)
   none = others_idle w law k whole
 
-  pub my_holds : (i : ℕ) → all_holds i w.views w.desks ≡ bag v.holds i
+  pub my_holds : (i : ℕ) → all_holds i w.views w.desks ≡ bag (v.holds ++ shelves w.desks) i
   my_holds i =
       let s = alone_sum (λ (u : View). bag u.holds i) w.views k here (times-nil i)
       (λ j ne. times-from_length i (view_at w.views j).holds (none j ne).holds) in
-      let d : sum_by (λ (x : Desk). bag (shelf x) i) w.desks ≡ 0 =
-      ap (λ (ds : List Desk). sum_by (λ (x : Desk). bag (shelf x) i) ds) bare in
-      omega arith
+      let d = on_shelves i w.desks in
+      omega (arith, times-append i v.holds (shelves w.desks))
 
   my_credit : credits w.views ≡ v.credit
   my_credit = alone_sum (λ (u : View). u.credit) w.views k here refl (λ j ne. (none j ne).credit)
 
   pub length_known : w.length + v.credit + length v.hand + length v.zeros
-      + held_below w.limits.population v.holds ≡ w.limits.population
+      + held_below w.limits.population (v.holds ++ shelves w.desks) ≡ w.limits.population
   length_known =
       let hand = alone_sum (λ (u : View). length u.hand) w.views k here refl (λ j ne. (none j ne).hand) in
       let zeros = alone_sum (λ (u : View). length u.zeros) w.views k here refl (λ j ne. (none j ne).zeros) in
       let credit = my_credit in
-      let held = held_alone w w.limits.population v.holds my_holds in
+      let held = held_alone w w.limits.population (v.holds ++ shelves w.desks) my_holds in
       let all = all_are_there w law.common law law.places.spelled in
       let c = law.lengths.credited in
       omega arith
@@ -114,31 +141,34 @@ module _ (w : World) (law : Lawful w) (bare : w.desks ≡ []) (k : ℕ) (here : 
           some_part (suc n) is = omega arith
 
 -- a seat of every part knows the length word
-pub knows : (w : World) → Lawful w → w.desks ≡ [] → (l : Limits) → w.limits ≡ l → (k : ℕ) →
-    k < length w.views → (v : View) → view_at w.views k ≡ v → KnowsLength l v w.length
-knows w law bare l limits k here v is whole =
-    subst (λ (m : Limits). w.length + v.credit + length v.hand + length v.zeros
-    + held_below m.population v.holds ≡ m.population) limits
-    (subst (λ (u : View). w.length + u.credit + length u.hand + length u.zeros
-    + held_below w.limits.population u.holds ≡ w.limits.population) is
-    (length_known w law bare k here
-    (ap (λ (u : View). u.part) is ∙ (whole ∙ sym (ap (λ (m : Limits). m.workers) limits)))))
+pub knows : (w : World) → Lawful w → length w.desks ≡ w.limits.desks → (l : Limits) → w.limits ≡ l →
+    (k : ℕ) → k < length w.views → (v : View) → view_at w.views k ≡ v → KnowsLength l v w.length
+knows w law count l limits k here v is whole = (
+  shelves w.desks,
+  no_shelves w count l limits,
+  subst (λ (m : Limits). w.length + v.credit + length v.hand + length v.zeros
+      + held_below m.population (v.holds ++ shelves w.desks) ≡ m.population) limits
+      (subst (λ (u : View). w.length + u.credit + length u.hand + length u.zeros
+      + held_below w.limits.population (u.holds ++ shelves w.desks) ≡ w.limits.population) is
+      (length_known w law k here
+      (ap (λ (u : View). u.part) is ∙ (whole ∙ sym (ap (λ (m : Limits). m.workers) limits))))),
+)
 
 -- and that a walk to the end has passed all that is reserved
-pub knows_end : (w : World) → Lawful w → w.desks ≡ [] → (l : Limits) → w.limits ≡ l → (k : ℕ) →
+pub knows_end : (w : World) → Lawful w → (l : Limits) → w.limits ≡ l → (k : ℕ) →
     k < length w.views → (v : View) → view_at w.views k ≡ v → KnowsEnd l v
-knows_end w law bare l limits k here v is whole = all v.look refl
+knows_end w law l limits k here v is whole = all v.look refl
   where
     all : (o : Option Look) → v.look ≡ o → IfSome o (λ x. x.next ≡ 0 → v.credit ≤ length x.front)
     all None e = tt
     all (Some x) e = λ ends.
         subst (λ (u : View). u.credit ≤ length x.front) is
-        (end_known w law bare k here
+        (end_known w law k here
         (ap (λ (u : View). u.part) is ∙ (whole ∙ sym (ap (λ (m : Limits). m.workers) limits))) x
         (ap (λ (u : View). u.look) is ∙ e) ends)
 
 -- and how often each element is held
-pub holds_known : (w : World) → Lawful w → w.desks ≡ [] → (k : ℕ) → k < length w.views →
+pub holds_known : (w : World) → Lawful w → (k : ℕ) → k < length w.views →
     (view_at w.views k).part ≡ w.limits.workers → (i : ℕ) →
-    all_holds i w.views w.desks ≡ bag (view_at w.views k).holds i
-holds_known w law bare k here whole i = my_holds w law bare k here whole i
+    all_holds i w.views w.desks ≡ bag ((view_at w.views k).holds ++ shelves w.desks) i
+holds_known w law k here whole i = my_holds w law k here whole i

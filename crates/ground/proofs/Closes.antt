@@ -1,22 +1,25 @@
 -- What the last state of a table says of the words that are left.
-use Rattle.std.proofs.Common.{◌≡◌, ◌≢◌, ℕ, zero, suc, ◌+◌, ◌<◌, ◌≤◌, List, [], ◌∷◌, ◌++◌, length, take, drop, refl, sym, ap, ◌∙◌, subst, arith, ⊎_elim}
-use Rattle.std.specs.Prelude.{slice_index}
+use Rattle.std.proofs.Common.{◌≡◌, ◌≢◌, ℕ, zero, suc, ◌+◌, ◌*◌, ◌<◌, ◌≤◌, List, [], ◌∷◌, ◌++◌, length, take, drop, refl, sym, ap, ◌∙◌, subst, arith, ⊎_elim, length-append}
+use Rattle.std.specs.Prelude.{slice_index, map}
 use Rattle.std.proofs.lemmas.Bool.{cases_lt}
+use mathlib.Core.Option as maybe
 use mathlib.Core.Option.{some, some-injective, some-ne-none}
-use lib.ListN.{get_elem?}
+use lib.ListN.{get_elem?, length-map}
 use Rattle.atomic_table.specs.Table.{Final, Seen}
+use Rattle.atomic_table.proofs.Lists.{at_map, at_longer, at_last}
 use Rattle.commons.specs.Bag.{bag}
 use Rattle.commons.specs.declared.limits.Limits.{Limits}
 use Rattle.step_core.specs.declared.view.Head.{Head}
+use Rattle.step_core.specs.declared.view.Desk.{Desk}
 use Rattle.step_core.specs.declared.view.View.{View}
-use Rattle.step_core.specs.World.{World, view_at}
+use Rattle.step_core.specs.World.{World, view_at, desk_at}
 use Rattle.step_core.specs.Law.{Lawful}
 use Rattle.step_core.specs.Headers.{HeaderLaw}
 use Rattle.step_core.proofs.Bags.{times-head, times-nil}
 use Rattle.ground.specs.declared.known.Known.{Known}
-use Rattle.ground.specs.Closing.{Nothing, LeftOf}
-use Rattle.ground.specs.Layout.{pack, unpack, lines, words_with, words_of}
-use Rattle.ground.specs.Rule.{Slot, Ruled}
+use Rattle.ground.specs.Closing.{Nothing, LeftOf, IsKept, kept_on, packet_on}
+use Rattle.ground.specs.Layout.{pack, unpack, lines, words_with, word_on, rows_of, words_of}
+use Rattle.ground.specs.Rule.{Slot, Ruled, home_by, home_of}
 use Rattle.ground.proofs.Alone.{others_idle}
 use Rattle.ground.proofs.Playing.{unpack_pack}
 use Rattle.ground.proofs.Sitting.{law_of, there, is}
@@ -26,12 +29,6 @@ take_front [] ys zero e = refl
 take_front [] ys (suc n) e = absurd (omega arith)
 take_front (x ∷ xs) ys zero e = absurd (omega arith)
 take_front (x ∷ xs) ys (suc n) e = ap (λ (l : List ℕ). x ∷ l) (take_front xs ys n (omega arith))
-
-take_all : (xs : List ℕ) (n : ℕ) → length xs ≡ n → take n xs ≡ xs
-take_all [] zero e = refl
-take_all [] (suc n) e = absurd (omega arith)
-take_all (x ∷ xs) zero e = absurd (omega arith)
-take_all (x ∷ xs) (suc n) e = ap (λ (l : List ℕ). x ∷ l) (take_all xs n (omega arith))
 
 drop_front : (xs ys : List ℕ) (n : ℕ) → length xs ≡ n → drop n (xs ++ ys) ≡ ys
 drop_front [] ys zero e = refl
@@ -44,7 +41,7 @@ take_one [] i x e = absurd (some-ne-none x (sym e))
 take_one (y ∷ ys) zero x e = ap (λ (z : ℕ). z ∷ []) (some-injective y x e)
 take_one (y ∷ ys) (suc i) x e = ap (λ (l : List ℕ). y ∷ l) (take_one ys i x e)
 
-drop_get : (xs : List ℕ) (from i x : ℕ) → get_elem? xs (from + i) ≡ some x →
+pub drop_get : (xs : List ℕ) (from i x : ℕ) → get_elem? xs (from + i) ≡ some x →
     get_elem? (drop from xs) i ≡ some x
 drop_get xs zero i x e =
     let same : 0 + i ≡ i = omega arith in subst (λ (n : ℕ). get_elem? xs n ≡ some x) same e
@@ -76,15 +73,16 @@ drop_past (x ∷ xs) ys (suc n) p e =
     let same : suc n + p ≡ suc (n + p) = omega arith in
     ap (λ (m : ℕ). drop m (x ∷ (xs ++ ys))) same ∙ drop_past xs ys n p (omega arith)
 
-row_links : (h n : ℕ) (links counts : List ℕ) (p : ℕ) → length links ≡ p →
-    take p (drop 16 (words_with h n links counts)) ≡ links
-row_links h n links counts p e = take_front links counts p e
+row_links : (h n : ℕ) (links counts desks : List ℕ) (p : ℕ) → length links ≡ p →
+    take p (drop 16 (words_with h n links counts desks)) ≡ links
+row_links h n links counts desks p e = take_front links (counts ++ desks) p e
 
-row_counts : (h n : ℕ) (links counts : List ℕ) (p : ℕ) → length links ≡ p → length counts ≡ p →
-    take p (drop (16 + p) (words_with h n links counts)) ≡ counts
-row_counts h n links counts p e f =
-    ap (λ (l : List ℕ). take p l) (drop_past (lines h n) (links ++ counts) 16 p refl)
-    ∙ (ap (λ (l : List ℕ). take p l) (drop_front links counts p e) ∙ take_all counts p f)
+row_counts : (h n : ℕ) (links counts desks : List ℕ) (p : ℕ) → length links ≡ p →
+    length counts ≡ p → take p (drop (16 + p) (words_with h n links counts desks)) ≡ counts
+row_counts h n links counts desks p e f =
+    ap (λ (l : List ℕ). take p l) (drop_past (lines h n) (links ++ (counts ++ desks)) 16 p refl)
+    ∙ (ap (λ (l : List ℕ). take p l) (drop_front links (counts ++ desks) p e)
+    ∙ take_front counts desks p f)
 
 -- links and counts are small
 small_in : (xs ys : List ℕ) (b : ℕ) → ((j : ℕ) → slice_index xs j ≤ b) →
@@ -98,6 +96,13 @@ small_past : (xs ys : List ℕ) (b : ℕ) → ((j : ℕ) → slice_index ys j �
 small_past [] ys b g i h = g i
 small_past (x ∷ xs) ys b g zero h = absurd (omega arith)
 small_past (x ∷ xs) ys b g (suc i) h = small_past xs ys b g i (omega arith)
+
+-- and desks' words
+small_desks : (ds : List Desk) → ((d : ℕ) → (desk_at ds d).word ≤ 3) →
+    (j : ℕ) → slice_index (map word_on ds) j ≤ 65535
+small_desks [] h j = omega arith
+small_desks (x ∷ xs) h zero = let a = h 0 in omega arith
+small_desks (x ∷ xs) h (suc j) = small_desks xs (λ d. h (suc d)) j
 
 pub small_words : (l : Limits) (id : ℕ) (n : Known) (ws : List ℕ) (slots : List Slot) →
     Final (Seen (Ruled l) id n) ws slots → (i : ℕ) → 16 ≤ i → slice_index ws i < 4294967296
@@ -113,12 +118,14 @@ small_words l id n ws slots f i past =
     (λ j. let a = r.stack.links_in_range j in omega arith) in
     let counts : (j : ℕ) → slice_index w.counts j ≤ 65535 =
     (λ j. let a = r.counts.in_range j in omega arith) in
-    let small = small_past (lines (pack w.head) w.length) (w.links ++ w.counts) 65535
-    (small_in w.links w.counts 65535 links counts) i past in
+    let small = small_past (lines (pack w.head) w.length) (rows_of w) 65535
+    (small_in w.links (w.counts ++ map word_on w.desks) 65535 links
+    (small_in w.counts (map word_on w.desks) 65535 counts (small_desks w.desks r.desks.desks.words)))
+    i past in
     let same = ap (λ (xs : List ℕ). slice_index xs i) is_words in
     omega arith
 
-none_in : (xs : List ℕ) → length xs ≡ 0 → xs ≡ []
+none_in : {A : Type 0} (xs : List A) → length xs ≡ 0 → xs ≡ []
 none_in [] e = refl
 none_in (x ∷ xs) e = absurd (omega arith)
 
@@ -153,17 +160,91 @@ others_none w law headers id v same whole k ne =
       work = idle.work;
     }
 
+-- one desk more
+pub kept_more : (words : List ℕ) (slots out : List Slot) (i word : ℕ) (slot : Slot) → length out ≡ i →
+    get_elem? words i ≡ some word → get_elem? slots i ≡ some slot → IsKept words slots out →
+    IsKept words slots (out ++ kept_on word slot ∷ [])
+kept_more words slots out i word slot size at_word at_slot kept k n y here a b =
+    ⊎_elim (λ (l : k < length out). at_longer out (kept_on word slot ∷ []) k (kept_on n y) (kept k n y l a b))
+    (λ (l : length out ≤ k).
+    let all : length (out ++ kept_on word slot ∷ []) ≡ length out + 1 = length-append out (kept_on word slot ∷ []) in
+    let last : i ≡ k = omega arith in
+    let same_word : word ≡ n =
+    some-injective word n (sym at_word ∙ (ap (λ (j : ℕ). get_elem? words j) last ∙ a)) in
+    let same_slot : slot ≡ y =
+    some-injective slot y (sym at_slot ∙ (ap (λ (j : ℕ). get_elem? slots j) last ∙ b)) in
+    at_last out (kept_on word slot) k (size ∙ last) ∙ (λ j. some (kept_on (same_word j) (same_slot j))))
+    (cases_lt k (length out))
+
+-- the words of the desks, which are the last
+row_desks : (h n : ℕ) (links counts desks : List ℕ) (p : ℕ) → length links ≡ p →
+    length counts ≡ p → drop (16 + 2 * p) (words_with h n links counts desks) ≡ desks
+row_desks h n links counts desks p e f =
+    let twice : 16 + 2 * p ≡ 16 + (p + (p + 0)) = omega arith in
+    ap (λ (m : ℕ). drop m (words_with h n links counts desks)) twice
+    ∙ (drop_past (lines h n) (links ++ (counts ++ desks)) 16 (p + (p + 0)) refl
+    ∙ (drop_past links (counts ++ desks) p (p + 0) e ∙ drop_past counts desks p 0 f))
+
+at_least : {A : Type 0} (xs : List A) (k : ℕ) → k < length xs → (x : A) × (get_elem? xs k ≡ some x)
+at_least [] k h = absurd (omega arith)
+at_least (x ∷ xs) zero h = (x, refl)
+at_least (x ∷ xs) (suc k) h = at_least xs k (omega arith)
+
+same_rows : {A : Type 0} (xs ys : List A) → length xs ≡ length ys →
+    ((k : ℕ) → k < length xs → get_elem? xs k ≡ get_elem? ys k) → xs ≡ ys
+same_rows [] [] e h = refl
+same_rows [] (y ∷ ys) e h = absurd (omega arith)
+same_rows (x ∷ xs) [] e h = absurd (omega arith)
+same_rows {A} (x ∷ xs) (y ∷ ys) e h =
+    let head : x ≡ y = some-injective x y (h 0 (omega arith)) in
+    let tail : xs ≡ ys = same_rows xs ys (omega arith) (λ k l. h (suc k) (omega arith)) in
+    λ i. head i ∷ tail i
+
+-- what is left of a desk that isn't full is nothing, whatever its slot has
+kept_by : (word : ℕ) (slot other : Slot) → word ≤ 3 →
+    ((y : Slot) → home_by word slot ≡ some y → other ≡ y) → kept_on word other ≡ kept_on word slot
+kept_by zero slot other h at = refl
+kept_by (suc zero) slot other h at = refl
+kept_by (suc (suc zero)) slot other h at = at slot refl
+kept_by (suc (suc (suc n))) slot other h at =
+    let z : n ≡ 0 = omega arith in
+    ap (λ (m : ℕ). kept_on (suc (suc (suc m))) other) z
+    ∙ sym (ap (λ (m : ℕ). kept_on (suc (suc (suc m))) slot) z)
+
+-- the packets that were listed are those of the full desks
+desks_are : (ds : List Desk) (out : List Slot) (ws : List ℕ) (slots : List Slot) →
+    length out ≡ length ds → ws ≡ map word_on ds →
+    ((k : ℕ) (y : Slot) → get_elem? (map home_of ds) k ≡ some (some y) → get_elem? slots k ≡ some y) →
+    length out ≡ length slots → ((d : ℕ) → (desk_at ds d).word ≤ 3) → IsKept ws slots out →
+    out ≡ map packet_on ds
+desks_are ds out ws slots size words homes same small kept =
+    same_rows out (map packet_on ds) (size ∙ sym (length-map ds packet_on)) (λ k here.
+    let x = at_least ds k (omega arith) in
+    let y = at_least slots k (omega arith) in
+    let is : desk_at ds k ≡ x.0 = index_desk ds k x.0 x.1 in
+    let low : x.0.word ≤ 3 = subst (λ (z : Desk). z.word ≤ 3) is (small k) in
+    kept k x.0.word y.0 here
+    (ap (λ (zs : List ℕ). get_elem? zs k) words ∙ at_map word_on ds k x.0 x.1) y.1
+    ∙ (ap some (kept_by x.0.word x.0.slot y.0 low (λ z e.
+    some-injective y.0 z (sym y.1 ∙ homes k z (at_map home_of ds k x.0 x.1 ∙ ap some e))))
+    ∙ sym (at_map packet_on ds k x.0 x.1)))
+  where
+    index_desk : (xs : List Desk) (k : ℕ) (x : Desk) → get_elem? xs k ≡ some x → desk_at xs k ≡ x
+    index_desk [] k x e = absurd (some-ne-none x (sym e))
+    index_desk (z ∷ zs) zero x e = some-injective z x e
+    index_desk (z ∷ zs) (suc k) x e = index_desk zs k x e
+
 -- what is left, by the words that were read
 pub closes : (key l : Limits) → key ≡ l → (v : View) (id : ℕ) (n : Known) → n.view ≡ v →
     (ws : List ℕ) (slots : List Slot) → Final (Seen (Ruled key) id n) ws slots →
     (word : ℕ) (head : Head) (len : ℕ) (links counts : List ℕ) → get_elem? ws 0 ≡ some word →
     head ≡ unpack word → get_elem? ws 8 ≡ some len → links ≡ take l.population (drop 16 ws) →
-    counts ≡ take l.population (drop (16 + l.population) ws) → (desks : List Slot) → desks ≡ [] →
-    LeftOf l v
+    counts ≡ take l.population (drop (16 + l.population) ws) → (desks : List Slot) →
+    length desks ≡ l.desks → IsKept (drop (16 + 2 * l.population) ws) slots desks → LeftOf l v
     (record { top = head.top; length = len; links = links; counts = counts; desks = desks })
 closes
     key l key_is v id n same ws slots f word head len links counts at_head head_is at_len links_are
-    counts_are desks none =
+    counts_are desks size kept =
     let r : Ruled l f.0 = subst (λ (k : Limits). Ruled k f.0) key_is f.1.0 in
     let w = r.world in
     let law = law_of l f.0 r in
@@ -171,6 +252,8 @@ closes
     let population = ap (λ (k : Limits). k.population) r.limits in
     let few = r.pool.population in
     let top = r.stack.top in
+    let as_many : length desks ≡ length w.desks =
+    size ∙ sym (r.desks.count ∙ ap (λ (k : Limits). k.desks) r.limits) in
     let word_is : word ≡ pack w.head =
     some-injective word (pack w.head) (sym at_head ∙ ap (λ (xs : List ℕ). get_elem? xs 0) words) in
     let read : head ≡ w.head = head_is ∙ (ap unpack word_is ∙ unpack_pack w.head (omega arith)) in
@@ -180,7 +263,7 @@ closes
       law = law;
       headers = r.counts.headers;
       limits = r.limits;
-      no_desks = r.desks.none;
+      desk_count = r.desks.count ∙ ap (λ (k : Limits). k.desks) r.limits;
       view = there l f.0 r id n f.1.1 ∙ ap some same;
       alone =
           λ whole. others_none w law r.counts.headers id v (is l f.0 r id n f.1.1 ∙ same)
@@ -192,12 +275,21 @@ closes
       links =
           links_are
           ∙ (ap (λ (xs : List ℕ). take l.population (drop 16 xs)) words
-          ∙ row_links (pack w.head) w.length w.links w.counts l.population
+          ∙ row_links (pack w.head) w.length w.links w.counts (map word_on w.desks) l.population
           (r.stack.links ∙ population));
       counts =
           counts_are
           ∙ (ap (λ (xs : List ℕ). take l.population (drop (16 + l.population) xs)) words
-          ∙ row_counts (pack w.head) w.length w.links w.counts l.population
+          ∙ row_counts (pack w.head) w.length w.links w.counts (map word_on w.desks) l.population
           (r.stack.links ∙ population) (r.counts.counts ∙ population));
-      desks = none;
+      desks =
+          desks_are w.desks desks (drop (16 + 2 * l.population) ws) slots
+          as_many
+          (ap (λ (xs : List ℕ). drop (16 + 2 * l.population) xs) words
+          ∙ row_desks (pack w.head) w.length w.links w.counts (map word_on w.desks) l.population
+          (r.stack.links ∙ population) (r.counts.counts ∙ population))
+          (λ k y e. f.4 k y (ap (λ (hs : List (maybe.Option Slot)). get_elem? hs k) r.homes_are ∙ e))
+          (as_many ∙ (sym (length-map w.desks home_of)
+          ∙ (sym (ap (λ (hs : List (maybe.Option Slot)). length hs) r.homes_are) ∙ f.3)))
+          r.desks.desks.words kept;
     }

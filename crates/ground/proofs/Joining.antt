@@ -51,6 +51,7 @@ merges l id n other o busy rest rest' s r at apart there =
     record {
       world = joined_at w id other n.view o.view;
       words_are = r.words_are;
+      homes_are = r.homes_are;
       views_are =
           map-set view_in (set s.views id b) other spent_seat
           ∙ ap (λ (vs : List View). set vs other (empty_view 0))
@@ -60,7 +61,7 @@ merges l id n other o busy rest rest' s r at apart there =
       pool = r.pool;
       stack = stack_of _ law;
       counts = counts_of _ law headers;
-      desks = desks_of _ law r.desks.none;
+      desks = desks_of _ law r.desks.count;
       told = told_set l (set s.views id b) other spent_seat
           (told_set l s.views id b r.told (λ _. r.told id n at busy))
           (λ part. absurd (omega arith));

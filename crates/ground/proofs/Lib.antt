@@ -10,3 +10,6 @@ pub mod Parts
 pub mod Joining
 pub mod Closes
 pub mod Tallies
+pub mod Desking
+pub mod DeskSteps
+pub mod Phasing

@@ -1,21 +1,24 @@
 -- The words at the start, and that the rule holds of them.
 use Rattle.std.proofs.Common.{◌≡◌, ℕ, zero, suc, ◌+◌, ◌-◌, ◌<◌, ◌≤◌, List, [], ◌∷◌, ◌++◌, length, replicate, refl, sym, ap, ◌∙◌, arith, append_assoc, length-append}
 use Rattle.std.proofs.lemmas.List.{length-replicate}
-use mathlib.Core.Option.{some-ne-none, some-injective}
+use Rattle.std.specs.Prelude.{None, map}
+use mathlib.Core.Option as maybe
+use mathlib.Core.Option.{some, some-ne-none, some-injective}
 use native.Mathlib.Decide.{dec_lt}
 use Rattle.atomic_table.specs.Table as table
 use Rattle.commons.proofs.Bags.{bag-nil}
 use Rattle.commons.specs.Bounds.{IsPool}
 use Rattle.commons.specs.declared.limits.Limits.{Limits}
+use Rattle.step_core.specs.declared.view.Desk.{Desk}
 use Rattle.step_core.specs.World.{World, empty_view, no_desk}
 use Rattle.step_core.specs.Opening.{links_up}
 use Rattle.step_core.proofs.OpeningLaw.{length-links_up}
 use Rattle.step_core.proofs.LinksUp.{top_is}
 use Rattle.ground.specs.declared.known.Known.{Known}
-use Rattle.ground.specs.Layout.{pack, words_with, words_of, word_count}
+use Rattle.ground.specs.Layout.{pack, words_with, word_on, words_of, word_count}
 use Rattle.ground.specs.Opening.{opening_alone, opening_words}
 use Rattle.ground.specs.Own.{Owned}
-use Rattle.ground.specs.Rule.{Ruled, first_known}
+use Rattle.ground.specs.Rule.{Slot, Ruled, home_of, first_known}
 use Rattle.ground.proofs.Reviews.{alone_lawful, alone_headers}
 use Rattle.ground.proofs.Rules.{stack_of, counts_of, desks_of}
 use Rattle.ground.proofs.Sitting.{Told}
@@ -53,22 +56,35 @@ step_link ws i n x less next last =
         sym (last_link i (n - i) (omega arith)
         ∙ (λ j. sym (last done) j ∷ links_up (i + 1) (sym rest j)))
 
+-- each desk's word is 0
+words_empty : (n : ℕ) → replicate {A = ℕ} n 0 ≡ map word_on (replicate {A = Desk} n no_desk)
+words_empty zero = refl
+words_empty (suc n) = ap (λ (ws : List ℕ). 0 ∷ ws) (words_empty n)
+
 words_are : (l : Limits) → IsPool l → opening_words l ≡ words_of (opening_alone l)
 words_are l pool = λ j.
     words_with
     (pack (record { top = top_is l.population pool.population_low j; count = l.start_count }))
-    l.population (links_up 0 l.population) (replicate l.population 1)
+    l.population (links_up 0 l.population) (replicate l.population 1) (words_empty l.desks j)
 
-pub length_words : (l : Limits) → length (opening_words l) ≡ word_count l.population
+-- each slot is at home, and has nothing
+homes_are : (n : ℕ) →
+    map some (replicate {A = Slot} n None) ≡ map home_of (replicate {A = Desk} n no_desk)
+homes_are zero = refl
+homes_are (suc n) = ap (λ (hs : List (maybe.Option Slot)). some None ∷ hs) (homes_are n)
+
+pub length_words : (l : Limits) → length (opening_words l) ≡ word_count l.population l.desks
 length_words l =
     let a : length (links_up 0 l.population) ≡ l.population = length-links_up 0 l.population in
     let b : length (replicate {A = ℕ} l.population 1) ≡ l.population =
     length-replicate l.population 1 in
-    let c : length (links_up 0 l.population ++ replicate l.population 1)
-    ≡ length (links_up 0 l.population) + length (replicate {A = ℕ} l.population 1) =
-    length-append (links_up 0 l.population) (replicate l.population 1) in
-    let d : length (opening_words l)
-    ≡ 16 + length (links_up 0 l.population ++ replicate l.population 1) = omega arith in
+    let c : length (replicate {A = ℕ} l.desks 0) ≡ l.desks = length-replicate l.desks 0 in
+    let rest : List ℕ = replicate l.population 1 ++ replicate l.desks 0 in
+    let d : length rest ≡ length (replicate {A = ℕ} l.population 1) + length (replicate {A = ℕ} l.desks 0) =
+    length-append (replicate l.population 1) (replicate l.desks 0) in
+    let e : length (links_up 0 l.population ++ rest) ≡ length (links_up 0 l.population) + length rest =
+    length-append (links_up 0 l.population) rest in
+    let f : length (opening_words l) ≡ 16 + length (links_up 0 l.population ++ rest) = omega arith in
     omega arith
 
 pub owned_none : (l : Limits) (part : ℕ) → IsPool l → 0 < part → Owned l (empty_view part)
@@ -85,17 +101,18 @@ owned_none l part pool busy = record {
   chain = tt;
 }
 
-pub opens : (l : Limits) → IsPool l → l.desks ≡ 0 → (words : List ℕ) → words ≡ opening_words l →
-    Ruled l (table.opening words [] (first_known l))
-opens l pool none words is = record {
+pub opens : (l : Limits) → IsPool l → (words : List ℕ) → words ≡ opening_words l →
+    Ruled l (table.opening words (replicate l.desks None) (first_known l))
+opens l pool words is = record {
   world = w;
   words_are = is ∙ words_are l pool;
+  homes_are = homes_are l.desks;
   views_are = refl;
   limits = refl;
   pool = pool;
   stack = stack_of w (alone_lawful l pool.refs_low);
   counts = counts_of w (alone_lawful l pool.refs_low) (alone_headers l);
-  desks = desks_of w (alone_lawful l pool.refs_low) (ap (λ (n : ℕ). replicate n no_desk) none);
+  desks = desks_of w (alone_lawful l pool.refs_low) (length-replicate l.desks no_desk);
   told = first;
 }
   where

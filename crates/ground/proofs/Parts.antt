@@ -50,6 +50,7 @@ splits l id n two s r at =
     record {
       world = split_at w id n.view;
       words_are = r.words_are;
+      homes_are = r.homes_are;
       views_are =
           map-append view_in (set s.views id (less_part n)) (newcomer n ∷ [])
           ∙ ap (λ (vs : List View). vs ++ empty_view 1 ∷ [])
@@ -59,7 +60,7 @@ splits l id n two s r at =
       pool = r.pool;
       stack = stack_of _ law;
       counts = counts_of _ law headers;
-      desks = desks_of _ law r.desks.none;
+      desks = desks_of _ law r.desks.count;
       told = told_push l (set s.views id (less_part n)) (newcomer n)
           (told_set l s.views id (less_part n) r.told (λ _. mine)) mine;
     }

@@ -1,6 +1,6 @@
 -- A step of the machine by one seat, on one word, keeps the rule and tells the seat.
 use Rattle.std.proofs.Common.{◌≡◌, ◌≢◌, ℕ, zero, suc, ◌+◌, ◌-◌, ◌*◌, ◌/◌, ◌%◌, ◌<◌, true, List, [], ◌∷◌, ◌++◌, Some, None, length, set, refl, sym, ap, ◌∙◌, subst, ⊎_elim, arith, get_or-set_same}
-use Rattle.std.specs.Prelude.{slice_index, option_map, if◌then◌else◌}
+use Rattle.std.specs.Prelude.{slice_index, option_map, if◌then◌else◌, map, Option}
 use Rattle.std.proofs.lemmas.Bool.{lt-ltb}
 use Rattle.std.proofs.lemmas.List.{length-set, get_or_append_left, get_or-append_right, set-append_left, set-append_right}
 use mathlib.Core.Option.{some, some-ne-none, some-injective}
@@ -11,7 +11,9 @@ use Rattle.atomic_table.proofs.Lists.{at_set, at_map, set_again}
 use Rattle.commons.specs.Bounds.{IsPool}
 use Rattle.commons.specs.declared.limits.Limits.{Limits}
 use Rattle.step_core.specs.declared.view.Head.{Head}
+use Rattle.step_core.specs.declared.view.Desk.{Desk}
 use Rattle.step_core.specs.declared.view.View.{View}
+use Rattle.step_core.specs.declared.view.Work.{Work}
 use Rattle.step_core.specs.declared.step.Step.{Step}
 use Rattle.step_core.specs.declared.step.Outcome.{Outcome}
 use Rattle.step_core.specs.World.{World, empty_view, view_at, view_of}
@@ -22,12 +24,20 @@ use Rattle.step_core.specs.Steps.{Play, in_range, row, turn, played, play}
 use Rattle.step_core.proofs.Theorem.{keeps_law, changes_little, same_population}
 use Rattle.step_core.proofs.HeaderWalks.{keeps_headers}
 use Rattle.ground.specs.declared.known.Known.{Known}
-use Rattle.ground.specs.Layout.{pack, unpack, lines, words_of}
-use Rattle.ground.specs.Own.{Owned}
-use Rattle.ground.specs.Rule.{Slot, Sat, Ruled, view_in}
+use Rattle.ground.specs.Layout.{pack, unpack, lines, word_on, rows_of, words_of}
+use Rattle.ground.specs.Own.{Owned, AtDesk}
+use Rattle.ground.specs.Rule.{Slot, Sat, Ruled, view_in, home_of}
 use Rattle.ground.specs.Tells.{noted, Tells}
 use Rattle.ground.proofs.Rules.{lawful_of, stack_of, counts_of, desks_of}
 use Rattle.ground.proofs.Owning.{owned_of}
+
+-- a seat that has a part, and the slot of the desk that it has in work
+abbrev pub Sits : Sat → Type 0
+Sits m = (0 < m.0.view.part) × AtDesk m.0.view.work m.1
+
+-- the words behind the links
+abbrev pub tail_of : World → List ℕ
+tail_of w = w.counts ++ map word_on w.desks
 
 abbrev pub St : Type 0
 St = State Slot Known
@@ -70,7 +80,7 @@ row_played w k v st p here is inside e = ap (option_map (λ (q : Play). (q.outco
         ∙ (ap (λ b. if b then row w k (view_at w.views k) st else None) inside
         ∙ (ap (λ (u : View). row w k u st) is ∙ e))
 
-module _ (l : Limits) (s : St) (r : Ruled l s) (id : ℕ) (me : Sat) (at : get_elem? s.views id ≡ some me.0) (busy : 0 < me.0.view.part) where
+module _ (l : Limits) (s : St) (r : Ruled l s) (id : ℕ) (me : Sat) (at : get_elem? s.views id ≡ some me.0) (busy : Sits me) where
   pub law : Lawful r.world
   law = lawful_of r.world r.stack r.counts r.desks
 
@@ -86,10 +96,10 @@ module _ (l : Limits) (s : St) (r : Ruled l s) (id : ℕ) (me : Sat) (at : get_e
   is = (view_there r.world.views id me.0.view found_view).1
 
   pub busy_here : 0 < (view_of r.world.views (suc id)).part
-  busy_here = subst (λ (v : View). 0 < v.part) (sym is) busy
+  busy_here = subst (λ (v : View). 0 < v.part) (sym is) busy.0
 
   pub my_limits : me.0.limits ≡ l
-  my_limits = r.told id me.0 at busy
+  my_limits = r.told id me.0 at busy.0
 
   pub same_views : set r.world.views id me.0.view ≡ r.world.views
   same_views = set_again r.world.views id me.0.view found_view
@@ -98,7 +108,7 @@ module _ (l : Limits) (s : St) (r : Ruled l s) (id : ℕ) (me : Sat) (at : get_e
   pub owned : Owned me.0.limits me.0.view
   owned =
       subst (λ (k : Limits). Owned k me.0.view) (r.limits ∙ sym my_limits)
-      (owned_of r.world law r.counts.headers id me.0.view is busy
+      (owned_of r.world law r.counts.headers id me.0.view is busy.0
       (subst IsPool (sym r.limits) r.pool))
 
   -- the world after a step of this seat, and the seat's view there
@@ -122,14 +132,22 @@ module _ (l : Limits) (s : St) (r : Ruled l s) (id : ℕ) (me : Sat) (at : get_e
             ∙ get_or-set_same r.world.views id v (empty_view 0) here,
       )
 
+  -- the desks are as many as the limits say
+  pub counted_desks : (u : World) → u.desks ≡ r.world.desks → u.limits ≡ l →
+      length u.desks ≡ u.limits.desks
+  counted_desks u desks limits =
+      ap (λ (ds : List Desk). length ds) desks
+      ∙ (r.desks.count ∙ ap (λ (k : Limits). k.desks) (r.limits ∙ sym limits))
+
   -- what a step of this seat on one word owes, and gives
   pub steps : (i x : ℕ) (st : Step) (o : Outcome) (u : World) →
       OpensOwn (view_at r.world.views id) st → play r.world (suc id) st ≡ Some (o, u) →
       set (words_of r.world) i x ≡ words_of u →
-      u.views ≡ set r.world.views id (view_after None st o me.0.view) → u.desks ≡ [] →
-      (view_after None st o me.0.view).part ≡ me.0.view.part
+      u.views ≡ set r.world.views id (view_after None st o me.0.view) → u.desks ≡ r.world.desks →
+      (view_after None st o me.0.view).part ≡ me.0.view.part →
+      (view_after None st o me.0.view).work ≡ me.0.view.work
       → Ruled l (stepped s i x id me.1 (noted st o me).0 keeps) × Tells st o me (noted st o me)
-  steps i x st o u own e words views desks part =
+  steps i x st o u own e words views desks part work =
       let v = view_after None st o me.0.view in
       let kept : Lawful u = law_after st o u e in
       let headers : HeaderLaw u =
@@ -140,6 +158,7 @@ module _ (l : Limits) (s : St) (r : Ruled l s) (id : ℕ) (me : Sat) (at : get_e
         record {
           world = u;
           words_are = ap (λ (ws : List ℕ). set ws i x) r.words_are ∙ words;
+          homes_are = r.homes_are ∙ ap (λ (ds : List Desk). map home_of ds) (sym desks);
           views_are =
               map-set view_in s.views id (noted st o me).0
               ∙ (ap (λ (vs : List View). set vs id v) r.views_are ∙ sym views);
@@ -147,13 +166,14 @@ module _ (l : Limits) (s : St) (r : Ruled l s) (id : ℕ) (me : Sat) (at : get_e
           pool = r.pool;
           stack = stack_of u kept;
           counts = counts_of u kept headers;
-          desks = desks_of u kept desks;
+          desks = desks_of u kept (counted_desks u desks limits);
           told = told_again l s.views id (noted st o me).0 r.told my_limits;
         },
         (
           refl,
           subst (λ (k : Limits). Owned k v) (limits ∙ sym my_limits)
-              (owned_of u kept headers id v there.1 (subst (λ n. 0 < n) (sym part) busy) pool),
+              (owned_of u kept headers id v there.1 (subst (λ n. 0 < n) (sym part) busy.0) pool),
+          subst (λ (z : Option Work). AtDesk z me.1) (sym work) busy.1,
         ),
       )
 
@@ -180,17 +200,17 @@ module _ (l : Limits) (s : St) (r : Ruled l s) (id : ℕ) (me : Sat) (at : get_e
   link_at i inside =
       let behind : 16 + i - 16 ≡ i = omega arith in
       get_or-append_right (lines (pack r.world.head) r.world.length)
-      (r.world.links ++ r.world.counts) 16 (16 + i) 0 refl (omega arith)
-      ∙ (ap (λ (j : ℕ). slice_index (r.world.links ++ r.world.counts) j) behind
-      ∙ get_or_append_left r.world.links r.world.counts 0 i inside)
+      (rows_of r.world) 16 (16 + i) 0 refl (omega arith)
+      ∙ (ap (λ (j : ℕ). slice_index (rows_of r.world) j) behind
+      ∙ get_or_append_left r.world.links (tail_of r.world) 0 i inside)
 
   pub link_set : (i x : ℕ) → i < length r.world.links →
       set (words_of r.world) (16 + i) x
-      ≡ lines (pack r.world.head) r.world.length ++ (set r.world.links i x ++ r.world.counts)
+      ≡ lines (pack r.world.head) r.world.length ++ (set r.world.links i x ++ tail_of r.world)
   link_set i x inside =
       let behind : 16 + i - 16 ≡ i = omega arith in
       set-append_right (lines (pack r.world.head) r.world.length)
-      (r.world.links ++ r.world.counts) 16 (16 + i) x refl (omega arith)
+      (rows_of r.world) 16 (16 + i) x refl (omega arith)
       ∙ ap (λ (ys : List ℕ). lines (pack r.world.head) r.world.length ++ ys)
-      (ap (λ (j : ℕ). set (r.world.links ++ r.world.counts) j x) behind
-      ∙ set-append_left r.world.links r.world.counts i x inside)
+      (ap (λ (j : ℕ). set (rows_of r.world) j x) behind
+      ∙ set-append_left r.world.links (tail_of r.world) i x inside)

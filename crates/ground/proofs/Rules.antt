@@ -1,5 +1,5 @@
--- The three rules are the machine's law, with the law of headers, of a world without desks.
-use Rattle.std.proofs.Common.{◌≡◌, []}
+-- The three rules are the machine's law, with the law of headers, of a world with as many desks as its limits say.
+use Rattle.std.proofs.Common.{◌≡◌, length}
 use Rattle.step_core.specs.World.{World}
 use Rattle.step_core.specs.Law.{Lawful}
 use Rattle.step_core.specs.Headers.{HeaderLaw}
@@ -71,9 +71,9 @@ counts_of w law headers = record {
   no_holds = λ k e. (law.parts.idle k e).holds;
 }
 
-pub desks_of : (w : World) → Lawful w → w.desks ≡ [] → DeskRule w
-desks_of w law none = record {
+pub desks_of : (w : World) → Lawful w → length w.desks ≡ w.limits.desks → DeskRule w
+desks_of w law count = record {
   desks = law.desks;
-  none = none;
+  count = count;
   no_work = λ k e. (law.parts.idle k e).work;
 }

@@ -28,37 +28,37 @@ use Rattle.step_core.specs.Table.{Get, Put}
 use Rattle.step_core.proofs.StackSteps.{one_view}
 use Rattle.step_core.proofs.Telling.{length_is_bounded, lost_is_later_law}
 use Rattle.ground.specs.declared.known.Known.{Known}
-use Rattle.ground.specs.Layout.{pack, unpack, lines, words_of}
+use Rattle.ground.specs.Layout.{pack, unpack, lines, rows_of, words_of}
 use Rattle.ground.specs.Own.{Owned}
 use Rattle.ground.specs.Rule.{Slot, Sat, Ruled}
 use Rattle.ground.specs.Seats.{KnowsLength, KnowsEnd, front_of, count_of, element_of}
 use Rattle.ground.specs.Tells.{noted, Tells, exchanged, cut_found, push_found, IsLater, IsShared, loaded_length, reserved, added, loaded_head, loaded_link, cut_tells, stored_link, push_tells}
-use Rattle.ground.proofs.Playing.{St, unpack_pack, row_played, law, here, is as is_view, busy_here, my_limits, same_views, law_after, limits_after, view_there_after, steps, read_at, read_length, read_head, head_is, link_at, link_set}
+use Rattle.ground.proofs.Playing.{St, Sits, tail_of, unpack_pack, row_played, law, here, is as is_view, busy_here, my_limits, same_views, law_after, limits_after, view_there_after, steps, read_at, read_length, read_head, head_is, link_at, link_set}
 use Rattle.ground.proofs.Alone.{knows as knows_length, knows_end}
 
 -- ---- the length
 
-module _ (l : Limits) (s : St) (r : Ruled l s) (id : ℕ) (me : Sat) (at : get_elem? s.views id ≡ some me.0) (busy : 0 < me.0.view.part) where
+module _ (l : Limits) (s : St) (r : Ruled l s) (id : ℕ) (me : Sat) (at : get_elem? s.views id ≡ some me.0) (busy : Sits me) where
   -- a seat of every part knows the length word
   my_length : KnowsLength me.0.limits me.0.view (slice_index s.words 8)
   my_length =
       subst (λ (k : Limits). KnowsLength k me.0.view (slice_index s.words 8))
       (sym (my_limits l s r id me at busy))
       (subst (λ (n : ℕ). KnowsLength l me.0.view n) (sym (read_length l s r id me at busy))
-      (knows_length r.world (law l s r id me at busy) r.desks.none l r.limits id
+      (knows_length r.world (law l s r id me at busy) r.desks.count l r.limits id
       (here l s r id me at busy) me.0.view (is_view l s r id me at busy)))
 
   -- the length word may be written as it was found
   length_kept : set (words_of r.world) 8 (slice_index s.words 8) ≡ words_of r.world
   length_kept =
-      ap (λ (n : ℕ). lines (pack r.world.head) n ++ (r.world.links ++ r.world.counts))
+      ap (λ (n : ℕ). lines (pack r.world.head) n ++ rows_of r.world)
       (read_length l s r id me at busy)
 
   -- the views may be written as they are
   pub views_kept : r.world.views ≡ set r.world.views id me.0.view
   views_kept = sym (same_views l s r id me at busy)
 
-pub loads_length : (l : Limits) (slots id : ℕ) (me : Sat) → 0 < me.0.view.part →
+pub loads_length : (l : Limits) (slots id : ℕ) (me : Sat) → Sits me →
     Allows (Ruled l) slots id me 8 (λ n. n) (loaded_length (step slots 8 0 0 none) me)
 loads_length l slots id me busy s r _ at _ =
     let x : ℕ = slice_index s.words 8 in
@@ -69,7 +69,7 @@ loads_length l slots id me busy s r _ at _ =
     row_played w id me.0.view LoadLength p (here l s r id me at busy) (is_view l s r id me at busy) refl
     refl ∙ ap (λ (n : ℕ). Some (Value n, w)) (sym e) in
     let done = steps l s r id me at busy 8 x LoadLength (Value x) w tt played
-    (length_kept l s r id me at busy) (views_kept l s r id me at busy) r.desks.none refl in
+    (length_kept l s r id me at busy) (views_kept l s r id me at busy) refl refl refl in
     let few = length_is_bounded w (law l s r id me at busy) in
     let pop = ap (λ (k : Limits). k.population) r.limits in
     let mine = ap (λ (k : Limits). k.population) (my_limits l s r id me at busy) in (
@@ -84,7 +84,7 @@ loads_length l slots id me busy s r _ at _ =
 pub played_when : (test : Bool) (p : Play) → test ≡ true → when test p ≡ Some p
 played_when test p e = ap (λ (b : Bool). when b p) e
 
-pub reserves : (l : Limits) (slots id : ℕ) (me : Sat) (old new : ℕ) → new < old → 0 < me.0.view.part →
+pub reserves : (l : Limits) (slots id : ℕ) (me : Sat) (old new : ℕ) → new < old → Sits me →
     Allows (Ruled l) slots id me 8 (λ x. either (eqb x old) new x)
     (reserved (step slots 8 old new none) me)
 reserves l slots id me old new less busy s r _ at _ =
@@ -113,7 +113,7 @@ reserves l slots id me old new less busy s r _ at _ =
     let back : old - n ≡ new = omega arith in
     let done = steps l s r id me at busy 8 new (Reserve old n) Won won tt
     (tried Won won true (eq-eqb w.length old (sym e ∙ hit)) refl)
-    (ap (λ (m : ℕ). lines (pack w.head) m ++ (w.links ++ w.counts)) (sym back)) refl r.desks.none refl in
+    (ap (λ (m : ℕ). lines (pack w.head) m ++ rows_of w) (sym back)) refl refl refl refl in
     subst G (sym (eq-eqb x old hit))
     ((noted (Reserve old n) Won me).0, keeps, tt, done.0, (done.1, known)))
     (λ miss.
@@ -121,12 +121,12 @@ reserves l slots id me old new less busy s r _ at _ =
     tried (Lost w.length) w false (ne_eqb w.length old (λ same. miss (e ∙ same))) refl
     ∙ ap (λ (m : ℕ). Some (Lost m, w)) (sym e) in
     let done = steps l s r id me at busy 8 x (Reserve old n) (Lost x) w tt lost
-    (length_kept l s r id me at busy) (views_kept l s r id me at busy) r.desks.none refl in
+    (length_kept l s r id me at busy) (views_kept l s r id me at busy) refl refl refl in
     subst G (sym (ne_eqb x old miss))
     ((noted (Reserve old n) (Lost x) me).0, keeps, tt, done.0, (done.1, known)))
 
 pub adds : (l : Limits) (slots id : ℕ) (me : Sat) (n : ℕ) → 1 ≤ n → n ≤ me.0.view.credit →
-    0 < me.0.view.part →
+    Sits me →
     Allows (Ruled l) slots id me 8 (λ x. (x + n) % 2 ^ 64) (added (step slots 8 n 0 none) me)
 adds l slots id me n some_of within busy s r _ at _ =
     let x : ℕ = slice_index s.words 8 in
@@ -146,16 +146,16 @@ adds l slots id me n some_of within busy s r _ at _ =
     row_played w id v (Add n) (quiet Done u) (here l s r id me at busy) (is_view l s r id me at busy) refl
     (played_when (nat_le 1 n && nat_le n v.credit) (quiet Done u) asked) in
     let done = steps l s r id me at busy 8 ((x + n) % 18446744073709551616) (Add n) Done u tt played
-    (ap (λ (m : ℕ). lines (pack w.head) m ++ (w.links ++ w.counts)) no_wrap) refl r.desks.none refl in
+    (ap (λ (m : ℕ). lines (pack w.head) m ++ rows_of w) no_wrap) refl refl refl refl in
     ((noted (Add n) Done me).0, keeps, tt, done.0, done.1)
 
 -- ---- the head
 
-module _ (l : Limits) (s : St) (r : Ruled l s) (id : ℕ) (me : Sat) (at : get_elem? s.views id ≡ some me.0) (busy : 0 < me.0.view.part) where
+module _ (l : Limits) (s : St) (r : Ruled l s) (id : ℕ) (me : Sat) (at : get_elem? s.views id ≡ some me.0) (busy : Sits me) where
   -- the head's word may be written as it was found
   head_kept : set (words_of r.world) 0 (slice_index s.words 0) ≡ words_of r.world
   head_kept =
-      ap (λ (n : ℕ). lines n r.world.length ++ (r.world.links ++ r.world.counts))
+      ap (λ (n : ℕ). lines n r.world.length ++ rows_of r.world)
       (read_head l s r id me at busy)
 
   pub my_population : me.0.limits.population ≡ r.world.limits.population
@@ -174,16 +174,16 @@ module _ (l : Limits) (s : St) (r : Ruled l s) (id : ℕ) (me : Sat) (at : get_e
 
   -- what the seat of every part knows once its step is played
   end_after : (st : Step) (o : Outcome) (u : World) → play r.world (suc id) st ≡ Some (o, u) →
-      u.views ≡ set r.world.views id (view_after None st o me.0.view) → u.desks ≡ [] →
+      u.views ≡ set r.world.views id (view_after None st o me.0.view) →
       KnowsEnd me.0.limits (view_after None st o me.0.view)
-  end_after st o u e views desks =
+  end_after st o u e views =
       let there = view_there_after l s r id me at busy u (view_after None st o me.0.view) views in
       subst (λ (k : Limits). KnowsEnd k (view_after None st o me.0.view))
       (sym (my_limits l s r id me at busy))
-      (knows_end u (law_after l s r id me at busy st o u e) desks l
+      (knows_end u (law_after l s r id me at busy st o u e) l
       (limits_after l s r id me at busy st o u e) id there.0 (view_after None st o me.0.view) there.1)
 
-pub loads_head : (l : Limits) (slots id : ℕ) (me : Sat) → 0 < me.0.view.part →
+pub loads_head : (l : Limits) (slots id : ℕ) (me : Sat) → Sits me →
     Allows (Ruled l) slots id me 0 (λ n. n) (loaded_head (step slots 0 0 0 none) me)
 loads_head l slots id me busy s r _ at _ =
     let x : ℕ = slice_index s.words 0 in
@@ -195,7 +195,7 @@ loads_head l slots id me busy s r _ at _ =
     row_played w id v LoadHead (load_head w id v) (here l s r id me at busy) (is_view l s r id me at busy) refl refl
     ∙ ap (λ (h : Head). Some (HeadIs h, knows w id (looking_at v h))) (sym found) in
     let done = steps l s r id me at busy 0 x LoadHead (HeadIs (unpack x)) u tt played
-    (head_kept l s r id me at busy) refl r.desks.none refl in
+    (head_kept l s r id me at busy) refl refl refl refl in
     let seen : (view_at w.views id).seen ≤ w.head.count = r.stack.looks.seen id in
     let mine : v.seen ≤ w.head.count = subst (λ (y : View). y.seen ≤ w.head.count) (is_view l s r id me at busy) seen in (
       (noted LoadHead (HeadIs (unpack x)) me).0,
@@ -206,7 +206,7 @@ loads_head l slots id me busy s r _ at _ =
         done.1,
         top_read l s r id me at busy,
         subst (λ (h : Head). v.seen ≤ h.count) (sym found) mine,
-        end_after l s r id me at busy LoadHead (HeadIs (unpack x)) u played refl r.desks.none,
+        end_after l s r id me at busy LoadHead (HeadIs (unpack x)) u played refl,
       ),
     )
 
@@ -241,7 +241,7 @@ hand_inside l v i own h =
     (cases_lt i l.population)
 
 pub loads_link : (l : Limits) (slots id : ℕ) (me : Sat) (i : ℕ) → walks_to me.0.view.look i ≡ true →
-    0 < me.0.view.part → Owned me.0.limits me.0.view →
+    Sits me → Owned me.0.limits me.0.view →
     Allows (Ruled l) slots id me (16 + i) (λ n. n) (loaded_link (step slots (16 + i) 0 0 none) me)
 loads_link l slots id me i may busy own s r _ at _ =
     let x : ℕ = slice_index s.words (16 + i) in
@@ -270,9 +270,9 @@ loads_link l slots id me i may busy own s r _ at _ =
     ap (λ (n : ℕ). set (words_of w) (16 + i) n) e ∙ set-get_or (words_of w) (16 + i) 0 in
     let views : u.views ≡ set w.views id (view_after None (LoadLink i) (Value x) v) =
     ap (λ (y : View). set w.views id y) (same x) in
-    let done = steps l s r id me at busy (16 + i) x (LoadLink i) (Value x) u tt played kept views r.desks.none refl in
+    let done = steps l s r id me at busy (16 + i) x (LoadLink i) (Value x) u tt played kept views refl refl refl in
     let range = r.stack.links_in_range i in
-    let ends = end_after l s r id me at busy (LoadLink i) (Value x) u played views r.desks.none in
+    let ends = end_after l s r id me at busy (LoadLink i) (Value x) u played views in
     let word : i ≡ 16 + i - 16 = omega arith in (
       (noted (LoadLink i) (Value x) me).0,
       keeps,
@@ -286,7 +286,7 @@ loads_link l slots id me i may busy own s r _ at _ =
     )
 
 pub stores_link : (l : Limits) (slots id : ℕ) (me : Sat) (i x : ℕ) → 0 < bag me.0.view.hand i →
-    x ≤ l.population → 0 < me.0.view.part → Owned me.0.limits me.0.view →
+    x ≤ l.population → Sits me → Owned me.0.limits me.0.view →
     Allows (Ruled l) slots id me (16 + i) (λ _. x)
     (λ _. stored_link (step slots (16 + i) x 0 none) me x)
 stores_link l slots id me i x hand small busy own s r _ at _ =
@@ -312,8 +312,8 @@ stores_link l slots id me i x hand small busy own s r _ at _ =
     (played_when (nat_lt 0 (bag v.hand i)) (quiet Done u) (lt-ltb 0 (bag v.hand i) hand)) in
     let words : set (words_of w) (16 + i) x ≡ words_of u =
     link_set l s r id me at busy i x inside
-    ∙ ap (λ (n : ℕ). lines (pack w.head) w.length ++ (set w.links i n ++ w.counts)) (sym value) in
-    let done = steps l s r id me at busy (16 + i) x (StoreLink i j) Done u tt played words refl r.desks.none refl in
+    ∙ ap (λ (n : ℕ). lines (pack w.head) w.length ++ (set w.links i n ++ tail_of w)) (sym value) in
+    let done = steps l s r id me at busy (16 + i) x (StoreLink i j) Done u tt played words refl refl refl refl in
     let word : i ≡ 16 + i - 16 = omega arith in (
       (noted (StoreLink i j) Done me).0,
       keeps,
@@ -324,7 +324,7 @@ stores_link l slots id me i x hand small busy own s r _ at _ =
 
 -- ---- the exchanges of the head
 
-module _ (l : Limits) (s : St) (r : Ruled l s) (id : ℕ) (me : Sat) (at : get_elem? s.views id ≡ some me.0) (busy : 0 < me.0.view.part) (k : Look) (mine : me.0.view.look ≡ Some k) where
+module _ (l : Limits) (s : St) (r : Ruled l s) (id : ℕ) (me : Sat) (at : get_elem? s.views id ≡ some me.0) (busy : Sits me) (k : Look) (mine : me.0.view.look ≡ Some k) where
   my_look : (view_at r.world.views id).look ≡ Some k
   my_look = ap (λ (v : View). v.look) (is_view l s r id me at busy) ∙ mine
 
@@ -401,7 +401,7 @@ module _ (l : Limits) (s : St) (r : Ruled l s) (id : ℕ) (me : Sat) (at : get_e
       )
 
 pub cuts : (l : Limits) (slots id : ℕ) (me : Sat) (head : Head) (next old new : ℕ) → old ≡ pack head →
-    new ≡ pack (next_head next head.count) → MayCut me.0.view head next → 0 < me.0.view.part →
+    new ≡ pack (next_head next head.count) → MayCut me.0.view head next → Sits me →
     Allows (Ruled l) slots id me 0 (λ x. either (eqb x old) new x) (cut_tells (step slots 0 old new none) me)
 cuts l slots id me head next old new was becomes may busy s r _ at _ =
     let x : ℕ = slice_index s.words 0 in
@@ -438,9 +438,11 @@ cuts l slots id me head next old new was becomes may busy s r _ at _ =
     ap (λ (o : Option Look). set w.views id (cut_look v o)) (sym mine) in
     let part : (view_after None Cut (Got front) v).part ≡ v.part =
     ap (λ (o : Option Look). (cut_look v o).part) mine in
+    let work : (view_after None Cut (Got front) v).work ≡ v.work =
+    ap (λ (o : Option Look). (cut_look v o).work) mine in
     let words : set (words_of w) 0 new ≡ words_of u =
-    ap (λ (n : ℕ). lines n w.length ++ (w.links ++ w.counts)) written in
-    let done = steps l s r id me at busy 0 new Cut (Got front) u tt played words views r.desks.none part in
+    ap (λ (n : ℕ). lines n w.length ++ rows_of w) written in
+    let done = steps l s r id me at busy 0 new Cut (Got front) u tt played words views refl part work in
     subst G (sym (eq-eqb x old hit))
     ((noted Cut (Got front) me).0, keeps, tt, done.0, (done.1, tt, tt)))
     (λ miss.
@@ -458,7 +460,7 @@ cuts l slots id me head next old new was becomes may busy s r _ at _ =
     let played : play w (suc id) Cut ≡ Some (LostTo (unpack x), u) =
     asked lost e ∙ ap (λ (h : Head). Some (LostTo h, knows w id (lost_look v h.count))) (sym found) in
     let done = steps l s r id me at busy 0 x Cut (LostTo (unpack x)) u tt played
-    (head_kept l s r id me at busy) refl r.desks.none refl in
+    (head_kept l s r id me at busy) refl refl refl refl in
     subst G (sym (ne_eqb x old miss)) (
       (noted Cut (LostTo (unpack x)) me).0,
       keeps,
@@ -468,7 +470,7 @@ cuts l slots id me head next old new was becomes may busy s r _ at _ =
     ))
 
 pub pushes : (l : Limits) (slots id : ℕ) (me : Sat) (head : Head) (first old new : ℕ) → old ≡ pack head →
-    new ≡ pack (next_head first head.count) → MayPush me.0.view head first → 0 < me.0.view.part →
+    new ≡ pack (next_head first head.count) → MayPush me.0.view head first → Sits me →
     Allows (Ruled l) slots id me 0 (λ x. either (eqb x old) new x) (push_tells (step slots 0 old new none) me)
 pushes l slots id me head first old new was becomes may busy s r _ at _ =
     let x : ℕ = slice_index s.words 0 in
@@ -505,9 +507,10 @@ pushes l slots id me head first old new was becomes may busy s r _ at _ =
     let views : after.views ≡ set w.views id (view_after None Push Won v) =
     ap (λ (u : View). set w.views id u) same in
     let part : (view_after None Push Won v).part ≡ v.part = ap (λ (u : View). u.part) (sym same) in
+    let work : (view_after None Push Won v).work ≡ v.work = ap (λ (u : View). u.work) (sym same) in
     let words : set (words_of w) 0 new ≡ words_of after =
-    ap (λ (n : ℕ). lines n w.length ++ (w.links ++ w.counts)) written in
-    let done = steps l s r id me at busy 0 new Push Won after tt (asked won e) words views r.desks.none part in
+    ap (λ (n : ℕ). lines n w.length ++ rows_of w) written in
+    let done = steps l s r id me at busy 0 new Push Won after tt (asked won e) words views refl part work in
     subst G (sym (eq-eqb x old hit))
     ((noted Push Won me).0, keeps, tt, done.0, (done.1, tt, tt)))
     (λ miss.
@@ -519,7 +522,7 @@ pushes l slots id me head first old new was becomes may busy s r _ at _ =
     let played : play w (suc id) Push ≡ Some (LostTo (unpack x), u) =
     asked lost e ∙ ap (λ (h : Head). Some (LostTo h, knows w id (lost_push v h.count))) (sym found) in
     let done = steps l s r id me at busy 0 x Push (LostTo (unpack x)) u tt played
-    (head_kept l s r id me at busy) refl r.desks.none refl in
+    (head_kept l s r id me at busy) refl refl refl refl in
     subst G (sym (ne_eqb x old miss)) (
       (noted Push (LostTo (unpack x)) me).0,
       keeps,

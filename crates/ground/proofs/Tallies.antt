@@ -1,8 +1,8 @@
 -- Each of the five steps on a count keeps the rule, and tells its seat what its contract says.
-use Rattle.std.proofs.Common.{◌≡◌, ◌==◌, ℕ, suc, ◌+◌, ◌-◌, ◌%◌, ◌^◌, ◌<◌, ◌≤◌, Bool, true, false, eqb, List, [], ◌++◌, Some, length, set, refl, sym, ap, ◌∙◌, subst, ⊎_elim, arith, eq-eqb, ne_eqb}
-use Rattle.std.specs.Prelude.{slice_index, None, sum_by, nat_lt, ◌&&◌, if◌then◌else◌}
+use Rattle.std.proofs.Common.{◌≡◌, ◌==◌, ℕ, suc, ◌+◌, ◌-◌, ◌%◌, ◌^◌, ◌<◌, ◌≤◌, Bool, true, false, eqb, List, ◌++◌, Some, length, set, refl, sym, ap, ◌∙◌, subst, ⊎_elim, arith, eq-eqb, ne_eqb}
+use Rattle.std.specs.Prelude.{map, slice_index, None, sum_by, nat_lt, ◌&&◌, if◌then◌else◌}
 use Rattle.std.proofs.lemmas.Bool.{cases_lt, cases_Bool, lt-ltb, and_from, and_parts, eqb-true}
-use Rattle.std.proofs.lemmas.List.{set-get_or, get_or-append_right, set-append_right}
+use Rattle.std.proofs.lemmas.List.{set-get_or, get_or_append_left, get_or-append_right, set-append_left, set-append_right}
 use mathlib.Core.Option.{some, none}
 use mathlib.Core.Logic.{dite}
 use native.Mathlib.Decide.{ℕ_discrete}
@@ -23,14 +23,14 @@ use Rattle.step_core.specs.Table.{Free, Attach}
 use Rattle.step_core.proofs.Bags.{times-nil, below-le}
 use Rattle.step_core.proofs.StackSteps.{one_view}
 use Rattle.ground.specs.declared.known.Known.{Known}
-use Rattle.ground.specs.Layout.{pack, lines, words_of}
+use Rattle.ground.specs.Layout.{pack, lines, word_on, rows_of, words_of}
 use Rattle.ground.specs.Own.{Owned}
 use Rattle.ground.specs.Rule.{Slot, Sat, Ruled}
 use Rattle.ground.specs.Seats.{KnowsCount}
 use Rattle.ground.specs.Tells.{noted, Tells, exchanged, claim_tells, sole_tells, raise_tells, lower_tells, reset_tells}
-use Rattle.ground.proofs.Playing.{St, row_played, law, here, is as is_view, my_limits, steps, read_at}
+use Rattle.ground.proofs.Playing.{St, Sits, tail_of, row_played, law, here, is as is_view, my_limits, steps, read_at}
 use Rattle.ground.proofs.Stepping.{played_when, views_kept}
-use Rattle.ground.proofs.Alone.{holds_known}
+use Rattle.ground.proofs.Alone.{shelves, no_shelves, holds_known}
 
 -- an element that is held, or of count 0 for the moment, is one of the pool's
 pub held_inside : (l : Limits) (v : View) (i : ℕ) → Owned l v → 0 < bag v.holds i → i < l.population
@@ -45,7 +45,7 @@ zero_inside l v i own h =
     (λ (c : l.population ≤ i). absurd (let z = own.hand_below i c in omega arith))
     (cases_lt i l.population)
 
-module _ (l : Limits) (s : St) (r : Ruled l s) (id : ℕ) (me : Sat) (at : get_elem? s.views id ≡ some me.0) (busy : 0 < me.0.view.part) (i k : ℕ) (word : k ≡ 16 + l.population + i) (inside : i < l.population) where
+module _ (l : Limits) (s : St) (r : Ruled l s) (id : ℕ) (me : Sat) (at : get_elem? s.views id ≡ some me.0) (busy : Sits me) (i k : ℕ) (word : k ≡ 16 + l.population + i) (inside : i < l.population) where
   mine : me.0.limits.population ≡ l.population
   mine = ap (λ (z : Limits). z.population) (my_limits l s r id me at busy)
 
@@ -68,26 +68,36 @@ module _ (l : Limits) (s : St) (r : Ruled l s) (id : ℕ) (me : Sat) (at : get_e
   links : length r.world.links ≡ l.population
   links = r.stack.links ∙ pop
 
+  inside_counts : i < length r.world.counts
+  inside_counts =
+      let all : length r.world.counts ≡ r.world.limits.population = r.counts.counts in
+      let p = pop in
+      omega arith
+
   pub count_read : slice_index s.words k ≡ slice_index r.world.counts i
   count_read =
       read_at l s r id me at busy k
       ∙ (get_or-append_right (lines (pack r.world.head) r.world.length)
-      (r.world.links ++ r.world.counts) 16 k 0 refl (omega arith)
-      ∙ (ap (λ (j : ℕ). slice_index (r.world.links ++ r.world.counts) j) place
-      ∙ (get_or-append_right r.world.links r.world.counts l.population (l.population + i) 0 links
+      (rows_of r.world) 16 k 0 refl (omega arith)
+      ∙ (ap (λ (j : ℕ). slice_index (rows_of r.world) j) place
+      ∙ (get_or-append_right r.world.links (tail_of r.world) l.population (l.population + i) 0 links
       (omega arith)
-      ∙ ap (λ (j : ℕ). slice_index r.world.counts j) behind)))
+      ∙ (ap (λ (j : ℕ). slice_index (tail_of r.world) j) behind
+      ∙ get_or_append_left r.world.counts (map word_on r.world.desks) 0 i inside_counts))))
 
   pub count_set : (x : ℕ) → set (words_of r.world) k x
-      ≡ lines (pack r.world.head) r.world.length ++ (r.world.links ++ set r.world.counts i x)
+      ≡ lines (pack r.world.head) r.world.length
+      ++ (r.world.links ++ (set r.world.counts i x ++ map word_on r.world.desks))
   count_set x =
       set-append_right (lines (pack r.world.head) r.world.length)
-      (r.world.links ++ r.world.counts) 16 k x refl (omega arith)
+      (rows_of r.world) 16 k x refl (omega arith)
       ∙ ap (λ (ys : List ℕ). lines (pack r.world.head) r.world.length ++ ys)
-      (ap (λ (j : ℕ). set (r.world.links ++ r.world.counts) j x) place
-      ∙ (set-append_right r.world.links r.world.counts l.population (l.population + i) x links
+      (ap (λ (j : ℕ). set (rows_of r.world) j x) place
+      ∙ (set-append_right r.world.links (tail_of r.world) l.population (l.population + i) x links
       (omega arith)
-      ∙ ap (λ (j : ℕ). r.world.links ++ set r.world.counts j x) behind))
+      ∙ (ap (λ (j : ℕ). r.world.links ++ set (tail_of r.world) j x) behind
+      ∙ ap (λ (ys : List ℕ). r.world.links ++ ys)
+      (set-append_left r.world.counts (map word_on r.world.desks) i x inside_counts))))
 
   -- a word may be written as it was found
   pub count_kept : set (words_of r.world) k (slice_index s.words k) ≡ words_of r.world
@@ -156,15 +166,18 @@ module _ (l : Limits) (s : St) (r : Ruled l s) (id : ℕ) (me : Sat) (at : get_e
   pub known_count : 0 < bag me.0.view.holds i →
       KnowsCount me.0.limits me.0.view i (slice_index s.words k)
   known_count held whole =
-      let all = holds_known r.world (law l s r id me at busy) r.desks.none id
+      let all = holds_known r.world (law l s r id me at busy) id
       (here l s r id me at busy)
       (ap (λ (v : View). v.part) my_view
       ∙ (whole ∙ ap (λ (z : Limits). z.workers) (my_limits l s r id me at busy ∙ sym r.limits)))
       i in
-      let same = ap (λ (v : View). bag v.holds i) my_view in
-      let read = count_read in
-      let all_of = held_count held in
-      omega arith
+      let same = ap (λ (v : View). bag (v.holds ++ shelves r.world.desks) i) my_view in (
+        shelves r.world.desks,
+        (λ bare.
+            no_shelves r.world r.desks.count l r.limits
+            (ap (λ (z : Limits). z.desks) (sym (my_limits l s r id me at busy)) ∙ bare)),
+        count_read ∙ (held_count held ∙ (all ∙ same)),
+      )
 
   -- a step on this count is played
   plays : (st : Step) (p : Play) → in_range r.world st ≡ true →
@@ -176,7 +189,7 @@ module _ (l : Limits) (s : St) (r : Ruled l s) (id : ℕ) (me : Sat) (at : get_e
   by_word P = subst P index
 
 pub claims : (l : Limits) (slots id : ℕ) (me : Sat) (i k : ℕ) → k ≡ 16 + l.population + i →
-    i < l.population → 0 < bag me.0.view.hand i → 0 < me.0.view.part →
+    i < l.population → 0 < bag me.0.view.hand i → Sits me →
     Allows (Ruled l) slots id me k (λ n. n) (claim_tells (step slots k 0 0 none) me)
 claims l slots id me i k word inside hand busy s r _ at _ =
     let x : ℕ = slice_index s.words k in
@@ -191,7 +204,7 @@ claims l slots id me i k word inside hand busy s r _ at _ =
     (played_when (nat_lt 0 (bag v.hand i)) (claim w id v i) (lt-ltb 0 (bag v.hand i) hand))
     ∙ ap (λ (n : ℕ). Some (Value n, u)) (sym read) in
     let done = steps l s r id me at busy k x (Claim i) (Value x) u tt played
-    (count_kept l s r id me at busy i k word inside) refl r.desks.none refl in (
+    (count_kept l s r id me at busy i k word inside) refl refl refl refl in (
       (noted (Claim i) (Value x) me).0,
       keeps,
       tt,
@@ -204,7 +217,7 @@ claims l slots id me i k word inside hand busy s r _ at _ =
     )
 
 pub soles : (l : Limits) (slots id : ℕ) (me : Sat) (free : Bool) (i k : ℕ) →
-    k ≡ 16 + l.population + i → i < l.population → 0 < bag me.0.view.holds i → 0 < me.0.view.part →
+    k ≡ 16 + l.population + i → i < l.population → 0 < bag me.0.view.holds i → Sits me →
     Allows (Ruled l) slots id me k (λ n. n) (sole_tells free (step slots k 0 0 none) me)
 soles l slots id me free i k word inside held busy s r _ at _ =
     let x : ℕ = slice_index s.words k in
@@ -229,11 +242,12 @@ soles l slots id me free i k word inside held busy s r _ at _ =
     × sole_tells free (step slots k 0 0 none) me x (n, carried_after me.1 a) in
     let last : (u : World) → play w (suc id) (Sole i free) ≡ Some (Value x, u) →
     u.views ≡ set w.views id (view_after None (Sole i free) (Value x) v) →
-    words_of u ≡ words_of w → u.desks ≡ [] →
-    (view_after None (Sole i free) (Value x) v).part ≡ v.part → G =
-    λ u played views words desks part.
+    words_of u ≡ words_of w → u.desks ≡ w.desks →
+    (view_after None (Sole i free) (Value x) v).part ≡ v.part →
+    (view_after None (Sole i free) (Value x) v).work ≡ v.work → G =
+    λ u played views words desks part work.
     let done = steps l s r id me at busy k x (Sole i free) (Value x) u tt played (kept ∙ sym words)
-    views desks part in (
+    views desks part work in (
       (noted (Sole i free) (Value x) me).0,
       keeps,
       tt,
@@ -258,21 +272,21 @@ soles l slots id me free i k word inside held busy s r _ at _ =
     last (knows w id (freed v i))
     (asked ends (ap (λ (b : Bool). if b then ends else stays) (test ∙ yes))
     ∙ ap (λ (n : ℕ). Some (Value n, knows w id (freed v i))) (sym one))
-    (ap (λ (y : View). set w.views id y) same) refl r.desks.none
-    (ap (λ (y : View). y.part) (sym same)))
+    (ap (λ (y : View). set w.views id y) same) refl refl
+    (ap (λ (y : View). y.part) (sym same)) (ap (λ (y : View). y.work) (sym same)))
     (λ (no : (free && (x == 1)) ≡ false).
     let same : v ≡ (if free && (x == 1) then freed v i else v) =
     ap (λ (b : Bool). if b then freed v i else v) (sym no) in
     last w
     (asked stays (ap (λ (b : Bool). if b then ends else stays) (test ∙ no))
     ∙ ap (λ (n : ℕ). Some (Value n, w)) (sym read))
-    (views_kept l s r id me at busy ∙ ap (λ (y : View). set w.views id y) same) refl r.desks.none
-    (ap (λ (y : View). y.part) (sym same)))
+    (views_kept l s r id me at busy ∙ ap (λ (y : View). set w.views id y) same) refl refl
+    (ap (λ (y : View). y.part) (sym same)) (ap (λ (y : View). y.work) (sym same)))
     (cases_Bool (free && (x == 1)))
 
 pub raises : (l : Limits) (slots id : ℕ) (me : Sat) (i k old new : ℕ) → k ≡ 16 + l.population + i →
     i < l.population → 0 < bag me.0.view.holds i → old < l.ref_limit → new ≡ old + 1 →
-    0 < me.0.view.part →
+    Sits me →
     Allows (Ruled l) slots id me k (λ x. either (eqb x old) new x)
     (raise_tells (step slots k old new none) me)
 raises l slots id me i k old new word inside held limited next busy s r _ at _ =
@@ -315,7 +329,7 @@ raises l slots id me i k old new word inside held limited next busy s r _ at _ =
     let played : play w (suc id) (Raise i old) ≡ Some (Won, u) =
     asked won (ap (λ (b : Bool). if b then won else lost)
     (eq-eqb (slice_index w.counts i) old (sym read ∙ hit))) in
-    let done = steps l s r id me at busy k new (Raise i old) Won u tt played words refl r.desks.none refl in
+    let done = steps l s r id me at busy k new (Raise i old) Won u tt played words refl refl refl refl in
     subst G (sym (eq-eqb x old hit))
     ((noted (Raise i old) Won me).0, keeps, tt, done.0, (by Won done.1, known)))
     (λ miss.
@@ -324,12 +338,12 @@ raises l slots id me i k old new word inside held limited next busy s r _ at _ =
     (ne_eqb (slice_index w.counts i) old (λ same. miss (read ∙ same))))
     ∙ ap (λ (n : ℕ). Some (Lost n, w)) (sym read) in
     let done = steps l s r id me at busy k x (Raise i old) (Lost x) w tt played
-    (count_kept l s r id me at busy i k word inside) (views_kept l s r id me at busy) r.desks.none refl in
+    (count_kept l s r id me at busy i k word inside) (views_kept l s r id me at busy) refl refl refl in
     subst G (sym (ne_eqb x old miss))
     ((noted (Raise i old) (Lost x) me).0, keeps, tt, done.0, (by (Lost x) done.1, known)))
 
 pub lowers : (l : Limits) (slots id : ℕ) (me : Sat) (i k : ℕ) → k ≡ 16 + l.population + i →
-    i < l.population → 0 < bag me.0.view.holds i → 0 < me.0.view.part →
+    i < l.population → 0 < bag me.0.view.holds i → Sits me →
     Allows (Ruled l) slots id me k (λ n. (n + (2 ^ 64 - 1)) % 2 ^ 64)
     (lower_tells (step slots k 1 0 none) me)
 lowers l slots id me i k word inside held busy s r _ at small =
@@ -355,7 +369,7 @@ lowers l slots id me i k word inside held busy s r _ at small =
     ap (λ (n : ℕ). set (words_of w) k n) less
     ∙ count_set l s r id me at busy i k word inside (slice_index w.counts i - 1) in
     let done = steps l s r id me at busy k ((x + (18446744073709551616 - 1)) % 18446744073709551616)
-    (Lower i) (Value x) u tt played words views r.desks.none refl in (
+    (Lower i) (Value x) u tt played words views refl refl refl in (
       (noted (Lower i) (Value x) me).0,
       keeps,
       tt,
@@ -369,7 +383,7 @@ lowers l slots id me i k word inside held busy s r _ at small =
     )
 
 pub resets : (l : Limits) (slots id : ℕ) (me : Sat) (i k : ℕ) → k ≡ 16 + l.population + i →
-    i < l.population → 0 < bag me.0.view.zeros i → 0 < me.0.view.part →
+    i < l.population → 0 < bag me.0.view.zeros i → Sits me →
     Allows (Ruled l) slots id me k (λ _. 1) (λ _. reset_tells (step slots k 1 0 none) me 1)
 resets l slots id me i k word inside zero busy s r _ at _ =
     let w = r.world in
@@ -380,7 +394,7 @@ resets l slots id me i k word inside zero busy s r _ at _ =
     (in_pool l s r id me at busy i k word inside)
     (played_when (nat_lt 0 (bag v.zeros i)) (reset w id v i) (lt-ltb 0 (bag v.zeros i) zero)) in
     let done = steps l s r id me at busy k 1 (Reset i) Done u tt played
-    (count_set l s r id me at busy i k word inside 1) refl r.desks.none refl in (
+    (count_set l s r id me at busy i k word inside 1) refl refl refl refl in (
       (noted (Reset i) Done me).0,
       keeps,
       tt,

@@ -1,9 +1,12 @@
 -- What a ground leaves.
-use Rattle.std.specs.Prelude.{◌≡◌, ◌≢◌, ℕ, [], None}
+use Rattle.std.specs.Prelude.{◌≡◌, ◌≢◌, ◌==◌, ◌<◌, ℕ, List, [], Option, None, length, map, if◌then◌else◌}
 use mathlib.Core.Option.{some}
 use lib.ListN.{get_elem?}
 use Rattle.commons.specs.declared.closed.Closed.{Closed}
 use Rattle.commons.specs.declared.limits.Limits.{Limits}
+use Rattle.commons.specs.Calls.{desk_full}
+use Rattle.commons.specs.declared.packet.Seg.{Seg}
+use Rattle.step_core.specs.declared.view.Desk.{Desk}
 use Rattle.step_core.specs.declared.view.View.{View}
 use Rattle.step_core.specs.World.{World, view_at}
 use Rattle.step_core.specs.Law.{Lawful}
@@ -20,6 +23,19 @@ pub record Nothing (v : View) : Type 0 where
   pub chain : v.chain ≡ None
   pub work : v.work ≡ None
 
+-- the packet of a full desk: one in work is its worker's
+abbrev pub kept_on : ℕ → Option (List Seg) → Option (List Seg)
+kept_on word slot = if word == desk_full then slot else None
+
+-- each of these is the packet of a full desk, by a row of words and one of slots
+abbrev pub IsKept : List ℕ → List (Option (List Seg)) → List (Option (List Seg)) → Type 0
+IsKept words slots kept =
+    (k word : ℕ) (slot : Option (List Seg)) → k < length kept → get_elem? words k ≡ some word →
+    get_elem? slots k ≡ some slot → get_elem? kept k ≡ some (kept_on word slot)
+
+abbrev pub packet_on : Desk → Option (List Seg)
+packet_on x = kept_on x.word x.slot
+
 -- What is left is of a lawful world of these limits, in which this view is a worker's. Where it has every part, no
 -- other view names anything.
 pub record LeftOf (l : Limits) (v : View) (c : Closed) : Type 0 where
@@ -28,11 +44,11 @@ pub record LeftOf (l : Limits) (v : View) (c : Closed) : Type 0 where
   pub law : Lawful world
   pub headers : HeaderLaw world
   pub limits : world.limits ≡ l
-  pub no_desks : world.desks ≡ []
+  pub desk_count : length world.desks ≡ l.desks
   pub view : get_elem? world.views id ≡ some v
   pub alone : v.part ≡ l.workers → (k : ℕ) → k ≢ id → Nothing (view_at world.views k)
   pub top : c.top ≡ world.head.top
   pub length : c.length ≡ world.length
   pub links : c.links ≡ world.links
   pub counts : c.counts ≡ world.counts
-  pub desks : c.desks ≡ []
+  pub desks : c.desks ≡ map packet_on world.desks

@@ -1,11 +1,13 @@
 pub mod Layout
 pub mod Own
 pub mod Seats
+pub mod DeskSeats
 pub mod StackRule
 pub mod CountRule
 pub mod DeskRule
 pub mod Rule
 pub mod Tells
+pub mod DeskTells
 pub mod Opening
 pub mod Parting
 pub mod Closing

@@ -1,5 +1,5 @@
 -- What a ground is at the start, and why one isn't made.
-use Rattle.std.specs.Prelude.{◌≡◌, ◌<◌, ◌⊎◌, ℕ, List, [], ◌∷◌, replicate}
+use Rattle.std.specs.Prelude.{ℕ, List, [], ◌∷◌, replicate}
 use Rattle.commons.specs.Bounds.{IsPool}
 use Rattle.commons.specs.declared.limits.Limits.{Limits}
 use Rattle.commons.specs.declared.refusal.Refusal.{Refusal}
@@ -16,10 +16,10 @@ opening_alone l = record (opening l) { views = empty_view l.workers ∷ [] }
 abbrev pub opening_words : Limits → List ℕ
 opening_words l =
     words_with (pack (record { top = 1; count = l.start_count })) l.population
-    (links_up 0 l.population) (replicate l.population 1)
+    (links_up 0 l.population) (replicate l.population 1) (replicate l.desks 0)
 
--- why a ground isn't made: there is no such pool, or it has desks; or memory was refused
+-- why a ground isn't made: there is no such pool, or memory was refused
 abbrev pub IsGroundCause : Limits → Refusal → Type 0
-IsGroundCause l BadPool = (¬ (IsPool l)) ⊎ (0 < l.desks)
-IsGroundCause l OutOfMemory = IsPool l × (l.desks ≡ 0)
+IsGroundCause l BadPool = ¬ (IsPool l)
+IsGroundCause l OutOfMemory = IsPool l
 IsGroundCause l _ = ⊥

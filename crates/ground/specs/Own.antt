@@ -1,9 +1,13 @@
 -- What is true of a worker's view by itself, so that no step of another worker can end it.
-use Rattle.std.specs.Prelude.{◌≡◌, ℕ, ◌+◌, ◌<◌, ◌≤◌, [], None, IfSome}
+use Rattle.std.specs.Prelude.{◌≡◌, ℕ, ◌+◌, ◌<◌, ◌≤◌, List, [], ◌∷◌, Option, Some, None, IfSome, ⊤}
 use Rattle.commons.specs.Bag.{bag}
 use Rattle.commons.specs.Bounds.{IsPool}
 use Rattle.commons.specs.declared.limits.Limits.{Limits}
+use Rattle.commons.specs.declared.packet.Seg.{Seg}
+use Rattle.step_core.specs.declared.view.Phase.{Phase}
+use Rattle.step_core.specs.declared.view.Phase.TheVariants.{ToFill, Filled, Seized, TakenOut}
 use Rattle.step_core.specs.declared.view.View.{View}
+use Rattle.step_core.specs.declared.view.Work.{Work}
 use Rattle.step_core.specs.Links.{first_value}
 
 pub record Owned (l : Limits) (v : View) : Type 0 where
@@ -22,6 +26,20 @@ pub record Owned (l : Limits) (v : View) : Type 0 where
   pub look : IfSome v.look (λ k. (k.next ≤ l.population) × (k.head.top ≤ l.population))
   pub chain :
       IfSome v.chain (λ c. (c.end ≤ l.population) × (first_value c.items ≤ l.population))
+
+-- What a word step leaves of a work, and what its slot may hold since: it is to be filled, with whatever, or was seized
+-- with a packet, and has that one or none.
+abbrev pub IsSince : Phase → Option (List Seg) → Type 0
+IsSince ToFill slot = ⊤
+IsSince (Filled p) slot = ⊥
+IsSince (Seized p) slot = IfSome slot (λ q. q ≡ p)
+IsSince TakenOut slot = ⊥
+
+-- the slot of a desk in work is out with the seat that has the work, and no other is
+abbrev pub AtDesk : Option Work → List (ℕ × Option (List Seg)) → Type 0
+AtDesk None slots = slots ≡ []
+AtDesk (Some x) slots =
+    (slot : Option (List Seg)) × (slots ≡ (x.desk, slot) ∷ []) × IsSince x.phase slot
 
 -- between calls: nothing is reserved, nothing chained, no element has count 0, and no desk is in work
 pub record AtRest (v : View) : Type 0 where

@@ -1,11 +1,13 @@
 -- The rule of a pool's table: words and views are a lawful world of the machine.
-use Rattle.std.specs.Prelude.{◌≡◌, ℕ, ◌<◌, List, [], map, Option}
-use mathlib.Core.Option.{some}
+use Rattle.std.specs.Prelude.{◌≡◌, ℕ, ◌<◌, ◌==◌, List, [], map, Option, if◌then◌else◌}
+use mathlib.Core.Option as maybe
+use mathlib.Core.Option.{some, none}
 use lib.ListN.{get_elem?}
 use Rattle.atomic_table.specs.Table.{State, Me}
 use Rattle.commons.specs.Bounds.{IsPool}
 use Rattle.commons.specs.declared.limits.Limits.{Limits}
 use Rattle.commons.specs.declared.packet.Seg.{Seg}
+use Rattle.step_core.specs.declared.view.Desk.{Desk}
 use Rattle.step_core.specs.declared.view.View.{View}
 use Rattle.step_core.specs.World.{World, empty_view}
 use Rattle.ground.specs.declared.known.Known.{Known}
@@ -24,9 +26,17 @@ Sat = Me Slot Known
 abbrev pub view_in : Known → View
 view_in n = n.view
 
+-- A desk's slot as the table has it: at home, but where a worker fills or empties the desk, and has the slot.
+abbrev pub home_by : ℕ → Slot → maybe.Option Slot
+home_by word slot = if word == 1 then none else if word == 3 then none else some slot
+
+abbrev pub home_of : Desk → maybe.Option Slot
+home_of x = home_by x.word x.slot
+
 pub record Ruled (l : Limits) (s : State Slot Known) : Type 0 where
   pub world : World
   pub words_are : s.words ≡ words_of world
+  pub homes_are : s.homes ≡ map home_of world.desks
   pub views_are : map view_in s.views ≡ world.views
   pub limits : world.limits ≡ l
   pub pool : IsPool l

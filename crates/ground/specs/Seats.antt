@@ -6,7 +6,10 @@ use Rattle.commons.specs.declared.limits.Limits.{Limits}
 use Rattle.commons.specs.declared.packet.Seg.{Seg}
 use Rattle.step_core.specs.declared.view.Head.{Head}
 use Rattle.step_core.specs.declared.view.Look.{Look}
+use Rattle.step_core.specs.declared.view.Phase.{Phase}
+use Rattle.step_core.specs.declared.view.Phase.TheVariants.{ToFill, Filled, Seized, TakenOut}
 use Rattle.step_core.specs.declared.view.View.{View}
+use Rattle.step_core.specs.declared.view.Work.{Work}
 use Rattle.step_core.specs.declared.step.Step.{Step}
 use Rattle.step_core.specs.declared.step.Outcome.{Outcome}
 use Rattle.step_core.specs.declared.step.Outcome.TheVariants.{Won, Got, Lost, LostTo}
@@ -28,6 +31,25 @@ pub record Grounded : Type 0 where
 pub record IsOf (g : Grounded) (s : Seated) : Type 0 where
   pub table : s.table ≡ g.table
   pub limits : s.known.limits ≡ g.limits
+
+-- how far a worker is, by what it knew at its last step on a word and by what is in the slot since
+abbrev pub phase_by : Phase → Option (List Seg) → Phase
+phase_by ToFill None = ToFill
+phase_by ToFill (Some p) = Filled p
+phase_by (Filled p) slot = Filled p
+phase_by (Seized p) None = TakenOut
+phase_by (Seized p) (Some q) = Seized q
+phase_by TakenOut slot = TakenOut
+
+abbrev pub work_by : Option Work → List (ℕ × Option (List Seg)) → Option Work
+work_by None slots = None
+work_by (Some x) [] = Some x
+work_by (Some x) (slot ∷ slots) = Some (record { desk = x.desk; phase = phase_by x.phase slot.1 })
+
+-- The view of a seat, read off what it knows and its slots together: what it knows changes at steps on words alone, and
+-- a packet goes into a slot and out of it between them.
+abbrev pub sight : Seated → View
+sight s = record s.known.view { work = work_by s.known.view.work s.slots }
 
 -- a step with its outcome
 abbrev pub Note : Type 0
@@ -74,16 +96,21 @@ abbrev pub held_below : ℕ → List ℕ → ℕ
 held_below zero xs = 0
 held_below (suc n) xs = held_below n xs + min 1 (bag xs n)
 
--- A seat of every part knows the length word: it is the population without the hand, the held elements and the credit.
+-- A seat of every part knows the length word: it is the population without the hand, the credit, and the elements that
+-- are held, by it or by the packets on full desks. In a pool without desks there are no such packets.
 abbrev pub KnowsLength : Limits → View → ℕ → Type 0
 KnowsLength l v found =
     v.part ≡ l.workers →
-    found + v.credit + length v.hand + length v.zeros + held_below l.population v.holds ≡ l.population
+    (shelved : List ℕ) × (l.desks ≡ 0 → shelved ≡ [])
+    × (found + v.credit + length v.hand + length v.zeros + held_below l.population (v.holds ++ shelved)
+    ≡ l.population)
 
 -- and that a walk to the end of the list has passed all that is reserved
 abbrev pub KnowsEnd : Limits → View → Type 0
 KnowsEnd l v = v.part ≡ l.workers → IfSome v.look (λ k. k.next ≡ 0 → v.credit ≤ length k.front)
 
--- and the count of each element that it holds, which is how often it does
+-- and the count of each element that it holds, which is how often it and the packets on full desks do
 abbrev pub KnowsCount : Limits → View → ℕ → ℕ → Type 0
-KnowsCount l v i count = v.part ≡ l.workers → count ≡ bag v.holds i
+KnowsCount l v i count =
+    v.part ≡ l.workers →
+    (shelved : List ℕ) × (l.desks ≡ 0 → shelved ≡ []) × (count ≡ bag (v.holds ++ shelved) i)

@@ -9,7 +9,7 @@ use Rattle.step_core.specs.declared.step.Outcome.TheVariants.{Value, HeadIs, Won
 use Rattle.step_core.specs.Sights.{view_after}
 use Rattle.ground.specs.declared.known.Known.{Known}
 use Rattle.ground.specs.Layout.{unpack}
-use Rattle.ground.specs.Own.{Owned}
+use Rattle.ground.specs.Own.{Owned, AtDesk}
 use Rattle.ground.specs.Rule.{Slot, Sat}
 use Rattle.ground.specs.Seats.{KnowsLength, KnowsEnd, KnowsCount, front_of, count_of, element_of}
 
@@ -24,9 +24,11 @@ noted st o m = (
   m.1,
 )
 
--- a step tells what it made of the seat, and what is true of the new view by itself
+-- a step tells what it made of the seat, what is true of the new view by itself, and where the slots are
 abbrev pub Tells : Step → Outcome → Sat → Sat → Type 0
-Tells st o m m' = (m' ≡ noted st o m) × Owned m.0.limits (view_after None st o m.0.view)
+Tells st o m m' =
+    (m' ≡ noted st o m) × Owned m.0.limits (view_after None st o m.0.view)
+    × AtDesk (view_after None st o m.0.view).work m.1
 
 -- the outcome of an exchange by whether it found what it expected
 abbrev pub exchanged : Bool → ℕ → Outcome

@@ -3,6 +3,7 @@
 #![tactic(auto)]
 
 mod counts;
+mod desks;
 mod head;
 pub mod known;
 mod life;

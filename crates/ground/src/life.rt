@@ -13,7 +13,7 @@ use crate::head::head_of;
 use crate::known::Known;
 use crate::plays::{Looks, Parts};
 use crate::pool::Ground;
-use crate::rows::{empty, opening_words, read_row};
+use crate::rows::{opening_words, read_desks, read_row};
 use crate::rule::PoolRule;
 use crate::seat::GroundSeat;
 use crate::stack::{HEAD, LENGTH, LINKS};
@@ -27,26 +27,27 @@ use std::alloc::Global;
 
 impl Ground {
     /// Makes the words of a pool, and the one seat, which has every part. All elements are in the common list, element
-    /// 0 on top, and the seat names none of them.
+    /// 0 on top, each desk is empty, and the seat names none of them.
     ///
-    /// Refused `BadPool` where the limits are out of range or there are desks, of which a ground has none as yet, and
-    /// `OutOfMemory` where memory was refused.
+    /// Refused `BadPool` where the limits are out of range, and `OutOfMemory` where memory was refused.
     pub fn make(alloc: Global, limits: &Limits) -> Result<(Ground, GroundSeat), Refusal>
         ensures limits { IfOk result (λ made. made.0.limits ≡ limits.now) }
         ensures of { IfOk result (λ made. IsOf made.0 made.1) }
         ensures known { IfOk result (λ made. made.1.known ≡ first_known limits.now) }
         ensures slots { IfOk result (λ made. made.1.slots ≡ []) }
-        ensures pool { IfOk result (λ _. IsPool limits.now × (limits.now.desks ≡ 0)) }
+        ensures pool { IfOk result (λ _. IsPool limits.now) }
         ensures cause { IfErr result (IsGroundCause limits.now) }
     {
         limits.check()?;
-        if limits.desks > 0 {
-            return Err(Refusal::BadPool);
-        }
         let Ok(words) = opening_words(alloc, limits) else {
             return Err(Refusal::OutOfMemory);
         };
-        let Ok((table, seat)) = Table::of_words(alloc, words.as_slice(), limits) else {
+        let Ok((table, seat)) = Table::vacant(
+            alloc,
+            words.as_slice(),
+            limits.desks as usize,
+            limits,
+        ) else {
             return Err(Refusal::OutOfMemory);
         };
         let ground = Ground {
@@ -89,8 +90,9 @@ impl Ground {
     }
 
     /// Ends the pool, and leaves its words as plain data: the top and the length of the common list, and each element's
-    /// link and count. They are those of a lawful world in which this seat's view is a worker's. Where the seat has
-    /// every part, all that isn't in the common list is what this seat names.
+    /// link and count, and the packets of the full desks. They are those of a lawful world in which this seat's view is
+    /// a worker's. Where the seat has every part, all that is neither in the common list nor on a full desk is what
+    /// this seat names.
     ///
     /// Refused `OutOfMemory` where memory was refused. Ground and seat come back then, as they were.
     pub fn close(self, seat: GroundSeat) -> Result<Closed, (Refusal, Ground, GroundSeat)>
@@ -106,10 +108,13 @@ impl Ground {
         let Ok(mut counts) = Vec::with_capacity(self.alloc, population) else {
             return Err((Refusal::OutOfMemory, self, seat));
         };
+        let Ok(mut desks) = Vec::with_capacity(self.alloc, self.limits.desks as usize) else {
+            return Err((Refusal::OutOfMemory, self, seat));
+        };
         let Ground {
             table,
             limits: _,
-            alloc,
+            alloc: _,
         } = self;
         let GroundSeat { seat } = seat;
         let mut left = table.close_with(seat);
@@ -117,14 +122,14 @@ impl Ground {
         let length = left.word(LENGTH);
         read_row(&left, LINKS, population, &mut links);
         read_row(&left, LINKS + population, population, &mut counts);
-        empty(&mut left);
+        read_desks(&mut left, LINKS + 2 * population, &mut desks);
         left.free();
         Ok(Closed {
             top: head.top,
             length,
             links: Seq::new(links),
             counts: Seq::new(counts),
-            desks: Seq::new(Vec::new(alloc)),
+            desks: Seq::new(desks),
         })
     }
 }

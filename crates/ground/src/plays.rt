@@ -143,3 +143,35 @@ impl Play<Option<Packet>, Known> for Resets {
 
     ghost then = { reset_tells };
 }
+
+pub(crate) struct HoldsDesk;
+
+impl Play<Option<Packet>, Known> for HoldsDesk {
+    ghost use Rattle.ground.specs.DeskTells.{hold_tells};
+
+    ghost then = { hold_tells };
+}
+
+pub(crate) struct OpensDesk;
+
+impl Play<Option<Packet>, Known> for OpensDesk {
+    ghost use Rattle.ground.specs.DeskTells.{open_tells};
+
+    ghost then = { open_tells };
+}
+
+pub(crate) struct SeizesDesk;
+
+impl Play<Option<Packet>, Known> for SeizesDesk {
+    ghost use Rattle.ground.specs.DeskTells.{seize_tells};
+
+    ghost then = { seize_tells };
+}
+
+pub(crate) struct ClearsDesk;
+
+impl Play<Option<Packet>, Known> for ClearsDesk {
+    ghost use Rattle.ground.specs.DeskTells.{clear_tells};
+
+    ghost then = { clear_tells };
+}

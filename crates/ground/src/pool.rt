@@ -26,7 +26,7 @@ impl Model for Ground {
 
     ghost view = { λ g. record { table = g.table.shared.table_id; limits = g.limits } };
 
-    ghost invariant = { λ g. (g.table.shared.table_id.words ≡ word_count g.limits.population) × IsPool g.limits × (g.table.shared.key ≡ g.limits) × (g.limits.desks ≡ 0) };
+    ghost invariant = { λ g. (g.table.shared.table_id.words ≡ word_count g.limits.population g.limits.desks) × IsPool g.limits × (g.table.shared.key ≡ g.limits) × (g.table.shared.table_id.slots ≡ g.limits.desks) };
 }
 
 impl Ground {
@@ -37,7 +37,6 @@ impl Ground {
     pub fn limits(&self) -> Limits
         ensures limits { result ≡ self.now.limits }
         ensures pool { IsPool self.now.limits }
-        ensures bare { self.now.limits.desks ≡ 0 }
     {
         self.limits
     }

@@ -1,10 +1,11 @@
 //! The words of a ground as a row of numbers.
 
-ghost use Rattle.std.specs.Prelude.{◌≡◌, ℕ, ◌+◌, ◌<◌, ◌≤◌, ◌++◌, IfOk, replicate, [], take, drop, false, slice_index, slice_index_or};
+ghost use Rattle.std.specs.Prelude.{◌≡◌, ℕ, ◌+◌, ◌<◌, ◌≤◌, ◌++◌, IfOk, replicate, [], take, drop, false, slice_index, slice_index_or, length};
 ghost use Rattle.std.specs.Slots.{IsFull, slots_items, slots_len, slots_filled};
 ghost use Rattle.std.specs.Vec.{vec_len, vec_capacity};
 ghost use Rattle.commons.specs.Bounds.{IsPool};
 ghost use Rattle.step_core.specs.Opening.{links_up};
+ghost use Rattle.ground.specs.Closing.{IsKept, kept_on};
 ghost use Rattle.ground.specs.Opening.{opening_words};
 
 use crate::head::word_of;
@@ -15,12 +16,15 @@ use std::alloc::{AllocError, Global};
 use step_core::view::Head;
 
 /// The words at the start: the head and the length on a line each, then a link for each element, to the next, and a
-/// count of 1.
+/// count of 1, and a word of 0 for each desk.
 pub(crate) fn opening_words(alloc: Global, limits: &Limits) -> Result<Vec<u64>, AllocError>
     requires { IsPool limits.now }
     ensures { IfOk result (λ v. v.items ≡ opening_words limits.now) }
 {
-    let mut words = Vec::with_capacity(alloc, 16 + 2 * limits.population as usize)?;
+    let mut words = Vec::with_capacity(
+        alloc,
+        16 + 2 * limits.population as usize + limits.desks as usize,
+    )?;
     words.push(word_of(Head {
         top: 1,
         count: limits.start_count,
@@ -30,6 +34,7 @@ pub(crate) fn opening_words(alloc: Global, limits: &Limits) -> Result<Vec<u64>, 
     push_many(&mut words, 0, 7)?;
     push_links(&mut words, limits.population)?;
     push_many(&mut words, 1, limits.population)?;
+    push_many(&mut words, 0, limits.desks)?;
     Ok(words)
 }
 
@@ -83,14 +88,33 @@ pub(crate) fn read_row(
     }
 }
 
-/// Takes out what is in the slots.
-pub(crate) fn empty(left: &mut Left<Option<Packet>, Global>)
-    requires { IsFull left.old.slots }
-    ensures words { left.new.words ≡ left.old.words }
+/// What is left of a desk with this word and this slot.
+fn kept_on(word: u64, slot: Option<Packet>) -> Option<Packet>
+    ensures { result ≡ kept_on word slot }
+{
+    if word == 2 { slot } else { None }
+}
+
+/// Takes out what is in the slots, and lists it where the desk's word is 2: what is in another's slot is in a worker's
+/// work, or nothing.
+pub(crate) fn read_desks(
+    left: &mut Left<Option<Packet>, Global>,
+    from: usize,
+    out: &mut Vec<Option<Packet>>,
+)
+    requires words { IsFull left.old.words }
+    requires slots { IsFull left.old.slots }
+    requires within { from + slots_len left.old.slots ≤ slots_len left.old.words }
+    requires nothing { (out.old.items ≡ []) × (vec_len out.old ≡ 0) }
+    requires room { slots_len left.old.slots ≤ vec_capacity out.old }
+    ensures count { length out.new.items ≡ slots_len left.old.slots }
+    ensures desks { IsKept (drop from (slots_items left.old.words)) (slots_items left.old.slots) out.new.items }
     ensures slots { slots_len left.new.slots ≡ slots_len left.old.slots }
     ensures empty { (k : ℕ) → k < slots_len left.new.slots → slice_index_or (slots_filled left.new.slots) k false ≡ false }
 {
     for i in 0..left.slot_count() {
-        drop(left.take(i));
+        let slot = left.take(i);
+        let word = left.word(from + i);
+        out.push_reserved(kept_on(word, slot));
     }
 }

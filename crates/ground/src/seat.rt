@@ -13,21 +13,28 @@ pub struct GroundSeat {
 
 impl Model for GroundSeat {
     ghost use Rattle.ground.specs.Seats.{Seated};
-    ghost use Rattle.ground.specs.Own.{Owned};
+    ghost use Rattle.ground.specs.Own.{Owned, AtDesk};
 
     ghost Value = { Seated };
 
     ghost view = { λ s. record { table = s.seat.table_id; id = s.seat.id; known = s.seat.me.0; slots = s.seat.me.1 } };
 
-    ghost invariant = { λ s. Owned s.seat.me.0.limits s.seat.me.0.view };
+    ghost invariant = { λ s. Owned s.seat.me.0.limits s.seat.me.0.view × AtDesk s.seat.me.0.view.work s.seat.me.1 };
 }
 
 impl GroundSeat {
-    ghost use Rattle.ground.specs.Own.{Owned};
+    ghost use Rattle.ground.specs.Own.{Owned, AtDesk};
 
     /// What the type of a seat keeps, for contracts alone: what is true of its view by itself.
     pub fn owned(&self)
         ensures { Owned self.now.known.limits self.now.known.view }
+    {
+        let _ = &self.seat;
+    }
+
+    /// The slot of the desk that the seat has in work is out with it, and no other is.
+    pub fn at_desk(&self)
+        ensures { AtDesk self.now.known.view.work self.now.slots }
     {
         let _ = &self.seat;
     }

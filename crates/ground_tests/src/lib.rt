@@ -2,6 +2,8 @@
 #![tactic(auto)]
 
 pub mod arms;
+pub mod counts;
+pub mod desks;
 pub mod pair;
 pub mod player;
 #[cfg(test)]

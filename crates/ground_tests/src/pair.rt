@@ -54,6 +54,14 @@ impl Pair {
         }
     }
 
+    /// Whether the view of worker 1 or 2 is what its seat knows.
+    pub fn sees_all(&self, worker: u32) -> bool {
+        match worker {
+            1 => self.first.sees_all(),
+            _ => self.second.sees_all(),
+        }
+    }
+
     /// Whether both players are between calls.
     pub fn is_at_rest(&self) -> bool {
         self.first.is_at_rest() && self.second.is_at_rest()

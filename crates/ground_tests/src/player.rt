@@ -6,11 +6,13 @@ ghost use Rattle.step_core.specs.World.{empty_view};
 ghost use Rattle.ground.specs.Parting.{both_views};
 ghost use Rattle.ground.specs.Own.{AtRest};
 ghost use Rattle.ground.specs.Seats.{IsOf};
-ghost use Rattle.ground_tests.specs.Playing.{IsInPool, Plays, Moves};
+ghost use Rattle.ground_tests.specs.Playing.{IsInPool, Plays, Mirrors, IsOfSeat};
 
-use crate::arms;
+use crate::desks::Sees;
+use crate::{arms, counts, desks};
 use commons::closed::Closed;
 use commons::limits::Limits;
+use commons::packet::Packet;
 use commons::refusal::Refusal;
 use ground::pool::Ground;
 use ground::seat::GroundSeat;
@@ -19,14 +21,16 @@ use step_core::elems::Elems;
 use step_core::step::{Outcome, Step};
 use step_core::view::View;
 
-/// A seat with its view at run time, which is what the seat knows. It can't be dropped.
+/// A seat with its view at run time, which is what the seat knows, and a copy of the packet in its slot. While it has
+/// seized a desk, the view is that before the seizure. It can't be dropped.
 pub struct Player {
     pub(crate) seat: GroundSeat,
     pub(crate) view: View,
+    pub(crate) slot: Option<Packet>,
+    pub(crate) sees: Sees,
     pub(crate) alloc: Global,
-    pub ghost same: { view ≡ seat.known.view },
+    pub ghost seen: { IsOfSeat sees view slot seat } by { Prim.hlevel props },
     pub ghost in_pool: { IsInPool view } by { Prim.hlevel props },
-    pub ghost slots: { seat.slots ≡ [] },
 }
 
 /// A view that names nothing.
@@ -47,8 +51,9 @@ fn empty_view(alloc: Global, part: u64) -> View
     }
 }
 
-/// Plays a step of the stack where the view says that its condition holds. Every other is refused.
-fn play(
+/// Plays a step on a word of the stack or of the counts where the view says that its condition holds. Every other is
+/// refused.
+fn play_word(
     ground: &Ground,
     seat: &mut GroundSeat,
     view: &mut View,
@@ -59,7 +64,10 @@ fn play(
     requires same { view.old ≡ seat.old.known.view }
     requires in_pool { IsInPool view.old }
     ensures plays { Plays step.now result seat.old seat.new }
-    ensures moves { Moves step.now result view.old view.new }
+    ensures same { view.new ≡ seat.new.known.view }
+    ensures work { view.new.work ≡ view.old.work }
+    ensures slots { seat.new.slots ≡ seat.old.slots }
+    ensures in_pool { IsInPool view.new }
 {
     match step {
         Step::LoadLength => arms::load_length(ground, seat, view),
@@ -72,17 +80,77 @@ fn play(
             ground, seat, view, alloc, *element, *next,
         ),
         Step::Push => arms::push(ground, seat, view),
-        Step::Claim { .. }
-        | Step::Sole { .. }
-        | Step::Raise { .. }
-        | Step::Lower { .. }
-        | Step::Reset { .. } => Err(Refusal::StepRefused),
+        Step::Claim { element } => counts::claim(ground, seat, view, *element),
+        Step::Sole { element, free } => counts::sole(ground, seat, view, *element, *free),
+        Step::Raise { element, old } => counts::raise(ground, seat, view, *element, *old),
+        Step::Lower { element } => counts::lower(ground, seat, view, *element),
+        Step::Reset { element } => counts::reset(ground, seat, view, *element),
         Step::Hold { .. }
         | Step::PutIn { .. }
         | Step::Open { .. }
         | Step::Seize { .. }
         | Step::TakeOut { .. }
         | Step::Clear { .. } => Err(Refusal::StepRefused),
+    }
+}
+
+/// Plays a step where the player sees all.
+fn play_seen(
+    ground: &Ground,
+    seat: &mut GroundSeat,
+    view: &mut View,
+    slot: &mut Option<Packet>,
+    sees: &mut Sees,
+    alloc: Global,
+    step: &Step,
+) -> Result<Outcome, Refusal>
+    requires of { IsOf ground.now seat.old }
+    requires same { Mirrors view.old slot.old seat.old }
+    requires all { sees.old ≡ Sees.All }
+    requires in_pool { IsInPool view.old }
+    ensures plays { Plays step.now result seat.old seat.new }
+    ensures seen { IsOfSeat sees.new view.new slot.new seat.new }
+    ensures in_pool { IsInPool view.new }
+{
+    match step {
+        Step::Hold { desk } => desks::hold(ground, seat, view, slot, *desk),
+        Step::PutIn { desk, packet } => desks::put_in(ground, seat, view, slot, *desk, packet),
+        Step::Open { desk } => desks::open(ground, seat, view, slot, *desk),
+        Step::Seize { desk } => desks::seize(ground, seat, view, slot, sees, *desk),
+        Step::Clear { desk } => desks::clear(ground, seat, view, slot, *desk),
+        _ => play_word(ground, seat, view, alloc, step),
+    }
+}
+
+/// Plays a step, by what the player sees: once it has seized a desk, it takes the packet out.
+fn play(
+    ground: &Ground,
+    seat: &mut GroundSeat,
+    view: &mut View,
+    slot: &mut Option<Packet>,
+    sees: &mut Sees,
+    alloc: Global,
+    step: &Step,
+) -> Result<Outcome, Refusal>
+    requires of { IsOf ground.now seat.old }
+    requires seen { IsOfSeat sees.old view.old slot.old seat.old }
+    requires in_pool { IsInPool view.old }
+    ensures plays { Plays step.now result seat.old seat.new }
+    ensures seen { IsOfSeat sees.new view.new slot.new seat.new }
+    ensures in_pool { IsInPool view.new }
+{
+    match desks::see(view, slot, sees)? {
+        None => play_seen(ground, seat, view, slot, sees, alloc, step),
+        Some(seized) => match step {
+            Step::TakeOut { desk } => {
+                if *desk == seized {
+                    desks::take_out(ground, seat, view, slot, sees, *desk)
+                } else {
+                    Err(Refusal::StepRefused)
+                }
+            }
+            _ => Err(Refusal::StepRefused),
+        },
     }
 }
 
@@ -93,6 +161,7 @@ fn part_of(ground: &Ground, seat: &mut GroundSeat, view: &mut View) -> GroundSea
     requires part { 2 ≤ view.old.part }
     ensures same { view.new ≡ seat.new.known.view }
     ensures chain { view.new.chain ≡ view.old.chain }
+    ensures work { view.new.work ≡ view.old.work }
     ensures slots { seat.new.slots ≡ seat.old.slots }
     ensures of { IsOf ground.now seat.new }
     ensures other { result.known.view ≡ empty_view 1 }
@@ -103,11 +172,23 @@ fn part_of(ground: &Ground, seat: &mut GroundSeat, view: &mut View) -> GroundSea
     ground.split(seat)
 }
 
-/// Whether a player with this view is between calls.
-fn is_between_calls(view: &View) -> bool
-    ensures { IsTrue result → AtRest view.now }
+/// Whether a player sees all of its seat.
+fn sees_all(sees: &Sees) -> bool
+    ensures { IsTrue result → sees.now ≡ Sees.All }
 {
-    view.zeros.is_empty() && view.credit == 0 && view.chain.is_none() && view.work.is_none()
+    match sees {
+        Sees::All => true,
+        Sees::Seizure(_) => false,
+        Sees::Out(..) => false,
+    }
+}
+
+/// Whether a player with this view is between calls.
+fn is_between_calls(view: &View, sees: &Sees) -> bool
+    ensures rest { IsTrue result → AtRest view.now }
+    ensures all { IsTrue result → sees.now ≡ Sees.All }
+{
+    sees_all(sees) && view.zeros.is_empty() && view.credit == 0 && view.chain.is_none() && view.work.is_none()
 }
 
 /// Makes the first view that of both, or changes nothing where memory is refused or the parts would pass 64 bits.
@@ -141,17 +222,23 @@ fn add_view(view: &mut View, other: &View) -> Result<(), AllocError>
 }
 
 /// Joins another player's seat to this one, where both are between calls, or gives the other back.
-fn merge(ground: &Ground, seat: &mut GroundSeat, view: &mut View, other: Player) -> Option<Player>
+fn merge(
+    ground: &Ground,
+    seat: &mut GroundSeat,
+    view: &mut View,
+    slot: &Option<Packet>,
+    sees: &Sees,
+    other: Player,
+) -> Option<Player>
     requires of { IsOf ground.now seat.old }
     requires other_of { IsOf ground.now other.seat }
-    requires same { view.old ≡ seat.old.known.view }
+    requires seen { IsOfSeat sees.now view.old slot.now seat.old }
     requires in_pool { IsInPool view.old }
-    ensures same { view.new ≡ seat.new.known.view }
+    ensures seen { IsOfSeat sees.now view.new slot.now seat.new }
     ensures in_pool { IsInPool view.new }
-    ensures slots { seat.new.slots ≡ seat.old.slots }
     ensures of { IsOf ground.now seat.new }
 {
-    if !is_between_calls(view) || !is_between_calls(&other.view) {
+    if !is_between_calls(view, sees) || !is_between_calls(&other.view, &other.sees) {
         return Some(other);
     }
     if add_view(view, &other.view).is_err() {
@@ -160,6 +247,8 @@ fn merge(ground: &Ground, seat: &mut GroundSeat, view: &mut View, other: Player)
     let Player {
         seat: spent,
         view: _,
+        slot: _,
+        sees: _,
         alloc: _,
     } = other;
     ground.join(seat, spent);
@@ -175,18 +264,21 @@ impl Player {
         let player = Player {
             seat,
             view: empty_view(alloc, limits.workers),
+            slot: None,
+            sees: Sees::All,
             alloc,
         };
         Ok((ground, player))
     }
 
-    /// Makes the player of one more seat, of one part of this one's, or none where this one has but one.
+    /// Makes the player of one more seat, of one part of this one's, or none where this one has but one, or has seized a
+    /// desk.
     pub fn split(&mut self, ground: &Ground) -> Option<Player>
         requires of { IsOf ground.now self.old.seat }
         ensures of { IsOf ground.now self.new.seat }
         ensures other { IfSome result (λ player. IsOf ground.now player.seat) }
     {
-        if self.view.part < 2 {
+        if self.view.part < 2 || !sees_all(&self.sees) {
             return None;
         }
         let alloc = self.alloc;
@@ -194,31 +286,49 @@ impl Player {
         Some(Player {
             seat,
             view: empty_view(alloc, 1),
+            slot: None,
+            sees: Sees::All,
             alloc,
         })
     }
 
-    /// Plays one of the eight steps of the stack. Refused `StepRefused` exactly where the view says that its condition
-    /// fails, and for all other steps; and `OutOfMemory` where the player's own view couldn't grow. The ground isn't
-    /// touched then.
+    /// Plays a step. Refused `StepRefused` exactly where the view says that its condition fails, but for a desk: a packet
+    /// that is put in has one segment, whose own element is a header of the player's where the desk is opened, and
+    /// between a seizure and the step that takes the packet out every other is refused. Refused `OutOfMemory` where the
+    /// player's own view couldn't grow. The ground isn't touched then.
     pub fn step(&mut self, ground: &Ground, step: &Step) -> Result<Outcome, Refusal>
         requires { IsOf ground.now self.old.seat }
         ensures { Plays step.now result self.old.seat self.new.seat }
     {
         let alloc = self.alloc;
-        play(ground, &mut self.seat, &mut self.view, alloc, step)
+        play(
+            ground,
+            &mut self.seat,
+            &mut self.view,
+            &mut self.slot,
+            &mut self.sees,
+            alloc,
+            step,
+        )
     }
 
-    /// The view, which is what the seat knows.
+    /// The view, which is what the seat knows, or knew before it seized a desk.
     pub fn view(&self) -> &View
-        ensures { result.now ≡ self.now.seat.known.view }
+        ensures { result.now ≡ self.now.view }
     {
         &self.view
     }
 
-    /// Whether the player is between calls: nothing is reserved and nothing chained.
+    /// Whether the view is what the seat knows: the player hasn't seized a desk since.
+    pub fn sees_all(&self) -> bool
+        ensures { IsTrue result → self.now.sees ≡ Sees.All }
+    {
+        sees_all(&self.sees)
+    }
+
+    /// Whether the player is between calls: nothing is reserved, nothing chained, and no desk in work.
     pub fn is_at_rest(&self) -> bool {
-        is_between_calls(&self.view)
+        is_between_calls(&self.view, &self.sees)
     }
 
     /// Takes over what another player has, or gives the other back: where one of both is not between calls, or memory
@@ -228,7 +338,14 @@ impl Player {
         requires other_of { IsOf ground.now other.seat }
         ensures { IsOf ground.now self.new.seat }
     {
-        merge(ground, &mut self.seat, &mut self.view, other)
+        merge(
+            ground,
+            &mut self.seat,
+            &mut self.view,
+            &self.slot,
+            &self.sees,
+            other,
+        )
     }
 
     /// Ends the ground, whatever this player has.
@@ -238,6 +355,8 @@ impl Player {
         let Player {
             seat,
             view: _,
+            slot: _,
+            sees: _,
             alloc: _,
         } = self;
         match pool.close(seat) {
@@ -254,6 +373,8 @@ impl Player {
         let Player {
             seat,
             view: _,
+            slot: _,
+            sees: _,
             alloc: _,
         } = self;
         seat.lose();

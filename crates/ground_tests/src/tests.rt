@@ -3,6 +3,7 @@
 use crate::pair::Pair;
 use commons::closed::Closed;
 use commons::limits::Limits;
+use commons::packet::{Packet, Seg};
 use std::process::Abort;
 use std::test::Fail;
 use step_core::world::World;
@@ -32,27 +33,47 @@ fn step_both(
     answer.is_ok()
 }
 
-/// Whether the views of both players are those of both workers, as far as they name elements.
+/// Whether the views of both players are those of both workers, as far as they name elements. A player that hasn't seen
+/// yet what it seized is left out.
 fn assert_views(rt: &impl Abort, world: &World, pair: &Pair, name: &str) {
     for (worker, told) in (1u32..=2).zip(world.views()) {
+        if !pair.sees_all(worker) {
+            continue;
+        }
         let view = pair.view(worker);
         assert_eq!(rt; view.credit, told.credit, "{name}: worker {worker}");
         assert_eq!(rt; view.seen, told.seen, "{name}: worker {worker}");
-        assert_eq!(rt;
-            view.hand.as_slice(),
-            told.hand.as_slice(),
-            "{name}: worker {worker}"
-        );
+        for (elems, wanted) in [
+            (&view.hand, &told.hand),
+            (&view.zeros, &told.zeros),
+            (&view.holds, &told.holds),
+            (&view.headers, &told.headers),
+        ] {
+            assert_eq!(rt;
+                elems.as_slice(),
+                wanted.as_slice(),
+                "{name}: worker {worker}"
+            );
+        }
     }
 }
 
-/// Whether a closed ground has the words of this world.
+/// The segments of a packet, or none.
+fn segs_of(packet: Option<&Packet>) -> &[Seg] {
+    packet.map_or(&[], Packet::segs)
+}
+
+/// Whether a closed ground has the words of this world, and the packets of its full desks.
 fn assert_closed(rt: &impl Abort, world: &World, closed: &Closed, name: &str) {
     assert_eq!(rt; closed.top, world.head().top, "{name}");
     assert_eq!(rt; closed.length, world.length(), "{name}");
     assert_eq!(rt; closed.links.as_slice(), world.links(), "{name}");
     assert_eq!(rt; closed.counts.as_slice(), world.counts(), "{name}");
-    assert_eq!(rt; closed.desks.len(), 0, "{name}");
+    assert_eq!(rt; closed.desks.len(), world.desks().len(), "{name}");
+    for (packet, desk) in closed.desks.as_slice().iter().zip(world.desks()) {
+        let told = desk.slot.as_ref().filter(|_| desk.word == 2);
+        assert_eq!(rt; segs_of(packet.as_ref()), segs_of(told), "{name}");
+    }
 }
 
 /// Plays these steps by the machine and by two players, and compares each answer and the words at the end.

@@ -97,6 +97,7 @@ fn clone_seg<C: Commons>(worker: &mut Worker, c: &mut C, seg: Seg) -> Result<Seg
 }
 
 /// Ends the holds of segments in order, and then that of an element that is left over.
+#[inline(never)]
 fn give_up<C: Commons>(worker: &mut Worker, c: &mut C, segs: &[Seg], over: Option<u32>) -> Freed
     requires limits { (C.side c.old).limits ≡ worker.old.limits }
     requires hand { (i : ℕ) → (C.side c.old).hand i ≡ bag worker.old.cache i }

@@ -23,6 +23,7 @@ use mempool::worker::Worker;
 const HEADROOM: u64 = 128;
 
 /// The segment of a fresh packet.
+#[inline(always)]
 pub fn fresh(limits: &Limits, elem: u32) -> Seg
     requires { IsPool limits.now }
     ensures seg { result ≡ fresh_seg limits.now elem }
@@ -38,6 +39,7 @@ pub fn fresh(limits: &Limits, elem: u32) -> Seg
 }
 
 /// Gets one element by the cache's rules.
+#[inline(always)]
 pub fn get_one<C: Commons>(worker: &mut Worker, c: &mut C) -> Result<u32, Refusal>
     requires limits { (C.side c.old).limits ≡ worker.old.limits }
     ensures calls { Calls C.did C.side c.old c.new (λ calls.
@@ -60,6 +62,7 @@ pub fn get_one<C: Commons>(worker: &mut Worker, c: &mut C) -> Result<u32, Refusa
 }
 
 /// What freeing has done once one element more was put back.
+#[inline(always)]
 pub fn counted(freed: Freed, put: Put) -> Freed
     requires back { freed.back < 4_294_967_295 }
     requires flushed { freed.flushed + put_count put ≤ 4_294_967_295 }
@@ -78,6 +81,7 @@ pub fn counted(freed: Freed, put: Put) -> Freed
 }
 
 /// Ends one hold of an element, and puts it back where that was the last.
+#[inline(always)]
 #[tactic(auto, using(commons::proofs::Bags::bags))]
 pub fn end_hold<C: Commons>(worker: &mut Worker, c: &mut C, elem: u32, freed: Freed) -> Freed
     requires limits { (C.side c.old).limits ≡ worker.old.limits }
@@ -104,6 +108,7 @@ pub fn end_hold<C: Commons>(worker: &mut Worker, c: &mut C, elem: u32, freed: Fr
 }
 
 /// Ends the holds of one segment: that of its base, where it has one, and then its own.
+#[inline(always)]
 #[tactic(auto, using(commons::proofs::Bags::bags))]
 fn end_seg<C: Commons>(worker: &mut Worker, c: &mut C, seg: Seg, freed: Freed) -> Freed
     requires limits { (C.side c.old).limits ≡ worker.old.limits }
@@ -139,7 +144,35 @@ pub const NOTHING_FREED: Freed = Freed {
 };
 
 /// Ends the holds of segments in order.
+#[inline(always)]
 pub fn end_segs<C: Commons>(worker: &mut Worker, c: &mut C, segs: &[Seg]) -> Freed
+    requires limits { (C.side c.old).limits ≡ worker.old.limits }
+    requires hand { (i : ℕ) → (C.side c.old).hand i ≡ bag worker.old.cache i }
+    requires held { (i : ℕ) → bag (holds_of_packet segs.now) i ≤ (C.side c.old).holds i }
+    requires few { length segs.now ≤ max_segs }
+    ensures calls { Calls C.did C.side c.old c.new (λ calls.
+        EndsHolds worker.old.limits (holds_of_packet segs.now) worker.old.cache freed_nothing
+        calls worker.new.cache result) }
+    ensures hand { (i : ℕ) → (C.side c.new).hand i ≡ bag worker.new.cache i }
+    ensures holds { (i : ℕ) → (C.side c.old).holds i
+        ≡ (C.side c.new).holds i + bag (holds_of_packet segs.now) i }
+    ensures headers { (i : ℕ) → 0 < (C.side c.new).holds i →
+        (C.side c.new).headers i ≡ (C.side c.old).headers i }
+    ensures limits { (C.side c.new).limits ≡ (C.side c.old).limits }
+    ensures number { KeepsNumber worker.old worker.new }
+    ensures back { result.back ≤ 2 * length segs.now }
+    ensures flushed { result.flushed ≤ max_population * result.back }
+{
+    if segs.len() == 1 {
+        // Most packets have one: what was freed before is nothing then, and nothing is carried.
+        return end_seg(worker, c, segs[0], NOTHING_FREED);
+    }
+    end_each(worker, c, segs)
+}
+
+/// Ends the holds of any number of segments in order.
+#[inline(never)]
+fn end_each<C: Commons>(worker: &mut Worker, c: &mut C, segs: &[Seg]) -> Freed
     requires limits { (C.side c.old).limits ≡ worker.old.limits }
     requires hand { (i : ℕ) → (C.side c.old).hand i ≡ bag worker.old.cache i }
     requires held { (i : ℕ) → bag (holds_of_packet segs.now) i ≤ (C.side c.old).holds i }

@@ -109,6 +109,7 @@ impl Worker {
     ///
     /// After rte_mempool.h, `rte_mempool_do_generic_get` (DPDK 21.11), which doesn't test whether a
     /// refill can be met at all.
+    #[inline(always)]
     pub fn get_bulk<C: Commons>(&mut self, c: &mut C, out: &mut [u32]) -> Result<(), Refusal>
         requires limits { (C.side c.old).limits ≡ self.old.limits }
         ensures calls { Calls C.did C.side c.old c.new (λ calls.
@@ -136,6 +137,32 @@ impl Worker {
             steps::take_last(&mut self.cache, out);
             return Ok(());
         }
+        self.get_refilled(c, out)
+    }
+
+    /// Gets more elements than the cache has, and fewer than it keeps: from the cache once it is
+    /// refilled, else from the common stack. It stands apart, so that what a get from the cache
+    /// inlines stays small.
+    #[inline(never)]
+    fn get_refilled<C: Commons>(&mut self, c: &mut C, out: &mut [u32]) -> Result<(), Refusal>
+        requires limits { (C.side c.old).limits ≡ self.old.limits }
+        requires fewer { length out.old < self.old.limits.cache }
+        requires more { length self.old.cache < length out.old }
+        ensures calls { Calls C.did C.side c.old c.new (λ calls.
+            Gets self.old.limits self.old.cache (length out.old) calls (with_list result out.new) self.new.cache) }
+        ensures hand { OnOk result
+            ((i : ℕ) → (C.side c.new).hand i + bag self.old.cache i
+            ≡ (C.side c.old).hand i + bag self.new.cache i + bag out.new i) }
+        ensures refused { OnErr result (C.side c.new ≡ C.side c.old) }
+        ensures cache_err { OnErr result (self.new.cache ≡ self.old.cache) }
+        ensures holds { (C.side c.new).holds ≡ (C.side c.old).holds }
+        ensures headers { (C.side c.new).headers ≡ (C.side c.old).headers }
+        ensures limits { (C.side c.new).limits ≡ (C.side c.old).limits }
+        ensures number { KeepsNumber self.old self.new }
+    {
+        let n = out.len();
+        let size = self.limits.cache as usize;
+        let len = self.cache.len();
         if n + size > self.limits.population as usize {
             return c.get_list(out);
         }
@@ -155,6 +182,7 @@ impl Worker {
     /// takes no step.
     ///
     /// After rte_mempool.h, `rte_mempool_do_generic_put` (DPDK 21.11), whose stack can't refuse.
+    #[inline(always)]
     #[tactic(auto, using(commons::proofs::Bags::bags))]
     pub fn put_bulk<C: Commons>(&mut self, c: &mut C, list: &[u32]) -> Put
         requires limits { (C.side c.old).limits ≡ self.old.limits }

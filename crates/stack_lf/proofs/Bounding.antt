@@ -5,15 +5,16 @@ use Rattle.std.proofs.lemmas.List.{length-append, length-map}
 use Rattle.std.proofs.Math.Nat.{mul-le-mul_right, suc-mul}
 use Rattle.commons.specs.Calls.{Call, GetList, PutList, Claim, CountOf, Raise, Lower, Offer, Take, CommonCount}
 use Rattle.commons.specs.declared.limits.Limits.{Limits}
+use Rattle.commons.specs.declared.packet.Seg.{Seg}
 use Rattle.commons.specs.declared.refusal.Refusal.{Refusal}
-use Rattle.commons.specs.declared.refusal.Refusal.TheVariants.{NoEntries, Contended, HeadSpent, RefSpent}
+use Rattle.commons.specs.declared.refusal.Refusal.TheVariants.{NoEntries, Contended, HeadSpent, RefSpent, NoSuchDesk, DeskTaken, DeskEmpty}
 use Rattle.commons.specs.declared.refusal.Lowered.{Lowered as Answer}
 use Rattle.commons.specs.declared.refusal.Lowered.TheVariants.{Last, Still}
 use Rattle.step_core.specs.declared.view.Head.{Head}
 use Rattle.step_core.specs.declared.step.Step.TheVariants.{Cut as CutStep, Push as PushStep}
 use Rattle.step_core.specs.declared.step.Outcome.TheVariants.{LostTo, Won, Got}
 use Rattle.ground.specs.Seats.{Note}
-use Rattle.stack_lf.specs.Tries.{Try, Walk, IsWalk, Taken, Counted, Raised, Freed, Lowered, Lasted, IsLostRaise, IsRaise, IsLower, Short, Reserved, Added, Ended, Beaten, link_note, elements, element_in, stores, notes, notes_of, IsMiss, IsLostCut, IsWonCut, IsLostPush, IsWonPush, IsSpent, IsGet, IsPut, IsOfCall}
+use Rattle.stack_lf.specs.Tries.{Try, Walk, IsWalk, Taken, Counted, Raised, Freed, Lowered, Lasted, IsLostRaise, IsRaise, IsLower, Short, Reserved, Added, Ended, Beaten, link_note, elements, element_in, stores, notes, notes_of, IsMiss, IsLostCut, IsWonCut, IsLostPush, IsWonPush, IsSpent, IsGet, IsPut, Unoffered, Offered, Untaken, Fetched, IsOffer, IsTake, IsOfCall}
 use Rattle.stack_lf.specs.Bounds.{most_steps}
 use Rattle.stack_lf.proofs.Composing.{notes_of-append}
 use Rattle.stack_lf.proofs.Reading.{all_tail}
@@ -234,6 +235,20 @@ lower_steps i Last x d = ⊎_elim
     (λ (b : (c : ℕ) × (1 < c) × (x ≡ Lasted i c)). by_eq x (Lasted i b.0) 3 b.2 (omega arith)) d
 lower_steps i Still x d = by_eq x (Lowered i d.0 d.1) 3 d.4 (omega arith)
 
+offer_bounded : (l : Limits) (d : ℕ) (p : List Seg) (answer : Result (Unit {0}) Refusal) (ts : List Try) →
+    IsOffer l d p answer ts → length (notes_of ts) ≤ most_steps l (Offer d p answer)
+offer_bounded l d p (Ok _) ts h = same_steps ts (Offered d p ∷ []) 2 h.1 (omega arith)
+offer_bounded l d p (Err NoSuchDesk) ts h = same_steps ts [] 1 h.1 (omega arith)
+offer_bounded l d p (Err DeskTaken) ts h = same_steps ts (Unoffered d h.0 ∷ []) 1 h.3 (omega arith)
+offer_bounded l d p (Err _) ts h = absurd h
+
+take_bounded : (l : Limits) (d : ℕ) (answer : Result (List Seg) Refusal) (ts : List Try) →
+    IsTake l d answer ts → length (notes_of ts) ≤ most_steps l (Take d answer)
+take_bounded l d (Ok p) ts h = same_steps ts (Fetched d p ∷ []) 2 h.1 (omega arith)
+take_bounded l d (Err NoSuchDesk) ts h = same_steps ts [] 1 h.1 (omega arith)
+take_bounded l d (Err DeskEmpty) ts h = same_steps ts (Untaken d h.0 ∷ []) 1 h.3 (omega arith)
+take_bounded l d (Err _) ts h = absurd h
+
 pub bounded : (l : Limits) (call : Call) (ts : List Try) → IsOfCall l call ts →
     length (notes_of ts) ≤ most_steps l call
 bounded l (GetList n answer) ts d = get_bounded l n answer ts d
@@ -244,6 +259,6 @@ bounded l (Raise i answer) ts d = raise_bounded l i answer ts d
 bounded l (Lower i answer) ts d =
     same_steps ts (d.0 ∷ []) 3 d.2
     (let one = lower_steps i answer d.0 d.1 in omega (arith, steps-cons d.0 []))
-bounded l (Offer e packet answer) ts d = same_steps ts [] 0 d.2 (omega arith)
-bounded l (Take e answer) ts d = same_steps ts [] 0 d.2 (omega arith)
+bounded l (Offer e packet answer) ts d = offer_bounded l e packet answer ts d
+bounded l (Take e answer) ts d = take_bounded l e answer ts d
 bounded l (CommonCount n) ts d = same_steps ts (Short n ∷ []) 1 d (omega arith)

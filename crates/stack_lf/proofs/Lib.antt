@@ -8,3 +8,5 @@ pub mod Bounding
 pub mod Taking
 pub mod Losing
 pub mod Tallying
+pub mod Bare
+pub mod Desks

@@ -4,12 +4,13 @@ use Rattle.std.specs.Prelude.{Result, Ok, Err}
 use Rattle.std.proofs.lemmas.List.Elements.{All-append, All-cons}
 use Rattle.commons.specs.Calls.{Call, GetList, PutList, Claim, CountOf, Raise, Lower, Offer, Take, CommonCount}
 use Rattle.commons.specs.declared.limits.Limits.{Limits}
+use Rattle.commons.specs.declared.packet.Seg.{Seg}
 use Rattle.commons.specs.declared.refusal.Refusal.{Refusal}
-use Rattle.commons.specs.declared.refusal.Refusal.TheVariants.{NoEntries, Contended, HeadSpent, RefSpent}
+use Rattle.commons.specs.declared.refusal.Refusal.TheVariants.{NoEntries, Contended, HeadSpent, RefSpent, NoSuchDesk, DeskTaken, DeskEmpty}
 use Rattle.commons.specs.declared.refusal.Lowered.{Lowered as Answer}
 use Rattle.commons.specs.declared.refusal.Lowered.TheVariants.{Last, Still}
 use Rattle.step_core.specs.declared.view.Head.{Head}
-use Rattle.stack_lf.specs.Tries.{Try, Walk, IsWalk, Short, Missed, Reserved, Stopped, Ended, Beaten, Cutoff, Unpushed, Pushed, Added, Taken, Counted, Unraised, Raised, Freed, Lowered, Lasted, IsLostRaise, IsRaise, IsLower, IsMiss, IsLostCut, IsWonCut, IsLostPush, IsWonPush, IsSpent, IsGet, IsPut, IsOfCall}
+use Rattle.stack_lf.specs.Tries.{Try, Walk, IsWalk, Short, Missed, Reserved, Stopped, Ended, Beaten, Cutoff, Unpushed, Pushed, Added, Taken, Counted, Unraised, Raised, Freed, Lowered, Lasted, IsLostRaise, IsRaise, IsLower, IsMiss, IsLostCut, IsWonCut, IsLostPush, IsWonPush, IsSpent, IsGet, IsPut, Unoffered, Offered, Untaken, Fetched, IsOffer, IsTake, IsOfCall}
 use Rattle.stack_lf.specs.Notes.{LostToAnother}
 
 by_eq : (x y : Try) → x ≡ y → LostToAnother y → LostToAnother x
@@ -128,6 +129,20 @@ of_lower i Last x d = ⊎_elim
     (λ (b : (c : ℕ) × (1 < c) × (x ≡ Lasted i c)). by_eq x (Lasted i b.0) b.2 tt) d
 of_lower i Still x d = by_eq x (Lowered i d.0 d.1) d.4 tt
 
+of_offer : (l : Limits) (d : ℕ) (p : List Seg) (answer : Result (Unit {0}) Refusal) (ts : List Try) →
+    IsOffer l d p answer ts → All LostToAnother ts
+of_offer l d p (Ok _) ts h = of_all ts (Offered d p ∷ []) h.1 (alone (Offered d p) tt)
+of_offer l d p (Err NoSuchDesk) ts h = of_all ts [] h.1 none
+of_offer l d p (Err DeskTaken) ts h = of_all ts (Unoffered d h.0 ∷ []) h.3 (alone (Unoffered d h.0) tt)
+of_offer l d p (Err _) ts h = absurd h
+
+of_take : (l : Limits) (d : ℕ) (answer : Result (List Seg) Refusal) (ts : List Try) →
+    IsTake l d answer ts → All LostToAnother ts
+of_take l d (Ok p) ts h = of_all ts (Fetched d p ∷ []) h.1 (alone (Fetched d p) tt)
+of_take l d (Err NoSuchDesk) ts h = of_all ts [] h.1 none
+of_take l d (Err DeskEmpty) ts h = of_all ts (Untaken d h.0 ∷ []) h.3 (alone (Untaken d h.0) tt)
+of_take l d (Err _) ts h = absurd h
+
 pub changes : (l : Limits) (call : Call) (ts : List Try) → IsOfCall l call ts →
     All LostToAnother ts
 changes l (GetList n answer) ts d = get_lost l.tries n answer ts d
@@ -137,6 +152,6 @@ changes l (CountOf i n) ts d = of_all ts (Counted i n ∷ []) d (alone (Counted 
 changes l (Raise i answer) ts d = raise_lost l i answer ts d
 changes l (Lower i answer) ts d =
     of_all ts (d.0 ∷ []) d.2 (alone d.0 (of_lower i answer d.0 d.1))
-changes l (Offer e packet answer) ts d = of_all ts [] d.2 none
-changes l (Take e answer) ts d = of_all ts [] d.2 none
+changes l (Offer e packet answer) ts d = of_offer l e packet answer ts d
+changes l (Take e answer) ts d = of_take l e answer ts d
 changes l (CommonCount n) ts d = of_all ts (Short n ∷ []) d (alone (Short n) tt)

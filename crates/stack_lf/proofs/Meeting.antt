@@ -1,15 +1,14 @@
 -- What each call leaves, in the trait's words.
-use Rattle.std.proofs.Common.{◌≡◌, ◌≢◌, ◌==◌, ℕ, ◌+◌, ◌-◌, ◌<◌, ◌≤◌, Bool, true, false, Option, filter, append-nil, ⊎_elim, List, [], ◌∷◌, ◌++◌, reverse, refl, sym, ap, ◌∙◌, subst, arith}
+use Rattle.std.proofs.Common.{◌≡◌, ◌≢◌, ◌==◌, ℕ, ◌+◌, ◌-◌, ◌<◌, ◌≤◌, Bool, false, Option, filter, append-nil, ⊎_elim, List, [], ◌∷◌, ◌++◌, reverse, refl, sym, ap, ◌∙◌, subst, arith}
 use Rattle.std.specs.Prelude.{Result, Ok, Err, if◌then◌else◌}
 use Rattle.std.proofs.lemmas.Bool.{cond_both, cond-false, ne_eqb, cases_eq, true≢false}
 use Rattle.commons.specs.Bag.{bag, one}
 use Rattle.commons.proofs.Bags.{bag-append, bag-reverse, bag-nil, bag-cons, bag-single, one-same}
-use Rattle.commons.specs.Calls.{Call, GetList, PutList, Claim, CountOf, Raise, Lower, Offer, Take, CommonCount, HasEffect, Did, with_list, back}
+use Rattle.commons.specs.Calls.{Call, GetList, PutList, Claim, CountOf, Raise, Lower, CommonCount, HasEffect, Did, with_list, back}
 use Rattle.commons.specs.declared.limits.Limits.{Limits}
-use Rattle.commons.specs.declared.packet.Seg.{Seg}
 use Rattle.commons.specs.declared.refusal.Lowered.{Lowered as Answer}
 use Rattle.commons.specs.declared.refusal.Lowered.TheVariants.{Last, Still}
-use Rattle.commons.specs.declared.refusal.Refusal.TheVariants.{Contended, NoSuchDesk}
+use Rattle.commons.specs.declared.refusal.Refusal.TheVariants.{Contended}
 use Rattle.commons.specs.declared.refusal.Refusal.{Refusal}
 use Rattle.step_core.specs.declared.view.View.{View}
 use Rattle.step_core.specs.declared.view.Chain.{Chain}
@@ -22,7 +21,7 @@ use Rattle.ground.specs.Seats.{Grounded, Seated, IsOf, Note, after, Steps}
 use Rattle.ground.specs.Own.{AtRest}
 use Rattle.stack_lf.specs.Sides.{side_of}
 use Rattle.stack_lf.specs.Tries.{Try, Short, Taken, Counted, notes, notes_of, readings_of, IsOfCall, IsContended, DidOnWords}
-use Rattle.stack_lf.specs.Leaves.{IsAlone, tried_to, seen_as, put_as, Gets, Puts, Raises, Lowers, lowered_as}
+use Rattle.stack_lf.specs.Leaves.{IsAlone, IsBare, tried_to, seen_as, put_as, Gets, Puts, Raises, Lowers, lowered_as}
 use Rattle.stack_lf.proofs.Composing.{still_of}
 use Rattle.stack_lf.proofs.Storing.{bag-minus}
 use Rattle.stack_lf.proofs.Reading.{causes}
@@ -41,7 +40,7 @@ went_rest s t w r = subst (λ (x : Seated). AtRest x.known.view) (sym w.2) (w.3 
 -- what a call did, from the tries that it made, and their effect
 pub doing : (s : Seated) (call : Call) (t : Seated) (ts : List Try) (v : View) →
     IsOfCall s.known.limits call ts → HasEffect call (side_of s) (side_of t) →
-    t ≡ tried_to s ts v → v.part ≡ s.known.view.part → (IsAlone s → IsContended call → ⊥) →
+    t ≡ tried_to s ts v → v.part ≡ s.known.view.part → (IsAlone s → IsContended s.known.limits call → ⊥) →
     Did DidOnWords side_of s call t
 doing s call t ts v made effect e part alone = record {
   readings = readings_of ts;
@@ -64,11 +63,11 @@ doing s call t ts v made effect e part alone = record {
 }
 
 -- the holds and the headers are those of the view
-holds_as : (s t : Seated) (a : List Note) (v : View) → t ≡ after s a v →
+pub holds_as : (s t : Seated) (a : List Note) (v : View) → t ≡ after s a v →
     ◌≡◌ {A = ℕ → ℕ} (bag t.known.view.holds) (bag v.holds)
 holds_as s t a v e = ap {B = ℕ → ℕ} (λ (x : Seated). bag x.known.view.holds) e
 
-headers_as : (s t : Seated) (a : List Note) (v : View) → t ≡ after s a v →
+pub headers_as : (s t : Seated) (a : List Note) (v : View) → t ≡ after s a v →
     ◌≡◌ {A = ℕ → ℕ} (bag t.known.view.headers) (bag v.headers)
 headers_as s t a v e = ap {B = ℕ → ℕ} (λ (x : Seated). bag x.known.view.headers) e
 
@@ -101,20 +100,23 @@ get_effect tries n xs (Ok _) s t g = record {
 get_effect tries n xs (Err e) s t g = ap side_of g.4
 
 -- a refusal after as many lost tries as the pool allows is called so
-get_contended : (n : ℕ) (e : Refusal) → IsContended (GetList n (Err e)) → e ≡ Contended
-get_contended n Contended c = refl
-get_contended n _ c = absurd c
+get_contended : (l : Limits) (n : ℕ) (e : Refusal) → IsContended l (GetList n (Err e)) →
+    (e ≡ Contended) × (l.desks ≡ 0)
+get_contended l n Contended c = (refl, c)
+get_contended l n _ c = absurd c
 
-put_contended : (xs : List ℕ) (e : Refusal) → IsContended (PutList xs (Err e)) → e ≡ Contended
-put_contended xs Contended c = refl
-put_contended xs _ c = absurd c
+put_contended : (l : Limits) (xs : List ℕ) (e : Refusal) → IsContended l (PutList xs (Err e)) →
+    e ≡ Contended
+put_contended l xs Contended c = refl
+put_contended l xs _ c = absurd c
 
-raise_contended : (i : ℕ) (e : Refusal) → IsContended (Raise i (Err e)) → e ≡ Contended
-raise_contended i Contended c = refl
-raise_contended i _ c = absurd c
+raise_contended : (l : Limits) (i : ℕ) (e : Refusal) → IsContended l (Raise i (Err e)) →
+    (e ≡ Contended) × (l.desks ≡ 0)
+raise_contended l i Contended c = (refl, c)
+raise_contended l i _ c = absurd c
 
 pub get_did : (n : ℕ) (xs : List ℕ) (r : Result (Unit {0}) Refusal) (s t : Seated) →
-    Gets s.known.limits.tries n xs r s t → (IsAlone s → r ≢ Err Contended) →
+    Gets s.known.limits.tries n xs r s t → (IsBare s → r ≢ Err Contended) →
     Did DidOnWords side_of s (GetList n (with_list r xs)) t
 get_did n xs (Ok m) s t g alone =
     doing s (GetList n (Ok xs)) t g.0 _ g.3
@@ -122,7 +124,9 @@ get_did n xs (Ok m) s t g alone =
 get_did n xs (Err e) s t g alone =
     doing s (GetList n (Err e)) t g.0 _ g.3
     (get_effect s.known.limits.tries n xs (Err e) s t g) g.4 refl
-    (λ whole c. alone whole (ap Err (get_contended n e c)))
+    (λ whole c.
+    let why = get_contended s.known.limits n e c in
+    alone (whole, why.1) (ap Err why.0))
 
 -- ---- a put
 
@@ -164,7 +168,7 @@ put_did xs (Ok m) s t h g alone =
 put_did xs (Err e) s t h g alone =
     doing s (PutList xs (Err e)) t g.0 _ g.3
     (put_effect s.known.limits.tries xs (Err e) s t h g) g.4 refl
-    (λ whole c. alone whole (ap Err (put_contended xs e c)))
+    (λ whole c. alone whole (ap Err (put_contended s.known.limits xs e c)))
 
 -- ---- a count
 
@@ -192,7 +196,7 @@ bag-more : (x : ℕ) (xs : List ℕ) (i : ℕ) → bag (xs ++ x ∷ []) i ≡ ba
 bag-more x xs i = omega (arith, bag-append xs (x ∷ []) i, bag-single x i)
 
 -- what a filter leaves of a list
-kept : (p : ℕ → Bool) (xs : List ℕ) (i : ℕ) → bag (filter p xs) i ≡ (if p i then bag xs i else 0)
+pub kept : (p : ℕ → Bool) (xs : List ℕ) (i : ℕ) → bag (filter p xs) i ≡ (if p i then bag xs i else 0)
 kept p [] i = cond_both (p i) (bag [] i) 0 (λ n. bag [] i ≡ n) (λ e. refl) (λ e. bag-nil i)
 kept p (x ∷ xs) i =
     let rest = kept p xs i in
@@ -281,14 +285,16 @@ raise_effect l e (Err _) s t held g = ap side_of g.2
 
 pub raise_did : (e : ℕ) (r : Result (Unit {0}) Refusal) (s t : Seated) →
     0 < bag s.known.view.holds e → Raises s.known.limits e r s t →
-    (IsAlone s → r ≢ Err Contended) → Did DidOnWords side_of s (Raise e r) t
+    (IsBare s → r ≢ Err Contended) → Did DidOnWords side_of s (Raise e r) t
 raise_did e (Ok m) s t held g alone =
     doing s (Raise e (Ok m)) t g.0 _ g.1 (raise_effect s.known.limits e (Ok m) s t held g) g.2 refl
     (λ whole c. c)
 raise_did e (Err cause) s t held g alone =
     doing s (Raise e (Err cause)) t g.0 _ g.1
     (raise_effect s.known.limits e (Err cause) s t held g) g.2 refl
-    (λ whole c. alone whole (ap Err (raise_contended e cause c)))
+    (λ whole c.
+    let why = raise_contended s.known.limits e cause c in
+    alone (whole, why.1) (ap Err why.0))
 
 pub lower_went : (e : ℕ) (answer : Answer) (s t : Seated) → Lowers e answer s t → Went s t
 lower_went e Last s t g = (
@@ -355,22 +361,10 @@ lower_did e answer s t held g =
     (part_lowered e answer s.known.view) (λ whole c. c)
 
 -- the seat with no step more
-same_seat : (s : Seated) → s ≡ tried_to s [] s.known.view
+pub same_seat : (s : Seated) → s ≡ tried_to s [] s.known.view
 same_seat s =
     ap (λ (l : List Note). record s { known = record s.known { steps = l } })
     (sym (append-nil s.known.steps))
-
-pub offer_did : (d : ℕ) (packet : List Seg) (s : Seated) → s.known.limits.desks ≤ d →
-    Did DidOnWords side_of s (Offer d packet (Err NoSuchDesk)) s
-offer_did d packet s none =
-    doing s (Offer d packet (Err NoSuchDesk)) s [] s.known.view (none, refl, refl) refl
-    (same_seat s) refl (λ whole c. c)
-
-pub take_did : (d : ℕ) (s : Seated) → s.known.limits.desks ≤ d →
-    Did DidOnWords side_of s (Take d (Err NoSuchDesk)) s
-take_did d s none =
-    doing s (Take d (Err NoSuchDesk)) s [] s.known.view (none, refl, refl) refl (same_seat s) refl
-    (λ whole c. c)
 
 -- over a call the seat stays one of its ground
 pub did_of : (g : Grounded) (s t : Seated) (call : Call) → Did DidOnWords side_of s call t →

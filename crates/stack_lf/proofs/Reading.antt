@@ -1,18 +1,18 @@
 -- What the tries of a call read is the cause of its answer.
-use Rattle.std.proofs.Common.{◌≡◌, ℕ, suc, ◌+◌, ◌<◌, ◌≤◌, ⊎_elim, cond, List, [], ◌∷◌, ◌++◌, length, All, refl, sym, ap, ◌∙◌, subst, arith, append_assoc}
+use Rattle.std.proofs.Common.{◌≡◌, ◌≢◌, ℕ, suc, ◌+◌, ◌<◌, ◌≤◌, ⊎_elim, cond, List, [], ◌∷◌, ◌++◌, length, All, refl, sym, ap, ◌∙◌, subst, arith, append_assoc}
 use Rattle.std.specs.Prelude.{Result, Ok, Err, Option, Some, None, count_by, ◌==◌}
 use Rattle.std.proofs.lemmas.Bool.{cond-true, eq-eqb}
 use Rattle.std.proofs.lemmas.List.Concat.{flat_map-append}
 use Rattle.std.proofs.lemmas.List.Sums.{sum_by-append}
-use Rattle.commons.specs.Calls.{Reading, is_lost, HasCause, later, last_in, length_in, head_in, count_in, last_length, last_head, last_count, IsBelow, IsAbove, Count, Call, GetList, PutList, Claim, CountOf, Raise, Lower, Offer, Take, CommonCount, spent}
+use Rattle.commons.specs.Calls.{Reading, is_lost, HasCause, later, last_in, length_in, head_in, count_in, desk_in, last_length, last_head, last_count, last_desk, IsBelow, IsAbove, IsOther, Count, Desk, Call, GetList, PutList, Claim, CountOf, Raise, Lower, Offer, Take, CommonCount, spent}
 use Rattle.commons.specs.declared.limits.Limits.{Limits}
 use Rattle.commons.specs.declared.refusal.Refusal.{Refusal}
-use Rattle.commons.specs.declared.refusal.Refusal.TheVariants.{NoEntries, Contended, HeadSpent, RefSpent, NoSuchDesk}
+use Rattle.commons.specs.declared.refusal.Refusal.TheVariants.{NoEntries, Contended, HeadSpent, RefSpent, NoSuchDesk, DeskTaken, DeskEmpty}
 use Rattle.commons.specs.declared.refusal.Lowered.{Lowered as Answer}
 use Rattle.commons.specs.declared.refusal.Lowered.TheVariants.{Last, Still}
 use Rattle.commons.specs.declared.packet.Seg.{Seg}
 use Rattle.step_core.specs.declared.view.Head.{Head}
-use Rattle.stack_lf.specs.Tries.{Try, Short, Reserved, Added, Counted, Raised, Freed, Lowered, Lasted, IsLostRaise, IsRaise, IsLower, reads, readings_of, Walk, IsWalk, Ended, Beaten, IsMiss, IsLostCut, IsWonCut, IsLostPush, IsWonPush, IsSpent, IsGet, IsPut, IsOfCall}
+use Rattle.stack_lf.specs.Tries.{Try, Short, Reserved, Added, Counted, Raised, Freed, Lowered, Lasted, IsLostRaise, IsRaise, IsLower, reads, readings_of, Walk, IsWalk, Ended, Beaten, IsMiss, IsLostCut, IsWonCut, IsLostPush, IsWonPush, IsSpent, IsGet, IsPut, Unoffered, Offered, Untaken, Fetched, IsOffer, IsTake, IsOfCall}
 
 losses-append : (xs ys : List Reading) →
     count_by is_lost (xs ++ ys) ≡ count_by is_lost xs + count_by is_lost ys
@@ -200,15 +200,36 @@ cause_lower l i Still x d =
     (by_try i d.1 x (Lowered i d.0 d.1) d.4
     (kind_after (count_in i) d.1 (Count i d.0 ∷ []) (Count i d.1 ∷ []) (count_read i d.1))) d.3
 
-no_desk : (l : Limits) (d : ℕ) (packet : List Seg) (answer : Result (Unit {0}) Refusal) (rs : List Reading) →
-    l.desks ≤ d → answer ≡ Err NoSuchDesk → HasCause l (Offer d packet answer) rs
-no_desk l d packet answer rs none e =
-    subst (λ (a : Result (Unit {0}) Refusal). HasCause l (Offer d packet a) rs) (sym e) none
+-- a desk's word that was read is found among the readings
+desk_read : (d n : ℕ) → last_in (desk_in d) (Desk d n ∷ []) ≡ Some n
+desk_read d n = cond-true (d == d) (Some n) None (eq-eqb d d refl)
 
-none_to_take : (l : Limits) (d : ℕ) (answer : Result (List Seg) Refusal) (rs : List Reading) →
-    l.desks ≤ d → answer ≡ Err NoSuchDesk → HasCause l (Take d answer) rs
-none_to_take l d answer rs none e =
-    subst (λ (a : Result (List Seg) Refusal). HasCause l (Take d a) rs) (sym e) none
+another : (n found : ℕ) (o : Option ℕ) → o ≡ Some found → found ≢ n → IsOther n o
+another n found o e h = subst (λ (z : Option ℕ). IsOther n z) (sym e) h
+
+cause_offer : (l : Limits) (d : ℕ) (p : List Seg) (answer : Result (Unit {0}) Refusal) (ts : List Try) →
+    IsOffer l d p answer ts → HasCause l (Offer d p answer) (readings_of ts)
+cause_offer l d p (Ok _) ts h =
+    (h.0, kind_of (desk_in d) 0 ts [] (Offered d p ∷ []) h.1 (desk_read d 0))
+cause_offer l d p (Err NoSuchDesk) ts h = h.0
+cause_offer l d p (Err DeskTaken) ts h = (
+  h.1,
+  another 0 h.0 (last_desk d (readings_of ts))
+      (kind_of (desk_in d) h.0 ts [] (Unoffered d h.0 ∷ []) h.3 (desk_read d h.0)) h.2,
+)
+cause_offer l d p (Err _) ts h = absurd h
+
+cause_take : (l : Limits) (d : ℕ) (answer : Result (List Seg) Refusal) (ts : List Try) →
+    IsTake l d answer ts → HasCause l (Take d answer) (readings_of ts)
+cause_take l d (Ok p) ts h =
+    (h.0, kind_of (desk_in d) 2 ts [] (Fetched d p ∷ []) h.1 (desk_read d 2))
+cause_take l d (Err NoSuchDesk) ts h = h.0
+cause_take l d (Err DeskEmpty) ts h = (
+  h.1,
+  another 2 h.0 (last_desk d (readings_of ts))
+      (kind_of (desk_in d) h.0 ts [] (Untaken d h.0 ∷ []) h.3 (desk_read d h.0)) h.2,
+)
+cause_take l d (Err _) ts h = absurd h
 
 pub causes : (l : Limits) (call : Call) (ts : List Try) → IsOfCall l call ts →
     HasCause l call (readings_of ts)
@@ -220,6 +241,6 @@ causes l (Raise i answer) ts d = cause_raise l i answer ts d
 causes l (Lower i answer) ts d =
     subst (λ (z : List Try). HasCause l (Lower i answer) (readings_of z)) (sym d.2)
     (cause_lower l i answer d.0 d.1)
-causes l (Offer e packet answer) ts d = no_desk l e packet answer (readings_of ts) d.0 d.1
-causes l (Take e answer) ts d = none_to_take l e answer (readings_of ts) d.0 d.1
+causes l (Offer e packet answer) ts d = cause_offer l e packet answer ts d
+causes l (Take e answer) ts d = cause_take l e answer ts d
 causes l (CommonCount n) ts d = kind_of length_in n ts [] (Short n ∷ []) d refl

@@ -1,5 +1,5 @@
 -- The steps of a raise, and of a lower.
-use Rattle.std.proofs.Common.{◌≡◌, ◌≢◌, ◌==◌, ℕ, ◌+◌, ◌<◌, ◌≤◌, Bool, true, false, List, [], ◌∷◌, ◌++◌, refl, sym, ap, ◌∙◌, subst, arith}
+use Rattle.std.proofs.Common.{◌≡◌, ◌≢◌, ◌==◌, ℕ, ◌+◌, ◌<◌, Bool, true, false, List, [], ◌∷◌, ◌++◌, refl, sym, ap, ◌∙◌, subst, arith}
 use Rattle.std.specs.Prelude.{Ok, Err, if◌then◌else◌}
 use Rattle.std.proofs.lemmas.List.{length-append}
 use Rattle.std.proofs.lemmas.List.Elements.{All-push}
@@ -9,7 +9,6 @@ use Rattle.commons.specs.declared.refusal.Refusal.{Refusal}
 use Rattle.commons.specs.declared.refusal.Refusal.TheVariants.{RefSpent, Contended}
 use Rattle.step_core.specs.Bags.{without}
 use Rattle.step_core.specs.Sights.{raised, freed, hold_ended}
-use Rattle.step_core.specs.declared.view.View.{View}
 use Rattle.step_core.specs.declared.step.Step.TheVariants.{Sole, Lower, Reset}
 use Rattle.step_core.specs.declared.step.Outcome.TheVariants.{Value, Done}
 use Rattle.ground.specs.Seats.{Seated, after, Steps}

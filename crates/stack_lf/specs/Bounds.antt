@@ -1,9 +1,10 @@
 -- How many steps a call takes at most, and what it read.
-use Rattle.std.specs.Prelude.{ℕ, ◌+◌, ◌*◌, ◌≤◌, List, length}
+use Rattle.std.specs.Prelude.{ℕ, ◌+◌, ◌*◌, ◌≤◌, List, length, Ok, Err}
 use Rattle.commons.specs.Calls.{Call, GetList, PutList, Claim, CountOf, Raise, Lower, Offer, Take, CommonCount, HasCause}
 use Rattle.commons.specs.declared.limits.Limits.{Limits}
 use Rattle.stack_lf.specs.Tries.{Try, IsOfCall, notes_of, readings_of}
 
+-- how many steps on words; an offer or a take that is met has one more, on the desk's slot
 abbrev pub most_steps : Limits → Call → ℕ
 most_steps l (GetList n answer) = l.tries * (n + 4) + 1
 most_steps l (PutList xs answer) = l.tries * (length xs + 2) + 1
@@ -11,8 +12,10 @@ most_steps l (Claim i) = 1
 most_steps l (CountOf i n) = 1
 most_steps l (Raise i answer) = 2 * l.tries
 most_steps l (Lower i answer) = 3
-most_steps l (Offer d packet answer) = 0
-most_steps l (Take d answer) = 0
+most_steps l (Offer d packet (Ok _)) = 2
+most_steps l (Offer d packet (Err e)) = 1
+most_steps l (Take d (Ok packet)) = 2
+most_steps l (Take d (Err e)) = 1
 most_steps l (CommonCount n) = 1
 
 abbrev pub AreBounded : Type 0

@@ -1,8 +1,9 @@
 -- What one try, a loop of tries, and a whole call leave of a seat.
-use Rattle.std.specs.Prelude.{◌≡◌, false, ℕ, ◌+◌, ◌-◌, ◌<◌, ◌≤◌, List, [], ◌∷◌, ◌++◌, length, reverse, map, All, Option, Some, None, Result, Ok, Err}
+use Rattle.std.specs.Prelude.{◌≡◌, ◌≢◌, false, ℕ, ◌+◌, ◌-◌, ◌<◌, ◌≤◌, List, [], ◌∷◌, ◌++◌, length, reverse, map, All, Option, Some, None, Result, Ok, Err}
 use Rattle.commons.specs.declared.refusal.Refusal.{Refusal}
 use Rattle.commons.specs.declared.limits.Limits.{Limits}
-use Rattle.commons.specs.declared.refusal.Refusal.TheVariants.{NoEntries, Contended, HeadSpent, RefSpent}
+use Rattle.commons.specs.declared.packet.Seg.{Seg}
+use Rattle.commons.specs.declared.refusal.Refusal.TheVariants.{NoEntries, Contended, HeadSpent, RefSpent, NoSuchDesk, DeskTaken, DeskEmpty}
 use Rattle.commons.specs.declared.refusal.Lowered.{Lowered as Answer}
 use Rattle.commons.specs.declared.refusal.Lowered.TheVariants.{Last, Still}
 use Rattle.step_core.specs.declared.view.Head.{Head}
@@ -10,11 +11,11 @@ use Rattle.step_core.specs.declared.view.Look.{Look}
 use Rattle.step_core.specs.declared.view.Chain.{Chain}
 use Rattle.step_core.specs.declared.view.View.{View}
 use Rattle.step_core.specs.Bags.{minus}
-use Rattle.step_core.specs.Sights.{raised, freed, hold_ended}
+use Rattle.step_core.specs.Sights.{raised, freed, hold_ended, working, opened, seized}
 use Rattle.ground.specs.Seats.{Seated, after}
 use Rattle.stack_lf.specs.declared.tried.Tried.{Tried}
 use Rattle.stack_lf.specs.declared.tried.Tried.TheVariants as tried
-use Rattle.stack_lf.specs.Tries.{Try, Walk, IsWalk, Short, Reserved, notes, notes_of, elements, link_note, stores, IsMiss, IsLostCut, IsWonCut, IsLostPush, IsWonPush, IsSpent, IsGet, IsPut, Raised, Counted, IsLostRaise, IsRaise, IsLower}
+use Rattle.stack_lf.specs.Tries.{Try, Walk, IsWalk, Short, Reserved, notes, notes_of, elements, link_note, stores, IsMiss, IsLostCut, IsWonCut, IsLostPush, IsWonPush, IsSpent, IsGet, IsPut, Raised, Counted, IsLostRaise, IsRaise, IsLower, Unoffered, Offered, Untaken, Fetched}
 
 -- the seat after these tries, with this view
 abbrev pub tried_to : Seated → List Try → View → Seated
@@ -27,6 +28,10 @@ seen_as v look seen = record v { look = look; seen = seen }
 -- the seat has every part of its pool, so that no other takes a step
 abbrev pub IsAlone : Seated → Type 0
 IsAlone s = s.known.view.part ≡ s.known.limits.workers
+
+-- and the pool has no desks, so that no packet on one has holds of which the seat doesn't know
+abbrev pub IsBare : Seated → Type 0
+IsBare s = IsAlone s × (s.known.limits.desks ≡ 0)
 
 -- ---- a walk
 
@@ -214,3 +219,32 @@ lowered_as i Still v = hold_ended v i false
 abbrev pub Lowers : ℕ → Answer → Seated → Seated → Type 0
 Lowers i answer s t =
     (x : Try) × IsLower i answer x × (t ≡ after s (notes x) (lowered_as i answer s.known.view))
+
+-- ---- the desks
+
+-- the view once it gave a packet away over a desk, and once it took one from there
+abbrev pub offered_as : List Seg → View → View
+offered_as p v = working (opened v p) None
+
+abbrev pub taken_as : List Seg → View → View
+taken_as p v = working (seized v p) None
+
+-- an offer, by its answer
+abbrev pub Offers : ℕ → List Seg → Result (Unit {0}) Refusal → Seated → Seated → Type 0
+Offers d p (Ok _) s t =
+    (d < s.known.limits.desks) × (t ≡ after s (notes (Offered d p)) (offered_as p s.known.view))
+Offers d p (Err NoSuchDesk) s t = (s.known.limits.desks ≤ d) × (t ≡ s)
+Offers d p (Err DeskTaken) s t =
+    (found : ℕ) × (d < s.known.limits.desks) × (found ≢ 0)
+    × (t ≡ after s (notes (Unoffered d found)) s.known.view)
+Offers d p (Err _) s t = ⊥
+
+-- a take, by its answer
+abbrev pub Takes : ℕ → Result (List Seg) Refusal → Seated → Seated → Type 0
+Takes d (Ok p) s t =
+    (d < s.known.limits.desks) × (t ≡ after s (notes (Fetched d p)) (taken_as p s.known.view))
+Takes d (Err NoSuchDesk) s t = (s.known.limits.desks ≤ d) × (t ≡ s)
+Takes d (Err DeskEmpty) s t =
+    (found : ℕ) × (d < s.known.limits.desks) × (found ≢ 2)
+    × (t ≡ after s (notes (Untaken d found)) s.known.view)
+Takes d (Err _) s t = ⊥

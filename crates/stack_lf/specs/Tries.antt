@@ -1,14 +1,15 @@
 -- The tries of a call over words: their steps, and what they read.
 use Rattle.std.specs.Prelude.{◌≡◌, ◌≢◌, ℕ, suc, ◌<◌, ◌≤◌, true, false, List, [], ◌∷◌, ◌++◌, ◌⊎◌, length, map, flat_map, All, Result, Ok, Err}
-use Rattle.commons.specs.Calls.{Reading, Length, Head as HeadRead, Count, Lost as LostRead, Call, GetList, PutList, Claim, CountOf, Raise, Lower, Offer, Take, CommonCount, spent}
+use Rattle.commons.specs.Calls.{Reading, Length, Head as HeadRead, Count, Desk, Lost as LostRead, Call, GetList, PutList, Claim, CountOf, Raise, Lower, Offer, Take, CommonCount, spent}
 use Rattle.commons.specs.declared.limits.Limits.{Limits}
+use Rattle.commons.specs.declared.packet.Seg.{Seg}
 use Rattle.commons.specs.declared.refusal.Refusal.{Refusal}
-use Rattle.commons.specs.declared.refusal.Refusal.TheVariants.{NoEntries, Contended, HeadSpent, RefSpent, NoSuchDesk}
+use Rattle.commons.specs.declared.refusal.Refusal.TheVariants.{NoEntries, Contended, HeadSpent, RefSpent, NoSuchDesk, DeskTaken, DeskEmpty}
 use Rattle.commons.specs.declared.refusal.Lowered.{Lowered as Answer}
 use Rattle.commons.specs.declared.refusal.Lowered.TheVariants.{Last, Still}
 use Rattle.step_core.specs.declared.view.Head.{Head}
-use Rattle.step_core.specs.declared.step.Step.TheVariants.{LoadLength, Reserve, Add, LoadHead, LoadLink, Cut, StoreLink, Push, Claim as ClaimStep, Sole, Raise as RaiseStep, Lower as LowerStep, Reset}
-use Rattle.step_core.specs.declared.step.Outcome.TheVariants.{Value, HeadIs, Won, Got, Lost, LostTo, Done}
+use Rattle.step_core.specs.declared.step.Step.TheVariants.{LoadLength, Reserve, Add, LoadHead, LoadLink, Cut, StoreLink, Push, Claim as ClaimStep, Sole, Raise as RaiseStep, Lower as LowerStep, Reset, Hold, Open, Seize, Clear}
+use Rattle.step_core.specs.declared.step.Outcome.TheVariants.{Value, HeadIs, Won, Got, Lost, LostTo, Done, Found}
 use Rattle.ground.specs.Seats.{Seated, Note, element_of}
 
 -- links that were walked, each an element with the value of its link
@@ -56,6 +57,12 @@ pub data Try : Type 0 where
   -- a count was read, and then lowered from what it was; from 1, it was set to 1 again
   Lowered : (element count before : ℕ) → Try
   Lasted : (element count : ℕ) → Try
+  -- a desk was found in no state to be filled, or this packet was left on it
+  Unoffered : (desk found : ℕ) → Try
+  Offered : (desk : ℕ) (packet : List Seg) → Try
+  -- a desk was found in no state to be emptied, or this packet was taken off it
+  Untaken : (desk found : ℕ) → Try
+  Fetched : (desk : ℕ) (packet : List Seg) → Try
 
 abbrev pub link_note : ℕ × ℕ → Note
 link_note p = (LoadLink p.0, Value p.1)
@@ -92,6 +99,10 @@ notes (Raised i c) = (Sole i false, Value c) ∷ (RaiseStep i c, Won) ∷ []
 notes (Freed i) = (Sole i true, Value 1) ∷ []
 notes (Lowered i c before) = (Sole i true, Value c) ∷ (LowerStep i, Value before) ∷ []
 notes (Lasted i c) = (Sole i true, Value c) ∷ (LowerStep i, Value 1) ∷ (Reset i, Done) ∷ []
+notes (Unoffered d found) = (Hold d, Lost found) ∷ []
+notes (Offered d p) = (Hold d, Won) ∷ (Open d, Found p) ∷ []
+notes (Untaken d found) = (Seize d, Lost found) ∷ []
+notes (Fetched d p) = (Seize d, Found p) ∷ (Clear d, Done) ∷ []
 
 -- what a try read
 abbrev pub reads : Try → List Reading
@@ -112,6 +123,10 @@ reads (Raised i c) = Count i c ∷ []
 reads (Freed i) = Count i 1 ∷ []
 reads (Lowered i c before) = Count i c ∷ Count i before ∷ []
 reads (Lasted i c) = Count i c ∷ Count i 1 ∷ []
+reads (Unoffered d found) = Desk d found ∷ []
+reads (Offered d p) = Desk d 0 ∷ []
+reads (Untaken d found) = Desk d found ∷ []
+reads (Fetched d p) = Desk d 2 ∷ []
 
 abbrev pub notes_of : List Try → List Note
 notes_of ts = flat_map notes ts
@@ -203,7 +218,23 @@ abbrev pub IsLower : ℕ → Answer → Try → Type 0
 IsLower i Last x = (x ≡ Freed i) ⊎ ((c : ℕ) × (1 < c) × (x ≡ Lasted i c))
 IsLower i Still x = (c before : ℕ) × (1 < c) × (1 < before) × (x ≡ Lowered i c before)
 
--- The tries of a call. There are no desks on words as yet, so that an offer and a take are refused without a step.
+-- The one try of an offer, by its answer, which is noted with the packet that was left; none where there is no such desk.
+abbrev pub IsOffer : Limits → ℕ → List Seg → Result (Unit {0}) Refusal → List Try → Type 0
+IsOffer l d p (Ok _) ts = (d < l.desks) × (ts ≡ Offered d p ∷ [])
+IsOffer l d p (Err NoSuchDesk) ts = (l.desks ≤ d) × (ts ≡ [])
+IsOffer l d p (Err DeskTaken) ts =
+    (found : ℕ) × (d < l.desks) × (found ≢ 0) × (ts ≡ Unoffered d found ∷ [])
+IsOffer l d p (Err _) ts = ⊥
+
+-- the same of a take
+abbrev pub IsTake : Limits → ℕ → Result (List Seg) Refusal → List Try → Type 0
+IsTake l d (Ok p) ts = (d < l.desks) × (ts ≡ Fetched d p ∷ [])
+IsTake l d (Err NoSuchDesk) ts = (l.desks ≤ d) × (ts ≡ [])
+IsTake l d (Err DeskEmpty) ts =
+    (found : ℕ) × (d < l.desks) × (found ≢ 2) × (ts ≡ Untaken d found ∷ [])
+IsTake l d (Err _) ts = ⊥
+
+-- The tries of a call.
 abbrev pub IsOfCall : Limits → Call → List Try → Type 0
 IsOfCall l (GetList n answer) ts = IsGet l.tries n answer ts
 IsOfCall l (PutList xs answer) ts = IsPut l.tries xs answer ts
@@ -211,16 +242,17 @@ IsOfCall l (Claim i) ts = ts ≡ Taken i ∷ []
 IsOfCall l (CountOf i n) ts = ts ≡ Counted i n ∷ []
 IsOfCall l (Raise i answer) ts = IsRaise l i answer ts
 IsOfCall l (Lower i answer) ts = (x : Try) × IsLower i answer x × (ts ≡ x ∷ [])
-IsOfCall l (Offer d packet answer) ts = (l.desks ≤ d) × (answer ≡ Err NoSuchDesk) × (ts ≡ [])
-IsOfCall l (Take d answer) ts = (l.desks ≤ d) × (answer ≡ Err NoSuchDesk) × (ts ≡ [])
+IsOfCall l (Offer d packet answer) ts = IsOffer l d packet answer ts
+IsOfCall l (Take d answer) ts = IsTake l d answer ts
 IsOfCall l (CommonCount n) ts = ts ≡ Short n ∷ []
 
--- the call was refused after as many lost tries as the pool allows
-abbrev pub IsContended : Call → Type 0
-IsContended (GetList n (Err Contended)) = Unit {0}
-IsContended (PutList xs (Err Contended)) = Unit {0}
-IsContended (Raise i (Err Contended)) = Unit {0}
-IsContended _ = ⊥
+-- The call was refused after as many lost tries as the pool allows, in a pool in which a seat of every part knows what
+-- it exchanges: of a put that is the head, and of a get and a raise a length and a count, with desks or without.
+abbrev pub IsContended : Limits → Call → Type 0
+IsContended l (GetList n (Err Contended)) = l.desks ≡ 0
+IsContended l (PutList xs (Err Contended)) = Unit {0}
+IsContended l (Raise i (Err Contended)) = l.desks ≡ 0
+IsContended l _ = ⊥
 
 -- what a call over words did: it took the steps of these tries, by this seat, and read what they read
 pub record DidOnWords (s : Seated) (call : Call) (rs : List Reading) (t : Seated) : Type 0 where
@@ -234,4 +266,4 @@ pub record DidOnWords (s : Seated) (call : Call) (rs : List Reading) (t : Seated
   pub steps : t.known.steps ≡ s.known.steps ++ notes_of tries
   pub read : rs ≡ readings_of tries
   -- a seat of every part is in nobody's way
-  pub alone : s.known.view.part ≡ s.known.limits.workers → IsContended call → ⊥
+  pub alone : s.known.view.part ≡ s.known.limits.workers → IsContended s.known.limits call → ⊥

@@ -6,7 +6,7 @@ ghost use Rattle.step_core.specs.declared.step.Step.TheVariants.{LoadLength, Sol
 ghost use Rattle.step_core.specs.declared.step.Outcome.TheVariants.{Value};
 ghost use Rattle.ground.specs.Seats.{IsOf, Steps};
 ghost use Rattle.ground.specs.Own.{Owned};
-ghost use Rattle.stack_lf.specs.Leaves.{TriesRaise, Raises, Lowers, IsAlone};
+ghost use Rattle.stack_lf.specs.Leaves.{TriesRaise, Raises, Lowers, IsBare};
 
 use crate::tried::Tried;
 use commons::limits::Limits;
@@ -58,7 +58,7 @@ fn try_raise(ground: &Ground, seat: &mut GroundSeat, element: u32, limits: &Limi
     requires held { 0 < bag seat.old.known.view.holds element }
     requires limits { limits.now ≡ ground.now.limits }
     ensures one { TriesRaise limits.now element result seat.old seat.new }
-    ensures alone { IsAlone seat.old → result ≢ Tried.Lost }
+    ensures alone { IsBare seat.old → result ≢ Tried.Lost }
 {
     let count = ground.sole(seat, element, false);
     if limits.ref_limit <= count {
@@ -81,7 +81,7 @@ fn raise_by_tries(
     requires held { 0 < bag seat.old.known.view.holds element }
     requires limits { limits.now ≡ ground.now.limits }
     ensures raised { Raises limits.now element result seat.old seat.new }
-    ensures alone { IsAlone seat.old → 1 ≤ limits.now.tries → result ≢ Err Refusal.Contended }
+    ensures alone { IsBare seat.old → 1 ≤ limits.now.tries → result ≢ Err Refusal.Contended }
 {
     let backoff = Backoff::new();
     for _ in 0..limits.tries {
@@ -105,7 +105,7 @@ pub(crate) fn raise(
     requires held { 0 < bag seat.old.known.view.holds element }
     requires limits { limits.now ≡ ground.now.limits }
     ensures raised { Raises limits.now element result seat.old seat.new }
-    ensures alone { IsAlone seat.old → 1 ≤ limits.now.tries → result ≢ Err Refusal.Contended }
+    ensures alone { IsBare seat.old → 1 ≤ limits.now.tries → result ≢ Err Refusal.Contended }
     ensures own { Owned seat.new.known.limits seat.new.known.view }
 {
     let answer = raise_by_tries(ground, seat, element, limits);

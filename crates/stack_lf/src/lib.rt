@@ -3,6 +3,7 @@
 #![tactic(auto)]
 
 mod counting;
+mod desking;
 mod getting;
 pub mod laws;
 mod putting;

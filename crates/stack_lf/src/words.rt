@@ -7,7 +7,7 @@ ghost use Rattle.ground.specs.Own.{Owned, AtRest};
 ghost use Rattle.stack_lf.specs.Sides.{side_of};
 ghost use Rattle.stack_lf.specs.Tries.{DidOnWords};
 
-use crate::{counting, getting, putting};
+use crate::{counting, desking, getting, putting};
 use commons::packet::Packet;
 use commons::refusal::{Lowered, Refusal};
 use commons::shared::Commons;
@@ -29,7 +29,6 @@ pub struct WordCommons<'a> {
     ground: &'a Ground,
     seat: GroundSeat,
     pub ghost of: { IsOf ground.now seat },
-    pub ghost bare: { ground.now.limits.desks ≡ 0 },
     pub ghost rest: { AtRest seat.known.view },
     pub ghost owned: { Owned seat.known.limits seat.known.view } by { Prim.hlevel props },
 }
@@ -108,14 +107,16 @@ impl<'a> Commons for WordCommons<'a> {
         counting::lower(self.ground, &mut self.seat, element)
     }
 
-    /// A ground has no desks as yet.
-    fn offer(&mut self, _desk: u32, packet: Packet) -> Result<(), (Refusal, Packet)> {
-        Err((Refusal::NoSuchDesk, packet))
+    /// Takes two steps on the desk's word and an exchange of what is in its slot, or one step where the desk isn't empty,
+    /// and none where there is no such desk.
+    fn offer(&mut self, desk: u32, packet: Packet) -> Result<(), (Refusal, Packet)> {
+        desking::offer(self.ground, &mut self.seat, desk, packet)
     }
 
-    /// A ground has no desks as yet.
-    fn take(&mut self, _desk: u32) -> Result<Packet, Refusal> {
-        Err(Refusal::NoSuchDesk)
+    /// Takes two steps on the desk's word and an exchange of what is in its slot, or one step where the desk has no
+    /// packet, and none where there is no such desk.
+    fn take(&mut self, desk: u32) -> Result<Packet, Refusal> {
+        desking::take(self.ground, &mut self.seat, desk)
     }
 
     /// Takes one step.

@@ -4,6 +4,7 @@ use Rattle.std.specs.Prelude.{All, min, max, slice_index, sum_by}
 use Rattle.std.specs.List.{range_with_len}
 use Rattle.std.proofs.lemmas.List.{append-nil}
 use Rattle.std.proofs.lemmas.List.Elements.{All-contains}
+use lib.ListN.{length-map}
 use Rattle.commons.specs.Bag.{bag}
 use Rattle.commons.specs.Closing.{top_word}
 use Rattle.commons.specs.declared.closed.Closed.{Closed}
@@ -17,12 +18,11 @@ use Rattle.pool_model.specs.Pool.{held_by}
 use Rattle.pool_model.proofs.Listed.{sum_by-map}
 use Rattle.step_core.specs.Bags.{below}
 use Rattle.step_core.specs.Headers.{all_headers}
-use Rattle.step_core.specs.declared.view.Desk.{Desk}
 use Rattle.step_core.specs.declared.view.View.{View}
 use Rattle.step_core.specs.World.{World, all_holds, all_zeros, credits, empty_view, hands, link_in, view_at}
 use Rattle.step_core.proofs.Bags.{below-at, below-le, below-past, times-nil}
 use Rattle.step_core.proofs.StackSteps.{one_view}
-use Rattle.ground.specs.Closing.{Nothing}
+use Rattle.ground.specs.Closing.{Nothing, packet_on}
 use Rattle.ground.proofs.Playing.{view_there}
 use Rattle.snapshot.specs.Closing.{share_of, snapshot_of}
 use Rattle.snapshot.specs.declared.fault.Fault.{Fault}
@@ -35,7 +35,7 @@ use Rattle.snapshot.proofs.FollowedLinks.{AreLinked, words_linked}
 use Rattle.snapshot.proofs.Walks.{IsBelow, elements_after, words_and, words_of}
 use Rattle.word_book.specs.Leaving.{IsLeftWith}
 use Rattle.word_book.specs.Shares.{cached_by, owned_by}
-use Rattle.word_book.proofs.Desks.{kept_on, shelves_held, shelves_own}
+use Rattle.word_book.proofs.Desks.{shelves_held, shelves_own}
 use Rattle.word_book.proofs.Sums.{alone_sum}
 use Rattle.word_book.proofs.Walked.{linked_by, top_of}
 
@@ -82,15 +82,11 @@ module _ (l : Limits) (c : Closed) (members : List Member) (h : IsLeftWith l c m
       (λ j ne. ap (λ xs. bag xs i) (others j ne).zeros ∙ times-nil i)
       ∙ ap (λ xs. bag xs i) h.rest.zeros ∙ times-nil i
 
-  -- what the pool left on its desks is what lay on full ones
-  on_desks : c.desks ≡ map kept_on w.desks
-  on_desks = h.left.desks ∙ sym (ap (λ (ds : List Desk). map kept_on ds) h.left.no_desks)
-
   holds_are : (i : ℕ) → all_holds i w.views w.desks ≡ bag h.view.holds i + held_in c.desks i
   holds_are i =
       let views = of_view (λ v. bag v.holds i) (times-nil i)
       (λ j ne. ap (λ xs. bag xs i) (others j ne).holds ∙ times-nil i) in
-      let desks = ap (λ (ps : List (Option (List Seg))). held_in ps i) on_desks ∙ shelves_held w.desks i in
+      let desks = ap (λ (ps : List (Option (List Seg))). held_in ps i) h.left.desks ∙ shelves_held w.desks i in
       omega arith
 
   no_credit : credits w.views ≡ 0
@@ -181,7 +177,7 @@ module _ (l : Limits) (c : Closed) (members : List Member) (h : IsLeftWith l c m
   shaped numbers = record {
     links = ap length h.left.links ∙ (h.left.law.ranges.links ∙ population_is);
     counts = ap length h.left.counts ∙ (h.left.law.ranges.counts ∙ population_is);
-    desks = h.desks;
+    desks = ap length h.left.desks ∙ (length-map w.desks packet_on ∙ h.left.desk_count);
     shares = workers_again members ∙ numbers;
   }
     where
@@ -204,7 +200,7 @@ module _ (l : Limits) (c : Closed) (members : List Member) (h : IsLeftWith l c m
   own_once i =
       let one = one_view (λ v. bag v.headers i) w.views h.left.id (times-nil i) in
       let same = ap (λ (v : View). bag v.headers i) is in
-      let desks = ap (λ (ps : List (Option (List Seg))). own_in ps i) on_desks ∙ shelves_own w.desks i in
+      let desks = ap (λ (ps : List (Option (List Seg))). own_in ps i) h.left.desks ∙ shelves_own w.desks i in
       let once : all_headers i w.views w.desks ≤ 1 = h.left.headers.once i in
       omega (arith, own_is i, h.shares.headers i)
 

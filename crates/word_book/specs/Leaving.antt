@@ -1,5 +1,5 @@
 -- What a pool on words leaves, with the shares of its workers.
-use Rattle.std.specs.Prelude.{◌≡◌, List, length}
+use Rattle.std.specs.Prelude.{◌≡◌, List}
 use Rattle.commons.specs.declared.closed.Closed.{Closed}
 use Rattle.commons.specs.declared.limits.Limits.{Limits}
 use Rattle.ground.specs.Closing.{LeftOf}
@@ -11,15 +11,14 @@ use Rattle.snapshot.specs.Snapshots.{statement_in}
 use Rattle.step_core.specs.declared.view.View.{View}
 use Rattle.word_book.specs.Shares.{AreSharesOf}
 
--- A ground of these limits left it, closed by a seat at rest that had every part; these are the shares of that seat's
--- view, and there is a place for each desk.
+-- A ground of these limits left it, closed by a seat at rest that had every part, and these are the shares of that
+-- seat's view. What lies on full desks is nobody's share.
 pub record IsLeftWith (l : Limits) (c : Closed) (members : List Member) : Type 0 where
   pub view : View
   pub left : LeftOf l view c
   pub whole : view.part ≡ l.workers
   pub rest : AtRest view
   pub shares : AreSharesOf members view
-  pub desks : length c.desks ≡ l.desks
 
 -- The statement of what a ground of these limits left, closed by the seat with this view, and of these shares.
 pub record IsStatementOf (l : Limits) (v : View) (members : List Member) (s : Statement) : Type 0 where

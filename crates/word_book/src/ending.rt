@@ -28,7 +28,8 @@ use pool_model::statement::Statement;
 use std::alloc::Global;
 
 /// Closes a ground by the seat that has every part, and settles it with the shares of all its workers, which are what
-/// the seat has. The statement lists each element exactly once, and each packet has a place of its own.
+/// the seat has. What lies on full desks is nobody's share, and stands in the statement as theirs. The statement lists
+/// each element exactly once, and each packet has a place of its own.
 ///
 /// Refused `OutOfMemory` where memory was refused. The pool is ended then too, and nothing is left of it.
 pub fn settled(

@@ -1,4 +1,4 @@
-//! Random schedules of the eight steps of the stack, by two players beside the machine.
+//! Random schedules of all steps, by two players beside the machine.
 
 use super::acts::Act;
 use super::{assert_closed, assert_views, step_both};
@@ -7,7 +7,7 @@ use commons::limits::Limits;
 use std::process::Abort;
 use std::test::Fail;
 use step_core::elems::Elems;
-use step_core::view::View;
+use step_core::view::{Phase, View, Work};
 use step_core::world::World;
 
 /// Where the generator starts.
@@ -16,18 +16,30 @@ const SEED: u64 = 20_261_125;
 const SCHEDULES: u64 = 1_000;
 
 /// Steps of a schedule, the refused ones too.
-const STEPS: u64 = 40;
+const STEPS: u64 = 60;
 
 /// An act of each kind of step, from those that are drawn seldom to those drawn often. Their numbers say nothing.
-const KINDS: [Act; 8] = [
-    Act::Add(0),
+const KINDS: [Act; 20] = [
     Act::LoadLength,
     Act::LoadHead,
+    Act::Add(0),
+    Act::Sole(0),
+    Act::Lower(0),
+    Act::SoleFree(0),
     Act::Reserve(0, 0),
-    Act::LoadLink(0),
-    Act::Cut,
     Act::StoreLink(0, None),
+    Act::LoadLink(0),
     Act::Push,
+    Act::Cut,
+    Act::Raise(0, 0),
+    Act::Claim(0),
+    Act::Reset(0),
+    Act::Hold(0),
+    Act::PutIn(0, 0, None),
+    Act::Open(0),
+    Act::Seize(0),
+    Act::TakeOut(0),
+    Act::Clear(0),
 ];
 
 /// A linear congruential generator.
@@ -66,9 +78,9 @@ fn limits_of(draws: &mut Draws) -> Limits {
         population: 1 + draws.below(6),
         cache: 0,
         workers: 2,
-        desks: 0,
+        desks: draws.below(3),
         buf: 2048,
-        ref_limit: 1,
+        ref_limit: 1 + draws.below(3),
         tries: 1,
         start_count: 0,
     }
@@ -79,16 +91,30 @@ fn element_of(link: u32) -> Option<u64> {
     link.checked_sub(1).map(u64::from)
 }
 
-/// An act of this kind with any numbers, some of them of no pool.
+/// An act of this kind with any numbers, some of them of no pool. What is put in is of no pool, so that nothing is opened
+/// but what is a header of its worker.
 fn any_act(kind: Act, draws: &mut Draws) -> Act {
     let element = draws.below(8);
     let number = draws.below(8);
+    let desk = draws.below(4) as u32;
     match kind {
         Act::LoadLength | Act::LoadHead | Act::Cut | Act::Push => kind,
         Act::Reserve(..) => Act::Reserve(element, number),
         Act::Add(_) => Act::Add(number),
         Act::LoadLink(_) => Act::LoadLink(element),
         Act::StoreLink(..) => Act::StoreLink(element, number.checked_sub(1)),
+        Act::Claim(_) => Act::Claim(element),
+        Act::Sole(_) => Act::Sole(element),
+        Act::SoleFree(_) => Act::SoleFree(element),
+        Act::Raise(..) => Act::Raise(element, number),
+        Act::Lower(_) => Act::Lower(element),
+        Act::Reset(_) => Act::Reset(element),
+        Act::Hold(_) => Act::Hold(desk),
+        Act::PutIn(..) => Act::PutIn(desk, 8, None),
+        Act::Open(_) => Act::Open(desk),
+        Act::Seize(_) => Act::Seize(desk),
+        Act::TakeOut(_) => Act::TakeOut(desk),
+        Act::Clear(_) => Act::Clear(desk),
     }
 }
 
@@ -128,9 +154,36 @@ fn may_push(view: &View) -> bool {
     }
 }
 
-/// An act of this kind that the worker of this number can play, if there is one.
-fn fit_act(kind: Act, world: &World, worker: u32, draws: &mut Draws) -> Option<Act> {
-    let view = world.views().get(worker.checked_sub(1)? as usize)?;
+/// One more hold of an element, from its count or another.
+fn raise_of(world: &World, view: &View, draws: &mut Draws) -> Option<Act> {
+    let element = draws.pick(&view.holds)?;
+    let count = world.counts().get(element as usize)?;
+    Some(Act::Raise(
+        u64::from(element),
+        u64::from(*count) + draws.below(2),
+    ))
+}
+
+/// A packet of a header, and of another element that is held or of none, for the desk in work.
+fn put_in_of(view: &View, draws: &mut Draws) -> Option<Act> {
+    let work = view.work.as_ref()?;
+    let element = draws.pick(&view.headers)?;
+    let base = draws.pick(&view.holds).filter(|base| *base != element);
+    Some(Act::PutIn(work.desk, element, base))
+}
+
+/// The next step of a worker on the desk in work, once it is begun.
+fn desk_of(kind: Act, work: &Work) -> Option<Act> {
+    match (kind, &work.phase) {
+        (Act::Open(_), Phase::Filled(_)) => Some(Act::Open(work.desk)),
+        (Act::TakeOut(_), Phase::Seized(_)) => Some(Act::TakeOut(work.desk)),
+        (Act::Clear(_), Phase::TakenOut) => Some(Act::Clear(work.desk)),
+        _ => None,
+    }
+}
+
+/// An act of this kind that the worker with this view can play, if there is one.
+fn fit_step(kind: Act, world: &World, view: &View, draws: &mut Draws) -> Option<Act> {
     match kind {
         Act::LoadLength => Some(kind),
         Act::LoadHead if view.look.is_none() => Some(kind),
@@ -140,33 +193,74 @@ fn fit_act(kind: Act, world: &World, worker: u32, draws: &mut Draws) -> Option<A
         Act::Cut if view.cut_expected().is_some() => Some(kind),
         Act::StoreLink(..) => store_link_of(view, draws),
         Act::Push if may_push(view) => Some(kind),
+        Act::Claim(_) => Some(Act::Claim(u64::from(draws.pick(&view.hand)?))),
+        Act::Sole(_) => Some(Act::Sole(u64::from(draws.pick(&view.holds)?))),
+        Act::SoleFree(_) => Some(Act::SoleFree(u64::from(draws.pick(&view.holds)?))),
+        Act::Raise(..) => raise_of(world, view, draws),
+        Act::Lower(_) => Some(Act::Lower(u64::from(draws.pick(&view.holds)?))),
+        Act::Reset(_) => Some(Act::Reset(u64::from(draws.pick(&view.zeros)?))),
+        Act::Hold(_) if view.work.is_none() => Some(Act::Hold(draws.below(2) as u32)),
+        Act::Seize(_) if view.work.is_none() => Some(Act::Seize(draws.below(2) as u32)),
+        Act::PutIn(..) => put_in_of(view, draws),
+        Act::Open(_) | Act::TakeOut(_) | Act::Clear(_) => desk_of(kind, view.work.as_ref()?),
         _ => None,
     }
 }
 
+/// The desk that a worker of this view has seized and not emptied.
+fn seized_desk(view: &View) -> Option<u32> {
+    let work = view.work.as_ref()?;
+    match work.phase {
+        Phase::Seized(_) => Some(work.desk),
+        _ => None,
+    }
+}
+
+/// The view of the worker of this number, if there is one.
+fn view_of(world: &World, worker: u32) -> Option<&View> {
+    world.views().get(worker.checked_sub(1)? as usize)
+}
+
+/// An act of this kind that the worker of this number can play, if there is one.
+fn fit_act(kind: Act, world: &World, worker: u32, draws: &mut Draws) -> Option<Act> {
+    fit_step(kind, world, view_of(world, worker)?, draws)
+}
+
+/// Where the kind that takes a packet out stands in the table.
+const TAKE_OUT: usize = 18;
+
 /// A kind by its place in the table, a worker and an act: four times in five an act that the worker can play, if one is
 /// soon found, and else any, by workers that aren't there too.
-fn drawn_act(world: &World, draws: &mut Draws) -> (usize, u32, Act) {
+fn drawn_kind(world: &World, draws: &mut Draws) -> (usize, u32, Act) {
     if draws.below(5) > 0 {
         for _ in 0..32 {
             // Those further down need what those above them made.
-            let kind = draws.below(8).max(draws.below(8)) as usize;
+            let kind = draws.below(20).max(draws.below(20)) as usize;
             let worker = 1 + draws.below(2) as u32;
             if let Some(act) = fit_act(KINDS[kind], world, worker, draws) {
                 return (kind, worker, act);
             }
         }
     }
-    let kind = draws.below(8) as usize;
+    let kind = draws.below(20) as usize;
     let worker = draws.below(4) as u32;
     (kind, worker, any_act(KINDS[kind], draws))
+}
+
+/// The same, but that a worker which has seized a desk takes the packet out, since a player does nothing else then.
+fn drawn_act(world: &World, draws: &mut Draws) -> (usize, u32, Act) {
+    let (kind, worker, act) = drawn_kind(world, draws);
+    match view_of(world, worker).and_then(seized_desk) {
+        Some(desk) => (TAKE_OUT, worker, Act::TakeOut(desk)),
+        None => (kind, worker, act),
+    }
 }
 
 /// Plays a schedule by both, and compares each answer and the words at the end. Notes which kinds were played.
 fn play_schedule<R: Abort + AllocGlobal>(
     rt: &R,
     draws: &mut Draws,
-    played: &mut [bool; 8],
+    played: &mut [bool; 20],
 ) -> Result<(), Fail> {
     let limits = limits_of(draws);
     let mut world = World::open(rt.alloc(), &limits)?;
@@ -187,11 +281,11 @@ fn play_schedule<R: Abort + AllocGlobal>(
 #[test]
 fn two_players_answer_random_schedules_as_the_machine_does(rt: HostRuntime) -> Result<(), Fail> {
     let mut draws = Draws { state: SEED };
-    let mut played = [false; 8];
+    let mut played = [false; 20];
     for _ in 0..SCHEDULES {
         play_schedule(&rt, &mut draws, &mut played)?;
     }
-    for kind in 0..8 {
+    for kind in 0..20 {
         let act = KINDS[kind];
         assert!(&rt; played[kind], "{act:?} was never played");
     }

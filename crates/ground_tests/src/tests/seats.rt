@@ -20,7 +20,7 @@ const SEATS: u64 = 64;
 
 /// Limits within which no ground is made.
 const BAD: [Limits; 4] = [
-    Limits { desks: 1, ..TWO },
+    Limits { desks: 65, ..TWO },
     Limits {
         population: 0,
         ..TWO

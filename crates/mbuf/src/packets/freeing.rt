@@ -22,6 +22,7 @@ impl Packets {
     ///
     /// After rte_mbuf.h, `rte_pktmbuf_free` (DPDK 21.11). That a base's hold ends before its segment's
     /// own is our order.
+    #[inline(always)]
     pub fn free<C: Commons>(&mut self, c: &mut C, p: Pid) -> Result<Freed, Refusal>
         requires own { Own self.old (C.side c.old) }
         ensures calls { Calls C.did C.side c.old c.new (λ calls.

@@ -16,6 +16,7 @@ use commons::shared::Commons;
 
 impl Packets {
     /// Claims an element of the hand, and lets its fresh packet stand in the lowest free slot.
+    #[inline(always)]
     fn stand<C: Commons>(&mut self, c: &mut C, elem: u32) -> Pid
         requires hand { 0 < (C.side c.old).hand elem }
         requires free { 0 < length (free_slots self.old.table) }
@@ -58,6 +59,7 @@ impl Packets {
     /// `NoEntries`, `Contended` or `HeadSpent`. Packets, cache and holds are then as before.
     ///
     /// After rte_mbuf.h, `rte_pktmbuf_alloc` (DPDK 21.11). The table of packets is our own.
+    #[inline(always)]
     pub fn alloc<C: Commons>(&mut self, c: &mut C) -> Result<Pid, Refusal>
         requires own { Own self.old (C.side c.old) }
         ensures calls { Calls C.did C.side c.old c.new (λ calls.

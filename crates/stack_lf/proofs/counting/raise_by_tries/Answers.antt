@@ -1,6 +1,6 @@
 use Rattle.std.proofs.Common.{◌≡◌, ◌≤◌, ℕ, refl, sym, subst, arith}
 use Rattle.ground.specs.Seats.{Seated}
-use Rattle.stack_lf.specs.Leaves.{IsAlone}
+use Rattle.stack_lf.specs.Leaves.{IsBare}
 use Rattle.stack_lf.specs.Tries.{IsLostRaise}
 use Rattle.stack_lf.proofs.Composing.{AllLost, all_none}
 use Rattle.stack_lf.proofs.Tallying.{raise_lost, raise_won, raise_refused, raise_given_up, raise_not_contended}
@@ -34,7 +34,7 @@ loop-preserved c = (
   raise_lost c.args.limits.now c.args.element c.loop.counter c.args.seat.now c.loop.seat
       c.try_raise.new.seat c.loop.invariant.0 c.in-Lost.ensures.one,
   λ whole. absurd (c.in-Lost.ensures.alone
-      (subst (λ (z : Seated). IsAlone z) (sym c.loop.invariant.0.3) whole) refl),
+      (subst (λ (z : Seated). IsBare z) (sym c.loop.invariant.0.3) whole) refl),
 )
 
 -- all tries lost

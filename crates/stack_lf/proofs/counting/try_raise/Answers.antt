@@ -3,6 +3,7 @@ use Rattle.ground.specs.Seats.{Seated, KnowsCount}
 use Rattle.step_core.specs.declared.step.Step.TheVariants.{Sole, Raise}
 use Rattle.step_core.specs.declared.step.Outcome.TheVariants.{Value, Won, Lost}
 use Rattle.stack_lf.specs.Tries.{Unraised, Raised}
+use Rattle.stack_lf.proofs.Bare.{count_bare}
 use Rattle.stack_lf.proofs.Composing.{one_more}
 use Rattle.stack_lf.proofs.counting.try_raise.Goals as goal
 
@@ -36,8 +37,10 @@ pub returns-in-Err-clause-alone : goal.returns-in-Err-clause-alone
 returns-in-Err-clause-alone c = λ whole _.
     let n : ℕ = c.sole-count.result in
     let found : ℕ = c.in-Err.field-0 in
-    let a = c.sole-count.ensures.known whole in
-    let b = subst (λ (z : Seated). KnowsCount z.known.limits z.known.view c.args.element found)
-    c.sole-count.ensures.step c.in-Err.ensures.known in
-    let e = b whole in
+    let l = c.args.seat.now.known.limits in
+    let v = c.args.seat.now.known.view in
+    let a = count_bare l v c.args.element n c.sole-count.ensures.known whole.0 whole.1 in
+    let b = count_bare l v c.args.element found
+    (subst (λ (z : Seated). KnowsCount z.known.limits z.known.view c.args.element found)
+    c.sole-count.ensures.step c.in-Err.ensures.known) whole.0 whole.1 in
     c.in-Err.ensures.lost (omega arith)

@@ -1,5 +1,6 @@
 use Rattle.std.proofs.Common.{◌≡◌, ◌≤◌, ℕ, refl, sym, subst, arith}
 use Rattle.ground.specs.Seats.{Seated}
+use Rattle.stack_lf.specs.Leaves.{IsBare}
 use Rattle.stack_lf.specs.Tries.{IsMiss}
 use Rattle.stack_lf.proofs.Composing.{AllLost, all_none, reserve_lost, reserve_won, reserve_refused, reserve_given_up, not_contended}
 use Rattle.stack_lf.proofs.getting.reserve.Goals as goal
@@ -27,7 +28,7 @@ pub loop-preserved : goal.loop-preserved
 loop-preserved c = (
   reserve_lost _ _ _ _ _ c.loop.invariant.0 c.in-Lost.ensures.one,
   λ whole. absurd (c.in-Lost.ensures.alone
-      (subst (λ (z : Seated). z.known.view.part ≡ z.known.limits.workers) (sym c.loop.invariant.0.3)
+      (subst (λ (z : Seated). IsBare z) (sym c.loop.invariant.0.3)
       whole) refl),
 )
 

@@ -1,4 +1,5 @@
 use Rattle.std.proofs.Common.{◌≡◌}
+use Rattle.stack_lf.specs.Leaves.{IsBare}
 use Rattle.stack_lf.specs.Tries.{IsMiss}
 use Rattle.stack_lf.proofs.Composing.{AllLost}
 use Rattle.stack_lf.proofs.getting.reserve.Given as goal
@@ -6,4 +7,4 @@ use Rattle.stack_lf.proofs.getting.reserve.Given as goal
 -- the tries so far lost; a seat of every part lost none
 abbrev pub invariant-loop : goal.invariant-loop
 invariant-loop l = AllLost (IsMiss l.fn.n) l.counter l.fn.seat l.seat
-    × (l.fn.seat.known.view.part ≡ l.fn.seat.known.limits.workers → l.counter ≡ 0)
+    × (IsBare l.fn.seat → l.counter ≡ 0)

@@ -3,6 +3,7 @@ use Rattle.std.proofs.Common.{ℕ, subst, arith, refl, [], ◌∷◌}
 use Rattle.step_core.specs.declared.step.Step.TheVariants.{LoadLength, Reserve as ReserveStep}
 use Rattle.step_core.specs.declared.step.Outcome.TheVariants.{Value, Won, Lost}
 use Rattle.stack_lf.specs.Tries.{Short, Missed, Reserved}
+use Rattle.stack_lf.proofs.Bare.{length_bare}
 use Rattle.stack_lf.proofs.Composing.{one_more}
 use Rattle.stack_lf.proofs.getting.try_reserve.Goals as goal
 
@@ -42,8 +43,9 @@ pub returns-in-Err-clause-alone : goal.returns-in-Err-clause-alone
 returns-in-Err-clause-alone c = λ whole _.
     let v : ℕ = c.load_length-length.result in
     let found : ℕ = c.in-Err.field-0 in
-    let a = c.load_length-length.ensures.known whole in
-    let b = subst (λ (z : Seated). KnowsLength z.known.limits z.known.view found)
-    c.load_length-length.ensures.step c.in-Err.ensures.known in
-    let e = b whole in
+    let l = c.args.seat.now.known.limits in
+    let v' = c.args.seat.now.known.view in
+    let a = length_bare l v' v c.load_length-length.ensures.known whole.0 whole.1 in
+    let b = length_bare l v' found (subst (λ (z : Seated). KnowsLength z.known.limits z.known.view found)
+    c.load_length-length.ensures.step c.in-Err.ensures.known) whole.0 whole.1 in
     c.in-Err.ensures.lost (omega arith)

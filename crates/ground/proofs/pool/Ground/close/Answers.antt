@@ -1,6 +1,8 @@
-use Rattle.std.proofs.Common.{◌≡◌, ◌∙◌, ap, subst, arith}
+use Rattle.std.proofs.Common.{◌≡◌, ◌+◌, ◌*◌, ◌∙◌, List, drop, length, sym, ap, subst, arith}
+use Rattle.std.specs.Slots.{slots_items}
 use Rattle.commons.specs.declared.limits.Limits.{Limits}
-use Rattle.ground.specs.Closing.{LeftOf}
+use Rattle.ground.specs.Closing.{LeftOf, IsKept}
+use Rattle.ground.specs.Rule.{Slot}
 use Rattle.ground.specs.Seats.{Grounded, Seated}
 use Rattle.ground.proofs.Closes.{closes, small_words}
 use Rattle.ground.proofs.pool.Ground.close.Goals as goal
@@ -29,11 +31,15 @@ returns-clause-closed c =
       length = c.word-length.result;
       links = c.new.result;
       counts = c.new-2.result;
-      desks = c.new-4.result;
+      desks = c.new-3.result;
     }))
     limits
     (closes _ c.self.inside.limits c.self.invariant.2 c.args.seat.known.view _ _ view _ _
     c.close_with-left.ensures.values.2 c.word.result c.head_of-head.result c.word-length.result
     c.new.result c.new-2.result c.word.ensures c.head_of-head.ensures.head c.word-length.ensures
-    (c.new.ensures ∙ c.read_row.ensures) (c.new-2.ensures ∙ c.read_row-2.ensures) c.new-4.result
-    (c.new-4.ensures ∙ c.new-3.ensures.items))
+    (c.new.ensures ∙ c.read_row.ensures) (c.new-2.ensures ∙ c.read_row-2.ensures) c.new-3.result
+    (ap (λ (xs : List Slot). length xs) c.new-3.ensures
+    ∙ (c.read_desks.ensures.count ∙ (c.close_with-left.ensures.counts.1 ∙ c.self.invariant.3)))
+    (subst (λ (xs : List Slot).
+    IsKept (drop (16 + 2 * c.self.inside.limits.population) (slots_items c.close_with-left.result.words))
+    (slots_items c.close_with-left.result.slots) xs) (sym c.new-3.ensures) c.read_desks.ensures.desks))

@@ -22,5 +22,5 @@ load-requires c =
     let words = c.self.invariant.0 in (
       search rules,
       omega arith,
-      loads_link _ _ _ _ c.args.element may c.seat.invariant.busy c.seat.invariant,
+      loads_link _ _ _ _ c.args.element may (c.seat.invariant.0.busy, c.seat.invariant.1) c.seat.invariant.0,
     )

@@ -1,20 +1,20 @@
-use Rattle.std.proofs.Common.{◌≡◌, ◌∙◌, rules, ap, sym, subst, length}
+use Rattle.std.proofs.Common.{◌≡◌, ◌∙◌, refl, rules, ap, sym, subst, length}
 use Rattle.commons.specs.Bounds.{IsPool}
 use Rattle.ground.specs.Opening.{opening_words}
-use Rattle.ground.specs.Own.{Owned}
+use Rattle.ground.specs.Own.{Owned, AtDesk}
 use Rattle.ground.specs.Rule.{Sat}
 use Rattle.ground.proofs.Opens.{opens, length_words, owned_none}
 use Rattle.ground.proofs.pool.Ground.make.Goals as goal
 
 -- the rule holds of the words at the start
-pub of_words-requires : goal.of_words-requires
-of_words-requires c =
-    opens c.args.limits.now (search rules) (search rules) c.as_slice.result.now (search rules)
+pub vacant-requires : goal.vacant-requires
+vacant-requires c =
+    opens c.args.limits.now (search rules) c.as_slice.result.now (search rules)
 
 -- there are so many words
 pub invariant_of-ground : goal.invariant_of-ground
 invariant_of-ground c =
-    let e = c.in-Ok-of_words.ensures in
+    let e = c.in-Ok-vacant.ensures in
     let is : c.as_slice.result.now ≡ opening_words c.args.limits.now = search rules in
     (e.0 ∙ (ap length is ∙ length_words c.args.limits.now), search rules, search rules, search rules)
 
@@ -23,6 +23,6 @@ pub invariant_of-result : goal.invariant_of-result
 invariant_of-result c =
     let l = c.args.limits.now in
     let pool : IsPool l = search rules in
-    let e = c.in-Ok-of_words.ensures in
-    subst (λ (m : Sat). Owned m.0.limits m.0.view) (sym e.4)
-    (owned_none l l.workers pool pool.workers_low)
+    let e = c.in-Ok-vacant.ensures in
+    subst (λ (m : Sat). Owned m.0.limits m.0.view × AtDesk m.0.view.work m.1) (sym e.4)
+    (owned_none l l.workers pool pool.workers_low, refl)

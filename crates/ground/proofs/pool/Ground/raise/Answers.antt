@@ -31,5 +31,5 @@ compare_exchange-found-requires c =
       search rules,
       omega arith,
       raises _ _ _ _ c.args.element _ c.args.old _ (omega arith) (omega arith) has (omega arith) (search rules)
-          c.seat.invariant.busy,
+          (c.seat.invariant.0.busy, c.seat.invariant.1),
     )

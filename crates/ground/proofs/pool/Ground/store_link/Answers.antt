@@ -26,6 +26,6 @@ store-requires c =
     let words = c.self.invariant.0 in (
       search rules,
       omega arith,
-      stores_link _ _ _ _ c.args.element _ hand (omega arith) c.seat.invariant.busy
-          c.seat.invariant,
+      stores_link _ _ _ _ c.args.element _ hand (omega arith) (c.seat.invariant.0.busy, c.seat.invariant.1)
+          c.seat.invariant.0,
     )

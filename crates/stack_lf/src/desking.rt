@@ -1,0 +1,97 @@
+//! An offer and a take: each a claim of the desk's word by one exchange, an exchange of what is in its slot, and a store
+//! that lets the desk go.
+
+ghost use Rattle.std.specs.Prelude.{◌≡◌, ◌≤◌, ℕ, None, IfErr};
+ghost use Rattle.commons.specs.Bag.{bag};
+ghost use Rattle.commons.specs.Calls.{without_packet};
+ghost use Rattle.commons.specs.Packets.{holds_of_packet, own_of_packet};
+ghost use Rattle.ground.specs.Seats.{IsOf};
+ghost use Rattle.ground.specs.Own.{Owned};
+ghost use Rattle.stack_lf.specs.Leaves.{Offers, Takes};
+
+use commons::packet::Packet;
+use commons::refusal::Refusal;
+use ground::pool::Ground;
+use ground::seat::GroundSeat;
+
+/// Leaves a packet on a desk that is empty: holds the desk, puts the packet in, and makes the desk full. The packet comes
+/// back where there is no such desk, or it isn't empty.
+fn fill(
+    ground: &Ground,
+    seat: &mut GroundSeat,
+    desk: u32,
+    packet: Packet,
+) -> Result<(), (Refusal, Packet)>
+    requires of { IsOf ground.now seat.old }
+    requires idle { seat.old.known.view.work ≡ None }
+    requires held { (i : ℕ) → bag (holds_of_packet packet) i ≤ bag seat.old.known.view.holds i }
+    requires own { (i : ℕ) → bag (own_of_packet packet) i ≤ bag seat.old.known.view.headers i }
+    ensures offered { Offers desk packet (without_packet result) seat.old seat.new }
+    ensures kept { IfErr result (λ refused. refused.1 ≡ packet) }
+{
+    seat.owned();
+    seat.at_desk();
+    if ground.limits().desks <= desk as u64 {
+        return Err((Refusal::NoSuchDesk, packet));
+    }
+    match ground.hold(seat, desk) {
+        Err(_) => Err((Refusal::DeskTaken, packet)),
+        Ok(()) => {
+            ground.put_in(seat, desk, packet);
+            ground.open(seat, desk);
+            Ok(())
+        }
+    }
+}
+
+/// The same, with what the seat's type keeps.
+pub(crate) fn offer(
+    ground: &Ground,
+    seat: &mut GroundSeat,
+    desk: u32,
+    packet: Packet,
+) -> Result<(), (Refusal, Packet)>
+    requires of { IsOf ground.now seat.old }
+    requires idle { seat.old.known.view.work ≡ None }
+    requires held { (i : ℕ) → bag (holds_of_packet packet) i ≤ bag seat.old.known.view.holds i }
+    requires own { (i : ℕ) → bag (own_of_packet packet) i ≤ bag seat.old.known.view.headers i }
+    ensures offered { Offers desk packet (without_packet result) seat.old seat.new }
+    ensures kept { IfErr result (λ refused. refused.1 ≡ packet) }
+    ensures own { Owned seat.new.known.limits seat.new.known.view }
+{
+    let answer = fill(ground, seat, desk, packet);
+    seat.owned();
+    answer
+}
+
+/// Takes the packet off a desk that is full: seizes the desk, takes the packet out, and makes the desk empty.
+fn empty(ground: &Ground, seat: &mut GroundSeat, desk: u32) -> Result<Packet, Refusal>
+    requires of { IsOf ground.now seat.old }
+    requires idle { seat.old.known.view.work ≡ None }
+    ensures { Takes desk result seat.old seat.new }
+{
+    seat.at_desk();
+    if ground.limits().desks <= desk as u64 {
+        return Err(Refusal::NoSuchDesk);
+    }
+    match ground.seize(seat, desk) {
+        Err(_) => Err(Refusal::DeskEmpty),
+        Ok(()) => {
+            let packet = ground.take_out(seat, desk);
+            ground.clear(seat, desk);
+            Ok(packet)
+        }
+    }
+}
+
+/// The same, with what the seat's type keeps.
+pub(crate) fn take(ground: &Ground, seat: &mut GroundSeat, desk: u32) -> Result<Packet, Refusal>
+    requires of { IsOf ground.now seat.old }
+    requires idle { seat.old.known.view.work ≡ None }
+    ensures taken { Takes desk result seat.old seat.new }
+    ensures own { Owned seat.new.known.limits seat.new.known.view }
+{
+    let answer = empty(ground, seat, desk);
+    seat.owned();
+    answer
+}

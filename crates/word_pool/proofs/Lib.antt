@@ -1,0 +1,4 @@
+mod Crews
+mod Joins
+mod Leading
+mod Staying

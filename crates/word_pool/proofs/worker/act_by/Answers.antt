@@ -1,0 +1,32 @@
+-- What calls over words leave of a worker.
+use Rattle.std.proofs.Common.{◌∙◌, sym, ap, subst}
+use Rattle.ground.specs.Seats.{Seated}
+use Rattle.mbuf.specs.Own.{Own}
+use Rattle.stack_lf.specs.Sides.{side_of}
+use Rattle.word_pool.proofs.Leading.{acted, leads_sits, of_seats}
+use Rattle.word_pool.proofs.worker.act_by.Goals as goal
+
+-- the seat that comes back has taken the steps of all calls, from where it was
+pub returns-clause-idle : goal.returns-clause-idle
+returns-clause-idle c =
+    let made = c.perform-reply.ensures.calls.0 in
+    let led = of_seats (λ k. k.seat) c.new-c.result made c.perform-reply.new.c c.perform-reply.ensures.calls.1 in
+    let sits = leads_sits c.new-c.result.seat made c.perform-reply.new.c.seat led in
+    record {
+      rest = c.into_seat.ensures.rest;
+      slots =
+          ap (λ (s : Seated). s.slots) c.into_seat.ensures.seat
+          ∙ (sits.slots ∙ (ap (λ (s : Seated). s.slots) c.new-c.ensures.seat ∙ c.requires.slots));
+      own =
+          subst (λ (s : Seated). Own c.perform-reply.new.packets (side_of s))
+          (sym c.into_seat.ensures.seat) c.perform-reply.ensures.own;
+    }
+
+pub returns-clause-acts : goal.returns-clause-acts
+returns-clause-acts c =
+    let made = c.perform-reply.ensures.calls.0 in
+    let led = of_seats (λ k. k.seat) c.new-c.result made c.perform-reply.new.c c.perform-reply.ensures.calls.1 in
+    acted c.args.act c.perform-reply.result c.args.seat c.new-c.result.seat
+    c.perform-reply.new.c.seat c.into_seat.result c.args.packets.now c.perform-reply.new.packets made
+    c.new-c.ensures.seat c.into_seat.ensures.seat led c.perform-reply.ensures.calls.2
+    c.perform-reply.ensures.fresh c.perform-reply.ensures.refused c.perform-reply.ensures.member

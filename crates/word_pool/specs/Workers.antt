@@ -1,0 +1,82 @@
+-- The workers of a pool on words.
+use Rattle.std.specs.Prelude.{◌≡◌, ◌<◌, ℕ, List, [], All, length, map, slice_index_or}
+use Rattle.std.specs.List.{range_with_len}
+use Rattle.commons.specs.Calls.{Calls}
+use Rattle.commons.specs.declared.limits.Limits.{Limits}
+use Rattle.commons.specs.Packets.{held_in}
+use Rattle.ground.specs.Own.{AtRest}
+use Rattle.ground.specs.Seats.{Grounded, Seated, IsOf}
+use Rattle.mbuf.specs.declared.acts.Act.{Act}
+use Rattle.mbuf.specs.Acts.{Performs, Reply}
+use Rattle.mbuf.specs.Fresh.{AreFresh, new_elements}
+use Rattle.mbuf.specs.Members.{Member, KeepsMember}
+use Rattle.mbuf.specs.Own.{Own}
+use Rattle.mbuf.specs.Refused.{AsBefore, IfRefused}
+use Rattle.pool_model.specs.declared.statement.Statement.{Statement}
+use Rattle.pool_model.specs.Pool.{new_members}
+use Rattle.stack_lf.specs.Sides.{side_of}
+use Rattle.stack_lf.specs.Tries.{DidOnWords}
+use Rattle.step_core.specs.declared.view.View.{View}
+use Rattle.step_core.specs.World.{empty_view}
+use Rattle.word_book.specs.Leaving.{IsStatementOf}
+use Rattle.word_book.specs.Shares.{AreSharesOf}
+
+-- a worker: its seat, and its cache and packets
+pub record Manned : Type 0 where
+  pub seat : Seated
+  pub member : Member
+
+-- between its acts: the seat is at rest, no slot is out with it, and the packets are the worker's own
+pub record IsIdle (m : Manned) : Type 0 where
+  pub rest : AtRest m.seat.known.view
+  pub slots : m.seat.slots ≡ []
+  pub own : Own m.member (side_of m.seat)
+
+-- it is the same worker: of the same pool, with the same number and the same part of it
+pub record Stays (old new : Manned) : Type 0 where
+  pub table : new.seat.table ≡ old.seat.table
+  pub limits : new.seat.known.limits ≡ old.seat.known.limits
+  pub part : new.seat.known.view.part ≡ old.seat.known.view.part
+  pub number : new.member.number ≡ old.member.number
+
+-- each of these workers is the same
+pub record AllStay (old new : List Manned) : Type 0 where
+  pub as_many : length new ≡ length old
+  pub each : (i : ℕ) (d : Manned) → i < length old → Stays (slice_index_or old i d) (slice_index_or new i d)
+
+-- The worker did this and was answered so: by calls over the words, each of which took the steps of its tries. What the
+-- answer tells of as new, none of its packets held; and where the act was refused, all is as before, but for the free
+-- elements after a clone.
+pub record Acts (act : Act) (old : Manned) (reply : Reply) (new : Manned) : Type 0 where
+  pub calls : Calls DidOnWords side_of old.seat new.seat (λ calls. Performs act old.member calls reply new.member)
+  pub fresh : AreFresh old.member.limits.population (held_in old.member.table) (new_elements reply)
+  pub refused : IfRefused reply (AsBefore act old.member (side_of old.seat) new.member (side_of new.seat))
+  pub member : KeepsMember old.member new.member
+  pub stays : Stays old new
+
+-- a worker of this ground, with one part of it
+pub record IsWorker (g : Grounded) (m : Manned) : Type 0 where
+  pub of : IsOf g m.seat
+  pub part : m.seat.known.view.part ≡ 1
+
+-- the caches and packets of workers
+abbrev pub members_of : List Manned → List Member
+members_of ms = map (λ m. m.member) ms
+
+-- all workers of this ground, in their order
+pub record AreWorkers (g : Grounded) (ms : List Manned) : Type 0 where
+  pub numbers : map (λ member. member.number) (members_of ms) ≡ range_with_len 1 g.limits.workers
+  pub each : All (IsWorker g) ms
+
+-- They are the workers of a new pool, who have nothing: their caches and tables are empty, and their views name nothing.
+pub record AreNew (l : Limits) (ms : List Manned) : Type 0 where
+  pub members : members_of ms ≡ new_members l 1 l.workers
+  pub views : All (λ m. m.seat.known.view ≡ empty_view 1) ms
+
+-- The statement of what a ground left, closed by the one seat with every part that all workers' seats were made, and of
+-- these workers' caches and packets, which are what that seat's view has.
+pub record IsStatementOfWorkers (g : Grounded) (ms : List Manned) (s : Statement) : Type 0 where
+  pub view : View
+  pub whole : view.part ≡ g.limits.workers
+  pub shares : AreSharesOf (members_of ms) view
+  pub statement : IsStatementOf g.limits view (members_of ms) s

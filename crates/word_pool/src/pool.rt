@@ -1,0 +1,196 @@
+//! The pool of all workers on words.
+
+ghost use Rattle.std.specs.Prelude.{◌≡◌, ◌+◌, ◌<◌, ◌≤◌, ◌++◌, ◌∷◌, [], List, IfOk, IfErr, vec_len, vec_capacity};
+ghost use Rattle.commons.specs.Bounds.{IsPool};
+ghost use Rattle.ground.specs.Opening.{IsGroundCause};
+ghost use Rattle.ground.specs.Own.{AtRest};
+ghost use Rattle.ground.specs.Rule.{first_known};
+ghost use Rattle.ground.specs.Seats.{IsOf};
+ghost use Rattle.pool_model.specs.Statements.{ListsEachOnce, PlacesEachOnce};
+ghost use Rattle.word_book.specs.Shares.{AreSharesOf};
+ghost use Rattle.word_pool.specs.inside.Crews.{IsUnused, new_member};
+ghost use Rattle.word_pool.specs.Workers.{AreNew, AreWorkers, IsStatementOfWorkers, members_of};
+
+use crate::worker::WordWorker;
+use book::share::{Share, hand_in};
+use commons::limits::Limits;
+use commons::refusal::Refusal;
+use ground::pool::Ground;
+use ground::seat::GroundSeat;
+use mbuf::packets::Packets;
+use pool_model::statement::Statement;
+use std::alloc::Global;
+use word_book::{ending, laws};
+
+/// Makes a pool on words, and its workers, numbered from 1, each with one part of it. All elements are in the common
+/// list, element 0 on top, and no worker has anything yet.
+///
+/// Refused `BadPool` where the limits are out of range, or the ground can't have so many desks, and `OutOfMemory` where
+/// memory was refused.
+pub fn make(alloc: Global, limits: &Limits) -> Result<(Ground, Vec<WordWorker>), Refusal>
+    ensures limits { IfOk result (λ made. made.0.limits ≡ limits.now) }
+    ensures workers { IfOk result (λ made. AreWorkers made.0 made.1.items) }
+    ensures new { IfOk result (λ made. AreNew limits.now made.1.items) }
+    ensures pool { IfOk result (λ _. IsPool limits.now) }
+    ensures cause { IfErr result (IsGroundCause limits.now) }
+{
+    let (ground, seat) = Ground::make(alloc, limits)?;
+    match workers_of(alloc, &ground, seat) {
+        Ok(workers) => Ok((ground, workers)),
+        Err(_) => Err(Refusal::OutOfMemory),
+    }
+}
+
+/// A worker for each part of a seat that names nothing, numbered from 1.
+fn workers_of(alloc: Global, ground: &Ground, seat: GroundSeat) -> Result<Vec<WordWorker>, Refusal>
+    requires of { IsOf ground.now seat }
+    requires known { seat.known ≡ first_known ground.now.limits }
+    requires slots { seat.slots ≡ [] }
+    ensures workers { IfOk result (λ workers. AreWorkers ground.now workers.items) }
+    ensures new { IfOk result (λ workers. AreNew ground.now.limits workers.items) }
+    ensures memory { IfErr result (λ e. e ≡ Refusal.OutOfMemory) }
+{
+    let limits = ground.limits();
+    let mut rest = FreeSeat { seat };
+    let mut workers = Vec::new(alloc);
+    for number in 1..limits.workers as u32 {
+        let seat = ground.split(&mut rest.seat);
+        add_worker(alloc, &limits, &mut workers, seat, number)?;
+    }
+    add_worker(
+        alloc,
+        &limits,
+        &mut workers,
+        rest.into_seat(),
+        limits.workers as u32,
+    )?;
+    Ok(workers)
+}
+
+/// Adds the worker of this number, who has this seat and nothing yet.
+fn add_worker(
+    alloc: Global,
+    limits: &Limits,
+    workers: &mut Vec<WordWorker>,
+    seat: GroundSeat,
+    number: u32,
+) -> Result<(), Refusal>
+    requires pool { IsPool limits.now }
+    requires first { 1 ≤ number }
+    requires last { number ≤ limits.now.workers }
+    requires unused { IsUnused limits.now 1 seat }
+    ensures added { IfOk result (λ _. workers.new.items ≡ workers.old.items ++
+        record { seat = seat; member = new_member limits.now number } ∷ []) }
+    ensures memory { IfErr result (λ e. e ≡ Refusal.OutOfMemory) }
+{
+    match Packets::make(alloc, limits, number) {
+        Ok(packets) => add(workers, WordWorker::new(seat, packets)),
+        Err(cause) => {
+            seat.lose();
+            Err(cause)
+        }
+    }
+}
+
+/// Adds a worker.
+fn add(workers: &mut Vec<WordWorker>, worker: WordWorker) -> Result<(), Refusal>
+    ensures added { IfOk result (λ _. workers.new.items ≡ workers.old.items ++ worker ∷ []) }
+    ensures memory { IfErr result (λ e. e ≡ Refusal.OutOfMemory) }
+{
+    match workers.push(worker) {
+        Ok(()) => Ok(()),
+        Err(_) => Err(Refusal::OutOfMemory),
+    }
+}
+
+/// A seat that no worker has taken yet: where none does, it is lost.
+struct FreeSeat {
+    seat: GroundSeat,
+}
+
+impl Drop for FreeSeat {
+    fn drop(self) {
+        let FreeSeat { seat } = self;
+        seat.lose();
+    }
+}
+
+impl FreeSeat {
+    /// The seat.
+    fn into_seat(self) -> GroundSeat
+        ensures { result ≡ self.seat }
+    {
+        let FreeSeat { seat } = self;
+        seat
+    }
+}
+
+/// Ends a pool whose workers act no more, and settles it: their seats become one, their packets are handed in, in the
+/// order of the workers' numbers, and the ground is closed. The statement lists each element exactly once, and each
+/// packet has a place of its own; it is the one of what the ground left and of these workers' caches and packets.
+///
+/// Refused `OutOfMemory` where memory was refused. The pool is ended then too, and nothing is left of it.
+pub fn settled(
+    alloc: Global,
+    ground: Ground,
+    workers: Vec<WordWorker>,
+) -> Result<Statement, Refusal>
+    requires { AreWorkers ground workers.items }
+    ensures statement { IfOk result (IsStatementOfWorkers ground workers.items) }
+    ensures once { IfOk result (λ s. ListsEachOnce s) }
+    ensures places { IfOk result (λ s. PlacesEachOnce ground.limits s) }
+    ensures memory { IfErr result (λ e. e ≡ Refusal.OutOfMemory) }
+{
+    let Ok(shares) = Vec::with_capacity(alloc, workers.len()) else {
+        return Err(Refusal::OutOfMemory);
+    };
+    let (seat, shares) = joined(&ground, workers, shares);
+    ending::settled(alloc, ground, seat, shares)
+}
+
+/// Makes one seat of the seats of all workers, from the last to the first, and hands in their packets, in the room that
+/// was taken for the shares.
+fn joined(
+    ground: &Ground,
+    mut workers: Vec<WordWorker>,
+    mut shares: Vec<Share>,
+) -> (GroundSeat, Vec<Share>)
+    requires workers { AreWorkers ground.now workers.items }
+    requires empty { shares.items ≡ [] }
+    requires room { vec_len workers ≤ vec_capacity shares }
+    ensures of { IsOf ground.now result.0 }
+    ensures whole { result.0.known.view.part ≡ ground.now.limits.workers }
+    ensures rest { AtRest result.0.known.view }
+    ensures members { result.1.items ≡ members_of workers.items }
+    ensures shares { AreSharesOf result.1.items result.0.known.view }
+{
+    laws::own_packets_are_a_share();
+    laws::joined_seats_have_the_shares_of_both();
+    let _ = ground.limits();
+    let Some(last) = workers.pop() else {
+        unreachable!()
+    };
+    let (mut seat, packets) = last.into_parts();
+    add_share(&mut shares, packets);
+    while let Some(worker) = workers.pop() {
+        let (mut first, packets) = worker.into_parts();
+        ground.join(&mut first, seat);
+        seat = first;
+        add_share(&mut shares, packets);
+    }
+    shares.reverse();
+    (seat, shares)
+}
+
+/// Hands in a worker's packets, where there is room.
+fn add_share(shares: &mut Vec<Share>, packets: Packets)
+    requires room { vec_len shares.old < vec_capacity shares.old }
+    ensures added { shares.new.items ≡ shares.old.items ++ packets ∷ [] }
+    ensures len { vec_len shares.new ≡ vec_len shares.old + 1 }
+    ensures room { vec_capacity shares.old ≤ vec_capacity shares.new }
+{
+    if let Err(failed) = shares.push(hand_in(packets)) {
+        failed.value.lose();
+        unreachable!()
+    }
+}

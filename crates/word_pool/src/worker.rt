@@ -1,0 +1,124 @@
+//! A worker of a pool on words.
+
+ghost use Rattle.std.specs.Prelude.{◌≡◌, [], None, Some};
+ghost use Rattle.ground.specs.Own.{AtRest};
+ghost use Rattle.ground.specs.Seats.{IsOf};
+ghost use Rattle.mbuf.specs.Own.{Own};
+ghost use Rattle.stack_lf.specs.Sides.{side_of};
+ghost use Rattle.word_pool.specs.Workers.{Acts, IsIdle};
+
+use ground::pool::Ground;
+use ground::seat::GroundSeat;
+use mbuf::acts;
+use mbuf::acts::{Act, Reply};
+use mbuf::packets::Packets;
+use stack_lf::words::WordCommons;
+use std::marker::Model;
+
+/// A worker of a pool on words: its seat, its cache and its packets, which are its own. It can be sent to a thread. One
+/// that is dropped has died: what it has is lost to the pool.
+pub struct WordWorker {
+    /// There is none within an act alone.
+    seat: Option<GroundSeat>,
+    packets: Packets,
+}
+
+impl Model for WordWorker {
+    ghost use Rattle.word_pool.specs.Workers.{Manned};
+
+    ghost Value = { Manned };
+
+    ghost use Rattle.word_pool.specs.inside.Kept.{manned_of, IsKept};
+
+    ghost view = { manned_of };
+
+    ghost invariant = { IsKept };
+}
+
+impl Drop for WordWorker {
+    fn drop(self) {
+        let WordWorker { seat, packets } = self;
+        if let Some(seat) = seat {
+            seat.lose();
+        }
+        packets.lose();
+    }
+}
+
+impl WordWorker {
+    /// The worker with this seat, whose packets are its own.
+    pub(crate) fn new(seat: GroundSeat, packets: Packets) -> WordWorker
+        requires rest { AtRest seat.known.view }
+        requires slots { seat.slots ≡ [] }
+        requires own { Own packets (side_of seat) }
+        ensures { result ≡ record { seat = seat; member = packets } }
+    {
+        WordWorker {
+            seat: Some(seat),
+            packets,
+        }
+    }
+
+    /// The seat of the worker, and its packets.
+    pub(crate) fn into_parts(self) -> (GroundSeat, Packets)
+        ensures parts { (result.0 ≡ self.seat) × (result.1 ≡ self.member) }
+        ensures idle { IsIdle self }
+    {
+        let WordWorker { seat, packets } = self;
+        match seat {
+            Some(seat) => (seat, packets),
+            None => {
+                packets.lose();
+                unreachable!()
+            }
+        }
+    }
+
+    /// A law of each worker between its acts: its seat is at rest, and its packets are its own. It does nothing.
+    pub fn idle(&self)
+        ensures { IsIdle self.now }
+    {
+        let _ = &self.seat;
+    }
+
+    /// Lets the worker do this over the words of its ground, beside others, and answers what came of it. The worker keeps
+    /// its number, its part, and its place at the ground.
+    ///
+    /// Refused as the act is by `mbuf::acts::perform`.
+    pub fn act(&mut self, ground: &Ground, act: Act) -> Reply
+        requires of { IsOf ground.now self.old.seat }
+        ensures { Acts act self.old result self.new }
+    {
+        let Some(seat) = self.seat.take() else {
+            unreachable!()
+        };
+        let (reply, seat) = act_by(ground, seat, &mut self.packets, act);
+        put_back(&mut self.seat, seat);
+        reply
+    }
+}
+
+/// Lets the worker of this seat and these packets do this.
+fn act_by(ground: &Ground, seat: GroundSeat, packets: &mut Packets, act: Act) -> (Reply, GroundSeat)
+    requires of { IsOf ground.now seat }
+    requires rest { AtRest seat.known.view }
+    requires slots { seat.slots ≡ [] }
+    requires own { Own packets.old (side_of seat) }
+    ensures idle { IsIdle (record { seat = result.1; member = packets.new }) }
+    ensures acts { Acts act (record { seat = seat; member = packets.old }) result.0
+        (record { seat = result.1; member = packets.new }) }
+{
+    let mut c = WordCommons::new(ground, seat);
+    let reply = acts::perform(packets, &mut c, act);
+    (reply, c.into_seat())
+}
+
+/// Gives a worker its seat back.
+fn put_back(place: &mut Option<GroundSeat>, seat: GroundSeat)
+    requires empty { place.old ≡ None }
+    ensures { place.new ≡ Some seat }
+{
+    if let Some(other) = place.replace(seat) {
+        other.lose();
+    }
+}
