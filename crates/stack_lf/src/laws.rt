@@ -4,7 +4,7 @@ ghost use Rattle.stack_lf.specs.Bounds.{AreBounded, AreCauses};
 ghost use Rattle.stack_lf.specs.Notes.{GetsCutOnce, LossesAreChanges, PutsPushOnce};
 
 /// The steps of a call are bounded by its list and the pool's tries: `tries * (n + 4) + 1` of a get, `tries * (n + 2) +
-/// 1` of a put, `2 * tries` of a raise, three of a lower, and one of a claim, a count and a length.
+/// 1` of a put, `2 * tries` of a raise, three of a lower, an offer and a take, and one of a claim, a count and a length.
 pub fn steps_are_bounded()
     ensures { AreBounded }
 {}

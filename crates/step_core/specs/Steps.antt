@@ -36,7 +36,7 @@ quiet o w = record { outcome = o; after = w; event = None }
 abbrev pub knows : World → ℕ → View → World
 knows w k v = record w { views = slice_set w.views k v }
 
--- ---- pass 1: the stack
+-- ---- the stack
 
 abbrev pub reserve : World → ℕ → View → ℕ → ℕ → Play
 reserve w k v old n =
@@ -99,7 +99,7 @@ push w k v l c =
     }
     else quiet (LostTo w.head) (knows w k (lost_push v w.head.count))
 
--- ---- pass 2: the counts
+-- ---- the counts
 
 abbrev pub claim : World → ℕ → View → ℕ → Play
 claim w k v i = record {
@@ -148,7 +148,7 @@ reset w k v i =
       views = slice_set w.views k (was_reset v i);
     })
 
--- ---- pass 3: the desks
+-- ---- the desks
 
 -- the world after a step on desk d, which is x afterwards, as the worker's work is
 abbrev pub works : World → ℕ → View → ℕ → Desk → Option Work → World
