@@ -188,7 +188,11 @@ fn is_between_calls(view: &View, sees: &Sees) -> bool
     ensures rest { IsTrue result → AtRest view.now }
     ensures all { IsTrue result → sees.now ≡ Sees.All }
 {
-    sees_all(sees) && view.zeros.is_empty() && view.credit == 0 && view.chain.is_none() && view.work.is_none()
+    sees_all(sees)
+        && view.zeros.is_empty()
+        && view.credit == 0
+        && view.chain.is_none()
+        && view.work.is_none()
 }
 
 /// Makes the first view that of both, or changes nothing where memory is refused or the parts would pass 64 bits.

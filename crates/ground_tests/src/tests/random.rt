@@ -13,7 +13,8 @@ use step_core::world::World;
 /// Where the generator starts.
 const SEED: u64 = 20_261_125;
 
-const SCHEDULES: u64 = 1_000;
+/// How many schedules are played. A hundred take some 3 seconds with the address sanitizer.
+const SCHEDULES: u64 = 100;
 
 /// Steps of a schedule, the refused ones too.
 const STEPS: u64 = 60;
@@ -158,10 +159,7 @@ fn may_push(view: &View) -> bool {
 fn raise_of(world: &World, view: &View, draws: &mut Draws) -> Option<Act> {
     let element = draws.pick(&view.holds)?;
     let count = world.counts().get(element as usize)?;
-    Some(Act::Raise(
-        u64::from(element),
-        u64::from(*count) + draws.below(2),
-    ))
+    Some(Act::Raise(u64::from(element), u64::from(*count) + draws.below(2)))
 }
 
 /// A packet of a header, and of another element that is held or of none, for the desk in work.

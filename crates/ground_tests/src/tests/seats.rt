@@ -170,11 +170,12 @@ fn closed_at_last(rt: &impl Abort, pool: Ground, seat: GroundSeat) -> Option<Clo
     }
 }
 
-/// Whichever request for memory is refused, no ground is made, or it is closed with all its words: what a refused close
-/// hands back closes the next time.
+/// Whichever request for memory is refused, no ground with a desk is made, or it is closed with all its words: what a
+/// refused close hands back closes the next time.
 #[test]
 fn refused_memory_loses_no_word(rt: HostRuntime) {
-    let (pool, seat) = match Ground::make(rt.alloc(), &TWO) {
+    let limits = Limits { desks: 1, ..TWO };
+    let (pool, seat) = match Ground::make(rt.alloc(), &limits) {
         Ok(made) => made,
         Err(refusal) => {
             assert_eq!(&rt; refusal, Refusal::OutOfMemory);
@@ -188,4 +189,6 @@ fn refused_memory_loses_no_word(rt: HostRuntime) {
     assert_eq!(&rt; (closed.top, closed.length), (1, 3));
     assert_eq!(&rt; closed.links.as_slice(), [2, 3, 0].as_slice());
     assert_eq!(&rt; closed.counts.as_slice(), [1, 1, 1].as_slice());
+    assert_eq!(&rt; closed.desks.len(), 1);
+    assert!(&rt; closed.desks.as_slice().iter().all(Option::is_none));
 }
