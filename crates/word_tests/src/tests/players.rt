@@ -15,8 +15,8 @@ use stack_lf::words::WordCommons;
 use std::alloc::Global;
 
 /// A seat that no worker has taken yet: where none does, it is lost.
-pub struct FreeSeat {
-    pub seat: GroundSeat,
+pub(super) struct FreeSeat {
+    pub(super) seat: GroundSeat,
 }
 
 impl Drop for FreeSeat {
@@ -37,9 +37,9 @@ impl FreeSeat {
 }
 
 /// A worker who acts on the words of a pool.
-pub struct Player<'a> {
-    pub c: WordCommons<'a>,
-    pub packets: Packets,
+pub(super) struct Player<'a> {
+    pub(super) c: WordCommons<'a>,
+    pub(super) packets: Packets,
 }
 
 impl<'a> Drop for Player<'a> {
@@ -51,9 +51,9 @@ impl<'a> Drop for Player<'a> {
 }
 
 /// What a worker has once it acts no more.
-pub struct Retired {
-    pub seat: GroundSeat,
-    pub packets: Packets,
+pub(super) struct Retired {
+    pub(super) seat: GroundSeat,
+    pub(super) packets: Packets,
 }
 
 impl Drop for Retired {
@@ -66,7 +66,7 @@ impl Drop for Retired {
 
 impl Retired {
     /// The seat and the packets.
-    pub fn into_parts(self) -> (GroundSeat, Packets)
+    pub(super) fn into_parts(self) -> (GroundSeat, Packets)
         ensures { result.0 ≡ self.seat }
     {
         let Retired { seat, packets } = self;
@@ -76,7 +76,7 @@ impl Retired {
 
 impl<'a> Player<'a> {
     /// A worker of this number, who has nothing yet.
-    pub fn make(
+    pub(super) fn make(
         alloc: Global,
         ground: &'a Ground,
         free: FreeSeat,
@@ -95,7 +95,7 @@ impl<'a> Player<'a> {
     }
 
     /// Lets the worker do this.
-    pub fn act(&mut self, act: Act) -> Reply
+    pub(super) fn act(&mut self, act: Act) -> Reply
         requires own { OwnBySeat self.old.packets self.old.c.seat }
         ensures own { OwnBySeat self.new.packets self.new.c.seat }
         ensures stays { Stays self.old.c.seat self.new.c.seat }
@@ -104,7 +104,7 @@ impl<'a> Player<'a> {
     }
 
     /// Ends the worker's acts.
-    pub fn retire(self) -> Retired
+    pub(super) fn retire(self) -> Retired
         ensures seat { result.seat ≡ self.entry.c.seat }
         ensures rest { AtRest result.seat.known.view }
     {

@@ -19,7 +19,7 @@ use std::alloc::Global;
 use std::test::Fail;
 
 /// The replies to a script, and the statement of its end or why there is none.
-pub type Played = (Vec<Reply>, Result<Statement, Unsettled>);
+pub(super) type Played = (Vec<Reply>, Result<Statement, Unsettled>);
 
 /// Lets the worker of a line do what the line asks for.
 fn obey<'a>(
@@ -83,7 +83,7 @@ fn retire(ground: &Ground, first: Player, second: Option<Player>) -> (Retired, O
 }
 
 /// Plays a script whose pool has one worker, or two.
-pub fn play(alloc: Global, script: &Script) -> Result<Played, Fail> {
+pub(super) fn play(alloc: Global, script: &Script) -> Result<Played, Fail> {
     let limits = &script.limits;
     let (ground, seat) = Ground::make(alloc, limits)?;
     let mut first = FreeSeat { seat };

@@ -16,9 +16,9 @@ use pool_model::statement::Statement;
 use std::alloc::Global;
 
 /// The one seat that is left, and the book with the shares so far.
-pub struct Ending {
-    pub seat: GroundSeat,
-    pub book: Book,
+pub(super) struct Ending {
+    pub(super) seat: GroundSeat,
+    pub(super) book: Book,
 }
 
 impl Drop for Ending {
@@ -38,7 +38,7 @@ fn deposit(book: &mut Book, packets: Packets) {
 
 impl Ending {
     /// Begins the end of a pool with one of its workers.
-    pub fn begin(alloc: Global, limits: &Limits, first: Retired) -> Result<Ending, Refusal>
+    pub(super) fn begin(alloc: Global, limits: &Limits, first: Retired) -> Result<Ending, Refusal>
         ensures { IfOk result (λ ending. ending.seat ≡ first.seat) }
     {
         let mut book = Book::make(alloc, limits)?;
@@ -48,7 +48,7 @@ impl Ending {
     }
 
     /// Ends one more worker.
-    pub fn add(&mut self, ground: &Ground, other: Retired)
+    pub(super) fn add(&mut self, ground: &Ground, other: Retired)
         requires first { IsIdle ground.now self.old.seat }
         requires other { IsIdle ground.now other.seat }
         ensures { IsIdle ground.now self.new.seat }
@@ -58,8 +58,19 @@ impl Ending {
         deposit(&mut self.book, packets);
     }
 
+    /// Ends one more worker, whose share isn't handed in.
+    pub(super) fn add_without_share(&mut self, ground: &Ground, other: Retired)
+        requires first { IsIdle ground.now self.old.seat }
+        requires other { IsIdle ground.now other.seat }
+        ensures { IsIdle ground.now self.new.seat }
+    {
+        let (seat, packets) = other.into_parts();
+        ground.join(&mut self.seat, seat);
+        packets.lose();
+    }
+
     /// Closes the pool, and settles it.
-    pub fn settle(
+    pub(super) fn settle(
         self,
         alloc: Global,
         ground: Ground,

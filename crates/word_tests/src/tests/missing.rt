@@ -1,0 +1,123 @@
+//! The end of a pool of four workers, one of whom hands in no share.
+
+ghost use Rattle.std.specs.Prelude.{◌≡◌, [], IfOk, OnOk};
+ghost use Rattle.stack_tests.specs.Idle.{IsIdle};
+ghost use Rattle.word_tests.specs.Ready.{IsReady};
+
+use super::players::{FreeSeat, Player, Retired};
+use super::settling::Ending;
+use super::{assert_each_once, assert_holds};
+use book::settling::Unsettled;
+use ground::pool::Ground;
+use pool_model::statement::Statement;
+use script::names::Names;
+use script::playing::{asked, note};
+use script_text::commands::{Line, Script};
+use script_text::parse;
+use std::alloc::Global;
+use std::process::Abort;
+use std::test::Fail;
+
+/// Each worker makes a packet and a clone of it, frees the packet, and offers the clone. The desk is taken where another
+/// has left its clone there, and the clone is freed then.
+const SCRIPT: &str = "pool 16 workers 4 desks 2\n\
+    alloc a\nclone a b\nfree a\noffer b 0\nfree b\n\
+    2: alloc a\n2: clone a b\n2: free a\n2: offer b 0\n2: free b\n\
+    3: alloc a\n3: clone a b\n3: free a\n3: offer b 1\n3: free b\n\
+    4: alloc a\n4: clone a b\n4: free a\n4: offer b 1\n4: free b\n";
+
+/// Plays the lines of one worker.
+fn play_own(
+    alloc: Global,
+    ground: &Ground,
+    lines: &[Line],
+    player: &mut Player,
+    number: u32,
+) -> Result<(), Fail>
+    requires ready { IsReady ground.now player.old.c.seat player.old.packets }
+    ensures ready { OnOk result (IsReady ground.now player.new.c.seat player.new.packets) }
+{
+    let mut names = Names::new(alloc);
+    for line in lines {
+        if line.worker != number {
+            continue;
+        }
+        let Some(act) = asked(&names, line) else {
+            continue;
+        };
+        let reply = player.act(act);
+        note(&mut names, line, &reply)?;
+    }
+    Ok(())
+}
+
+/// A worker of this number with this seat, and its lines from the first to the last.
+fn played(
+    alloc: Global,
+    ground: &Ground,
+    script: &Script,
+    free: FreeSeat,
+    number: u32,
+) -> Result<Retired, Fail>
+    requires idle { IsIdle ground.now free.seat }
+    requires hand { free.seat.known.view.hand ≡ [] }
+    requires holds { free.seat.known.view.holds ≡ [] }
+    ensures idle { IfOk result (λ retired. IsIdle ground.now retired.seat) }
+{
+    let mut player = Player::make(alloc, ground, free, number)?;
+    play_own(alloc, ground, script.lines.as_slice(), &mut player, number)?;
+    Ok(player.retire())
+}
+
+/// The end of the pool, once each worker has played its lines. The share of worker 3 is handed in, or isn't.
+fn end_of(alloc: Global, third_is_missing: bool) -> Result<Result<Statement, Unsettled>, Fail> {
+    let script = parse(alloc, SCRIPT.as_bytes())?;
+    let (ground, seat) = Ground::make(alloc, &script.limits)?;
+    let mut first = FreeSeat { seat };
+    let second = FreeSeat {
+        seat: ground.split(&mut first.seat),
+    };
+    let third = FreeSeat {
+        seat: ground.split(&mut first.seat),
+    };
+    let fourth = FreeSeat {
+        seat: ground.split(&mut first.seat),
+    };
+    let first = played(alloc, &ground, &script, first, 1)?;
+    let second = played(alloc, &ground, &script, second, 2)?;
+    let third = played(alloc, &ground, &script, third, 3)?;
+    let fourth = played(alloc, &ground, &script, fourth, 4)?;
+    let mut ending = Ending::begin(alloc, &script.limits, first)?;
+    ending.add(&ground, second);
+    if third_is_missing {
+        ending.add_without_share(&ground, third);
+    } else {
+        ending.add(&ground, third);
+    }
+    ending.add(&ground, fourth);
+    let end = ending.settle(alloc, ground)?;
+    Ok(end)
+}
+
+#[test]
+fn a_share_that_is_missing_is_named(rt: HostRuntime) -> Result<(), Fail> {
+    match end_of(rt.alloc(), true)? {
+        Ok(statement) => assert!(&rt; false, "{statement:?}"),
+        Err(cause) => assert_eq!(&rt; cause, Unsettled::MissingShare(3)),
+    }
+    Ok(())
+}
+
+#[test]
+fn four_workers_and_all_their_shares_settle(rt: HostRuntime) -> Result<(), Fail> {
+    match end_of(rt.alloc(), false)? {
+        Ok(statement) => {
+            assert_eq!(&rt; statement.desks.len(), 2, "a clone is on each desk");
+            assert_eq!(&rt; statement.packets.len(), 0, "each other was freed");
+            assert_each_once(&rt, rt.alloc(), &statement, "four workers")?;
+            assert_holds(&rt, rt.alloc(), &statement, "four workers")?;
+        }
+        Err(cause) => assert!(&rt; false, "{cause:?}"),
+    }
+    Ok(())
+}

@@ -1,0 +1,294 @@
+//! Sixty-four workers in threads of their own, who hand clones of packets of 32 segments round over 64 desks.
+
+ghost use Rattle.ground.specs.Seats.{IsOf};
+ghost use Rattle.word_pool.specs.Workers.{AreWorkers, Stays};
+
+use super::crews::{Tallies, Tally, act, free, free_any, make};
+use super::{DEFAULTS, assert_all_free, assert_each_once, assert_holds};
+use commons::limits::Limits;
+use commons::packet::MAX_SEGS;
+use commons::refusal::Refusal;
+use ground::pool::Ground;
+use mbuf::acts::{Act, NewPacket, Reply};
+use mbuf::packets::Pid;
+use pool_model::statement::Statement;
+use std::alloc::Global;
+use std::process::Abort;
+use std::test::Fail;
+use std::thread;
+use std::thread::Threads;
+use word_pool::laws::workers_who_stay_are_all;
+use word_pool::pool;
+use word_pool::worker::WordWorker;
+
+/// The workers, and the desks.
+const CROWD: u32 = 64;
+
+/// How many calls each worker makes, at least: a million in all.
+const CALLS: u64 = 15_625;
+
+/// How often a worker tries to get its first elements.
+const TRIES: u32 = 1_000;
+
+/// Makes one packet of these, the first, with a segment from each, and names its slot.
+fn chain(
+    ground: &Ground,
+    worker: &mut WordWorker,
+    tally: &mut Tally,
+    packets: &[NewPacket],
+) -> Option<Pid>
+    requires of { IsOf ground.now worker.old.seat }
+    ensures of { IsOf ground.now worker.new.seat }
+    ensures stays { Stays worker.old worker.new }
+{
+    let (first, others) = packets.split_first()?;
+    for other in others {
+        let reply = act(ground, worker, tally, Act::Chain(first.slot, other.slot));
+        if !matches!(&reply, Reply::Chained(_, _)) {
+            tally.note_wrong();
+        }
+    }
+    Some(first.slot)
+}
+
+/// Makes a packet of 32 segments, and names its slot.
+fn assemble(ground: &Ground, worker: &mut WordWorker, tally: &mut Tally) -> Option<Pid>
+    requires of { IsOf ground.now worker.old.seat }
+    ensures of { IsOf ground.now worker.new.seat }
+    ensures stays { Stays worker.old worker.new }
+{
+    for _ in 0..TRIES {
+        let reply = act(ground, worker, tally, Act::AllocBulk(MAX_SEGS));
+        if let Reply::Bulk(packets) = &reply {
+            return chain(ground, worker, tally, packets.as_slice());
+        }
+    }
+    tally.note_wrong();
+    None
+}
+
+/// Leaves a packet on a desk, or frees it where another lies there.
+fn send(ground: &Ground, worker: &mut WordWorker, tally: &mut Tally, slot: Pid, desk: u32)
+    requires of { IsOf ground.now worker.old.seat }
+    ensures of { IsOf ground.now worker.new.seat }
+    ensures stays { Stays worker.old worker.new }
+{
+    match act(ground, worker, tally, Act::Offer(slot, desk)) {
+        Reply::Offered => tally.left = tally.left.saturating_add(1),
+        Reply::Refused(Refusal::DeskTaken) => free(ground, worker, tally, slot),
+        _ => tally.note_wrong(),
+    }
+}
+
+/// Takes the packet off a desk, where there is one: it has 32 segments. Its slot.
+fn fetch(ground: &Ground, worker: &mut WordWorker, tally: &mut Tally, desk: u32) -> Option<Pid>
+    requires of { IsOf ground.now worker.old.seat }
+    ensures of { IsOf ground.now worker.new.seat }
+    ensures stays { Stays worker.old worker.new }
+{
+    match act(ground, worker, tally, Act::Take(desk)) {
+        Reply::Taken(slot, 32, 0) => {
+            tally.taken = tally.taken.saturating_add(1);
+            Some(slot)
+        }
+        Reply::Refused(Refusal::DeskEmpty) => None,
+        _ => {
+            tally.note_wrong();
+            None
+        }
+    }
+}
+
+/// Clones a packet, and sends the clone to a desk.
+fn send_clone(ground: &Ground, worker: &mut WordWorker, tally: &mut Tally, of: Pid, desk: u32)
+    requires of { IsOf ground.now worker.old.seat }
+    ensures of { IsOf ground.now worker.new.seat }
+    ensures stays { Stays worker.old worker.new }
+{
+    match make(ground, worker, tally, Act::ClonePacket(of)) {
+        Some(clone) => send(ground, worker, tally, clone, desk),
+        None => {}
+    }
+}
+
+/// One of the desks.
+fn desk_of(number: u64) -> u32 {
+    (number % u64::from(CROWD)) as u32
+}
+
+/// Sends a clone of the worker's own packet to one desk, takes what lies on another, and sends a clone of that to a third
+/// and frees it.
+fn pass(ground: &Ground, worker: &mut WordWorker, tally: &mut Tally, own: Pid, at: u64)
+    requires of { IsOf ground.now worker.old.seat }
+    ensures of { IsOf ground.now worker.new.seat }
+    ensures stays { Stays worker.old worker.new }
+{
+    send_clone(ground, worker, tally, own, desk_of(at));
+    match fetch(ground, worker, tally, desk_of(at / 3)) {
+        Some(taken) => {
+            send_clone(ground, worker, tally, taken, desk_of(at / 7));
+            free(ground, worker, tally, taken);
+        }
+        None => {}
+    }
+}
+
+/// Passes packets, unless so many calls are made already.
+fn pass_if(ground: &Ground, worker: &mut WordWorker, tally: &mut Tally, own: Pid, at: u64)
+    requires of { IsOf ground.now worker.old.seat }
+    ensures of { IsOf ground.now worker.new.seat }
+    ensures stays { Stays worker.old worker.new }
+{
+    if tally.calls < CALLS {
+        pass(ground, worker, tally, own, at);
+    }
+}
+
+/// Passes packets until so many calls are made.
+fn pass_on(ground: &Ground, worker: &mut WordWorker, tally: &mut Tally, own: Pid, number: usize)
+    requires of { IsOf ground.now worker.old.seat }
+    ensures of { IsOf ground.now worker.new.seat }
+    ensures stays { Stays worker.old worker.new }
+{
+    for turn in 0..CALLS {
+        let at = (number as u64).wrapping_add(turn);
+        pass_if(ground, worker, tally, own, at);
+    }
+}
+
+/// Makes the worker's own packet and passes clones round, and then frees the packet where that is asked.
+fn pass_all(ground: &Ground, worker: &mut WordWorker, tally: &mut Tally, number: usize, frees: bool)
+    requires of { IsOf ground.now worker.old.seat }
+    ensures of { IsOf ground.now worker.new.seat }
+    ensures stays { Stays worker.old worker.new }
+{
+    match assemble(ground, worker, tally) {
+        Some(own) => {
+            pass_on(ground, worker, tally, own, number);
+            let ended = if frees { Some(own) } else { None };
+            free_any(ground, worker, tally, ended);
+        }
+        None => {}
+    }
+}
+
+/// All that one worker does.
+fn work(ground: &Ground, worker: &mut WordWorker, tallies: &Tallies, number: usize, frees: bool)
+    requires of { IsOf ground.now worker.old.seat }
+    ensures stays { Stays worker.old worker.new }
+{
+    let mut tally = Tally::default();
+    pass_all(ground, worker, &mut tally, number, frees);
+    tallies.add(&tally);
+}
+
+/// The work of all workers, each in a thread of its own.
+fn all_work<R: Threads + Sync>(
+    rt: &R,
+    ground: &Ground,
+    workers: &mut [WordWorker],
+    tallies: &Tallies,
+    frees: bool,
+)
+    requires workers { AreWorkers ground.now workers.old }
+    ensures workers { AreWorkers ground.now workers.new }
+{
+    workers_who_stay_are_all();
+    thread::for_each_mut(
+        rt,
+        workers,
+        CROWD as usize,
+        &|number, worker: &mut WordWorker|
+            requires { IsOf ground.now worker.now.seat }
+            ensures { Stays worker.entry.now worker.exit.now }
+        { work(ground, worker, tallies, number, frees) },
+    );
+}
+
+/// Takes the packet off a desk and frees it, where there is one.
+fn clear(ground: &Ground, worker: &mut WordWorker, tallies: &Tallies, desk: usize)
+    requires of { IsOf ground.now worker.old.seat }
+    ensures stays { Stays worker.old worker.new }
+{
+    let mut tally = Tally::default();
+    let slot = fetch(ground, worker, &mut tally, desk_of(desk as u64));
+    free_any(ground, worker, &mut tally, slot);
+    tallies.add(&tally);
+}
+
+/// Each worker clears one desk, in a thread of its own.
+fn all_clear<R: Threads + Sync>(
+    rt: &R,
+    ground: &Ground,
+    workers: &mut [WordWorker],
+    tallies: &Tallies,
+)
+    requires workers { AreWorkers ground.now workers.old }
+    ensures workers { AreWorkers ground.now workers.new }
+{
+    workers_who_stay_are_all();
+    thread::for_each_mut(
+        rt,
+        workers,
+        CROWD as usize,
+        &|desk, worker: &mut WordWorker|
+            requires { IsOf ground.now worker.now.seat }
+            ensures { Stays worker.entry.now worker.exit.now }
+        { clear(ground, worker, tallies, desk) },
+    );
+}
+
+/// The statement of a pool whose workers have passed packets round, and in the end freed all of them, or none.
+fn passed<R: Threads + Sync + Abort>(
+    rt: &R,
+    alloc: Global,
+    frees: bool,
+) -> Result<Statement, Fail> {
+    let limits = Limits {
+        population: 20_000,
+        cache: 64,
+        workers: u64::from(CROWD),
+        desks: u64::from(CROWD),
+        ..DEFAULTS
+    };
+    let tallies = Tallies::new();
+    let (ground, mut workers) = pool::make(alloc, &limits)?;
+    all_work(rt, &ground, workers.as_mut_slice(), &tallies, frees);
+    if frees {
+        all_clear(rt, &ground, workers.as_mut_slice(), &tallies);
+    }
+    let statement = pool::settled(alloc, ground, workers)?;
+    let told = tallies.all();
+    assert_eq!(rt; told.wrong, 0, "calls that were refused for another cause");
+    assert!(rt; told.calls >= 1_000_000, "{} calls", told.calls);
+    let on_desks = statement.desks.len() as u64;
+    assert_eq!(rt;
+        told.left,
+        told.taken.saturating_add(on_desks),
+        "packets left on desks"
+    );
+    Ok(statement)
+}
+
+#[test]
+fn each_element_stands_once_after_a_million_calls(rt: HostRuntime) -> Result<(), Fail> {
+    let statement = passed(&rt, rt.alloc(), false)?;
+    assert_eq!(&rt;
+        statement.packets.len(),
+        CROWD as usize,
+        "each worker's own packet"
+    );
+    assert_each_once(&rt, rt.alloc(), &statement, "a million calls")?;
+    assert_holds(&rt, rt.alloc(), &statement, "a million calls")
+}
+
+#[test]
+fn no_element_is_held_once_all_packets_are_freed(rt: HostRuntime) -> Result<(), Fail> {
+    let statement = passed(&rt, rt.alloc(), true)?;
+    assert_all_free(
+        &rt,
+        rt.alloc(),
+        &statement,
+        "a million calls, and all freed",
+    )
+}

@@ -1,0 +1,139 @@
+//! Four workers in threads of their own, who make packets and free them on the words of one pool.
+
+ghost use Rattle.ground.specs.Seats.{IsOf};
+ghost use Rattle.word_pool.specs.Workers.{AreWorkers, Stays};
+
+use super::crews::{Tallies, Tally, act, free, free_any, make};
+use super::{DEFAULTS, assert_all_free};
+use commons::limits::Limits;
+use ground::pool::Ground;
+use mbuf::acts::{Act, Reply};
+use mbuf::packets::Pid;
+use std::alloc::Global;
+use std::process::Abort;
+use std::test::Fail;
+use std::thread;
+use std::thread::Threads;
+use word_pool::laws::workers_who_stay_are_all;
+use word_pool::pool;
+use word_pool::worker::WordWorker;
+
+/// How often each worker makes three packets and frees them, in each pool.
+const ROUNDS: u32 = 100_000;
+
+/// Attaches a worker's packet to another, which can't be refused, where there is a slot of the first.
+fn attach(ground: &Ground, worker: &mut WordWorker, tally: &mut Tally, slot: Option<Pid>, to: Pid)
+    requires of { IsOf ground.now worker.old.seat }
+    ensures of { IsOf ground.now worker.new.seat }
+    ensures stays { Stays worker.old worker.new }
+{
+    match slot {
+        Some(slot) => {
+            let reply = act(ground, worker, tally, Act::Attach(slot, to));
+            if !matches!(&reply, Reply::Attached) {
+                tally.note_wrong();
+            }
+        }
+        None => {}
+    }
+}
+
+/// Makes a clone of a packet and another packet that is attached to it, frees it and then the two.
+fn share(ground: &Ground, worker: &mut WordWorker, tally: &mut Tally, packet: Pid)
+    requires of { IsOf ground.now worker.old.seat }
+    ensures of { IsOf ground.now worker.new.seat }
+    ensures stays { Stays worker.old worker.new }
+{
+    let clone = make(ground, worker, tally, Act::ClonePacket(packet));
+    let other = make(ground, worker, tally, Act::Alloc);
+    attach(ground, worker, tally, other, packet);
+    free(ground, worker, tally, packet);
+    free_any(ground, worker, tally, clone);
+    free_any(ground, worker, tally, other);
+}
+
+/// Makes packets that share a buffer, where there is an element for the first, and frees them.
+fn round(ground: &Ground, worker: &mut WordWorker, tally: &mut Tally)
+    requires of { IsOf ground.now worker.old.seat }
+    ensures of { IsOf ground.now worker.new.seat }
+    ensures stays { Stays worker.old worker.new }
+{
+    match make(ground, worker, tally, Act::Alloc) {
+        Some(packet) => share(ground, worker, tally, packet),
+        None => {}
+    }
+}
+
+/// The rounds of one worker.
+fn rounds(ground: &Ground, worker: &mut WordWorker, tallies: &Tallies)
+    requires of { IsOf ground.now worker.old.seat }
+    ensures stays { Stays worker.old worker.new }
+{
+    let mut tally = Tally::default();
+    for _ in 0..ROUNDS {
+        round(ground, worker, &mut tally);
+    }
+    tallies.add(&tally);
+}
+
+/// The rounds of all workers, each in a thread of its own.
+fn all_work<R: Threads + Sync>(
+    rt: &R,
+    ground: &Ground,
+    workers: &mut [WordWorker],
+    tallies: &Tallies,
+)
+    requires workers { AreWorkers ground.now workers.old }
+    ensures workers { AreWorkers ground.now workers.new }
+{
+    workers_who_stay_are_all();
+    thread::for_each_mut(
+        rt,
+        workers,
+        4,
+        &|_, worker: &mut WordWorker|
+            requires { IsOf ground.now worker.now.seat }
+            ensures { Stays worker.entry.now worker.exit.now }
+        { rounds(ground, worker, tallies) },
+    );
+}
+
+/// Four workers of one pool, who free all that they made.
+fn four_of<R: Threads + Sync + Abort>(
+    rt: &R,
+    alloc: Global,
+    population: u64,
+    cache: u64,
+) -> Result<(), Fail> {
+    let name = format!(in alloc; "four workers, {population} elements and caches of {cache}")?;
+    let limits = Limits {
+        population,
+        cache,
+        workers: 4,
+        ..DEFAULTS
+    };
+    let tallies = Tallies::new();
+    let (ground, mut workers) = pool::make(alloc, &limits)?;
+    all_work(rt, &ground, workers.as_mut_slice(), &tallies);
+    let statement = pool::settled(alloc, ground, workers)?;
+    let told = tallies.all();
+    assert_eq!(rt;
+        told.wrong,
+        0,
+        "{name}: a call was refused for another cause"
+    );
+    assert!(rt;
+        told.calls >= u64::from(ROUNDS),
+        "{name}: {} calls",
+        told.calls
+    );
+    assert_all_free(rt, alloc, &statement, name.as_str())
+}
+
+#[test]
+fn four_workers_free_what_they_made(rt: HostRuntime) -> Result<(), Fail> {
+    for (population, cache) in [(8, 0), (64, 0), (64, 8), (1_024, 32)] {
+        four_of(&rt, rt.alloc(), population, cache)?;
+    }
+    Ok(())
+}
