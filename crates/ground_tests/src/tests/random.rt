@@ -13,8 +13,8 @@ use step_core::world::World;
 /// Where the generator starts.
 const SEED: u64 = 20_261_125;
 
-/// How many schedules are played. A hundred take some 3 seconds with the address sanitizer.
-const SCHEDULES: u64 = 100;
+/// How many schedules are played.
+const SCHEDULES: u64 = 1_000;
 
 /// Steps of a schedule, the refused ones too.
 const STEPS: u64 = 60;
