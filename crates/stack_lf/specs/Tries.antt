@@ -10,7 +10,7 @@ use Rattle.commons.specs.declared.refusal.Lowered.TheVariants.{Last, Still}
 use Rattle.step_core.specs.declared.view.Head.{Head}
 use Rattle.step_core.specs.declared.step.Step.TheVariants.{LoadLength, Reserve, Add, LoadHead, LoadLink, Cut, StoreLink, Push, Claim as ClaimStep, Sole, Raise as RaiseStep, Lower as LowerStep, Reset, Hold, Open, Seize, Clear}
 use Rattle.step_core.specs.declared.step.Outcome.TheVariants.{Value, HeadIs, Won, Got, Lost, LostTo, Done, Found}
-use Rattle.ground.specs.Seats.{Seated, Note, element_of}
+use Rattle.ground.specs.Seats.{Seated, Note, element_of, KnowsLength, KnowsCount}
 
 -- links that were walked, each an element with the value of its link
 abbrev pub Walk : Type 0
@@ -254,6 +254,19 @@ IsContended l (PutList xs (Err Contended)) = Unit {0}
 IsContended l (Raise i (Err Contended)) = l.desks ≡ 0
 IsContended l _ = ⊥
 
+-- What the answer of a call that only reads a length or a count tells the seat: what it knows of either, where it has
+-- every part.
+abbrev pub IsTold : Seated → Call → Type 0
+IsTold s (GetList n answer) = Unit {0}
+IsTold s (PutList xs answer) = Unit {0}
+IsTold s (Claim i) = Unit {0}
+IsTold s (CountOf i n) = KnowsCount s.known.limits s.known.view i n
+IsTold s (Raise i answer) = Unit {0}
+IsTold s (Lower i answer) = Unit {0}
+IsTold s (Offer d packet answer) = Unit {0}
+IsTold s (Take d answer) = Unit {0}
+IsTold s (CommonCount n) = KnowsLength s.known.limits s.known.view n
+
 -- what a call over words did: it took the steps of these tries, by this seat, and read what they read
 pub record DidOnWords (s : Seated) (call : Call) (rs : List Reading) (t : Seated) : Type 0 where
   pub table : t.table ≡ s.table
@@ -267,3 +280,5 @@ pub record DidOnWords (s : Seated) (call : Call) (rs : List Reading) (t : Seated
   pub read : rs ≡ readings_of tries
   -- a seat of every part is in nobody's way
   pub alone : s.known.view.part ≡ s.known.limits.workers → IsContended s.known.limits call → ⊥
+  -- and knows what a length and a count are, but for what lies on desks
+  pub told : IsTold s call

@@ -91,7 +91,7 @@ impl<'a> Commons for WordCommons<'a> {
         counting::claim(self.ground, &mut self.seat, element);
     }
 
-    /// Takes one step.
+    /// Takes one step. A seat of every part is told how often it and the packets on full desks hold the element.
     fn count(&mut self, element: u32) -> u32 {
         counting::count(self.ground, &mut self.seat, element) as u32
     }
@@ -119,7 +119,8 @@ impl<'a> Commons for WordCommons<'a> {
         desking::take(self.ground, &mut self.seat, desk)
     }
 
-    /// Takes one step.
+    /// Takes one step. A seat of every part is told the length of the common list: all that is neither in its hand nor
+    /// held by it or by packets on full desks.
     fn common_count(&mut self) -> u32 {
         counting::length(self.ground, &mut self.seat) as u32
     }
