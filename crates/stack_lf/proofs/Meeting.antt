@@ -8,7 +8,7 @@ use Rattle.commons.specs.Calls.{Call, GetList, PutList, Claim, CountOf, Raise, L
 use Rattle.commons.specs.declared.limits.Limits.{Limits}
 use Rattle.commons.specs.declared.refusal.Lowered.{Lowered as Answer}
 use Rattle.commons.specs.declared.refusal.Lowered.TheVariants.{Last, Still}
-use Rattle.commons.specs.declared.refusal.Refusal.TheVariants.{Contended}
+use Rattle.commons.specs.declared.refusal.Refusal.TheVariants.{NoEntries, Contended, RefSpent}
 use Rattle.commons.specs.declared.refusal.Refusal.{Refusal}
 use Rattle.step_core.specs.declared.view.View.{View}
 use Rattle.step_core.specs.declared.view.Chain.{Chain}
@@ -20,7 +20,7 @@ use Rattle.step_core.specs.declared.step.Outcome.TheVariants.{Value}
 use Rattle.ground.specs.Seats.{Grounded, Seated, IsOf, Note, after, Steps, KnowsLength, KnowsCount}
 use Rattle.ground.specs.Own.{AtRest}
 use Rattle.stack_lf.specs.Sides.{side_of}
-use Rattle.stack_lf.specs.Tries.{Try, Short, Taken, Counted, notes, notes_of, readings_of, IsOfCall, IsContended, IsTold, DidOnWords}
+use Rattle.stack_lf.specs.Tries.{Try, Short, Taken, Counted, notes, notes_of, readings_of, IsOfCall, IsContended, KnowsShort, KnowsSpent, IsTold, DidOnWords}
 use Rattle.stack_lf.specs.Leaves.{IsAlone, IsBare, tried_to, seen_as, put_as, Gets, Puts, Raises, Lowers, lowered_as}
 use Rattle.stack_lf.proofs.Composing.{still_of}
 use Rattle.stack_lf.proofs.Storing.{bag-minus}
@@ -106,6 +106,19 @@ get_contended : (l : Limits) (n : ℕ) (e : Refusal) → IsContended l (GetList 
 get_contended l n Contended c = (refl, c)
 get_contended l n _ c = absurd c
 
+-- what a refused get and a refused raise tell
+get_told : (s : Seated) (n : ℕ) (e : Refusal) →
+    (◌≡◌ {A = Result (Unit {0}) Refusal} (Err e) (Err NoEntries) → KnowsShort n s) →
+    IsTold s (GetList n (Err e))
+get_told s n NoEntries told = told refl
+get_told s n _ told = tt
+
+raise_told : (s : Seated) (i : ℕ) (e : Refusal) →
+    (◌≡◌ {A = Result (Unit {0}) Refusal} (Err e) (Err RefSpent) → KnowsSpent i s) →
+    IsTold s (Raise i (Err e))
+raise_told s i RefSpent told = told refl
+raise_told s i _ told = tt
+
 put_contended : (l : Limits) (xs : List ℕ) (e : Refusal) → IsContended l (PutList xs (Err e)) →
     e ≡ Contended
 put_contended l xs Contended c = refl
@@ -118,16 +131,16 @@ raise_contended l i _ c = absurd c
 
 pub get_did : (n : ℕ) (xs : List ℕ) (r : Result (Unit {0}) Refusal) (s t : Seated) →
     Gets s.known.limits.tries n xs r s t → (IsBare s → r ≢ Err Contended) →
-    Did DidOnWords side_of s (GetList n (with_list r xs)) t
-get_did n xs (Ok m) s t g alone =
+    (r ≡ Err NoEntries → KnowsShort n s) → Did DidOnWords side_of s (GetList n (with_list r xs)) t
+get_did n xs (Ok m) s t g alone told =
     doing s (GetList n (Ok xs)) t g.0 _ g.3
     (get_effect s.known.limits.tries n xs (Ok m) s t g) g.4 refl (λ whole c. c) tt
-get_did n xs (Err e) s t g alone =
+get_did n xs (Err e) s t g alone told =
     doing s (GetList n (Err e)) t g.0 _ g.3
     (get_effect s.known.limits.tries n xs (Err e) s t g) g.4 refl
     (λ whole c.
     let why = get_contended s.known.limits n e c in
-    alone (whole, why.1) (ap Err why.0)) tt
+    alone (whole, why.1) (ap Err why.0)) (get_told s n e told)
 
 -- ---- a put
 
@@ -286,16 +299,17 @@ raise_effect l e (Err _) s t held g = ap side_of g.2
 
 pub raise_did : (e : ℕ) (r : Result (Unit {0}) Refusal) (s t : Seated) →
     0 < bag s.known.view.holds e → Raises s.known.limits e r s t →
-    (IsBare s → r ≢ Err Contended) → Did DidOnWords side_of s (Raise e r) t
-raise_did e (Ok m) s t held g alone =
+    (IsBare s → r ≢ Err Contended) → (r ≡ Err RefSpent → KnowsSpent e s) →
+    Did DidOnWords side_of s (Raise e r) t
+raise_did e (Ok m) s t held g alone told =
     doing s (Raise e (Ok m)) t g.0 _ g.1 (raise_effect s.known.limits e (Ok m) s t held g) g.2 refl
     (λ whole c. c) tt
-raise_did e (Err cause) s t held g alone =
+raise_did e (Err cause) s t held g alone told =
     doing s (Raise e (Err cause)) t g.0 _ g.1
     (raise_effect s.known.limits e (Err cause) s t held g) g.2 refl
     (λ whole c.
     let why = raise_contended s.known.limits e cause c in
-    alone (whole, why.1) (ap Err why.0)) tt
+    alone (whole, why.1) (ap Err why.0)) (raise_told s e cause told)
 
 pub lower_went : (e : ℕ) (answer : Answer) (s t : Seated) → Lowers e answer s t → Went s t
 lower_went e Last s t g = (

@@ -254,14 +254,26 @@ IsContended l (PutList xs (Err Contended)) = Unit {0}
 IsContended l (Raise i (Err Contended)) = l.desks ≡ 0
 IsContended l _ = ⊥
 
--- What the answer of a call that only reads a length or a count tells the seat: what it knows of either, where it has
--- every part.
+-- a length below n was read, and is what a seat of every part knows of it
+abbrev pub KnowsShort : ℕ → Seated → Type 0
+KnowsShort n s = (found : ℕ) × (found < n) × KnowsLength s.known.limits s.known.view found
+
+-- and a count at the reference limit
+abbrev pub KnowsSpent : ℕ → Seated → Type 0
+KnowsSpent i s = KnowsCount s.known.limits s.known.view i s.known.limits.ref_limit
+
+-- What a call's answer tells its seat of the length and of a count that were read: what a seat of every part knows of
+-- either.
 abbrev pub IsTold : Seated → Call → Type 0
-IsTold s (GetList n answer) = Unit {0}
+IsTold s (GetList n (Ok xs)) = Unit {0}
+IsTold s (GetList n (Err NoEntries)) = KnowsShort n s
+IsTold s (GetList n (Err _)) = Unit {0}
 IsTold s (PutList xs answer) = Unit {0}
 IsTold s (Claim i) = Unit {0}
 IsTold s (CountOf i n) = KnowsCount s.known.limits s.known.view i n
-IsTold s (Raise i answer) = Unit {0}
+IsTold s (Raise i (Ok _)) = Unit {0}
+IsTold s (Raise i (Err RefSpent)) = KnowsSpent i s
+IsTold s (Raise i (Err _)) = Unit {0}
 IsTold s (Lower i answer) = Unit {0}
 IsTold s (Offer d packet answer) = Unit {0}
 IsTold s (Take d answer) = Unit {0}

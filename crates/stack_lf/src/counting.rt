@@ -6,6 +6,7 @@ ghost use Rattle.step_core.specs.declared.step.Step.TheVariants.{LoadLength, Sol
 ghost use Rattle.step_core.specs.declared.step.Outcome.TheVariants.{Value};
 ghost use Rattle.ground.specs.Seats.{IsOf, Steps, KnowsLength, KnowsCount};
 ghost use Rattle.ground.specs.Own.{Owned};
+ghost use Rattle.stack_lf.specs.Tries.{KnowsSpent};
 ghost use Rattle.stack_lf.specs.Leaves.{TriesRaise, Raises, Lowers, IsBare};
 
 use crate::tried::Tried;
@@ -60,6 +61,7 @@ fn try_raise(ground: &Ground, seat: &mut GroundSeat, element: u32, limits: &Limi
     requires held { 0 < bag seat.old.known.view.holds element }
     requires limits { limits.now ≡ ground.now.limits }
     ensures one { TriesRaise limits.now element result seat.old seat.new }
+    ensures told { result ≡ Tried.Refused Refusal.RefSpent → KnowsSpent element seat.old }
     ensures alone { IsBare seat.old → result ≢ Tried.Lost }
 {
     let count = ground.sole(seat, element, false);
@@ -83,6 +85,7 @@ fn raise_by_tries(
     requires held { 0 < bag seat.old.known.view.holds element }
     requires limits { limits.now ≡ ground.now.limits }
     ensures raised { Raises limits.now element result seat.old seat.new }
+    ensures told { result ≡ Err Refusal.RefSpent → KnowsSpent element seat.old }
     ensures alone { IsBare seat.old → 1 ≤ limits.now.tries → result ≢ Err Refusal.Contended }
 {
     let backoff = Backoff::new();
@@ -107,6 +110,7 @@ pub(crate) fn raise(
     requires held { 0 < bag seat.old.known.view.holds element }
     requires limits { limits.now ≡ ground.now.limits }
     ensures raised { Raises limits.now element result seat.old seat.new }
+    ensures told { result ≡ Err Refusal.RefSpent → KnowsSpent element seat.old }
     ensures alone { IsBare seat.old → 1 ≤ limits.now.tries → result ≢ Err Refusal.Contended }
     ensures own { Owned seat.new.known.limits seat.new.known.view }
 {
