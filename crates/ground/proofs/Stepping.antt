@@ -45,7 +45,7 @@ module _ (l : Limits) (s : St) (r : Ruled l s) (id : ℕ) (me : Sat) (at : get_e
       subst (λ (k : Limits). KnowsLength k me.0.view (slice_index s.words 8))
       (sym (my_limits l s r id me at busy))
       (subst (λ (n : ℕ). KnowsLength l me.0.view n) (sym (read_length l s r id me at busy))
-      (knows_length r.world (law l s r id me at busy) r.desks.count l r.limits id
+      (knows_length r.world (law l s r id me at busy) r.counts.headers r.desks.count l r.limits id
       (here l s r id me at busy) me.0.view (is_view l s r id me at busy)))
 
   -- the length word may be written as it was found
