@@ -324,7 +324,8 @@ stores_link l slots id me i x hand small busy own s r _ at _ =
 
 -- ---- the exchanges of the head
 
-module _ (l : Limits) (s : St) (r : Ruled l s) (id : ℕ) (me : Sat) (at : get_elem? s.views id ≡ some me.0) (busy : Sits me) (k : Look) (mine : me.0.view.look ≡ Some k) where
+module _ (l : Limits) (s : St) (r : Ruled l s) (id : ℕ) (me : Sat) (at : get_elem? s.views id ≡ some me.0)
+    (busy : Sits me) (k : Look) (mine : me.0.view.look ≡ Some k) where
   my_look : (view_at r.world.views id).look ≡ Some k
   my_look = ap (λ (v : View). v.look) (is_view l s r id me at busy) ∙ mine
 

@@ -46,7 +46,8 @@ zero_inside l v i own h =
     (λ (c : l.population ≤ i). absurd (let z = own.hand_below i c in omega arith))
     (cases_lt i l.population)
 
-module _ (l : Limits) (s : St) (r : Ruled l s) (id : ℕ) (me : Sat) (at : get_elem? s.views id ≡ some me.0) (busy : Sits me) (i k : ℕ) (word : k ≡ 16 + l.population + i) (inside : i < l.population) where
+module _ (l : Limits) (s : St) (r : Ruled l s) (id : ℕ) (me : Sat) (at : get_elem? s.views id ≡ some me.0)
+    (busy : Sits me) (i k : ℕ) (word : k ≡ 16 + l.population + i) (inside : i < l.population) where
   mine : me.0.limits.population ≡ l.population
   mine = ap (λ (z : Limits). z.population) (my_limits l s r id me at busy)
 

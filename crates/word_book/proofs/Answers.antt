@@ -17,7 +17,8 @@ use Rattle.word_book.proofs.Faultless.{faultless}
 use Rattle.word_book.proofs.Listed.{lists_packets}
 use Rattle.word_book.proofs.Wholes.{numbered}
 
-module _ (b : Places) (closed : Closed) (left : IsLeftWith b.limits closed (shares_in b.places)) (workers : length b.places ≡ b.limits.workers) (each : AreShares b.places) where
+module _ (b : Places) (closed : Closed) (left : IsLeftWith b.limits closed (shares_in b.places))
+    (workers : length b.places ≡ b.limits.workers) (each : AreShares b.places) where
   -- a fault is named of a full book alone
   none_named : (f : Fault) → IsUnsettled b closed (HasFault f) → HasFault f ≢ HasFault BadPacket → ⊥
   none_named f unsettled packets =
