@@ -20,7 +20,8 @@ use Rattle.step_core.specs.declared.step.Outcome.TheVariants.{Value}
 use Rattle.ground.specs.Seats.{Grounded, Seated, IsOf, Note, after, Steps, KnowsLength, KnowsCount}
 use Rattle.ground.specs.Own.{AtRest}
 use Rattle.stack_lf.specs.Sides.{side_of}
-use Rattle.stack_lf.specs.Tries.{Try, Short, Taken, Counted, notes, notes_of, readings_of, IsOfCall, IsContended, KnowsShort, KnowsSpent, IsTold, DidOnWords}
+use Rattle.stack_lf.specs.Tries.{Try, Short, Taken, Counted, notes, notes_of, readings_of, IsOfCall, IsContended}
+use Rattle.stack_lf.specs.Tries.{KnowsShort, KnowsSpent, IsTold, DidOnWords}
 use Rattle.stack_lf.specs.Leaves.{IsAlone, IsBare, tried_to, seen_as, put_as, Gets, Puts, Raises, Lowers, lowered_as}
 use Rattle.stack_lf.proofs.Composing.{still_of}
 use Rattle.stack_lf.proofs.Storing.{bag-minus}

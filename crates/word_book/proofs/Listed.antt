@@ -1,8 +1,9 @@
 -- What a lawful snapshot of what a ground left says of its packets and counts, its statement lists.
-use Rattle.std.proofs.Common.{ℕ, suc, ◌≡◌, ◌+◌, ◌<◌, ◌≤◌, inl, inr, List, [], ◌∷◌, ◌++◌, get_or, length, map, Option, Some, None, Result, Ok, Err, refl, sym, ap, ◌∙◌, subst, arith}
-use Rattle.std.specs.Prelude.{All, Contains, IfOk, flat_map, max, slice_index}
+use Rattle.std.proofs.Common.{ℕ, ◌≡◌, ◌+◌, ◌≤◌, inl, inr, List, [], ◌∷◌, get_or, map, Option, Some, None, ap, arith}
+use Rattle.std.specs.Prelude.{All, Contains, flat_map, max, slice_index}
 use Rattle.std.proofs.lemmas.Bool.{cases_lt}
-use Rattle.std.proofs.lemmas.List.Elements.{All-nil, All-cons, All-append, All-map, Contains-append_left, Contains-append_right, Contains-push}
+use Rattle.std.proofs.lemmas.List.Elements.{All-nil, All-cons, All-append, All-map}
+use Rattle.std.proofs.lemmas.List.Elements.{Contains-append_left, Contains-append_right, Contains-push}
 use Rattle.commons.specs.declared.closed.Closed.{Closed}
 use Rattle.commons.specs.declared.limits.Limits.{Limits}
 use Rattle.commons.specs.declared.packet.Seg.{Seg}
@@ -11,8 +12,6 @@ use Rattle.mbuf.specs.Members.{Member}
 use Rattle.pool_model.specs.declared.statement.DeskPacket.{DeskPacket}
 use Rattle.pool_model.specs.declared.statement.Held.{Held}
 use Rattle.pool_model.specs.declared.statement.PlacedPacket.{PlacedPacket}
-use Rattle.pool_model.specs.declared.statement.Statement.{Statement}
-use Rattle.pool_model.specs.Pool.{held_of}
 use Rattle.pool_model.specs.Statements.{desks_from, held_elements, held_entry, packets_from, packets_of}
 use Rattle.snapshot.specs.Closing.{snapshot_of}
 use Rattle.snapshot.specs.declared.snapshot.ShareData.{ShareData}
