@@ -12,6 +12,8 @@ use stack_lf::words::WordCommons;
 use std::process::Abort;
 use std::test::Fail;
 
+mod carrying;
+mod desks;
 mod left;
 mod playing;
 mod rows;

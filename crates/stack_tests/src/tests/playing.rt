@@ -27,7 +27,7 @@ impl Drop for Worker {
 
 impl Worker {
     /// The worker's seat.
-    fn into_seat(self) -> GroundSeat
+    pub(super) fn into_seat(self) -> GroundSeat
         ensures { result ≡ self.seat }
     {
         let Worker { seat } = self;

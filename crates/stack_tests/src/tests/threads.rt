@@ -16,7 +16,7 @@ use std::thread;
 use std::thread::Threads;
 
 /// What two workers have done, their seats made one.
-fn joined(ground: &Ground, first: Played, second: Played) -> Played
+pub(super) fn joined(ground: &Ground, first: Played, second: Played) -> Played
     requires first { IsIdle ground.now first.seat }
     requires second { IsIdle ground.now second.seat }
     ensures { IsIdle ground.now result.seat }

@@ -1,0 +1,316 @@
+//! Packets of one element that go over desks: between two workers in one thread, and in threads of their own.
+
+ghost use Rattle.stack_tests.specs.Carrying.{Carries};
+ghost use Rattle.stack_tests.specs.Idle.{IsIdle, Stays};
+
+use super::carrying::{make, nothing, offer, offer_in_turn, take, take_in_turn};
+use super::left::assert_each_once;
+use super::playing::{Played, Worker};
+use super::threads::joined;
+use super::{closed_of, rows};
+use commons::closed::Closed;
+use commons::limits::Limits;
+use commons::packet::{Packet, Seg};
+use commons::refusal::Refusal;
+use ground::pool::Ground;
+use stack_lf::words::WordCommons;
+use std::alloc::{AllocError, Global};
+use std::process::Abort;
+use std::test::Fail;
+use std::thread;
+use std::thread::Threads;
+
+/// What a worker does, and what is told of it.
+enum Turn {
+    /// Makes a packet of this many bytes.
+    Make(u16),
+    /// Leaves its packet on this desk, and is answered so.
+    Offer(u32, Result<(), Refusal>),
+    /// Takes the packet off this desk, and is told its element and its bytes.
+    Take(u32, Result<(u32, u16), Refusal>),
+}
+
+/// A name, and the turns of workers 1 and 2 of a pool of four elements with two desks.
+type Row = (&'static str, &'static [(u32, Turn)]);
+
+const ROWS: &[Row] = &[
+    (
+        "one worker and two desks",
+        &[
+            (1, Turn::Take(0, Err(Refusal::DeskEmpty))),
+            (1, Turn::Take(2, Err(Refusal::NoSuchDesk))),
+            (1, Turn::Make(60)),
+            (1, Turn::Offer(2, Err(Refusal::NoSuchDesk))),
+            (1, Turn::Offer(0, Ok(()))),
+            (1, Turn::Make(1_920)),
+            (1, Turn::Offer(0, Err(Refusal::DeskTaken))),
+            (1, Turn::Take(1, Err(Refusal::DeskEmpty))),
+            (1, Turn::Offer(1, Ok(()))),
+            (1, Turn::Take(0, Ok((0, 60)))),
+            (1, Turn::Take(0, Err(Refusal::DeskEmpty))),
+            (1, Turn::Offer(1, Err(Refusal::DeskTaken))),
+            (1, Turn::Offer(0, Ok(()))),
+            (1, Turn::Take(1, Ok((1, 1_920)))),
+        ],
+    ),
+    (
+        "from one worker to another",
+        &[
+            (1, Turn::Make(1)),
+            (1, Turn::Offer(0, Ok(()))),
+            (2, Turn::Make(2)),
+            (2, Turn::Offer(0, Err(Refusal::DeskTaken))),
+            (2, Turn::Offer(1, Ok(()))),
+            (2, Turn::Take(0, Ok((0, 1)))),
+            (1, Turn::Take(0, Err(Refusal::DeskEmpty))),
+            (1, Turn::Take(1, Ok((1, 2)))),
+            (2, Turn::Take(1, Err(Refusal::DeskEmpty))),
+            (1, Turn::Offer(0, Ok(()))),
+            (2, Turn::Offer(1, Ok(()))),
+            (2, Turn::Take(0, Ok((1, 2)))),
+            (1, Turn::Make(3)),
+            (1, Turn::Offer(0, Ok(()))),
+        ],
+    ),
+];
+
+/// The first segment of a carried packet.
+fn first_seg(carried: &Option<Packet>) -> Option<Seg> {
+    match carried {
+        Some(packet) => Some(packet.segs()[0]),
+        None => None,
+    }
+}
+
+/// A worker's turn. A packet whose offer is refused has to be as it was.
+fn follow<R: Abort>(
+    rt: &R,
+    c: &mut WordCommons,
+    carried: &mut Option<Packet>,
+    turn: &Turn,
+    name: &str,
+)
+    requires carries { Carries carried.old c.old.seat }
+    ensures carries { Carries carried.new c.new.seat }
+    ensures stays { Stays c.old.seat c.new.seat }
+{
+    match turn {
+        Turn::Make(len) => {
+            let made = make(c, carried, *len);
+            assert_eq!(rt; made, Ok(()), "{name}");
+        }
+        Turn::Offer(desk, told) => {
+            let before = first_seg(carried);
+            assert!(rt;
+                before.is_some(),
+                "{name}: a packet to leave on desk {desk}"
+            );
+            let answer = offer(c, carried, *desk);
+            assert_eq!(rt; answer, *told, "{name}: an offer at desk {desk}");
+            let left = if answer.is_ok() { None } else { before };
+            assert_eq!(rt; first_seg(carried), left, "{name}: what is carried on");
+        }
+        Turn::Take(desk, told) => {
+            let answer = take(c, carried, *desk);
+            let seen = match (answer, first_seg(carried)) {
+                (Ok(()), Some(seg)) => Ok((seg.elem, seg.data_len)),
+                (Ok(()), None) => Err(Refusal::NoSuchPacket),
+                (Err(cause), _) => Err(cause),
+            };
+            assert_eq!(rt; seen, *told, "{name}: a take at desk {desk}");
+        }
+    }
+}
+
+/// The turns of a row, each by its worker. What both carry at the end.
+fn follow_all<R: Abort>(
+    rt: &R,
+    first: &mut WordCommons,
+    second: &mut WordCommons,
+    row: &Row,
+) -> (Option<Packet>, Option<Packet>)
+    ensures first { Stays first.old.seat first.new.seat }
+    ensures second { Stays second.old.seat second.new.seat }
+{
+    let (name, turns) = *row;
+    let mut carried = nothing(first);
+    let mut others = nothing(second);
+    for (worker, turn) in turns {
+        if *worker == 1 {
+            follow(rt, first, &mut carried, turn, name);
+        } else {
+            follow(rt, second, &mut others, turn, name);
+        }
+    }
+    (carried, others)
+}
+
+/// The first elements of these packets, and of those on the desks of a closed ground.
+fn elements_of(
+    alloc: Global,
+    carried: &[Option<Packet>],
+    closed: &Closed,
+) -> Result<Vec<u32>, AllocError> {
+    let mut elements = Vec::new(alloc);
+    for packets in [carried, closed.desks.as_slice()] {
+        for packet in packets {
+            if let Some(seg) = first_seg(packet) {
+                elements.push(seg.elem)?;
+            }
+        }
+    }
+    Ok(elements)
+}
+
+/// Plays a row, and demands that each element is in the common list, or in one packet that is carried or on a desk.
+fn assert_row<R: Abort>(rt: &R, alloc: Global, row: &Row) -> Result<(), Fail> {
+    let limits = Limits {
+        population: 4,
+        workers: 2,
+        desks: 2,
+        ..rows::THREE
+    };
+    let (ground, mut seat) = Ground::make(alloc, &limits)?;
+    let other = ground.split(&mut seat);
+    let mut first = WordCommons::new(&ground, seat);
+    let mut second = WordCommons::new(&ground, other);
+    let (carried, others) = follow_all(rt, &mut first, &mut second, row);
+    let mut seat = first.into_seat();
+    ground.join(&mut seat, second.into_seat());
+    let closed = closed_of(ground, seat)?;
+    let kept = elements_of(alloc, &[carried, others], &closed)?;
+    assert_each_once(rt, alloc, &closed, kept.as_slice(), row.0)
+}
+
+#[test]
+fn packets_go_over_desks_as_they_are(rt: HostRuntime) -> Result<(), Fail> {
+    for row in ROWS {
+        assert_row(&rt, rt.alloc(), row)?;
+    }
+    Ok(())
+}
+
+/// How many packets are handed over.
+const PACKETS: u16 = 10_000;
+
+/// The bytes of a packet by its place in the order in which they are handed over.
+fn len_of(place: u16) -> u16 {
+    place % 1_000
+}
+
+/// A worker who makes packets and leaves each on desk 0 once the one before it was taken. `met` counts those that were
+/// left there; a packet that never found the desk empty ends the turns, and is kept.
+fn hand_over(alloc: Global, ground: &Ground, worker: Worker) -> Played
+    requires { IsIdle ground.now worker.seat }
+    ensures { IsIdle ground.now result.seat }
+{
+    let mut c = WordCommons::new(ground, worker.into_seat());
+    let mut carried = nothing(&c);
+    let mut kept = Vec::new(alloc);
+    let mut met = 0u64;
+    let mut sound = true;
+    for place in 0..PACKETS {
+        if sound {
+            sound &= make(&mut c, &mut carried, len_of(place)).is_ok();
+            if offer_in_turn(&mut c, &mut carried) {
+                met = met.saturating_add(1);
+            } else {
+                sound = false;
+            }
+        }
+    }
+    if let Some(seg) = first_seg(&carried) {
+        sound &= kept.push(seg.elem).is_ok();
+    }
+    Played {
+        seat: c.into_seat(),
+        kept,
+        met,
+        refused: 0,
+        sound,
+    }
+}
+
+/// A worker who takes as many packets off desk 0, each once it is there, and keeps them. They have to come in the order in
+/// which they were left.
+fn take_over(alloc: Global, ground: &Ground, worker: Worker) -> Played
+    requires { IsIdle ground.now worker.seat }
+    ensures { IsIdle ground.now result.seat }
+{
+    let mut c = WordCommons::new(ground, worker.into_seat());
+    let mut carried = nothing(&c);
+    let mut kept = Vec::new(alloc);
+    let mut met = 0u64;
+    let mut sound = true;
+    for place in 0..PACKETS {
+        if sound {
+            sound &= take_in_turn(&mut c, &mut carried);
+            if let Some(seg) = first_seg(&carried) {
+                sound &= seg.data_len == len_of(place);
+                sound &= kept.push(seg.elem).is_ok();
+                met = met.saturating_add(1);
+            }
+        }
+    }
+    Played {
+        seat: c.into_seat(),
+        kept,
+        met,
+        refused: 0,
+        sound,
+    }
+}
+
+/// Both workers, each in a thread of its own.
+fn both_play<R: Threads + Sync>(
+    rt: &R,
+    alloc: Global,
+    ground: &Ground,
+    first: Worker,
+    second: Worker,
+) -> Played
+    requires first { IsIdle ground.now first.seat }
+    requires second { IsIdle ground.now second.seat }
+    ensures { IsIdle ground.now result.seat }
+{
+    let (first, second) = thread::join(
+        rt,
+        move || hand_over(alloc, ground, first),
+        move || take_over(alloc, ground, second),
+    );
+    joined(ground, first, second)
+}
+
+#[test]
+fn ten_thousand_packets_go_over_one_desk_in_their_order(rt: HostRuntime) -> Result<(), Fail> {
+    let name = "one desk";
+    let limits = Limits {
+        population: u64::from(PACKETS),
+        workers: 2,
+        desks: 1,
+        ..rows::THREE
+    };
+    let (ground, mut seat) = Ground::make(rt.alloc(), &limits)?;
+    let other = ground.split(&mut seat);
+    let Played {
+        seat,
+        kept,
+        met,
+        refused: _,
+        sound,
+    } = both_play(
+        &rt,
+        rt.alloc(),
+        &ground,
+        Worker { seat },
+        Worker { seat: other },
+    );
+    let closed = closed_of(ground, seat)?;
+    assert!(&rt; sound, "{name}: a packet came in no turn");
+    assert_eq!(&rt; met, 2 * u64::from(PACKETS), "{name}: offers and takes");
+    assert!(&rt;
+        closed.desks.as_slice().iter().all(Option::is_none),
+        "{name}: it is empty"
+    );
+    assert_each_once(&rt, rt.alloc(), &closed, kept.as_slice(), name)
+}
