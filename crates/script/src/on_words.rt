@@ -51,7 +51,15 @@ pub(crate) fn run<G: Gate, R: Threads + Sync>(
 {
     laws::workers_who_stay_are_all();
     let (ground, mut workers) = make(alloc, &script.limits)?;
-    if !play(rt, alloc, &ground, workers.as_mut_slice(), script, turns, gate) {
+    if !play(
+        rt,
+        alloc,
+        &ground,
+        workers.as_mut_slice(),
+        script,
+        turns,
+        gate,
+    ) {
         return Err(Refusal::OutOfMemory);
     }
     settled(alloc, ground, workers)

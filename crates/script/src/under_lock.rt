@@ -141,5 +141,13 @@ fn play_worker<K: OfLimits, G: Gate, R: Wait>(
     requires turns { 1 ≤ turns }
 {
     let mut worker = LockedWorker { rt, number };
-    perform_lines(alloc, site, &mut worker, script.lines.as_slice(), number, turns, gate)
+    perform_lines(
+        alloc,
+        site,
+        &mut worker,
+        script.lines.as_slice(),
+        number,
+        turns,
+        gate,
+    )
 }
