@@ -11,8 +11,8 @@ returns-in-Ok-run_threads-clause-places g c = λ limits lines is.
     let same = c.in-Ok.ensures.only limits lines is in
     subst (λ (l : Limits). PlacesEachOnce l c.in-Ok-run_threads.statement) same.0 c.in-Ok-run_threads.ensures.places
 
--- so are the packets sound by these limits
+-- so are the packets sound by these limits, under the lock
 pub returns-in-Ok-run_threads-clause-sound : goal.returns-in-Ok-run_threads-clause-sound
-returns-in-Ok-run_threads-clause-sound g c = λ limits lines is.
+returns-in-Ok-run_threads-clause-sound g c = λ limits lines locked is.
     let same = c.in-Ok.ensures.only limits lines is in
-    subst (λ (l : Limits). ListsSoundPackets l c.in-Ok-run_threads.statement) same.0 c.in-Ok-run_threads.ensures.sound
+    subst (λ (l : Limits). ListsSoundPackets l c.in-Ok-run_threads.statement) same.0 (c.in-Ok-run_threads.ensures.sound locked)

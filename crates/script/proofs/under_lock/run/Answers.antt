@@ -8,7 +8,7 @@ use Rattle.pool_model.specs.Pool.{new_pool}
 use Rattle.pool_model.specs.Sound.{ListsSoundPackets}
 use Rattle.pool_model.specs.Statements.{statement_of}
 use Rattle.pool_model.specs.declared.statement.Statement.{Statement}
-use Rattle.script.proofs.threaded.run_threads.Goals as goal
+use Rattle.script.proofs.under_lock.run.Goals as goal
 
 -- what is true of each statement that acts come to is true of this one
 of_acts : (l : Limits) (P : Statement → Type 0) → ((acts : List (ℕ × Act)) → P (statement_of (after_acts acts (new_pool l)))) → (r : Result Statement Refusal)
