@@ -4,6 +4,7 @@ ghost use Rattle.std.specs.Prelude.{All, ◌≡◌, ◌<◌, ◌≤◌, length, 
 ghost use Rattle.ground.specs.Seats.{IsOf};
 ghost use Rattle.pool_model.specs.Statements.{ListsEachOnce, PlacesEachOnce};
 ghost use Rattle.script.specs.Running.{EndsOnWords};
+ghost use Rattle.word_book.specs.Listing.{ListsPackets};
 ghost use Rattle.word_pool.specs.Workers.{AllStay, Stays};
 
 use crate::acting::{Actor, perform_lines};
@@ -47,6 +48,7 @@ pub(crate) fn run<G: Gate, R: Threads + Sync>(
     ensures ended { IfOk result (EndsOnWords script.now.limits) }
     ensures once { IfOk result (λ s. ListsEachOnce s) }
     ensures places { IfOk result (λ s. PlacesEachOnce script.now.limits s) }
+    ensures packets { IfOk result (λ s. ListsPackets script.now.limits s) }
     ensures memory { IfErr result (λ e. e ≡ Refusal.OutOfMemory) }
 {
     laws::workers_who_stay_are_all();

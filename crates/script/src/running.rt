@@ -7,6 +7,7 @@ ghost use Rattle.pool_model.specs.Statements.{ListsEachOnce, PlacesEachOnce};
 ghost use Rattle.script_text.specs.Commands.{Line};
 ghost use Rattle.script_text.specs.Grammar.{IsCause, IsScript};
 ghost use Rattle.script.specs.Running.{RunsTo};
+ghost use Rattle.word_book.specs.Listing.{ListsPackets};
 
 use crate::gate::OpenGate;
 use crate::threaded::{Grounds, run_threads};
@@ -34,11 +35,14 @@ pub fn run_script<R: Threads + Wait + Sync>(
     // Under the lock, some order of acts on a new pool of the script's limits leads to the same statement; on words, it is
     // that of what such a ground left, and of its workers' caches and packets.
     ensures ran { IfOk result (RunsTo grounds bytes.now) }
-    // Above both: no element is missing, and none is anywhere twice; no two packets stand in one place; and under the lock
-    // each is sound, by the limits of the script that the bytes are.
+    // Above both: no element is missing, and none is anywhere twice; no two packets stand in one place; and each has 1 to
+    // 32 segments, each with its data within its buffer, by the limits of the script that the bytes are.
     ensures once { IfOk result (λ s. ListsEachOnce s) }
     ensures places { (limits : Limits) (lines : List Line) → IsScript bytes.now limits lines →
         IfOk result (λ s. PlacesEachOnce limits s) }
+    ensures packets { (limits : Limits) (lines : List Line) → IsScript bytes.now limits lines →
+        IfOk result (λ s. ListsPackets limits s) }
+    // And under the lock each packet is sound: its buffers are the pool's, and a base is direct.
     ensures sound { (limits : Limits) (lines : List Line) → grounds ≡ Grounds.Locked →
         IsScript bytes.now limits lines → IfOk result (λ s. ListsSoundPackets limits s) }
     // Why there is none.

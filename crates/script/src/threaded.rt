@@ -4,6 +4,7 @@ ghost use Rattle.std.specs.Prelude.{◌≡◌, ◌≤◌, IfOk, IfErr};
 ghost use Rattle.pool_model.specs.Sound.{ListsSoundPackets};
 ghost use Rattle.pool_model.specs.Statements.{ListsEachOnce, PlacesEachOnce};
 ghost use Rattle.script.specs.Running.{EndsByActs, EndsOnWords};
+ghost use Rattle.word_book.specs.Listing.{ListsPackets};
 
 use crate::gate::Gate;
 use crate::{on_words, under_lock};
@@ -47,10 +48,12 @@ pub fn run_threads<G: Gate, R: Threads + Wait + Sync>(
     requires turns { 1 ≤ turns }
     ensures reached { grounds ≡ Grounds.Locked → IfOk result (EndsByActs script.now.limits) }
     ensures ended { grounds ≡ Grounds.Words → IfOk result (EndsOnWords script.now.limits) }
-    // Above both: no element is missing, and none is anywhere twice, and no two packets stand in one place;
+    // Above both: no element is missing, and none is anywhere twice; no two packets stand in one place; and each packet has
+    // 1 to 32 segments, each with its data within its buffer.
     ensures once { IfOk result (λ s. ListsEachOnce s) }
     ensures places { IfOk result (λ s. PlacesEachOnce script.now.limits s) }
-    // and under the lock each packet is sound.
+    ensures packets { IfOk result (λ s. ListsPackets script.now.limits s) }
+    // And under the lock each packet is sound: its buffers are the pool's, and a base is direct.
     ensures sound { grounds ≡ Grounds.Locked → IfOk result (λ s. ListsSoundPackets script.now.limits s) }
     ensures memory { IfErr result (λ e. e ≡ Refusal.OutOfMemory) }
 {

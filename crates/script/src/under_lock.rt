@@ -5,6 +5,7 @@ ghost use Rattle.commons.specs.declared.limits.Limits.{Limits};
 ghost use Rattle.pool_model.specs.Sound.{ListsSoundPackets};
 ghost use Rattle.pool_model.specs.Statements.{ListsEachOnce, PlacesEachOnce};
 ghost use Rattle.script.specs.Running.{EndsByActs};
+ghost use Rattle.word_book.specs.Listing.{ListsPackets};
 
 use crate::acting::{Actor, perform_lines};
 use crate::gate::Gate;
@@ -53,6 +54,7 @@ pub(crate) fn run<G: Gate, R: Threads + Wait + Sync>(
     ensures reached { IfOk result (EndsByActs script.now.limits) }
     ensures once { IfOk result (λ s. ListsEachOnce s) }
     ensures places { IfOk result (λ s. PlacesEachOnce script.now.limits s) }
+    ensures packets { IfOk result (λ s. ListsPackets script.now.limits s) }
     ensures sound { IfOk result (λ s. ListsSoundPackets script.now.limits s) }
     ensures memory { IfErr result (λ e. e ≡ Refusal.OutOfMemory) }
 {
