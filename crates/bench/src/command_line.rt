@@ -25,9 +25,13 @@ pub enum Workload {
     Endings,
     /// Rounds over the words of a pool, by several threads.
     Words,
+    /// A packet that two threads hand to one another.
+    Handovers,
+    /// How much memory a pool takes.
+    Memory,
 }
 
-const WORKLOADS: [(Workload, &str, &str); 6] = [
+const WORKLOADS: [(Workload, &str, &str); 8] = [
     (Workload::Replays, "replays", "scripts of 10,000 commands"),
     (
         Workload::Elements,
@@ -53,6 +57,16 @@ const WORKLOADS: [(Workload, &str, &str); 6] = [
         Workload::Words,
         "words",
         "lists, elements and packets over the words of a pool, by 1, 2 and 4 threads",
+    ),
+    (
+        Workload::Handovers,
+        "handovers",
+        "a packet handed from one thread to another over a desk, and back over a second one",
+    ),
+    (
+        Workload::Memory,
+        "memory",
+        "how much memory a pool of 65,534 elements and 64 workers takes",
     ),
 ];
 
@@ -140,7 +154,7 @@ fn command<'a>(alloc: Global) -> Result<Command<'a>, clap::Error> {
     let caches = Arg::new(alloc, "cache")
         .long("cache")
         .value_name("LIST")
-        .help("Words: how large the caches are, with commas between");
+        .help("Words and memory: how large the caches are, with commas between");
     Ok(
         Command::new(alloc, "bench")
             .about("Measures the pool on the lists, and on its words")
@@ -160,7 +174,7 @@ fn command<'a>(alloc: Global) -> Result<Command<'a>, clap::Error> {
                 alloc,
                 "ms",
                 60_000,
-                "Words: how long a run is, without --rounds",
+                "Words and handovers: how long a run is, without --rounds",
             ))?,
     )
 }

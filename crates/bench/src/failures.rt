@@ -26,6 +26,8 @@ pub enum Failure {
     NotInList,
     /// So many elements aren't back in the common list at the end.
     Missing(u64),
+    /// A packet wasn't handed over, or didn't come back.
+    NotHanded,
 }
 
 impl From<Error> for Failure {
@@ -69,6 +71,10 @@ pub fn tell<R: Print + Eprint>(rt: &R, failure: Failure) -> u8 {
         ),
         Failure::Missing(count) => (
             rt.eprintln(format_args!("bench: {count} elements are missing at the end")),
+            1,
+        ),
+        Failure::NotHanded => (
+            rt.eprintln(format_args!("bench: a packet was not handed over")),
             1,
         ),
     };

@@ -1,6 +1,8 @@
 //! How a run is timed, and how a figure is told.
 
 use crate::failures::Failure;
+use std::fmt;
+use std::fmt::{Display, Formatter, Write};
 use std::io::Print;
 use std::time::{Clock, Instant};
 
@@ -21,4 +23,22 @@ pub fn print_each<R: Print>(rt: &R, name: &str, nanos: u64, rounds: u64) -> Resu
 pub fn print_rate<R: Print>(rt: &R, name: &str, nanos: u64, count: u64) -> Result<(), Failure> {
     let rate = u128::from(count) * 1_000_000_000 / u128::from(nanos.max(1));
     Ok(rt.println(format_args!("{name:<52} {rate:>10} commands/s"))?)
+}
+
+/// The figure at a place, or 0 where there is none.
+pub fn at(picos: &[u64], place: usize) -> u64 {
+    match picos.get(place) {
+        Some(picos) => *picos,
+        None => 0,
+    }
+}
+
+/// Picoseconds, shown as nanoseconds with two decimals.
+#[derive(Clone, Copy)]
+pub struct Nanos(pub u64);
+
+impl Display for Nanos {
+    fn fmt<W: Write>(&self, f: &mut Formatter<W>) -> fmt::Result {
+        write!(f, "{:>6}.{:02}", self.0 / 1_000, self.0 % 1_000 / 10)
+    }
 }

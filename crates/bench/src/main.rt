@@ -7,6 +7,8 @@ mod elements;
 mod endings;
 mod failures;
 mod figures;
+mod handovers;
+mod memory;
 mod packets;
 mod pools;
 mod replays;
@@ -41,5 +43,9 @@ fn measure<R: Runtime + AllocGlobal + Threads + Sync>(rt: &R) -> Result<(), Fail
         Some(Workload::Audits) => audits::measure(rt, asked.rounds, asked.runs),
         Some(Workload::Endings) => endings::measure(rt, asked.rounds, asked.runs),
         Some(Workload::Words) => words::measure(rt, &asked.cells, asked.rounds, asked.runs),
+        Some(Workload::Handovers) => {
+            handovers::measure(rt, asked.cells.millis, asked.rounds, asked.runs)
+        }
+        Some(Workload::Memory) => memory::measure(rt, asked.cells.caches),
     }
 }

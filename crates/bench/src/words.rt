@@ -1,15 +1,15 @@
 //! Rounds over the words of a pool, by one, two or four threads at once.
 mod bare;
 mod cached;
-mod carried;
+pub mod carried;
 mod cells;
 mod held;
 mod kinds;
-mod span;
+pub mod span;
 mod threads;
 
 use crate::failures::Failure;
-pub use cells::Cells;
+pub use cells::{Cells, numbers_of};
 pub use kinds::NAMES;
 use std::rt::Runtime;
 use std::thread::Threads;
@@ -23,8 +23,8 @@ pub fn measure<R: Runtime + AllocGlobal + Threads + Sync>(
     runs: u64,
 ) -> Result<(), Failure> {
     let kinds = cells::kinds_of(rt.alloc(), asked.names)?;
-    let threads = cells::numbers_of(rt.alloc(), asked.threads)?;
-    let caches = cells::numbers_of(rt.alloc(), asked.caches)?;
+    let threads = numbers_of(rt.alloc(), asked.threads)?;
+    let caches = numbers_of(rt.alloc(), asked.caches)?;
     cells::print_head(rt)?;
     for kind in kinds.as_slice() {
         for count in threads.as_slice() {

@@ -1,21 +1,31 @@
 -- Where one seat has every part, no other view names anything, and so the seat knows the length of the common list.
-use Rattle.std.proofs.Common.{◌≡◌, ◌≢◌, ℕ, zero, suc, ◌+◌, ◌<◌, ◌≤◌, List, [], ◌∷◌, ◌++◌, Option, Some, None, length, set, refl, sym, ap, ◌∙◌, subst, arith, length-append}
-use Rattle.std.specs.Prelude.{sum_by, IfSome}
+use Rattle.std.proofs.Common.{◌≡◌, ◌≢◌, ℕ, zero, suc, ◌+◌, ◌<◌, ◌≤◌, Bool, true, false, List, [], ◌∷◌, ◌++◌, Option, Some, None}
+use Rattle.std.proofs.Common.{length, set, refl, sym, ap, ◌∙◌, subst, ⊎_elim, arith, length-append, eq-eqb, ne_eqb}
+use Rattle.std.specs.Prelude.{sum_by, IfSome, flat_map, map, not, slice_index_or, ◌&&◌, ◌==◌, if◌then◌else◌}
+use Rattle.std.proofs.lemmas.Bool.{cases_lt}
 use Rattle.std.proofs.lemmas.List.Sums.{sum_by-set, sum_by-cons}
+use lib.ListN.{length-map}
 use Rattle.commons.specs.Bag.{bag}
+use Rattle.commons.specs.Calls.{desk_full}
+use Rattle.commons.specs.declared.packet.Seg.{Seg}
+use Rattle.commons.specs.Packets.{held_in, holds_in_slot, own_in, own_in_slot}
 use Rattle.commons.specs.declared.limits.Limits.{Limits}
 use Rattle.step_core.specs.declared.view.Look.{Look}
 use Rattle.step_core.specs.declared.view.View.{View}
 use Rattle.step_core.specs.declared.view.Desk.{Desk}
-use Rattle.step_core.specs.World.{World, view_at, empty_view, link_in, all_holds, shelf, credits}
-use Rattle.step_core.specs.Law.{Lawful, NamesNothing, LookRule}
+use Rattle.step_core.specs.declared.view.Work.{Work}
+use Rattle.step_core.specs.Bags.{one_if}
+use Rattle.step_core.specs.World.{World, view_at, desk_at, empty_view, link_in, hands, all_zeros, all_holds, shelf, credits}
+use Rattle.step_core.specs.Law.{Lawful, NamesNothing, LookRule, is_filling, fills, empties}
+use Rattle.step_core.specs.Headers.{HeaderLaw, all_headers, own_shelf}
 use Rattle.step_core.specs.Links.{Spells}
 use Rattle.step_core.specs.Headline.{held_below as all_held_below}
-use Rattle.step_core.proofs.Bags.{times-nil, times-append, times-from_length}
+use Rattle.step_core.proofs.Bags.{below-le, below-past, times-nil, times-append, times-from_length}
 use Rattle.step_core.proofs.Frame.{each_view}
-use Rattle.step_core.proofs.StackSteps.{two_views}
+use Rattle.step_core.proofs.StackSteps.{one_view, two_views}
 use Rattle.step_core.proofs.Telling.{all_are_there, front_then_rest}
-use Rattle.ground.specs.Seats.{held_below, KnowsLength, KnowsEnd}
+use Rattle.ground.specs.Closing.{kept_on, packet_on}
+use Rattle.ground.specs.Seats.{held_below, MayLie, KnowsLength, KnowsEnd}
 
 -- without a part there is nothing
 pub others_idle : (w : World) → Lawful w → (k : ℕ) → (view_at w.views k).part ≡ w.limits.workers →
@@ -51,33 +61,145 @@ held_alone w (suc n) xs h =
     let b = h n in
     omega arith
 
--- what the packets on full desks hold
-pub shelves : List Desk → List ℕ
-shelves [] = []
-shelves (x ∷ xs) = shelf x ++ shelves xs
+-- what lies on full desks
+pub lying : List Desk → List (Option (List Seg))
+lying ds = map packet_on ds
 
-on_shelves : (i : ℕ) (ds : List Desk) →
-    sum_by (λ (x : Desk). bag (shelf x) i) ds ≡ bag (shelves ds) i
-unfolding shelves
-on_shelves i [] = sym (times-nil i)
-on_shelves i (x ∷ xs) =
-    let rest = on_shelves i xs in
-    omega (
-      arith,
-      sum_by-cons (λ (y : Desk). bag (shelf y) i) x xs,
-      times-append i (shelf x) (shelves xs),
-    )
+-- what is read of a slot, where the desk is full, is what is read of what lies there
+if_full : (read : Option (List Seg) → List ℕ) → read None ≡ [] → (full : Bool)
+    (slot : Option (List Seg)) (i : ℕ) →
+    bag (read (if full then slot else None)) i ≡ bag (if full then read slot else []) i
+if_full read none true slot i = refl
+if_full read none false slot i = ap (λ (xs : List ℕ). bag xs i) none
 
-none_there : (ds : List Desk) → length ds ≡ 0 → shelves ds ≡ []
-unfolding shelves
-none_there [] e = refl
-none_there (x ∷ xs) e = absurd (omega arith)
+read_lying : (read : Option (List Seg) → List ℕ) → read None ≡ [] → (ds : List Desk) (i : ℕ) →
+    sum_by (λ (slot : Option (List Seg)). bag (read slot) i) (lying ds)
+    ≡ sum_by (λ (x : Desk). bag (if x.word == desk_full then read x.slot else []) i) ds
+unfolding lying
+read_lying read none [] i = refl
+read_lying read none (x ∷ xs) i = omega (
+  arith,
+  read_lying read none xs i,
+  if_full read none (x.word == desk_full) x.slot i,
+  sum_by-cons (λ (slot : Option (List Seg)). bag (read slot) i) (packet_on x) (lying xs),
+  sum_by-cons (λ (y : Desk). bag (if y.word == desk_full then read y.slot else []) i) x xs,
+)
 
--- without desks there is none
-pub no_shelves : (w : World) → length w.desks ≡ w.limits.desks → (l : Limits) → w.limits ≡ l →
-    l.desks ≡ 0 → shelves w.desks ≡ []
-no_shelves w count l limits bare =
-    none_there w.desks (count ∙ (ap (λ (m : Limits). m.desks) limits ∙ bare))
+-- these packets hold what full desks hold, and their own elements are those on full desks
+held_lying : (i : ℕ) (ds : List Desk) → held_in (lying ds) i ≡ sum_by (λ (x : Desk). bag (shelf x) i) ds
+held_lying i ds = read_lying holds_in_slot refl ds i
+
+own_lying : (i : ℕ) (ds : List Desk) →
+    own_in (lying ds) i ≡ sum_by (λ (x : Desk). bag (own_shelf x) i) ds
+own_lying i ds = read_lying own_in_slot refl ds i
+
+-- as a list, what packets hold has each element as often
+in_list : (i : ℕ) (desks : List (Option (List Seg))) →
+    bag (flat_map holds_in_slot desks) i ≡ held_in desks i
+in_list i [] = times-nil i
+in_list i (x ∷ xs) = omega (
+  arith,
+  in_list i xs,
+  times-append i (holds_in_slot x) (flat_map holds_in_slot xs),
+  sum_by-cons (λ (slot : Option (List Seg)). bag (holds_in_slot slot) i) x xs,
+)
+
+-- what lies on a desk is the packet of that desk, where it is full
+lying_at : (ds : List Desk) (d : ℕ) → slice_index_or (lying ds) d None ≡ packet_on (desk_at ds d)
+unfolding lying
+lying_at [] d = refl
+lying_at (x ∷ xs) zero = refl
+lying_at (x ∷ xs) (suc d) = lying_at xs d
+
+not_full : (word : ℕ) (slot : Option (List Seg)) → word ≢ 2 → kept_on word slot ≡ None
+not_full word slot other = ap (λ (b : Bool). if b then slot else None) (ne_eqb word 2 other)
+
+-- ---- what lies on the desks of a world beside one of its views
+
+module _ (w : World) (law : Lawful w) (k : ℕ) where
+  abbrev beside : View
+  beside = view_at w.views k
+
+  hand_of_all : (i : ℕ) → bag beside.hand i ≤ hands i w.views
+  hand_of_all i = one_view (λ (u : View). bag u.hand i) w.views k (times-nil i)
+
+  zeros_of_all : (i : ℕ) → bag beside.zeros i ≤ all_zeros i w.views
+  zeros_of_all i = one_view (λ (u : View). bag u.zeros i) w.views k (times-nil i)
+
+  holds_of_all : (i : ℕ) → bag beside.holds i + held_in (lying w.desks) i ≤ all_holds i w.views w.desks
+  holds_of_all i =
+      let views = one_view (λ (u : View). bag u.holds i) w.views k (times-nil i) in
+      omega (arith, held_lying i w.desks)
+
+  -- an element that is held has the number of its holds as its count
+  few_holds : (i : ℕ) → all_holds i w.views w.desks ≤ w.limits.ref_limit
+  few_holds i = ⊎_elim
+      (λ (inside : i < w.limits.population).
+      let place = law.places.one_place i in
+      let count = law.counts.counted i inside in
+      let range = law.ranges.counts_in_range i in
+      omega (arith, below-le w.limits.population i))
+      (λ (past : w.limits.population ≤ i).
+      let place = law.places.one_place i in
+      omega (arith, below-past w.limits.population i past))
+      (cases_lt i w.limits.population)
+
+  -- a desk in work isn't full
+  in_work : (o : Option Work) → beside.work ≡ o →
+      IfSome o (λ x. slice_index_or (lying w.desks) x.desk None ≡ None)
+  in_work None e = tt
+  in_work (Some x) e =
+      lying_at w.desks x.desk
+      ∙ not_full (desk_at w.desks x.desk).word (desk_at w.desks x.desk).slot (other (is_filling x.phase) refl)
+    where
+      fills_one : is_filling x.phase ≡ true → fills x.desk beside.work ≡ 1
+      fills_one f =
+          ap (fills x.desk) e
+          ∙ ap (λ (b : Bool). one_if (b && is_filling x.phase)) (eq-eqb x.desk x.desk refl)
+          ∙ ap one_if f
+
+      empties_one : is_filling x.phase ≡ false → empties x.desk beside.work ≡ 1
+      empties_one f =
+          ap (empties x.desk) e
+          ∙ ap (λ (b : Bool). one_if (b && not (is_filling x.phase))) (eq-eqb x.desk x.desk refl)
+          ∙ ap (λ (b : Bool). one_if (not b)) f
+
+      other : (b : Bool) → is_filling x.phase ≡ b → (desk_at w.desks x.desk).word ≢ 2
+      other true f full =
+          let one = fills_one f in
+          let some = one_view (λ (u : View). fills x.desk u.work) w.views k refl in
+          let all = law.desks.filled x.desk ∙ ap (λ (n : ℕ). one_if (n == 1)) full in
+          omega arith
+      other false f full =
+          let one = empties_one f in
+          let some = one_view (λ (u : View). empties x.desk u.work) w.views k refl in
+          let all = law.desks.emptied x.desk ∙ ap (λ (n : ℕ). one_if (n == 3)) full in
+          omega arith
+
+  lies_beside : HeaderLaw w → length w.desks ≡ w.limits.desks → MayLie w.limits beside (lying w.desks)
+  unfolding lying
+  lies_beside headers count = record {
+    as_many = length-map w.desks packet_on ∙ count;
+    below = λ i past.
+        let place = law.places.one_place i in
+        omega (arith, holds_of_all i, below-past w.limits.population i past);
+    apart = λ i some.
+        let place = law.places.one_place i in
+        omega (arith, hand_of_all i, zeros_of_all i, holds_of_all i, below-le w.limits.population i);
+    limited = λ i. omega (arith, holds_of_all i, few_holds i);
+    own_once = λ i.
+        let once : all_headers i w.views w.desks ≤ 1 = headers.once i in
+        let mine = one_view (λ (u : View). bag u.headers i) w.views k (times-nil i) in
+        omega (arith, own_lying i w.desks);
+    work = in_work beside.work refl;
+  }
+
+-- the same, of the view as it is known
+pub may_lie : (w : World) → Lawful w → HeaderLaw w → length w.desks ≡ w.limits.desks → (l : Limits) →
+    w.limits ≡ l → (k : ℕ) (v : View) → view_at w.views k ≡ v → MayLie l v (lying w.desks)
+may_lie w law headers count l limits k v is =
+    subst (λ (m : Limits). MayLie m v (lying w.desks)) limits
+    (subst (λ (u : View). MayLie w.limits u (lying w.desks)) is (lies_beside w law k headers count))
 
 module _ (w : World) (law : Lawful w) (k : ℕ) (here : k < length w.views) (whole : (view_at w.views k).part ≡ w.limits.workers) where
   abbrev pub v : View
@@ -86,23 +208,35 @@ module _ (w : World) (law : Lawful w) (k : ℕ) (here : k < length w.views) (who
   none : (j : ℕ) → j ≢ k → NamesNothing (view_at w.views j)
   none = others_idle w law k whole
 
-  pub my_holds : (i : ℕ) → all_holds i w.views w.desks ≡ bag (v.holds ++ shelves w.desks) i
+  pub my_holds : (i : ℕ) → all_holds i w.views w.desks ≡ bag v.holds i + held_in (lying w.desks) i
   my_holds i =
       let s = alone_sum (λ (u : View). bag u.holds i) w.views k here (times-nil i)
       (λ j ne. times-from_length i (view_at w.views j).holds (none j ne).holds) in
-      let d = on_shelves i w.desks in
-      omega (arith, times-append i v.holds (shelves w.desks))
+      omega (arith, held_lying i w.desks)
+
+  -- the view's holds, and those of what lies on full desks
+  abbrev all_of : List ℕ
+  all_of = v.holds ++ flat_map holds_in_slot (lying w.desks)
+
+  listed_holds : (i : ℕ) → all_holds i w.views w.desks ≡ bag all_of i
+  listed_holds i =
+      omega (
+        arith,
+        my_holds i,
+        in_list i (lying w.desks),
+        times-append i v.holds (flat_map holds_in_slot (lying w.desks)),
+      )
 
   my_credit : credits w.views ≡ v.credit
   my_credit = alone_sum (λ (u : View). u.credit) w.views k here refl (λ j ne. (none j ne).credit)
 
   pub length_known : w.length + v.credit + length v.hand + length v.zeros
-      + held_below w.limits.population (v.holds ++ shelves w.desks) ≡ w.limits.population
+      + held_below w.limits.population all_of ≡ w.limits.population
   length_known =
       let hand = alone_sum (λ (u : View). length u.hand) w.views k here refl (λ j ne. (none j ne).hand) in
       let zeros = alone_sum (λ (u : View). length u.zeros) w.views k here refl (λ j ne. (none j ne).zeros) in
       let credit = my_credit in
-      let held = held_alone w w.limits.population (v.holds ++ shelves w.desks) my_holds in
+      let held = held_alone w w.limits.population all_of listed_holds in
       let all = all_are_there w law.common law law.places.spelled in
       let c = law.lengths.credited in
       omega arith
@@ -141,15 +275,16 @@ module _ (w : World) (law : Lawful w) (k : ℕ) (here : k < length w.views) (who
           some_part (suc n) is = omega arith
 
 -- a seat of every part knows the length word
-pub knows : (w : World) → Lawful w → length w.desks ≡ w.limits.desks → (l : Limits) → w.limits ≡ l →
+pub knows : (w : World) → Lawful w → HeaderLaw w → length w.desks ≡ w.limits.desks → (l : Limits) → w.limits ≡ l →
     (k : ℕ) → k < length w.views → (v : View) → view_at w.views k ≡ v → KnowsLength l v w.length
-knows w law count l limits k here v is whole = (
-  shelves w.desks,
-  no_shelves w count l limits,
+knows w law headers count l limits k here v is whole = (
+  lying w.desks,
+  may_lie w law headers count l limits k v is,
   subst (λ (m : Limits). w.length + v.credit + length v.hand + length v.zeros
-      + held_below m.population (v.holds ++ shelves w.desks) ≡ m.population) limits
+      + held_below m.population (v.holds ++ flat_map holds_in_slot (lying w.desks)) ≡ m.population) limits
       (subst (λ (u : View). w.length + u.credit + length u.hand + length u.zeros
-      + held_below w.limits.population (u.holds ++ shelves w.desks) ≡ w.limits.population) is
+      + held_below w.limits.population (u.holds ++ flat_map holds_in_slot (lying w.desks))
+      ≡ w.limits.population) is
       (length_known w law k here
       (ap (λ (u : View). u.part) is ∙ (whole ∙ sym (ap (λ (m : Limits). m.workers) limits))))),
 )
@@ -170,5 +305,5 @@ knows_end w law l limits k here v is whole = all v.look refl
 -- and how often each element is held
 pub holds_known : (w : World) → Lawful w → (k : ℕ) → k < length w.views →
     (view_at w.views k).part ≡ w.limits.workers → (i : ℕ) →
-    all_holds i w.views w.desks ≡ bag ((view_at w.views k).holds ++ shelves w.desks) i
+    all_holds i w.views w.desks ≡ bag (view_at w.views k).holds i + held_in (lying w.desks) i
 holds_known w law k here whole i = my_holds w law k here whole i

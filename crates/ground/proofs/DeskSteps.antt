@@ -194,7 +194,10 @@ seizes_desk l slots id me d k word inside idle busy s r _ at _ =
     ))
 
 -- a step of the machine that changes a slot alone, and then one on the same desk's word
-module _ (l : Limits) (s : St) (r : Ruled l s) (id : ℕ) (me : Sat) (at : get_elem? s.views id ≡ some me.0) (busy : Sits me) (d k : ℕ) (word : k ≡ 16 + 2 * l.population + d) (inside : d < l.desks) (y' : Desk) (v' : View) (part : v'.part ≡ me.0.view.part) (st : Step) (o : Outcome) (own : OpensOwn (view_at r.world.views id) st) (played : play r.world (suc id) st ≡ Some (o, desked r.world id d y' v')) where
+module _ (l : Limits) (s : St) (r : Ruled l s) (id : ℕ) (me : Sat) (at : get_elem? s.views id ≡ some me.0)
+    (busy : Sits me) (d k : ℕ) (word : k ≡ 16 + 2 * l.population + d) (inside : d < l.desks) (y' : Desk) (v' : View)
+    (part : v'.part ≡ me.0.view.part) (st : Step) (o : Outcome) (own : OpensOwn (view_at r.world.views id) st)
+    (played : play r.world (suc id) st ≡ Some (o, desked r.world id d y' v')) where
   abbrev between : World
   between = desked r.world id d y' v'
 

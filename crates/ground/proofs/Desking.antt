@@ -45,7 +45,8 @@ word_there (x ∷ xs) (suc d) = word_there xs d
 abbrev pub desked : World → ℕ → ℕ → Desk → View → World
 desked w id d x v = record w { desks = set w.desks d x; views = set w.views id v }
 
-module _ (l : Limits) (s : St) (r : Ruled l s) (id : ℕ) (me : Sat) (at : get_elem? s.views id ≡ some me.0) (busy : Sits me) (d k : ℕ) (word : k ≡ 16 + 2 * l.population + d) (inside : d < l.desks) where
+module _ (l : Limits) (s : St) (r : Ruled l s) (id : ℕ) (me : Sat) (at : get_elem? s.views id ≡ some me.0)
+    (busy : Sits me) (d k : ℕ) (word : k ≡ 16 + 2 * l.population + d) (inside : d < l.desks) where
   pub desk : Desk
   desk = desk_at r.world.desks d
 

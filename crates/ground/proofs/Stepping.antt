@@ -45,7 +45,7 @@ module _ (l : Limits) (s : St) (r : Ruled l s) (id : ℕ) (me : Sat) (at : get_e
       subst (λ (k : Limits). KnowsLength k me.0.view (slice_index s.words 8))
       (sym (my_limits l s r id me at busy))
       (subst (λ (n : ℕ). KnowsLength l me.0.view n) (sym (read_length l s r id me at busy))
-      (knows_length r.world (law l s r id me at busy) r.desks.count l r.limits id
+      (knows_length r.world (law l s r id me at busy) r.counts.headers r.desks.count l r.limits id
       (here l s r id me at busy) me.0.view (is_view l s r id me at busy)))
 
   -- the length word may be written as it was found
@@ -324,7 +324,8 @@ stores_link l slots id me i x hand small busy own s r _ at _ =
 
 -- ---- the exchanges of the head
 
-module _ (l : Limits) (s : St) (r : Ruled l s) (id : ℕ) (me : Sat) (at : get_elem? s.views id ≡ some me.0) (busy : Sits me) (k : Look) (mine : me.0.view.look ≡ Some k) where
+module _ (l : Limits) (s : St) (r : Ruled l s) (id : ℕ) (me : Sat) (at : get_elem? s.views id ≡ some me.0)
+    (busy : Sits me) (k : Look) (mine : me.0.view.look ≡ Some k) where
   my_look : (view_at r.world.views id).look ≡ Some k
   my_look = ap (λ (v : View). v.look) (is_view l s r id me at busy) ∙ mine
 

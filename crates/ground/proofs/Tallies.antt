@@ -11,6 +11,7 @@ use prog.Atomic.{either}
 use Rattle.atomic_table.specs.Table.{Act, step, keeps, stepped, Allows, Valid, carried_after}
 use Rattle.commons.specs.Bag.{bag}
 use Rattle.commons.specs.declared.limits.Limits.{Limits}
+use Rattle.commons.specs.Packets.{held_in}
 use Rattle.step_core.specs.declared.view.View.{View}
 use Rattle.step_core.specs.declared.step.Step.{Step}
 use Rattle.step_core.specs.declared.step.Step.TheVariants.{Claim, Sole, Raise, Lower, Reset}
@@ -30,7 +31,7 @@ use Rattle.ground.specs.Seats.{KnowsCount}
 use Rattle.ground.specs.Tells.{noted, Tells, exchanged, claim_tells, sole_tells, raise_tells, lower_tells, reset_tells}
 use Rattle.ground.proofs.Playing.{St, Sits, tail_of, row_played, law, here, is as is_view, my_limits, steps, read_at}
 use Rattle.ground.proofs.Stepping.{played_when, views_kept}
-use Rattle.ground.proofs.Alone.{shelves, no_shelves, holds_known}
+use Rattle.ground.proofs.Alone.{lying, may_lie, holds_known}
 
 -- an element that is held, or of count 0 for the moment, is one of the pool's
 pub held_inside : (l : Limits) (v : View) (i : ℕ) → Owned l v → 0 < bag v.holds i → i < l.population
@@ -45,7 +46,8 @@ zero_inside l v i own h =
     (λ (c : l.population ≤ i). absurd (let z = own.hand_below i c in omega arith))
     (cases_lt i l.population)
 
-module _ (l : Limits) (s : St) (r : Ruled l s) (id : ℕ) (me : Sat) (at : get_elem? s.views id ≡ some me.0) (busy : Sits me) (i k : ℕ) (word : k ≡ 16 + l.population + i) (inside : i < l.population) where
+module _ (l : Limits) (s : St) (r : Ruled l s) (id : ℕ) (me : Sat) (at : get_elem? s.views id ≡ some me.0)
+    (busy : Sits me) (i k : ℕ) (word : k ≡ 16 + l.population + i) (inside : i < l.population) where
   mine : me.0.limits.population ≡ l.population
   mine = ap (λ (z : Limits). z.population) (my_limits l s r id me at busy)
 
@@ -171,11 +173,11 @@ module _ (l : Limits) (s : St) (r : Ruled l s) (id : ℕ) (me : Sat) (at : get_e
       (ap (λ (v : View). v.part) my_view
       ∙ (whole ∙ ap (λ (z : Limits). z.workers) (my_limits l s r id me at busy ∙ sym r.limits)))
       i in
-      let same = ap (λ (v : View). bag (v.holds ++ shelves r.world.desks) i) my_view in (
-        shelves r.world.desks,
-        (λ bare.
-            no_shelves r.world r.desks.count l r.limits
-            (ap (λ (z : Limits). z.desks) (sym (my_limits l s r id me at busy)) ∙ bare)),
+      let same = ap (λ (v : View). bag v.holds i + held_in (lying r.world.desks) i) my_view in
+      let limits = my_limits l s r id me at busy in (
+        lying r.world.desks,
+        may_lie r.world (law l s r id me at busy) r.counts.headers r.desks.count me.0.limits
+            (r.limits ∙ sym limits) id me.0.view my_view,
         count_read ∙ (held_count held ∙ (all ∙ same)),
       )
 

@@ -1,9 +1,11 @@
 -- A ground and a seat as contracts see them, and what a step makes of what a seat knows.
-use Rattle.std.specs.Prelude.{◌≡◌, ℕ, zero, suc, min, ◌+◌, ◌≤◌, List, [], ◌∷◌, ◌++◌, length, Option, Some, None, IfSome, Result, Ok, Err}
+use Rattle.std.specs.Prelude.{◌≡◌, ℕ, zero, suc, min, ◌+◌, ◌<◌, ◌≤◌, List, [], ◌∷◌, ◌++◌, length, Option, Some, None}
+use Rattle.std.specs.Prelude.{IfSome, flat_map, slice_index_or, Result, Ok, Err}
 use Rattle.atomic_table.specs.Seated.{TableId}
 use Rattle.commons.specs.Bag.{bag}
 use Rattle.commons.specs.declared.limits.Limits.{Limits}
 use Rattle.commons.specs.declared.packet.Seg.{Seg}
+use Rattle.commons.specs.Packets.{held_in, holds_in_slot, own_in}
 use Rattle.step_core.specs.declared.view.Head.{Head}
 use Rattle.step_core.specs.declared.view.Look.{Look}
 use Rattle.step_core.specs.declared.view.Phase.{Phase}
@@ -96,14 +98,27 @@ abbrev pub held_below : ℕ → List ℕ → ℕ
 held_below zero xs = 0
 held_below (suc n) xs = held_below n xs + min 1 (bag xs n)
 
--- A seat of every part knows the length word: it is the population without the hand, the credit, and the elements that
--- are held, by it or by the packets on full desks. In a pool without desks there are no such packets.
+-- What may lie on the desks beside a view: on each desk of the pool a packet, or nothing. The packets hold elements of
+-- the pool alone, and none that is in the hand; with the view's own holds no element is held more often than the
+-- reference limit says; none is an own one of two segments, or of one and a header of the view; and the desk that the
+-- view has in work isn't full.
+pub record MayLie (l : Limits) (v : View) (desks : List (Option (List Seg))) : Type 0 where
+  pub as_many : length desks ≡ l.desks
+  pub below : (i : ℕ) → l.population ≤ i → held_in desks i ≡ 0
+  pub apart : (i : ℕ) → 0 < held_in desks i → bag v.hand i + bag v.zeros i ≡ 0
+  pub limited : (i : ℕ) → bag v.holds i + held_in desks i ≤ l.ref_limit
+  pub own_once : (i : ℕ) → bag v.headers i + own_in desks i ≤ 1
+  pub work : IfSome v.work (λ x. slice_index_or desks x.desk None ≡ None)
+
+-- A seat of every part knows the length word, but for what lies on full desks: it is the population without the hand,
+-- the credit, and the elements that are held, each once, by the seat or by a packet on a desk. In a pool without desks
+-- nothing lies there.
 abbrev pub KnowsLength : Limits → View → ℕ → Type 0
 KnowsLength l v found =
     v.part ≡ l.workers →
-    (shelved : List ℕ) × (l.desks ≡ 0 → shelved ≡ [])
-    × (found + v.credit + length v.hand + length v.zeros + held_below l.population (v.holds ++ shelved)
-    ≡ l.population)
+    (desks : List (Option (List Seg))) × MayLie l v desks
+    × (found + v.credit + length v.hand + length v.zeros
+    + held_below l.population (v.holds ++ flat_map holds_in_slot desks) ≡ l.population)
 
 -- and that a walk to the end of the list has passed all that is reserved
 abbrev pub KnowsEnd : Limits → View → Type 0
@@ -113,4 +128,4 @@ KnowsEnd l v = v.part ≡ l.workers → IfSome v.look (λ k. k.next ≡ 0 → v.
 abbrev pub KnowsCount : Limits → View → ℕ → ℕ → Type 0
 KnowsCount l v i count =
     v.part ≡ l.workers →
-    (shelved : List ℕ) × (l.desks ≡ 0 → shelved ≡ []) × (count ≡ bag (v.holds ++ shelved) i)
+    (desks : List (Option (List Seg))) × MayLie l v desks × (count ≡ bag v.holds i + held_in desks i)

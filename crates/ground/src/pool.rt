@@ -26,7 +26,8 @@ impl Model for Ground {
 
     ghost view = { λ g. record { table = g.table.shared.table_id; limits = g.limits } };
 
-    ghost invariant = { λ g. (g.table.shared.table_id.words ≡ word_count g.limits.population g.limits.desks) × IsPool g.limits × (g.table.shared.key ≡ g.limits) × (g.table.shared.table_id.slots ≡ g.limits.desks) };
+    ghost invariant = { λ g. (g.table.shared.table_id.words ≡ word_count g.limits.population g.limits.desks)
+        × IsPool g.limits × (g.table.shared.key ≡ g.limits) × (g.table.shared.table_id.slots ≡ g.limits.desks) };
 }
 
 impl Ground {

@@ -24,7 +24,7 @@ pub(crate) const LINKS: usize = 16;
 
 impl Ground {
     /// Reads the length word: how many elements of the common list nobody has reserved. A seat of every part learns
-    /// just how many those are (rte_stack_lf.h, __rte_stack_lf_count).
+    /// just how many those are, but for what packets on full desks hold (rte_stack_lf.h, __rte_stack_lf_count).
     pub fn load_length(&self, seat: &mut GroundSeat) -> u64
         requires of { IsOf self.now seat.old }
         ensures step { Steps LoadLength (Value result) seat.old seat.new }

@@ -4,6 +4,7 @@ use Rattle.json_text.specs.StatementData.{json_of}
 use Rattle.pool_model.specs.declared.statement.Statement.{Statement}
 use Rattle.script.specs.Printed.{IsJsonFor, IsPrintedFor}
 use Rattle.script.specs.Running.{RunsTo}
+use Rattle.script.specs.declared.threaded.Grounds.{Grounds}
 use Rattle.script.specs.StatementText.{text_of}
 use Rattle.step_text.specs.Printed.{IsStepsPrint}
 use Rattle.mbufpool.specs.declared.failures.Failure.{Failure}
@@ -23,20 +24,20 @@ abbrev pub IsStatementAs : Form → Statement → List ℕ → Type 0
 IsStatementAs Text s out = out ≡ text_of s
 IsStatementAs Json s out = out ≡ json_of s ++ codes "\n"
 
--- the bytes are a script, and this is printed for its run in threads in this form
-pub record IsRunPrintedAs (form : Form) (bytes out : List ℕ) : Type 0 where
+-- the bytes are a script, and this is printed for its run in threads on such a ground in this form
+pub record IsRunPrintedAs (grounds : Grounds) (form : Form) (bytes out : List ℕ) : Type 0 where
   pub statement : Statement
-  pub runs : RunsTo bytes statement
+  pub runs : RunsTo grounds bytes statement
   pub written : IsStatementAs form statement out
 
 -- the bytes are a script, and this is printed for what is done with it
 abbrev pub IsDoneAs : Task → List ℕ → List ℕ → Type 0
 IsDoneAs (Replay form) = IsPrintedAs form
-IsDoneAs (Run turns form) = IsRunPrintedAs form
+IsDoneAs (Run grounds turns form) = IsRunPrintedAs grounds form
 IsDoneAs Steps = IsStepsPrint
 
 -- the bytes are the cause of this failure of what is done with them
 abbrev pub IsFailureOf : Task → List ℕ → Failure → Type 0
 IsFailureOf (Replay form) = IsOfReplay
-IsFailureOf (Run turns form) = IsOfReplay
+IsFailureOf (Run grounds turns form) = IsOfReplay
 IsFailureOf Steps = IsOfSteps

@@ -8,6 +8,7 @@ use clap::builder::ValueParser;
 use clap::error::ErrorKind;
 use clap::{Arg, ArgAction, Command, Error};
 use commons::refusal::Refusal;
+use script::Grounds;
 use std::alloc::Global;
 use std::env::Env;
 use std::{env, io};
@@ -76,12 +77,25 @@ fn requested<'a>(alloc: Global, words: &'a [String]) -> Result<Option<Request<'a
             .and_then(|word| word.parse().ok())
             .unwrap_or(0),
     );
-    match (run.get_str("FILE"), turns) {
-        (Some(file), Some(turns)) => Ok(Some(Request {
+    match (
+        run.get_str("FILE"),
+        run.get_str("ground").and_then(grounds_of),
+        turns,
+    ) {
+        (Some(file), Some(grounds), Some(turns)) => Ok(Some(Request {
             file,
-            task: Task::Run(turns, form_of(run.get_flag("json"))),
+            task: Task::Run(grounds, turns, form_of(run.get_flag("json"))),
         })),
         _ => Ok(None),
+    }
+}
+
+/// The ground that a word names.
+fn grounds_of(word: &str) -> Option<Grounds> {
+    match word {
+        "words" => Some(Grounds::Words),
+        "locked" => Some(Grounds::Locked),
+        _ => None,
     }
 }
 
@@ -103,8 +117,8 @@ fn wrong_words(alloc: Global, message: &str) -> Result<Error, Error> {
     Ok(command(alloc)?.error(ErrorKind::InvalidValue, message)?)
 }
 
-/// `mbufpool replay FILE [--json]`, `mbufpool run FILE [--ground locked] [--turns T] [--json]` and
-/// `mbufpool steps FILE`.
+/// `mbufpool replay FILE [--json]`, `mbufpool run FILE [--ground words|locked] [--turns T] [--json]`
+/// and `mbufpool steps FILE`.
 fn command<'a>(alloc: Global) -> Result<Command<'a>, Error> {
     let replay = Command::new(alloc, "replay")
         .about("Replays a script, and prints each reply and where each element is at the end")
@@ -115,9 +129,9 @@ fn command<'a>(alloc: Global) -> Result<Command<'a>, Error> {
     let ground = Arg::new(alloc, "ground")
         .long("ground")
         .value_name("GROUND")
-        .value_parser(&["locked"][..])
-        .default_value("locked")
-        .help("What the threads share: lists under one lock");
+        .value_parser(&["words", "locked"][..])
+        .default_value("words")
+        .help("What the threads share: words without a lock, or lists under one lock");
     let turns = Arg::new(alloc, "turns")
         .long("turns")
         .value_name("T")

@@ -58,7 +58,7 @@ fn done<R: Threads + Wait + Sync>(
 {
     match task {
         Task::Replay(form) => text(alloc, script, form),
-        Task::Run(turns, form) => running::text(rt, alloc, script, turns, form),
+        Task::Run(grounds, turns, form) => running::text(rt, alloc, script, grounds, turns, form),
         Task::Steps => steps(alloc, script),
     }
 }

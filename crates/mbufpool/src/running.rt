@@ -15,19 +15,20 @@ use std::thread::Threads;
 /// What a run of these bytes with a thread for each worker prints in a form.
 ///
 /// `Fault` where they are no script (`ScriptFault`), where no pool can be made within the script's limits (`BadPool`),
-/// or where memory or a thread was refused.
+/// or where memory was refused, or under the lock a thread.
 pub fn text<R: Threads + Wait + Sync>(
     rt: &R,
     alloc: Global,
     script: &[u8],
+    grounds: Grounds,
     turns: Turns,
     form: Form,
 ) -> Result<Vec<u8>, Failure<'static>>
-    ensures printed { IfOk result (λ out. IsRunPrintedAs form script.now out.items) }
+    ensures printed { IfOk result (λ out. IsRunPrintedAs grounds form script.now out.items) }
     ensures cause { IfErr result (IsOfReplay script.now) }
     ensures status { IfErr result (λ failure. status_of failure ≡ 1) }
 {
-    match run_script(rt, alloc, script, Grounds::Locked, turns.count()) {
+    match run_script(rt, alloc, script, grounds, turns.count()) {
         Ok(statement) => match written(alloc, &statement, form) {
             Ok(text) => Ok(text),
             Err(refusal) => Err(Failure::Fault(refusal)),

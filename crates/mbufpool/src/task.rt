@@ -2,6 +2,8 @@
 
 ghost use Rattle.std.specs.Prelude.{◌≡◌, ◌≤◌, MatchOption};
 
+use script::Grounds;
+
 /// In which form it is printed where each element is at the end.
 #[derive(Clone, Copy, PartialEq, Eq, Debug)]
 pub enum Form {
@@ -43,8 +45,8 @@ impl Turns {
 pub enum Task {
     /// Its replay in one thread.
     Replay(Form),
-    /// Its run with a thread for each worker.
-    Run(Turns, Form),
+    /// Its run with a thread for each worker, on a pool that rests on this.
+    Run(Grounds, Turns, Form),
     /// Its steps, each on one word or slot.
     Steps,
 }

@@ -1,3 +1,4 @@
 mod CommandsKeep
 mod NameLemmas
 mod Outcomes
+mod WordWorkers

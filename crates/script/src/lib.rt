@@ -1,15 +1,18 @@
 //! Scripts of a packet pool: their replay, what it prints, and their run in threads.
 #![tactic(auto)]
 
+mod acting;
 pub mod gate;
 pub mod json;
 pub mod laws;
 pub mod names;
+mod on_words;
 pub mod playing;
 pub mod printing;
 pub mod running;
 pub mod texts;
 pub mod threaded;
+mod under_lock;
 
 pub use gate::{Gate, OpenGate};
 pub use json::run_replay_json;

@@ -1,12 +1,13 @@
 //! A run of a script in threads, from its bytes to the statement at its end.
 
-ghost use Rattle.std.specs.Prelude.{◌≤◌, List, IfErr, IfOk};
+ghost use Rattle.std.specs.Prelude.{◌≡◌, ◌≤◌, List, IfErr, IfOk};
 ghost use Rattle.commons.specs.declared.limits.Limits.{Limits};
 ghost use Rattle.pool_model.specs.Sound.{ListsSoundPackets};
 ghost use Rattle.pool_model.specs.Statements.{ListsEachOnce, PlacesEachOnce};
 ghost use Rattle.script_text.specs.Commands.{Line};
 ghost use Rattle.script_text.specs.Grammar.{IsCause, IsScript};
 ghost use Rattle.script.specs.Running.{RunsTo};
+ghost use Rattle.word_book.specs.Listing.{ListsPackets};
 
 use crate::gate::OpenGate;
 use crate::threaded::{Grounds, run_threads};
@@ -22,7 +23,7 @@ use std::thread::Threads;
 ///
 /// Refused as reading the script is: `BadPool` where no pool can be made within the limits of its pool line, and
 /// `ScriptFault` with the number of the first faulty line, or 0 where the bytes are more than a script has.
-/// `OutOfMemory` comes only where memory was refused or a thread couldn't be started.
+/// `OutOfMemory` comes only where memory was refused, or under the lock a thread.
 pub fn run_script<R: Threads + Wait + Sync>(
     rt: &R,
     alloc: Global,
@@ -31,15 +32,19 @@ pub fn run_script<R: Threads + Wait + Sync>(
     turns: u32,
 ) -> Result<Statement, Refusal>
     requires turns { 1 ≤ turns }
-    // Some order of acts on a new pool of the script's limits leads to the same statement.
-    ensures ran { IfOk result (RunsTo bytes.now) }
-    // Above the model: no element is missing, and none is anywhere twice; no two packets stand in one place; and each is
-    // sound, by the limits of the script that the bytes are.
+    // Under the lock, some order of acts on a new pool of the script's limits leads to the same statement; on words, it is
+    // that of what such a ground left, and of its workers' caches and packets.
+    ensures ran { IfOk result (RunsTo grounds bytes.now) }
+    // Above both: no element is missing, and none is anywhere twice; no two packets stand in one place; and each has 1 to
+    // 32 segments, each with its data within its buffer, by the limits of the script that the bytes are.
     ensures once { IfOk result (λ s. ListsEachOnce s) }
     ensures places { (limits : Limits) (lines : List Line) → IsScript bytes.now limits lines →
         IfOk result (λ s. PlacesEachOnce limits s) }
-    ensures sound { (limits : Limits) (lines : List Line) → IsScript bytes.now limits lines →
-        IfOk result (λ s. ListsSoundPackets limits s) }
+    ensures packets { (limits : Limits) (lines : List Line) → IsScript bytes.now limits lines →
+        IfOk result (λ s. ListsPackets limits s) }
+    // And under the lock each packet is sound: its buffers are the pool's, and a base is direct.
+    ensures sound { (limits : Limits) (lines : List Line) → grounds ≡ Grounds.Locked →
+        IsScript bytes.now limits lines → IfOk result (λ s. ListsSoundPackets limits s) }
     // Why there is none.
     ensures faults { IfErr result (IsCause bytes.now) }
 {

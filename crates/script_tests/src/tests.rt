@@ -21,6 +21,7 @@ use std::test::Fail;
 
 mod acts;
 mod building;
+mod grounds;
 mod handing;
 mod json;
 mod long;

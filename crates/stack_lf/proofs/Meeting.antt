@@ -8,7 +8,7 @@ use Rattle.commons.specs.Calls.{Call, GetList, PutList, Claim, CountOf, Raise, L
 use Rattle.commons.specs.declared.limits.Limits.{Limits}
 use Rattle.commons.specs.declared.refusal.Lowered.{Lowered as Answer}
 use Rattle.commons.specs.declared.refusal.Lowered.TheVariants.{Last, Still}
-use Rattle.commons.specs.declared.refusal.Refusal.TheVariants.{Contended}
+use Rattle.commons.specs.declared.refusal.Refusal.TheVariants.{NoEntries, Contended, RefSpent}
 use Rattle.commons.specs.declared.refusal.Refusal.{Refusal}
 use Rattle.step_core.specs.declared.view.View.{View}
 use Rattle.step_core.specs.declared.view.Chain.{Chain}
@@ -17,10 +17,11 @@ use Rattle.step_core.specs.Sights.{chain_without, claimed, freed, raised, hold_e
 use Rattle.step_core.proofs.Bags.{times-without}
 use Rattle.step_core.specs.declared.step.Step.TheVariants.{LoadLength, Sole, Claim as ClaimStep}
 use Rattle.step_core.specs.declared.step.Outcome.TheVariants.{Value}
-use Rattle.ground.specs.Seats.{Grounded, Seated, IsOf, Note, after, Steps}
+use Rattle.ground.specs.Seats.{Grounded, Seated, IsOf, Note, after, Steps, KnowsLength, KnowsCount}
 use Rattle.ground.specs.Own.{AtRest}
 use Rattle.stack_lf.specs.Sides.{side_of}
-use Rattle.stack_lf.specs.Tries.{Try, Short, Taken, Counted, notes, notes_of, readings_of, IsOfCall, IsContended, DidOnWords}
+use Rattle.stack_lf.specs.Tries.{Try, Short, Taken, Counted, notes, notes_of, readings_of, IsOfCall, IsContended}
+use Rattle.stack_lf.specs.Tries.{KnowsShort, KnowsSpent, IsTold, DidOnWords}
 use Rattle.stack_lf.specs.Leaves.{IsAlone, IsBare, tried_to, seen_as, put_as, Gets, Puts, Raises, Lowers, lowered_as}
 use Rattle.stack_lf.proofs.Composing.{still_of}
 use Rattle.stack_lf.proofs.Storing.{bag-minus}
@@ -41,8 +42,8 @@ went_rest s t w r = subst (λ (x : Seated). AtRest x.known.view) (sym w.2) (w.3 
 pub doing : (s : Seated) (call : Call) (t : Seated) (ts : List Try) (v : View) →
     IsOfCall s.known.limits call ts → HasEffect call (side_of s) (side_of t) →
     t ≡ tried_to s ts v → v.part ≡ s.known.view.part → (IsAlone s → IsContended s.known.limits call → ⊥) →
-    Did DidOnWords side_of s call t
-doing s call t ts v made effect e part alone = record {
+    IsTold s call → Did DidOnWords side_of s call t
+doing s call t ts v made effect e part alone told = record {
   readings = readings_of ts;
   step = record {
     led = record {
@@ -56,6 +57,7 @@ doing s call t ts v made effect e part alone = record {
       steps = ap (λ (x : Seated). x.known.steps) e;
       read = refl;
       alone = alone;
+      told = told;
     };
     cause = causes s.known.limits call ts made;
     effect = effect;
@@ -105,6 +107,19 @@ get_contended : (l : Limits) (n : ℕ) (e : Refusal) → IsContended l (GetList 
 get_contended l n Contended c = (refl, c)
 get_contended l n _ c = absurd c
 
+-- what a refused get and a refused raise tell
+get_told : (s : Seated) (n : ℕ) (e : Refusal) →
+    (◌≡◌ {A = Result (Unit {0}) Refusal} (Err e) (Err NoEntries) → KnowsShort n s) →
+    IsTold s (GetList n (Err e))
+get_told s n NoEntries told = told refl
+get_told s n _ told = tt
+
+raise_told : (s : Seated) (i : ℕ) (e : Refusal) →
+    (◌≡◌ {A = Result (Unit {0}) Refusal} (Err e) (Err RefSpent) → KnowsSpent i s) →
+    IsTold s (Raise i (Err e))
+raise_told s i RefSpent told = told refl
+raise_told s i _ told = tt
+
 put_contended : (l : Limits) (xs : List ℕ) (e : Refusal) → IsContended l (PutList xs (Err e)) →
     e ≡ Contended
 put_contended l xs Contended c = refl
@@ -117,16 +132,16 @@ raise_contended l i _ c = absurd c
 
 pub get_did : (n : ℕ) (xs : List ℕ) (r : Result (Unit {0}) Refusal) (s t : Seated) →
     Gets s.known.limits.tries n xs r s t → (IsBare s → r ≢ Err Contended) →
-    Did DidOnWords side_of s (GetList n (with_list r xs)) t
-get_did n xs (Ok m) s t g alone =
+    (r ≡ Err NoEntries → KnowsShort n s) → Did DidOnWords side_of s (GetList n (with_list r xs)) t
+get_did n xs (Ok m) s t g alone told =
     doing s (GetList n (Ok xs)) t g.0 _ g.3
-    (get_effect s.known.limits.tries n xs (Ok m) s t g) g.4 refl (λ whole c. c)
-get_did n xs (Err e) s t g alone =
+    (get_effect s.known.limits.tries n xs (Ok m) s t g) g.4 refl (λ whole c. c) tt
+get_did n xs (Err e) s t g alone told =
     doing s (GetList n (Err e)) t g.0 _ g.3
     (get_effect s.known.limits.tries n xs (Err e) s t g) g.4 refl
     (λ whole c.
     let why = get_contended s.known.limits n e c in
-    alone (whole, why.1) (ap Err why.0))
+    alone (whole, why.1) (ap Err why.0)) (get_told s n e told)
 
 -- ---- a put
 
@@ -164,11 +179,11 @@ pub put_did : (xs : List ℕ) (r : Result (Unit {0}) Refusal) (s t : Seated) →
     (IsAlone s → r ≢ Err Contended) → Did DidOnWords side_of s (PutList xs r) t
 put_did xs (Ok m) s t h g alone =
     doing s (PutList xs (Ok m)) t g.0 _ g.3
-    (put_effect s.known.limits.tries xs (Ok m) s t h g) g.4 refl (λ whole c. c)
+    (put_effect s.known.limits.tries xs (Ok m) s t h g) g.4 refl (λ whole c. c) tt
 put_did xs (Err e) s t h g alone =
     doing s (PutList xs (Err e)) t g.0 _ g.3
     (put_effect s.known.limits.tries xs (Err e) s t h g) g.4 refl
-    (λ whole c. alone whole (ap Err (put_contended s.known.limits xs e c)))
+    (λ whole c. alone whole (ap Err (put_contended s.known.limits xs e c))) tt
 
 -- ---- a count
 
@@ -176,9 +191,9 @@ pub length_went : (n : ℕ) (s t : Seated) → Steps LoadLength (Value n) s t �
 length_went n s t g = ((LoadLength, Value n) ∷ [], s.known.view, g, λ r. r)
 
 pub length_did : (n : ℕ) (s t : Seated) → Steps LoadLength (Value n) s t →
-    Did DidOnWords side_of s (CommonCount n) t
-length_did n s t g =
-    doing s (CommonCount n) t (Short n ∷ []) s.known.view refl (ap side_of g) g refl (λ whole c. c)
+    KnowsLength s.known.limits s.known.view n → Did DidOnWords side_of s (CommonCount n) t
+length_did n s t g known =
+    doing s (CommonCount n) t (Short n ∷ []) s.known.view refl (ap side_of g) g refl (λ whole c. c) known
 
 -- ---- the counts
 
@@ -249,17 +264,17 @@ pub claim_did : (e : ℕ) (s t : Seated) → 0 < bag s.known.view.hand e →
     Steps (ClaimStep e) (Value 1) s t → Did DidOnWords side_of s (Claim e) t
 claim_did e s t here g =
     doing s (Claim e) t (Taken e ∷ []) (claimed s.known.view e) refl (claim_effect e s t here g) g
-    refl (λ whole c. c)
+    refl (λ whole c. c) tt
 
 pub count_went : (e n : ℕ) (s t : Seated) → Steps (Sole e false) (Value n) s t → Went s t
 count_went e n s t g = ((Sole e false, Value n) ∷ [], s.known.view, g, λ r. r)
 
 pub count_did : (e n : ℕ) (s t : Seated) → Steps (Sole e false) (Value n) s t →
     bag s.known.view.holds e ≤ n → n ≤ s.known.limits.ref_limit →
-    Did DidOnWords side_of s (CountOf e n) t
-count_did e n s t g low high =
+    KnowsCount s.known.limits s.known.view e n → Did DidOnWords side_of s (CountOf e n) t
+count_did e n s t g low high known =
     doing s (CountOf e n) t (Counted e n ∷ []) s.known.view refl
-    (record { same = ap side_of g; own = low; limited = high }) g refl (λ whole c. c)
+    (record { same = ap side_of g; own = low; limited = high }) g refl (λ whole c. c) known
 
 pub raise_went : (l : Limits) (e : ℕ) (r : Result (Unit {0}) Refusal) (s t : Seated) →
     Raises l e r s t → Went s t
@@ -285,16 +300,17 @@ raise_effect l e (Err _) s t held g = ap side_of g.2
 
 pub raise_did : (e : ℕ) (r : Result (Unit {0}) Refusal) (s t : Seated) →
     0 < bag s.known.view.holds e → Raises s.known.limits e r s t →
-    (IsBare s → r ≢ Err Contended) → Did DidOnWords side_of s (Raise e r) t
-raise_did e (Ok m) s t held g alone =
+    (IsBare s → r ≢ Err Contended) → (r ≡ Err RefSpent → KnowsSpent e s) →
+    Did DidOnWords side_of s (Raise e r) t
+raise_did e (Ok m) s t held g alone told =
     doing s (Raise e (Ok m)) t g.0 _ g.1 (raise_effect s.known.limits e (Ok m) s t held g) g.2 refl
-    (λ whole c. c)
-raise_did e (Err cause) s t held g alone =
+    (λ whole c. c) tt
+raise_did e (Err cause) s t held g alone told =
     doing s (Raise e (Err cause)) t g.0 _ g.1
     (raise_effect s.known.limits e (Err cause) s t held g) g.2 refl
     (λ whole c.
     let why = raise_contended s.known.limits e cause c in
-    alone (whole, why.1) (ap Err why.0))
+    alone (whole, why.1) (ap Err why.0)) (raise_told s e cause told)
 
 pub lower_went : (e : ℕ) (answer : Answer) (s t : Seated) → Lowers e answer s t → Went s t
 lower_went e Last s t g = (
@@ -358,7 +374,7 @@ lower_did e answer s t held g =
     (lower_effect e answer s t held g)
     (g.2 ∙ ap (λ (l : List Note). after s l (lowered_as e answer s.known.view))
     (sym (append-nil (notes g.0))))
-    (part_lowered e answer s.known.view) (λ whole c. c)
+    (part_lowered e answer s.known.view) (λ whole c. c) tt
 
 -- the seat with no step more
 pub same_seat : (s : Seated) → s ≡ tried_to s [] s.known.view

@@ -10,7 +10,7 @@ use Rattle.commons.specs.declared.refusal.Lowered.TheVariants.{Last, Still}
 use Rattle.step_core.specs.declared.view.Head.{Head}
 use Rattle.step_core.specs.declared.step.Step.TheVariants.{LoadLength, Reserve, Add, LoadHead, LoadLink, Cut, StoreLink, Push, Claim as ClaimStep, Sole, Raise as RaiseStep, Lower as LowerStep, Reset, Hold, Open, Seize, Clear}
 use Rattle.step_core.specs.declared.step.Outcome.TheVariants.{Value, HeadIs, Won, Got, Lost, LostTo, Done, Found}
-use Rattle.ground.specs.Seats.{Seated, Note, element_of}
+use Rattle.ground.specs.Seats.{Seated, Note, element_of, KnowsLength, KnowsCount}
 
 -- links that were walked, each an element with the value of its link
 abbrev pub Walk : Type 0
@@ -254,6 +254,31 @@ IsContended l (PutList xs (Err Contended)) = Unit {0}
 IsContended l (Raise i (Err Contended)) = l.desks ≡ 0
 IsContended l _ = ⊥
 
+-- a length below n was read, and is what a seat of every part knows of it
+abbrev pub KnowsShort : ℕ → Seated → Type 0
+KnowsShort n s = (found : ℕ) × (found < n) × KnowsLength s.known.limits s.known.view found
+
+-- and a count at the reference limit
+abbrev pub KnowsSpent : ℕ → Seated → Type 0
+KnowsSpent i s = KnowsCount s.known.limits s.known.view i s.known.limits.ref_limit
+
+-- What a call's answer tells its seat of the length and of a count that were read: what a seat of every part knows of
+-- either.
+abbrev pub IsTold : Seated → Call → Type 0
+IsTold s (GetList n (Ok xs)) = Unit {0}
+IsTold s (GetList n (Err NoEntries)) = KnowsShort n s
+IsTold s (GetList n (Err _)) = Unit {0}
+IsTold s (PutList xs answer) = Unit {0}
+IsTold s (Claim i) = Unit {0}
+IsTold s (CountOf i n) = KnowsCount s.known.limits s.known.view i n
+IsTold s (Raise i (Ok _)) = Unit {0}
+IsTold s (Raise i (Err RefSpent)) = KnowsSpent i s
+IsTold s (Raise i (Err _)) = Unit {0}
+IsTold s (Lower i answer) = Unit {0}
+IsTold s (Offer d packet answer) = Unit {0}
+IsTold s (Take d answer) = Unit {0}
+IsTold s (CommonCount n) = KnowsLength s.known.limits s.known.view n
+
 -- what a call over words did: it took the steps of these tries, by this seat, and read what they read
 pub record DidOnWords (s : Seated) (call : Call) (rs : List Reading) (t : Seated) : Type 0 where
   pub table : t.table ≡ s.table
@@ -267,3 +292,5 @@ pub record DidOnWords (s : Seated) (call : Call) (rs : List Reading) (t : Seated
   pub read : rs ≡ readings_of tries
   -- a seat of every part is in nobody's way
   pub alone : s.known.view.part ≡ s.known.limits.workers → IsContended s.known.limits call → ⊥
+  -- and knows what a length and a count are, but for what lies on desks
+  pub told : IsTold s call

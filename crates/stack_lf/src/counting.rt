@@ -4,8 +4,9 @@ ghost use Rattle.std.specs.Prelude.{◌≡◌, ◌≢◌, ◌<◌, ◌≤◌, Er
 ghost use Rattle.commons.specs.Bag.{bag};
 ghost use Rattle.step_core.specs.declared.step.Step.TheVariants.{LoadLength, Sole, Claim as ClaimStep};
 ghost use Rattle.step_core.specs.declared.step.Outcome.TheVariants.{Value};
-ghost use Rattle.ground.specs.Seats.{IsOf, Steps};
+ghost use Rattle.ground.specs.Seats.{IsOf, Steps, KnowsLength, KnowsCount};
 ghost use Rattle.ground.specs.Own.{Owned};
+ghost use Rattle.stack_lf.specs.Tries.{KnowsSpent};
 ghost use Rattle.stack_lf.specs.Leaves.{TriesRaise, Raises, Lowers, IsBare};
 
 use crate::tried::Tried;
@@ -15,11 +16,12 @@ use crossbeam_utils::Backoff;
 use ground::pool::Ground;
 use ground::seat::GroundSeat;
 
-/// The length as read, with what the seat's type keeps.
+/// The length as read, with what a seat of every part knows of it and what the seat's type keeps.
 pub(crate) fn length(ground: &Ground, seat: &mut GroundSeat) -> u64
     requires of { IsOf ground.now seat.old }
     ensures step { Steps LoadLength (Value result) seat.old seat.new }
     ensures few { result ≤ seat.old.known.limits.population }
+    ensures known { KnowsLength seat.old.known.limits seat.old.known.view result }
     ensures own { Owned seat.new.known.limits seat.new.known.view }
 {
     let length = ground.load_length(seat);
@@ -38,13 +40,14 @@ pub(crate) fn claim(ground: &Ground, seat: &mut GroundSeat, element: u32)
     seat.owned();
 }
 
-/// A count as read, with what the seat's type keeps.
+/// A count as read, with what a seat of every part knows of it and what the seat's type keeps.
 pub(crate) fn count(ground: &Ground, seat: &mut GroundSeat, element: u32) -> u64
     requires of { IsOf ground.now seat.old }
     requires held { 0 < bag seat.old.known.view.holds element }
     ensures step { Steps (Sole element false) (Value result) seat.old seat.new }
     ensures held { bag seat.old.known.view.holds element ≤ result }
     ensures limited { result ≤ seat.old.known.limits.ref_limit }
+    ensures known { KnowsCount seat.old.known.limits seat.old.known.view element result }
     ensures own { Owned seat.new.known.limits seat.new.known.view }
 {
     let count = ground.sole(seat, element, false);
@@ -58,6 +61,7 @@ fn try_raise(ground: &Ground, seat: &mut GroundSeat, element: u32, limits: &Limi
     requires held { 0 < bag seat.old.known.view.holds element }
     requires limits { limits.now ≡ ground.now.limits }
     ensures one { TriesRaise limits.now element result seat.old seat.new }
+    ensures told { result ≡ Tried.Refused Refusal.RefSpent → KnowsSpent element seat.old }
     ensures alone { IsBare seat.old → result ≢ Tried.Lost }
 {
     let count = ground.sole(seat, element, false);
@@ -81,6 +85,7 @@ fn raise_by_tries(
     requires held { 0 < bag seat.old.known.view.holds element }
     requires limits { limits.now ≡ ground.now.limits }
     ensures raised { Raises limits.now element result seat.old seat.new }
+    ensures told { result ≡ Err Refusal.RefSpent → KnowsSpent element seat.old }
     ensures alone { IsBare seat.old → 1 ≤ limits.now.tries → result ≢ Err Refusal.Contended }
 {
     let backoff = Backoff::new();
@@ -105,6 +110,7 @@ pub(crate) fn raise(
     requires held { 0 < bag seat.old.known.view.holds element }
     requires limits { limits.now ≡ ground.now.limits }
     ensures raised { Raises limits.now element result seat.old seat.new }
+    ensures told { result ≡ Err Refusal.RefSpent → KnowsSpent element seat.old }
     ensures alone { IsBare seat.old → 1 ≤ limits.now.tries → result ≢ Err Refusal.Contended }
     ensures own { Owned seat.new.known.limits seat.new.known.view }
 {

@@ -3,7 +3,7 @@
 ghost use Rattle.std.specs.Prelude.{◌≡◌, ◌≢◌, ◌<◌, ◌≤◌, Err, Some, None, length, IfSome, IfNone};
 ghost use Rattle.ground.specs.Seats.{IsOf, KnowsEnd};
 ghost use Rattle.ground.specs.Own.{Owned};
-ghost use Rattle.stack_lf.specs.Tries.{Walk, elements};
+ghost use Rattle.stack_lf.specs.Tries.{Walk, elements, KnowsShort};
 ghost use Rattle.stack_lf.specs.Leaves.{IsAlone, IsBare, start, Walked, TriesReserve, TriesCut, Reserves, Cuts, Gets};
 
 use crate::tried::Tried;
@@ -19,6 +19,7 @@ fn try_reserve(ground: &Ground, seat: &mut GroundSeat, n: u64) -> Tried
     requires of { IsOf ground.now seat.old }
     requires some { 1 ≤ n }
     ensures one { TriesReserve n result seat.old seat.new }
+    ensures told { result ≡ Tried.Refused Refusal.NoEntries → KnowsShort n seat.old }
     ensures alone { IsBare seat.old → result ≢ Tried.Lost }
 {
     let length = ground.load_length(seat);
@@ -36,6 +37,7 @@ fn reserve(ground: &Ground, seat: &mut GroundSeat, n: u64, tries: u64) -> Result
     requires of { IsOf ground.now seat.old }
     requires some { 1 ≤ n }
     ensures reserves { Reserves tries n result seat.old seat.new }
+    ensures told { result ≡ Err Refusal.NoEntries → KnowsShort n seat.old }
     ensures alone { IsBare seat.old → 1 ≤ tries → result ≢ Err Refusal.Contended }
 {
     let backoff = Backoff::new();
@@ -128,6 +130,7 @@ fn get_or_return(
     requires of { IsOf ground.now seat.old }
     requires some { 1 ≤ length out.old }
     ensures got { Gets tries (length out.old) out.new result seat.old seat.new }
+    ensures told { result ≡ Err Refusal.NoEntries → KnowsShort (length out.old) seat.old }
     ensures alone { IsBare seat.old → 1 ≤ tries → result ≢ Err Refusal.Contended }
     ensures len { length out.new ≡ length out.old }
 {
@@ -154,6 +157,7 @@ pub(crate) fn get(
     requires of { IsOf ground.now seat.old }
     requires some { 1 ≤ length out.old }
     ensures got { Gets tries (length out.old) out.new result seat.old seat.new }
+    ensures told { result ≡ Err Refusal.NoEntries → KnowsShort (length out.old) seat.old }
     ensures alone { IsBare seat.old → 1 ≤ tries → result ≢ Err Refusal.Contended }
     ensures len { length out.new ≡ length out.old }
     ensures own { Owned seat.new.known.limits seat.new.known.view }

@@ -70,7 +70,8 @@ impl<'a> Commons for WordCommons<'a> {
 
     /// Takes `tries * (n + 4) + 1` steps at most. The elements are reserved first, so that the walk over them is of this
     /// length; what was reserved is given back before any refusal. While another worker is within a call, its elements
-    /// may be in neither the length nor a hand, so `NoEntries` doesn't say that the pool has no more.
+    /// may be in neither the length nor a hand, so `NoEntries` doesn't say that the pool has no more. To a seat of every
+    /// part it does: the common list was shorter than `n` then.
     fn get_list(&mut self, out: &mut [u32]) -> Result<(), Refusal> {
         getting::get(self.ground, &mut self.seat, out, self.ground.limits().tries)
     }
@@ -91,12 +92,13 @@ impl<'a> Commons for WordCommons<'a> {
         counting::claim(self.ground, &mut self.seat, element);
     }
 
-    /// Takes one step.
+    /// Takes one step. A seat of every part is told how often it and the packets on full desks hold the element.
     fn count(&mut self, element: u32) -> u32 {
         counting::count(self.ground, &mut self.seat, element) as u32
     }
 
-    /// Takes `2 * tries` steps at most.
+    /// Takes `2 * tries` steps at most. Where a seat of every part is refused `RefSpent`, it and the packets on full desks
+    /// have as many holds of the element as the reference limit allows.
     fn raise(&mut self, element: u32) -> Result<(), Refusal> {
         let limits = self.ground.limits();
         counting::raise(self.ground, &mut self.seat, element, &limits)
@@ -119,7 +121,8 @@ impl<'a> Commons for WordCommons<'a> {
         desking::take(self.ground, &mut self.seat, desk)
     }
 
-    /// Takes one step.
+    /// Takes one step. A seat of every part is told the length of the common list: all that is neither in its hand nor
+    /// held by it or by packets on full desks.
     fn common_count(&mut self) -> u32 {
         counting::length(self.ground, &mut self.seat) as u32
     }

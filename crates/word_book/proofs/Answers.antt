@@ -1,6 +1,6 @@
 -- What a settling answers where there is no fault.
-use Rattle.std.proofs.Common.{◌≡◌, ◌≢◌, length, Result, Ok, Err, refl, ap, ◌∙◌, subst}
-use Rattle.std.specs.Prelude.{IfErr}
+use Rattle.std.proofs.Common.{◌≡◌, ◌≢◌, length, Result, Ok, Err, refl, sym, ap, ◌∙◌, subst}
+use Rattle.std.specs.Prelude.{IfErr, IfOk}
 use Rattle.commons.specs.declared.closed.Closed.{Closed}
 use Rattle.pool_model.specs.declared.statement.Statement.{Statement}
 use Rattle.snapshot.specs.declared.fault.Fault.{Fault}
@@ -9,12 +9,16 @@ use Rattle.book.specs.declared.settling.Unsettled.{Unsettled}
 use Rattle.book.specs.declared.settling.Unsettled.TheVariants.{MissingShare, OutOfMemory, Fault as HasFault}
 use Rattle.book.specs.Books.{AreShares, IsFull, shares_in}
 use Rattle.book.specs.Places.{Places}
-use Rattle.book.specs.Settling.{IsUnsettled}
+use Rattle.book.specs.Settling.{IsUnsettled, snapshot_with}
+use Rattle.snapshot.specs.Snapshots.{IsLawful, statement_in}
 use Rattle.word_book.specs.Leaving.{IsLeftWith}
+use Rattle.word_book.specs.Listing.{ListsPackets}
 use Rattle.word_book.proofs.Faultless.{faultless}
+use Rattle.word_book.proofs.Listed.{lists_packets}
 use Rattle.word_book.proofs.Wholes.{numbered}
 
-module _ (b : Places) (closed : Closed) (left : IsLeftWith b.limits closed (shares_in b.places)) (workers : length b.places ≡ b.limits.workers) (each : AreShares b.places) where
+module _ (b : Places) (closed : Closed) (left : IsLeftWith b.limits closed (shares_in b.places))
+    (workers : length b.places ≡ b.limits.workers) (each : AreShares b.places) where
   -- a fault is named of a full book alone
   none_named : (f : Fault) → IsUnsettled b closed (HasFault f) → HasFault f ≢ HasFault BadPacket → ⊥
   none_named f unsettled packets =
@@ -44,3 +48,10 @@ module _ (b : Places) (closed : Closed) (left : IsLeftWith b.limits closed (shar
       IfErr r (λ e. e.0 ≢ HasFault BadPacket) → IfErr r (λ e. e.0 ≡ OutOfMemory)
   memory_only (Ok s) full unsettled packets = tt
   memory_only (Err e) full unsettled packets = memory_alone e.0 full unsettled packets
+
+  -- a statement that is given lists packets
+  pub packets_listed : (r : Answer) → IfOk r (λ _. IsLawful (snapshot_with b closed)) →
+      IfOk r (λ s. s ≡ statement_in (snapshot_with b closed)) → IfOk r (λ s. ListsPackets b.limits s)
+  packets_listed (Ok s) law same =
+      subst (ListsPackets b.limits) (sym same) (lists_packets b.limits closed (shares_in b.places) left law)
+  packets_listed (Err e) law same = tt

@@ -12,6 +12,7 @@ ghost use Rattle.book.specs.Settling.{snapshot_with};
 ghost use Rattle.ground.specs.Own.{AtRest};
 ghost use Rattle.ground.specs.Seats.{IsOf};
 ghost use Rattle.word_book.specs.Leaving.{IsLeftWith, IsStatementOf};
+ghost use Rattle.word_book.specs.Listing.{ListsPackets};
 ghost use Rattle.word_book.specs.Shares.{AreSharesOf};
 
 use crate::settling::settle_words;
@@ -29,7 +30,8 @@ use std::alloc::Global;
 
 /// Closes a ground by the seat that has every part, and settles it with the shares of all its workers, which are what
 /// the seat has. What lies on full desks is nobody's share, and stands in the statement as theirs. The statement lists
-/// each element exactly once, and each packet has a place of its own.
+/// each element exactly once, and each packet has a place of its own. Each packet has 1 to 32 segments, each with its
+/// data within its buffer, and no count is above the reference limit.
 ///
 /// Refused `OutOfMemory` where memory was refused. The pool is ended then too, and nothing is left of it.
 pub fn settled(
@@ -46,6 +48,7 @@ pub fn settled(
     ensures statement { IfOk result (IsStatementOf ground.limits seat.known.view shares.items) }
     ensures once { IfOk result (λ s. ListsEachOnce s) }
     ensures places { IfOk result (λ s. PlacesEachOnce ground.limits s) }
+    ensures sound { IfOk result (λ s. ListsPackets ground.limits s) }
     ensures memory { IfErr result (λ e. e ≡ Refusal.OutOfMemory) }
 {
     let limits = ground.limits();
@@ -60,7 +63,8 @@ pub fn settled(
 }
 
 /// Settles what a ground of these limits left with the shares of all its workers. The statement is the one of the
-/// snapshot that they are.
+/// snapshot that they are. Each packet that it lists has 1 to 32 segments, each with its data within its buffer, and no
+/// count is above the reference limit.
 ///
 /// Refused `OutOfMemory` where memory was refused. Nothing is left of the pool then either.
 pub fn settled_parts(
@@ -75,6 +79,7 @@ pub fn settled_parts(
     ensures statement { IfOk result (λ s. s ≡ statement_in (snapshot_of limits.now closed shares.items)) }
     ensures once { IfOk result (λ s. ListsEachOnce s) }
     ensures places { IfOk result (λ s. PlacesEachOnce limits.now s) }
+    ensures sound { IfOk result (λ s. ListsPackets limits.now s) }
     ensures memory { IfErr result (λ e. e ≡ Refusal.OutOfMemory) }
 {
     match Book::make(alloc, limits) {
@@ -96,6 +101,7 @@ fn settled_book(alloc: Global, closed: Closed, book: Book) -> Result<Statement, 
     ensures statement { IfOk result (λ s. s ≡ statement_in (snapshot_with book closed)) }
     ensures once { IfOk result (λ s. ListsEachOnce s) }
     ensures places { IfOk result (λ s. PlacesEachOnce book.limits s) }
+    ensures sound { IfOk result (λ s. ListsPackets book.limits s) }
     ensures memory { IfErr result (λ e. e ≡ Refusal.OutOfMemory) }
 {
     match settle_words(alloc, closed, book) {

@@ -7,6 +7,7 @@ ghost use Rattle.snapshot.specs.declared.fault.Fault.{Fault};
 ghost use Rattle.book.specs.Books.{IsFull, IsLeastMissing, shares_in};
 ghost use Rattle.book.specs.Settling.{snapshot_with};
 ghost use Rattle.word_book.specs.Leaving.{IsLeftWith};
+ghost use Rattle.word_book.specs.Listing.{ListsPackets};
 
 use book::book::Book;
 use book::settling::{Unsettled, settle};
@@ -16,7 +17,8 @@ use std::alloc::Global;
 
 /// The statement of a pool on words and the shares in its book, which ends both: the shares are
 /// those of the seat that closed the ground, and a packet on a full desk is the desk's. It lists each
-/// element exactly once; what is available and what is in use are the population.
+/// element exactly once; what is available and what is in use are the population. Each packet that it lists has 1 to
+/// 32 segments, each with its data within its buffer, and no count is above the reference limit.
 ///
 /// Refused `MissingShare` of the least worker whose share isn't in the book, else `OutOfMemory` where
 /// memory was refused. What the ground left has no fault. It and the book are then handed back as they were.
@@ -34,6 +36,7 @@ pub fn settle_words(
     ensures statement { IfOk result (λ s. s ≡ statement_in (snapshot_with book closed)) }
     ensures once { IfOk result (λ s. ListsEachOnce s) }
     ensures places { IfOk result (λ s. PlacesEachOnce book.limits s) }
+    ensures sound { IfOk result (λ s. ListsPackets book.limits s) }
     ensures whole { IfOk result (λ s. s.available + s.in_use ≡ book.limits.population) }
     ensures back { IfErr result (λ e. (e.1 ≡ closed) × (e.2 ≡ book)) }
 {

@@ -56,7 +56,8 @@ last_joined one g all left m s p handed workers e idle seat packets shares =
     })
 
 -- and each seat that is joined to those behind it has what all of them have
-pub next_joined : OneShare → BothShares → (g : Grounded) (all before left : List Manned) (m : Manned) (s o t : Seated) (p : Member) (handed more : List Member) →
+pub next_joined : OneShare → BothShares → (g : Grounded) (all before left : List Manned) (m : Manned)
+    (s o t : Seated) (p : Member) (handed more : List Member) →
     AreJoined g all before s handed → before ≡ left ++ m ∷ [] → IsIdle m → o ≡ m.seat → p ≡ m.member →
     t ≡ record o { known = both o.known s.known } → more ≡ handed ++ p ∷ [] →
     AreJoined g all left t more

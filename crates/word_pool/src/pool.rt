@@ -7,6 +7,7 @@ ghost use Rattle.ground.specs.Own.{AtRest};
 ghost use Rattle.ground.specs.Rule.{first_known};
 ghost use Rattle.ground.specs.Seats.{IsOf};
 ghost use Rattle.pool_model.specs.Statements.{ListsEachOnce, PlacesEachOnce};
+ghost use Rattle.word_book.specs.Listing.{ListsPackets};
 ghost use Rattle.word_book.specs.Shares.{AreSharesOf};
 ghost use Rattle.word_pool.specs.inside.Crews.{IsUnused, new_member};
 ghost use Rattle.word_pool.specs.Workers.{AreNew, AreWorkers, IsStatementOfWorkers, members_of};
@@ -127,7 +128,8 @@ impl FreeSeat {
 
 /// Ends a pool whose workers act no more, and settles it: their seats become one, their packets are handed in, in the
 /// order of the workers' numbers, and the ground is closed. The statement lists each element exactly once, and each
-/// packet has a place of its own; it is the one of what the ground left and of these workers' caches and packets.
+/// packet has a place of its own; it is the one of what the ground left and of these workers' caches and packets. Each
+/// packet has 1 to 32 segments, each with its data within its buffer, and no count is above the reference limit.
 ///
 /// Refused `OutOfMemory` where memory was refused. The pool is ended then too, and nothing is left of it.
 pub fn settled(
@@ -139,6 +141,7 @@ pub fn settled(
     ensures statement { IfOk result (IsStatementOfWorkers ground workers.items) }
     ensures once { IfOk result (λ s. ListsEachOnce s) }
     ensures places { IfOk result (λ s. PlacesEachOnce ground.limits s) }
+    ensures sound { IfOk result (λ s. ListsPackets ground.limits s) }
     ensures memory { IfErr result (λ e. e ≡ Refusal.OutOfMemory) }
 {
     let Ok(shares) = Vec::with_capacity(alloc, workers.len()) else {

@@ -7,13 +7,12 @@ use super::kinds::{Kind, kind_of, name_of};
 use super::span::Span;
 use super::threads::{Run, Work, four, one, two};
 use crate::failures::Failure;
+use crate::figures::{Nanos, at};
 use commons::limits::Limits;
 use commons::shared::Commons;
 use ground::pool::Ground;
 use stack_lf::words::WordCommons;
 use std::alloc::{AllocError, Global};
-use std::fmt;
-use std::fmt::{Display, Formatter, Write};
 use std::io::Print;
 use std::thread::Threads;
 use std::time::{Clock, Instant};
@@ -207,21 +206,4 @@ fn print_cell<R: Print>(
     Ok(rt.println(format_args!(
         "{name:<8} {threads:>7} {cache:>6} {least} {median} {greatest} {refused:>16}"
     ))?)
-}
-
-fn at(picos: &[u64], place: usize) -> u64 {
-    match picos.get(place) {
-        Some(picos) => *picos,
-        None => 0,
-    }
-}
-
-/// Picoseconds, shown as nanoseconds with two decimals.
-#[derive(Clone, Copy)]
-struct Nanos(u64);
-
-impl Display for Nanos {
-    fn fmt<W: Write>(&self, f: &mut Formatter<W>) -> fmt::Result {
-        write!(f, "{:>6}.{:02}", self.0 / 1_000, self.0 % 1_000 / 10)
-    }
 }

@@ -4,6 +4,7 @@ use crate::command_line::Request;
 use crate::scripts::{Disk, Scripts, bytes_of};
 use crate::task::{Form, Task, Turns};
 use crate::{replay, report};
+use script::Grounds;
 use std::alloc::Global;
 use std::io::Read;
 use std::sync::Wait;
@@ -76,7 +77,7 @@ fn a_file_is_replayed_or_a_fault_or_cant_be_read(rt: HostRuntime) -> Result<(), 
     Ok(())
 }
 
-/// A run of one worker is its replay without the replies.
+/// A run of one worker is its replay without the replies, whatever its pool rests on.
 #[test]
 fn a_run_prints_where_each_element_is_at_the_end(rt: HostRuntime) -> Result<(), Fail> {
     let path = path(&rt, "run")?;
@@ -90,10 +91,17 @@ fn a_run_prints_where_each_element_is_at_the_end(rt: HostRuntime) -> Result<(), 
         ("pull 3\n", Form::Json, "fault 20 ScriptFault line 1\n"),
     ];
     for (script, form, text) in written {
-        fs::write(&rt, path.as_str(), script)?;
-        let told = outcome(&rt, &Disk(&rt), path.as_str(), Task::Run(turns, form))?;
-        fs::remove_file(&rt, path.as_str())?;
-        assert_eq!(rt; told.as_str(), text);
+        for grounds in [Grounds::Words, Grounds::Locked] {
+            fs::write(&rt, path.as_str(), script)?;
+            let told = outcome(
+                &rt,
+                &Disk(&rt),
+                path.as_str(),
+                Task::Run(grounds, turns, form),
+            )?;
+            fs::remove_file(&rt, path.as_str())?;
+            assert_eq!(rt; told.as_str(), text);
+        }
     }
     Ok(())
 }

@@ -4,6 +4,7 @@ use crate::command_line::request_of;
 use crate::failures::Failure;
 use crate::report;
 use crate::task::{Form, Task};
+use script::Grounds;
 use std::alloc::{AllocError, Global};
 use std::test::Fail;
 
@@ -15,7 +16,8 @@ fn line(alloc: Global, words: &[&str]) -> Result<Vec<String>, AllocError> {
     Ok(line)
 }
 
-/// What a task is called, in how many turns a line is tried, 0 where none are named, and its form.
+/// What a task is called, a run with what it rests on, in how many turns a line is tried, 0 where none are named, and its
+/// form.
 type Asked = (&'static str, u32, Form);
 
 /// Whether the words ask for this with this file.
@@ -25,7 +27,12 @@ fn asks_for(alloc: Global, words: &[&str], file: &str, asked: Asked) -> Result<b
         Ok(found) => {
             let task = match found.task {
                 Task::Replay(form) => ("replay", 0, form),
-                Task::Run(turns, form) => ("run", turns.count(), form),
+                Task::Run(Grounds::Words, turns, form) => ("run on words", turns.count(), form),
+                Task::Run(Grounds::Locked, turns, form) => (
+                    "run under a lock",
+                    turns.count(),
+                    form,
+                ),
                 Task::Steps => ("steps", 0, Form::Text),
             };
             found.file == file && task == asked
@@ -53,7 +60,7 @@ fn told(alloc: Global, words: &[&str]) -> Result<(String, String, u8, u8), Fail>
 
 #[test]
 fn words_name_a_file_or_are_wrong_or_ask_for_a_text(rt: HostRuntime) -> Result<(), Fail> {
-    let named: [(&[&str], &str, Asked); 10] = [
+    let named: [(&[&str], &str, Asked); 11] = [
         (
             &["replay", "a.script"],
             "a.script",
@@ -66,21 +73,26 @@ fn words_name_a_file_or_are_wrong_or_ask_for_a_text(rt: HostRuntime) -> Result<(
             "--json",
             ("replay", 0, Form::Text),
         ),
-        (&["run", "a"], "a", ("run", 1_000, Form::Text)),
+        (&["run", "a"], "a", ("run on words", 1_000, Form::Text)),
+        (
+            &["run", "a", "--ground", "words"],
+            "a",
+            ("run on words", 1_000, Form::Text),
+        ),
         (
             &["run", "a", "--ground", "locked"],
             "a",
-            ("run", 1_000, Form::Text),
+            ("run under a lock", 1_000, Form::Text),
         ),
         (
             &["run", "a", "--turns", "1", "--json"],
             "a",
-            ("run", 1, Form::Json),
+            ("run on words", 1, Form::Json),
         ),
         (
-            &["run", "--turns", "1000000", "a"],
+            &["run", "--turns", "1000000", "a", "--ground=locked"],
             "a",
-            ("run", 1_000_000, Form::Text),
+            ("run under a lock", 1_000_000, Form::Text),
         ),
         (
             &["steps", "aba.script"],
@@ -93,7 +105,7 @@ fn words_name_a_file_or_are_wrong_or_ask_for_a_text(rt: HostRuntime) -> Result<(
         assert!(rt; asks_for(rt.alloc(), words, file, asked)?);
     }
 
-    let wrong: [&[&str]; 19] = [
+    let wrong: [&[&str]; 22] = [
         &["steps"],
         &["steps", "a", "--json"],
         &["steps", "a", "b"],
@@ -102,7 +114,10 @@ fn words_name_a_file_or_are_wrong_or_ask_for_a_text(rt: HostRuntime) -> Result<(
         &["run", "a", "--turns", "1000001"],
         &["run", "a", "--turns", "-1"],
         &["run", "a", "--turns", "many"],
-        &["run", "a", "--ground", "words"],
+        &["run", "a", "--ground", "lists"],
+        &["run", "a", "--ground", ""],
+        &["run", "a", "--ground"],
+        &["replay", "a", "--ground", "words"],
         &["replay", "a", "--turns", "5"],
         &[],
         &["replay"],

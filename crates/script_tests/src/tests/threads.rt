@@ -1,4 +1,4 @@
-//! Workers in threads of their own, on a pool under a lock, and a book that threads put shares in.
+//! Workers in threads of their own, on words and under a lock, and a book that threads put shares in.
 
 ghost use Rattle.std.specs.Prelude.{◌≤◌};
 
@@ -22,8 +22,11 @@ use std::test::Fail;
 use std::thread;
 use std::thread::Threads;
 
+/// What the threads' pool may rest on.
+pub const GROUNDS: [Grounds; 2] = [Grounds::Words, Grounds::Locked];
+
 /// The most tries of a line, and the most looks of a gate that holds a worker.
-const TURNS: u32 = 1_000_000;
+pub const TURNS: u32 = 1_000_000;
 
 /// Two workers want desk 0, and two want desk 1.
 const FOUR_WORKERS: &str = "pool 16 workers 4 desks 2\n\
@@ -105,11 +108,27 @@ impl Gate for Meeting {
     fn after(&self, _worker: u32, _nth: u32) {}
 }
 
-/// Holds worker 2 ahead of its first line until worker 1's second line is done.
+/// Holds worker 2 ahead of its first line until worker 1's line of this number is done.
 #[derive(Drop)]
-struct Handover {
+pub struct Handover {
+    awaited: u32,
     done: AtomicU32,
     failed: AtomicBool,
+}
+
+impl Handover {
+    pub fn after(awaited: u32) -> Handover {
+        Handover {
+            awaited,
+            done: AtomicU32::new(0),
+            failed: AtomicBool::new(false),
+        }
+    }
+
+    /// Whether worker 2 went on though that line wasn't done.
+    pub fn failed(&self) -> bool {
+        self.failed.load(Ordering::SeqCst)
+    }
 }
 
 impl Gate for Handover {
@@ -120,7 +139,7 @@ impl Gate for Handover {
     }
 
     fn after(&self, worker: u32, nth: u32) {
-        if worker == 1 && nth == 2 {
+        if worker == 1 && nth == self.awaited {
             self.done.store(1, Ordering::SeqCst);
         }
     }
@@ -175,37 +194,44 @@ fn assert_four<R: Abort>(rt: &R, alloc: Global, statement: &Statement) -> Result
 }
 
 /// The statement of a text's script, with a thread for each worker.
-fn run<G: Gate, R: Threads + Wait + Sync + AllocGlobal>(
+pub fn run<G: Gate, R: Threads + Wait + Sync + AllocGlobal>(
     rt: &R,
     text: &str,
+    grounds: Grounds,
     turns: u32,
     gate: &G,
 ) -> Result<Statement, Fail>
     requires turns { 1 ≤ turns }
 {
     let script = parse(rt.alloc(), text.as_bytes())?;
-    Ok(run_threads(rt, rt.alloc(), &script, Grounds::Locked, turns, gate)?)
+    Ok(run_threads(rt, rt.alloc(), &script, grounds, turns, gate)?)
 }
 
 /// The row "four workers".
 #[test]
 fn of_four_workers_two_fill_the_desks(rt: HostRuntime) -> Result<(), Fail> {
-    for _ in 0..200 {
-        let statement = run(&rt, FOUR_WORKERS, 1, &OpenGate)?;
-        assert_four(&rt, rt.alloc(), &statement)?;
+    for grounds in GROUNDS {
+        for _ in 0..200 {
+            let statement = run(&rt, FOUR_WORKERS, grounds, 1, &OpenGate)?;
+            assert_four(&rt, rt.alloc(), &statement)?;
+        }
     }
     Ok(())
 }
 
 /// Two workers meet at a gate, and each makes a packet of its own.
-fn meet<R: Threads + Wait + Sync + Abort + AllocGlobal>(rt: &R, turns: u32) -> Result<(), Fail>
+fn meet<R: Threads + Wait + Sync + Abort + AllocGlobal>(
+    rt: &R,
+    grounds: Grounds,
+    turns: u32,
+) -> Result<(), Fail>
     requires turns { 1 ≤ turns }
 {
     let gate = Meeting {
         came: AtomicU32::new(0),
         failed: AtomicBool::new(false),
     };
-    let statement = run(rt, TWO_WORKERS, turns, &gate)?;
+    let statement = run(rt, TWO_WORKERS, grounds, turns, &gate)?;
     assert!(rt; !gate.failed.load(Ordering::SeqCst));
     let places = places_of(rt.alloc(), &statement)?;
     assert_eq!(rt; places.as_slice(), [(1, 0), (2, 0)].as_slice());
@@ -215,20 +241,24 @@ fn meet<R: Threads + Wait + Sync + Abort + AllocGlobal>(rt: &R, turns: u32) -> R
 /// The row "rendezvous".
 #[test]
 fn two_workers_meet_ahead_of_their_first_lines(rt: HostRuntime) -> Result<(), Fail> {
-    meet(&rt, 1)?;
-    meet(&rt, TURNS)
+    for grounds in GROUNDS {
+        meet(&rt, grounds, 1)?;
+        meet(&rt, grounds, TURNS)?;
+    }
+    Ok(())
 }
 
 /// A packet is on the desk before its taker's first line.
-fn hand_over<R: Threads + Wait + Sync + Abort + AllocGlobal>(rt: &R, turns: u32) -> Result<(), Fail>
+fn hand_over<R: Threads + Wait + Sync + Abort + AllocGlobal>(
+    rt: &R,
+    grounds: Grounds,
+    turns: u32,
+) -> Result<(), Fail>
     requires turns { 1 ≤ turns }
 {
-    let gate = Handover {
-        done: AtomicU32::new(0),
-        failed: AtomicBool::new(false),
-    };
-    let statement = run(rt, HANDED_OVER, turns, &gate)?;
-    assert!(rt; !gate.failed.load(Ordering::SeqCst));
+    let gate = Handover::after(2);
+    let statement = run(rt, HANDED_OVER, grounds, turns, &gate)?;
+    assert!(rt; !gate.failed());
     assert_eq!(rt; statement.available, 4);
     assert_eq!(rt; statement.common.as_slice(), [0, 1, 2, 3].as_slice());
     Ok(())
@@ -237,28 +267,46 @@ fn hand_over<R: Threads + Wait + Sync + Abort + AllocGlobal>(rt: &R, turns: u32)
 /// The row "handed over in time".
 #[test]
 fn a_packet_is_handed_over_in_time(rt: HostRuntime) -> Result<(), Fail> {
-    hand_over(&rt, 1)?;
-    hand_over(&rt, TURNS)
+    for grounds in GROUNDS {
+        hand_over(&rt, grounds, 1)?;
+        hand_over(&rt, grounds, TURNS)?;
+    }
+    Ok(())
 }
 
 /// 64 workers and 64 desks, whoever comes first.
-#[test]
-fn a_crowd_of_workers_leaves_each_element_once(rt: HostRuntime) -> Result<(), Fail> {
+fn crowd<R: Threads + Wait + Sync + Abort + AllocGlobal>(
+    rt: &R,
+    grounds: Grounds,
+) -> Result<(), Fail> {
     let text = written(rt.alloc(), CROWD)?;
     for _ in 0..100 {
-        let statement = run(&rt, text.as_str(), 1, &OpenGate)?;
-        assert_each_once(&rt, rt.alloc(), &statement, 100)?;
+        let statement = run(rt, text.as_str(), grounds, 1, &OpenGate)?;
+        assert_each_once(rt, rt.alloc(), &statement, 100)?;
     }
     Ok(())
+}
+
+#[test]
+fn a_crowd_of_workers_on_words_leaves_each_element_once(rt: HostRuntime) -> Result<(), Fail> {
+    crowd(&rt, Grounds::Words)
+}
+
+#[test]
+fn a_crowd_of_workers_under_a_lock_leaves_each_element_once(rt: HostRuntime) -> Result<(), Fail> {
+    crowd(&rt, Grounds::Locked)
 }
 
 /// Each of 64 workers waits for a packet, and each gets one.
 #[test]
 fn a_take_is_tried_until_the_packet_is_there(rt: HostRuntime) -> Result<(), Fail> {
     let text = written(rt.alloc(), CIRCLE)?;
-    let statement = run(&rt, text.as_str(), TURNS, &OpenGate)?;
-    assert_eq!(rt; (statement.available, statement.in_use), (64, 0));
-    assert_each_once(&rt, rt.alloc(), &statement, 64)
+    for grounds in GROUNDS {
+        let statement = run(&rt, text.as_str(), grounds, TURNS, &OpenGate)?;
+        assert_eq!(rt; (statement.available, statement.in_use), (64, 0));
+        assert_each_once(&rt, rt.alloc(), &statement, 64)?;
+    }
+    Ok(())
 }
 
 /// Plays the lines of the four workers, worker by worker.

@@ -1,7 +1,9 @@
-use Rattle.std.proofs.Common.{◌≡◌, ◌≤◌, ℕ, refl, sym, subst, arith}
+use Rattle.std.proofs.Common.{◌≡◌, ◌≤◌, ℕ, refl, sym, ap, subst, arith}
+use Rattle.commons.specs.declared.refusal.Refusal.TheVariants.{RefSpent}
 use Rattle.ground.specs.Seats.{Seated}
 use Rattle.stack_lf.specs.Leaves.{IsBare}
-use Rattle.stack_lf.specs.Tries.{IsLostRaise}
+use Rattle.stack_lf.specs.declared.tried.Tried.TheVariants as tried
+use Rattle.stack_lf.specs.Tries.{IsLostRaise, KnowsSpent}
 use Rattle.stack_lf.proofs.Composing.{AllLost, all_none}
 use Rattle.stack_lf.proofs.Tallying.{raise_lost, raise_won, raise_refused, raise_given_up, raise_not_contended}
 use Rattle.stack_lf.proofs.counting.raise_by_tries.Goals as goal
@@ -21,6 +23,12 @@ returns-in-Refused-clause-raised c =
     raise_refused c.args.limits.now c.args.element c.loop.counter c.args.seat.now c.loop.seat
     c.try_raise.new.seat c.in-Refused.cause c.loop-test.true c.loop.invariant.0
     c.in-Refused.ensures.one
+
+-- tries that lost left the view as it was, so what the last one knew was known before
+pub returns-in-Refused-clause-told : goal.returns-in-Refused-clause-told
+returns-in-Refused-clause-told c = λ e.
+    let same : c.in-Refused.cause ≡ RefSpent = search e in
+    subst (KnowsSpent c.args.element) c.loop.invariant.0.3 (c.in-Refused.ensures.told (ap tried.Refused same))
 
 -- a try is refused at the limit alone
 pub returns-in-Refused-clause-alone : goal.returns-in-Refused-clause-alone

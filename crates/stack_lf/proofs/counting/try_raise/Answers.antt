@@ -1,4 +1,5 @@
-use Rattle.std.proofs.Common.{ℕ, subst, refl, arith, [], ◌∷◌, false}
+use Rattle.commons.specs.declared.limits.Limits.{Limits}
+use Rattle.std.proofs.Common.{◌≡◌, ℕ, ap, subst, refl, arith, [], ◌∷◌, false}
 use Rattle.ground.specs.Seats.{Seated, KnowsCount}
 use Rattle.step_core.specs.declared.step.Step.TheVariants.{Sole, Raise}
 use Rattle.step_core.specs.declared.step.Outcome.TheVariants.{Value, Won, Lost}
@@ -6,6 +7,15 @@ use Rattle.stack_lf.specs.Tries.{Unraised, Raised}
 use Rattle.stack_lf.proofs.Bare.{count_bare}
 use Rattle.stack_lf.proofs.Composing.{one_more}
 use Rattle.stack_lf.proofs.counting.try_raise.Goals as goal
+
+-- the count that was read is the limit, at which a count is at most
+pub returns-then-limits-count-clause-told : goal.returns-then-limits-count-clause-told
+returns-then-limits-count-clause-told c = λ _.
+    let l = c.args.seat.now.known.limits in
+    let mine = ap (λ (k : Limits). k.ref_limit) c.requires.of.limits in
+    let given = ap (λ (k : Limits). k.ref_limit) c.requires.limits in
+    let spent : c.sole-count.result ≡ l.ref_limit = omega arith in
+    subst (KnowsCount l c.args.seat.now.known.view c.args.element) spent c.sole-count.ensures.known
 
 -- the count that was read is raised
 pub returns-in-Ok-clause-one : goal.returns-in-Ok-clause-one

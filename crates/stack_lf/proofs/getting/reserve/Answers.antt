@@ -1,7 +1,9 @@
-use Rattle.std.proofs.Common.{◌≡◌, ◌≤◌, ℕ, refl, sym, subst, arith}
+use Rattle.std.proofs.Common.{◌≡◌, ◌≤◌, ℕ, refl, sym, ap, subst, arith}
+use Rattle.commons.specs.declared.refusal.Refusal.TheVariants.{NoEntries}
 use Rattle.ground.specs.Seats.{Seated}
 use Rattle.stack_lf.specs.Leaves.{IsBare}
-use Rattle.stack_lf.specs.Tries.{IsMiss}
+use Rattle.stack_lf.specs.declared.tried.Tried.TheVariants as tried
+use Rattle.stack_lf.specs.Tries.{IsMiss, KnowsShort}
 use Rattle.stack_lf.proofs.Composing.{AllLost, all_none, reserve_lost, reserve_won, reserve_refused, reserve_given_up, not_contended}
 use Rattle.stack_lf.proofs.getting.reserve.Goals as goal
 
@@ -17,6 +19,12 @@ returns-in-Won-clause-reserves c = reserve_won _ _ _ _ _ _ c.loop-test.true c.lo
 pub returns-in-Refused-clause-reserves : goal.returns-in-Refused-clause-reserves
 returns-in-Refused-clause-reserves c = reserve_refused _ _ _ _ _ _ c.in-Refused.cause
     c.loop-test.true c.loop.invariant.0 c.in-Refused.ensures.one
+
+-- tries that lost left the view as it was, so what the last one knew was known before
+pub returns-in-Refused-clause-told : goal.returns-in-Refused-clause-told
+returns-in-Refused-clause-told c = λ e.
+    let same : c.in-Refused.cause ≡ NoEntries = search e in
+    subst (KnowsShort c.args.n) c.loop.invariant.0.3 (c.in-Refused.ensures.told (ap tried.Refused same))
 
 -- a try is refused for a short length alone
 pub returns-in-Refused-clause-alone : goal.returns-in-Refused-clause-alone

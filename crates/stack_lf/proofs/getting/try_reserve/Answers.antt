@@ -15,6 +15,11 @@ returns-then-length-n-clause-one c = (
   c.load_length-length.ensures.step,
 )
 
+-- which is what a seat of every part knows
+pub returns-then-length-n-clause-told : goal.returns-then-length-n-clause-told
+returns-then-length-n-clause-told c = λ _.
+    (c.load_length-length.result, c.if-length-n.true, c.load_length-length.ensures.known)
+
 -- n are taken off the length that was read
 pub returns-in-Ok-clause-one : goal.returns-in-Ok-clause-one
 returns-in-Ok-clause-one c =

@@ -6,6 +6,7 @@ use Rattle.word_pool.specs.Workers.{Manned}
 use Rattle.word_pool.proofs.Crews.{new_is_own}
 use Rattle.word_pool.proofs.pool.add_worker.Goals as goal
 
+-- a worker who has nothing has packets of its own over a seat that names nothing
 pub new-requires-clause-own : goal.new-requires-clause-own
 new-requires-clause-own c =
     new_is_own c.args.limits.now c.args.number c.args.seat c.in-Ok.packets c.in-Ok.ensures.ok c.requires.unused

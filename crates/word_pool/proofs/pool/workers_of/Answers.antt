@@ -5,6 +5,7 @@ use Rattle.word_pool.specs.inside.Crews.{AreFirst, IsUnused}
 use Rattle.word_pool.proofs.Crews.{all_new, all_workers, last_more, one_more, part_unused, rest_of, rest_unused}
 use Rattle.word_pool.proofs.pool.workers_of.Goals as goal
 
+-- the seat that is split off is the next worker's, and what is left of the first has a part less
 pub loop-number-preserved : goal.loop-number-preserved
 loop-number-preserved c =
     let g = c.args.ground.now in

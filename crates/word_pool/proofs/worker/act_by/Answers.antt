@@ -22,6 +22,7 @@ returns-clause-idle c =
           (sym c.into_seat.ensures.seat) c.perform-reply.ensures.own;
     }
 
+-- what the calls did over the words is what the act did to seat and packets
 pub returns-clause-acts : goal.returns-clause-acts
 returns-clause-acts c =
     let made = c.perform-reply.ensures.calls.0 in

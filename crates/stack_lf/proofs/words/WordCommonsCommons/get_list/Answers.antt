@@ -14,7 +14,7 @@ returns c =
     let got =
     subst (λ (l : Limits). Gets l.tries n c.get.new.out c.get.result me.seat c.get.new.seat)
     same c.get.ensures.got in
-    let d = get_did n c.get.new.out c.get.result me.seat c.get.new.seat got (search rules) in
+    let d = get_did n c.get.new.out c.get.result me.seat c.get.new.seat got (search rules) c.get.ensures.told in
     record {
       did = record {
         readings = d.readings;

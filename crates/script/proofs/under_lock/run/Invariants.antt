@@ -1,5 +1,5 @@
 use Rattle.std.specs.Prelude.{◌≡◌}
-use Rattle.script.proofs.threaded.run_threads.Given as goal
+use Rattle.script.proofs.under_lock.run.Given as goal
 
 -- the pool under the lock is of the script's limits
 abbrev pub ghosts-run_locked : goal.ghosts-run_locked

@@ -1,0 +1,43 @@
+-- What acts make of a new pool lists sound packets, and the statement is of what acts made.
+use Rattle.std.proofs.Common.{ℕ, ◌≡◌, List, Result, Ok, Err, IfOk, sym, subst}
+use Rattle.commons.specs.declared.limits.Limits.{Limits}
+use Rattle.commons.specs.declared.refusal.Refusal.{Refusal}
+use Rattle.mbuf.specs.declared.acts.Act.{Act}
+use Rattle.pool_model.specs.PacketModel.{after_acts}
+use Rattle.pool_model.specs.Pool.{new_pool}
+use Rattle.pool_model.specs.Sound.{ListsSoundPackets}
+use Rattle.pool_model.specs.Statements.{statement_of}
+use Rattle.pool_model.specs.declared.statement.Statement.{Statement}
+use Rattle.word_book.specs.Listing.{ListsPackets}
+use Rattle.script.proofs.under_lock.run.Goals as goal
+
+-- what is true of each statement that acts come to is true of this one
+of_acts : (l : Limits) (P : Statement → Type 0) →
+    ((acts : List (ℕ × Act)) → P (statement_of (after_acts acts (new_pool l)))) →
+    (r : Result Statement Refusal) → IfOk r (λ s. (acts : List (ℕ × Act)) × (s ≡ statement_of (after_acts acts (new_pool l)))) → IfOk r P
+of_acts l P all (Ok s) h = subst P (sym h.1) (all h.0)
+of_acts l P all (Err e) h = tt
+
+-- a packet of a pool is a packet
+listed : (l : Limits) (s : Statement) → ListsSoundPackets l s → ListsPackets l s
+listed l s sound = record {
+  in_slots = λ k d b. (sound.in_slots k d b).packet;
+  on_desks = λ k d b. (sound.on_desks k d b).packet;
+  counts = sound.counts;
+}
+
+-- acts of a new pool led to the end, and acts leave packets sound
+pub returns-clause-sound : goal.returns-clause-sound
+returns-clause-sound g c =
+    let l = c.args.script.now.limits in
+    of_acts l (ListsSoundPackets l) (λ acts. c.acts_leave_packets_sound.ensures.stated l acts c.args.script.now.pool)
+    c.run_locked.result c.run_locked.ensures.reached
+
+-- so what is listed are packets
+pub returns-clause-packets : goal.returns-clause-packets
+returns-clause-packets g c =
+    let l = c.args.script.now.limits in
+    of_acts l (ListsPackets l)
+    (λ acts. listed l (statement_of (after_acts acts (new_pool l)))
+        (c.acts_leave_packets_sound.ensures.stated l acts c.args.script.now.pool))
+    c.run_locked.result c.run_locked.ensures.reached

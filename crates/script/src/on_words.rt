@@ -1,0 +1,106 @@
+//! A run in threads on the words of a ground, without a lock.
+
+ghost use Rattle.std.specs.Prelude.{All, ◌≡◌, ◌<◌, ◌≤◌, length, IfOk, IfErr};
+ghost use Rattle.ground.specs.Seats.{IsOf};
+ghost use Rattle.pool_model.specs.Statements.{ListsEachOnce, PlacesEachOnce};
+ghost use Rattle.script.specs.Running.{EndsOnWords};
+ghost use Rattle.word_book.specs.Listing.{ListsPackets};
+ghost use Rattle.word_pool.specs.Workers.{AllStay, Stays};
+
+use crate::acting::{Actor, perform_lines};
+use crate::gate::Gate;
+use commons::refusal::Refusal;
+use ground::pool::Ground;
+use mbuf::acts::{Act, Reply};
+use pool_model::statement::Statement;
+use script_text::commands::Script;
+use std::alloc::Global;
+use std::sync::atomic::{AtomicBool, Ordering};
+use std::thread;
+use std::thread::Threads;
+use word_pool::laws;
+use word_pool::pool::{make, settled};
+use word_pool::worker::WordWorker;
+
+impl Actor<Ground> for WordWorker {
+    ghost acts_for = { λ shared worker. IsOf shared worker.seat };
+
+    ghost stays = { Stays };
+
+    fn act(&mut self, pool: &Ground, act: Act) -> Reply {
+        self.act(pool, act)
+    }
+}
+
+/// Plays a script with a thread for each worker, on the words of a ground: no act waits for another. Ends the pool once all
+/// have ended, and settles it.
+///
+/// Refused `OutOfMemory` where memory was refused, and for no other cause. The lines of a thread that can't be started
+/// are played by the one that would have started it.
+pub(crate) fn run<G: Gate, R: Threads + Sync>(
+    rt: &R,
+    alloc: Global,
+    script: &Script,
+    turns: u32,
+    gate: &G,
+) -> Result<Statement, Refusal>
+    requires turns { 1 ≤ turns }
+    ensures ended { IfOk result (EndsOnWords script.now.limits) }
+    ensures once { IfOk result (λ s. ListsEachOnce s) }
+    ensures places { IfOk result (λ s. PlacesEachOnce script.now.limits s) }
+    ensures packets { IfOk result (λ s. ListsPackets script.now.limits s) }
+    ensures memory { IfErr result (λ e. e ≡ Refusal.OutOfMemory) }
+{
+    laws::workers_who_stay_are_all();
+    let (ground, mut workers) = make(alloc, &script.limits)?;
+    if !play(
+        rt,
+        alloc,
+        &ground,
+        workers.as_mut_slice(),
+        script,
+        turns,
+        gate,
+    ) {
+        return Err(Refusal::OutOfMemory);
+    }
+    settled(alloc, ground, workers)
+}
+
+/// Lets each worker perform its lines, in a thread of its own where one can be started, and returns once each has. False
+/// where memory was refused.
+fn play<G: Gate, R: Threads + Sync>(
+    rt: &R,
+    alloc: Global,
+    ground: &Ground,
+    workers: &mut [WordWorker],
+    script: &Script,
+    turns: u32,
+    gate: &G,
+) -> bool
+    requires turns { 1 ≤ turns }
+    requires some { 0 < length workers.old }
+    requires few { length workers.old ≤ 64 }
+    requires of { All (λ worker. IsOf ground.now worker.seat) workers.old }
+    ensures stay { AllStay workers.old workers.new }
+{
+    let refused = AtomicBool::new(false);
+    let noted = &refused;
+    let lines = script.lines.as_slice();
+    let threads = workers.len();
+    thread::for_each_mut(
+        rt,
+        workers,
+        threads,
+        &|index: usize, worker: &mut WordWorker|
+            requires { (1 ≤ turns) × (index < 64) × IsOf ground.now worker.now.seat }
+            ensures { Stays worker.entry.now worker.exit.now }
+        {
+            let number = index as u32 + 1;
+            if !perform_lines(alloc, ground, worker, lines, number, turns, gate) {
+                noted.store(true, Ordering::SeqCst);
+            }
+        },
+    );
+    !refused.load(Ordering::SeqCst)
+}

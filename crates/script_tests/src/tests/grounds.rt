@@ -1,0 +1,139 @@
+//! Runs in threads that come to one statement, whichever ground the pool rests on.
+
+ghost use Rattle.std.specs.Prelude.{◌≤◌};
+
+use super::threads::{GROUNDS, Handover, TURNS, run};
+use commons::refusal::Refusal;
+use script::{Grounds, OpenGate, replay, run_script, statement_text};
+use script_rows::parts::written;
+use script_rows::pools::FIRST_RUN;
+use script_rows::{Row, built, caches, desks, packets, pools, sharing};
+use script_text::parse;
+use std::alloc::Global;
+use std::process::Abort;
+use std::sync::Wait;
+use std::test::Fail;
+use std::thread::Threads;
+
+/// A packet of some length goes from one worker to another.
+const IN_TRANSIT: &str = "pool 4 workers 2 desks 1\nalloc a\nappend a 7\noffer a 0\n2: take 0 x\n";
+
+/// Where each element is at its end.
+const IN_TRANSIT_END: &str = "population 4\navailable 3\nin use 1\ncommon 3: 1 2 3\n\
+    cache 1 0:\ncache 2 0:\npacket 2 0 segs 1 len 7: 0@128+7/2048\nheld 0 count 1: 2\n";
+
+/// Where each element is at the end of the first run.
+const FIRST_END: &str = "population 3\navailable 2\nin use 1\ncommon 2: 0 2\ncache 1 0:\n\
+    packet 1 1 segs 1 len 0: 1@128+0/2048\nheld 1 count 1: 1\n";
+
+/// The packet is on the desk before its taker's first line.
+fn pass_on<R: Threads + Wait + Sync + Abort + AllocGlobal>(
+    rt: &R,
+    grounds: Grounds,
+    turns: u32,
+) -> Result<(), Fail>
+    requires turns { 1 ≤ turns }
+{
+    let gate = Handover::after(3);
+    let statement = run(rt, IN_TRANSIT, grounds, turns, &gate)?;
+    assert!(rt; !gate.failed());
+    let text = String::from_utf8(statement_text(rt.alloc(), &statement)?)?;
+    assert_eq!(rt; text.as_str(), IN_TRANSIT_END, "on {grounds:?}");
+    Ok(())
+}
+
+/// The row "lengths in transit".
+#[test]
+fn a_packet_keeps_its_length_on_its_way(rt: HostRuntime) -> Result<(), Fail> {
+    for grounds in GROUNDS {
+        pass_on(&rt, grounds, 1)?;
+        pass_on(&rt, grounds, TURNS)?;
+    }
+    Ok(())
+}
+
+/// Where each element is at the end of a script's replay.
+fn end_of_replay(alloc: Global, text: &str) -> Result<String, Fail> {
+    let script = parse(alloc, text.as_bytes())?;
+    let (_replies, statement) = replay(alloc, &script)?;
+    Ok(String::from_utf8(statement_text(alloc, &statement)?)?)
+}
+
+/// Runs a script of one worker on each ground, where it has to end as its replay does. Whether it is one.
+fn assert_ends_as_its_replay<R: Threads + Wait + Sync + Abort + AllocGlobal>(
+    rt: &R,
+    text: &str,
+    name: &str,
+) -> Result<bool, Fail> {
+    if parse(rt.alloc(), text.as_bytes())?.limits.workers > 1 {
+        return Ok(false);
+    }
+    let wanted = end_of_replay(rt.alloc(), text)?;
+    for grounds in GROUNDS {
+        let statement = run(rt, text, grounds, 1, &OpenGate)?;
+        let end = String::from_utf8(statement_text(rt.alloc(), &statement)?)?;
+        assert_eq!(rt;
+            end.as_str(),
+            wanted.as_str(),
+            "the row {name} on {grounds:?}"
+        );
+    }
+    Ok(true)
+}
+
+/// How many of the rows are scripts of one worker; each of these ends as its replay does.
+fn end_rows<R: Threads + Wait + Sync + Abort + AllocGlobal>(
+    rt: &R,
+    rows: &[Row],
+) -> Result<u32, Fail> {
+    let mut ended = 0u32;
+    for (name, text, _) in rows {
+        if assert_ends_as_its_replay(rt, text, name)? {
+            ended = ended.saturating_add(1);
+        }
+    }
+    Ok(ended)
+}
+
+#[test]
+fn a_script_of_one_worker_ends_on_either_ground_as_its_replay(rt: HostRuntime) -> Result<(), Fail> {
+    let mut ended = 0u32;
+    for rows in [
+        pools::ROWS,
+        caches::ROWS,
+        packets::ROWS,
+        sharing::ROWS,
+        desks::ROWS,
+    ] {
+        ended = ended.saturating_add(end_rows(&rt, rows)?);
+    }
+    for (name, parts, _) in built::ROWS {
+        let text = written(rt.alloc(), parts)?;
+        if assert_ends_as_its_replay(&rt, text.as_str(), name)? {
+            ended = ended.saturating_add(1);
+        }
+    }
+    assert!(rt; ended > 30, "{ended} rows have one worker");
+    Ok(())
+}
+
+/// Where each element is at the end of the first run, or why it wasn't run.
+fn first_end<R: Threads + Wait + Sync>(
+    rt: &R,
+    alloc: Global,
+    grounds: Grounds,
+) -> Result<Vec<u8>, Refusal> {
+    let statement = run_script(rt, alloc, FIRST_RUN.as_bytes(), grounds, 1)?;
+    statement_text(alloc, &statement)
+}
+
+/// Whichever request for memory is refused, a run of one worker comes to the same statement, or to none.
+#[test]
+fn refused_memory_changes_no_run(rt: HostRuntime) {
+    for grounds in GROUNDS {
+        match first_end(&rt, rt.alloc(), grounds) {
+            Ok(text) => assert_eq!(rt; text.as_slice(), FIRST_END.as_bytes()),
+            Err(refusal) => assert_eq!(rt; refusal, Refusal::OutOfMemory),
+        }
+    }
+}
