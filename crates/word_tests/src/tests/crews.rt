@@ -15,6 +15,8 @@ use word_pool::worker::WordWorker;
 pub(super) struct Tally {
     /// How many acts there were.
     pub calls: u64,
+    /// How many packets were made, one by one.
+    pub made: u64,
     /// How many packets were left on a desk.
     pub left: u64,
     /// How many packets were taken off a desk.
@@ -32,7 +34,10 @@ impl Tally {
     /// The slot of a packet that was made. None where too few elements were left, or others were in the way.
     fn slot(&mut self, reply: &Reply) -> Option<Pid> {
         match reply {
-            Reply::Allocated(slot, _) | Reply::Cloned(slot, _) => Some(*slot),
+            Reply::Allocated(slot, _) | Reply::Cloned(slot, _) => {
+                self.made = self.made.saturating_add(1);
+                Some(*slot)
+            }
             Reply::Refused(Refusal::NoEntries | Refusal::Contended) => None,
             _ => {
                 self.note_wrong();
@@ -46,6 +51,7 @@ impl Tally {
 #[derive(Drop)]
 pub(super) struct Tallies {
     calls: AtomicU64,
+    made: AtomicU64,
     left: AtomicU64,
     taken: AtomicU64,
     wrong: AtomicU64,
@@ -56,6 +62,7 @@ impl Tallies {
     pub(super) fn new() -> Tallies {
         Tallies {
             calls: AtomicU64::new(0),
+            made: AtomicU64::new(0),
             left: AtomicU64::new(0),
             taken: AtomicU64::new(0),
             wrong: AtomicU64::new(0),
@@ -65,6 +72,7 @@ impl Tallies {
     /// Adds what is told of one worker's.
     pub(super) fn add(&self, tally: &Tally) {
         self.calls.fetch_add(tally.calls, Ordering::SeqCst);
+        self.made.fetch_add(tally.made, Ordering::SeqCst);
         self.left.fetch_add(tally.left, Ordering::SeqCst);
         self.taken.fetch_add(tally.taken, Ordering::SeqCst);
         self.wrong.fetch_add(tally.wrong, Ordering::SeqCst);
@@ -74,6 +82,7 @@ impl Tallies {
     pub(super) fn all(&self) -> Tally {
         Tally {
             calls: self.calls.load(Ordering::SeqCst),
+            made: self.made.load(Ordering::SeqCst),
             left: self.left.load(Ordering::SeqCst),
             taken: self.taken.load(Ordering::SeqCst),
             wrong: self.wrong.load(Ordering::SeqCst),

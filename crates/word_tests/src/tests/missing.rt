@@ -8,6 +8,7 @@ use super::players::{FreeSeat, Player, Retired};
 use super::settling::Ending;
 use super::{assert_each_once, assert_holds};
 use book::settling::Unsettled;
+use commons::refusal::Refusal;
 use ground::pool::Ground;
 use pool_model::statement::Statement;
 use script::names::Names;
@@ -72,6 +73,9 @@ fn played(
 /// The end of the pool, once each worker has played its lines. The share of worker 3 is handed in, or isn't.
 fn end_of(alloc: Global, third_is_missing: bool) -> Result<Result<Statement, Unsettled>, Fail> {
     let script = parse(alloc, SCRIPT.as_bytes())?;
+    if script.limits.workers != 4 {
+        return Err(Fail::from(Refusal::BadPool));
+    }
     let (ground, seat) = Ground::make(alloc, &script.limits)?;
     let mut first = FreeSeat { seat };
     let second = FreeSeat {

@@ -27,6 +27,9 @@ const CROWD: u32 = 64;
 /// How many calls each worker makes, at least: a million in all.
 const CALLS: u64 = 15_625;
 
+/// How many packets go from worker to worker, at least.
+const TAKEN: u64 = 10_000;
+
 /// How often a worker tries to get its first elements.
 const TRIES: u32 = 1_000;
 
@@ -261,6 +264,7 @@ fn passed<R: Threads + Sync + Abort>(
     let told = tallies.all();
     assert_eq!(rt; told.wrong, 0, "calls that were refused for another cause");
     assert!(rt; told.calls >= 1_000_000, "{} calls", told.calls);
+    assert!(rt; told.taken >= TAKEN, "{} packets were taken", told.taken);
     let on_desks = statement.desks.len() as u64;
     assert_eq!(rt;
         told.left,
