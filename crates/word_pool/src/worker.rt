@@ -3,6 +3,7 @@
 ghost use Rattle.std.specs.Prelude.{◌≡◌, [], None, Some};
 ghost use Rattle.ground.specs.Own.{AtRest};
 ghost use Rattle.ground.specs.Seats.{IsOf};
+ghost use Rattle.mbuf.specs.Acts.{HasRoom, as_reply};
 ghost use Rattle.mbuf.specs.Own.{Own};
 ghost use Rattle.stack_lf.specs.Sides.{side_of};
 ghost use Rattle.word_pool.specs.Workers.{Acts, IsIdle};
@@ -10,7 +11,7 @@ ghost use Rattle.word_pool.specs.Workers.{Acts, IsIdle};
 use ground::pool::Ground;
 use ground::seat::GroundSeat;
 use mbuf::acts;
-use mbuf::acts::{Act, Reply};
+use mbuf::acts::{Act, Answer, Reply};
 use mbuf::packets::Packets;
 use stack_lf::words::WordCommons;
 use std::marker::Model;
@@ -89,6 +90,16 @@ impl WordWorker {
         requires of { IsOf ground.now self.old.seat }
         ensures { Acts act self.old result self.new }
     {
+        self.act_in(ground, act)
+    }
+
+    /// Does what `act` does, and answers with room for a bulk of `ROOM` packets: with none the answer is small, and
+    /// nothing of a bulk's room is filled.
+    pub fn act_in<const ROOM: usize>(&mut self, ground: &Ground, act: Act) -> Answer<ROOM>
+        requires room { HasRoom ROOM act }
+        requires of { IsOf ground.now self.old.seat }
+        ensures { Acts act self.old (as_reply result) self.new }
+    {
         let Some(seat) = self.seat.take() else {
             unreachable!()
         };
@@ -99,17 +110,23 @@ impl WordWorker {
 }
 
 /// Lets the worker of this seat and these packets do this.
-fn act_by(ground: &Ground, seat: GroundSeat, packets: &mut Packets, act: Act) -> (Reply, GroundSeat)
+fn act_by<const ROOM: usize>(
+    ground: &Ground,
+    seat: GroundSeat,
+    packets: &mut Packets,
+    act: Act,
+) -> (Answer<ROOM>, GroundSeat)
+    requires room { HasRoom ROOM act }
     requires of { IsOf ground.now seat }
     requires rest { AtRest seat.known.view }
     requires slots { seat.slots ≡ [] }
     requires own { Own packets.old (side_of seat) }
     ensures idle { IsIdle (record { seat = result.1; member = packets.new }) }
-    ensures acts { Acts act (record { seat = seat; member = packets.old }) result.0
+    ensures acts { Acts act (record { seat = seat; member = packets.old }) (as_reply result.0)
         (record { seat = result.1; member = packets.new }) }
 {
     let mut c = WordCommons::new(ground, seat);
-    let reply = acts::perform(packets, &mut c, act);
+    let reply = acts::perform_in(packets, &mut c, act);
     (reply, c.into_seat())
 }
 

@@ -2,10 +2,11 @@
 
 ghost use Rattle.std.specs.Prelude.{◌≡◌};
 ghost use Rattle.ground.specs.Seats.{IsOf};
+ghost use Rattle.mbuf.specs.Acts.{HasRoom};
 
 use super::hands::Hands;
 use ground::pool::Ground;
-use mbuf::acts::{Act, Reply};
+use mbuf::acts::{Act, Answer};
 use word_pool::worker::WordWorker;
 
 /// A worker of which one packet at most stands, in slot 0.
@@ -24,33 +25,35 @@ impl<'a> Acted<'a> {
         Acted { ground, worker }
     }
 
-    /// Lets the worker do this.
-    fn act(&mut self, act: Act) -> Reply {
-        self.worker.act(self.ground, act)
+    /// Lets the worker do this, which is no bulk.
+    fn act(&mut self, act: Act) -> Answer<0>
+        requires { HasRoom 0 act }
+    {
+        self.worker.act_in(self.ground, act)
     }
 }
 
 impl<'a> Hands for Acted<'a> {
     fn make_packet(&mut self) -> bool {
-        matches!(self.act(Act::Alloc), Reply::Allocated(_, _))
+        matches!(self.act(Act::Alloc), Answer::Allocated(_, _))
     }
 
     fn offer(&mut self, desk: u32) -> bool {
-        matches!(self.act(Act::Offer(0, desk)), Reply::Offered)
+        matches!(self.act(Act::Offer(0, desk)), Answer::Offered)
     }
 
     fn take(&mut self, desk: u32) -> Option<u32> {
         match self.act(Act::Take(desk)) {
-            Reply::Taken(_slot, _segments, bytes) => Some(bytes),
+            Answer::Taken(_slot, _segments, bytes) => Some(bytes),
             _ => None,
         }
     }
 
     fn mark(&mut self) -> bool {
-        matches!(self.act(Act::Append(0, 1)), Reply::Len(_))
+        matches!(self.act(Act::Append(0, 1)), Answer::Len(_))
     }
 
     fn free_packet(&mut self) -> bool {
-        matches!(self.act(Act::Free(0)), Reply::Freed(_))
+        matches!(self.act(Act::Free(0)), Answer::Freed(_))
     }
 }
