@@ -39,5 +39,5 @@ returns-clause-packets g c =
     let l = c.args.script.now.limits in
     of_acts l (ListsPackets l)
     (λ acts. listed l (statement_of (after_acts acts (new_pool l)))
-        (c.acts_leave_packets_sound.ensures.stated l acts c.args.script.now.pool))
+    (c.acts_leave_packets_sound.ensures.stated l acts c.args.script.now.pool))
     c.run_locked.result c.run_locked.ensures.reached
