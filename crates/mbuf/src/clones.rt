@@ -1,6 +1,6 @@
 //! Segments that use another's buffer: attached, and cloned one after another.
 
-ghost use Rattle.std.specs.Prelude.{◌≡◌, ◌≢◌, ◌<◌, ◌≤◌, ◌+◌, [], ◌∷◌, ◌++◌, ℕ, List, length, map, take, Ok, Err, OnOk, OnErr, IfOk, MatchResult, slice_index_or, slice_set, vec_len};
+ghost use Rattle.std.specs.Prelude.{◌≡◌, ◌≢◌, ◌<◌, ◌≤◌, ◌+◌, ◌⊎◌, [], ◌∷◌, ◌++◌, ℕ, List, length, map, take, Ok, Err, OnOk, OnErr, IfOk, MatchResult, slice_index_or, slice_set, vec_len};
 ghost use Rattle.commons.specs.Bag.{bag, one};
 ghost use Rattle.commons.specs.Calls.{Calls, IsRaise};
 ghost use Rattle.commons.specs.Packets.{HasItsData, IsPacket, hold_of, holds_of_packet, holds_of_seg, max_segs};
@@ -17,6 +17,7 @@ use commons::shared::Commons;
 use mempool::worker::Worker;
 
 /// The direct element whose buffer a segment uses.
+#[inline(always)]
 fn buffer_of(seg: Seg) -> u32
     ensures { result ≡ buffer seg }
 {
@@ -24,6 +25,7 @@ fn buffer_of(seg: Seg) -> u32
 }
 
 /// A segment of this element that uses another's buffer, with its lengths.
+#[inline(always)]
 fn attached(elem: u32, target: Seg) -> Seg
     requires { HasItsData target }
     ensures seg { result ≡ attached_seg elem target }
@@ -66,6 +68,7 @@ struct Stop {
 }
 
 /// Clones a segment: gets an element, claims it, and lets it use the segment's buffer.
+#[inline(always)]
 fn clone_seg<C: Commons>(worker: &mut Worker, c: &mut C, seg: Seg) -> Result<Seg, Stop>
     requires limits { (C.side c.old).limits ≡ worker.old.limits }
     requires hand { (i : ℕ) → (C.side c.old).hand i ≡ bag worker.old.cache i }
@@ -121,17 +124,31 @@ fn give_up<C: Commons>(worker: &mut Worker, c: &mut C, segs: &[Seg], over: Optio
     }
 }
 
-/// Lets a segment follow the first `count` of a packet, as its last.
+/// Lets a segment follow the first `count` of a packet, in the place of the next one, or as its last.
+#[inline(always)]
 fn follow(packet: &mut Packet, count: usize, seg: Seg)
-    requires all { 0 < count → length packet.old ≡ count }
+    requires there { count ≤ length packet.old }
     requires room { count < max_segs }
     requires data { HasItsData seg }
-    ensures { packet.new ≡ take count packet.old ++ seg ∷ [] }
+    ensures next { take (count + 1) packet.new ≡ take count packet.old ++ seg ∷ [] }
+    ensures grown { (length packet.new ≡ length packet.old) ⊎ (length packet.new ≡ count + 1) }
+    ensures there { count < length packet.new }
 {
-    if count == 0 {
-        packet.restart(seg);
+    if count < packet.segs().len() {
+        packet.set(count, seg);
     } else {
         packet.push(seg);
+    }
+}
+
+/// Lets a packet have so many segments at most, whatever they are: a longer one is cut to one.
+#[inline(always)]
+fn cut_to(packet: &mut Packet, most: usize)
+    requires { 1 ≤ most }
+    ensures { length packet.new ≤ most }
+{
+    if packet.segs().len() > most {
+        packet.restart(Seg::default());
     }
 }
 
@@ -171,7 +188,10 @@ pub fn clone_segs<C: Commons>(
     ensures limits { (C.side c.new).limits ≡ (C.side c.old).limits }
     ensures number { KeepsNumber worker.old worker.new }
 {
-    for index in 0..packets[source].segs().len() {
+    let count = packets[source].segs().len();
+    // What stood there last stays in its place, and is written over.
+    cut_to(&mut packets[slot], count);
+    for index in 0..count {
         let seg = packets[source].segs()[index];
         match clone_seg(worker, c, seg) {
             Ok(new) => follow(&mut packets[slot], index, new),

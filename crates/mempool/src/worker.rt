@@ -2,7 +2,9 @@
 
 ghost use Rattle.std.specs.Prelude.{◌≡◌, ◌<◌, ◌≤◌, ◌+◌, ◌-◌, ◌++◌, ℕ, List, length, take, drop, reverse, OnOk, OnErr, IsOk, vec_len, vec_capacity};
 ghost use Rattle.commons.specs.Bag.{bag, one};
+ghost use Rattle.commons.specs.Bounds.{max_cache};
 ghost use Rattle.commons.specs.Calls.{Calls, with_list};
+ghost use Rattle.mempool.specs.inside.Kept.{IsFlushLength};
 
 use crate::put::Put;
 use crate::steps;
@@ -18,6 +20,8 @@ pub struct Worker {
     limits: Limits,
     number: u32,
     cache: Vec<u32>,
+    /// From this length on a put flushes. It is kept so that a put compares once.
+    flush_length: usize,
 }
 
 impl Model for Worker {
@@ -58,6 +62,7 @@ impl Worker {
                 limits: *limits,
                 number,
                 cache,
+                flush_length: flush_length(limits.cache as usize),
             }),
             Err(_) => Err(Refusal::OutOfMemory),
         }
@@ -69,6 +74,7 @@ impl Worker {
             limits: _,
             number: _,
             cache: _,
+            flush_length: _,
         } = self;
     }
 
@@ -212,10 +218,7 @@ impl Worker {
             return steps::put_past(&mut self.cache, c, list);
         }
         steps::append(&mut self.cache, list);
-        if len + count < size * 3 / 2 {
-            return Put::Kept;
-        }
-        if len + count <= size {
+        if len + count < self.flush_length {
             return Put::Kept;
         }
         steps::flush_beyond(&mut self.cache, c, size)
@@ -243,4 +246,12 @@ impl Worker {
         steps::room(c, &self.cache, &[]);
         steps::flush_beyond(&mut self.cache, c, 0)
     }
+}
+
+/// The least length from which a cache of this size is flushed: the threshold, where that is more than the size.
+fn flush_length(size: usize) -> usize
+    requires { size ≤ max_cache }
+    ensures { IsFlushLength size result }
+{
+    (size * 3 / 2).max(size + 1)
 }

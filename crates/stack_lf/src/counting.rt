@@ -30,6 +30,7 @@ pub(crate) fn length(ground: &Ground, seat: &mut GroundSeat) -> u64
 }
 
 /// A claim, with what the seat's type keeps.
+#[inline(always)]
 pub(crate) fn claim(ground: &Ground, seat: &mut GroundSeat, element: u32)
     requires of { IsOf ground.now seat.old }
     requires hand { 0 < bag seat.old.known.view.hand element }
@@ -41,6 +42,7 @@ pub(crate) fn claim(ground: &Ground, seat: &mut GroundSeat, element: u32)
 }
 
 /// A count as read, with what a seat of every part knows of it and what the seat's type keeps.
+#[inline(always)]
 pub(crate) fn count(ground: &Ground, seat: &mut GroundSeat, element: u32) -> u64
     requires of { IsOf ground.now seat.old }
     requires held { 0 < bag seat.old.known.view.holds element }
@@ -56,6 +58,7 @@ pub(crate) fn count(ground: &Ground, seat: &mut GroundSeat, element: u32) -> u64
 }
 
 /// Reads a count and raises it, if it is still what was read.
+#[inline(always)]
 fn try_raise(ground: &Ground, seat: &mut GroundSeat, element: u32, limits: &Limits) -> Tried
     requires of { IsOf ground.now seat.old }
     requires held { 0 < bag seat.old.known.view.holds element }
@@ -75,6 +78,7 @@ fn try_raise(ground: &Ground, seat: &mut GroundSeat, element: u32, limits: &Limi
 }
 
 /// Makes one more hold of an element, by at most as many lost tries as the limits allow.
+#[inline(always)]
 fn raise_by_tries(
     ground: &Ground,
     seat: &mut GroundSeat,
@@ -100,6 +104,7 @@ fn raise_by_tries(
 }
 
 /// The same, with what the seat's type keeps.
+#[inline(always)]
 pub(crate) fn raise(
     ground: &Ground,
     seat: &mut GroundSeat,
@@ -121,6 +126,7 @@ pub(crate) fn raise(
 
 /// Ends one hold of an element: where its count is 1, by the load that read it; else by lowering it, and where that
 /// read 1, by setting it to 1 again.
+#[inline(always)]
 fn lower_once(ground: &Ground, seat: &mut GroundSeat, element: u32) -> Lowered
     requires of { IsOf ground.now seat.old }
     requires held { 0 < bag seat.old.known.view.holds element }
@@ -138,6 +144,7 @@ fn lower_once(ground: &Ground, seat: &mut GroundSeat, element: u32) -> Lowered
 }
 
 /// The same, with what the seat's type keeps.
+#[inline(always)]
 pub(crate) fn lower(ground: &Ground, seat: &mut GroundSeat, element: u32) -> Lowered
     requires of { IsOf ground.now seat.old }
     requires held { 0 < bag seat.old.known.view.holds element }

@@ -15,6 +15,7 @@ use ground::seat::GroundSeat;
 use step_core::view::Head;
 
 /// Takes `n` off the length, if it is still what was read.
+#[inline(always)]
 fn try_reserve(ground: &Ground, seat: &mut GroundSeat, n: u64) -> Tried
     requires of { IsOf ground.now seat.old }
     requires some { 1 ≤ n }
@@ -33,6 +34,7 @@ fn try_reserve(ground: &Ground, seat: &mut GroundSeat, n: u64) -> Tried
 }
 
 /// Takes `n` off the length, by at most `tries` lost tries.
+#[inline(always)]
 fn reserve(ground: &Ground, seat: &mut GroundSeat, n: u64, tries: u64) -> Result<(), Refusal>
     requires of { IsOf ground.now seat.old }
     requires some { 1 ≤ n }
@@ -53,6 +55,7 @@ fn reserve(ground: &Ground, seat: &mut GroundSeat, n: u64, tries: u64) -> Result
 
 /// Walks one link for each place of `out`, and lists the elements there. Answers what is next, or nothing where the
 /// list ends before, as it does for no seat of every part that has reserved as many.
+#[inline(always)]
 fn walk(ground: &Ground, seat: &mut GroundSeat, head: Head, out: &mut [u32]) -> Option<u32>
     requires of { IsOf ground.now seat.old }
     requires look { seat.old.known.view.look ≡ Some (start head) }
@@ -78,6 +81,7 @@ fn walk(ground: &Ground, seat: &mut GroundSeat, head: Head, out: &mut [u32]) -> 
 
 /// Loads the head, walks as many links as `out` has places, and swings the head past them, if it is still what was
 /// read.
+#[inline(always)]
 fn try_cut(ground: &Ground, seat: &mut GroundSeat, out: &mut [u32]) -> Tried
     requires of { IsOf ground.now seat.old }
     requires some { 1 ≤ length out.old }
@@ -101,6 +105,7 @@ fn try_cut(ground: &Ground, seat: &mut GroundSeat, out: &mut [u32]) -> Tried
 }
 
 /// Takes as many elements as `out` has places from the top of the stack, by at most `tries` lost tries.
+#[inline(always)]
 fn cut(ground: &Ground, seat: &mut GroundSeat, out: &mut [u32], tries: u64) -> Result<(), Refusal>
     requires of { IsOf ground.now seat.old }
     requires some { 1 ≤ length out.old }
@@ -121,6 +126,7 @@ fn cut(ground: &Ground, seat: &mut GroundSeat, out: &mut [u32], tries: u64) -> R
 }
 
 /// Takes as many elements as `out` has places, or gives back what was reserved.
+#[inline(always)]
 fn get_or_return(
     ground: &Ground,
     seat: &mut GroundSeat,
@@ -148,6 +154,7 @@ fn get_or_return(
 }
 
 /// The same, with what the seat's type keeps.
+#[inline(always)]
 pub(crate) fn get(
     ground: &Ground,
     seat: &mut GroundSeat,

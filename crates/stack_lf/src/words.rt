@@ -72,12 +72,14 @@ impl<'a> Commons for WordCommons<'a> {
     /// length; what was reserved is given back before any refusal. While another worker is within a call, its elements
     /// may be in neither the length nor a hand, so `NoEntries` doesn't say that the pool has no more. To a seat of every
     /// part it does: the common list was shorter than `n` then.
+    #[inline(always)]
     fn get_list(&mut self, out: &mut [u32]) -> Result<(), Refusal> {
         getting::get(self.ground, &mut self.seat, out, self.ground.limits().tries)
     }
 
     /// Takes `tries * (n + 2) + 1` steps at most. The last of the list is on top then, unless another worker has changed
     /// the stack since; the length is raised after that.
+    #[inline(always)]
     fn put_list(&mut self, list: &[u32]) -> Result<(), Refusal> {
         putting::put(
             self.ground,

@@ -1,6 +1,6 @@
-use Rattle.std.proofs.Common.{◌≡◌, ◌≢◌, ◌<◌, ◌≤◌, ◌+◌, ℕ, List, [], ◌∷◌, ◌++◌, length, length-set, map, take, get_or, set, get_or-set_other, inl, inr, refl, sym, ap, subst, ◌∙◌, arith}
+use Rattle.std.proofs.Common.{◌≡◌, ◌≢◌, ◌<◌, ◌≤◌, ◌+◌, ℕ, List, [], ◌∷◌, ◌++◌, length, length-set, map, take, get_or, set, get_or-set_other, get_or-set_same, inl, inr, refl, ap, subst, ◌∙◌, arith}
 use Rattle.std.proofs.lemmas.Bool.{cases_lt}
-use Rattle.std.proofs.lemmas.List.{get_or_default, map-append, set-get_or, take_more}
+use Rattle.std.proofs.lemmas.List.{get_or_default, map-append, take_more}
 use Rattle.commons.specs.Bag.{bag}
 use Rattle.commons.specs.Calls.{Calls}
 use Rattle.commons.specs.declared.limits.Limits.{Limits}
@@ -9,7 +9,7 @@ use Rattle.commons.proofs.Bags.{bag-nil, bag-append}
 use Rattle.commons.specs.Packets.{no_seg, hold_of, holds_of_packet, holds_of_seg}
 use Rattle.mbuf.specs.PacketRules.{freed_nothing}
 use Rattle.mbuf.specs.Sharing.{buffer_of, ClonesSeg, StopsCloning}
-use Rattle.mbuf.proofs.CloneLemmas.{buffer_held, cloned_more, followed, given_up, holds-more, same_headers}
+use Rattle.mbuf.proofs.CloneLemmas.{buffer_held, cloned_more, followed, given_up, laid_there, holds-more, same_headers}
 use Rattle.mbuf.proofs.EndLemmas.{Ended}
 use Rattle.mbuf.proofs.clones.clone_segs.Goals as goal
 
@@ -53,8 +53,13 @@ elems-more segs seg i =
 pub loop-index-init : goal.loop-index-init
 loop-index-init g c = record {
   cloned = ([], refl, (refl, refl, refl));
-  packets = sym (set-get_or c.args.packets.now.items c.args.slot []);
-  all = λ some. absurd (omega (arith, some));
+  packets =
+      laid_there c.args.packets.now.items c.args.slot c.cut_to.new.packet
+      (omega (arith, c.requires.slot, c.args.packets.now.ok));
+  there = omega arith;
+  most =
+      rw (get_or-set_same c.args.packets.now.items c.args.slot c.cut_to.new.packet []
+      (omega (arith, c.requires.slot, c.args.packets.now.ok))) c.cut_to.ensures;
   hand = c.requires.hand;
   holds = λ i. omega (arith, bag-nil i);
   headers = λ i. omega (arith, bag-nil i);
@@ -72,7 +77,7 @@ clone_seg-requires-clause-held g c =
     let src = get_or old source [] in
     let inv = c.loop-index.invariant in
     let low : source < length old = omega (arith, c.requires.source, c.args.packets.now.ok) in
-    let all = c.segs-index-end.ensures.segs ∙ c.index.ensures ∙ get_or_default old source c.index.result.now [] low in
+    let all = c.segs-count.ensures.segs ∙ c.index.ensures ∙ get_or_default old source c.index.result.now [] low in
     let within : k < length src = omega (arith, c.loop-index-test.true, ap (λ (s : List Seg). length s) all) in
     let seg =
     c.segs.ensures.segs ∙ lent_from old c.loop-index.packets.items source c.args.slot
@@ -94,7 +99,7 @@ give_up-requires-clause-held g c = λ i.
     let inv = c.loop-index.invariant in
     let low : source < length old = omega (arith, c.requires.source, c.args.packets.now.ok) in
     let high : slot < length old = omega (arith, c.requires.slot, c.args.packets.now.ok) in
-    let all = c.segs-index-end.ensures.segs ∙ c.index.ensures ∙ get_or_default old source c.index.result.now [] low in
+    let all = c.segs-count.ensures.segs ∙ c.index.ensures ∙ get_or_default old source c.index.result.now [] low in
     let within : k < length src = omega (arith, c.loop-index-test.true, ap (λ (s : List Seg). length s) all) in
     let seg =
     c.segs.ensures.segs ∙ lent_from old cur source slot c.index-in-loop-index.result.now low
@@ -123,7 +128,7 @@ returns-in-Err-clause-calls g c =
     let inv = c.loop-index.invariant in
     let low : source < length old = omega (arith, c.requires.source, c.args.packets.now.ok) in
     let high : slot < length old = omega (arith, c.requires.slot, c.args.packets.now.ok) in
-    let all = c.segs-index-end.ensures.segs ∙ c.index.ensures ∙ get_or_default old source c.index.result.now [] low in
+    let all = c.segs-count.ensures.segs ∙ c.index.ensures ∙ get_or_default old source c.index.result.now [] low in
     let within : k < length src = omega (arith, c.loop-index-test.true, ap (λ (s : List Seg). length s) all) in
     let seg =
     c.segs.ensures.segs ∙ lent_from old cur source slot c.index-in-loop-index.result.now low
@@ -163,7 +168,7 @@ returns-in-Err-clause-holds_err g c = λ i.
     let inv = c.loop-index.invariant in
     let low : source < length old = omega (arith, c.requires.source, c.args.packets.now.ok) in
     let high : slot < length old = omega (arith, c.requires.slot, c.args.packets.now.ok) in
-    let all = c.segs-index-end.ensures.segs ∙ c.index.ensures ∙ get_or_default old source c.index.result.now [] low in
+    let all = c.segs-count.ensures.segs ∙ c.index.ensures ∙ get_or_default old source c.index.result.now [] low in
     let within : k < length src = omega (arith, c.loop-index-test.true, ap (λ (s : List Seg). length s) all) in
     let seg =
     c.segs.ensures.segs ∙ lent_from old cur source slot c.index-in-loop-index.result.now low
@@ -188,7 +193,7 @@ returns-in-Err-clause-headers_err g c = λ i.
     let inv = c.loop-index.invariant in
     let low : source < length old = omega (arith, c.requires.source, c.args.packets.now.ok) in
     let high : slot < length old = omega (arith, c.requires.slot, c.args.packets.now.ok) in
-    let all = c.segs-index-end.ensures.segs ∙ c.index.ensures ∙ get_or_default old source c.index.result.now [] low in
+    let all = c.segs-count.ensures.segs ∙ c.index.ensures ∙ get_or_default old source c.index.result.now [] low in
     let within : k < length src = omega (arith, c.loop-index-test.true, ap (λ (s : List Seg). length s) all) in
     let seg =
     c.segs.ensures.segs ∙ lent_from old cur source slot c.index-in-loop-index.result.now low
@@ -233,7 +238,7 @@ loop-index-preserved g c =
     let inv = c.loop-index.invariant in
     let low : source < length old = omega (arith, c.requires.source, c.args.packets.now.ok) in
     let high : slot < length old = omega (arith, c.requires.slot, c.args.packets.now.ok) in
-    let all = c.segs-index-end.ensures.segs ∙ c.index.ensures ∙ get_or_default old source c.index.result.now [] low in
+    let all = c.segs-count.ensures.segs ∙ c.index.ensures ∙ get_or_default old source c.index.result.now [] low in
     let within : k < length src = omega (arith, c.loop-index-test.true, ap (λ (s : List Seg). length s) all) in
     let seg =
     c.segs.ensures.segs ∙ lent_from old cur source slot c.index-in-loop-index.result.now low
@@ -245,8 +250,8 @@ loop-index-preserved g c =
     let new = c.in-Ok.new in
     let now = c.follow.new.packet in
     let step =
-    followed old cur slot k new c.index_mut.result.now now high inv.packets inv.all
-    c.index_mut.ensures.value c.follow.ensures in
+    followed old cur slot k new c.index_mut-in-Ok.result.now now high inv.packets
+    c.index_mut-in-Ok.ensures.value c.follow.ensures.next in
     let tried = rw seg at c.in-Ok.ensures.calls in
     let more =
     cloned_more did side c.args.c.now c.loop-index.c c.clone_seg.new.c w.limits (take k src)
@@ -259,7 +264,12 @@ loop-index-preserved g c =
     record {
       cloned = rw (step.so_far, take_more src k no_seg within) more;
       packets = step.packets;
-      all = λ some. step.long;
+      there = rw step.here (omega (arith, c.follow.ensures.there));
+      most =
+          rw step.here (elim c.follow.ensures.grown [
+            | inl same ↦ omega (arith, same, ap (λ (x : List Seg). length x) step.stood, inv.most)
+            | inr more ↦ omega (arith, more, c.loop-index-test.true)
+          ]);
       hand = c.in-Ok.ensures.hand;
       holds =
           λ i.

@@ -1,4 +1,4 @@
-use Rattle.std.proofs.Common.{◌≡◌, ◌<◌, ◌+◌, [], ℕ, length, map, take, get_or, set}
+use Rattle.std.proofs.Common.{◌≡◌, ◌<◌, ◌≤◌, ◌+◌, [], ℕ, length, map, take, get_or, set}
 use Rattle.commons.specs.Bag.{bag}
 use Rattle.commons.specs.declared.packet.Seg.{Seg}
 use Rattle.mempool.specs.WorkerCache.{KeepsNumber}
@@ -13,7 +13,8 @@ invariant-loop-index g l = record {
       (take l.index (get_or l.fn.packets.items l.source [])) l.fn.worker.cache
       (take l.index (get_or l.packets.items l.slot [])) l.worker.cache;
   packets : l.packets.items ≡ set l.fn.packets.items l.slot (get_or l.packets.items l.slot []);
-  all : 0 < l.index → length (get_or l.packets.items l.slot []) ≡ l.index;
+  there : l.index ≤ length (get_or l.packets.items l.slot []);
+  most : length (get_or l.packets.items l.slot []) ≤ l.count;
   hand : (i : ℕ) → (g.C.Commons.side l.c).hand i ≡ bag l.worker.cache i;
   holds : (i : ℕ) → (g.C.Commons.side l.c).holds i
       ≡ (g.C.Commons.side l.fn.c).holds i
