@@ -80,6 +80,7 @@ fn worker_runs<R: Clock, C: Commons>(
 }
 
 /// Gets a list and puts it back, and answers whether the get was met.
+#[inline(always)]
 pub fn there_and_back<C: Commons>(worker: &mut Worker, c: &mut C, list: &mut [u32]) -> bool
     requires limits { (C.side c.old).limits ≡ worker.old.limits }
     requires cached { (i : ℕ) → bag worker.old.cache i ≤ (C.side c.old).hand i }

@@ -6,56 +6,78 @@ ghost use Rattle.ground.specs.Seats.{IsOf};
 ghost use Rattle.ground.specs.Own.{AtRest};
 
 use super::carried::Carried;
+use super::kinds::{MOST_WIDE, Width};
 use super::span::Rounds;
 use commons::shared::Commons;
 use ground::pool::Ground;
 use stack_lf::words::WordCommons;
-use std::alloc::{AllocError, Global};
 
 /// A worker who gets a list and puts it back, by the calls of the stack alone.
 pub struct Bare<'a> {
     c: WordCommons<'a>,
-    list: Vec<u32>,
+    list: [u32; MOST_WIDE],
+    width: Width,
 }
 
 impl<'a> Bare<'a> {
-    /// A worker of lists of `n`, with the seat that was carried here.
-    pub fn make(
-        alloc: Global,
-        ground: &'a Ground,
-        carried: Carried,
-        n: usize,
-    ) -> Result<Bare<'a>, AllocError>
+    /// A worker of lists of this width, with the seat that was carried here.
+    pub fn make(ground: &'a Ground, carried: Carried, width: Width) -> Bare<'a>
         requires of { IsOf ground.now carried.seat }
         requires rest { AtRest carried.seat.known.view }
     {
-        let list = vec![in alloc; 0; n]?;
         let c = WordCommons::new(ground, carried.into_seat());
-        Ok(Bare { c, list })
+        Bare {
+            c,
+            list: [0; MOST_WIDE],
+            width,
+        }
+    }
+
+    /// Rounds of lists of `N`.
+    fn rounds_of<const N: usize>(&mut self, count: u64) -> u64
+        requires some { 0 < N }
+        requires few { N ≤ MOST_WIDE }
+    {
+        let mut refused = 0u64;
+        for _round in 0..count {
+            let lost = first_there_and_back::<WordCommons, N>(&mut self.c, &mut self.list);
+            refused = refused.wrapping_add(lost);
+        }
+        refused.saturating_mul(N as u64)
     }
 
     /// Ends the worker's seat.
     pub fn end(self) {
-        let Bare { c, list: _ } = self;
+        let Bare {
+            c,
+            list: _,
+            width: _,
+        } = self;
         c.lose();
     }
 }
 
 impl<'a> Rounds for Bare<'a> {
     fn rounds(&mut self, count: u64) -> u64 {
-        let size = self.list.len() as u64;
-        let mut refused = 0u64;
-        if size == 0 {
-            return 0;
+        match self.width {
+            Width::One => self.rounds_of::<1>(count),
+            Width::Eight => self.rounds_of::<8>(count),
+            Width::ThirtyTwo => self.rounds_of::<32>(count),
         }
-        for _round in 0..count {
-            refused = refused.wrapping_add(there_and_back(&mut self.c, &mut self.list));
-        }
-        refused.saturating_mul(size)
     }
 }
 
+/// Gets the first `N` of a list and puts them back, and answers how many of the calls were refused.
+#[inline(always)]
+fn first_there_and_back<C: Commons, const N: usize>(c: &mut C, list: &mut [u32]) -> u64
+    requires some { 0 < N }
+    requires few { N ≤ length list.old }
+{
+    there_and_back(c, &mut list[..N])
+}
+
 /// Gets a list and puts it back, and answers how many of the calls were refused. A put is made again until it is met.
+#[inline(always)]
 fn there_and_back<C: Commons>(c: &mut C, list: &mut [u32]) -> u64
     requires { 0 < length list.old }
 {
@@ -66,6 +88,7 @@ fn there_and_back<C: Commons>(c: &mut C, list: &mut [u32]) -> u64
 }
 
 /// Puts a list back, and answers how often that was refused before.
+#[inline(always)]
 fn put_back<C: Commons>(c: &mut C, list: &[u32]) -> u64
     requires some { 0 < length list.now }
     requires in_hand { (i : ℕ) → bag list.now i ≤ (C.side c.old).hand i }

@@ -1,12 +1,23 @@
 //! What is done again and again.
 
+/// How long a list is: a constant of the code, as in a program that knows how many packets it takes at once.
+#[derive(Clone, Copy, PartialEq, Eq, Debug)]
+pub enum Width {
+    One = 1,
+    Eight = 8,
+    ThirtyTwo = 32,
+}
+
+/// The greatest width.
+pub const MOST_WIDE: usize = 32;
+
 /// What a round is.
 #[derive(Clone, Copy, PartialEq, Eq, Debug)]
 pub enum Kind {
-    /// A list of so many off the bare stack, and back.
-    Stack(usize),
-    /// A get of so many by a worker, and the put of the same.
-    Elements(usize),
+    /// A list of this width off the bare stack, and back.
+    Stack(Width),
+    /// A get of this width by a worker, and the put of the same.
+    Elements(Width),
     /// An alloc, and the free of its packet.
     Alloc,
     /// A bulk of 32, and the free of each packet.
@@ -18,11 +29,11 @@ pub enum Kind {
 }
 
 const KINDS: [(&str, Kind); 10] = [
-    ("stk1", Kind::Stack(1)),
-    ("stk8", Kind::Stack(8)),
-    ("stk32", Kind::Stack(32)),
-    ("get1", Kind::Elements(1)),
-    ("get32", Kind::Elements(32)),
+    ("stk1", Kind::Stack(Width::One)),
+    ("stk8", Kind::Stack(Width::Eight)),
+    ("stk32", Kind::Stack(Width::ThirtyTwo)),
+    ("get1", Kind::Elements(Width::One)),
+    ("get32", Kind::Elements(Width::ThirtyTwo)),
     ("pkt1", Kind::Alloc),
     ("pkt32", Kind::Bulk),
     ("pkt240", Kind::Kept),
@@ -57,7 +68,7 @@ impl Kind {
     /// How many elements a round gets and puts back.
     pub fn size(self) -> u64 {
         match self {
-            Kind::Stack(n) | Kind::Elements(n) => n as u64,
+            Kind::Stack(width) | Kind::Elements(width) => width as u64,
             Kind::Alloc => 1,
             Kind::Bulk => 32,
             Kind::Kept => 240,

@@ -47,14 +47,14 @@ pub fn one<R: Clock>(rt: &R, work: Work<'_>, carried: Carried, number: u32) -> R
         span,
     } = work;
     let tally = match kind {
-        Kind::Stack(n) => {
-            let mut bare = Bare::make(alloc, ground, carried, n)?;
+        Kind::Stack(width) => {
+            let mut bare = Bare::make(ground, carried, width);
             let tally = timed(rt, &mut bare, &span);
             bare.end();
             tally
         }
-        Kind::Elements(n) => {
-            let mut cached = Cached::make(alloc, ground, carried, number, n)?;
+        Kind::Elements(width) => {
+            let mut cached = Cached::make(alloc, ground, carried, number, width)?;
             let tally = timed(rt, &mut cached, &span);
             cached.end();
             tally
