@@ -213,14 +213,15 @@ impl Worker {
         if count > MAX_CACHE as usize {
             return steps::put_past(&mut self.cache, c, list);
         }
+        if len + count < self.flush_length {
+            steps::append(&mut self.cache, list);
+            return Put::Kept;
+        }
         if size == 0 && len == 0 {
             // All of the list goes to the stack: it need not pass through the cache.
             return steps::put_past(&mut self.cache, c, list);
         }
         steps::append(&mut self.cache, list);
-        if len + count < self.flush_length {
-            return Put::Kept;
-        }
         steps::flush_beyond(&mut self.cache, c, size)
     }
 

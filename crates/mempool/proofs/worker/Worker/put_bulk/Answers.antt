@@ -22,9 +22,9 @@ returns-then-len-eq0-clause-calls g c =
 -- Cache and list together reach the threshold, so all beyond the size was pushed.
 pub returns-clause-calls : goal.returns-clause-calls
 returns-clause-calls g c =
-    let ok = c.append.new.cache.ok in
+    let ok = c.append-2.new.cache.ok in
     rw (sym c.self.view_is) (put_over g.C.Commons.did g.C.Commons.side c.self.inside.limits
-    c.self.inside.cache.items c.args.list.now c.append.new.cache.items c.args.c.now
+    c.self.inside.cache.items c.args.list.now c.append-2.new.cache.items c.args.c.now
     c.flush_beyond.new.c c.flush_beyond.result c.flush_beyond.new.cache.items
-    c.append.ensures.items (omega arith) (omega arith) (omega (arith, ok)) (omega (arith, ok))
+    c.append-2.ensures.items (omega arith) (omega arith) (omega (arith, ok)) (omega (arith, ok))
     c.flush_beyond.ensures.calls)
