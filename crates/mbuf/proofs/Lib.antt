@@ -6,7 +6,6 @@ pub mod DeskLemmas
 pub mod EndLemmas
 pub mod FreeLemmas
 pub mod FreshLemmas
-pub mod ListLemmas
 pub mod MemberLemmas
 pub mod OwnLemmas
 pub mod PacketCases

@@ -85,7 +85,7 @@ fn clone_seg<C: Commons>(worker: &mut Worker, c: &mut C, seg: Seg) -> Result<Seg
     ensures limits { (C.side c.new).limits ≡ (C.side c.old).limits }
     ensures number { KeepsNumber worker.old worker.new }
 {
-    let elem = match steps::get_one(worker, c) {
+    let elem = match worker.get_one(c) {
         Ok(elem) => elem,
         Err(cause) => return Err(Stop { cause, over: None }),
     };

@@ -1,12 +1,11 @@
 //! What packets ask of the cache and of the shared pool, an element at a time.
 
-ghost use Rattle.std.specs.Prelude.{◌≡◌, ◌<◌, ◌≤◌, ◌+◌, ◌*◌, ℕ, List, length, if◌then◌else◌, nat_lt, IfOk, OnOk, OnErr};
+ghost use Rattle.std.specs.Prelude.{◌≡◌, ◌<◌, ◌≤◌, ◌+◌, ◌*◌, ℕ, List, length, if◌then◌else◌, nat_lt};
 ghost use Rattle.commons.specs.Bag.{bag, one};
 ghost use Rattle.commons.specs.Bounds.{IsPool, max_population};
 ghost use Rattle.commons.specs.Calls.{Calls};
-ghost use Rattle.mempool.specs.Caches.{Gets, put_count};
+ghost use Rattle.mempool.specs.Caches.{put_count};
 ghost use Rattle.mempool.specs.WorkerCache.{KeepsNumber};
-ghost use Rattle.mbuf.specs.inside.Kept.{as_list};
 ghost use Rattle.commons.specs.Packets.{holds_of_packet, holds_of_seg, max_segs};
 ghost use Rattle.mbuf.specs.PacketRules.{fresh_seg, freed_nothing, counted as counted_put, EndsHold, EndsHolds};
 
@@ -35,29 +34,6 @@ pub fn fresh(limits: &Limits, elem: u32) -> Seg
         data_off: HEADROOM.min(limits.buf) as u16,
         data_len: 0,
         buf_len: limits.buf as u16,
-    }
-}
-
-/// Gets one element by the cache's rules.
-#[inline(always)]
-pub fn get_one<C: Commons>(worker: &mut Worker, c: &mut C) -> Result<u32, Refusal>
-    requires limits { (C.side c.old).limits ≡ worker.old.limits }
-    ensures calls { Calls C.did C.side c.old c.new (λ calls.
-        Gets worker.old.limits worker.old.cache 1 calls (as_list result) worker.new.cache) }
-    ensures hand { IfOk result
-        (λ e. (i : ℕ) → (C.side c.new).hand i + bag worker.old.cache i
-        ≡ (C.side c.old).hand i + bag worker.new.cache i + one e i) }
-    ensures refused { OnErr result (C.side c.new ≡ C.side c.old) }
-    ensures cache_err { OnErr result (worker.new.cache ≡ worker.old.cache) }
-    ensures holds { (C.side c.new).holds ≡ (C.side c.old).holds }
-    ensures headers { (C.side c.new).headers ≡ (C.side c.old).headers }
-    ensures limits { (C.side c.new).limits ≡ (C.side c.old).limits }
-    ensures number { KeepsNumber worker.old worker.new }
-{
-    let mut out = [0u32; 1];
-    match worker.get_bulk(c, &mut out) {
-        Ok(()) => Ok(out[0]),
-        Err(cause) => Err(cause),
     }
 }
 

@@ -20,6 +20,11 @@ without_last n cache = take (length cache - n) cache
 abbrev pub threshold : Limits → ℕ
 threshold l = l.cache * 3 / 2
 
+-- an answer of one element, as a list
+abbrev pub as_list : Result ℕ Refusal → Result (List ℕ) Refusal
+as_list (Ok e) = Ok (e ∷ [])
+as_list (Err cause) = Err cause
+
 -- what a get of n does with a cache, by the calls that it makes, its answer and the cache that it leaves
 pub data Gets (l : Limits) (cache : List ℕ) (n : ℕ) (calls : List Call)
     (answer : Result (List ℕ) Refusal) (left : List ℕ) : Type 0 where

@@ -39,7 +39,7 @@ impl Model for Worker {
 impl Worker {
     ghost use Rattle.std.specs.Prelude.{◌≡◌, ◌≤◌, ◌<◌, ◌⊎◌, [], IfOk, IfErr};
     ghost use Rattle.commons.specs.Bounds.{IsPool};
-    ghost use Rattle.mempool.specs.Caches.{Gets, Puts, Flushes, put_count};
+    ghost use Rattle.mempool.specs.Caches.{Gets, Puts, Flushes, as_list, put_count};
     ghost use Rattle.mempool.specs.WorkerCache.{IsWorkerCause, KeepsNumber};
 
     /// A worker with an empty cache, which has room for the whole population from now on.
@@ -179,6 +179,77 @@ impl Worker {
             }
             Err(_cause) => c.get_list(out),
         }
+    }
+
+    /// Gets one element, from the cache or the common stack. It stays in the hand.
+    ///
+    /// Refused as the last request to the stack was: `NoEntries`, `Contended` or `HeadSpent`. Cache
+    /// and hand are then as before.
+    ///
+    /// After rte_mempool.h, `rte_mempool_get` (DPDK 21.11), with the rules of `get_bulk`.
+    #[inline(always)]
+    pub fn get_one<C: Commons>(&mut self, c: &mut C) -> Result<u32, Refusal>
+        requires limits { (C.side c.old).limits ≡ self.old.limits }
+        ensures calls { Calls C.did C.side c.old c.new (λ calls.
+            Gets self.old.limits self.old.cache 1 calls (as_list result) self.new.cache) }
+        ensures hand { IfOk result
+            (λ e. (i : ℕ) → (C.side c.new).hand i + bag self.old.cache i
+            ≡ (C.side c.old).hand i + bag self.new.cache i + one e i) }
+        ensures refused { OnErr result (C.side c.new ≡ C.side c.old) }
+        ensures cache_err { OnErr result (self.new.cache ≡ self.old.cache) }
+        ensures holds { (C.side c.new).holds ≡ (C.side c.old).holds }
+        ensures headers { (C.side c.new).headers ≡ (C.side c.old).headers }
+        ensures limits { (C.side c.new).limits ≡ (C.side c.old).limits }
+        ensures number { KeepsNumber self.old self.new }
+    {
+        if self.limits.cache > 1 && !self.cache.is_empty() {
+            let mut out = [0u32; 1];
+            steps::take_last(&mut self.cache, &mut out);
+            return Ok(out[0]);
+        }
+        self.get_list_of_one(c)
+    }
+
+    /// Gets one element as a list of one.
+    #[inline(always)]
+    fn get_list_of_one<C: Commons>(&mut self, c: &mut C) -> Result<u32, Refusal>
+        requires limits { (C.side c.old).limits ≡ self.old.limits }
+        ensures calls { Calls C.did C.side c.old c.new (λ calls.
+            Gets self.old.limits self.old.cache 1 calls (as_list result) self.new.cache) }
+        ensures hand { IfOk result
+            (λ e. (i : ℕ) → (C.side c.new).hand i + bag self.old.cache i
+            ≡ (C.side c.old).hand i + bag self.new.cache i + one e i) }
+        ensures refused { OnErr result (C.side c.new ≡ C.side c.old) }
+        ensures cache_err { OnErr result (self.new.cache ≡ self.old.cache) }
+        ensures holds { (C.side c.new).holds ≡ (C.side c.old).holds }
+        ensures headers { (C.side c.new).headers ≡ (C.side c.old).headers }
+        ensures limits { (C.side c.new).limits ≡ (C.side c.old).limits }
+        ensures number { KeepsNumber self.old self.new }
+    {
+        let mut out = [0u32; 1];
+        match self.get_apart(c, &mut out) {
+            Ok(()) => Ok(out[0]),
+            Err(cause) => Err(cause),
+        }
+    }
+
+    /// `get_bulk` in a function of its own, so that what inlines a get of one element stays small.
+    #[inline(never)]
+    fn get_apart<C: Commons>(&mut self, c: &mut C, out: &mut [u32]) -> Result<(), Refusal>
+        requires limits { (C.side c.old).limits ≡ self.old.limits }
+        ensures calls { Calls C.did C.side c.old c.new (λ calls.
+            Gets self.old.limits self.old.cache (length out.old) calls (with_list result out.new) self.new.cache) }
+        ensures hand { OnOk result
+            ((i : ℕ) → (C.side c.new).hand i + bag self.old.cache i
+            ≡ (C.side c.old).hand i + bag self.new.cache i + bag out.new i) }
+        ensures refused { OnErr result (C.side c.new ≡ C.side c.old) }
+        ensures cache_err { OnErr result (self.new.cache ≡ self.old.cache) }
+        ensures holds { (C.side c.new).holds ≡ (C.side c.old).holds }
+        ensures headers { (C.side c.new).headers ≡ (C.side c.old).headers }
+        ensures limits { (C.side c.new).limits ≡ (C.side c.old).limits }
+        ensures number { KeepsNumber self.old self.new }
+    {
+        self.get_bulk(c, out)
     }
 
     /// Puts distinct elements of the hand, none of which is in the cache, into the cache, and from

@@ -14,7 +14,7 @@ use Rattle.ground.specs.Seats.{Grounded, Seated, IsOf, Note, after, Steps}
 use Rattle.step_core.specs.Sights.{view_after}
 use Rattle.stack_lf.specs.declared.tried.Tried.TheVariants as tried
 use Rattle.stack_lf.specs.Tries.{Try, notes, notes_of, IsMiss, IsLostCut, IsLostPush}
-use Rattle.stack_lf.specs.Leaves.{IsAlone, tried_to, TriesReserve, TriesCut, TriesPush, Reserves, Cuts, Pushes, seen_as}
+use Rattle.stack_lf.specs.Leaves.{AllLost, IsAlone, tried_to, TriesReserve, TriesCut, TriesPush, Reserves, Cuts, Pushes, seen_as}
 
 -- steps after steps; the view afterwards is made of the one between
 pub more : (s t u : Seated) (a : List Note) (v : View) (b : List Note) (w : View → View) →
@@ -57,10 +57,6 @@ try_more s t u xs y v w e f =
     ∙ ap (λ (l : List Note). after s l (w v))
     (sym (notes_of-append xs (y ∷ []) ∙ ap (λ (l : List Note). notes_of xs ++ l)
     (append-nil (notes y))))
-
--- so many tries that all lost, and the seat afterwards
-abbrev pub AllLost : (Try → Type 0) → ℕ → Seated → Seated → Type 0
-AllLost P k s t = (ts : List Try) × (length ts ≡ k) × All P ts × (t ≡ tried_to s ts s.known.view)
 
 push_try : (P : Try → Type 0) (ts : List Try) (x : Try) → All P ts → P x → All P (ts ++ x ∷ [])
 push_try P ts x all one = All-push P ts x all one

@@ -14,8 +14,8 @@ use Rattle.step_core.specs.declared.step.Outcome.TheVariants.{Value, Done}
 use Rattle.ground.specs.Seats.{Seated, after, Steps}
 use Rattle.stack_lf.specs.declared.tried.Tried.TheVariants as tried
 use Rattle.stack_lf.specs.Tries.{Try, Lowered, Lasted, notes, IsLostRaise}
-use Rattle.stack_lf.specs.Leaves.{TriesRaise, Raises}
-use Rattle.stack_lf.proofs.Composing.{one_more, try_more, AllLost}
+use Rattle.stack_lf.specs.Leaves.{AllLost, TriesRaise, Raises}
+use Rattle.stack_lf.proofs.Composing.{one_more, try_more}
 
 -- ---- a raise
 

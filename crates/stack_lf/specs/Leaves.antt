@@ -117,6 +117,10 @@ TriesPush xs r s t =
     (x : Try) × (look : Option Look) × (seen : ℕ) × IsPushTry xs r x
     × (t ≡ after s (notes x) (push_as xs r s.known.view look seen))
 
+-- so many tries that all lost, and the seat afterwards
+abbrev pub AllLost : (Try → Type 0) → ℕ → Seated → Seated → Type 0
+AllLost P k s t = (ts : List Try) × (length ts ≡ k) × All P ts × (t ≡ tried_to s ts s.known.view)
+
 -- ---- a loop, by its answer
 
 abbrev pub Reserves : ℕ → ℕ → Result (Unit {0}) Refusal → Seated → Seated → Type 0

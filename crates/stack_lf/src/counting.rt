@@ -4,10 +4,10 @@ ghost use Rattle.std.specs.Prelude.{◌≡◌, ◌≢◌, ◌<◌, ◌≤◌, Er
 ghost use Rattle.commons.specs.Bag.{bag};
 ghost use Rattle.step_core.specs.declared.step.Step.TheVariants.{LoadLength, Sole, Claim as ClaimStep};
 ghost use Rattle.step_core.specs.declared.step.Outcome.TheVariants.{Value};
-ghost use Rattle.ground.specs.Seats.{IsOf, Steps, KnowsLength, KnowsCount};
+ghost use Rattle.ground.specs.Seats.{IsOf, Seated, Steps, KnowsLength, KnowsCount};
 ghost use Rattle.ground.specs.Own.{Owned};
-ghost use Rattle.stack_lf.specs.Tries.{KnowsSpent};
-ghost use Rattle.stack_lf.specs.Leaves.{TriesRaise, Raises, Lowers, IsBare};
+ghost use Rattle.stack_lf.specs.Tries.{IsLostRaise, KnowsSpent};
+ghost use Rattle.stack_lf.specs.Leaves.{AllLost, TriesRaise, Raises, Lowers, IsBare};
 
 use crate::tried::Tried;
 use commons::limits::Limits;
@@ -77,6 +77,44 @@ fn try_raise(ground: &Ground, seat: &mut GroundSeat, element: u32, limits: &Limi
     }
 }
 
+/// Makes one more hold of an element after a first try that was lost, by at most as many lost tries in all as the
+/// limits allow. It stands apart, so that what inlines a raise stays small.
+#[inline(never)]
+fn raise_apart(ground: &Ground, seat: &mut GroundSeat, element: u32) -> Result<(), Refusal>
+    requires of { IsOf ground.now seat.old }
+    requires held { 0 < bag seat.old.known.view.holds element }
+    ensures raised { (first : Seated) → AllLost (IsLostRaise ground.now.limits element) 1 first seat.old →
+        Raises ground.now.limits element result first seat.new }
+    ensures told { result ≡ Err Refusal.RefSpent → KnowsSpent element seat.old }
+{
+    let limits = ground.limits();
+    let backoff = Backoff::new();
+    for _ in 1..limits.tries {
+        backoff.spin();
+        match try_raise(ground, seat, element, &limits) {
+            Tried::Won => return Ok(()),
+            Tried::Refused(cause) => return Err(cause),
+            Tried::Lost => {}
+        }
+    }
+    Err(Refusal::Contended)
+}
+
+/// The same, with a place of its own for the answer, which is filled where a first try was lost alone.
+#[inline(always)]
+fn raise_again(ground: &Ground, seat: &mut GroundSeat, element: u32) -> Result<(), Refusal>
+    requires of { IsOf ground.now seat.old }
+    requires held { 0 < bag seat.old.known.view.holds element }
+    ensures raised { (first : Seated) → AllLost (IsLostRaise ground.now.limits element) 1 first seat.old →
+        Raises ground.now.limits element result first seat.new }
+    ensures told { result ≡ Err Refusal.RefSpent → KnowsSpent element seat.old }
+{
+    match raise_apart(ground, seat, element) {
+        Ok(()) => Ok(()),
+        Err(cause) => Err(cause),
+    }
+}
+
 /// Makes one more hold of an element, by at most as many lost tries as the limits allow.
 #[inline(always)]
 fn raise_by_tries(
@@ -88,19 +126,16 @@ fn raise_by_tries(
     requires of { IsOf ground.now seat.old }
     requires held { 0 < bag seat.old.known.view.holds element }
     requires limits { limits.now ≡ ground.now.limits }
+    requires some { 1 ≤ limits.now.tries }
     ensures raised { Raises limits.now element result seat.old seat.new }
     ensures told { result ≡ Err Refusal.RefSpent → KnowsSpent element seat.old }
-    ensures alone { IsBare seat.old → 1 ≤ limits.now.tries → result ≢ Err Refusal.Contended }
+    ensures alone { IsBare seat.old → result ≢ Err Refusal.Contended }
 {
-    let backoff = Backoff::new();
-    for _ in 0..limits.tries {
-        match try_raise(ground, seat, element, limits) {
-            Tried::Won => return Ok(()),
-            Tried::Refused(cause) => return Err(cause),
-            Tried::Lost => backoff.spin(),
-        }
+    match try_raise(ground, seat, element, limits) {
+        Tried::Won => Ok(()),
+        Tried::Refused(cause) => Err(cause),
+        Tried::Lost => raise_again(ground, seat, element),
     }
-    Err(Refusal::Contended)
 }
 
 /// The same, with what the seat's type keeps.
@@ -114,9 +149,10 @@ pub(crate) fn raise(
     requires of { IsOf ground.now seat.old }
     requires held { 0 < bag seat.old.known.view.holds element }
     requires limits { limits.now ≡ ground.now.limits }
+    requires some { 1 ≤ limits.now.tries }
     ensures raised { Raises limits.now element result seat.old seat.new }
     ensures told { result ≡ Err Refusal.RefSpent → KnowsSpent element seat.old }
-    ensures alone { IsBare seat.old → 1 ≤ limits.now.tries → result ≢ Err Refusal.Contended }
+    ensures alone { IsBare seat.old → result ≢ Err Refusal.Contended }
     ensures own { Owned seat.new.known.limits seat.new.known.view }
 {
     let answer = raise_by_tries(ground, seat, element, limits);

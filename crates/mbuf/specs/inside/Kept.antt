@@ -1,7 +1,6 @@
 -- How a `Packets` is kept. No public clause cites this module.
-use Rattle.std.specs.Prelude.{ℕ, ◌≡◌, Bool, true, false, List, [], ◌∷◌, length, Option, Some, None, Result, Ok, Err}
+use Rattle.std.specs.Prelude.{ℕ, ◌≡◌, Bool, true, false, List, [], ◌∷◌, length, Option, Some, None}
 use Rattle.commons.specs.declared.packet.Seg.{Seg}
-use Rattle.commons.specs.declared.refusal.Refusal.{Refusal}
 use Rattle.commons.specs.Packets.{held_in, own_in}
 use Rattle.mbuf.specs.Members.{Member, slots}
 use Rattle.mbuf.specs.declared.packets.Packets.TheInside.{Inside}
@@ -29,11 +28,6 @@ member_of p = record {
 pub record IsKept (p : Inside) : Type 0 where
   pub flags : length p.free ≡ slots
   pub packets : length p.packets.items ≡ slots
-
--- an answer of one element, as a list
-abbrev pub as_list : Result ℕ Refusal → Result (List ℕ) Refusal
-as_list (Ok e) = Ok (e ∷ [])
-as_list (Err cause) = Err cause
 
 -- the cache is as before, and the packets hold what they held
 pub record KeepsHolds (m after : Member) : Type 0 where

@@ -73,7 +73,7 @@ impl Packets {
         if self.free.count() == 0 {
             return Err(Refusal::PacketsFull);
         }
-        match steps::get_one(&mut self.worker, c) {
+        match self.worker.get_one(c) {
             Ok(elem) => Ok(self.stand(c, elem)),
             Err(cause) => Err(cause),
         }

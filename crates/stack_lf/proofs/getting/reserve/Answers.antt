@@ -1,10 +1,10 @@
 use Rattle.std.proofs.Common.{◌≡◌, ◌≤◌, ℕ, refl, sym, ap, subst, arith}
 use Rattle.commons.specs.declared.refusal.Refusal.TheVariants.{NoEntries}
 use Rattle.ground.specs.Seats.{Seated}
-use Rattle.stack_lf.specs.Leaves.{IsBare}
+use Rattle.stack_lf.specs.Leaves.{AllLost, IsBare}
 use Rattle.stack_lf.specs.declared.tried.Tried.TheVariants as tried
 use Rattle.stack_lf.specs.Tries.{IsMiss, KnowsShort}
-use Rattle.stack_lf.proofs.Composing.{AllLost, all_none, reserve_lost, reserve_won, reserve_refused, reserve_given_up, not_contended}
+use Rattle.stack_lf.proofs.Composing.{all_none, reserve_lost, reserve_won, reserve_refused, reserve_given_up, not_contended}
 use Rattle.stack_lf.proofs.getting.reserve.Goals as goal
 
 pub loop-init : goal.loop-init

@@ -1,7 +1,6 @@
 use Rattle.std.proofs.Common.{◌≡◌}
-use Rattle.stack_lf.specs.Leaves.{IsBare}
+use Rattle.stack_lf.specs.Leaves.{AllLost, IsBare}
 use Rattle.stack_lf.specs.Tries.{IsMiss}
-use Rattle.stack_lf.proofs.Composing.{AllLost}
 use Rattle.stack_lf.proofs.getting.reserve.Given as goal
 
 -- the tries so far lost; a seat of every part lost none
