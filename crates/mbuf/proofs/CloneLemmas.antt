@@ -1,7 +1,7 @@
 -- Segments that are cloned one after another.
 use Rattle.std.proofs.Common.{◌≡◌, ℕ, zero, suc, ◌+◌, ◌<◌, inl, inr, List, [], ◌∷◌, ◌++◌, length, length-set, take, drop, get_or, set, get_or-set_same, Option, Some, None, refl, sym, ap, ◌∙◌, subst, append_assoc, arith}
 use Rattle.std.proofs.lemmas.Bool.{cases_lt}
-use Rattle.std.proofs.lemmas.List.{append-nil, drop_more, get_or_default, set-set, take-append-drop}
+use Rattle.std.proofs.lemmas.List.{append-nil, drop_more, set-set, take-append-drop}
 use Rattle.std.proofs.lemmas.Grind.{flat_map-append}
 use Rattle.commons.specs.Bag.{bag, one}
 use Rattle.commons.specs.declared.limits.Limits.{Limits}
@@ -168,29 +168,23 @@ same_headers h0 h1 h2 o0 o2 add same more unheld kept held held0 = elim (cases_l
 ]
 
 -- what stands in the clone's place once one segment more follows
-pub record Follows (old cur : List (List Seg)) (slot k : ℕ) (seg : Seg) (lent now : List Seg) : Type 0 where
-  pub stood : lent ≡ get_or cur slot []
+pub record Follows (old cur : List (List Seg)) (slot k : ℕ) (seg : Seg) (now : List Seg) : Type 0 where
   pub here : get_or (set cur slot now) slot [] ≡ now
   pub so_far : take (k + 1) (get_or (set cur slot now) slot []) ≡ take k (get_or cur slot []) ++ seg ∷ []
   pub packets : set cur slot now ≡ set old slot (get_or (set cur slot now) slot [])
 
 -- A segment that is laid behind the first k leaves those, and makes them one more.
-pub followed : (old cur : List (List Seg)) (slot k : ℕ) (seg : Seg) (lent now : List Seg) →
-    slot < length old → cur ≡ set old slot (get_or cur slot []) →
-    lent ≡ get_or cur slot lent → take (k + 1) now ≡ take k lent ++ seg ∷ [] →
-    Follows old cur slot k seg lent now
-followed old cur slot k seg lent now within so at is =
+pub followed : (old cur : List (List Seg)) (slot k : ℕ) (seg : Seg) (now : List Seg) → slot < length old →
+    cur ≡ set old slot (get_or cur slot []) →
+    take (k + 1) now ≡ take k (get_or cur slot []) ++ seg ∷ [] → Follows old cur slot k seg now
+followed old cur slot k seg now within so is =
     let p = get_or cur slot [] in
     let bound : slot < length cur =
     omega (arith, within, ap (λ (x : List (List Seg)). length x) so, length-set old slot p) in
-    let lent_is : lent ≡ p = at ∙ get_or_default cur slot lent [] bound in
     let here : get_or (set cur slot now) slot [] ≡ now = get_or-set_same cur slot now [] bound in
     record {
-      stood = lent_is;
       here = here;
-      so_far =
-          ap (λ (x : List Seg). take (k + 1) x) here ∙ is
-          ∙ ap (λ (x : List Seg). take k x ++ seg ∷ []) lent_is;
+      so_far = ap (λ (x : List Seg). take (k + 1) x) here ∙ is;
       packets =
           ap (λ (x : List (List Seg)). set x slot now) so ∙ set-set old slot p now
           ∙ ap (λ (x : List Seg). set old slot x) (sym here);

@@ -124,31 +124,39 @@ fn give_up<C: Commons>(worker: &mut Worker, c: &mut C, segs: &[Seg], over: Optio
     }
 }
 
-/// Lets a segment follow the first `count` of a packet, in the place of the next one, or as its last.
+/// Puts a segment behind the first `count` of a packet, in the place of the next one.
 #[inline(always)]
 fn follow(packet: &mut Packet, count: usize, seg: Seg)
-    requires there { count ≤ length packet.old }
-    requires room { count < max_segs }
+    requires there { count < length packet.old }
     requires data { HasItsData seg }
     ensures next { take (count + 1) packet.new ≡ take count packet.old ++ seg ∷ [] }
-    ensures grown { (length packet.new ≡ length packet.old) ⊎ (length packet.new ≡ count + 1) }
-    ensures there { count < length packet.new }
+    ensures len { length packet.new ≡ length packet.old }
 {
-    if count < packet.segs().len() {
-        packet.set(count, seg);
-    } else {
-        packet.push(seg);
+    packet.set(count, seg);
+}
+
+/// Lets a packet have so many segments, whatever they are.
+#[inline(always)]
+fn fit(packet: &mut Packet, count: usize)
+    requires some { 1 ≤ count }
+    requires few { count ≤ max_segs }
+    ensures { length packet.new ≡ count }
+{
+    if packet.segs().len() != count {
+        refit(packet, count);
     }
 }
 
-/// Lets a packet have so many segments at most, whatever they are: a longer one is cut to one.
-#[inline(always)]
-fn cut_to(packet: &mut Packet, most: usize)
-    requires { 1 ≤ most }
-    ensures { length packet.new ≤ most }
+/// Makes a packet of so many segments without data. It stands apart, since a slot mostly has had as many.
+#[inline(never)]
+fn refit(packet: &mut Packet, count: usize)
+    requires some { 1 ≤ count }
+    requires few { count ≤ max_segs }
+    ensures { length packet.new ≡ count }
 {
-    if packet.segs().len() > most {
-        packet.restart(Seg::default());
+    packet.restart(Seg::default());
+    for _ in 1..count {
+        packet.push(Seg::default());
     }
 }
 
@@ -188,9 +196,49 @@ pub fn clone_segs<C: Commons>(
     ensures limits { (C.side c.new).limits ≡ (C.side c.old).limits }
     ensures number { KeepsNumber worker.old worker.new }
 {
+    clone_within(worker, c, packets.as_mut_slice(), source, slot)
+}
+
+/// The same of a worker's packets as a slice, whose place in memory no atomic operation can change.
+#[inline(always)]
+fn clone_within<C: Commons>(
+    worker: &mut Worker,
+    c: &mut C,
+    packets: &mut [Packet],
+    source: usize,
+    slot: usize,
+) -> Result<(), Refusal>
+    requires source { source < length packets.old }
+    requires slot { slot < length packets.old }
+    requires apart { source ≢ slot }
+    requires limits { (C.side c.old).limits ≡ worker.old.limits }
+    requires hand { (i : ℕ) → (C.side c.old).hand i ≡ bag worker.old.cache i }
+    requires held { (i : ℕ) → bag (holds_of_packet (slice_index_or packets.old source [])) i
+        ≤ (C.side c.old).holds i }
+    ensures calls { Calls C.did C.side c.old c.new (λ calls.
+        TriesSegs worker.old.limits (slice_index_or packets.old source [])
+        worker.old.cache calls (slice_index_or packets.new slot []) result
+        worker.new.cache) }
+    ensures packets { packets.new
+        ≡ slice_set packets.old slot (slice_index_or packets.new slot []) }
+    ensures hand { (i : ℕ) → (C.side c.new).hand i ≡ bag worker.new.cache i }
+    ensures holds { OnOk result
+        ((i : ℕ) → (C.side c.new).holds i ≡ (C.side c.old).holds i
+        + bag (holds_of_packet (slice_index_or packets.new slot [])) i) }
+    ensures headers { OnOk result
+        ((i : ℕ) → (C.side c.new).headers i ≡ (C.side c.old).headers i
+        + bag (map (λ seg. seg.elem) (slice_index_or packets.new slot [])) i) }
+    ensures unheld { OnOk result
+        ((i : ℕ) → 0 < bag (map (λ seg. seg.elem) (slice_index_or packets.new slot [])) i →
+        (C.side c.old).holds i ≡ 0) }
+    ensures holds_err { OnErr result ((i : ℕ) → (C.side c.new).holds i ≡ (C.side c.old).holds i) }
+    ensures headers_err { OnErr result ((i : ℕ) → (C.side c.new).headers i ≡ (C.side c.old).headers i) }
+    ensures limits { (C.side c.new).limits ≡ (C.side c.old).limits }
+    ensures number { KeepsNumber worker.old worker.new }
+{
     let count = packets[source].segs().len();
     // What stood there last stays in its place, and is written over.
-    cut_to(&mut packets[slot], count);
+    fit(&mut packets[slot], count);
     for index in 0..count {
         let seg = packets[source].segs()[index];
         match clone_seg(worker, c, seg) {

@@ -143,10 +143,43 @@ pub fn end_segs<C: Commons>(worker: &mut Worker, c: &mut C, segs: &[Seg]) -> Fre
         // Most packets have one: what was freed before is nothing then, and nothing is carried.
         return end_seg(worker, c, segs[0], NOTHING_FREED);
     }
-    end_each(worker, c, segs)
+    end_several(worker, c, segs)
 }
 
-/// Ends the holds of any number of segments in order.
+/// Ends the holds of several segments in order. What that has done has a place of its own here, which is filled for
+/// several alone.
+#[inline(always)]
+fn end_several<C: Commons>(worker: &mut Worker, c: &mut C, segs: &[Seg]) -> Freed
+    requires limits { (C.side c.old).limits ≡ worker.old.limits }
+    requires hand { (i : ℕ) → (C.side c.old).hand i ≡ bag worker.old.cache i }
+    requires held { (i : ℕ) → bag (holds_of_packet segs.now) i ≤ (C.side c.old).holds i }
+    requires few { length segs.now ≤ max_segs }
+    ensures calls { Calls C.did C.side c.old c.new (λ calls.
+        EndsHolds worker.old.limits (holds_of_packet segs.now) worker.old.cache freed_nothing
+        calls worker.new.cache result) }
+    ensures hand { (i : ℕ) → (C.side c.new).hand i ≡ bag worker.new.cache i }
+    ensures holds { (i : ℕ) → (C.side c.old).holds i
+        ≡ (C.side c.new).holds i + bag (holds_of_packet segs.now) i }
+    ensures headers { (i : ℕ) → 0 < (C.side c.new).holds i →
+        (C.side c.new).headers i ≡ (C.side c.old).headers i }
+    ensures limits { (C.side c.new).limits ≡ (C.side c.old).limits }
+    ensures number { KeepsNumber worker.old worker.new }
+    ensures back { result.back ≤ 2 * length segs.now }
+    ensures flushed { result.flushed ≤ max_population * result.back }
+{
+    let Freed {
+        back,
+        flushed,
+        put_off,
+    } = end_each(worker, c, segs);
+    Freed {
+        back,
+        flushed,
+        put_off,
+    }
+}
+
+/// The same, in a function of its own, so that what inlines a free stays small.
 #[inline(never)]
 fn end_each<C: Commons>(worker: &mut Worker, c: &mut C, segs: &[Seg]) -> Freed
     requires limits { (C.side c.old).limits ≡ worker.old.limits }

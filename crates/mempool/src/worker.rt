@@ -147,10 +147,34 @@ impl Worker {
     }
 
     /// Gets more elements than the cache has, and fewer than it keeps: from the cache once it is
-    /// refilled, else from the common stack. It stands apart, so that what a get from the cache
-    /// inlines stays small.
-    #[inline(never)]
+    /// refilled, else from the common stack. The answer has a place of its own here, which is filled
+    /// where the cache has too few alone.
+    #[inline(always)]
     fn get_refilled<C: Commons>(&mut self, c: &mut C, out: &mut [u32]) -> Result<(), Refusal>
+        requires limits { (C.side c.old).limits ≡ self.old.limits }
+        requires fewer { length out.old < self.old.limits.cache }
+        requires more { length self.old.cache < length out.old }
+        ensures calls { Calls C.did C.side c.old c.new (λ calls.
+            Gets self.old.limits self.old.cache (length out.old) calls (with_list result out.new) self.new.cache) }
+        ensures hand { OnOk result
+            ((i : ℕ) → (C.side c.new).hand i + bag self.old.cache i
+            ≡ (C.side c.old).hand i + bag self.new.cache i + bag out.new i) }
+        ensures refused { OnErr result (C.side c.new ≡ C.side c.old) }
+        ensures cache_err { OnErr result (self.new.cache ≡ self.old.cache) }
+        ensures holds { (C.side c.new).holds ≡ (C.side c.old).holds }
+        ensures headers { (C.side c.new).headers ≡ (C.side c.old).headers }
+        ensures limits { (C.side c.new).limits ≡ (C.side c.old).limits }
+        ensures number { KeepsNumber self.old self.new }
+    {
+        match self.refilled_apart(c, out) {
+            Ok(()) => Ok(()),
+            Err(cause) => Err(cause),
+        }
+    }
+
+    /// The same, in a function of its own, so that what a get from the cache inlines stays small.
+    #[inline(never)]
+    fn refilled_apart<C: Commons>(&mut self, c: &mut C, out: &mut [u32]) -> Result<(), Refusal>
         requires limits { (C.side c.old).limits ≡ self.old.limits }
         requires fewer { length out.old < self.old.limits.cache }
         requires more { length self.old.cache < length out.old }

@@ -3,7 +3,7 @@ use Rattle.std.proofs.Common.{sym, ap, ◌∙◌, ◌≡◌, ◌+◌, ◌-◌, �
 use Rattle.commons.specs.Calls.{GetList, with_list}
 use Rattle.commons.proofs.Bags.{bag-last, bag-take-drop}
 use Rattle.mempool.specs.Caches.{NoRefill, RefillRefused, Refill}
-use Rattle.mempool.proofs.worker.Worker.get_refilled.Goals as goal
+use Rattle.mempool.proofs.worker.Worker.refilled_apart.Goals as goal
 
 -- No refill can be met, so the stack is asked for what is wanted alone.
 pub returns-then-n-size-clause-calls : goal.returns-then-n-size-clause-calls

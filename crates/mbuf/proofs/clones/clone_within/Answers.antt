@@ -11,23 +11,22 @@ use Rattle.mbuf.specs.PacketRules.{freed_nothing}
 use Rattle.mbuf.specs.Sharing.{buffer_of, ClonesSeg, StopsCloning}
 use Rattle.mbuf.proofs.CloneLemmas.{buffer_held, cloned_more, followed, given_up, laid_there, holds-more, same_headers}
 use Rattle.mbuf.proofs.EndLemmas.{Ended}
-use Rattle.mbuf.proofs.clones.clone_segs.Goals as goal
+use Rattle.mbuf.proofs.clones.clone_within.Goals as goal
 
--- what is lent from another place than the clone's is what stood there at first
-lent_from : (old cur : List (List Seg)) (source slot : ℕ) (lent : List Seg) → source < length old →
-    source ≢ slot → cur ≡ set old slot (get_or cur slot []) → lent ≡ get_or cur source lent →
-    lent ≡ get_or old source []
-lent_from old cur source slot lent within apart so at =
-    at ∙ ap (λ (x : List (List Seg)). get_or x source lent) so
+-- what stands in another place than the clone's is what stood there at first
+stands_from : (old cur : List (List Seg)) (source slot : ℕ) (lent : List Seg) → source < length old →
+    source ≢ slot → cur ≡ set old slot (get_or cur slot []) →
+    get_or cur source lent ≡ get_or old source []
+stands_from old cur source slot lent within apart so =
+    ap (λ (x : List (List Seg)). get_or x source lent) so
     ∙ get_or-set_other old slot source (get_or cur slot []) lent apart
     ∙ get_or_default old source lent [] within
 
--- what is lent from the clone's place is what stands there
-lent_clone : (old cur : List (List Seg)) (slot : ℕ) (lent : List Seg) → slot < length old →
-    cur ≡ set old slot (get_or cur slot []) → lent ≡ get_or cur slot lent →
-    lent ≡ get_or cur slot []
-lent_clone old cur slot lent within so at =
-    at ∙ get_or_default cur slot lent [] (omega (
+-- what stands in the clone's place, whatever stands where there is no place
+stands_clone : (old cur : List (List Seg)) (slot : ℕ) (lent : List Seg) → slot < length old →
+    cur ≡ set old slot (get_or cur slot []) → get_or cur slot lent ≡ get_or cur slot []
+stands_clone old cur slot lent within so =
+    get_or_default cur slot lent [] (omega (
       arith,
       within,
       ap (λ (x : List (List Seg)). length x) so,
@@ -54,12 +53,11 @@ pub loop-index-init : goal.loop-index-init
 loop-index-init g c = record {
   cloned = ([], refl, (refl, refl, refl));
   packets =
-      laid_there c.args.packets.now.items c.args.slot c.cut_to.new.packet
-      (omega (arith, c.requires.slot, c.args.packets.now.ok));
-  there = omega arith;
-  most =
-      rw (get_or-set_same c.args.packets.now.items c.args.slot c.cut_to.new.packet []
-      (omega (arith, c.requires.slot, c.args.packets.now.ok))) c.cut_to.ensures;
+      laid_there c.args.packets.now c.args.slot c.fit.new.packet
+      (omega (arith, c.requires.slot));
+  len =
+      ap (λ (x : List Seg). length x) (get_or-set_same c.args.packets.now c.args.slot c.fit.new.packet []
+      (omega (arith, c.requires.slot))) ∙ c.fit.ensures;
   hand = c.requires.hand;
   holds = λ i. omega (arith, bag-nil i);
   headers = λ i. omega (arith, bag-nil i);
@@ -71,42 +69,41 @@ loop-index-init g c = record {
 -- The packet that is cloned holds the next segment's buffer, and the worker holds no less.
 pub clone_seg-requires-clause-held : goal.clone_seg-requires-clause-held
 clone_seg-requires-clause-held g c =
-    let old = c.args.packets.now.items in
+    let old = c.args.packets.now in
     let source = c.args.source in
     let k = c.loop-index.index in
     let src = get_or old source [] in
     let inv = c.loop-index.invariant in
-    let low : source < length old = omega (arith, c.requires.source, c.args.packets.now.ok) in
-    let all = c.segs-count.ensures.segs ∙ c.index.ensures ∙ get_or_default old source c.index.result.now [] low in
+    let low : source < length old = omega (arith, c.requires.source) in
+    let all = c.segs-count.ensures.segs ∙ get_or_default old source c.index-packets-source.result [] low in
     let within : k < length src = omega (arith, c.loop-index-test.true, ap (λ (s : List Seg). length s) all) in
     let seg =
-    c.segs.ensures.segs ∙ lent_from old c.loop-index.packets.items source c.args.slot
-    c.index-in-loop-index.result.now low c.requires.apart inv.packets
-    c.index-in-loop-index.ensures in
+    c.segs.ensures.segs ∙ stands_from old c.loop-index.packets source c.args.slot
+    c.index-packets-source-in-loop-index.result low c.requires.apart inv.packets in
     let buffer = buffer_of (get_or src k no_seg) in
     rw seg (omega (arith, buffer_held src k no_seg within, c.requires.held buffer, inv.holds buffer))
 
 -- The clones so far and the element that is left over are held, since their holds came on top.
 pub give_up-requires-clause-held : goal.give_up-requires-clause-held
 give_up-requires-clause-held g c = λ i.
-    let old = c.args.packets.now.items in
-    let cur = c.loop-index.packets.items in
+    let old = c.args.packets.now in
+    let cur = c.loop-index.packets in
     let source = c.args.source in
     let slot = c.args.slot in
     let k = c.loop-index.index in
     let src = get_or old source [] in
     let p = get_or cur slot [] in
     let inv = c.loop-index.invariant in
-    let low : source < length old = omega (arith, c.requires.source, c.args.packets.now.ok) in
-    let high : slot < length old = omega (arith, c.requires.slot, c.args.packets.now.ok) in
-    let all = c.segs-count.ensures.segs ∙ c.index.ensures ∙ get_or_default old source c.index.result.now [] low in
+    let low : source < length old = omega (arith, c.requires.source) in
+    let high : slot < length old = omega (arith, c.requires.slot) in
+    let all = c.segs-count.ensures.segs ∙ get_or_default old source c.index-packets-source.result [] low in
     let within : k < length src = omega (arith, c.loop-index-test.true, ap (λ (s : List Seg). length s) all) in
     let seg =
-    c.segs.ensures.segs ∙ lent_from old cur source slot c.index-in-loop-index.result.now low
-    c.requires.apart inv.packets c.index-in-loop-index.ensures in
+    c.segs.ensures.segs ∙ stands_from old cur source slot
+    c.index-packets-source-in-loop-index.result low c.requires.apart inv.packets in
     let clone =
-    c.segs-in-Err.ensures.segs ∙ lent_clone old cur slot c.index-in-Err.result.now high
-    inv.packets c.index-in-Err.ensures in
+    c.segs-in-Err.ensures.segs ∙ stands_clone old cur slot c.index-packets-slot-in-Err.result high
+    inv.packets in
     let over = c.in-Err.stop.over in
     rw clone (omega (
       arith,
@@ -118,24 +115,24 @@ give_up-requires-clause-held g c = λ i.
 -- The segments so far were cloned, the next one wasn't, and what was made was given up.
 pub returns-in-Err-clause-calls : goal.returns-in-Err-clause-calls
 returns-in-Err-clause-calls g c =
-    let old = c.args.packets.now.items in
-    let cur = c.loop-index.packets.items in
+    let old = c.args.packets.now in
+    let cur = c.loop-index.packets in
     let source = c.args.source in
     let slot = c.args.slot in
     let k = c.loop-index.index in
     let src = get_or old source [] in
     let p = get_or cur slot [] in
     let inv = c.loop-index.invariant in
-    let low : source < length old = omega (arith, c.requires.source, c.args.packets.now.ok) in
-    let high : slot < length old = omega (arith, c.requires.slot, c.args.packets.now.ok) in
-    let all = c.segs-count.ensures.segs ∙ c.index.ensures ∙ get_or_default old source c.index.result.now [] low in
+    let low : source < length old = omega (arith, c.requires.source) in
+    let high : slot < length old = omega (arith, c.requires.slot) in
+    let all = c.segs-count.ensures.segs ∙ get_or_default old source c.index-packets-source.result [] low in
     let within : k < length src = omega (arith, c.loop-index-test.true, ap (λ (s : List Seg). length s) all) in
     let seg =
-    c.segs.ensures.segs ∙ lent_from old cur source slot c.index-in-loop-index.result.now low
-    c.requires.apart inv.packets c.index-in-loop-index.ensures in
+    c.segs.ensures.segs ∙ stands_from old cur source slot
+    c.index-packets-source-in-loop-index.result low c.requires.apart inv.packets in
     let clone =
-    c.segs-in-Err.ensures.segs ∙ lent_clone old cur slot c.index-in-Err.result.now high
-    inv.packets c.index-in-Err.ensures in
+    c.segs-in-Err.ensures.segs ∙ stands_clone old cur slot c.index-packets-slot-in-Err.result high
+    inv.packets in
     let over = c.in-Err.stop.over in
     let did = g.C.Commons.did in
     let side = g.C.Commons.side in
@@ -158,24 +155,24 @@ returns-in-Err-clause-calls g c =
 -- The holds that ended are those that were made.
 pub returns-in-Err-clause-holds_err : goal.returns-in-Err-clause-holds_err
 returns-in-Err-clause-holds_err g c = λ i.
-    let old = c.args.packets.now.items in
-    let cur = c.loop-index.packets.items in
+    let old = c.args.packets.now in
+    let cur = c.loop-index.packets in
     let source = c.args.source in
     let slot = c.args.slot in
     let k = c.loop-index.index in
     let src = get_or old source [] in
     let p = get_or cur slot [] in
     let inv = c.loop-index.invariant in
-    let low : source < length old = omega (arith, c.requires.source, c.args.packets.now.ok) in
-    let high : slot < length old = omega (arith, c.requires.slot, c.args.packets.now.ok) in
-    let all = c.segs-count.ensures.segs ∙ c.index.ensures ∙ get_or_default old source c.index.result.now [] low in
+    let low : source < length old = omega (arith, c.requires.source) in
+    let high : slot < length old = omega (arith, c.requires.slot) in
+    let all = c.segs-count.ensures.segs ∙ get_or_default old source c.index-packets-source.result [] low in
     let within : k < length src = omega (arith, c.loop-index-test.true, ap (λ (s : List Seg). length s) all) in
     let seg =
-    c.segs.ensures.segs ∙ lent_from old cur source slot c.index-in-loop-index.result.now low
-    c.requires.apart inv.packets c.index-in-loop-index.ensures in
+    c.segs.ensures.segs ∙ stands_from old cur source slot
+    c.index-packets-source-in-loop-index.result low c.requires.apart inv.packets in
     let clone =
-    c.segs-in-Err.ensures.segs ∙ lent_clone old cur slot c.index-in-Err.result.now high
-    inv.packets c.index-in-Err.ensures in
+    c.segs-in-Err.ensures.segs ∙ stands_clone old cur slot c.index-packets-slot-in-Err.result high
+    inv.packets in
     let over = c.in-Err.stop.over in
     let ends = rw clone at (c.give_up.ensures.holds i) in
     omega (arith, ends, c.in-Err.ensures.holds i, inv.holds i, bag-append (holds_of_packet (take k p)) (hold_of over) i)
@@ -183,24 +180,24 @@ returns-in-Err-clause-holds_err g c = λ i.
 -- With the holds as before, the headers are: a new one was unheld before, and it is unheld again.
 pub returns-in-Err-clause-headers_err : goal.returns-in-Err-clause-headers_err
 returns-in-Err-clause-headers_err g c = λ i.
-    let old = c.args.packets.now.items in
-    let cur = c.loop-index.packets.items in
+    let old = c.args.packets.now in
+    let cur = c.loop-index.packets in
     let source = c.args.source in
     let slot = c.args.slot in
     let k = c.loop-index.index in
     let src = get_or old source [] in
     let p = get_or cur slot [] in
     let inv = c.loop-index.invariant in
-    let low : source < length old = omega (arith, c.requires.source, c.args.packets.now.ok) in
-    let high : slot < length old = omega (arith, c.requires.slot, c.args.packets.now.ok) in
-    let all = c.segs-count.ensures.segs ∙ c.index.ensures ∙ get_or_default old source c.index.result.now [] low in
+    let low : source < length old = omega (arith, c.requires.source) in
+    let high : slot < length old = omega (arith, c.requires.slot) in
+    let all = c.segs-count.ensures.segs ∙ get_or_default old source c.index-packets-source.result [] low in
     let within : k < length src = omega (arith, c.loop-index-test.true, ap (λ (s : List Seg). length s) all) in
     let seg =
-    c.segs.ensures.segs ∙ lent_from old cur source slot c.index-in-loop-index.result.now low
-    c.requires.apart inv.packets c.index-in-loop-index.ensures in
+    c.segs.ensures.segs ∙ stands_from old cur source slot
+    c.index-packets-source-in-loop-index.result low c.requires.apart inv.packets in
     let clone =
-    c.segs-in-Err.ensures.segs ∙ lent_clone old cur slot c.index-in-Err.result.now high
-    inv.packets c.index-in-Err.ensures in
+    c.segs-in-Err.ensures.segs ∙ stands_clone old cur slot c.index-packets-slot-in-Err.result high
+    inv.packets in
     let over = c.in-Err.stop.over in
     let ends = rw clone at (c.give_up.ensures.holds i) in
     let elems = map (λ (s : Seg). s.elem) (take k p) in
@@ -228,21 +225,21 @@ returns-in-Err-clause-headers_err g c = λ i.
 -- One segment more is cloned, and its clone stands behind the clones so far.
 pub loop-index-preserved : goal.loop-index-preserved
 loop-index-preserved g c =
-    let old = c.args.packets.now.items in
-    let cur = c.loop-index.packets.items in
+    let old = c.args.packets.now in
+    let cur = c.loop-index.packets in
     let source = c.args.source in
     let slot = c.args.slot in
     let k = c.loop-index.index in
     let src = get_or old source [] in
     let p = get_or cur slot [] in
     let inv = c.loop-index.invariant in
-    let low : source < length old = omega (arith, c.requires.source, c.args.packets.now.ok) in
-    let high : slot < length old = omega (arith, c.requires.slot, c.args.packets.now.ok) in
-    let all = c.segs-count.ensures.segs ∙ c.index.ensures ∙ get_or_default old source c.index.result.now [] low in
+    let low : source < length old = omega (arith, c.requires.source) in
+    let high : slot < length old = omega (arith, c.requires.slot) in
+    let all = c.segs-count.ensures.segs ∙ get_or_default old source c.index-packets-source.result [] low in
     let within : k < length src = omega (arith, c.loop-index-test.true, ap (λ (s : List Seg). length s) all) in
     let seg =
-    c.segs.ensures.segs ∙ lent_from old cur source slot c.index-in-loop-index.result.now low
-    c.requires.apart inv.packets c.index-in-loop-index.ensures in
+    c.segs.ensures.segs ∙ stands_from old cur source slot
+    c.index-packets-source-in-loop-index.result low c.requires.apart inv.packets in
     let did = g.C.Commons.did in
     let side = g.C.Commons.side in
     let w = c.args.worker.now in
@@ -250,8 +247,9 @@ loop-index-preserved g c =
     let new = c.in-Ok.new in
     let now = c.follow.new.packet in
     let step =
-    followed old cur slot k new c.index_mut-in-Ok.result.now now high inv.packets
-    c.index_mut-in-Ok.ensures.value c.follow.ensures.next in
+    followed old cur slot k new now high inv.packets
+    (c.follow.ensures.next ∙ ap (λ (x : List Seg). take k x ++ new ∷ [])
+    (stands_clone old cur slot c.index-packets-slot-in-Ok.result high inv.packets)) in
     let tried = rw seg at c.in-Ok.ensures.calls in
     let more =
     cloned_more did side c.args.c.now c.loop-index.c c.clone_seg.new.c w.limits (take k src)
@@ -264,12 +262,10 @@ loop-index-preserved g c =
     record {
       cloned = rw (step.so_far, take_more src k no_seg within) more;
       packets = step.packets;
-      there = rw step.here (omega (arith, c.follow.ensures.there));
-      most =
-          rw step.here (elim c.follow.ensures.grown [
-            | inl same ↦ omega (arith, same, ap (λ (x : List Seg). length x) step.stood, inv.most)
-            | inr more ↦ omega (arith, more, c.loop-index-test.true)
-          ]);
+      len =
+          ap (λ (x : List Seg). length x) step.here ∙ c.follow.ensures.len
+          ∙ ap (λ (x : List Seg). length x)
+          (stands_clone old cur slot c.index-packets-slot-in-Ok.result high inv.packets) ∙ inv.len;
       hand = c.in-Ok.ensures.hand;
       holds =
           λ i.
