@@ -1,13 +1,15 @@
 -- Words as flags: what a test, a change of one bit and a search of the lowest say of them.
-use Rattle.std.proofs.Common.{◌≡◌, ◌≢◌, ℕ, ◌+◌, ◌-◌, ◌*◌, ◌/◌, ◌%◌, ◌<◌, Bool, true, false, List, length, length-set, get_or, set, get_or-set_same, get_or-set_other, Some, None, refl, sym, ap, ◌∙◌, arith, inl, inr}
-use Rattle.std.specs.Prelude.{◌==◌, cond, count_by, not, position, nat_lt}
-use Rattle.std.specs.List.{position_or_len}
+use Rattle.std.proofs.Common.{◌≡◌, ◌≢◌, ℕ, zero, suc, ◌+◌, ◌*◌, ◌/◌, ◌%◌, ◌^◌, ◌<◌, Bool, true, false, List, length, length-set, get_or, set, get_or-set_same, get_or-set_other, Some, None, refl, sym, ap, ◌∙◌, arith, pow-suc, inl, inr}
+use Rattle.std.specs.Prelude.{◌==◌, cond, count_by, count_ones, map, not, position, nat_lt, sum_by}
+use Rattle.std.specs.List.{position_or_len, range_with_len}
 use Rattle.std.specs.Int.{bit_at}
-use Rattle.std.proofs.lemmas.Nat.Bits.{bit_at-zero}
+use Rattle.std.specs.Int.Count.{ones_step}
+use Rattle.std.proofs.lemmas.Nat.{ones-le}
+use Rattle.std.proofs.lemmas.Nat.Bits.{bit_at-zero, bit_at_lowest, bit_at-suc}
 use Rattle.std.proofs.lemmas.Bool.{cases_eq, cases_lt, cond-true, cond-false, lt-ltb, le-ltb, eq-eqb}
 use Rattle.std.proofs.lemmas.List.{ext_get_or}
 use Rattle.std.proofs.lemmas.List.FromFn.{get_or-map-range_with_len, length-map-range_with_len}
-use Rattle.std.proofs.lemmas.List.Sums.{prefix_len_is, sum_by-set}
+use Rattle.std.proofs.lemmas.List.Sums.{prefix_len_is, sum_by-cons}
 use Rattle.mbuf.specs.inside.Bits.{is_set, flags_of, IsLowestBit}
 
 -- a slot's flag is its bit
@@ -117,20 +119,62 @@ none_is words len zeros =
 
 -- ---- how many
 
--- a flag that goes up counts
-pub counted_up : (flags : List Bool) (k : ℕ) → k < length flags → get_or flags k false ≡ false →
-    count_by (λ free. free) (set flags k true) ≡ count_by (λ free. free) flags + 1
-counted_up flags k within down =
-    let all = sum_by-set (λ (free : Bool). cond free 1 0) flags k true false within in
-    omega (arith, rw down at all)
+-- a bit that is up counts 1, and one that is down counts 0
+bit_counts : (bit : ℕ) → bit < 2 → cond (bit == 1) 1 0 ≡ bit
+bit_counts zero h = refl
+bit_counts (suc zero) h = refl
+bit_counts (suc (suc bit)) h = absurd (omega (arith, h))
 
--- one that goes down doesn't any more
-pub counted_down : (flags : List Bool) (k : ℕ) → k < length flags → get_or flags k false ≡ true →
-    count_by (λ free. free) (set flags k false) + 1 ≡ count_by (λ free. free) flags
-counted_down flags k within up =
-    let all = sum_by-set (λ (free : Bool). cond free 1 0) flags k false false within in
-    omega (arith, rw up at all)
+-- of flags that are the bits of a number, as many are up as the number has ones
+ones_run : (k a n m : ℕ) (p : ℕ → Bool) → n < 2 ^ k →
+    ((i : ℕ) → i < k → p (a + i) ≡ (bit_at n i == 1)) →
+    count_by (λ free. free) (map p (range_with_len a (k + m)))
+    ≡ count_ones n + count_by (λ free. free) (map p (range_with_len (a + k) m))
+ones_run zero a n m p fits same =
+    let here : a + 0 ≡ a = omega arith in
+    let none : count_ones n ≡ 0 = omega (arith, ones-le 0 n fits) in
+    let no_more : 0 + m ≡ m = omega arith in
+    rw (here, none, no_more) (omega arith)
+ones_run (suc k) a n m p fits same =
+    let here : a + 0 ≡ a = omega arith in
+    let on : a + suc k ≡ a + 1 + k = omega arith in
+    let first = rw here at (same 0 (omega arith)) ∙ ap (λ (b : ℕ). b == 1) (bit_at_lowest n) in
+    let one : cond (p a) 1 0 ≡ n % 2 = rw first (bit_counts (n % 2) (omega arith)) in
+    let more : suc k + m ≡ suc (k + m) = omega arith in
+    let rest =
+    ones_run k (a + 1) (n / 2) m p (omega (arith, fits, pow-suc 2 k)) (λ i l.
+    let next : a + 1 + i ≡ a + suc i = omega arith in
+    rw next (same (suc i) (omega (arith, l)) ∙ ap (λ (b : ℕ). b == 1) (bit_at-suc n i))) in
+    rw (on, more) (omega (
+      arith,
+      sum_by-cons (λ (free : Bool). cond free 1 0) (p a) (map p (range_with_len (a + 1) (k + m))),
+      one,
+      rest,
+      ones_step n,
+    ))
 
--- a number less 1 is the number that it follows
-pub one_fewer : (a b c : ℕ) → a ≡ b → c + 1 ≡ b → a - 1 ≡ c
-one_fewer a b c e h = omega (arith, e, h)
+-- Of the flags of n words, from the word w on, as many are up as the words have ones.
+ones_are : (words : List ℕ) → ((k : ℕ) → get_or words k 0 < 2 ^ 64) → (w n : ℕ) →
+    count_by (λ free. free) (map (is_set words) (range_with_len (64 * w) (64 * n)))
+    ≡ sum_by (λ k. count_ones (get_or words k 0)) (range_with_len w n)
+ones_are words fits w zero = refl
+ones_are words fits w (suc n) =
+    let more : 64 * suc n ≡ 64 + 64 * n = omega arith in
+    let next : 64 * w + 64 ≡ 64 * (w + 1) = omega arith in
+    let first =
+    ones_run 64 (64 * w) (get_or words w 0) (64 * n) (is_set words) (fits w) (λ i l.
+    let row : (64 * w + i) / 64 ≡ w = omega (arith, l) in
+    let column : (64 * w + i) % 64 ≡ i = omega (arith, l) in
+    rw (row, column) refl) in
+    rw more (first ∙ rw next (ap (λ (m : ℕ). count_ones (get_or words w 0) + m) (ones_are words fits (w + 1) n))
+    ∙ sym (sum_by-cons (λ (k : ℕ). count_ones (get_or words k 0)) w (range_with_len (w + 1) n)))
+
+-- four words have a one for each flag that is up
+pub ones_of_four : (words : List ℕ) → ((k : ℕ) → get_or words k 0 < 2 ^ 64) →
+    count_ones (get_or words 0 0) + count_ones (get_or words 1 0) + count_ones (get_or words 2 0)
+    + count_ones (get_or words 3 0)
+    ≡ count_by (λ free. free) (flags_of words)
+ones_of_four words fits =
+    let first : count_ones (get_or words 0 0) ≡ 0 + count_ones (get_or words 0 0) = omega arith in
+    ap (λ (n : ℕ). n + count_ones (get_or words 1 0) + count_ones (get_or words 2 0) + count_ones (get_or words 3 0)) first
+    ∙ sym (ones_are words fits 0 4)

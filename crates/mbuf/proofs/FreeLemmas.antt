@@ -49,20 +49,6 @@ first_free table h =
     (Some (position_or_len is_none table)) None
     (lt-ltb (position_or_len is_none table) (length table) (first_within 0 table h))
 
--- where none is, none is found
-none_within : (slot : ℕ) (table : List (Option (List Seg))) → length (free_from slot table) ≡ 0 →
-    position_or_len is_none table ≡ length table
-none_within slot [] e = refl
-none_within slot (None ∷ table) e = absurd (omega (arith, e))
-none_within slot (Some segs ∷ table) e = omega (arith, none_within (slot + 1) table e)
-
--- where none is free, there is no lowest one
-pub none_free : (table : List (Option (List Seg))) → length (free_slots table) ≡ 0 → free_slot table ≡ None
-none_free table e =
-    cond-false (nat_lt (position_or_len is_none table) (length table))
-    (Some (position_or_len is_none table)) None
-    (le-ltb (position_or_len is_none table) (length table) (omega (arith, none_within 0 table e)))
-
 -- a slot that was found is the first
 found_first : (table : List (Option (List Seg))) (slot : ℕ) → free_slot table ≡ Some slot →
     position_or_len is_none table ≡ slot

@@ -52,6 +52,12 @@ lowest p slot kept e =
       flag = up.1;
     }
 
+-- The flag of the table's lowest free slot is the first that is up.
+pub lowest_of : (p : Inside) (slot : ℕ) → IsKept p → free_slot (member_of p).table ≡ Some slot →
+    IsLowest p slot
+lowest_of p slot kept e =
+    lowest p slot kept (sym (sym (free_slot-shown p.free p.packets.items (alike p kept)) ∙ e))
+
 -- Once the slot is taken, it shows the packet that was laid there, and nothing else changes.
 pub filled : (p : Inside) (w : WorkerCache) (flags : List Bool) (packets : List (List Seg))
     (slot : ℕ) (segs : List Seg) → IsKept p → IsLowest p slot → KeepsNumber p.worker w →

@@ -2,29 +2,25 @@
 //!
 //! Bit k of word w is 1 while slot 64 w + k is free.
 
-ghost use Rattle.std.specs.Prelude.{◌≡◌, ◌<◌, true, false, count_by, position, replicate, slice_index_or, slice_set, MatchOption};
+ghost use Rattle.std.specs.Prelude.{◌≡◌, ◌<◌, true, false, count_by, length, position, replicate, slice_index_or, slice_set, MatchOption};
 ghost use Rattle.mbuf.specs.Members.{slots};
-ghost use Rattle.mbuf.specs.inside.Bits.{IsLowestBit};
+ghost use Rattle.mbuf.specs.inside.Bits.{IsLowestBit, flags_of};
 
-use crate::packets::SLOTS;
 use std::marker::Model;
 
 /// For each slot whether it is free.
 #[derive(Debug, Drop)]
 pub struct FreeSlots {
     words: [u64; 4],
-    count: usize,
 }
 
 impl Model for FreeSlots {
     ghost use Rattle.std.specs.Prelude.{Bool, List};
-    ghost use Rattle.mbuf.specs.inside.Bits.{flags_of, IsCounted};
+    ghost use Rattle.mbuf.specs.inside.Bits.{flags_of};
 
     ghost Value = { List Bool };
 
     ghost view = { λ s. flags_of s.words };
-
-    ghost invariant = { λ s. IsCounted s.words s.count };
 }
 
 /// The lowest bit of a word that is 1.
@@ -38,6 +34,17 @@ fn lowest_bit(word: u64) -> Option<usize>
     }
 }
 
+/// How many bits of four words are 1.
+fn bits_up(words: &[u64]) -> usize
+    requires { length words.now ≡ 4 }
+    ensures { result ≡ count_by (λ free. free) (flags_of words.now) }
+{
+    words[0].count_ones() as usize
+        + words[1].count_ones() as usize
+        + words[2].count_ones() as usize
+        + words[3].count_ones() as usize
+}
+
 impl FreeSlots {
     /// All slots are free.
     pub fn new() -> FreeSlots
@@ -45,7 +52,6 @@ impl FreeSlots {
     {
         FreeSlots {
             words: [u64::MAX; 4],
-            count: SLOTS,
         }
     }
 
@@ -53,7 +59,7 @@ impl FreeSlots {
     pub fn count(&self) -> usize
         ensures { result ≡ count_by (λ free. free) self.now }
     {
-        self.count
+        bits_up(&self.words)
     }
 
     /// The lowest free slot.
@@ -83,7 +89,6 @@ impl FreeSlots {
         ensures { self.new ≡ slice_set self.old slot false }
     {
         self.words[slot / 64] &= !(1 << (slot % 64));
-        self.count -= 1;
     }
 
     /// Gives a slot back that was taken: it is free from now on.
@@ -93,6 +98,5 @@ impl FreeSlots {
         ensures { self.new ≡ slice_set self.old slot true }
     {
         self.words[slot / 64] |= 1 << (slot % 64);
-        self.count += 1;
     }
 }

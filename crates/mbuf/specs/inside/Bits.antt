@@ -1,5 +1,5 @@
 -- Words as flags, one for each slot. No public clause cites this module.
-use Rattle.std.specs.Prelude.{ℕ, ◌≡◌, ◌<◌, ◌/◌, ◌%◌, ◌==◌, Bool, List, count_by, map, slice_index}
+use Rattle.std.specs.Prelude.{ℕ, ◌≡◌, ◌<◌, ◌/◌, ◌%◌, ◌==◌, Bool, List, map, slice_index}
 use Rattle.std.specs.List.{range_with_len}
 use Rattle.std.specs.Int.{bit_at}
 use Rattle.mbuf.specs.Members.{slots}
@@ -11,10 +11,6 @@ is_set words slot = bit_at (slice_index words (slot / 64)) (slot % 64) == 1
 -- the bits of all slots
 abbrev pub flags_of : List ℕ → List Bool
 flags_of words = map (is_set words) (range_with_len 0 slots)
-
--- so many bits are 1
-abbrev pub IsCounted : List ℕ → ℕ → Type 0
-IsCounted words count = count ≡ count_by (λ free. free) (flags_of words)
 
 -- the bit is 1, and none below it is
 pub record IsLowestBit (word bit : ℕ) : Type 0 where

@@ -15,18 +15,18 @@ use commons::refusal::Refusal;
 use commons::shared::Commons;
 
 impl Packets {
-    /// Claims an element of the hand, and lets its fresh packet stand in the lowest free slot.
+    /// Claims an element of the hand, and lets its fresh packet stand in the lowest free slot, whose
+    /// number it answers.
     #[inline(always)]
-    fn stand<C: Commons>(&mut self, c: &mut C, elem: u32) -> Pid
+    fn stand<C: Commons>(&mut self, c: &mut C, elem: u32, slot: usize) -> Pid
         requires hand { 0 < (C.side c.old).hand elem }
-        requires free { 0 < length (free_slots self.old.table) }
+        requires lowest { free_slot self.old.table ≡ Some slot }
         ensures did { Did C.did C.side c.old (Claim elem) c.new }
-        ensures slot { free_slot self.old.table ≡ Some result }
+        ensures slot { result ≡ slot }
         ensures stood { self.new ≡ record self.old {
-          table = slice_set self.old.table result (Some (fresh_seg self.old.limits elem ∷ []));
+          table = slice_set self.old.table slot (Some (fresh_seg self.old.limits elem ∷ []));
         } }
     {
-        let slot = self.free.lowest().unwrap();
         c.claim(elem);
         let seg = steps::fresh(self.worker.limits(), elem);
         self.packets[slot].restart(seg);
@@ -49,7 +49,8 @@ impl Packets {
         ensures limits { (C.side c.new).limits ≡ (C.side c.old).limits }
     {
         for place in 0..out.len() {
-            out[place] = self.stand(c, out[place]);
+            let slot = self.free.lowest().unwrap();
+            out[place] = self.stand(c, out[place], slot);
         }
     }
 
@@ -70,11 +71,11 @@ impl Packets {
         ensures own { Own self.new (C.side c.new) }
         ensures refused { OnErr result ((C.side c.new ≡ C.side c.old) × (self.new ≡ self.old)) }
     {
-        if self.free.count() == 0 {
+        let Some(slot) = self.free.lowest() else {
             return Err(Refusal::PacketsFull);
-        }
+        };
         match self.worker.get_one(c) {
-            Ok(elem) => Ok(self.stand(c, elem)),
+            Ok(elem) => Ok(self.stand(c, elem, slot)),
             Err(cause) => Err(cause),
         }
     }

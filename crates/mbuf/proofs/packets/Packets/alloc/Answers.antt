@@ -1,54 +1,44 @@
-use Rattle.std.proofs.Common.{◌≡◌, ◌<◌, [], ◌∷◌, ◌++◌, ℕ, List, length, set, take, Some, refl, sym, ap, subst, ◌∙◌, arith}
-use Rattle.std.specs.Prelude.{is_none}
-use Rattle.std.specs.List.{position_or_len}
+use Rattle.std.proofs.Common.{◌≡◌, [], ◌∷◌, ◌++◌, ℕ, List, length, set, take, None, Some, Result, Ok, refl, sym, ap, subst, ◌∙◌, arith}
 use Rattle.commons.specs.Calls.{Claim, calls_of}
 use Rattle.commons.specs.declared.limits.Limits.{Limits}
 use Rattle.commons.proofs.Bags.{bag-single, one-same}
 use Rattle.commons.proofs.Leading.{calls_of-append, Leads-append, Leads-one, made_by}
-use Rattle.mbuf.specs.inside.Kept.{member_of, shown}
+use Rattle.commons.specs.declared.refusal.Refusal.{Refusal}
+use Rattle.mbuf.specs.inside.Kept.{member_of}
 use Rattle.mbuf.specs.Members.{Member}
 use Rattle.mbuf.specs.Own.{Own}
-use Rattle.mbuf.specs.PacketRules.{free_slots, fresh_seg, stood, Full, NotGot, Fresh}
-use Rattle.mbuf.proofs.FreeLemmas.{length-free, first_free, none_free, taken_first, own_stood}
+use Rattle.mbuf.specs.PacketRules.{free_slot, free_slots, fresh_seg, stood, Full, NotGot, Fresh}
+use Rattle.mbuf.proofs.FreeLemmas.{taken_first, own_stood}
 use Rattle.commons.specs.Packets.{held_in}
 use Rattle.mbuf.specs.Fresh.{own_in_slots}
 use Rattle.mbuf.proofs.CloneLemmas.{single_is, unheld}
 use Rattle.mbuf.proofs.FreshLemmas.{fresh_headers, own_in_one}
 use Rattle.mbuf.proofs.OwnLemmas.{free_slot-is}
-use Rattle.mbuf.proofs.TableLemmas.{member_is}
+use Rattle.mbuf.proofs.PlaceLemmas.{alike, lowest}
+use Rattle.mbuf.proofs.TableLemmas.{free_slot-shown, member_is}
 use Rattle.mbuf.proofs.packets.Packets.alloc.Goals as goal
 
--- The free slots are as many as their count, which is 0: no slot is free, and nothing is asked.
-pub returns-then-count-eq0-clause-calls : goal.returns-then-count-eq0-clause-calls
-returns-then-count-eq0-clause-calls g c =
-    let inv = c.self.invariant in
-    let flags = c.self.inside.free in
-    let packets = c.self.inside.packets.items in
-    let none =
-    none_free (shown flags packets) (length-free 0 flags packets (inv.packets ∙ sym inv.flags)
-    ∙ sym c.count.ensures ∙ c.if-count-eq0.true) in
+-- No flag is up: no slot is free, and nothing is asked.
+pub returns-in_default-clause-calls : goal.returns-in_default-clause-calls
+returns-in_default-clause-calls g c =
+    let p = c.self.inside in
+    let none : free_slot (member_of p).table ≡ None =
+    free_slot-shown p.free p.packets.items (alike p c.self.invariant) ∙ sym c.in_default.ensures in
     rw (sym c.self.view_is) ([], refl, Full none refl refl refl)
 
--- some slot is free
-some_free : (count free : ℕ) → (count ≡ 0 → ⊥) → free ≡ count → 0 < free
-some_free count free some e = omega (arith, some, e)
-
--- A slot is free, since the count isn't 0; the get was refused, and it left the cache as it was.
+-- A slot is free, but the get was refused, and it left the cache as it was.
 pub returns-in-Err-clause-calls : goal.returns-in-Err-clause-calls
 returns-in-Err-clause-calls g c =
-    let inv = c.self.invariant in
-    let table = shown c.self.inside.free c.self.inside.packets.items in
+    let table = (member_of c.self.inside).table in
+    let slot = c.in-Some.slot in
+    let low = lowest c.self.inside slot c.self.invariant c.in-Some.ensures in
     let w = c.get_one.new.self in
     let before = c.self.inside.worker in
     let got = c.in-Err.ensures.calls in
-    let free =
-    first_free table (some_free c.count.result (length (free_slots table)) c.if-count-eq0.false
-    (length-free 0 c.self.inside.free c.self.inside.packets.items
-    (inv.packets ∙ sym inv.flags) ∙ sym c.count.ensures)) in
     rw (sym c.self.view_is) (
       got.0,
       got.1,
-      NotGot (position_or_len is_none table) free c.in-Err.cause (rw c.in-Err.ensures.cache_err at got.2) refl
+      NotGot slot low.free c.in-Err.cause (rw c.in-Err.ensures.cache_err at got.2) refl
           (member_is w.limits before.limits w.number before.number w.cache table table
           c.in-Err.ensures.number.limits c.in-Err.ensures.number.number refl
           ∙ ap (λ (cache : List ℕ). let m : Member =
@@ -64,20 +54,16 @@ stand-requires-clause-hand g c =
     let e = c.in-Ok.elem in
     omega (arith, own.cached e, c.in-Ok.ensures.hand e, one-same e)
 
--- The count of the free slots isn't 0, so one of them is free.
-pub stand-requires-clause-free : goal.stand-requires-clause-free
-stand-requires-clause-free g c =
-    let inv = c.self.invariant in
-    let table = shown c.self.inside.free c.self.inside.packets.items in
-    some_free c.count.result (length (free_slots table)) c.if-count-eq0.false
-    (length-free 0 c.self.inside.free c.self.inside.packets.items (inv.packets ∙ sym inv.flags)
-    ∙ sym c.count.ensures)
+-- The first flag that is up is that of the table's lowest free slot.
+pub stand-requires-clause-lowest : goal.stand-requires-clause-lowest
+stand-requires-clause-lowest g c = (lowest c.self.inside c.in-Some.slot c.self.invariant c.in-Some.ensures).free
 
 -- The calls are those of the get and then the claim of what it gave, whose packet stands lowest.
 pub returns-in-Ok-clause-calls : goal.returns-in-Ok-clause-calls
 returns-in-Ok-clause-calls g c =
-    let table = shown c.self.inside.free c.self.inside.packets.items in
-    let slot = c.stand.result in
+    let table = (member_of c.self.inside).table in
+    let slot = c.in-Some.slot in
+    let low = lowest c.self.inside slot c.self.invariant c.in-Some.ensures in
     let e = c.in-Ok.elem in
     let got = c.in-Ok.ensures.calls in
     let w = c.get_one.new.self in
@@ -91,7 +77,8 @@ returns-in-Ok-clause-calls g c =
       got.0 ++ made ∷ [],
       Leads-append did side got.0 (made ∷ []) c.args.c.now c.get_one.new.c c.stand.new.c got.1
           (Leads-one did side c.get_one.new.c (Claim e) c.stand.new.c stand.did),
-      Fresh slot e stand.slot (calls_of got.0) w.cache got.2 (calls_of-append got.0 (made ∷ [])) refl
+      Fresh slot e low.free (calls_of got.0) w.cache got.2 (calls_of-append got.0 (made ∷ []))
+          (ap (λ (n : ℕ). let r : Result ℕ Refusal = Ok n in r) stand.slot)
           (stand.stood ∙ member_is w.limits before.limits w.number before.number w.cache
           (set table slot (Some (fresh_seg w.limits e ∷ [])))
           (set table slot (Some (fresh_seg before.limits e ∷ []))) number.limits number.number
@@ -101,9 +88,9 @@ returns-in-Ok-clause-calls g c =
 -- The new element left the cache for the table, and one hold and one header came with it.
 pub returns-in-Ok-clause-own : goal.returns-in-Ok-clause-own
 returns-in-Ok-clause-own g c =
-    let inv = c.self.invariant in
-    let table = shown c.self.inside.free c.self.inside.packets.items in
-    let slot = c.stand.result in
+    let table = (member_of c.self.inside).table in
+    let slot = c.in-Some.slot in
+    let low = lowest c.self.inside slot c.self.invariant c.in-Some.ensures in
     let e = c.in-Ok.elem in
     let w = c.get_one.new.self in
     let before = c.self.inside.worker in
@@ -115,7 +102,7 @@ returns-in-Ok-clause-own g c =
     let mid = c.get_one.new.c in
     let last = c.stand.new.c in
     let side = g.C.Commons.side in
-    let rest = taken_first table slot (fresh_seg before.limits e ∷ []) stand.slot in
+    let rest = taken_first table slot (fresh_seg before.limits e ∷ []) low.free in
     let is =
     stand.stood ∙ member_is w.limits before.limits w.number before.number w.cache
     (set table slot (Some (fresh_seg w.limits e ∷ [])))
@@ -126,9 +113,7 @@ returns-in-Ok-clause-own g c =
     subst (λ (m : Member). Own m (side last)) (sym is)
     (own_stood (member_of c.self.inside) (side first) (side mid) (side last)
     w.cache (e ∷ []) own (effect.limits ∙ got.limits)
-    (some_free c.count.result (length (free_slots table)) c.if-count-eq0.false
-    (length-free 0 c.self.inside.free c.self.inside.packets.items
-    (inv.packets ∙ sym inv.flags) ∙ sym c.count.ensures))
+    (omega (arith, ap (λ (s : List ℕ). length s) rest))
     (λ i. omega (arith, got.hand i, bag-single e i)) got.holds got.headers
     (λ i. omega (arith, effect.hand i, bag-single e i))
     (λ i. omega (arith, effect.holds i, bag-single e i))
@@ -137,8 +122,9 @@ returns-in-Ok-clause-own g c =
 -- The element was in the hand, and what is in a hand has no holds: so no packet had it.
 pub returns-in-Ok-clause-fresh : goal.returns-in-Ok-clause-fresh
 returns-in-Ok-clause-fresh g c =
-    let table = shown c.self.inside.free c.self.inside.packets.items in
-    let slot = c.stand.result in
+    let table = (member_of c.self.inside).table in
+    let slot = c.in-Some.slot in
+    let low = lowest c.self.inside slot c.self.invariant c.in-Some.ensures in
     let e = c.in-Ok.elem in
     let l = c.self.inside.worker.limits in
     let w = c.get_one.new.self in
@@ -152,7 +138,7 @@ returns-in-Ok-clause-fresh g c =
     let own = rw (sym c.self.view_is) at c.requires.own in
     let list : own_in_slots c.stand.new.self.table (slot ∷ []) ≡ e ∷ [] =
     ap (λ (m : Member). own_in_slots m.table (slot ∷ [])) stand.stood
-    ∙ own_in_one table slot (fresh_seg w.limits e ∷ []) (free_slot-is table slot stand.slot).0
+    ∙ own_in_one table slot (fresh_seg w.limits e ∷ []) (free_slot-is table slot low.free).0
     in
     let none =
     unheld ((side mid).hand e) ((side mid).holds e) (met.apart mid e)
@@ -160,7 +146,7 @@ returns-in-Ok-clause-fresh g c =
     let nobodys : held_in table e ≡ 0 = omega (arith, none, ap (λ (f : ℕ → ℕ). f e) got.holds, own.held e) in
     let same : (side last).limits.population ≡ l.population =
     ap (λ (x : Limits). x.population) (effect.limits ∙ got.limits ∙ sym own.limits) in
-    rw (sym c.self.view_is, list)
+    rw (sym c.self.view_is, stand.slot, list)
     (fresh_headers (side mid) (side last) l.population (held_in table) (e ∷ [])
     (met.header_once last) (met.header_held last)
     (λ i b. met.holds_below last i (omega (arith, same, b)))

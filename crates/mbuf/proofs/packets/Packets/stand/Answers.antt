@@ -1,54 +1,44 @@
-use Rattle.std.proofs.Common.{ℕ, ◌≡◌, ◌<◌, Bool, [], ◌∷◌, length, set, false, Option, Some, refl, sym, subst, ◌∙◌}
-use Rattle.std.specs.Prelude.{IsSome}
-use Rattle.std.proofs.lemmas.List.Quantifiers.{position-Some}
-use Rattle.mbuf.specs.inside.Kept.{shown}
+use Rattle.std.proofs.Common.{◌≡◌, [], ◌∷◌, set, refl, sym, arith}
 use Rattle.mbuf.specs.PacketRules.{fresh_seg}
-use Rattle.mbuf.proofs.FreeLemmas.{first_free}
-use Rattle.mbuf.proofs.TableLemmas.{free_slot-shown, shown-set, member_is}
+use Rattle.mbuf.proofs.PlaceLemmas.{filled, lowest_of}
 use Rattle.mbuf.proofs.packets.Packets.stand.Goals as goal
 
--- Some slot is free, so there is a lowest one.
-pub unwrap-slot-requires : goal.unwrap-slot-requires
-unwrap-slot-requires g c =
+-- There is a packet for each flag, and the lowest free slot has one.
+pub index_mut-requires : goal.index_mut-requires
+index_mut-requires g c =
     let inv = c.self.invariant in
-    let flags = c.self.inside.free in
-    let packets = c.self.inside.packets.items in
-    let free = rw (sym c.self.view_is) at c.requires.free in
-    let first =
-    c.lowest.ensures ∙ sym (free_slot-shown flags packets (inv.packets ∙ sym inv.flags))
-    ∙ first_free (shown flags packets) free in
-    subst (λ (o : Option ℕ). IsSome o) (sym first) refl
+    let low = lowest_of c.self.inside c.args.slot inv (rw (sym c.self.view_is) at c.requires.lowest) in
+    omega (arith, low.within, inv.flags, inv.packets)
+
+-- The lowest free slot is one of the slots.
+pub take-requires-clause-within : goal.take-requires-clause-within
+take-requires-clause-within g c =
+    let inv = c.self.invariant in
+    let low = lowest_of c.self.inside c.args.slot inv (rw (sym c.self.view_is) at c.requires.lowest) in
+    omega (arith, low.within, inv.flags)
 
 -- The lowest free slot is free.
 pub take-requires-clause-free : goal.take-requires-clause-free
 take-requires-clause-free g c =
-    (position-Some (λ (b : Bool). b) c.self.inside.free c.unwrap-slot.result false
-    (sym c.lowest.ensures ∙ c.unwrap-slot.ensures)).1
+    (lowest_of c.self.inside c.args.slot c.self.invariant (rw (sym c.self.view_is) at c.requires.lowest)).flag
 
--- The first flag that is up is that of the table's lowest free slot.
-pub returns-clause-slot : goal.returns-clause-slot
-returns-clause-slot g c =
+-- A slot's number is small.
+pub overflow_cast-result : goal.overflow_cast-result
+overflow_cast-result g c =
     let inv = c.self.invariant in
-    rw (sym c.self.view_is) (free_slot-shown c.self.inside.free c.self.inside.packets.items
-    (inv.packets ∙ sym inv.flags) ∙ sym c.lowest.ensures ∙ c.unwrap-slot.ensures)
+    let low = lowest_of c.self.inside c.args.slot inv (rw (sym c.self.view_is) at c.requires.lowest) in
+    record { fits = omega (arith, low.within, inv.flags) }
 
 -- The slot that is taken shows the fresh packet that was laid there.
 pub returns-clause-stood : goal.returns-clause-stood
 returns-clause-stood g c =
+    let p = c.self.inside in
+    let slot = c.args.slot in
     let inv = c.self.invariant in
-    let flags = c.self.inside.free in
-    let packets = c.self.inside.packets.items in
-    let slot = c.unwrap-slot.result in
-    let w = c.self.inside.worker in
-    let within : slot < length flags =
-    (position-Some (λ (b : Bool). b) flags slot false
-    (sym c.lowest.ensures ∙ c.unwrap-slot.ensures)).0 in
-    let table : shown c.take.new.self (set packets slot c.restart.new.self)
-    ≡ set (shown flags packets) slot (Some (fresh_seg w.limits c.args.elem ∷ [])) =
-    rw (c.take.ensures, c.restart.ensures, c.fresh-seg.ensures.seg, c.limits.ensures.limits)
-    (shown-set flags packets slot false (fresh_seg w.limits c.args.elem ∷ []) within
-    (inv.packets ∙ sym inv.flags)) in
-    rw (sym c.self.view_is) (member_is w.limits w.limits w.number w.number w.cache
-    (shown c.take.new.self (set packets slot c.restart.new.self))
-    (set (shown flags packets) slot (Some (fresh_seg w.limits c.args.elem ∷ []))) refl refl
-    table)
+    let low = lowest_of p slot inv (rw (sym c.self.view_is) at c.requires.lowest) in
+    let laid : set p.packets.items slot c.restart.new.self
+    ≡ set p.packets.items slot (fresh_seg p.worker.limits c.args.elem ∷ []) =
+    rw (c.restart.ensures, c.fresh-seg.ensures.seg, c.limits.ensures.limits) refl in
+    rw (sym c.self.view_is) (filled p p.worker c.take.new.self (set p.packets.items slot c.restart.new.self)
+    slot (fresh_seg p.worker.limits c.args.elem ∷ []) inv low
+    (record { limits = refl; number = refl }) c.take.ensures laid)

@@ -1,11 +1,15 @@
-use Rattle.std.proofs.Common.{◌≡◌, ℕ, ◌+◌, ◌-◌, ◌<◌, List, [], ◌∷◌, ◌++◌, length, get_or, map, take, drop, refl, sym, ap, ◌∙◌, arith}
+use Rattle.std.proofs.Common.{◌≡◌, ℕ, ◌+◌, ◌-◌, ◌<◌, List, [], ◌∷◌, ◌++◌, length, get_or, map, take, drop, Option, refl, sym, ap, subst, ◌∙◌, arith}
+use Rattle.std.specs.Prelude.{IsSome}
 use Rattle.std.proofs.lemmas.List.{length-drop, map-append, take_all, take_more, drop_more}
 use Rattle.commons.specs.Bag.{bag, one}
 use Rattle.commons.specs.Calls.{Call, Claim}
 use Rattle.commons.proofs.Bags.{bag-nil, bag-append, bag-single, bag-take-drop, bag-head}
 use Rattle.commons.proofs.Leading.{calls_of-append, Leads-append, Leads-one, made_by}
+use Rattle.mbuf.specs.inside.Kept.{member_of}
 use Rattle.mbuf.specs.PacketRules.{free_slots}
-use Rattle.mbuf.proofs.FreeLemmas.{StoodSo-none, StoodSo-more, next_left}
+use Rattle.mbuf.proofs.FreeLemmas.{first_free, StoodSo-none, StoodSo-more, next_left}
+use Rattle.mbuf.proofs.PlaceLemmas.{alike, lowest}
+use Rattle.mbuf.proofs.TableLemmas.{free_slot-shown}
 use Rattle.mbuf.proofs.packets.Packets.stand_all.Goals as goal
 
 -- At first no packet stands, and nothing was claimed.
@@ -30,13 +34,25 @@ stand-requires-clause-hand g c =
     rw (next_left es c.loop-place.out k inv.so_far.left)
     (omega (arith, here, bag-take-drop k es e, c.requires.hand e, inv.hand e))
 
--- Fewer packets stand so far than there were free slots.
-pub stand-requires-clause-free : goal.stand-requires-clause-free
-stand-requires-clause-free g c =
+-- Fewer packets stand so far than there were free slots, so there is a lowest one.
+pub unwrap-slot-requires : goal.unwrap-slot-requires
+unwrap-slot-requires g c =
     let slots = free_slots c.args.self.now.table in
     let k = c.loop-place.place in
     let left : length (drop k slots) ≡ length slots - k = length-drop k slots in
-    rw c.loop-place.invariant.so_far.free (omega (arith, left, c.requires.free, c.loop-place-test.true))
+    let some : 0 < length (free_slots c.loop-place.self.table) =
+    rw c.loop-place.invariant.so_far.free (omega (arith, left, c.requires.free, c.loop-place-test.true)) in
+    let p = c.self.inside in
+    let first =
+    c.lowest.ensures ∙ sym (free_slot-shown p.free p.packets.items (alike p c.self.invariant))
+    ∙ first_free (member_of p).table (rw (sym c.self.view_is) at some) in
+    subst (λ (o : Option ℕ). IsSome o) (sym first) refl
+
+-- The first flag that is up is that of the table's lowest free slot.
+pub stand-requires-clause-lowest : goal.stand-requires-clause-lowest
+stand-requires-clause-lowest g c =
+    rw (sym c.self.view_is) (lowest c.self.inside c.unwrap-slot.result c.self.invariant
+    (sym c.unwrap-slot.ensures ∙ c.lowest.ensures)).free
 
 -- One more packet stands in the lowest slot that is left, and one more element was claimed.
 pub loop-place-preserved : goal.loop-place-preserved
@@ -48,6 +64,9 @@ loop-place-preserved g c =
     let e = get_or es k 0 in
     let elem = next_left es c.loop-place.out k inv.so_far.left in
     let s = c.stand.ensures in
+    let low =
+    lowest c.self.inside c.unwrap-slot.result c.self.invariant
+    (sym c.unwrap-slot.ensures ∙ c.lowest.ensures) in
     let did = g.C.Commons.did in
     let side = g.C.Commons.side in
     let done = rw elem at s.did in
@@ -58,8 +77,9 @@ loop-place-preserved g c =
     (omega (arith, bag-append (take k es) (e ∷ []) i, bag-single e i)) in
     record {
       so_far =
-          StoodSo-more es c.args.self.now k c.loop-place.out c.loop-place.self c.stand.new.self
-          c.stand.result within c.requires.free c.loop-place.auto.out inv.so_far s.slot s.stood;
+          rw s.slot (StoodSo-more es c.args.self.now k c.loop-place.out c.loop-place.self c.stand.new.self
+          c.unwrap-slot.result within c.requires.free c.loop-place.auto.out inv.so_far
+          (rw (sym c.self.view_is) low.free) s.stood);
       calls = (
         inv.calls.0 ++ made ∷ [],
         Leads-append did side inv.calls.0 (made ∷ []) c.args.c.now c.loop-place.c c.stand.new.c
