@@ -226,12 +226,36 @@ impl Worker {
         ensures limits { (C.side c.new).limits ≡ (C.side c.old).limits }
         ensures number { KeepsNumber self.old self.new }
     {
-        if self.limits.cache > 1 && !self.cache.is_empty() {
+        if self.limits.cache <= 1 {
+            return self.get_direct(c);
+        }
+        if !self.cache.is_empty() {
             let mut out = [0u32; 1];
             steps::take_last(&mut self.cache, &mut out);
             return Ok(out[0]);
         }
         self.get_list_of_one(c)
+    }
+
+    /// Gets one element from the common stack, where the cache keeps one at most.
+    #[inline(always)]
+    fn get_direct<C: Commons>(&self, c: &mut C) -> Result<u32, Refusal>
+        requires limits { (C.side c.old).limits ≡ self.now.limits }
+        requires small { self.now.limits.cache ≤ 1 }
+        ensures calls { Calls C.did C.side c.old c.new (λ calls.
+            Gets self.now.limits self.now.cache 1 calls (as_list result) self.now.cache) }
+        ensures hand { IfOk result
+            (λ e. (i : ℕ) → (C.side c.new).hand i ≡ (C.side c.old).hand i + one e i) }
+        ensures refused { OnErr result (C.side c.new ≡ C.side c.old) }
+        ensures holds { (C.side c.new).holds ≡ (C.side c.old).holds }
+        ensures headers { (C.side c.new).headers ≡ (C.side c.old).headers }
+        ensures limits { (C.side c.new).limits ≡ (C.side c.old).limits }
+    {
+        let mut out = [0u32; 1];
+        match c.get_list(&mut out) {
+            Ok(()) => Ok(out[0]),
+            Err(cause) => Err(cause),
+        }
     }
 
     /// Gets one element as a list of one.

@@ -15,7 +15,7 @@ returns-then-not-is_empty-clause-calls g c =
     rw (sym c.self.view_is) (
       [],
       refl,
-      FromCache (omega arith) (omega (arith, c.if-self-gt1.true)) (omega (arith, some, ok)) refl
+      FromCache (omega arith) (omega (arith, c.if-self-le1.false)) (omega (arith, some, ok)) refl
           (ap Ok (sym (one_alone c.take_last.new.out len) ∙ c.take_last.ensures.out))
           c.take_last.ensures.cache,
     )
