@@ -1,5 +1,5 @@
 -- The text of a statement, line by line.
-use Rattle.std.specs.Prelude.{ℕ, ◌+◌, List, [], ◌∷◌, ◌++◌, Option, Some, None, length, codes, decimal}
+use Rattle.std.specs.Prelude.{ℕ, ◌+◌, List, [], ◌∷◌, ◌++◌, length, codes, decimal}
 use Rattle.std.specs.List.{flat_map}
 use Rattle.commons.specs.declared.packet.Seg.{Seg}
 use Rattle.element_text.specs.Elements.{base_text, elements_text, joined}

@@ -1,34 +1,42 @@
 //! What plays a worker's lines, wherever the worker acts.
 
 ghost use Rattle.std.specs.Prelude.{◌≤◌};
+ghost use Rattle.mbuf.specs.Acts.{HasRoom};
+ghost use Rattle.mbuf.specs.Members.{slots};
+ghost use Rattle.script.specs.Replay.{CommandHasRoom};
 
 use crate::gate::Gate;
 use crate::names::Names;
 use crate::playing::{asked, note};
 use commons::refusal::Refusal;
 use crossbeam_utils::Backoff;
-use mbuf::acts::{Act, Reply};
-use script_text::commands::Line;
-use std::alloc::Global;
+use mbuf::acts::{Act, Answer};
+use mbuf::packets::SLOTS;
+use script_text::commands::{Command, Line};
+use std::alloc::{AllocError, Global};
 
-/// A worker that acts on a pool `P`.
-pub(crate) trait Actor<P> {
+/// A worker of a pool `P`.
+pub(crate) trait Worker<P> {
     /// It is a worker of this pool.
     ghost acts_for: { P → Self → Type 0 };
 
     /// The second is the first one, later.
     ghost stays: { Self → Self → Type 0 };
+}
 
+/// A worker that acts on a pool `P`, and answers with room for a bulk of `ROOM` packets.
+pub(crate) trait Actor<P, const ROOM: usize>: Worker<P> {
     /// Lets the worker do this on the pool, beside others.
-    fn act(&mut self, pool: &P, act: Act) -> Reply
-        requires of { acts_for pool.now self.old }
-        ensures of { acts_for pool.now self.new }
-        ensures stays { (first : Self) → stays first self.old → stays first self.new };
+    fn act_in(&mut self, pool: &P, act: Act) -> Answer<ROOM>
+        requires room { HasRoom ROOM act }
+        requires of { Self.acts_for pool.now self.old }
+        ensures of { Self.acts_for pool.now self.new }
+        ensures stays { (first : Self) → Self.stays first self.old → Self.stays first self.new };
 }
 
 /// Performs the lines of the worker of this number in order, and calls the gate before and after each. False where
 /// memory was refused.
-pub(crate) fn perform_lines<P, A: Actor<P>, G: Gate>(
+pub(crate) fn perform_lines<P, A: Actor<P, 0> + Actor<P, SLOTS>, G: Gate>(
     alloc: Global,
     pool: &P,
     actor: &mut A,
@@ -48,24 +56,69 @@ pub(crate) fn perform_lines<P, A: Actor<P>, G: Gate>(
             continue;
         }
         nth = nth.saturating_add(1);
-        gate.before(worker, nth);
-        let reply = try_line(pool, actor, &names, line, turns);
-        gate.after(worker, nth);
-        if note(&mut names, line, &reply).is_err() {
+        if perform_line(pool, actor, &mut names, line, nth, turns, gate).is_err() {
             return false;
         }
     }
     true
 }
 
+/// Performs a line, which is its worker's `nth`, and keeps which packets its names stand for. The gate is called before
+/// its first try and after its last.
+fn perform_line<'a, P, A: Actor<P, 0> + Actor<P, SLOTS>, G: Gate>(
+    pool: &P,
+    actor: &mut A,
+    names: &mut Names<'a>,
+    line: &'a Line,
+    nth: u32,
+    turns: u32,
+    gate: &G,
+) -> Result<(), AllocError>
+    requires turns { 1 ≤ turns }
+    requires of { A.acts_for pool.now actor.old }
+    ensures of { A.acts_for pool.now actor.new }
+    ensures stays { (first : A) → A.stays first actor.old → A.stays first actor.new }
+{
+    match &line.command {
+        Command::Bulk(_) => {
+            perform_line_in::<P, A, G, SLOTS>(pool, actor, names, line, nth, turns, gate)
+        }
+        _ => perform_line_in::<P, A, G, 0>(pool, actor, names, line, nth, turns, gate),
+    }
+}
+
+/// Does so with room for a bulk of `ROOM` packets in the answer, which is small with none.
+fn perform_line_in<'a, P, A: Actor<P, ROOM>, G: Gate, const ROOM: usize>(
+    pool: &P,
+    actor: &mut A,
+    names: &mut Names<'a>,
+    line: &'a Line,
+    nth: u32,
+    turns: u32,
+    gate: &G,
+) -> Result<(), AllocError>
+    requires few { ROOM ≤ slots }
+    requires room { CommandHasRoom ROOM line.now.command }
+    requires turns { 1 ≤ turns }
+    requires of { A.acts_for pool.now actor.old }
+    ensures of { A.acts_for pool.now actor.new }
+    ensures stays { (first : A) → A.stays first actor.old → A.stays first actor.new }
+{
+    gate.before(line.worker, nth);
+    let reply: Answer<ROOM> = try_line(pool, actor, names, line, turns);
+    gate.after(line.worker, nth);
+    note(names, line, &reply)
+}
+
 /// Performs a line by what its worker's names stand for.
-fn try_line<'a, P, A: Actor<P>>(
+fn try_line<'a, P, A: Actor<P, ROOM>, const ROOM: usize>(
     pool: &P,
     actor: &mut A,
     names: &Names<'a>,
     line: &'a Line,
     turns: u32,
-) -> Reply
+) -> Answer<ROOM>
+    requires room { CommandHasRoom ROOM line.now.command }
     requires turns { 1 ≤ turns }
     requires of { A.acts_for pool.now actor.old }
     ensures of { A.acts_for pool.now actor.new }
@@ -73,13 +126,19 @@ fn try_line<'a, P, A: Actor<P>>(
 {
     match asked(names, line) {
         Some(act) => try_act(pool, actor, act, turns),
-        None => Reply::Refused(Refusal::NoSuchPacket),
+        None => Answer::Refused(Refusal::NoSuchPacket),
     }
 }
 
 /// Lets a worker do this, and tries again where others were in the way, up to `turns` tries in all, with a growing pause
 /// between.
-fn try_act<P, A: Actor<P>>(pool: &P, actor: &mut A, act: Act, turns: u32) -> Reply
+fn try_act<P, A: Actor<P, ROOM>, const ROOM: usize>(
+    pool: &P,
+    actor: &mut A,
+    act: Act,
+    turns: u32,
+) -> Answer<ROOM>
+    requires room { HasRoom ROOM act }
     requires turns { 1 ≤ turns }
     requires of { A.acts_for pool.now actor.old }
     ensures of { A.acts_for pool.now actor.new }
@@ -87,13 +146,13 @@ fn try_act<P, A: Actor<P>>(pool: &P, actor: &mut A, act: Act, turns: u32) -> Rep
 {
     let backoff = Backoff::new();
     for _ in 1..turns {
-        let reply = actor.act(pool, act);
+        let reply = actor.act_in(pool, act);
         match reply {
-            Reply::Refused(Refusal::Contended | Refusal::DeskTaken | Refusal::DeskEmpty) => {
+            Answer::Refused(Refusal::Contended | Refusal::DeskTaken | Refusal::DeskEmpty) => {
                 backoff.snooze();
             }
             _ => return reply,
         }
     }
-    actor.act(pool, act)
+    actor.act_in(pool, act)
 }

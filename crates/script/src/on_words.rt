@@ -7,11 +7,11 @@ ghost use Rattle.script.specs.Running.{EndsOnWords};
 ghost use Rattle.word_book.specs.Listing.{ListsPackets};
 ghost use Rattle.word_pool.specs.Workers.{AllStay, Stays};
 
-use crate::acting::{Actor, perform_lines};
+use crate::acting::{Actor, Worker, perform_lines};
 use crate::gate::Gate;
 use commons::refusal::Refusal;
 use ground::pool::Ground;
-use mbuf::acts::{Act, Reply};
+use mbuf::acts::{Act, Answer};
 use pool_model::statement::Statement;
 use script_text::commands::Script;
 use std::alloc::Global;
@@ -22,13 +22,15 @@ use word_pool::laws;
 use word_pool::pool::{make, settled};
 use word_pool::worker::WordWorker;
 
-impl Actor<Ground> for WordWorker {
+impl Worker<Ground> for WordWorker {
     ghost acts_for = { λ shared worker. IsOf shared worker.seat };
 
     ghost stays = { Stays };
+}
 
-    fn act(&mut self, pool: &Ground, act: Act) -> Reply {
-        self.act(pool, act)
+impl<const ROOM: usize> Actor<Ground, ROOM> for WordWorker {
+    fn act_in(&mut self, pool: &Ground, act: Act) -> Answer<ROOM> {
+        self.act_in(pool, act)
     }
 }
 

@@ -7,10 +7,10 @@ ghost use Rattle.pool_model.specs.Statements.{ListsEachOnce, PlacesEachOnce};
 ghost use Rattle.script.specs.Running.{EndsByActs};
 ghost use Rattle.word_book.specs.Listing.{ListsPackets};
 
-use crate::acting::{Actor, perform_lines};
+use crate::acting::{Actor, Worker, perform_lines};
 use crate::gate::Gate;
 use commons::refusal::Refusal;
-use mbuf::acts::{Act, Reply};
+use mbuf::acts::{Act, Answer};
 use pool_model::laws;
 use pool_model::statement::Statement;
 use script_text::commands::Script;
@@ -29,13 +29,15 @@ struct LockedWorker<'a, R> {
     number: u32,
 }
 
-impl<K: OfLimits, R: Wait> Actor<LockedPool<K>> for LockedWorker<'_, R> {
+impl<K: OfLimits, R: Wait> Worker<LockedPool<K>> for LockedWorker<'_, R> {
     ghost acts_for = { λ pool worker. Unit {0} };
 
     ghost stays = { λ first last. Unit {0} };
+}
 
-    fn act(&mut self, pool: &LockedPool<K>, act: Act) -> Reply {
-        pool.act(self.rt, self.number, act)
+impl<K: OfLimits, R: Wait, const ROOM: usize> Actor<LockedPool<K>, ROOM> for LockedWorker<'_, R> {
+    fn act_in(&mut self, pool: &LockedPool<K>, act: Act) -> Answer<ROOM> {
+        pool.act_in(self.rt, self.number, act)
     }
 }
 

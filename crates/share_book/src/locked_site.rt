@@ -5,6 +5,7 @@ ghost use Rattle.std.specs.List.{range_with_len};
 ghost use Rattle.commons.specs.Bounds.{IsPool};
 ghost use Rattle.commons.specs.Lists.{IsMakeCause};
 ghost use Rattle.commons.specs.declared.limits.Limits.{Limits};
+ghost use Rattle.mbuf.specs.Acts.{HasRoom};
 ghost use Rattle.mbuf.specs.declared.acts.Act.{Act};
 ghost use Rattle.pool_model.specs.Pool.{Pool};
 ghost use Rattle.share_book.specs.Locked.{AreLeftBy};
@@ -16,7 +17,7 @@ use book::share::Share;
 use commons::closed::Closed;
 use commons::limits::Limits;
 use commons::refusal::Refusal;
-use mbuf::acts::{Act, Reply};
+use mbuf::acts::{Act, Answer, Reply};
 use pool_model::laws;
 use std::alloc::Global;
 use std::marker::{Brand, Model, PhantomData};
@@ -54,10 +55,12 @@ impl<K: OfLimits> Model for KeptPool<K> {
 }
 
 impl<K: OfLimits> KeptPool<K> {
-    /// Lets a worker of the pool do this.
-    fn perform(&mut self, worker: u32, act: Act) -> Reply {
+    /// Lets a worker of the pool do this, and answers with room for a bulk of `ROOM` packets.
+    fn perform_in<const ROOM: usize>(&mut self, worker: u32, act: Act) -> Answer<ROOM>
+        requires room { HasRoom ROOM act }
+    {
         laws::others_keep_what_they_have();
-        self.pool.perform(worker, act)
+        self.pool.perform_in(worker, act)
     }
 
     /// The pool itself.
@@ -102,7 +105,15 @@ impl<K: OfLimits> LockedPool<K> {
     /// Takes the lock, lets a worker, numbered from 1, do this as `SitePool::perform` does, and lets the lock go.
     /// Refused as it is there. What other threads did before isn't known here, so no clause says what was done.
     pub fn act<R: Wait>(&self, rt: &R, worker: u32, act: Act) -> Reply {
-        self.site.lock(rt).perform(worker, act)
+        self.act_in(rt, worker, act)
+    }
+
+    /// Does what `act` does, and answers with room for a bulk of `ROOM` packets: with none the answer is small, and
+    /// nothing of a bulk's room is filled.
+    pub fn act_in<const ROOM: usize, R: Wait>(&self, rt: &R, worker: u32, act: Act) -> Answer<ROOM>
+        requires room { HasRoom ROOM act }
+    {
+        self.site.lock(rt).perform_in(worker, act)
     }
 
     /// Takes the pool out of the lock and closes it, as `SitePool::close` does: its limits, what its shared part leaves,

@@ -1,5 +1,5 @@
 -- The workers are all those of the ground, before their threads and after.
-use Rattle.std.proofs.Common.{◌≡◌, ◌<◌, ◌≤◌, List, length, ap, arith}
+use Rattle.std.proofs.Common.{List, length, ap, arith}
 use Rattle.commons.specs.declared.limits.Limits.{Limits}
 use Rattle.word_pool.specs.Workers.{Manned}
 use Rattle.script.proofs.WordWorkers.{crew_len, crew_after, ends_on_words}
