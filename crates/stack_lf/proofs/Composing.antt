@@ -1,12 +1,11 @@
 -- Steps and tries after one another.
 use Rattle.std.proofs.Common.{◌≡◌, ℕ, ◌+◌, ◌-◌, ◌<◌, List, [], ◌∷◌, ◌++◌, length, All, refl, sym, ap, ◌∙◌, arith, append_assoc, append-nil, reverse, subst}
-use Rattle.std.specs.Prelude.{Result, Ok, Err, Option, None}
+use Rattle.std.specs.Prelude.{Result, Ok, Err, None}
 use Rattle.std.proofs.lemmas.List.{length-append}
 use Rattle.std.proofs.lemmas.List.Elements.{All-push}
 use Rattle.commons.specs.declared.refusal.Refusal.{Refusal}
 use Rattle.commons.specs.declared.refusal.Refusal.TheVariants.{NoEntries, HeadSpent, Contended}
 use Rattle.step_core.specs.declared.view.View.{View}
-use Rattle.step_core.specs.declared.view.Look.{Look}
 use Rattle.step_core.specs.declared.step.Step.{Step}
 use Rattle.step_core.specs.declared.step.Outcome.{Outcome}
 use Rattle.step_core.specs.Bags.{minus}
@@ -14,7 +13,7 @@ use Rattle.ground.specs.Seats.{Grounded, Seated, IsOf, Note, after, Steps}
 use Rattle.step_core.specs.Sights.{view_after}
 use Rattle.stack_lf.specs.declared.tried.Tried.TheVariants as tried
 use Rattle.stack_lf.specs.Tries.{Try, notes, notes_of, IsMiss, IsLostCut, IsLostPush}
-use Rattle.stack_lf.specs.Leaves.{AllLost, IsAlone, tried_to, TriesReserve, TriesCut, TriesPush, Reserves, Cuts, Pushes, seen_as}
+use Rattle.stack_lf.specs.Leaves.{AllLost, LostBut, IsAlone, tried_to, TriesReserve, TriesCut, TriesPush, Reserves, Cuts, Pushes, seen_as}
 
 -- steps after steps; the view afterwards is made of the one between
 pub more : (s t u : Seated) (a : List Note) (v : View) (b : List Note) (w : View → View) →
@@ -126,11 +125,6 @@ pub not_contended : (n : ℕ) (cause : Refusal) (s t : Seated) →
     ◌≡◌ {A = Result (Unit {0}) Refusal} (Err cause) (Err Contended) → ⊥
 not_contended n NoEntries s t r e = absurd (cc)
 not_contended n cause s t r e = absurd r.1
-
--- so many tries that all lost, and the seat afterwards, but for what it saw of the head
-abbrev pub LostBut : (Try → Type 0) → ℕ → Seated → Seated → Type 0
-LostBut P k s t = (ts : List Try) × (look : Option Look) × (seen : ℕ) × (length ts ≡ k) × All P ts
-    × (t ≡ tried_to s ts (seen_as s.known.view look seen))
 
 pub lost_none : (P : Try → Type 0) (s : Seated) → LostBut P 0 s s
 lost_none P s = (

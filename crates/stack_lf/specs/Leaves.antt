@@ -121,6 +121,11 @@ TriesPush xs r s t =
 abbrev pub AllLost : (Try → Type 0) → ℕ → Seated → Seated → Type 0
 AllLost P k s t = (ts : List Try) × (length ts ≡ k) × All P ts × (t ≡ tried_to s ts s.known.view)
 
+-- the same, but for what the seat saw of the head
+abbrev pub LostBut : (Try → Type 0) → ℕ → Seated → Seated → Type 0
+LostBut P k s t = (ts : List Try) × (look : Option Look) × (seen : ℕ) × (length ts ≡ k) × All P ts
+    × (t ≡ tried_to s ts (seen_as s.known.view look seen))
+
 -- ---- a loop, by its answer
 
 abbrev pub Reserves : ℕ → ℕ → Result (Unit {0}) Refusal → Seated → Seated → Type 0

@@ -1,10 +1,10 @@
-//! The two loops of a get.
+//! The tries of a get: to reserve, and to cut what is reserved.
 
 ghost use Rattle.std.specs.Prelude.{◌≡◌, ◌≢◌, ◌<◌, ◌≤◌, Err, Some, None, length, IfSome, IfNone};
-ghost use Rattle.ground.specs.Seats.{IsOf, KnowsEnd};
+ghost use Rattle.ground.specs.Seats.{IsOf, Seated, KnowsEnd};
 ghost use Rattle.ground.specs.Own.{Owned};
-ghost use Rattle.stack_lf.specs.Tries.{Walk, elements, KnowsShort};
-ghost use Rattle.stack_lf.specs.Leaves.{IsAlone, IsBare, start, Walked, TriesReserve, TriesCut, Reserves, Cuts, Gets};
+ghost use Rattle.stack_lf.specs.Tries.{Walk, elements, IsMiss, IsLostCut, KnowsShort};
+ghost use Rattle.stack_lf.specs.Leaves.{AllLost, LostBut, IsAlone, IsBare, start, Walked, TriesReserve, TriesCut, Reserves, Cuts, Gets};
 
 use crate::tried::Tried;
 use commons::limits::SPENT;
@@ -33,24 +33,59 @@ fn try_reserve(ground: &Ground, seat: &mut GroundSeat, n: u64) -> Tried
     }
 }
 
-/// Takes `n` off the length, by at most `tries` lost tries.
-#[inline(always)]
-fn reserve(ground: &Ground, seat: &mut GroundSeat, n: u64, tries: u64) -> Result<(), Refusal>
+/// Takes `n` off the length after a first try that was lost, by at most as many lost tries in all as the limits allow. It
+/// stands apart, so that what inlines a get stays small.
+#[inline(never)]
+fn reserve_apart(ground: &Ground, seat: &mut GroundSeat, n: u64) -> Result<(), Refusal>
     requires of { IsOf ground.now seat.old }
     requires some { 1 ≤ n }
-    ensures reserves { Reserves tries n result seat.old seat.new }
+    ensures reserves { (first : Seated) → AllLost (IsMiss n) 1 first seat.old →
+        Reserves ground.now.limits.tries n result first seat.new }
     ensures told { result ≡ Err Refusal.NoEntries → KnowsShort n seat.old }
-    ensures alone { IsBare seat.old → 1 ≤ tries → result ≢ Err Refusal.Contended }
 {
+    let limits = ground.limits();
     let backoff = Backoff::new();
-    for _ in 0..tries {
+    for _ in 1..limits.tries {
+        backoff.spin();
         match try_reserve(ground, seat, n) {
             Tried::Won => return Ok(()),
             Tried::Refused(cause) => return Err(cause),
-            Tried::Lost => backoff.spin(),
+            Tried::Lost => {}
         }
     }
     Err(Refusal::Contended)
+}
+
+/// The same, with a place of its own for the answer, which is filled where a first try was lost alone.
+#[inline(always)]
+fn reserve_again(ground: &Ground, seat: &mut GroundSeat, n: u64) -> Result<(), Refusal>
+    requires of { IsOf ground.now seat.old }
+    requires some { 1 ≤ n }
+    ensures reserves { (first : Seated) → AllLost (IsMiss n) 1 first seat.old →
+        Reserves ground.now.limits.tries n result first seat.new }
+    ensures told { result ≡ Err Refusal.NoEntries → KnowsShort n seat.old }
+{
+    match reserve_apart(ground, seat, n) {
+        Ok(()) => Ok(()),
+        Err(cause) => Err(cause),
+    }
+}
+
+/// Takes `n` off the length, by at most as many lost tries as the limits allow.
+#[inline(always)]
+fn reserve(ground: &Ground, seat: &mut GroundSeat, n: u64) -> Result<(), Refusal>
+    requires of { IsOf ground.now seat.old }
+    requires some { 1 ≤ n }
+    requires tries { 1 ≤ ground.now.limits.tries }
+    ensures reserves { Reserves ground.now.limits.tries n result seat.old seat.new }
+    ensures told { result ≡ Err Refusal.NoEntries → KnowsShort n seat.old }
+    ensures alone { IsBare seat.old → result ≢ Err Refusal.Contended }
+{
+    match try_reserve(ground, seat, n) {
+        Tried::Won => Ok(()),
+        Tried::Refused(cause) => Err(cause),
+        Tried::Lost => reserve_again(ground, seat, n),
+    }
 }
 
 /// Walks one link for each place of `out`, and lists the elements there. Answers what is next, or nothing where the
@@ -104,46 +139,80 @@ fn try_cut(ground: &Ground, seat: &mut GroundSeat, out: &mut [u32]) -> Tried
     }
 }
 
-/// Takes as many elements as `out` has places from the top of the stack, by at most `tries` lost tries.
-#[inline(always)]
-fn cut(ground: &Ground, seat: &mut GroundSeat, out: &mut [u32], tries: u64) -> Result<(), Refusal>
+/// Takes as many elements as `out` has places after a first try that was lost, by at most as many lost tries in all as the
+/// limits allow. It stands apart, so that what inlines a get stays small.
+#[inline(never)]
+fn cut_apart(ground: &Ground, seat: &mut GroundSeat, out: &mut [u32]) -> Result<(), Refusal>
     requires of { IsOf ground.now seat.old }
     requires some { 1 ≤ length out.old }
     requires reserved { length out.old ≤ seat.old.known.view.credit }
-    ensures cuts { Cuts tries (length out.old) out.new result seat.old seat.new }
-    ensures alone { IsAlone seat.old → 1 ≤ tries → result ≢ Err Refusal.Contended }
+    ensures cuts { (first : Seated) → LostBut (IsLostCut (length out.old)) 1 first seat.old →
+        Cuts ground.now.limits.tries (length out.old) out.new result first seat.new }
     ensures len { length out.new ≡ length out.old }
 {
+    let limits = ground.limits();
     let backoff = Backoff::new();
-    for _ in 0..tries {
+    for _ in 1..limits.tries {
+        backoff.spin();
         match try_cut(ground, seat, out) {
             Tried::Won => return Ok(()),
             Tried::Refused(cause) => return Err(cause),
-            Tried::Lost => backoff.spin(),
+            Tried::Lost => {}
         }
     }
     Err(Refusal::Contended)
 }
 
-/// Takes as many elements as `out` has places, or gives back what was reserved.
+/// The same, with a place of its own for the answer, which is filled where a first try was lost alone.
 #[inline(always)]
-fn get_or_return(
-    ground: &Ground,
-    seat: &mut GroundSeat,
-    out: &mut [u32],
-    tries: u64,
-) -> Result<(), Refusal>
+fn cut_again(ground: &Ground, seat: &mut GroundSeat, out: &mut [u32]) -> Result<(), Refusal>
     requires of { IsOf ground.now seat.old }
     requires some { 1 ≤ length out.old }
-    ensures got { Gets tries (length out.old) out.new result seat.old seat.new }
+    requires reserved { length out.old ≤ seat.old.known.view.credit }
+    ensures cuts { (first : Seated) → LostBut (IsLostCut (length out.old)) 1 first seat.old →
+        Cuts ground.now.limits.tries (length out.old) out.new result first seat.new }
+    ensures len { length out.new ≡ length out.old }
+{
+    match cut_apart(ground, seat, out) {
+        Ok(()) => Ok(()),
+        Err(cause) => Err(cause),
+    }
+}
+
+/// Takes as many elements as `out` has places from the top of the stack, by at most as many lost tries as the limits
+/// allow.
+#[inline(always)]
+fn cut(ground: &Ground, seat: &mut GroundSeat, out: &mut [u32]) -> Result<(), Refusal>
+    requires of { IsOf ground.now seat.old }
+    requires some { 1 ≤ length out.old }
+    requires reserved { length out.old ≤ seat.old.known.view.credit }
+    requires tries { 1 ≤ ground.now.limits.tries }
+    ensures cuts { Cuts ground.now.limits.tries (length out.old) out.new result seat.old seat.new }
+    ensures alone { IsAlone seat.old → result ≢ Err Refusal.Contended }
+    ensures len { length out.new ≡ length out.old }
+{
+    match try_cut(ground, seat, out) {
+        Tried::Won => Ok(()),
+        Tried::Refused(cause) => Err(cause),
+        Tried::Lost => cut_again(ground, seat, out),
+    }
+}
+
+/// Takes as many elements as `out` has places, or gives back what was reserved.
+#[inline(always)]
+fn get_or_return(ground: &Ground, seat: &mut GroundSeat, out: &mut [u32]) -> Result<(), Refusal>
+    requires of { IsOf ground.now seat.old }
+    requires some { 1 ≤ length out.old }
+    requires tries { 1 ≤ ground.now.limits.tries }
+    ensures got { Gets ground.now.limits.tries (length out.old) out.new result seat.old seat.new }
     ensures told { result ≡ Err Refusal.NoEntries → KnowsShort (length out.old) seat.old }
-    ensures alone { IsBare seat.old → 1 ≤ tries → result ≢ Err Refusal.Contended }
+    ensures alone { IsBare seat.old → result ≢ Err Refusal.Contended }
     ensures len { length out.new ≡ length out.old }
 {
     let n = out.len() as u64;
-    match reserve(ground, seat, n, tries) {
+    match reserve(ground, seat, n) {
         Err(cause) => Err(cause),
-        Ok(()) => match cut(ground, seat, out, tries) {
+        Ok(()) => match cut(ground, seat, out) {
             Ok(()) => Ok(()),
             Err(cause) => {
                 ground.add(seat, n);
@@ -155,21 +224,17 @@ fn get_or_return(
 
 /// The same, with what the seat's type keeps.
 #[inline(always)]
-pub(crate) fn get(
-    ground: &Ground,
-    seat: &mut GroundSeat,
-    out: &mut [u32],
-    tries: u64,
-) -> Result<(), Refusal>
+pub(crate) fn get(ground: &Ground, seat: &mut GroundSeat, out: &mut [u32]) -> Result<(), Refusal>
     requires of { IsOf ground.now seat.old }
     requires some { 1 ≤ length out.old }
-    ensures got { Gets tries (length out.old) out.new result seat.old seat.new }
+    ensures got { Gets ground.now.limits.tries (length out.old) out.new result seat.old seat.new }
     ensures told { result ≡ Err Refusal.NoEntries → KnowsShort (length out.old) seat.old }
-    ensures alone { IsBare seat.old → 1 ≤ tries → result ≢ Err Refusal.Contended }
+    ensures alone { IsBare seat.old → result ≢ Err Refusal.Contended }
     ensures len { length out.new ≡ length out.old }
     ensures own { Owned seat.new.known.limits seat.new.known.view }
 {
-    let answer = get_or_return(ground, seat, out, tries);
+    let _limits = ground.limits();
+    let answer = get_or_return(ground, seat, out);
     seat.owned();
     answer
 }

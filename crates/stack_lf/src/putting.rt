@@ -1,11 +1,11 @@
-//! The loop of a put.
+//! The tries of a put.
 
 ghost use Rattle.std.specs.Prelude.{◌≡◌, ◌≢◌, ◌<◌, ◌≤◌, Err, None, length, ℕ};
 ghost use Rattle.commons.specs.Bag.{bag};
-ghost use Rattle.ground.specs.Seats.{IsOf};
+ghost use Rattle.ground.specs.Seats.{IsOf, Seated};
 ghost use Rattle.ground.specs.Own.{Owned};
-ghost use Rattle.stack_lf.specs.Leaves.{IsAlone, Stored, TriesPush, Pushes, Puts};
-ghost use Rattle.stack_lf.specs.Tries.{last_of};
+ghost use Rattle.stack_lf.specs.Leaves.{LostBut, IsAlone, Stored, TriesPush, Pushes, Puts};
+ghost use Rattle.stack_lf.specs.Tries.{IsLostPush, last_of};
 
 use crate::tried::Tried;
 use commons::limits::SPENT;
@@ -58,41 +58,76 @@ fn try_push(ground: &Ground, seat: &mut GroundSeat, list: &[u32]) -> Tried
     }
 }
 
-/// Puts a list onto the stack, by at most `tries` lost tries.
-fn push(ground: &Ground, seat: &mut GroundSeat, list: &[u32], tries: u64) -> Result<(), Refusal>
+/// Puts a list onto the stack after a first try that was lost, by at most as many lost tries in all as the limits allow.
+/// It stands apart, so that what inlines a put stays small.
+#[inline(never)]
+fn push_apart(ground: &Ground, seat: &mut GroundSeat, list: &[u32]) -> Result<(), Refusal>
     requires of { IsOf ground.now seat.old }
     requires some { 1 ≤ length list.now }
     requires hand { (i : ℕ) → bag list.now i ≤ bag seat.old.known.view.hand i }
     requires chain { seat.old.known.view.chain ≡ None }
-    ensures pushes { Pushes tries list.now result seat.old seat.new }
-    ensures alone { IsAlone seat.old → 1 ≤ tries → result ≢ Err Refusal.Contended }
+    ensures pushes { (first : Seated) → LostBut (IsLostPush list.now) 1 first seat.old →
+        Pushes ground.now.limits.tries list.now result first seat.new }
 {
+    let limits = ground.limits();
     let backoff = Backoff::new();
-    for _ in 0..tries {
+    for _ in 1..limits.tries {
+        backoff.spin();
         match try_push(ground, seat, list) {
             Tried::Won => return Ok(()),
             Tried::Refused(cause) => return Err(cause),
-            Tried::Lost => backoff.spin(),
+            Tried::Lost => {}
         }
     }
     Err(Refusal::Contended)
 }
 
-/// Puts a list onto the stack, and raises the length afterwards.
-fn push_and_add(
-    ground: &Ground,
-    seat: &mut GroundSeat,
-    list: &[u32],
-    tries: u64,
-) -> Result<(), Refusal>
+/// The same, with a place of its own for the answer, which is filled where a first try was lost alone.
+#[inline(always)]
+fn push_again(ground: &Ground, seat: &mut GroundSeat, list: &[u32]) -> Result<(), Refusal>
     requires of { IsOf ground.now seat.old }
     requires some { 1 ≤ length list.now }
     requires hand { (i : ℕ) → bag list.now i ≤ bag seat.old.known.view.hand i }
     requires chain { seat.old.known.view.chain ≡ None }
-    ensures put { Puts tries list.now result seat.old seat.new }
-    ensures alone { IsAlone seat.old → 1 ≤ tries → result ≢ Err Refusal.Contended }
+    ensures pushes { (first : Seated) → LostBut (IsLostPush list.now) 1 first seat.old →
+        Pushes ground.now.limits.tries list.now result first seat.new }
 {
-    match push(ground, seat, list, tries) {
+    match push_apart(ground, seat, list) {
+        Ok(()) => Ok(()),
+        Err(cause) => Err(cause),
+    }
+}
+
+/// Puts a list onto the stack, by at most as many lost tries as the limits allow.
+#[inline(always)]
+fn push(ground: &Ground, seat: &mut GroundSeat, list: &[u32]) -> Result<(), Refusal>
+    requires of { IsOf ground.now seat.old }
+    requires some { 1 ≤ length list.now }
+    requires hand { (i : ℕ) → bag list.now i ≤ bag seat.old.known.view.hand i }
+    requires chain { seat.old.known.view.chain ≡ None }
+    requires tries { 1 ≤ ground.now.limits.tries }
+    ensures pushes { Pushes ground.now.limits.tries list.now result seat.old seat.new }
+    ensures alone { IsAlone seat.old → result ≢ Err Refusal.Contended }
+{
+    match try_push(ground, seat, list) {
+        Tried::Won => Ok(()),
+        Tried::Refused(cause) => Err(cause),
+        Tried::Lost => push_again(ground, seat, list),
+    }
+}
+
+/// Puts a list onto the stack, and raises the length afterwards.
+#[inline(always)]
+fn push_and_add(ground: &Ground, seat: &mut GroundSeat, list: &[u32]) -> Result<(), Refusal>
+    requires of { IsOf ground.now seat.old }
+    requires some { 1 ≤ length list.now }
+    requires hand { (i : ℕ) → bag list.now i ≤ bag seat.old.known.view.hand i }
+    requires chain { seat.old.known.view.chain ≡ None }
+    requires tries { 1 ≤ ground.now.limits.tries }
+    ensures put { Puts ground.now.limits.tries list.now result seat.old seat.new }
+    ensures alone { IsAlone seat.old → result ≢ Err Refusal.Contended }
+{
+    match push(ground, seat, list) {
         Err(cause) => Err(cause),
         Ok(()) => {
             ground.add(seat, list.len() as u64);
@@ -102,21 +137,18 @@ fn push_and_add(
 }
 
 /// The same, with what the seat's type keeps.
-pub(crate) fn put(
-    ground: &Ground,
-    seat: &mut GroundSeat,
-    list: &[u32],
-    tries: u64,
-) -> Result<(), Refusal>
+#[inline(always)]
+pub(crate) fn put(ground: &Ground, seat: &mut GroundSeat, list: &[u32]) -> Result<(), Refusal>
     requires of { IsOf ground.now seat.old }
     requires some { 1 ≤ length list.now }
     requires hand { (i : ℕ) → bag list.now i ≤ bag seat.old.known.view.hand i }
     requires chain { seat.old.known.view.chain ≡ None }
-    ensures put { Puts tries list.now result seat.old seat.new }
-    ensures alone { IsAlone seat.old → 1 ≤ tries → result ≢ Err Refusal.Contended }
+    ensures put { Puts ground.now.limits.tries list.now result seat.old seat.new }
+    ensures alone { IsAlone seat.old → result ≢ Err Refusal.Contended }
     ensures own { Owned seat.new.known.limits seat.new.known.view }
 {
-    let answer = push_and_add(ground, seat, list, tries);
+    let _limits = ground.limits();
+    let answer = push_and_add(ground, seat, list);
     seat.owned();
     answer
 }

@@ -74,19 +74,14 @@ impl<'a> Commons for WordCommons<'a> {
     /// part it does: the common list was shorter than `n` then.
     #[inline(always)]
     fn get_list(&mut self, out: &mut [u32]) -> Result<(), Refusal> {
-        getting::get(self.ground, &mut self.seat, out, self.ground.limits().tries)
+        getting::get(self.ground, &mut self.seat, out)
     }
 
     /// Takes `tries * (n + 2) + 1` steps at most. The last of the list is on top then, unless another worker has changed
     /// the stack since; the length is raised after that.
     #[inline(always)]
     fn put_list(&mut self, list: &[u32]) -> Result<(), Refusal> {
-        putting::put(
-            self.ground,
-            &mut self.seat,
-            list,
-            self.ground.limits().tries,
-        )
+        putting::put(self.ground, &mut self.seat, list)
     }
 
     /// Takes one step.

@@ -3,10 +3,10 @@ use Rattle.stack_lf.proofs.putting.push_and_add.Goals as goal
 
 -- nothing was pushed
 pub returns-in-Err-clause-put : goal.returns-in-Err-clause-put
-returns-in-Err-clause-put c = put_unmet c.args.tries c.args.list.now c.in-Err.cause c.args.seat.now
+returns-in-Err-clause-put c = put_unmet c.args.ground.now.limits.tries c.args.list.now c.in-Err.cause c.args.seat.now
     c.push.new.seat c.in-Err.ensures.pushes
 
 -- the list was pushed, and added to the length
 pub returns-in-Ok-clause-put : goal.returns-in-Ok-clause-put
-returns-in-Ok-clause-put c = put_met c.args.tries c.args.list.now c.args.seat.now c.push.new.seat
+returns-in-Ok-clause-put c = put_met c.args.ground.now.limits.tries c.args.list.now c.args.seat.now c.push.new.seat
     c.add.new.seat c.in-Ok.ensures.pushes c.add.ensures.step

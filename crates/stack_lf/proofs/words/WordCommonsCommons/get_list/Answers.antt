@@ -1,4 +1,4 @@
-use Rattle.std.proofs.Common.{◌≡◌, ◌∙◌, sym, subst, length, rules}
+use Rattle.std.proofs.Common.{sym, subst, length, rules}
 use Rattle.commons.specs.declared.limits.Limits.{Limits}
 use Rattle.stack_lf.specs.Leaves.{Gets}
 use Rattle.stack_lf.proofs.Meeting.{get_did}
@@ -9,11 +9,9 @@ pub returns : goal.returns
 returns c =
     let me = c.args.self.now in
     let n = length c.args.out.now in
-    let same : c.limits.result ≡ me.seat.known.limits =
-    c.limits.ensures.limits ∙ sym me.of.limits in
     let got =
     subst (λ (l : Limits). Gets l.tries n c.get.new.out c.get.result me.seat c.get.new.seat)
-    same c.get.ensures.got in
+    (sym me.of.limits) c.get.ensures.got in
     let d = get_did n c.get.new.out c.get.result me.seat c.get.new.seat got (search rules) c.get.ensures.told in
     record {
       did = record {

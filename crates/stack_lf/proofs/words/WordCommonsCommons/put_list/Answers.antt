@@ -1,4 +1,4 @@
-use Rattle.std.proofs.Common.{◌≡◌, ◌∙◌, sym, subst, rules}
+use Rattle.std.proofs.Common.{sym, subst, rules}
 use Rattle.commons.specs.declared.limits.Limits.{Limits}
 use Rattle.stack_lf.specs.Leaves.{Puts}
 use Rattle.stack_lf.proofs.Meeting.{put_did}
@@ -8,11 +8,9 @@ use Rattle.stack_lf.proofs.words.WordCommonsCommons.put_list.Goals as goal
 pub returns : goal.returns
 returns c =
     let me = c.args.self.now in
-    let same : c.limits.result ≡ me.seat.known.limits =
-    c.limits.ensures.limits ∙ sym me.of.limits in
     let put =
     subst (λ (l : Limits). Puts l.tries c.args.list.now c.put.result me.seat c.put.new.seat)
-    same c.put.ensures.put in
+    (sym me.of.limits) c.put.ensures.put in
     let d = put_did c.args.list.now c.put.result me.seat c.put.new.seat c.requires.in_hand put
     (search rules) in
     record {
