@@ -1,9 +1,12 @@
 //! The functions that walk the tables. A row that fails is named.
 
-use pool_model::statement::Statement;
+use commons::packet::Seg;
+use commons::seq::Seq;
+use pool_model::statement::{DeskPacket, Held, Holder, PlacedPacket, Statement};
 use snapshot::audit::audit;
 use snapshot::fault::Fault;
 use std::alloc::Global;
+use std::fmt::Debug;
 use std::process::Abort;
 use std::test::Fail;
 
@@ -17,10 +20,15 @@ mod words;
 use building::built;
 use calling::in_use;
 use shown::{Places, Shown, Word};
-use words::Pool;
+use words::{Answer, Pool};
 
 /// A name, a snapshot, and what its audit answers.
 type Row = (&'static str, Shown, Result<Places, Fault>);
+
+/// Both are one; else it is told of what, with both.
+fn same<T: PartialEq + Debug>(rt: &impl Abort, given: &T, wanted: &T, what: &str) {
+    assert!(rt; *given == *wanted, "{what}: {given:?}, not {wanted:?}");
+}
 
 /// What the audit answers for a row's snapshot, where one word may be another; `BadShape` where no pool has its limits.
 fn audited(alloc: Global, shown: &Shown, other: Option<(Word, u32)>) -> Result<Statement, Fault> {
@@ -33,36 +41,79 @@ fn audited(alloc: Global, shown: &Shown, other: Option<(Word, u32)>) -> Result<S
     }
 }
 
-/// Whether a statement places each element so.
-fn assert_places(rt: &impl Abort, statement: &Statement, places: &Places, name: &str) {
-    assert_eq!(rt; statement.population, places.population, "{name}");
-    assert_eq!(rt; statement.available, places.available, "{name}");
-    assert_eq!(rt; statement.in_use, places.in_use, "{name}");
-    assert_eq!(rt; statement.common.as_slice(), places.common, "{name}");
-    assert_eq!(rt; statement.caches.len(), places.caches.len(), "{name}");
-    for (cache, wanted) in statement.caches.as_slice().iter().zip(places.caches) {
-        assert_eq!(rt; cache.as_slice(), *wanted, "{name}");
-    }
-    assert_packets(rt, statement, places, name);
-    assert_eq!(rt; statement.held.len(), places.held.len(), "{name}");
-    for (held, (elem, count, holders)) in statement.held.as_slice().iter().zip(places.held) {
-        assert_eq!(rt; (held.elem, held.count), (*elem, *count), "{name}");
-        assert_eq!(rt; held.holders.as_slice(), *holders, "{name}");
+/// What a statement lists, which a table has as plain data.
+trait Listed {
+    /// The plain data.
+    type Plain;
+
+    /// Whether it is this.
+    fn assert_is(&self, rt: &impl Abort, wanted: &Self::Plain, name: &str);
+}
+
+impl Listed for Seq<u32> {
+    type Plain = &'static [u32];
+
+    fn assert_is(&self, rt: &impl Abort, wanted: &Self::Plain, name: &str) {
+        same(rt, &self.as_slice(), wanted, name);
     }
 }
 
-/// Whether its packets are these, in slots and on desks.
-fn assert_packets(rt: &impl Abort, statement: &Statement, places: &Places, name: &str) {
-    assert_eq!(rt; statement.packets.len(), places.packets.len(), "{name}");
-    for (packet, (worker, slot, segs)) in statement.packets.as_slice().iter().zip(places.packets) {
-        assert_eq!(rt; (packet.worker, packet.slot), (*worker, *slot), "{name}");
-        assert_eq!(rt; packet.segs.as_slice(), *segs, "{name}");
+impl Listed for PlacedPacket {
+    type Plain = (u32, u32, &'static [Seg]);
+
+    fn assert_is(&self, rt: &impl Abort, wanted: &Self::Plain, name: &str) {
+        same(
+            rt,
+            &(self.worker, self.slot, self.segs.as_slice()),
+            wanted,
+            name,
+        );
     }
-    assert_eq!(rt; statement.desks.len(), places.desks.len(), "{name}");
-    for (packet, (desk, segs)) in statement.desks.as_slice().iter().zip(places.desks) {
-        assert_eq!(rt; packet.desk, *desk, "{name}");
-        assert_eq!(rt; packet.segs.as_slice(), *segs, "{name}");
+}
+
+impl Listed for DeskPacket {
+    type Plain = (u32, &'static [Seg]);
+
+    fn assert_is(&self, rt: &impl Abort, wanted: &Self::Plain, name: &str) {
+        same(rt, &(self.desk, self.segs.as_slice()), wanted, name);
     }
+}
+
+impl Listed for Held {
+    type Plain = (u32, u32, &'static [Holder]);
+
+    fn assert_is(&self, rt: &impl Abort, wanted: &Self::Plain, name: &str) {
+        same(
+            rt,
+            &(self.elem, self.count, self.holders.as_slice()),
+            wanted,
+            name,
+        );
+    }
+}
+
+/// Whether a statement lists these, one for one.
+fn assert_lists<T: Listed>(rt: &impl Abort, given: &Seq<T>, wanted: &[T::Plain], name: &str) {
+    same(rt, &given.len(), &wanted.len(), name);
+    for (item, wanted) in given.as_slice().iter().zip(wanted) {
+        item.assert_is(rt, wanted, name);
+    }
+}
+
+/// Whether a statement places each element so.
+fn assert_places(rt: &impl Abort, statement: &Statement, places: &Places, name: &str) {
+    let given = (statement.population, statement.available, statement.in_use);
+    same(
+        rt,
+        &given,
+        &(places.population, places.available, places.in_use),
+        name,
+    );
+    same(rt, &statement.common.as_slice(), &places.common, name);
+    assert_lists(rt, &statement.caches, places.caches, name);
+    assert_lists(rt, &statement.packets, places.packets, name);
+    assert_lists(rt, &statement.desks, places.desks, name);
+    assert_lists(rt, &statement.held, places.held, name);
 }
 
 /// Whether an audit's answer is the one that is wanted.
@@ -74,9 +125,7 @@ fn assert_answer(
 ) {
     match (answer, wanted) {
         (Ok(statement), Ok(places)) => assert_places(rt, &statement, places, name),
-        (Err(fault), Err(wanted)) => assert_eq!(rt; fault, *wanted, "{name}"),
-        (Ok(_), Err(wanted)) => assert!(rt; false, "{name}: lawful, not {wanted:?}"),
-        (Err(fault), Ok(_)) => assert!(rt; false, "{name}: {fault:?}"),
+        (answer, wanted) => same(rt, &answer.err(), &(*wanted).err(), name),
     }
 }
 
@@ -100,14 +149,36 @@ fn each_snapshot_is_lawful_or_has_its_first_fault(rt: HostRuntime) {
     audit_rows(&rt, faults::ORDER);
 }
 
+/// What a word of a pool is, for a row that fails.
+fn named(alloc: Global, pool: &Pool, word: Word, value: u32) -> Result<String, Fail> {
+    Ok(format!(in alloc; "{}: {word:?} is {value}", pool.name)?)
+}
+
+/// Whether the audit answers so where a word has this value.
+fn audit_word<R: Abort + AllocGlobal>(
+    rt: &R,
+    pool: &Pool,
+    word: Word,
+    value: u32,
+    answer: Answer,
+) -> Result<(), Fail> {
+    let name = named(rt.alloc(), pool, word, value)?;
+    let wanted = words::wanted(pool, word, value, answer);
+    let answer = audited(rt.alloc(), &pool.shown, Some((word, value)));
+    assert_answer(rt, answer, &wanted, name.as_str());
+    Ok(())
+}
+
 fn audit_words<R: Abort + AllocGlobal>(rt: &R, pool: &Pool) -> Result<(), Fail> {
     for (word, answers) in pool.words {
-        assert_eq!(rt; answers.len(), pool.values.len(), "{}: {word:?}", pool.name);
+        same(
+            rt,
+            &(*word, answers.len()),
+            &(*word, pool.values.len()),
+            pool.name,
+        );
         for (value, answer) in pool.values.iter().zip(*answers) {
-            let name = format!(in rt.alloc(); "{}: {word:?} is {value}", pool.name)?;
-            let wanted = words::wanted(pool, *word, *value, *answer);
-            let answer = audited(rt.alloc(), &pool.shown, Some((*word, *value)));
-            assert_answer(rt, answer, &wanted, name.as_str());
+            audit_word(rt, pool, *word, *value, *answer)?;
         }
     }
     Ok(())
@@ -134,7 +205,12 @@ fn held_in(alloc: Global, shown: &Shown) -> Result<u64, Fault> {
 
 #[test]
 fn a_caller_learns_how_many_elements_are_held(rt: HostRuntime) {
-    assert_eq!(rt; held_in(rt.alloc(), &faults::LARGE), Ok(7));
+    same(
+        &rt,
+        &held_in(rt.alloc(), &faults::LARGE),
+        &Ok(7),
+        "the large snapshot",
+    );
 }
 
 /// Whichever request for memory is refused, the answer is the same or `OutOfMemory`.

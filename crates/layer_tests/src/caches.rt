@@ -1,5 +1,6 @@
 //! A worker's cache on the lists: bulks through it and past it, flushes, and a new worker's.
 
+use crate::equal::same;
 use commons::limits::Limits;
 use commons::plain::PlainCommons;
 use commons::refusal::Refusal;
@@ -103,47 +104,57 @@ fn got_and(
     Ok((done?, cache?, site.common().to_vec(alloc)?))
 }
 
-#[test]
-fn each_bulk_leaves_its_cache(rt: HostRuntime) -> Result<(), Fail> {
-    for (name, count, least, then, wanted, left, in_common, top) in ROWS.iter() {
-        let mut out = Vec::new(rt.alloc());
-        out.resize(*count, 0)?;
-        let (done, cache, common) = got_and(rt.alloc(), &mut out, *then)?;
-        for (i, x) in out.iter().enumerate() {
-            assert_eq!(rt; *x as usize, i + *least as usize, "the row {name}");
-        }
-        assert_eq!(rt; done, *wanted, "the row {name}");
-        assert_eq!(rt; cache.as_slice(), *left, "the row {name}");
-        assert_eq!(rt; common.len(), *in_common, "the row {name}");
-        assert_eq!(rt; common.last(), Some(top), "the row {name}");
+/// Plays a row.
+fn assert_row<R: Abort + AllocGlobal>(rt: &R, row: &Row) -> Result<(), Fail> {
+    let (name, count, least, then, wanted, left, in_common, top) = *row;
+    let mut out = Vec::new(rt.alloc());
+    out.resize(count, 0)?;
+    let (done, cache, common) = got_and(rt.alloc(), &mut out, then)?;
+    for (i, x) in out.iter().enumerate() {
+        same(rt, &(*x as usize), &(i + least as usize), name);
     }
+    same(rt, &done, &wanted, name);
+    same(rt, &cache.as_slice(), &left, name);
+    same(
+        rt,
+        &(common.len(), common.last()),
+        &(in_common, Some(&top)),
+        name,
+    );
     Ok(())
 }
 
 #[test]
-fn each_worker_of_the_pool_begins_with_an_empty_cache(rt: HostRuntime) -> Result<(), Fail> {
-    let numbers = [
-        (0, Err(Refusal::BadPool)),
-        (1, Ok((1, 0, LIMITS, true))),
-        (2, Ok((2, 0, LIMITS, true))),
-        (3, Err(Refusal::BadPool)),
-    ];
-    for (number, wanted) in numbers {
-        let made = match Worker::make(rt.alloc(), &LIMITS, number) {
-            Ok(worker) => {
-                let is_empty = worker.cache().is_empty();
-                let shown = (
-                    worker.number(),
-                    worker.cache_len(),
-                    *worker.limits(),
-                    is_empty,
-                );
-                worker.lose();
-                Ok(shown)
-            }
-            Err(refusal) => Err(refusal),
-        };
-        assert_eq!(rt; made, wanted, "worker {number}");
+fn each_bulk_leaves_its_cache(rt: HostRuntime) -> Result<(), Fail> {
+    for row in ROWS.iter() {
+        assert_row(&rt, row)?;
     }
     Ok(())
+}
+
+/// A new worker's number, the length of its cache, its limits, and whether its cache is empty.
+fn shown(alloc: Global, number: u32) -> Result<(u32, usize, Limits, bool), Refusal> {
+    let worker = Worker::make(alloc, &LIMITS, number)?;
+    let is_empty = worker.cache().is_empty();
+    let shown = (
+        worker.number(),
+        worker.cache_len(),
+        *worker.limits(),
+        is_empty,
+    );
+    worker.lose();
+    Ok(shown)
+}
+
+#[test]
+fn each_worker_of_the_pool_begins_with_an_empty_cache(rt: HostRuntime) {
+    let workers = [
+        ("worker 0", 0, Err(Refusal::BadPool)),
+        ("worker 1", 1, Ok((1, 0, LIMITS, true))),
+        ("worker 2", 2, Ok((2, 0, LIMITS, true))),
+        ("worker 3", 3, Err(Refusal::BadPool)),
+    ];
+    for (name, number, wanted) in workers {
+        same(&rt, &shown(rt.alloc(), number), &wanted, name);
+    }
 }

@@ -1,9 +1,10 @@
 //! The shared part as lists: what each of its calls moves, counts and refuses.
 
-ghost use Rattle.std.specs.Prelude.{◌≡◌, ◌≤◌, ◌+◌, ℕ, IfOk};
+ghost use Rattle.std.specs.Prelude.{◌≡◌, ◌<◌, ◌≤◌, ◌+◌, ℕ, IfOk};
 ghost use Rattle.commons.specs.Bag.{bag, one};
 ghost use Rattle.commons.specs.Packets.{holds_of_packet, own_of_packet};
 
+use crate::equal::same;
 use commons::limits::Limits;
 use commons::packet::{Packet, Seg};
 use commons::place::Place;
@@ -11,6 +12,7 @@ use commons::plain::PlainCommons;
 use commons::refusal::{Lowered, Refusal};
 use commons::shared::Commons;
 use commons::site::PlainSite;
+use std::alloc::Global;
 use std::process::Abort;
 use std::test::Fail;
 
@@ -38,69 +40,118 @@ fn held(site: &PlainSite, element: u32) -> Option<(u32, u32, Place)> {
 #[test]
 fn a_new_site_has_all_elements_in_the_common_list(rt: HostRuntime) -> Result<(), Fail> {
     let site = PlainSite::make(rt.alloc(), &LIMITS)?;
-    assert_eq!(rt; site.limits(), LIMITS);
-    assert_eq!(rt; site.common(), [2, 1, 0].as_slice());
-    assert_eq!(rt; site.common_count(), 3);
-    assert_eq!(rt; site.places(), [Place::Common; 3].as_slice());
-    for element in [0, 2] {
-        assert_eq!(rt;
-            held(&site, element),
-            Some((0, 0, Place::Common)),
-            "element {element}"
+    same(&rt, &site.limits(), &LIMITS, "the limits");
+    same(
+        &rt,
+        &site.common(),
+        &[2, 1, 0].as_slice(),
+        "the common list",
+    );
+    same(&rt, &site.common_count(), &3, "its length");
+    same(
+        &rt,
+        &site.places(),
+        &[Place::Common; 3].as_slice(),
+        "the places",
+    );
+    for (name, element) in [("element 0", 0), ("element 2", 2)] {
+        same(
+            &rt,
+            &held(&site, element),
+            &Some((0, 0, Place::Common)),
+            name,
         );
     }
     Ok(())
 }
 
+// Each refusal with its number and its name, and what is displayed behind the name.
+static REFUSALS: [(Refusal, u32, &str, &str); 23] = [
+    (Refusal::BadPool, 1, "BadPool", ""),
+    (Refusal::OutOfMemory, 2, "OutOfMemory", ""),
+    (Refusal::NoEntries, 3, "NoEntries", ""),
+    (Refusal::Contended, 4, "Contended", ""),
+    (Refusal::HeadSpent, 5, "HeadSpent", ""),
+    (Refusal::RefSpent, 6, "RefSpent", ""),
+    (Refusal::TooManySegs, 7, "TooManySegs", ""),
+    (Refusal::NoRoom, 8, "NoRoom", ""),
+    (Refusal::TooShort, 9, "TooShort", ""),
+    (Refusal::NotDirect, 10, "NotDirect", ""),
+    (Refusal::NotIndirect, 11, "NotIndirect", ""),
+    (Refusal::InUse, 12, "InUse", ""),
+    (Refusal::NoSuchPacket, 13, "NoSuchPacket", ""),
+    (Refusal::PacketsFull, 14, "PacketsFull", ""),
+    (Refusal::DeskTaken, 15, "DeskTaken", ""),
+    (Refusal::DeskEmpty, 16, "DeskEmpty", ""),
+    (Refusal::NoSuchDesk, 17, "NoSuchDesk", ""),
+    (Refusal::MissingShare(7), 18, "MissingShare", " worker 7"),
+    (Refusal::StrangerShare, 19, "StrangerShare", ""),
+    (Refusal::ScriptFault(12), 20, "ScriptFault", " line 12"),
+    (Refusal::StepRefused, 21, "StepRefused", ""),
+    (Refusal::Foreign, 22, "Foreign", ""),
+    (Refusal::SamePacket, 23, "SamePacket", ""),
+];
+
+// A refusal as it is displayed.
+fn displayed(alloc: Global, refusal: Refusal) -> Result<String, Fail> {
+    Ok(format!(in alloc; "{refusal}")?)
+}
+
 #[test]
 fn each_refusal_has_its_number_and_displays_its_name(rt: HostRuntime) -> Result<(), Fail> {
-    let alloc = rt.alloc();
-    let all = [
-        (Refusal::BadPool, 1, "BadPool", ""),
-        (Refusal::OutOfMemory, 2, "OutOfMemory", ""),
-        (Refusal::NoEntries, 3, "NoEntries", ""),
-        (Refusal::Contended, 4, "Contended", ""),
-        (Refusal::HeadSpent, 5, "HeadSpent", ""),
-        (Refusal::RefSpent, 6, "RefSpent", ""),
-        (Refusal::TooManySegs, 7, "TooManySegs", ""),
-        (Refusal::NoRoom, 8, "NoRoom", ""),
-        (Refusal::TooShort, 9, "TooShort", ""),
-        (Refusal::NotDirect, 10, "NotDirect", ""),
-        (Refusal::NotIndirect, 11, "NotIndirect", ""),
-        (Refusal::InUse, 12, "InUse", ""),
-        (Refusal::NoSuchPacket, 13, "NoSuchPacket", ""),
-        (Refusal::PacketsFull, 14, "PacketsFull", ""),
-        (Refusal::DeskTaken, 15, "DeskTaken", ""),
-        (Refusal::DeskEmpty, 16, "DeskEmpty", ""),
-        (Refusal::NoSuchDesk, 17, "NoSuchDesk", ""),
-        (Refusal::MissingShare(7), 18, "MissingShare", " worker 7"),
-        (Refusal::StrangerShare, 19, "StrangerShare", ""),
-        (Refusal::ScriptFault(12), 20, "ScriptFault", " line 12"),
-        (Refusal::StepRefused, 21, "StepRefused", ""),
-        (Refusal::Foreign, 22, "Foreign", ""),
-        (Refusal::SamePacket, 23, "SamePacket", ""),
-    ];
-    for (refusal, number, name, more) in all {
-        let told = format!(in alloc; "{} {} {refusal}", refusal.number(), refusal.name())?;
-        let wanted = format!(in alloc; "{number} {name} {name}{more}")?;
-        assert_eq!(rt; told.as_str(), wanted.as_str());
+    for (refusal, number, name, more) in REFUSALS.iter() {
+        same(
+            &rt,
+            &(refusal.number(), refusal.name()),
+            &(*number, *name),
+            *name,
+        );
+        let told = displayed(rt.alloc(), *refusal)?;
+        let behind = told.as_str().strip_prefix(*name);
+        same(&rt, &behind, &Some(*more), *name);
     }
     Ok(())
+}
+
+// Gets two elements, puts them back, and tells of them and of how many were common in between.
+fn put_back<C: Commons>(c: &mut C) -> Result<([u32; 2], u32), Refusal> {
+    let mut two = [0; 2];
+    c.get_list(&mut two)?;
+    let left = c.common_count();
+    c.put_list(&two)?;
+    Ok((two, left))
+}
+
+// What a get of four elements is told.
+fn got_four<C: Commons>(c: &mut C) -> Result<(), Refusal> {
+    let mut four = [0; 4];
+    c.get_list(&mut four)
 }
 
 #[test]
 fn a_list_goes_back_with_its_last_on_top(rt: HostRuntime) -> Result<(), Fail> {
     let mut site = PlainSite::make(rt.alloc(), &LIMITS)?;
-    let mut two = [0; 2];
-    let mut four = [0; 4];
     let mut c = PlainCommons::new(&mut site, 1);
-    c.get_list(&mut two)?;
-    assert_eq!(rt; two.as_slice(), [0, 1].as_slice());
-    assert_eq!(rt; c.common_count(), 1);
-    c.put_list(&two)?;
-    let refused = c.get_list(&mut four);
-    assert_eq!(rt; refused, Err(Refusal::NoEntries));
-    assert_eq!(rt; site.common(), [2, 0, 1].as_slice());
+    let list = put_back(&mut c);
+    let short = got_four(&mut c);
+    same(
+        &rt,
+        &list,
+        &Ok(([0, 1], 1)),
+        "the list, and what is common without it",
+    );
+    same(
+        &rt,
+        &short,
+        &Err(Refusal::NoEntries),
+        "a get of more than there are",
+    );
+    same(
+        &rt,
+        &site.common(),
+        &[2, 0, 1].as_slice(),
+        "the common list",
+    );
     Ok(())
 }
 
@@ -111,15 +162,48 @@ fn a_spent_head_is_told_of_behind_a_short_list(rt: HostRuntime) -> Result<(), Fa
         ..LIMITS
     };
     let mut site = PlainSite::make(rt.alloc(), &limits)?;
-    let mut one = [0; 1];
-    let mut four = [0; 4];
     let mut c = PlainCommons::new(&mut site, 1);
-    let spent = c.get_list(&mut one);
-    let short = c.get_list(&mut four);
-    assert_eq!(rt; spent, Err(Refusal::HeadSpent));
-    assert_eq!(rt; short, Err(Refusal::NoEntries));
-    assert_eq!(rt; site.common(), [2, 1, 0].as_slice());
+    let spent = claimed(&mut c);
+    let short = got_four(&mut c);
+    same(&rt, &spent, &Err(Refusal::HeadSpent), "a get of one");
+    same(
+        &rt,
+        &short,
+        &Err(Refusal::NoEntries),
+        "a get of more than there are",
+    );
+    same(
+        &rt,
+        &site.common(),
+        &[2, 1, 0].as_slice(),
+        "the common list",
+    );
     Ok(())
+}
+
+// Raises the count of an element twice, and tells of the count before and after the first raise,
+// of what the second one is told, and of the count after it.
+fn raised_twice<C: Commons>(
+    c: &mut C,
+    element: u32,
+) -> Result<(u32, u32, Result<(), Refusal>, u32), Refusal>
+    requires held { 0 < (C.side c.old).holds element }
+    ensures held { IfOk result (λ told. 2 ≤ (C.side c.new).holds element) }
+{
+    let first = c.count(element);
+    c.raise(element)?;
+    let second = c.count(element);
+    let spent = c.raise(element);
+    Ok((first, second, spent, c.count(element)))
+}
+
+// Lowers the count of an element twice, and tells of both, and of the count in between.
+fn lowered_twice<C: Commons>(c: &mut C, element: u32) -> (Lowered, u32, Lowered)
+    requires held { 2 ≤ (C.side c.old).holds element }
+{
+    let first = c.lower(element);
+    let between = c.count(element);
+    (first, between, c.lower(element))
 }
 
 #[test]
@@ -130,21 +214,28 @@ fn a_count_is_raised_to_its_limit_and_lowered(rt: HostRuntime) -> Result<(), Fai
     };
     let mut site = PlainSite::make(rt.alloc(), &limits)?;
     let mut c = PlainCommons::new(&mut site, 1);
-    let mut one = [0; 1];
-    c.get_list(&mut one)?;
-    let element = one[0];
-    assert_eq!(rt; element, 0);
-    c.claim(element);
-    assert_eq!(rt; c.count(element), 1);
-    c.raise(element)?;
-    assert_eq!(rt; c.count(element), 2);
-    let spent = c.raise(element);
-    assert_eq!(rt; spent, Err(Refusal::RefSpent));
-    assert_eq!(rt; c.count(element), 2);
-    assert_eq!(rt; c.lower(element), Lowered::Still);
-    assert_eq!(rt; c.count(element), 1);
-    assert_eq!(rt; c.lower(element), Lowered::Last);
-    assert_eq!(rt; site.places()[0], Place::Hand(1));
+    let element = claimed(&mut c)?;
+    let raised = raised_twice(&mut c, element)?;
+    let lowered = lowered_twice(&mut c, element);
+    same(&rt, &element, &0, "the element");
+    same(
+        &rt,
+        &raised,
+        &(1, 2, Err(Refusal::RefSpent), 2),
+        "raised twice",
+    );
+    same(
+        &rt,
+        &lowered,
+        &(Lowered::Still, 1, Lowered::Last),
+        "lowered twice",
+    );
+    same(
+        &rt,
+        &site.places().first(),
+        &Some(&Place::Hand(1)),
+        "the place",
+    );
     Ok(())
 }
 
@@ -152,6 +243,7 @@ fn a_count_is_raised_to_its_limit_and_lowered(rt: HostRuntime) -> Result<(), Fai
 fn claimed<C: Commons>(c: &mut C) -> Result<u32, Refusal>
     ensures holds { IfOk result (λ e. (i : ℕ) → (C.side c.new).holds i ≡ (C.side c.old).holds i + one e i) }
     ensures headers { IfOk result (λ e. (i : ℕ) → (C.side c.new).headers i ≡ (C.side c.old).headers i + one e i) }
+    ensures held { IfOk result (λ e. 0 < (C.side c.new).holds e) }
 {
     let mut one = [0; 1];
     c.get_list(&mut one)?;
@@ -208,37 +300,61 @@ const SECOND: Seg = Seg {
     buf_len: 2_048,
 };
 
+// A packet has these segments.
+fn same_segs(rt: &impl Abort, packet: &Packet, wanted: &[Seg], what: &str) {
+    same(rt, &packet.segs(), &wanted, what);
+}
+
+// The segments of the packet on the pool's one desk, where one lies there; `None` for other desks.
+fn on_desk(site: &PlainSite) -> Option<Option<&[Seg]>> {
+    match site.desks() {
+        [Some(packet)] => Some(Some(packet.segs())),
+        [None] => Some(None),
+        _ => None,
+    }
+}
+
+// A packet of these segments lies on the pool's one desk, or none.
+fn same_on_desk(rt: &impl Abort, site: &PlainSite, wanted: Option<&[Seg]>, what: &str) {
+    same(rt, &on_desk(site), &Some(wanted), what);
+}
+
 #[test]
 fn a_packet_passes_over_a_desk_with_all_its_holds(rt: HostRuntime) -> Result<(), Fail> {
     let mut site = PlainSite::make(rt.alloc(), &LIMITS)?;
     let mut second = PlainCommons::new(&mut site, 2);
     let missing = second.take(1).err();
     let empty = second.take(0).err();
-    assert_eq!(rt; missing, Some(Refusal::NoSuchDesk));
-    assert_eq!(rt; empty, Some(Refusal::DeskEmpty));
+    same(
+        &rt,
+        &missing,
+        &Some(Refusal::NoSuchDesk),
+        "a take off no desk",
+    );
+    same(
+        &rt,
+        &empty,
+        &Some(Refusal::DeskEmpty),
+        "a take off an empty desk",
+    );
     let mut first = PlainCommons::new(&mut site, 1);
     let packet = indirect(&mut first)?;
-    assert_eq!(rt; packet.segs(), [FIRST].as_slice());
-    assert!(rt; first.offer(0, packet).is_ok());
-    assert_eq!(rt; held(&site, 0), Some((1, 0, Place::Held(2))));
-    assert_eq!(rt; held(&site, 1), Some((0, 0, Place::Held(1))));
-    let there = match site.desks() {
-        [Some(packet)] => packet.segs() == [FIRST].as_slice(),
-        _ => false,
-    };
-    assert!(rt; there);
+    same_segs(&rt, &packet, &[FIRST], "the packet");
+    let is_offered = first.offer(0, packet).is_ok();
+    assert!(rt; is_offered);
+    let holds = (held(&site, 0), held(&site, 1));
+    let on_the_way = (Some((1, 0, Place::Held(2))), Some((0, 0, Place::Held(1))));
+    same(&rt, &holds, &on_the_way, "what is held on the way");
+    same_on_desk(&rt, &site, Some(&[FIRST]), "what lies on the desk");
     let workers = site.limits().workers;
-    assert_eq!(rt; workers, 2);
+    assert!(rt; workers == 2);
     let mut second = PlainCommons::new(&mut site, 2);
     let taken = second.take(0)?;
-    assert_eq!(rt; taken.segs(), [FIRST].as_slice());
-    assert_eq!(rt; held(&site, 0), Some((1, 1, Place::Held(2))));
-    assert_eq!(rt; held(&site, 1), Some((0, 1, Place::Held(1))));
-    let empty = match site.desks() {
-        [desk] => desk.is_none(),
-        _ => false,
-    };
-    assert!(rt; empty);
+    same_segs(&rt, &taken, &[FIRST], "the packet that was taken");
+    let holds = (held(&site, 0), held(&site, 1));
+    let arrived = (Some((1, 1, Place::Held(2))), Some((0, 1, Place::Held(1))));
+    same(&rt, &holds, &arrived, "what is held then");
+    same_on_desk(&rt, &site, None, "what is left on the desk");
     Ok(())
 }
 
@@ -247,21 +363,28 @@ fn an_offer_refused_gives_the_packet_back(rt: HostRuntime) -> Result<(), Fail> {
     let mut site = PlainSite::make(rt.alloc(), &LIMITS)?;
     let mut c = PlainCommons::new(&mut site, 1);
     let first = direct(&mut c)?;
-    assert!(rt; c.offer(0, first).is_ok());
+    let is_offered = c.offer(0, first).is_ok();
+    assert!(rt; is_offered);
     let second = indirect(&mut c)?;
     let (missing, packet) = match c.offer(1, second) {
         Ok(()) => return Err(Refusal::DeskEmpty.into()),
         Err(refused) => refused,
     };
-    assert_eq!(rt; packet.segs(), [SECOND].as_slice());
+    same_segs(&rt, &packet, &[SECOND], "the packet back from no desk");
     let (taken, packet) = match c.offer(0, packet) {
         Ok(()) => return Err(Refusal::DeskEmpty.into()),
         Err(refused) => refused,
     };
-    assert_eq!(rt; packet.segs(), [SECOND].as_slice());
-    assert_eq!(rt; missing, Refusal::NoSuchDesk);
-    assert_eq!(rt; taken, Refusal::DeskTaken);
-    assert_eq!(rt; held(&site, 1), Some((2, 0, Place::Held(2))));
-    assert_eq!(rt; held(&site, 2), Some((1, 0, Place::Held(1))));
+    same_segs(&rt, &packet, &[SECOND], "the packet back from a taken desk");
+    let refusals = (missing, taken);
+    same(
+        &rt,
+        &refusals,
+        &(Refusal::NoSuchDesk, Refusal::DeskTaken),
+        "the refusals",
+    );
+    let holds = (held(&site, 1), held(&site, 2));
+    let kept = (Some((2, 0, Place::Held(2))), Some((1, 0, Place::Held(1))));
+    same(&rt, &holds, &kept, "what is held");
     Ok(())
 }

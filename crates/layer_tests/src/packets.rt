@@ -5,6 +5,7 @@ ghost use Rattle.commons.specs.Beside.{KeepsSides, LeavesOthers};
 ghost use Rattle.commons.specs.Lists.{hand_of, holds_of};
 ghost use Rattle.layer_tests.specs.OwnAtSite.{OwnAtSite};
 
+use crate::equal::same;
 use crate::rows::{Left, ONE, REFUSED_AT_A_GET, REFUSED_AT_A_RAISE, ROWS, Show, Step};
 use commons::laws::a_worker_leaves_the_others;
 use commons::limits::Limits;
@@ -189,7 +190,7 @@ fn played(
 fn each_row_goes_as_it_says(rt: HostRuntime) -> Result<(), Fail> {
     for row in ROWS.iter() {
         let differs = played(rt.alloc(), &row.limits, row.workers, row.left)?;
-        assert_eq!(rt; differs, None, "the row {}", row.name);
+        same(&rt, &differs, &None, row.name);
     }
     Ok(())
 }
@@ -208,7 +209,12 @@ fn a_clone_refused_at_each_of_its_gets_leaves_all_as_before(rt: HostRuntime) -> 
             &[&REFUSED_AT_A_GET],
             Left::Held(&[1; 32]),
         )?;
-        assert_eq!(rt; differs, None, "{left} elements are left");
+        same(
+            &rt,
+            &(left, differs),
+            &(left, None),
+            "so many elements are left",
+        );
     }
     Ok(())
 }
@@ -228,7 +234,12 @@ fn a_clone_refused_at_each_of_its_raises_leaves_all_as_before(rt: HostRuntime) -
         let mut counts = [1; 33];
         counts[spent as usize] = 2;
         let differs = played(rt.alloc(), &limits, &[&steps], Left::Held(&counts))?;
-        assert_eq!(rt; differs, None, "the count of {spent} is at its limit");
+        same(
+            &rt,
+            &(spent, differs),
+            &(spent, None),
+            "the count of it is at its limit",
+        );
     }
     Ok(())
 }

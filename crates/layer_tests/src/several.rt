@@ -6,6 +6,7 @@ ghost use Rattle.commons.specs.Lists.{hand_of, holds_of, side_of};
 ghost use Rattle.layer_tests.specs.OwnAtSite.{OwnAtSite};
 ghost use Rattle.mbuf.specs.Own.{Own};
 
+use crate::equal::same;
 use commons::laws::a_worker_leaves_the_others;
 use commons::limits::Limits;
 use commons::plain::PlainCommons;
@@ -15,7 +16,6 @@ use commons::site::PlainSite;
 use mbuf::laws::packets_stay_own;
 use mbuf::packets::{Packets, Pid};
 use std::alloc::Global;
-use std::process::Abort;
 use std::test::Fail;
 
 const LIMITS: Limits = Limits {
@@ -116,6 +116,11 @@ fn two_workers_of_one_pool_make_packets_in_turn(rt: HostRuntime) -> Result<(), F
     let mut first = Packets::make(rt.alloc(), &LIMITS, 1)?;
     let told = with_second(rt.alloc(), &mut site, &mut first);
     first.lose();
-    assert_eq!(rt; told, Ok((Some(0), Some(1), Ok(7))));
+    same(
+        &rt,
+        &told,
+        &Ok((Some(0), Some(1), Ok(7))),
+        "the elements, and the first one's byte",
+    );
     Ok(())
 }

@@ -31,29 +31,33 @@ fn words(
     Ok(Seq::new(words))
 }
 
+/// A packet of these segments, if there is one.
+fn packet(alloc: Global, segs: Option<&[Seg]>) -> Result<Option<Seq<Seg>>, AllocError> {
+    match segs {
+        Some(segs) => Ok(Some(seq(alloc, segs)?)),
+        None => Ok(None),
+    }
+}
+
 /// A table's slots, with the packet in each that has one.
 fn table(alloc: Global, packets: &[(usize, &[Seg])]) -> Result<Seq<Option<Seq<Seg>>>, AllocError>
     ensures { IfOk result (λ table. length table ≡ slots) }
 {
     let mut table = Vec::new(alloc);
     for slot in 0..256 {
-        table.push(in_slot(alloc, packets, slot)?)?;
+        table.push(packet(alloc, in_slot(packets, slot))?)?;
     }
     Ok(Seq::new(table))
 }
 
-/// The packet in a slot, if there is one.
-fn in_slot(
-    alloc: Global,
-    packets: &[(usize, &[Seg])],
-    slot: usize,
-) -> Result<Option<Seq<Seg>>, AllocError> {
+/// The segments of the packet in a slot, if there is one.
+fn in_slot<'a>(packets: &[(usize, &'a [Seg])], slot: usize) -> Option<&'a [Seg]> {
     for (at, segs) in packets {
         if *at == slot {
-            return Ok(Some(seq(alloc, segs)?));
+            return Some(*segs);
         }
     }
-    Ok(None)
+    None
 }
 
 /// What the workers handed in.
@@ -75,11 +79,7 @@ fn shares(alloc: Global, rows: &[Handed]) -> Result<Seq<ShareData>, AllocError>
 fn desks(alloc: Global, rows: &[Option<&[Seg]>]) -> Result<Seq<Option<Seq<Seg>>>, AllocError> {
     let mut desks = Vec::new(alloc);
     for row in rows {
-        let packet = match row {
-            Some(segs) => Some(seq(alloc, segs)?),
-            None => None,
-        };
-        desks.push(packet)?;
+        desks.push(packet(alloc, *row)?)?;
     }
     Ok(Seq::new(desks))
 }

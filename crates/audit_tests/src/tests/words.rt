@@ -374,25 +374,35 @@ pub(super) const POOLS: &[Pool] = &[
 
 /// What is answered where a word has this value.
 pub(super) fn wanted(pool: &Pool, word: Word, value: u32, answer: Answer) -> Result<Places, Fault> {
-    let fault = match (answer, word) {
-        (Answer::Lawful, _) => return Ok(pool.places),
-        (Answer::BadTop(met), _) => Fault::BadTop(met),
-        (Answer::Loop, _) => Fault::Loop,
-        (Answer::Walked(found), Word::Length) => Fault::BadLength {
-            word: u64::from(value),
+    match answer {
+        Answer::Lawful => Ok(pool.places),
+        Answer::BadTop(met) => Err(Fault::BadTop(met)),
+        Answer::Loop => Err(Fault::Loop),
+        Answer::Walked(found) => Err(Fault::BadLength {
+            word: length(pool, word, value),
             found,
-        },
-        (Answer::Walked(found), _) => Fault::BadLength {
-            word: pool.shown.length,
-            found,
-        },
-        (Answer::Doubled(elem), _) => Fault::Doubled(elem),
-        (Answer::Holds(holds), Word::Count(elem)) => Fault::BadCount {
+        }),
+        Answer::Doubled(elem) => Err(Fault::Doubled(elem)),
+        Answer::Holds(holds) => Err(bad_count(word, value, holds)),
+    }
+}
+
+/// The length word where a word has this value.
+fn length(pool: &Pool, word: Word, value: u32) -> u64 {
+    match word {
+        Word::Length => u64::from(value),
+        _ => pool.shown.length,
+    }
+}
+
+/// The fault of a count that has this value, and so many holds; of another word there is none.
+fn bad_count(word: Word, value: u32, holds: u64) -> Fault {
+    match word {
+        Word::Count(elem) => Fault::BadCount {
             elem,
             word: value,
             holds,
         },
-        (Answer::Holds(_), _) => Fault::BadShape,
-    };
-    Err(fault)
+        _ => Fault::BadShape,
+    }
 }
