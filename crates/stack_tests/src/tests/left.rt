@@ -31,12 +31,14 @@ pub(super) fn assert_each_once<R: Abort, W: Debug>(
     what: &W,
 ) -> Result<(), Fail> {
     let mut list = common_list(alloc, closed)?;
-    same(rt, &(list.len() as u64), &closed.length, what);
+    let length = list.len() as u64;
+    same(rt, &length, &closed.length, &(what, "the length"));
     list.extend_from_slice(kept)?;
     list.sort_unstable();
-    same(rt, &list.len(), &closed.links.len(), what);
+    let elements = closed.links.len();
+    same(rt, &list.len(), &elements, &(what, "the elements"));
     for (element, place) in list.iter().zip(0u32..) {
-        same(rt, element, &place, what);
+        same(rt, element, &place, &(what, "each once"));
     }
     Ok(())
 }
