@@ -1,5 +1,6 @@
 //! The functions that walk the tables. A row that fails is named.
 
+ghost use Rattle.std.specs.Prelude.{◌<◌, ◌≤◌, length};
 ghost use Rattle.ground.specs.Seats.{IsOf};
 
 use commons::closed::Closed;
@@ -9,6 +10,7 @@ use commons::shared::Commons;
 use ground::pool::Ground;
 use ground::seat::GroundSeat;
 use stack_lf::words::WordCommons;
+use std::fmt::Debug;
 use std::process::Abort;
 use std::test::Fail;
 
@@ -41,34 +43,67 @@ enum Turn {
     Count(u32),
 }
 
+/// Both are one; else it is told of what, with both.
+fn same<R: Abort, T: PartialEq + Debug, W: Debug>(rt: &R, given: &T, wanted: &T, what: &W) {
+    assert!(rt; *given == *wanted, "{what:?}: {given:?}, not {wanted:?}");
+}
+
+/// A list of so many elements is one that a worker can ask for.
+fn assert_fits<R: Abort, W: Debug>(rt: &R, n: usize, what: &W)
+    ensures some { 0 < n }
+    ensures most { n ≤ 32 }
+{
+    assert!(rt; 0 < n && n <= MOST, "{what:?}: a list of {n}");
+}
+
+/// Gets as many elements as there are places for.
+fn get(c: &mut WordCommons, out: &mut [u32]) -> Result<(), Refusal>
+    requires { 0 < length out.old }
+{
+    c.get_list(out)
+}
+
+/// Gets these elements and puts them back, and the put is answered so.
+fn follow_back<R: Abort>(
+    rt: &R,
+    c: &mut WordCommons,
+    elements: &[u32],
+    told: Result<(), Refusal>,
+    name: &str,
+) {
+    let n = elements.len();
+    assert_fits(rt, n, &name);
+    let mut places = [0; MOST];
+    let answer = there_and_back(c, &mut places[..n]);
+    same(rt, &(answer, &places[..n]), &(Ok(told), elements), &name);
+}
+
+/// Gets these elements.
+fn follow_get<R: Abort>(rt: &R, c: &mut WordCommons, elements: &[u32], name: &str) {
+    let n = elements.len();
+    assert_fits(rt, n, &name);
+    let mut places = [0; MOST];
+    let answer = get(c, &mut places[..n]);
+    same(rt, &(answer, &places[..n]), &(Ok(()), elements), &name);
+}
+
+/// A get of so many is refused so.
+fn follow_refused<R: Abort>(rt: &R, c: &mut WordCommons, n: usize, refusal: Refusal, name: &str) {
+    assert_fits(rt, n, &name);
+    let mut places = [0; MOST];
+    let answer = get(c, &mut places[..n]);
+    same(rt, &answer, &Err(refusal), &name);
+}
+
 /// Does what a row says.
 fn follow<R: Abort>(rt: &R, c: &mut WordCommons, row: &Row) {
     let name = row.name;
     for turn in row.turns {
-        let mut places = [0; MOST];
         match turn {
-            Turn::Back(elements, told) => {
-                let n = elements.len();
-                assert!(rt; 0 < n && n <= MOST, "{name}");
-                let out = &mut places[..n];
-                let answer = there_and_back(c, out);
-                assert_eq!(rt; answer, Ok(*told), "{name}");
-                assert_eq!(rt; *out, **elements, "{name}");
-            }
-            Turn::Get(elements) => {
-                let n = elements.len();
-                assert!(rt; 0 < n && n <= MOST, "{name}");
-                let out = &mut places[..n];
-                let answer = c.get_list(out);
-                assert_eq!(rt; answer, Ok(()), "{name}");
-                assert_eq!(rt; *out, **elements, "{name}");
-            }
-            Turn::Refused(n, refusal) => {
-                assert!(rt; 0 < *n && *n <= MOST, "{name}");
-                let answer = c.get_list(&mut places[..*n]);
-                assert_eq!(rt; answer, Err(*refusal), "{name}");
-            }
-            Turn::Count(length) => assert_eq!(rt; c.common_count(), *length, "{name}"),
+            Turn::Back(elements, told) => follow_back(rt, c, elements, *told, name),
+            Turn::Get(elements) => follow_get(rt, c, elements, name),
+            Turn::Refused(n, refusal) => follow_refused(rt, c, *n, *refusal, name),
+            Turn::Count(length) => same(rt, &c.common_count(), length, &name),
         }
     }
 }
@@ -112,8 +147,8 @@ fn one_worker_is_never_refused(rt: HostRuntime) -> Result<(), Fail> {
         sound,
     } = rounds(rt.alloc(), &ground, Worker { seat }, 3, 1_000);
     let closed = closed_of(ground, seat)?;
-    assert!(rt; sound, "a call was refused");
-    assert_eq!(rt; (met, refused), (1_000, 0));
-    assert_eq!(rt; closed.length, 8);
-    assert_each_once(&rt, rt.alloc(), &closed, kept.as_slice(), "one worker")
+    let name = "one worker, no call of whom is refused";
+    let given = (sound, met, refused, closed.length);
+    same(&rt, &given, &(true, 1_000, 0, 8), &name);
+    assert_each_once(&rt, rt.alloc(), &closed, kept.as_slice(), &name)
 }

@@ -4,6 +4,7 @@ use commons::limits::Limits;
 use commons::refusal::Refusal;
 use head_word::{next_count, pack, unpack};
 use std::alloc::{AllocError, Global};
+use std::fmt::Debug;
 use std::process::Abort;
 use std::test::Fail;
 use step_core::run::run;
@@ -21,7 +22,7 @@ mod shown;
 mod texts;
 
 use acts::{Act, Told, is_told, step_of};
-use shown::{End, assert_end, numbers};
+use shown::{End, assert_end, numbers_of};
 
 /// A name, a pool's limits, the steps with their workers and what they answer, and the world afterwards.
 type Row = (&'static str, Limits, &'static [(u32, Act, Told)], End);
@@ -34,27 +35,58 @@ type RefusedRow = (
     &'static [(u32, Act)],
 );
 
+/// Both are one; else it is told of what, with both.
+fn same<R: Abort, T: PartialEq + Debug>(rt: &R, given: &T, wanted: &T, what: &str) {
+    assert!(rt; *given == *wanted, "{what}: {given:?}, not {wanted:?}");
+}
+
 #[test]
 fn a_head_has_one_word(rt: HostRuntime) {
     for (top, count, word) in heads::WORDS {
-        assert_eq!(&rt; pack(*top, *count), *word, "{top:?} {count}");
-        assert_eq!(&rt; unpack(*word), Some((*top, *count)), "{word}");
+        let given = (pack(*top, *count), unpack(*word));
+        same(&rt, &given, &(*word, Some((*top, *count))), "a head");
     }
     for word in heads::NO_HEADS {
-        assert_eq!(&rt; unpack(*word), None, "{word}");
+        same(&rt, &(*word, unpack(*word)), &(*word, None), "no head");
     }
     for (count, next) in heads::COUNTS {
-        assert_eq!(&rt; next_count(*count), *next, "{count}");
+        same(
+            &rt,
+            &(*count, next_count(*count)),
+            &(*count, *next),
+            "a count",
+        );
+    }
+}
+
+/// An answer is the one that is told of the step at this place of its row.
+fn assert_told<R: Abort>(
+    rt: &R,
+    answer: &Result<Outcome, Refusal>,
+    told: &Told,
+    place: usize,
+    name: &str,
+) {
+    assert!(rt; is_told(answer, told), "{name}: step {place}: {answer:?}");
+}
+
+/// A step of a worker, and what it answers.
+fn answer_of(world: &mut World, worker: u32, act: Act) -> Result<Outcome, Refusal> {
+    world.step(worker, step_of(act))
+}
+
+/// Plays these steps, each of which answers as it is told.
+fn play_told<R: Abort>(rt: &R, world: &mut World, steps: &[(u32, Act, Told)], name: &str) {
+    for (place, (worker, act, told)) in steps.iter().enumerate() {
+        let answer = answer_of(world, *worker, *act);
+        assert_told(rt, &answer, told, place, name);
     }
 }
 
 fn step_rows<R: Abort + AllocGlobal>(rt: &R, rows: &[Row]) -> Result<(), Fail> {
     for (name, limits, steps, end) in rows {
         let mut world = World::open(rt.alloc(), limits)?;
-        for (index, (worker, act, told)) in steps.iter().enumerate() {
-            let answer = world.step(*worker, step_of(*act));
-            assert!(rt; is_told(&answer, told), "{name}: step {index}: {answer:?}");
-        }
+        play_told(rt, &mut world, steps, name);
         assert_end(rt, &world, end, name);
     }
     Ok(())
@@ -62,9 +94,10 @@ fn step_rows<R: Abort + AllocGlobal>(rt: &R, rows: &[Row]) -> Result<(), Fail> {
 
 #[test]
 fn each_step_answers_as_its_row_says(rt: HostRuntime) -> Result<(), Fail> {
-    step_rows(&rt, schedules::STACK)?;
-    step_rows(&rt, schedules::COUNTS)?;
-    step_rows(&rt, schedules::REFUSED)
+    for rows in [schedules::STACK, schedules::COUNTS, schedules::REFUSED] {
+        step_rows(&rt, rows)?;
+    }
+    Ok(())
 }
 
 /// The steps of a row as a schedule.
@@ -76,16 +109,37 @@ fn schedule_of(alloc: Global, steps: &[(u32, Act, Told)]) -> Result<Vec<(u32, St
     Ok(schedule)
 }
 
+/// These outcomes are those that are told of the steps of a row.
+fn assert_outcomes<R: Abort>(
+    rt: &R,
+    outcomes: Vec<Outcome>,
+    steps: &[(u32, Act, Told)],
+    name: &str,
+) {
+    same(rt, &outcomes.len(), &steps.len(), name);
+    let mut place = 0usize;
+    for (outcome, (_worker, _act, told)) in outcomes.into_iter().zip(steps) {
+        assert_told(rt, &Ok(outcome), told, place, name);
+        place = place.saturating_add(1);
+    }
+}
+
+/// What a world answers to all steps of a row at once.
+fn outcomes_of(
+    alloc: Global,
+    world: &mut World,
+    steps: &[(u32, Act, Told)],
+) -> Result<Vec<Outcome>, Fail> {
+    let schedule = schedule_of(alloc, steps)?;
+    let outcomes = run(alloc, world, schedule.as_slice())?;
+    Ok(outcomes)
+}
+
 fn run_rows<R: Abort + AllocGlobal>(rt: &R, rows: &[Row]) -> Result<(), Fail> {
     for (name, limits, steps, end) in rows {
         let mut world = World::open(rt.alloc(), limits)?;
-        let schedule = schedule_of(rt.alloc(), steps)?;
-        let outcomes = run(rt.alloc(), &mut world, schedule.as_slice())?;
-        assert_eq!(rt; outcomes.len(), steps.len(), "{name}");
-        for (outcome, (_worker, _act, told)) in outcomes.into_iter().zip(*steps) {
-            let answer: Result<Outcome, Refusal> = Ok(outcome);
-            assert!(rt; is_told(&answer, told), "{name}: {answer:?}");
-        }
+        let outcomes = outcomes_of(rt.alloc(), &mut world, steps)?;
+        assert_outcomes(rt, outcomes, steps, name);
         assert_end(rt, &world, end, name);
     }
     Ok(())
@@ -93,74 +147,128 @@ fn run_rows<R: Abort + AllocGlobal>(rt: &R, rows: &[Row]) -> Result<(), Fail> {
 
 #[test]
 fn a_run_has_the_same_outcomes(rt: HostRuntime) -> Result<(), Fail> {
-    run_rows(&rt, schedules::STACK)?;
-    run_rows(&rt, schedules::COUNTS)
+    for rows in [schedules::STACK, schedules::COUNTS] {
+        run_rows(&rt, rows)?;
+    }
+    Ok(())
+}
+
+/// Plays these steps, none of which is refused.
+fn play_all<R: Abort>(rt: &R, world: &mut World, steps: &[(u32, Act)], name: &str) {
+    for (place, (worker, act)) in steps.iter().enumerate() {
+        let refusal = answer_of(world, *worker, *act).err();
+        same(rt, &(place, refusal), &(place, None), name);
+    }
+}
+
+/// Plays these steps, each of which is refused and changes nothing.
+fn refuse_all<R: Abort>(rt: &R, world: &mut World, steps: &[(u32, Act)], name: &str) {
+    let before = numbers_of(rt, world);
+    for (place, (worker, act)) in steps.iter().enumerate() {
+        let answer = answer_of(world, *worker, *act);
+        assert_told(rt, &answer, &Told::Refused, place, name);
+        let after = numbers_of(rt, world);
+        same(
+            rt,
+            &(place, after.as_slice()),
+            &(place, before.as_slice()),
+            name,
+        );
+    }
 }
 
 fn refused_rows<R: Abort + AllocGlobal>(rt: &R, rows: &[RefusedRow]) -> Result<(), Fail> {
     for (name, limits, steps, refused) in rows {
         let mut world = World::open(rt.alloc(), limits)?;
-        for (worker, act) in *steps {
-            let answer = world.step(*worker, step_of(*act));
-            assert!(rt; answer.is_ok(), "{name}: {act:?}: {answer:?}");
-        }
-        let before = numbers(&world)?;
-        for (worker, act) in *refused {
-            let answer = world.step(*worker, step_of(*act));
-            assert!(rt;
-                is_told(&answer, &Told::Refused),
-                "{name}: {act:?}: {answer:?}"
-            );
-            let after = numbers(&world)?;
-            assert_eq!(rt; after.as_slice(), before.as_slice(), "{name}: {act:?}");
-        }
+        play_all(rt, &mut world, steps, name);
+        refuse_all(rt, &mut world, refused, name);
     }
     Ok(())
 }
 
 #[test]
 fn a_refused_step_leaves_the_world_as_it_was(rt: HostRuntime) -> Result<(), Fail> {
-    refused_rows(&rt, refusals::STACK)?;
-    refused_rows(&rt, refusals::COUNTS)?;
-    refused_rows(&rt, refusals::DESKS)
+    for rows in [refusals::STACK, refusals::COUNTS, refusals::DESKS] {
+        refused_rows(&rt, rows)?;
+    }
+    Ok(())
+}
+
+/// The world of these limits, opened once more where memory was refused.
+fn world_at_last<R: Abort + AllocGlobal>(
+    rt: &R,
+    limits: &Limits,
+    name: &str,
+) -> Result<World, Refusal> {
+    match World::open(rt.alloc(), limits) {
+        Ok(world) => Ok(world),
+        Err(cause) => {
+            same(rt, &cause, &Refusal::OutOfMemory, name);
+            World::open(rt.alloc(), limits)
+        }
+    }
+}
+
+/// What a step answers, taken once more where memory was refused, which changes nothing.
+fn answer_at_last<R: Abort>(
+    rt: &R,
+    world: &mut World,
+    worker: u32,
+    act: Act,
+    name: &str,
+) -> Result<Outcome, Refusal> {
+    let before = numbers_of(rt, world);
+    match answer_of(world, worker, act) {
+        Err(Refusal::OutOfMemory) => {
+            let after = numbers_of(rt, world);
+            same(rt, &after.as_slice(), &before.as_slice(), name);
+            answer_of(world, worker, act)
+        }
+        answer => answer,
+    }
 }
 
 /// Whichever request for memory is refused, a step is as its row says or `OutOfMemory`, and then changes nothing.
 #[test]
 fn refused_memory_changes_no_answer(rt: HostRuntime) -> Result<(), Fail> {
     let (name, limits, steps, end) = schedules::FOR_MEMORY;
-    let mut world = match World::open(rt.alloc(), &limits) {
-        Ok(world) => world,
-        Err(cause) => {
-            assert_eq!(&rt; cause, Refusal::OutOfMemory, "{name}");
-            World::open(rt.alloc(), &limits)?
-        }
-    };
-    for (worker, act, told) in steps {
-        let before = numbers(&world)?;
-        let mut answer = world.step(*worker, step_of(*act));
-        if let Err(Refusal::OutOfMemory) = answer {
-            let after = numbers(&world)?;
-            assert_eq!(&rt; after.as_slice(), before.as_slice(), "{name}");
-            answer = world.step(*worker, step_of(*act));
-        }
-        assert!(&rt; is_told(&answer, told), "{name}: {act:?}: {answer:?}");
+    let mut world = world_at_last(&rt, &limits, name)?;
+    for (place, (worker, act, told)) in steps.iter().enumerate() {
+        let answer = answer_at_last(&rt, &mut world, *worker, *act, name);
+        assert_told(&rt, &answer, told, place, name);
     }
     assert_end(&rt, &world, &end, name);
     Ok(())
 }
 
+/// What a script prints.
+fn printed_by(alloc: Global, script: &str) -> Result<Vec<u8>, Refusal> {
+    run_steps(alloc, script.as_bytes())
+}
+
+/// A script prints its text.
+fn assert_prints<R: Abort + AllocGlobal>(
+    rt: &R,
+    (name, script, text): &texts::Row,
+) -> Result<(), Fail> {
+    let printed = printed_by(rt.alloc(), script)?;
+    same(
+        rt,
+        &str::from_utf8(printed.as_slice()).ok(),
+        &Some(*text),
+        name,
+    );
+    Ok(())
+}
+
 #[test]
 fn each_script_of_steps_prints_its_text(rt: HostRuntime) -> Result<(), Fail> {
-    for (name, script, text) in texts::ROWS {
-        let printed = String::from_utf8(run_steps(rt.alloc(), script.as_bytes())?)?;
-        assert_eq!(&rt; printed.as_str(), *text, "{name}");
+    for row in texts::ROWS {
+        assert_prints(&rt, row)?;
     }
     for (name, text, refusal) in texts::FAULTY {
-        match run_steps(rt.alloc(), text.as_bytes()) {
-            Ok(_) => assert!(&rt; false, "{name} was played"),
-            Err(cause) => assert_eq!(&rt; cause, *refusal, "{name}"),
-        }
+        let cause = printed_by(rt.alloc(), text).err();
+        same(&rt, &cause, &Some(*refusal), name);
     }
     Ok(())
 }
@@ -169,8 +277,8 @@ fn each_script_of_steps_prints_its_text(rt: HostRuntime) -> Result<(), Fail> {
 #[test]
 fn refused_memory_changes_no_text(rt: HostRuntime) {
     let (name, script, text) = texts::FOR_MEMORY;
-    match run_steps(rt.alloc(), script.as_bytes()) {
-        Ok(printed) => assert_eq!(&rt; printed.as_slice(), text.as_bytes(), "{name}"),
-        Err(cause) => assert_eq!(&rt; cause, Refusal::OutOfMemory, "{name}"),
+    match printed_by(rt.alloc(), script) {
+        Ok(printed) => same(&rt, &printed.as_slice(), &text.as_bytes(), name),
+        Err(cause) => same(&rt, &cause, &Refusal::OutOfMemory, name),
     }
 }

@@ -1,9 +1,10 @@
 //! Random schedules of all steps, by two players beside the machine.
 
 use super::acts::Act;
-use super::{assert_closed, assert_views, step_both};
+use super::{close_both, open_both, step_both};
 use crate::pair::Pair;
 use commons::limits::Limits;
+use commons::refusal::Refusal;
 use std::process::Abort;
 use std::test::Fail;
 use step_core::elems::Elems;
@@ -254,25 +255,33 @@ fn drawn_act(world: &World, draws: &mut Draws) -> (usize, u32, Act) {
     }
 }
 
+/// Plays a schedule by both, whose answers have to be the same. Notes which kinds were played.
+fn step_random<R: Abort>(
+    rt: &R,
+    world: &mut World,
+    pair: &mut Pair,
+    draws: &mut Draws,
+    played: &mut [bool; 20],
+) {
+    for _ in 0..STEPS {
+        let (kind, worker, act) = drawn_act(world, draws);
+        let is_played = step_both(rt, world, pair, worker, act, "random");
+        if let Some(noted) = played.get_mut(kind) {
+            *noted |= is_played;
+        }
+    }
+}
+
 /// Plays a schedule by both, and compares each answer and the words at the end. Notes which kinds were played.
 fn play_schedule<R: Abort + AllocGlobal>(
     rt: &R,
     draws: &mut Draws,
     played: &mut [bool; 20],
-) -> Result<(), Fail> {
+) -> Result<(), Refusal> {
     let limits = limits_of(draws);
-    let mut world = World::open(rt.alloc(), &limits)?;
-    let mut pair = Pair::make(rt.alloc(), &limits)?;
-    for _ in 0..STEPS {
-        let (kind, worker, act) = drawn_act(&world, draws);
-        let is_played = step_both(rt, &mut world, &mut pair, worker, act, "random");
-        if let Some(noted) = played.get_mut(kind) {
-            *noted = *noted || is_played;
-        }
-    }
-    assert_views(rt, &world, &pair, "random");
-    let closed = pair.close()?;
-    assert_closed(rt, &world, &closed, "random");
+    let (mut world, mut pair) = open_both(rt.alloc(), &limits)?;
+    step_random(rt, &mut world, &mut pair, draws, played);
+    close_both(rt, &world, pair, "random")?;
     Ok(())
 }
 

@@ -4,6 +4,7 @@ ghost use Rattle.ground.specs.Seats.{IsOf};
 
 use super::acts::{Act, step_of};
 use super::rows::TWO;
+use super::same;
 use crate::pair::Pair;
 use crate::player::Player;
 use commons::closed::Closed;
@@ -11,6 +12,7 @@ use commons::limits::Limits;
 use commons::refusal::Refusal;
 use ground::pool::Ground;
 use ground::seat::GroundSeat;
+use std::alloc::Global;
 use std::process::Abort;
 use std::test::Fail;
 use step_core::step::Outcome;
@@ -32,40 +34,58 @@ const BAD: [Limits; 4] = [
     Limits { workers: 65, ..TWO },
 ];
 
+/// A step is played, and not refused.
+fn assert_played<R: Abort>(rt: &R, answer: &Result<Outcome, Refusal>, act: Act) {
+    assert!(rt; answer.is_ok(), "{act:?}: {answer:?}");
+}
+
 /// One step of a player, which has to be played. What it answers.
-fn played(rt: &impl Abort, pool: &Ground, player: &mut Player, act: Act) -> Option<Outcome>
+fn played<R: Abort>(rt: &R, pool: &Ground, player: &mut Player, act: Act) -> Option<Outcome>
     requires { IsOf pool.now player.old.seat }
     ensures { IsOf pool.now player.new.seat }
 {
-    match player.step(pool, &step_of(act)) {
-        Ok(outcome) => Some(outcome),
-        Err(cause) => {
-            assert!(rt; false, "{act:?}: {cause:?}");
-            None
-        }
+    let answer = player.step(pool, &step_of(act));
+    assert_played(rt, &answer, act);
+    answer.ok()
+}
+
+/// The elements that were cut, or none.
+fn got(answer: &Option<Outcome>) -> &[u32] {
+    match answer {
+        Some(Outcome::Got(elems)) => elems.as_slice(),
+        _ => &[],
     }
 }
 
 /// Takes the element on top of a common list of this length.
-fn take_one(rt: &impl Abort, pool: &Ground, player: &mut Player, element: u32, length: u64)
+fn take_one<R: Abort>(rt: &R, pool: &Ground, player: &mut Player, element: u32, length: u64)
     requires { IsOf pool.now player.old.seat }
     ensures { IsOf pool.now player.new.seat }
 {
     played(rt, pool, player, Act::Reserve(length, 1));
     played(rt, pool, player, Act::LoadHead);
     played(rt, pool, player, Act::LoadLink(u64::from(element)));
-    match played(rt, pool, player, Act::Cut) {
-        Some(Outcome::Got(elems)) => {
-            let is_alone = elems.len() == 1 && elems.count(element) == 1;
-            assert!(rt; is_alone, "{element}: {elems:?}");
-        }
-        other => assert!(rt; false, "{element}: {other:?}"),
+    let answer = played(rt, pool, player, Act::Cut);
+    same(rt, &got(&answer), &[element].as_slice(), "a seat's element");
+}
+
+/// Joins a seat's player to the first, which takes over what it has.
+fn join_one<R: Abort>(rt: &R, pool: &Ground, first: &mut Player, other: Player, place: u32)
+    requires of { IsOf pool.now first.old.seat }
+    requires other_of { IsOf pool.now other.seat }
+    ensures { IsOf pool.now first.new.seat }
+{
+    let mut is_joined = true;
+    if let Some(other) = first.join(pool, other) {
+        other.lose();
+        is_joined = false;
     }
+    same(rt, &(place, is_joined), &(place, true), "a seat was joined");
 }
 
 /// Splits so many more seats off, and then each of them takes one element, the first seat the element on top. They are
 /// joined again after that.
-fn take_each(rt: &impl Abort, pool: &Ground, first: &mut Player, more: u32)
+fn take_each<R: Abort>(rt: &R, pool: &Ground, first: &mut Player, more: u32)
     requires { IsOf pool.now first.old.seat }
     ensures { IsOf pool.now first.new.seat }
 {
@@ -75,17 +95,22 @@ fn take_each(rt: &impl Abort, pool: &Ground, first: &mut Player, more: u32)
         return;
     }
     let Some(mut other) = first.split(pool) else {
-        assert!(rt;
-            false,
-            "no seat is left to split off, and {more} more are wanted"
-        );
+        same(rt, &more, &0, "seats that are still to be split off");
         return;
     };
     take_each(rt, pool, first, more - 1);
     take_one(rt, pool, &mut other, more, length);
-    if let Some(other) = first.join(pool, other) {
-        assert!(rt; false, "{more}: the seat wasn't joined");
-        other.lose();
+    join_one(rt, pool, first, other, more);
+}
+
+/// A player between calls has all seats and all elements.
+fn assert_has_all<R: Abort>(rt: &R, player: &Player) {
+    let view = player.view();
+    let given = (view.part, view.hand.len(), player.is_at_rest());
+    same(rt, &given, &(SEATS, 64, true), "all seats joined");
+    for element in 0..64 {
+        let given = (element, view.hand.count(element));
+        same(rt, &given, &(element, 1), "an element of all");
     }
 }
 
@@ -97,70 +122,76 @@ fn each_of_64_seats_takes_one_of_64_elements(rt: HostRuntime) -> Result<(), Fail
         ..TWO
     };
     let (pool, mut first) = Player::make(rt.alloc(), &limits)?;
-    assert_eq!(&rt; first.view().part, SEATS);
+    same(&rt, &first.view().part, &SEATS, "the first seat's parts");
     take_each(&rt, &pool, &mut first, 63);
-    assert_eq!(&rt; first.view().part, SEATS);
-    assert_eq!(&rt; first.view().hand.len(), 64);
-    for element in 0..64 {
-        assert_eq!(&rt; first.view().hand.count(element), 1, "{element}");
-    }
-    assert!(&rt; first.is_at_rest());
+    assert_has_all(&rt, &first);
     let closed = first.close(pool)?;
-    assert_eq!(&rt; closed.length, 0);
-    assert_eq!(&rt; closed.top, 0);
+    same(&rt, &(closed.length, closed.top), &(0, 0), "all is taken");
     Ok(())
+}
+
+/// Why no ground of these limits is made, if none is.
+fn refusal_of(alloc: Global, limits: &Limits) -> Option<Refusal> {
+    match Player::make(alloc, limits) {
+        Ok((_pool, player)) => {
+            player.lose();
+            None
+        }
+        Err(cause) => Some(cause),
+    }
 }
 
 #[test]
 fn a_ground_outside_the_bounds_is_refused(rt: HostRuntime) {
     for limits in &BAD {
-        match Player::make(rt.alloc(), limits) {
-            Ok((_pool, player)) => {
-                player.lose();
-                assert!(&rt; false, "{limits:?}");
-            }
-            Err(cause) => assert_eq!(&rt; cause, Refusal::BadPool, "{limits:?}"),
+        let numbers = (limits.population, limits.workers, limits.desks);
+        let given = (numbers, refusal_of(rt.alloc(), limits));
+        let wanted = (numbers, Some(Refusal::BadPool));
+        same(&rt, &given, &wanted, "a ground outside the bounds");
+    }
+}
+
+/// Why no pair of these limits is made, if none is.
+fn pair_refusal(alloc: Global, limits: &Limits) -> Option<Refusal> {
+    match Pair::make(alloc, limits) {
+        Ok(pair) => {
+            let _ = pair.close();
+            None
         }
+        Err(cause) => Some(cause),
     }
 }
 
 #[test]
 fn a_pair_of_one_worker_is_refused(rt: HostRuntime) {
     let limits = Limits { workers: 1, ..TWO };
-    match Pair::make(rt.alloc(), &limits) {
-        Ok(pair) => {
-            let closed = pair.close();
-            assert!(&rt; false, "{closed:?}");
-        }
-        Err(cause) => assert_eq!(&rt; cause, Refusal::BadPool),
-    }
+    let cause = pair_refusal(rt.alloc(), &limits);
+    same(&rt, &cause, &Some(Refusal::BadPool), "a pair of one worker");
+}
+
+/// What is left of a ground of so many elements that nobody has used.
+fn closed_unused(alloc: Global, population: u64) -> Result<Closed, Refusal> {
+    let limits = Limits { population, ..TWO };
+    let (pool, player) = Player::make(alloc, &limits)?;
+    player.close(pool)
 }
 
 #[test]
 fn the_least_and_the_greatest_ground_are_made_and_closed(rt: HostRuntime) -> Result<(), Fail> {
     for population in [1, 65_534] {
-        let limits = Limits { population, ..TWO };
-        let (pool, player) = Player::make(rt.alloc(), &limits)?;
-        let closed = player.close(pool)?;
-        assert_eq!(&rt; closed.top, 1, "{population}");
-        assert_eq!(&rt; closed.length, population);
-        assert_eq!(&rt; closed.links.len() as u64, population);
-        assert_eq!(&rt; closed.counts.len() as u64, population);
+        let closed = closed_unused(rt.alloc(), population)?;
+        let sizes = (closed.links.len() as u64, closed.counts.len() as u64);
+        let given = (closed.top, closed.length, sizes);
+        let wanted = (1, population, (population, population));
+        same(&rt, &given, &wanted, "a ground that nobody has used");
     }
     Ok(())
 }
 
-/// Closes a ground, and where memory was refused closes what came back once more.
-fn closed_at_last(rt: &impl Abort, pool: Ground, seat: GroundSeat) -> Option<Closed>
+/// Closes a ground once more.
+fn closed_again(pool: Ground, seat: GroundSeat) -> Option<Closed>
     requires { IsOf pool seat }
 {
-    let (pool, seat) = match pool.close(seat) {
-        Ok(closed) => return Some(closed),
-        Err((refusal, pool, seat)) => {
-            assert_eq!(rt; refusal, Refusal::OutOfMemory);
-            (pool, seat)
-        }
-    };
     match pool.close(seat) {
         Ok(closed) => Some(closed),
         Err((_, _, seat)) => {
@@ -170,25 +201,48 @@ fn closed_at_last(rt: &impl Abort, pool: Ground, seat: GroundSeat) -> Option<Clo
     }
 }
 
+/// Closes a ground, and where memory was refused closes what came back once more.
+fn closed_at_last<R: Abort>(rt: &R, pool: Ground, seat: GroundSeat) -> Option<Closed>
+    requires { IsOf pool seat }
+{
+    match pool.close(seat) {
+        Ok(closed) => Some(closed),
+        Err((refusal, pool, seat)) => {
+            same(rt, &refusal, &Refusal::OutOfMemory, "a close is refused");
+            closed_again(pool, seat)
+        }
+    }
+}
+
+/// A ground of three elements and an empty desk has left all its words.
+fn assert_whole<R: Abort>(rt: &R, closed: &Closed) {
+    let what = "a closed ground of three";
+    let given = (closed.top, closed.length, closed.desks.len());
+    same(rt, &given, &(1, 3, 1), what);
+    let given = (closed.links.as_slice(), closed.counts.as_slice());
+    same(
+        rt,
+        &given,
+        &([2, 3, 0].as_slice(), [1, 1, 1].as_slice()),
+        what,
+    );
+    let is_empty = closed.desks.as_slice().iter().all(Option::is_none);
+    same(rt, &is_empty, &true, "the desk is empty");
+}
+
 /// Whichever request for memory is refused, no ground with a desk is made, or it is closed with all its words: what a
 /// refused close hands back closes the next time.
 #[test]
 fn refused_memory_loses_no_word(rt: HostRuntime) {
     let limits = Limits { desks: 1, ..TWO };
-    let (pool, seat) = match Ground::make(rt.alloc(), &limits) {
-        Ok(made) => made,
-        Err(refusal) => {
-            assert_eq!(&rt; refusal, Refusal::OutOfMemory);
-            return;
+    match Ground::make(rt.alloc(), &limits) {
+        Ok((pool, seat)) => {
+            let closed = closed_at_last(&rt, pool, seat);
+            same(&rt, &closed.is_some(), &true, "what was handed back closed");
+            if let Some(closed) = &closed {
+                assert_whole(&rt, closed);
+            }
         }
-    };
-    let Some(closed) = closed_at_last(&rt, pool, seat) else {
-        assert!(&rt; false, "what was handed back didn't close");
-        return;
-    };
-    assert_eq!(&rt; (closed.top, closed.length), (1, 3));
-    assert_eq!(&rt; closed.links.as_slice(), [2, 3, 0].as_slice());
-    assert_eq!(&rt; closed.counts.as_slice(), [1, 1, 1].as_slice());
-    assert_eq!(&rt; closed.desks.len(), 1);
-    assert!(&rt; closed.desks.as_slice().iter().all(Option::is_none));
+        Err(cause) => same(&rt, &cause, &Refusal::OutOfMemory, "no ground is made"),
+    }
 }

@@ -7,12 +7,13 @@ use super::carrying::{make, nothing, offer, offer_in_turn, take, take_in_turn};
 use super::left::assert_each_once;
 use super::playing::{Played, Worker};
 use super::threads::joined;
-use super::{closed_of, rows};
+use super::{closed_of, rows, same};
 use commons::closed::Closed;
 use commons::limits::Limits;
 use commons::packet::{Packet, Seg};
 use commons::refusal::Refusal;
 use ground::pool::Ground;
+use ground::seat::GroundSeat;
 use stack_lf::words::WordCommons;
 use std::alloc::{AllocError, Global};
 use std::process::Abort;
@@ -82,7 +83,82 @@ fn first_seg(carried: &Option<Packet>) -> Option<Seg> {
     }
 }
 
-/// A worker's turn. A packet whose offer is refused has to be as it was.
+/// A worker makes a packet of this many bytes.
+fn follow_make<R: Abort>(
+    rt: &R,
+    c: &mut WordCommons,
+    carried: &mut Option<Packet>,
+    len: u16,
+    name: &str,
+)
+    requires carries { Carries carried.old c.old.seat }
+    ensures carries { Carries carried.new c.new.seat }
+    ensures stays { Stays c.old.seat c.new.seat }
+{
+    let made = make(c, carried, len);
+    same(rt, &made, &Ok(()), &(name, "a packet is made"));
+}
+
+/// An offer of a packet is answered as it is told, and a refused one leaves the packet as it was.
+fn assert_offered<R: Abort>(
+    rt: &R,
+    before: Option<Seg>,
+    answer: Result<(), Refusal>,
+    after: Option<Seg>,
+    told: Result<(), Refusal>,
+    what: (&str, u32),
+) {
+    let left = if answer.is_ok() { None } else { before };
+    let given = (before.is_some(), answer, after);
+    same(rt, &given, &(true, told, left), &(what, "an offer"));
+}
+
+/// A worker leaves its packet on this desk, and is answered so. A packet whose offer is refused has to be as it was.
+fn follow_offer<R: Abort>(
+    rt: &R,
+    c: &mut WordCommons,
+    carried: &mut Option<Packet>,
+    desk: u32,
+    told: Result<(), Refusal>,
+    name: &str,
+)
+    requires carries { Carries carried.old c.old.seat }
+    ensures carries { Carries carried.new c.new.seat }
+    ensures stays { Stays c.old.seat c.new.seat }
+{
+    let before = first_seg(carried);
+    let answer = offer(c, carried, desk);
+    assert_offered(rt, before, answer, first_seg(carried), told, (name, desk));
+}
+
+/// What a worker was told that took a packet, and now carries this one.
+fn seen_of(answer: Result<(), Refusal>, carried: Option<Seg>) -> Result<(u32, u16), Refusal> {
+    answer?;
+    match carried {
+        Some(seg) => Ok((seg.elem, seg.data_len)),
+        None => Err(Refusal::NoSuchPacket),
+    }
+}
+
+/// A worker takes the packet off this desk, and is told its element and its bytes.
+fn follow_take<R: Abort>(
+    rt: &R,
+    c: &mut WordCommons,
+    carried: &mut Option<Packet>,
+    desk: u32,
+    told: Result<(u32, u16), Refusal>,
+    name: &str,
+)
+    requires carries { Carries carried.old c.old.seat }
+    ensures carries { Carries carried.new c.new.seat }
+    ensures stays { Stays c.old.seat c.new.seat }
+{
+    let answer = take(c, carried, desk);
+    let seen = seen_of(answer, first_seg(carried));
+    same(rt, &seen, &told, &(name, desk, "a take"));
+}
+
+/// A worker's turn.
 fn follow<R: Abort>(
     rt: &R,
     c: &mut WordCommons,
@@ -95,30 +171,9 @@ fn follow<R: Abort>(
     ensures stays { Stays c.old.seat c.new.seat }
 {
     match turn {
-        Turn::Make(len) => {
-            let made = make(c, carried, *len);
-            assert_eq!(rt; made, Ok(()), "{name}");
-        }
-        Turn::Offer(desk, told) => {
-            let before = first_seg(carried);
-            assert!(rt;
-                before.is_some(),
-                "{name}: a packet to leave on desk {desk}"
-            );
-            let answer = offer(c, carried, *desk);
-            assert_eq!(rt; answer, *told, "{name}: an offer at desk {desk}");
-            let left = if answer.is_ok() { None } else { before };
-            assert_eq!(rt; first_seg(carried), left, "{name}: what is carried on");
-        }
-        Turn::Take(desk, told) => {
-            let answer = take(c, carried, *desk);
-            let seen = match (answer, first_seg(carried)) {
-                (Ok(()), Some(seg)) => Ok((seg.elem, seg.data_len)),
-                (Ok(()), None) => Err(Refusal::NoSuchPacket),
-                (Err(cause), _) => Err(cause),
-            };
-            assert_eq!(rt; seen, *told, "{name}: a take at desk {desk}");
-        }
+        Turn::Make(len) => follow_make(rt, c, carried, *len, name),
+        Turn::Offer(desk, told) => follow_offer(rt, c, carried, *desk, *told, name),
+        Turn::Take(desk, told) => follow_take(rt, c, carried, *desk, *told, name),
     }
 }
 
@@ -145,6 +200,16 @@ fn follow_all<R: Abort>(
     (carried, others)
 }
 
+/// The first elements of these packets besides.
+fn add_elements(elements: &mut Vec<u32>, packets: &[Option<Packet>]) -> Result<(), AllocError> {
+    for packet in packets {
+        if let Some(seg) = first_seg(packet) {
+            elements.push(seg.elem)?;
+        }
+    }
+    Ok(())
+}
+
 /// The first elements of these packets, and of those on the desks of a closed ground.
 fn elements_of(
     alloc: Global,
@@ -152,14 +217,29 @@ fn elements_of(
     closed: &Closed,
 ) -> Result<Vec<u32>, AllocError> {
     let mut elements = Vec::new(alloc);
-    for packets in [carried, closed.desks.as_slice()] {
-        for packet in packets {
-            if let Some(seg) = first_seg(packet) {
-                elements.push(seg.elem)?;
-            }
-        }
-    }
+    add_elements(&mut elements, carried)?;
+    add_elements(&mut elements, closed.desks.as_slice())?;
     Ok(elements)
+}
+
+/// Two workers play a row on a ground. Their seats made one, and what both carry at the end.
+fn play_row<R: Abort>(
+    rt: &R,
+    ground: &Ground,
+    first: Worker,
+    second: Worker,
+    row: &Row,
+) -> (GroundSeat, [Option<Packet>; 2])
+    requires first { IsIdle ground.now first.seat }
+    requires second { IsIdle ground.now second.seat }
+    ensures { IsIdle ground.now result.0 }
+{
+    let mut first = WordCommons::new(ground, first.into_seat());
+    let mut second = WordCommons::new(ground, second.into_seat());
+    let (carried, others) = follow_all(rt, &mut first, &mut second, row);
+    let mut seat = first.into_seat();
+    ground.join(&mut seat, second.into_seat());
+    (seat, [carried, others])
 }
 
 /// Plays a row, and demands that each element is in the common list, or in one packet that is carried or on a desk.
@@ -172,14 +252,10 @@ fn assert_row<R: Abort>(rt: &R, alloc: Global, row: &Row) -> Result<(), Fail> {
     };
     let (ground, mut seat) = Ground::make(alloc, &limits)?;
     let other = ground.split(&mut seat);
-    let mut first = WordCommons::new(&ground, seat);
-    let mut second = WordCommons::new(&ground, other);
-    let (carried, others) = follow_all(rt, &mut first, &mut second, row);
-    let mut seat = first.into_seat();
-    ground.join(&mut seat, second.into_seat());
+    let (seat, carried) = play_row(rt, &ground, Worker { seat }, Worker { seat: other }, row);
     let closed = closed_of(ground, seat)?;
-    let kept = elements_of(alloc, &[carried, others], &closed)?;
-    assert_each_once(rt, alloc, &closed, kept.as_slice(), row.0)
+    let kept = elements_of(alloc, &carried, &closed)?;
+    assert_each_once(rt, alloc, &closed, kept.as_slice(), &row.0)
 }
 
 #[test]
@@ -281,9 +357,32 @@ fn both_play<R: Threads + Sync>(
     joined(ground, first, second)
 }
 
+/// Ends the pool, and demands that all packets went over its desk, which is empty, and that each element is there once.
+fn assert_handed<R: Abort>(
+    rt: &R,
+    alloc: Global,
+    ground: Ground,
+    played: Played,
+) -> Result<(), Fail>
+    requires { IsIdle ground played.seat }
+{
+    let Played {
+        seat,
+        kept,
+        met,
+        refused: _,
+        sound,
+    } = played;
+    let closed = closed_of(ground, seat)?;
+    let is_empty = closed.desks.as_slice().iter().all(Option::is_none);
+    let name = "each in its turn, offers and takes, an empty desk";
+    let wanted = (true, 2 * u64::from(PACKETS), true);
+    same(rt, &(sound, met, is_empty), &wanted, &name);
+    assert_each_once(rt, alloc, &closed, kept.as_slice(), &name)
+}
+
 #[test]
 fn ten_thousand_packets_go_over_one_desk_in_their_order(rt: HostRuntime) -> Result<(), Fail> {
-    let name = "one desk";
     let limits = Limits {
         population: u64::from(PACKETS),
         workers: 2,
@@ -292,25 +391,12 @@ fn ten_thousand_packets_go_over_one_desk_in_their_order(rt: HostRuntime) -> Resu
     };
     let (ground, mut seat) = Ground::make(rt.alloc(), &limits)?;
     let other = ground.split(&mut seat);
-    let Played {
-        seat,
-        kept,
-        met,
-        refused: _,
-        sound,
-    } = both_play(
+    let played = both_play(
         &rt,
         rt.alloc(),
         &ground,
         Worker { seat },
         Worker { seat: other },
     );
-    let closed = closed_of(ground, seat)?;
-    assert!(&rt; sound, "{name}: a packet came in no turn");
-    assert_eq!(&rt; met, 2 * u64::from(PACKETS), "{name}: offers and takes");
-    assert!(&rt;
-        closed.desks.as_slice().iter().all(Option::is_none),
-        "{name}: it is empty"
-    );
-    assert_each_once(&rt, rt.alloc(), &closed, kept.as_slice(), name)
+    assert_handed(&rt, rt.alloc(), ground, played)
 }

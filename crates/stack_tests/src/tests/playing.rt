@@ -60,6 +60,36 @@ pub(super) fn there_and_back(
     Ok(c.put_list(out))
 }
 
+/// What a worker's lists were answered so far.
+#[derive(Drop)]
+struct Tally {
+    kept: Vec<u32>,
+    met: u64,
+    refused: u64,
+    sound: bool,
+}
+
+impl Tally {
+    /// One more refusal, which is one that the worker has to reckon with, or isn't.
+    fn refuse(&mut self, sound: bool) {
+        self.refused = self.refused.saturating_add(1);
+        self.sound &= sound;
+    }
+
+    /// One more list, and the answer of its get and of its put. What isn't put back is kept.
+    fn note(&mut self, answer: Result<Result<(), Refusal>, Refusal>, out: &[u32]) {
+        match answer {
+            Ok(Ok(())) => self.met = self.met.saturating_add(1),
+            Ok(Err(refusal)) => {
+                let is_kept = self.kept.extend_from_slice(out).is_ok();
+                self.refuse(is_kept && refusal == Refusal::Contended);
+            }
+            Err(Refusal::Contended | Refusal::NoEntries) => self.refuse(true),
+            Err(_) => self.refuse(false),
+        }
+    }
+}
+
 /// A worker who gets a list of `n` elements and puts it back, again and again. A list whose put is refused stays in the
 /// hand.
 pub(super) fn rounds(alloc: Global, ground: &Ground, worker: Worker, n: usize, times: u32) -> Played
@@ -69,26 +99,24 @@ pub(super) fn rounds(alloc: Global, ground: &Ground, worker: Worker, n: usize, t
     ensures { IsIdle ground.now result.seat }
 {
     let mut c = WordCommons::new(ground, worker.into_seat());
-    let mut kept = Vec::new(alloc);
-    let mut met = 0u64;
-    let mut refused = 0u64;
-    let mut sound = true;
+    let mut tally = Tally {
+        kept: Vec::new(alloc),
+        met: 0,
+        refused: 0,
+        sound: true,
+    };
     for _ in 0..times {
         let mut places = [0; MOST];
         let out = &mut places[..n];
-        match there_and_back(&mut c, out) {
-            Ok(Ok(())) => met = met.saturating_add(1),
-            Ok(Err(refusal)) => {
-                refused = refused.saturating_add(1);
-                sound &= refusal == Refusal::Contended;
-                sound &= kept.extend_from_slice(out).is_ok();
-            }
-            Err(refusal) => {
-                refused = refused.saturating_add(1);
-                sound &= refusal == Refusal::Contended || refusal == Refusal::NoEntries;
-            }
-        }
+        let answer = there_and_back(&mut c, out);
+        tally.note(answer, out);
     }
+    let Tally {
+        kept,
+        met,
+        refused,
+        sound,
+    } = tally;
     Played {
         seat: c.into_seat(),
         kept,

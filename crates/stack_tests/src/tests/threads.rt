@@ -5,11 +5,11 @@ ghost use Rattle.stack_tests.specs.Idle.{IsIdle};
 
 use super::left::assert_each_once;
 use super::playing::{Played, Worker, rounds};
-use super::{closed_of, rows};
+use super::{closed_of, rows, same};
 use commons::limits::Limits;
-use commons::refusal::Refusal;
 use ground::pool::Ground;
 use std::alloc::Global;
+use std::fmt::Debug;
 use std::process::Abort;
 use std::test::Fail;
 use std::thread;
@@ -108,13 +108,13 @@ fn four_play<R: Threads + Sync>(
 
 /// Ends a pool, and demands that each element is in its common list or in a hand, once, and that a list went there and
 /// back where the pool has that many elements.
-fn assert_left<R: Abort>(
+fn assert_left<R: Abort, W: Debug>(
     rt: &R,
     alloc: Global,
     ground: Ground,
     played: Played,
     enough: bool,
-    name: &str,
+    what: &W,
 ) -> Result<(), Fail>
     requires { IsIdle ground played.seat }
 {
@@ -126,9 +126,8 @@ fn assert_left<R: Abort>(
         sound,
     } = played;
     let closed = closed_of(ground, seat)?;
-    assert!(rt; sound, "{name}: a call was refused for another cause");
-    assert_eq!(rt; met > 0, enough, "{name}: lists that went there and back");
-    assert_each_once(rt, alloc, &closed, kept.as_slice(), name)
+    same(rt, &(sound, met > 0), &(true, enough), what);
+    assert_each_once(rt, alloc, &closed, kept.as_slice(), what)
 }
 
 /// Two workers of one pool, which is closed once both threads have ended.
@@ -142,7 +141,6 @@ fn two_of<R: Threads + Sync + Abort>(
     requires some { 0 < n }
     requires most { n ≤ 32 }
 {
-    let name = format!(in alloc; "two workers, {n} of {population}")?;
     let limits = Limits {
         population,
         workers: 2,
@@ -159,7 +157,8 @@ fn two_of<R: Threads + Sync + Abort>(
         times,
     );
     let enough = n as u64 <= population;
-    assert_left(rt, alloc, ground, played, enough, name.as_str())
+    let what = ("two workers", n, population);
+    assert_left(rt, alloc, ground, played, enough, &what)
 }
 
 /// Four workers of one pool, which is closed once all threads have ended.
@@ -173,7 +172,6 @@ fn four_of<R: Threads + Sync + Abort>(
     requires some { 0 < n }
     requires most { n ≤ 32 }
 {
-    let name = format!(in alloc; "four workers, {n} of {population}")?;
     let limits = Limits {
         population,
         workers: 4,
@@ -193,7 +191,8 @@ fn four_of<R: Threads + Sync + Abort>(
         times,
     );
     let enough = n as u64 <= population;
-    assert_left(rt, alloc, ground, played, enough, name.as_str())
+    let what = ("four workers", n, population);
+    assert_left(rt, alloc, ground, played, enough, &what)
 }
 
 #[test]

@@ -8,7 +8,7 @@ use step_core::step::{Outcome, Step};
 use step_core::view::Head;
 
 /// A step, where a packet has one segment: its element, and its base if it has one.
-#[derive(Clone, Copy, Debug)]
+#[derive(Clone, Copy)]
 pub(super) enum Act {
     LoadLength,
     Reserve(u64, u64),
@@ -33,7 +33,7 @@ pub(super) enum Act {
 }
 
 /// What a step answers. Heads have the link value of their top, and then their count.
-#[derive(Clone, Copy, Debug)]
+#[derive(Clone, Copy)]
 pub(super) enum Told {
     Value(u64),
     HeadIs(u32, u64),

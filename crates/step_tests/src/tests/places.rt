@@ -2,6 +2,7 @@
 
 ghost use Rattle.std.specs.Prelude.{◌≤◌};
 
+use super::same;
 use arrayvec::ArrayVec;
 use std::process::Abort;
 use step_core::view::Desk;
@@ -19,20 +20,28 @@ struct Places {
     holds: usize,
 }
 
+/// The link of an element; one that no pool has where there is no such element.
+fn link_of(world: &World, element: u32) -> u32 {
+    let link = world.links().get(element as usize);
+    link.copied().unwrap_or(u32::MAX)
+}
+
 /// The common list from the top along the links; none if it has no end within the room.
 fn common_list(world: &World) -> Option<ArrayVec<u32, ROOM>> {
     let mut common = ArrayVec::new();
     let mut next = world.head().top;
-    for _ in 0..=ROOM {
-        let Some(element) = next.checked_sub(1) else {
-            return Some(common);
-        };
-        if common.try_push(element).is_err() {
-            return None;
+    let mut is_over = false;
+    for _ in 0..ROOM {
+        if next > 0 {
+            is_over |= common.try_push(next - 1).is_err();
+            next = link_of(world, next - 1);
         }
-        next = *world.links().get(element as usize)?;
     }
-    None
+    if next == 0 && !is_over {
+        Some(common)
+    } else {
+        None
+    }
 }
 
 /// 1 if it is so, else 0.
@@ -96,27 +105,30 @@ fn count_of(places: &Places) -> usize {
     }
 }
 
-/// Whether each element is in exactly one place and has the count that goes with it.
-pub(super) fn assert_counted(rt: &impl Abort, world: &World, schedule: u64, step: u64) {
-    let at = (schedule, step);
-    assert_eq!(rt;
-        world.counts().len() as u64,
-        world.limits().population,
-        "{at:?}"
+/// Whether an element is in exactly one place and has the count that goes with it, in which schedule and after which step.
+fn assert_place<R: Abort>(rt: &R, places: &Places, count: u32, at: (u64, u64, u32)) {
+    assert!(rt;
+        is_once(places) && count as usize == count_of(places),
+        "schedule, step, element {at:?}: {places:?}, count {count}"
     );
-    let Some(common) = common_list(world) else {
-        assert!(rt; false, "{at:?}: the common list has no end");
-        return;
-    };
-    let mut element = 0u32;
-    for count in world.counts() {
-        let places = places_of(world, common.as_slice(), element);
-        assert!(rt; is_once(&places), "{at:?}: {element}: {places:?}");
-        assert_eq!(rt;
-            *count as usize,
-            count_of(&places),
-            "{at:?}: {element}: {places:?}"
-        );
-        element = element.saturating_add(1);
+}
+
+/// Whether each element is in exactly one place and has the count that goes with it.
+pub(super) fn assert_counted<R: Abort>(rt: &R, world: &World, schedule: u64, step: u64) {
+    let at = (schedule, step);
+    let common = common_list(world);
+    let size = world.counts().len() as u64;
+    let wanted = (at, world.limits().population, true);
+    same(
+        rt,
+        &(at, size, common.is_some()),
+        &wanted,
+        "counts and a list",
+    );
+    if let Some(common) = &common {
+        for (element, count) in (0u32..).zip(world.counts()) {
+            let places = places_of(world, common.as_slice(), element);
+            assert_place(rt, &places, *count, (schedule, step, element));
+        }
     }
 }

@@ -1,7 +1,8 @@
 //! Random schedules of all kinds of step. After each step the elements are counted.
 
-use super::acts::{Act, step_of};
+use super::acts::Act;
 use super::places::assert_counted;
+use super::{answer_of, same};
 use commons::limits::Limits;
 use commons::refusal::Refusal;
 use std::process::Abort;
@@ -50,7 +51,7 @@ struct Draws {
 }
 
 impl Draws {
-    ghost use Rattle.std.specs.Prelude.{◌<◌};
+    ghost use Rattle.std.specs.Prelude.{◌<◌, ◌≤◌};
 
     /// The next number below this bound.
     fn below(&mut self, bound: u64) -> u64
@@ -60,6 +61,14 @@ impl Draws {
         let product = self.state.wrapping_mul(6_364_136_223_846_793_005);
         self.state = product.wrapping_add(1_442_695_040_888_963_407);
         (self.state >> 32) % bound
+    }
+
+    /// The next number from 1 to this one.
+    fn up_to(&mut self, most: u64) -> u64
+        requires { 0 < most }
+        ensures { result ≤ most }
+    {
+        self.below(most) + 1
     }
 
     /// One of these elements, or none where there is none.
@@ -76,12 +85,12 @@ impl Draws {
 /// The limits of a small pool.
 fn limits_of(draws: &mut Draws) -> Limits {
     Limits {
-        population: 1 + draws.below(6),
+        population: draws.up_to(6),
         cache: 0,
-        workers: 1 + draws.below(3),
+        workers: draws.up_to(3),
         desks: draws.below(3),
         buf: 2048,
-        ref_limit: 1 + draws.below(4),
+        ref_limit: draws.up_to(4),
         tries: 1,
         start_count: 0,
     }
@@ -124,7 +133,7 @@ fn reserve_of(world: &World, draws: &mut Draws) -> Option<Act> {
     if length == 0 {
         return None;
     }
-    Some(Act::Reserve(length, 1 + draws.below(length)))
+    Some(Act::Reserve(length, draws.up_to(length)))
 }
 
 /// A part of the credit that is given back.
@@ -132,7 +141,7 @@ fn add_of(view: &View, draws: &mut Draws) -> Option<Act> {
     if view.credit == 0 {
         return None;
     }
-    Some(Act::Add(1 + draws.below(view.credit)))
+    Some(Act::Add(draws.up_to(view.credit)))
 }
 
 /// A link from an element of the hand to the look's top, the chain's first element or the end.
@@ -242,7 +251,7 @@ fn drawn_act(world: &World, draws: &mut Draws) -> (usize, u32, Act) {
         for _ in 0..32 {
             // Those further down need what those above them made.
             let kind = draws.below(20).max(draws.below(20)) as usize;
-            let worker = 1 + draws.below(world.limits().workers.clamp(1, 3)) as u32;
+            let worker = draws.up_to(world.limits().workers.clamp(1, 3)) as u32;
             if let Some(act) = fit_act(KINDS[kind], world, worker, draws) {
                 return (kind, worker, act);
             }
@@ -274,6 +283,13 @@ impl Tally {
     }
 }
 
+/// A step that wasn't played was refused for no other cause.
+fn assert_refused<R: Abort>(rt: &R, cause: Option<Refusal>, schedule: u64, step: u64) {
+    let given = cause.unwrap_or(Refusal::StepRefused);
+    let wanted = (schedule, step, Refusal::StepRefused);
+    same(rt, &(schedule, step, given), &wanted, "schedule and step");
+}
+
 /// Plays a schedule, and counts the elements after each step.
 fn play_schedule<R: Abort + AllocGlobal>(
     rt: &R,
@@ -284,13 +300,9 @@ fn play_schedule<R: Abort + AllocGlobal>(
     let mut world = World::open(rt.alloc(), &limits_of(draws))?;
     for step in 0..STEPS {
         let (kind, worker, act) = drawn_act(&world, draws);
-        match world.step(worker, step_of(act)) {
-            Ok(_) => tally.note(kind, true),
-            Err(cause) => {
-                assert_eq!(rt; cause, Refusal::StepRefused, "schedule {schedule}: {act:?}");
-                tally.note(kind, false);
-            }
-        }
+        let cause = answer_of(&mut world, worker, act).err();
+        tally.note(kind, cause.is_none());
+        assert_refused(rt, cause, schedule, step);
         assert_counted(rt, &world, schedule, step);
     }
     Ok(())
@@ -307,9 +319,13 @@ fn each_element_is_counted_once_in_random_schedules(rt: HostRuntime) -> Result<(
         play_schedule(&rt, schedule, &mut draws, &mut tally)?;
     }
     for kind in 0..20 {
-        let act = KINDS[kind];
-        assert!(&rt; tally.played[kind] > 0, "{act:?} was never played");
-        assert!(&rt; tally.refused[kind] > 0, "{act:?} was never refused");
+        let given = (kind, tally.played[kind] > 0, tally.refused[kind] > 0);
+        same(
+            &rt,
+            &given,
+            &(kind, true, true),
+            "a kind was played, and refused",
+        );
     }
     Ok(())
 }

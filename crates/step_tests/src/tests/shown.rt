@@ -1,10 +1,10 @@
 //! What a row says of a world.
 
-use arrayvec::{ArrayVec, CapacityError};
-use commons::packet::Packet;
+use super::same;
+use arrayvec::ArrayVec;
+use commons::packet::{Packet, Seg};
 use std::process::Abort;
-use step_core::elems::Elems;
-use step_core::view::{Phase, View};
+use step_core::view::{Chain, Desk, Look, Phase, View, Work};
 use step_core::world::World;
 
 /// A world after a row's steps: the head's top as a link value and its count, the length word, the
@@ -24,148 +24,219 @@ pub(super) struct End {
 }
 
 /// Whether the world is so.
-pub(super) fn assert_end(rt: &impl Abort, world: &World, end: &End, name: &str) {
-    assert_eq!(rt; (world.head().top, world.head().count), end.head, "{name}");
-    assert_eq!(rt; world.length(), end.length, "{name}");
+pub(super) fn assert_end<R: Abort>(rt: &R, world: &World, end: &End, name: &str) {
+    assert_words(rt, world, end, name);
     assert_common(rt, world, end.common, name);
-    assert_eq!(rt; world.views().len(), end.credits.len(), "{name}");
-    for (view, credit) in world.views().iter().zip(end.credits) {
-        assert_eq!(rt; view.credit, *credit, "{name}");
+    assert_counts(rt, world, end.counts, name);
+    for (place, view) in world.views().iter().enumerate() {
+        assert_view(rt, view, end, place, name);
     }
-    for (view, hand) in world.views().iter().zip(end.hands) {
-        assert_eq!(rt; view.hand.as_slice(), *hand, "{name}");
-    }
-    for (view, holds) in world.views().iter().zip(end.holds) {
-        assert_eq!(rt; view.holds.as_slice(), *holds, "{name}");
-    }
-    for (view, headers) in world.views().iter().zip(end.headers) {
-        assert_eq!(rt; view.headers.as_slice(), *headers, "{name}");
-    }
-    for (element, count) in world.counts().iter().enumerate() {
-        let wanted = end.counts.iter().find(|other| other.0 == element);
-        assert_eq!(rt;
-            *count,
-            wanted.map_or(1, |other| other.1),
-            "{name}: count of {element}"
-        );
-    }
-    assert_eq!(rt; world.desks().len(), end.desks.len(), "{name}");
     for (desk, word) in world.desks().iter().zip(end.desks) {
-        assert_eq!(rt; desk.word, *word, "{name}");
+        same(rt, &desk.word, word, name);
+    }
+}
+
+/// Whether the head and the length word are so, and there are so many views and desks.
+fn assert_words<R: Abort>(rt: &R, world: &World, end: &End, name: &str) {
+    let head = world.head();
+    let sizes = (world.views().len(), world.desks().len());
+    same(
+        rt,
+        &(head.top, head.count, world.length(), sizes),
+        &(
+            end.head.0,
+            end.head.1,
+            end.length,
+            (end.credits.len(), end.desks.len()),
+        ),
+        name,
+    );
+}
+
+/// Whether the view of the worker at this place is so.
+fn assert_view<R: Abort>(rt: &R, view: &View, end: &End, place: usize, name: &str) {
+    same(
+        rt,
+        &(place, Some(view.credit)),
+        &(place, end.credits.get(place).copied()),
+        name,
+    );
+    let lists = [
+        (&view.hand, end.hands),
+        (&view.holds, end.holds),
+        (&view.headers, end.headers),
+    ];
+    for (elems, wanted) in lists {
+        let given = (place, Some(elems.as_slice()));
+        same(rt, &given, &(place, wanted.get(place).copied()), name);
+    }
+}
+
+/// The count of an element of which these are told: 1 where it isn't among them.
+fn count_told(counts: &[(usize, u32)], element: usize) -> u32 {
+    for (other, count) in counts {
+        if *other == element {
+            return *count;
+        }
+    }
+    1
+}
+
+/// Whether the counts are so.
+fn assert_counts<R: Abort>(rt: &R, world: &World, counts: &[(usize, u32)], name: &str) {
+    for (element, count) in world.counts().iter().enumerate() {
+        let wanted = (element, count_told(counts, element));
+        same(rt, &(element, *count), &wanted, name);
     }
 }
 
 /// Whether the links lead from the top through these elements to the end.
-fn assert_common(rt: &impl Abort, world: &World, common: &[u32], name: &str) {
+fn assert_common<R: Abort>(rt: &R, world: &World, common: &[u32], name: &str) {
     let mut next = world.head().top;
     for element in common {
-        assert_eq!(rt; u64::from(next), u64::from(*element) + 1, "{name}");
+        same(rt, &u64::from(next), &(u64::from(*element) + 1), name);
         next = world.links().get(*element as usize).copied().unwrap_or(0);
     }
-    assert_eq!(rt; next, 0, "{name}");
+    same(rt, &next, &0, name);
 }
 
-/// Room for the numbers of a row's world, which takes no memory.
-pub(super) type Numbers = ArrayVec<u64, 256>;
+/// The numbers of a row's world, in room that takes no memory.
+#[derive(Drop)]
+pub(super) struct Numbers {
+    all: ArrayVec<u64, 256>,
+    /// Whether there were more than there is room for.
+    is_over: bool,
+}
 
-/// The numbers of a world are more.
-type Full = CapacityError<u64>;
+impl Numbers {
+    /// One more number.
+    fn add(&mut self, number: u64) {
+        self.is_over |= self.all.try_push(number).is_err();
+    }
+
+    /// These numbers, one after another.
+    fn add_all(&mut self, numbers: &[u64]) {
+        for number in numbers {
+            self.add(*number);
+        }
+    }
+
+    /// How many elements, and then each.
+    fn add_elems(&mut self, elems: &[u32]) {
+        self.add(elems.len() as u64);
+        for element in elems {
+            self.add(u64::from(*element));
+        }
+    }
+
+    /// How many segments, and then each with its base and lengths.
+    fn add_packet(&mut self, packet: &Packet) {
+        self.add(packet.segs().len() as u64);
+        for seg in packet.segs() {
+            self.add_seg(seg);
+        }
+    }
+
+    fn add_seg(&mut self, seg: &Seg) {
+        self.add_all(&[
+            u64::from(seg.elem),
+            seg.base.map_or(u64::MAX, u64::from),
+            u64::from(seg.data_off),
+            u64::from(seg.data_len),
+            u64::from(seg.buf_len),
+        ]);
+    }
+
+    fn add_desk(&mut self, desk: &Desk) {
+        self.add(desk.word);
+        match &desk.slot {
+            Some(packet) => self.add_packet(packet),
+            None => self.add(0),
+        }
+    }
+
+    fn add_look(&mut self, look: &Option<Look>) {
+        match look {
+            Some(look) => {
+                self.add_all(&[u64::from(look.head.top), look.head.count]);
+                self.add_elems(look.front.as_slice());
+                self.add(u64::from(look.next));
+            }
+            None => self.add(u64::MAX),
+        }
+    }
+
+    fn add_chain(&mut self, chain: &Option<Chain>) {
+        match chain {
+            Some(chain) => {
+                self.add_elems(chain.items.as_slice());
+                self.add(u64::from(chain.end));
+            }
+            None => self.add(u64::MAX),
+        }
+    }
+
+    fn add_phase(&mut self, phase: &Phase) {
+        match phase {
+            Phase::ToFill => self.add(0),
+            Phase::Filled(packet) => {
+                self.add(1);
+                self.add_packet(packet);
+            }
+            Phase::Seized(packet) => {
+                self.add(2);
+                self.add_packet(packet);
+            }
+            Phase::TakenOut => self.add(3),
+        }
+    }
+
+    fn add_work(&mut self, work: &Option<Work>) {
+        match work {
+            Some(work) => {
+                self.add(u64::from(work.desk));
+                self.add_phase(&work.phase);
+            }
+            None => self.add(u64::MAX),
+        }
+    }
+
+    fn add_view(&mut self, view: &View) {
+        for elems in [&view.hand, &view.zeros, &view.holds, &view.headers] {
+            self.add_elems(elems.as_slice());
+        }
+        self.add_all(&[view.credit, view.seen, view.part]);
+        self.add_look(&view.look);
+        self.add_chain(&view.chain);
+        self.add_work(&view.work);
+    }
+
+    fn add_world(&mut self, world: &World) {
+        let head = world.head();
+        self.add_all(&[u64::from(head.top), head.count, world.length()]);
+        self.add_elems(world.links());
+        self.add_elems(world.counts());
+        for desk in world.desks() {
+            self.add_desk(desk);
+        }
+        for view in world.views() {
+            self.add_view(view);
+        }
+    }
+
+    /// The numbers.
+    pub(super) fn as_slice(&self) -> &[u64] {
+        self.all.as_slice()
+    }
+}
 
 /// All numbers of a world, one after another: two worlds that have the same are the same.
-pub(super) fn numbers(world: &World) -> Result<Numbers, Full> {
-    let mut all = Numbers::new();
-    all.try_push(u64::from(world.head().top))?;
-    all.try_push(world.head().count)?;
-    all.try_push(world.length())?;
-    for link in world.links() {
-        all.try_push(u64::from(*link))?;
-    }
-    for count in world.counts() {
-        all.try_push(u64::from(*count))?;
-    }
-    for desk in world.desks() {
-        all.try_push(desk.word)?;
-        match &desk.slot {
-            Some(packet) => add_packet(&mut all, packet)?,
-            None => all.try_push(0)?,
-        }
-    }
-    for view in world.views() {
-        add_view(&mut all, view)?;
-    }
-    Ok(all)
-}
-
-fn add_view(all: &mut Numbers, view: &View) -> Result<(), Full> {
-    add_elems(all, &view.hand)?;
-    add_elems(all, &view.zeros)?;
-    add_elems(all, &view.holds)?;
-    add_elems(all, &view.headers)?;
-    all.try_push(view.credit)?;
-    all.try_push(view.seen)?;
-    all.try_push(view.part)?;
-    match &view.look {
-        Some(look) => {
-            all.try_push(u64::from(look.head.top))?;
-            all.try_push(look.head.count)?;
-            add_elems(all, &look.front)?;
-            all.try_push(u64::from(look.next))?;
-        }
-        None => all.try_push(u64::MAX)?,
-    }
-    match &view.chain {
-        Some(chain) => {
-            add_elems(all, &chain.items)?;
-            all.try_push(u64::from(chain.end))?;
-        }
-        None => all.try_push(u64::MAX)?,
-    }
-    match &view.work {
-        Some(work) => {
-            all.try_push(u64::from(work.desk))?;
-            add_phase(all, &work.phase)
-        }
-        None => {
-            all.try_push(u64::MAX)?;
-            Ok(())
-        }
-    }
-}
-
-fn add_phase(all: &mut Numbers, phase: &Phase) -> Result<(), Full> {
-    match phase {
-        Phase::ToFill => all.try_push(0)?,
-        Phase::Filled(packet) => {
-            all.try_push(1)?;
-            add_packet(all, packet)?;
-        }
-        Phase::Seized(packet) => {
-            all.try_push(2)?;
-            add_packet(all, packet)?;
-        }
-        Phase::TakenOut => all.try_push(3)?,
-    }
-    Ok(())
-}
-
-/// How many elements, and then each.
-fn add_elems(all: &mut Numbers, elems: &Elems) -> Result<(), Full> {
-    all.try_push(elems.len() as u64)?;
-    for element in elems.as_slice() {
-        all.try_push(u64::from(*element))?;
-    }
-    Ok(())
-}
-
-/// How many segments, and then each with its base and lengths.
-fn add_packet(all: &mut Numbers, packet: &Packet) -> Result<(), Full> {
-    all.try_push(packet.segs().len() as u64)?;
-    for seg in packet.segs() {
-        all.try_push(u64::from(seg.elem))?;
-        all.try_push(seg.base.map_or(u64::MAX, u64::from))?;
-        all.try_push(u64::from(seg.data_off))?;
-        all.try_push(u64::from(seg.data_len))?;
-        all.try_push(u64::from(seg.buf_len))?;
-    }
-    Ok(())
+pub(super) fn numbers_of<R: Abort>(rt: &R, world: &World) -> Numbers {
+    let mut numbers = Numbers {
+        all: ArrayVec::new(),
+        is_over: false,
+    };
+    numbers.add_world(world);
+    assert!(rt; !numbers.is_over, "the numbers of a world are more");
+    numbers
 }
