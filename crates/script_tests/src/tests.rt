@@ -3,6 +3,7 @@
 use commons::limits::Limits;
 use commons::packet::Seg;
 use commons::refusal::Refusal;
+use commons::seq::Seq;
 use mbuf::acts::{Act, Reply};
 use mbuf::freed::Freed;
 use pool_model::statement::{Held, Holder, PlacedPacket, Statement};
@@ -16,6 +17,7 @@ use serde_json::Value;
 use share_book::ending::settled;
 use share_book::site_pool::SitePool;
 use std::alloc::Global;
+use std::fmt::Debug;
 use std::process::Abort;
 use std::test::Fail;
 
@@ -103,6 +105,25 @@ const DEFAULTS: Limits = Limits {
     start_count: 0,
 };
 
+/// Both are one; else it is told of what, with both.
+fn same<R: Abort, T: PartialEq + Debug>(rt: &R, given: &T, wanted: &T, what: &str) {
+    assert!(rt; *given == *wanted, "{what}: {given:?}, not {wanted:?}");
+}
+
+/// These bytes are given, or memory was wanting.
+fn assert_given<R: Abort>(rt: &R, given: Result<Vec<u8>, Refusal>, wanted: &str, what: &str) {
+    match given {
+        Ok(bytes) => same(rt, &bytes.as_slice(), &wanted.as_bytes(), what),
+        Err(refusal) => same(rt, &refusal, &Refusal::OutOfMemory, what),
+    }
+}
+
+/// The text of a statement.
+fn text_of(alloc: Global, statement: &Statement) -> Result<String, Fail> {
+    let bytes = statement_text(alloc, statement)?;
+    Ok(String::from_utf8(bytes)?)
+}
+
 /// What is printed for a text.
 fn printed(alloc: Global, text: &str) -> Result<Vec<u8>, Refusal> {
     run_replay(alloc, text.as_bytes())
@@ -120,23 +141,45 @@ fn played(alloc: Global, script: &str) -> Result<(Vec<(u32, Reply)>, Statement),
     Ok(replay(alloc, &script)?)
 }
 
+/// What replies print, each by its own call.
+fn text_of_replies(alloc: Global, replies: &[(u32, Reply)]) -> Result<String, Fail> {
+    let mut text = Vec::new(alloc);
+    for (number, reply) in replies {
+        push_reply(&mut text, *number, reply)?;
+    }
+    Ok(String::from_utf8(text)?)
+}
+
 /// What the replies of a script and the statement of its end print, each by its own call.
 fn replayed_in_parts(alloc: Global, script: &str) -> Result<String, Fail> {
     let (replies, statement) = played(alloc, script)?;
-    let mut text = Vec::new(alloc);
-    for (number, reply) in &replies {
-        push_reply(&mut text, *number, reply)?;
-    }
-    text.extend_from_slice(&statement_text(alloc, &statement)?)?;
-    Ok(String::from_utf8(text)?)
+    let mut text = text_of_replies(alloc, replies.as_slice())?;
+    text.push_str(text_of(alloc, &statement)?.as_str())?;
+    Ok(text)
+}
+
+/// A script prints this text, at once and by its parts.
+fn print_text<R: Abort + AllocGlobal>(
+    rt: &R,
+    script: &str,
+    text: &str,
+    name: &str,
+) -> Result<(), Fail> {
+    let whole = replayed(rt.alloc(), script)?;
+    same(rt, &("at once", whole.as_str()), &("at once", text), name);
+    let parts = replayed_in_parts(rt.alloc(), script)?;
+    same(
+        rt,
+        &("by its parts", parts.as_str()),
+        &("by its parts", text),
+        name,
+    );
+    Ok(())
 }
 
 fn print_texts<R: Abort + AllocGlobal>(rt: &R, rows: &[Row]) -> Result<(), Fail> {
     for (name, script, text) in rows {
-        let whole = replayed(rt.alloc(), script)?;
-        assert_eq!(rt; whole.as_str(), *text, "the row {name}");
-        let parts = replayed_in_parts(rt.alloc(), script)?;
-        assert_eq!(rt; parts.as_str(), *text, "the parts of the row {name}");
+        print_text(rt, script, text, name)?;
     }
     Ok(())
 }
@@ -155,7 +198,7 @@ fn print_long_texts<R: Abort + AllocGlobal>(rt: &R, rows: &[BuiltRow]) -> Result
         let script = written(rt.alloc(), script)?;
         let text = written(rt.alloc(), text)?;
         let printed = replayed(rt.alloc(), script.as_str())?;
-        assert_eq!(rt; printed.as_str(), text.as_str(), "the row {name}");
+        same(rt, &printed.as_str(), &text.as_str(), name);
     }
     Ok(())
 }
@@ -167,37 +210,32 @@ fn each_long_script_prints_its_text(rt: HostRuntime) -> Result<(), Fail> {
 
 /// The refusal of a text by `parse`, if it has one.
 fn parse_refusal(alloc: Global, text: &str) -> Option<Refusal> {
-    match parse(alloc, text.as_bytes()) {
-        Ok(_) => None,
-        Err(refusal) => Some(refusal),
-    }
+    parse(alloc, text.as_bytes()).err()
 }
 
 /// Why nothing is printed for a text, if nothing is.
 fn replay_refusal(alloc: Global, text: &str) -> Option<Refusal> {
-    match printed(alloc, text) {
-        Ok(_) => None,
-        Err(refusal) => Some(refusal),
-    }
+    printed(alloc, text).err()
 }
 
 /// Why no JSON is printed for a text, if none is.
 fn json_refusal(alloc: Global, text: &str) -> Option<Refusal> {
-    match run_replay_json(alloc, text.as_bytes()) {
-        Ok(_) => None,
-        Err(refusal) => Some(refusal),
-    }
+    run_replay_json(alloc, text.as_bytes()).err()
+}
+
+/// Each of the three is refused so, or none is.
+fn refuse_text<R: Abort + AllocGlobal>(rt: &R, text: &str, refusal: Option<Refusal>, name: &str) {
+    let parsed = parse_refusal(rt.alloc(), text);
+    let printed = replay_refusal(rt.alloc(), text);
+    let json = json_refusal(rt.alloc(), text);
+    let wanted = (text, refusal, refusal, refusal);
+    same(rt, &(text, parsed, printed, json), &wanted, name);
 }
 
 fn refuse_texts<R: Abort + AllocGlobal>(rt: &R, rows: &[TextsRow]) {
     for (name, texts) in rows {
         for (text, refusal) in *texts {
-            let parsed = parse_refusal(rt.alloc(), text);
-            assert_eq!(rt; parsed, *refusal, "{name}: {text}");
-            let printed = replay_refusal(rt.alloc(), text);
-            assert_eq!(rt; printed, *refusal, "{name}: {text}");
-            let json = json_refusal(rt.alloc(), text);
-            assert_eq!(rt; json, *refusal, "{name}: {text}");
+            refuse_text(rt, text, *refusal, name);
         }
     }
 }
@@ -210,9 +248,8 @@ fn each_text_is_a_script_or_refused(rt: HostRuntime) {
 fn refuse_long_texts<R: Abort + AllocGlobal>(rt: &R, rows: &[LongRow]) -> Result<(), Fail> {
     for (name, parts, len, refusal) in rows {
         let text = written(rt.alloc(), parts)?;
-        assert_eq!(rt; text.len(), *len, "the row {name}");
         let parsed = parse_refusal(rt.alloc(), text.as_str());
-        assert_eq!(rt; parsed, *refusal, "the row {name}");
+        same(rt, &(text.len(), parsed), &(*len, *refusal), name);
     }
     Ok(())
 }
@@ -225,9 +262,13 @@ fn each_long_text_is_a_script_or_refused(rt: HostRuntime) -> Result<(), Fail> {
 fn read_scripts<R: Abort + AllocGlobal>(rt: &R, rows: &[ReadRow]) -> Result<(), Fail> {
     for (name, text, limits, lines) in rows {
         let script = parse(rt.alloc(), text.as_bytes())?;
-        assert_eq!(rt; script.limits, *limits, "the row {name}");
         let shown = shown_lines(rt.alloc(), script.lines.as_slice())?;
-        assert_eq!(rt; shown.as_str(), *lines, "the row {name}");
+        same(
+            rt,
+            &(script.limits, shown.as_str()),
+            &(*limits, *lines),
+            name,
+        );
     }
     Ok(())
 }
@@ -241,9 +282,13 @@ fn each_script_is_read_as_its_limits_and_lines(rt: HostRuntime) -> Result<(), Fa
 fn read_steps<R: Abort + AllocGlobal>(rt: &R, rows: &[ReadRow]) -> Result<(), Fail> {
     for (name, text, limits, lines) in rows {
         let script = parse_steps(rt.alloc(), text.as_bytes())?;
-        assert_eq!(rt; script.limits, *limits, "the row {name}");
         let shown = shown_steps(rt.alloc(), script.lines.as_slice())?;
-        assert_eq!(rt; shown.as_str(), *lines, "the row {name}");
+        same(
+            rt,
+            &(script.limits, shown.as_str()),
+            &(*limits, *lines),
+            name,
+        );
     }
     Ok(())
 }
@@ -255,17 +300,14 @@ fn each_script_of_steps_is_read_as_its_limits_and_steps(rt: HostRuntime) -> Resu
 
 /// The refusal of a text by `parse_steps`, if it has one.
 fn steps_refusal(alloc: Global, text: &str) -> Option<Refusal> {
-    match parse_steps(alloc, text.as_bytes()) {
-        Ok(_) => None,
-        Err(refusal) => Some(refusal),
-    }
+    parse_steps(alloc, text.as_bytes()).err()
 }
 
 fn refuse_texts_of_steps<R: Abort + AllocGlobal>(rt: &R, rows: &[TextsRow]) {
     for (name, texts) in rows {
         for (text, refusal) in *texts {
             let parsed = steps_refusal(rt.alloc(), text);
-            assert_eq!(rt; parsed, *refusal, "{name}: {text}");
+            same(rt, &(*text, parsed), &(*text, *refusal), name);
         }
     }
 }
@@ -278,70 +320,115 @@ fn each_text_is_a_script_of_steps_or_refused(rt: HostRuntime) {
 /// The text of a pool's statement, which ends the pool.
 fn statement_of(alloc: Global, pool: SitePool) -> Result<String, Fail> {
     let statement = settled(alloc, pool)?;
-    Ok(String::from_utf8(statement_text(alloc, &statement)?)?)
+    text_of(alloc, &statement)
+}
+
+/// A worker's act has this reply.
+fn assert_reply<R: Abort>(
+    rt: &R,
+    pool: &mut SitePool,
+    worker: u32,
+    act: Act,
+    wanted: &Reply,
+    name: &str,
+) {
+    let given = pool.perform(worker, act);
+    same(rt, &(worker, act, &given), &(worker, act, wanted), name);
+}
+
+/// A worker makes so many packets at once.
+fn assert_bulk<R: Abort>(rt: &R, pool: &mut SitePool, worker: u32, count: usize, name: &str) {
+    let made = match pool.perform(worker, Act::AllocBulk(count)) {
+        Reply::Bulk(packets) => Some(packets.len()),
+        _ => None,
+    };
+    same(rt, &made, &Some(count), name);
+}
+
+/// Each of these workers is refused so for each of these acts.
+fn assert_refused<R: Abort>(
+    rt: &R,
+    pool: &mut SitePool,
+    workers: &[u32],
+    acts: &[Act],
+    wanted: &Reply,
+    name: &str,
+) {
+    for worker in workers {
+        for act in acts {
+            assert_reply(rt, pool, *worker, *act, wanted, name);
+        }
+    }
+}
+
+/// Does what a step says, but for a statement.
+fn follow_step<R: Abort>(rt: &R, pool: &mut SitePool, step: &Step, name: &str) {
+    match step {
+        Step::Act(worker, act, told) => {
+            assert_reply(rt, pool, *worker, *act, &reply(*told), name);
+        }
+        Step::Bulk(worker, count) => assert_bulk(rt, pool, *worker, *count, name),
+        Step::Refused(workers, acts, refusal) => {
+            assert_refused(rt, pool, workers, acts, &Reply::Refused(*refusal), name);
+        }
+        Step::Statement(_) => {}
+    }
 }
 
 /// Does what the steps of a row say, but for its statements.
-fn follow<R: Abort + AllocGlobal>(
+fn follow<R: Abort>(rt: &R, pool: &mut SitePool, steps: &[Step], name: &str) {
+    for step in steps {
+        follow_step(rt, pool, step, name);
+    }
+}
+
+/// Does these steps on a new pool.
+fn followed<R: Abort>(
     rt: &R,
-    pool: &mut SitePool,
+    alloc: Global,
+    limits: &Limits,
+    steps: &[Step],
+    name: &str,
+) -> Result<SitePool, Refusal> {
+    let mut pool = SitePool::make(alloc, limits)?;
+    follow(rt, &mut pool, steps, name);
+    Ok(pool)
+}
+
+/// The statement of a new pool after these steps has this text.
+fn assert_statement_after<R: Abort + AllocGlobal>(
+    rt: &R,
+    limits: &Limits,
+    steps: &[Step],
+    text: &str,
+    name: &str,
+) -> Result<(), Fail> {
+    let pool = followed(rt, rt.alloc(), limits, steps, name)?;
+    let printed = statement_of(rt.alloc(), pool)?;
+    same(rt, &printed.as_str(), &text, name);
+    Ok(())
+}
+
+/// A statement ends its pool, so for each one of a row its steps so far are done on a new pool.
+fn print_statements_after<R: Abort + AllocGlobal>(
+    rt: &R,
+    limits: &Limits,
     steps: &[Step],
     name: &str,
 ) -> Result<(), Fail> {
-    for step in steps {
-        match step {
-            Step::Act(worker, act, told) => {
-                let given = pool.perform(*worker, *act);
-                assert_eq!(rt; given, reply(*told), "{name}: {act:?}");
-            }
-            Step::Bulk(worker, count) => match pool.perform(*worker, Act::AllocBulk(*count)) {
-                Reply::Bulk(packets) => assert_eq!(rt; packets.len(), *count, "the row {name}"),
-                _ => assert!(rt; false, "the row {name}"),
-            },
-            Step::Refused(workers, acts, refusal) => {
-                for worker in *workers {
-                    for act in *acts {
-                        let given = pool.perform(*worker, *act);
-                        assert_eq!(rt; given, Reply::Refused(*refusal), "{name}: {worker} {act:?}");
-                    }
-                }
-            }
-            Step::Statement(_) => {}
+    for (at, step) in steps.iter().enumerate() {
+        if let Step::Statement(text) = step {
+            assert_statement_after(rt, limits, &steps[..at], text, name)?;
         }
     }
     Ok(())
 }
 
-/// The text of the statement of a new pool after these steps.
-fn statement_after<R: Abort + AllocGlobal>(
-    rt: &R,
-    limits: &Limits,
-    steps: &[Step],
-    name: &str,
-) -> Result<String, Fail> {
-    let mut pool = SitePool::make(rt.alloc(), limits)?;
-    match follow(rt, &mut pool, steps, name) {
-        Ok(()) => statement_of(rt.alloc(), pool),
-        Err(fail) => {
-            pool.lose();
-            Err(fail)
-        }
-    }
-}
-
-/// A statement ends its pool, so for each one of a row its steps so far are done on a new pool.
+/// Each row's steps are all done on one pool, and then up to each of its statements.
 fn perform_steps<R: Abort + AllocGlobal>(rt: &R, rows: &[PoolRow]) -> Result<(), Fail> {
     for (name, limits, steps) in rows {
-        let mut pool = SitePool::make(rt.alloc(), limits)?;
-        let outcome = follow(rt, &mut pool, steps, name);
-        pool.lose();
-        outcome?;
-        for (at, step) in steps.iter().enumerate() {
-            if let Step::Statement(text) = step {
-                let printed = statement_after(rt, limits, &steps[..at], name)?;
-                assert_eq!(rt; printed.as_str(), *text, "the row {name}");
-            }
-        }
+        followed(rt, rt.alloc(), limits, steps, name)?.lose();
+        print_statements_after(rt, limits, steps, name)?;
     }
     Ok(())
 }
@@ -351,15 +438,20 @@ fn each_site_pool_replies_as_its_steps_say(rt: HostRuntime) -> Result<(), Fail> 
     perform_steps(&rt, acts::ROWS)
 }
 
+/// Why no pool is made within these limits, if none is.
+fn make_refusal(alloc: Global, limits: &Limits) -> Option<Refusal> {
+    match SitePool::make(alloc, limits) {
+        Ok(pool) => {
+            pool.lose();
+            None
+        }
+        Err(refusal) => Some(refusal),
+    }
+}
+
 fn make_no_pools<R: Abort + AllocGlobal>(rt: &R, rows: &[UnmadeRow]) {
     for (name, limits, refusal) in rows {
-        match SitePool::make(rt.alloc(), limits) {
-            Ok(pool) => {
-                pool.lose();
-                assert!(rt; false, "the row {name}");
-            }
-            Err(given) => assert_eq!(rt; given, *refusal, "the row {name}"),
-        }
+        same(rt, &make_refusal(rt.alloc(), limits), &Some(*refusal), name);
     }
 }
 
@@ -375,7 +467,7 @@ fn print_replies<R: Abort + AllocGlobal>(rt: &R, rows: &[ReplyRow]) -> Result<()
     for (line, number, told) in rows {
         push_reply(&mut printed, *number, &reply(*told))?;
         text.push_str(line)?;
-        assert_eq!(rt; printed.as_slice(), text.as_bytes(), "the row {line}");
+        same(rt, &printed.as_slice(), &text.as_bytes(), line);
     }
     Ok(())
 }
@@ -388,8 +480,8 @@ fn each_reply_prints_behind_its_line(rt: HostRuntime) -> Result<(), Fail> {
 fn print_statements<R: Abort + AllocGlobal>(rt: &R, rows: &[StatementRow]) -> Result<(), Fail> {
     for (name, places, text) in rows {
         let statement = placed(rt.alloc(), places)?;
-        let printed = String::from_utf8(statement_text(rt.alloc(), &statement)?)?;
-        assert_eq!(rt; printed.as_str(), *text, "the row {name}");
+        let printed = text_of(rt.alloc(), &statement)?;
+        same(rt, &printed.as_str(), text, name);
     }
     Ok(())
 }
@@ -405,20 +497,45 @@ fn population_in(alloc: Global, json: &str) -> Result<Option<u64>, Fail> {
     Ok(statement.get("population").and_then(Value::as_u64))
 }
 
+/// What a script prints as JSON.
+fn json_of(alloc: Global, script: &str) -> Result<String, Fail> {
+    let bytes = run_replay_json(alloc, script.as_bytes())?;
+    Ok(String::from_utf8(bytes)?)
+}
+
+/// The statement of a script's end as JSON.
+fn json_of_end(alloc: Global, script: &str) -> Result<String, Fail> {
+    let (_replies, statement) = played(alloc, script)?;
+    let bytes = statement_json(alloc, &statement)?;
+    Ok(String::from_utf8(bytes)?)
+}
+
+/// A script prints this line, its end does, and a reader finds this population in it.
+fn print_json_line<R: Abort + AllocGlobal>(
+    rt: &R,
+    script: &str,
+    line: &str,
+    population: u64,
+    name: &str,
+) -> Result<(), Fail> {
+    let whole = json_of(rt.alloc(), script)?;
+    same(rt, &whole.as_str(), &line, name);
+    let end = json_of_end(rt.alloc(), script)?;
+    same(rt, &("its end", end.as_str()), &("its end", line), name);
+    let found = population_in(rt.alloc(), whole.as_str())?;
+    same(
+        rt,
+        &("its population", found),
+        &("its population", Some(population)),
+        name,
+    );
+    Ok(())
+}
+
 fn print_json<R: Abort + AllocGlobal>(rt: &R, rows: &[JsonRow]) -> Result<(), Fail> {
     for (name, script, json, population) in rows {
         let line = format!(in rt.alloc(); "{json}\n")?;
-        let whole = String::from_utf8(run_replay_json(rt.alloc(), script.as_bytes())?)?;
-        assert_eq!(rt; whole.as_str(), line.as_str(), "the row {name}");
-        let (_replies, statement) = played(rt.alloc(), script)?;
-        let end = String::from_utf8(statement_json(rt.alloc(), &statement)?)?;
-        assert_eq!(rt; end.as_str(), line.as_str(), "the end of the row {name}");
-        let found = population_in(rt.alloc(), whole.as_str())?;
-        assert_eq!(rt;
-            found,
-            Some(*population),
-            "the population of the row {name}"
-        );
+        print_json_line(rt, script, line.as_str(), *population, name)?;
     }
     Ok(())
 }
@@ -430,7 +547,7 @@ fn each_script_prints_its_json(rt: HostRuntime) -> Result<(), Fail> {
 
 /// Whether these are the packets of the first run's end.
 fn assert_first_packets(rt: &impl Abort, packets: &[PlacedPacket]) {
-    assert_eq!(rt; packets.len(), 1);
+    same(rt, &packets.len(), &1, "how many packets");
     for placed in packets {
         let seg = Seg {
             elem: 1,
@@ -439,37 +556,51 @@ fn assert_first_packets(rt: &impl Abort, packets: &[PlacedPacket]) {
             data_len: 0,
             buf_len: 2_048,
         };
-        assert_eq!(rt; (placed.worker, placed.slot), (1, 1));
-        assert_eq!(rt; placed.segs.as_slice(), [seg].as_slice());
+        let given = (placed.worker, placed.slot, placed.segs.as_slice());
+        same(rt, &given, &(1, 1, [seg].as_slice()), "the packet");
     }
 }
 
 /// Whether these are the held elements of the first run's end.
 fn assert_first_held(rt: &impl Abort, held: &[Held]) {
-    assert_eq!(rt; held.len(), 1);
+    same(rt, &held.len(), &1, "how many are held");
     for held in held {
-        assert_eq!(rt; (held.elem, held.count), (1, 1));
-        assert_eq!(rt; held.holders.as_slice(), [Holder::Worker(1)].as_slice());
+        let given = (held.elem, held.count, held.holders.as_slice());
+        same(
+            rt,
+            &given,
+            &(1, 1, [Holder::Worker(1)].as_slice()),
+            "what is held",
+        );
+    }
+}
+
+/// Whether these are the caches of the first run's end.
+fn assert_first_caches(rt: &impl Abort, caches: &[Seq<u32>]) {
+    same(rt, &caches.len(), &1, "how many caches");
+    for cache in caches {
+        same(rt, &cache.is_empty(), &true, "a cache is empty");
     }
 }
 
 /// Whether this is the statement of the first run's end.
 fn assert_first_end(rt: &impl Abort, statement: &Statement) {
     let totals = (statement.population, statement.available, statement.in_use);
-    assert_eq!(rt; totals, (3, 2, 1));
-    assert_eq!(rt; statement.common.as_slice(), [0, 2].as_slice());
-    assert_eq!(rt; statement.caches.len(), 1);
-    for cache in statement.caches.as_slice() {
-        assert!(rt; cache.is_empty());
-    }
+    same(rt, &totals, &(3, 2, 1), "the totals");
+    let lists = (statement.common.as_slice(), statement.desks.len());
+    same(
+        rt,
+        &lists,
+        &([0, 2].as_slice(), 0),
+        "the common list, and how many desks",
+    );
+    assert_first_caches(rt, statement.caches.as_slice());
     assert_first_packets(rt, statement.packets.as_slice());
-    assert!(rt; statement.desks.is_empty());
     assert_first_held(rt, statement.held.as_slice());
 }
 
-#[test]
-fn a_replay_answers_each_command_and_places_each_element(rt: HostRuntime) -> Result<(), Fail> {
-    let (replies, statement) = played(rt.alloc(), FIRST_RUN)?;
+/// Whether these are the replies of the first run.
+fn assert_first_replies(rt: &impl Abort, replies: &[(u32, Reply)]) {
     let freed = Freed {
         back: 1,
         flushed: 1,
@@ -480,7 +611,13 @@ fn a_replay_answers_each_command_and_places_each_element(rt: HostRuntime) -> Res
         (3, Reply::Allocated(1, 1)),
         (4, Reply::Freed(freed)),
     ];
-    assert_eq!(rt; replies.as_slice(), wanted.as_slice());
+    same(rt, &replies, &wanted.as_slice(), "the replies");
+}
+
+#[test]
+fn a_replay_answers_each_command_and_places_each_element(rt: HostRuntime) -> Result<(), Fail> {
+    let (replies, statement) = played(rt.alloc(), FIRST_RUN)?;
+    assert_first_replies(&rt, replies.as_slice());
     assert_first_end(&rt, &statement);
     Ok(())
 }
@@ -488,17 +625,13 @@ fn a_replay_answers_each_command_and_places_each_element(rt: HostRuntime) -> Res
 /// Whichever request for memory is refused, the same JSON is given or none.
 #[test]
 fn refused_memory_changes_no_json(rt: HostRuntime) {
-    match run_replay_json(rt.alloc(), FIRST_RUN.as_bytes()) {
-        Ok(bytes) => assert_eq!(rt; bytes.as_slice(), json::FIRST_RUN_JSON.as_bytes()),
-        Err(refusal) => assert_eq!(rt; refusal, Refusal::OutOfMemory),
-    }
+    let given = run_replay_json(rt.alloc(), FIRST_RUN.as_bytes());
+    assert_given(&rt, given, json::FIRST_RUN_JSON, "the first run as JSON");
 }
 
 /// Whichever request for memory is refused, the same is printed or nothing.
 #[test]
 fn refused_memory_changes_no_answer(rt: HostRuntime) {
-    match printed(rt.alloc(), FIRST_RUN) {
-        Ok(bytes) => assert_eq!(rt; bytes.as_slice(), FIRST_RUN_TEXT.as_bytes()),
-        Err(refusal) => assert_eq!(rt; refusal, Refusal::OutOfMemory),
-    }
+    let given = printed(rt.alloc(), FIRST_RUN);
+    assert_given(&rt, given, FIRST_RUN_TEXT, "the first run");
 }

@@ -6,10 +6,11 @@ use mbuf::acts::Reply;
 use pool_model::statement::Statement;
 use script::{replay, statement_text};
 use script_rows::parts::written;
-use script_rows::{built, caches, desks, packets, pools, sharing};
+use script_rows::{BuiltRow, Row, built, caches, desks, packets, pools, sharing};
 use script_text::commands::Script;
 use script_text::parse;
 use std::alloc::{AllocError, Global};
+use std::fmt::Debug;
 use std::process::Abort;
 use std::test::Fail;
 
@@ -36,6 +37,11 @@ const DEFAULTS: Limits = Limits {
     start_count: 0,
 };
 
+/// Both are one; else it is told of what, with both.
+fn same<R: Abort, T: PartialEq + Debug>(rt: &R, given: &T, wanted: &T, what: &str) {
+    assert!(rt; *given == *wanted, "{what}: {given:?}, not {wanted:?}");
+}
+
 /// The text of a statement.
 fn text_of(alloc: Global, statement: &Statement) -> Result<String, Fail> {
     Ok(String::from_utf8(statement_text(alloc, statement)?)?)
@@ -53,29 +59,61 @@ fn segs_of(alloc: Global, statement: &Statement) -> Result<Vec<Seg>, AllocError>
     Ok(segs)
 }
 
-/// The elements that packets hold, each once: their own ones, as often as they are listed, and besides each base that is
-/// no packet's own any more.
-fn held_of(alloc: Global, statement: &Statement) -> Result<Vec<u32>, AllocError> {
-    let segs = segs_of(alloc, statement)?;
-    let mut held = Vec::new(alloc);
+/// The elements that are these segments' own, as often as they are, ascending.
+fn own_of(alloc: Global, segs: &[Seg]) -> Result<Vec<u32>, AllocError> {
+    let mut own = Vec::new(alloc);
+    for seg in segs {
+        own.push(seg.elem)?;
+    }
+    own.sort_unstable();
+    Ok(own)
+}
+
+/// The bases of these segments, as often as they are, ascending.
+fn bases_of(alloc: Global, segs: &[Seg]) -> Result<Vec<u32>, AllocError> {
     let mut bases = Vec::new(alloc);
-    for seg in &segs {
-        held.push(seg.elem)?;
+    for seg in segs {
         if let Some(base) = seg.base {
             bases.push(base)?;
         }
     }
-    held.sort_unstable();
     bases.sort_unstable();
+    Ok(bases)
+}
+
+/// Adds each of these bases once that is no packet's own any more.
+fn add_bases(elements: &mut Vec<u32>, own: &[u32], mut bases: Vec<u32>) -> Result<(), AllocError> {
     bases.dedup();
-    let mut others = Vec::new(alloc);
     for base in &bases {
-        if held.binary_search(base).is_err() {
-            others.push(*base)?;
+        if own.binary_search(base).is_err() {
+            elements.push(*base)?;
         }
     }
-    held.extend_from_slice(others.as_slice())?;
-    Ok(held)
+    Ok(())
+}
+
+/// Adds the elements that packets hold, each once: their own ones, as often as they are listed, and besides each base
+/// that is no packet's own any more.
+fn add_held(
+    elements: &mut Vec<u32>,
+    alloc: Global,
+    statement: &Statement,
+) -> Result<(), AllocError> {
+    let segs = segs_of(alloc, statement)?;
+    let own = own_of(alloc, segs.as_slice())?;
+    elements.extend_from_slice(own.as_slice())?;
+    add_bases(elements, own.as_slice(), bases_of(alloc, segs.as_slice())?)
+}
+
+/// The elements of all places, ascending: of the common list, of the caches, and those that packets hold.
+fn elements_of(alloc: Global, statement: &Statement) -> Result<Vec<u32>, AllocError> {
+    let mut elements = statement.common.as_slice().to_vec(alloc)?;
+    for cache in statement.caches.as_slice() {
+        elements.extend_from_slice(cache.as_slice())?;
+    }
+    add_held(&mut elements, alloc, statement)?;
+    elements.sort_unstable();
+    Ok(elements)
 }
 
 /// Each element is in one place: in the common list, in a cache, or held by packets, of the workers or on desks. Of these
@@ -86,21 +124,38 @@ fn assert_each_once<R: Abort>(
     statement: &Statement,
     name: &str,
 ) -> Result<(), Fail> {
-    let mut elements = statement.common.as_slice().to_vec(alloc)?;
-    for cache in statement.caches.as_slice() {
-        elements.extend_from_slice(cache.as_slice())?;
-    }
-    elements.extend_from_slice(held_of(alloc, statement)?.as_slice())?;
-    elements.sort_unstable();
-    assert_eq!(rt;
-        elements.len() as u64,
-        statement.population,
-        "{name}: the elements"
-    );
+    let elements = elements_of(alloc, statement)?;
+    let wanted = ("the elements", statement.population);
+    same(rt, &("the elements", elements.len() as u64), &wanted, name);
     for (element, place) in elements.iter().zip(0u32..) {
-        assert_eq!(rt; *element, place, "{name}: each element once");
+        same(
+            rt,
+            &("each element once", *element),
+            &("each element once", place),
+            name,
+        );
     }
     Ok(())
+}
+
+/// The elements that packets hold, each as often as they do, ascending.
+fn holds_of(alloc: Global, statement: &Statement) -> Result<Vec<u32>, AllocError> {
+    let segs = segs_of(alloc, statement)?;
+    let mut held = own_of(alloc, segs.as_slice())?;
+    held.extend_from_slice(bases_of(alloc, segs.as_slice())?.as_slice())?;
+    held.sort_unstable();
+    Ok(held)
+}
+
+/// The elements that a statement tells of as held, each as often as it says.
+fn told_holds(alloc: Global, statement: &Statement) -> Result<Vec<u32>, AllocError> {
+    let mut told = Vec::new(alloc);
+    for element in statement.held.as_slice() {
+        for _ in 0..element.count {
+            told.push(element.elem)?;
+        }
+    }
+    Ok(told)
 }
 
 /// The elements that a statement tells of as held are those that its packets hold, each as often as they do.
@@ -110,21 +165,14 @@ fn assert_holds<R: Abort>(
     statement: &Statement,
     name: &str,
 ) -> Result<(), Fail> {
-    let mut held = Vec::new(alloc);
-    for seg in &segs_of(alloc, statement)? {
-        held.push(seg.elem)?;
-        if let Some(base) = seg.base {
-            held.push(base)?;
-        }
-    }
-    held.sort_unstable();
-    let mut told = Vec::new(alloc);
-    for element in statement.held.as_slice() {
-        for _ in 0..element.count {
-            told.push(element.elem)?;
-        }
-    }
-    assert_eq!(rt; told.as_slice(), held.as_slice(), "{name}: the holds");
+    let held = holds_of(alloc, statement)?;
+    let told = told_holds(alloc, statement)?;
+    same(
+        rt,
+        &("the holds", told.as_slice()),
+        &("the holds", held.as_slice()),
+        name,
+    );
     Ok(())
 }
 
@@ -135,21 +183,54 @@ fn assert_all_free<R: Abort>(
     statement: &Statement,
     name: &str,
 ) -> Result<(), Fail> {
-    assert_eq!(rt; statement.packets.len(), 0, "{name}: the packets");
-    assert_eq!(rt; statement.desks.len(), 0, "{name}: the packets on desks");
-    assert_eq!(rt; statement.held.len(), 0, "{name}: the held elements");
-    assert_eq!(rt;
-        statement.available,
-        statement.population,
-        "{name}: what is available"
+    let packets = (statement.packets.len(), statement.desks.len());
+    let given = (packets, statement.held.len(), statement.available);
+    let wanted = ((0, 0), 0, statement.population);
+    same(
+        rt,
+        &("packets, held, available", given),
+        &("packets, held, available", wanted),
+        name,
     );
     assert_each_once(rt, alloc, statement, name)
 }
 
 /// A reply is the one that a replay told of its line.
 fn assert_told<R: Abort>(rt: &R, reply: &Reply, told: &(u32, Reply), name: &str) {
-    let line = told.0;
-    assert_eq!(rt; *reply, told.1, "{name}: line {line}");
+    same(
+        rt,
+        &("line", told.0, reply),
+        &("line", told.0, &told.1),
+        name,
+    );
+}
+
+/// The replies are those of a replay.
+fn assert_replies<R: Abort>(rt: &R, replies: &[Reply], told: &[(u32, Reply)], name: &str) {
+    same(
+        rt,
+        &("the replies", replies.len()),
+        &("the replies", told.len()),
+        name,
+    );
+    for (reply, told) in replies.iter().zip(told.iter()) {
+        assert_told(rt, reply, told, name);
+    }
+}
+
+/// A statement has the text of the wanted one, and counts each element and hold once.
+fn assert_end<R: Abort>(
+    rt: &R,
+    alloc: Global,
+    statement: &Statement,
+    wanted: &Statement,
+    name: &str,
+) -> Result<(), Fail> {
+    let text = text_of(alloc, statement)?;
+    let wanted = text_of(alloc, wanted)?;
+    same(rt, &text.as_str(), &wanted.as_str(), name);
+    assert_each_once(rt, alloc, statement, name)?;
+    assert_holds(rt, alloc, statement, name)
 }
 
 /// Plays a script on the words of a pool, which have to reply as its replay does, and to end in the same statement.
@@ -162,41 +243,51 @@ fn assert_same<R: Abort>(
 ) -> Result<(Vec<(u32, Reply)>, Statement), Fail> {
     let (told, wanted) = replay(alloc, script)?;
     let (replies, end) = play(alloc, script)?;
-    assert_eq!(rt; replies.len(), told.len(), "the row {name}");
-    for (reply, told) in replies.iter().zip(told.iter()) {
-        assert_told(rt, reply, told, name);
-    }
+    assert_replies(rt, replies.as_slice(), told.as_slice(), name);
     match end {
-        Ok(statement) => {
-            let text = text_of(alloc, &statement)?;
-            let wanted = text_of(alloc, &wanted)?;
-            assert_eq!(rt; text.as_str(), wanted.as_str(), "the row {name}");
-            assert_each_once(rt, alloc, &statement, name)?;
-            assert_holds(rt, alloc, &statement, name)?;
-        }
-        Err(cause) => assert!(rt; false, "{name}: {cause:?}"),
+        Ok(statement) => assert_end(rt, alloc, &statement, &wanted, name)?,
+        Err(cause) => same(rt, &Some(cause), &None, name),
     }
     Ok((told, wanted))
 }
 
-/// Plays a script, if its pool has one worker or two. Whether it was played.
+/// Plays a script, if its pool has one worker or two. Tells how many were played: one, or none.
 fn assert_same_on_words<R: Abort>(
     rt: &R,
     alloc: Global,
     text: &str,
     name: &str,
-) -> Result<bool, Fail> {
+) -> Result<u32, Fail> {
     let script = parse(alloc, text.as_bytes())?;
     if script.limits.workers > 2 {
-        return Ok(false);
+        return Ok(0);
     }
     assert_same(rt, alloc, &script, name)?;
-    Ok(true)
+    Ok(1)
+}
+
+/// How many of these rows were played.
+fn play_rows<R: Abort>(rt: &R, alloc: Global, rows: &[Row]) -> Result<u32, Fail> {
+    let mut played = 0u32;
+    for (name, text, _) in rows {
+        played = played.saturating_add(assert_same_on_words(rt, alloc, text, name)?);
+    }
+    Ok(played)
+}
+
+/// The same of the rows that are too long to write out.
+fn play_long_rows<R: Abort>(rt: &R, alloc: Global, rows: &[BuiltRow]) -> Result<u32, Fail> {
+    let mut played = 0u32;
+    for (name, parts, _) in rows {
+        let text = written(alloc, parts)?;
+        played = played.saturating_add(assert_same_on_words(rt, alloc, text.as_str(), name)?);
+    }
+    Ok(played)
 }
 
 #[test]
 fn each_script_is_answered_as_its_replay(rt: HostRuntime) -> Result<(), Fail> {
-    let mut played = 0u32;
+    let mut played = play_long_rows(&rt, rt.alloc(), built::ROWS)?;
     for rows in [
         pools::ROWS,
         caches::ROWS,
@@ -204,17 +295,7 @@ fn each_script_is_answered_as_its_replay(rt: HostRuntime) -> Result<(), Fail> {
         sharing::ROWS,
         desks::ROWS,
     ] {
-        for (name, text, _) in rows {
-            if assert_same_on_words(&rt, rt.alloc(), text, name)? {
-                played = played.saturating_add(1);
-            }
-        }
-    }
-    for (name, parts, _) in built::ROWS {
-        let text = written(rt.alloc(), parts)?;
-        if assert_same_on_words(&rt, rt.alloc(), text.as_str(), name)? {
-            played = played.saturating_add(1);
-        }
+        played = played.saturating_add(play_rows(&rt, rt.alloc(), rows)?);
     }
     assert!(&rt; played > 40, "{played} rows are played");
     Ok(())

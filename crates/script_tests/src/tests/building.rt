@@ -4,15 +4,14 @@ use super::Places;
 use commons::packet::Seg;
 use commons::seq::Seq;
 use pool_model::statement::{DeskPacket, Held, Holder, PlacedPacket, Statement};
-use std::alloc::Global;
-use std::test::Fail;
+use std::alloc::{AllocError, Global};
 
 /// A list of these values.
-fn seq<T: Copy>(alloc: Global, items: &[T]) -> Result<Seq<T>, Fail> {
+fn seq<T: Copy>(alloc: Global, items: &[T]) -> Result<Seq<T>, AllocError> {
     Ok(Seq::new(items.to_vec(alloc)?))
 }
 
-fn caches(alloc: Global, rows: &[&[u32]]) -> Result<Seq<Seq<u32>>, Fail> {
+fn caches(alloc: Global, rows: &[&[u32]]) -> Result<Seq<Seq<u32>>, AllocError> {
     let mut caches = Vec::new(alloc);
     for row in rows {
         caches.push(seq(alloc, row)?)?;
@@ -20,7 +19,7 @@ fn caches(alloc: Global, rows: &[&[u32]]) -> Result<Seq<Seq<u32>>, Fail> {
     Ok(Seq::new(caches))
 }
 
-fn packets(alloc: Global, rows: &[(u32, u32, &[Seg])]) -> Result<Seq<PlacedPacket>, Fail> {
+fn packets(alloc: Global, rows: &[(u32, u32, &[Seg])]) -> Result<Seq<PlacedPacket>, AllocError> {
     let mut packets = Vec::new(alloc);
     for (worker, slot, segs) in rows {
         packets.push(PlacedPacket {
@@ -32,7 +31,7 @@ fn packets(alloc: Global, rows: &[(u32, u32, &[Seg])]) -> Result<Seq<PlacedPacke
     Ok(Seq::new(packets))
 }
 
-fn desks(alloc: Global, rows: &[(u32, &[Seg])]) -> Result<Seq<DeskPacket>, Fail> {
+fn desks(alloc: Global, rows: &[(u32, &[Seg])]) -> Result<Seq<DeskPacket>, AllocError> {
     let mut desks = Vec::new(alloc);
     for (desk, segs) in rows {
         desks.push(DeskPacket {
@@ -43,7 +42,7 @@ fn desks(alloc: Global, rows: &[(u32, &[Seg])]) -> Result<Seq<DeskPacket>, Fail>
     Ok(Seq::new(desks))
 }
 
-fn held(alloc: Global, rows: &[(u32, u32, &[Holder])]) -> Result<Seq<Held>, Fail> {
+fn held(alloc: Global, rows: &[(u32, u32, &[Holder])]) -> Result<Seq<Held>, AllocError> {
     let mut held = Vec::new(alloc);
     for (elem, count, holders) in rows {
         held.push(Held {
@@ -56,7 +55,7 @@ fn held(alloc: Global, rows: &[(u32, u32, &[Holder])]) -> Result<Seq<Held>, Fail
 }
 
 /// The statement of these places.
-pub(super) fn placed(alloc: Global, places: &Places) -> Result<Statement, Fail> {
+pub(super) fn placed(alloc: Global, places: &Places) -> Result<Statement, AllocError> {
     Ok(Statement {
         population: places.population,
         available: places.available,

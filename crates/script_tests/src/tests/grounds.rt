@@ -3,11 +3,12 @@
 ghost use Rattle.std.specs.Prelude.{◌≤◌};
 
 use super::threads::{GROUNDS, Handover, TURNS, run};
+use super::{assert_given, same, text_of};
 use commons::refusal::Refusal;
 use script::{Grounds, OpenGate, replay, run_script, statement_text};
 use script_rows::parts::written;
 use script_rows::pools::FIRST_RUN;
-use script_rows::{Row, built, caches, desks, packets, pools, sharing};
+use script_rows::{BuiltRow, Row, built, caches, desks, packets, pools, sharing};
 use script_text::parse;
 use std::alloc::Global;
 use std::process::Abort;
@@ -36,9 +37,9 @@ fn pass_on<R: Threads + Wait + Sync + Abort + AllocGlobal>(
 {
     let gate = Handover::after(3);
     let statement = run(rt, IN_TRANSIT, grounds, turns, &gate)?;
-    assert!(rt; !gate.failed());
-    let text = String::from_utf8(statement_text(rt.alloc(), &statement)?)?;
-    assert_eq!(rt; text.as_str(), IN_TRANSIT_END, "on {grounds:?}");
+    let text = text_of(rt.alloc(), &statement)?;
+    let given = (grounds, gate.failed(), text.as_str());
+    same(rt, &given, &(grounds, false, IN_TRANSIT_END), "in transit");
     Ok(())
 }
 
@@ -56,7 +57,27 @@ fn a_packet_keeps_its_length_on_its_way(rt: HostRuntime) -> Result<(), Fail> {
 fn end_of_replay(alloc: Global, text: &str) -> Result<String, Fail> {
     let script = parse(alloc, text.as_bytes())?;
     let (_replies, statement) = replay(alloc, &script)?;
-    Ok(String::from_utf8(statement_text(alloc, &statement)?)?)
+    text_of(alloc, &statement)
+}
+
+/// How many workers a script has.
+fn workers_of(alloc: Global, text: &str) -> Result<u64, Fail> {
+    let script = parse(alloc, text.as_bytes())?;
+    Ok(script.limits.workers)
+}
+
+/// A script's run on this ground ends so.
+fn assert_ends_on<R: Threads + Wait + Sync + Abort + AllocGlobal>(
+    rt: &R,
+    text: &str,
+    grounds: Grounds,
+    wanted: &str,
+    name: &str,
+) -> Result<(), Fail> {
+    let statement = run(rt, text, grounds, 1, &OpenGate)?;
+    let end = text_of(rt.alloc(), &statement)?;
+    same(rt, &(grounds, end.as_str()), &(grounds, wanted), name);
+    Ok(())
 }
 
 /// Runs a script of one worker on each ground, where it has to end as its replay does. Whether it is one.
@@ -65,18 +86,12 @@ fn assert_ends_as_its_replay<R: Threads + Wait + Sync + Abort + AllocGlobal>(
     text: &str,
     name: &str,
 ) -> Result<bool, Fail> {
-    if parse(rt.alloc(), text.as_bytes())?.limits.workers > 1 {
+    if workers_of(rt.alloc(), text)? > 1 {
         return Ok(false);
     }
     let wanted = end_of_replay(rt.alloc(), text)?;
     for grounds in GROUNDS {
-        let statement = run(rt, text, grounds, 1, &OpenGate)?;
-        let end = String::from_utf8(statement_text(rt.alloc(), &statement)?)?;
-        assert_eq!(rt;
-            end.as_str(),
-            wanted.as_str(),
-            "the row {name} on {grounds:?}"
-        );
+        assert_ends_on(rt, text, grounds, wanted.as_str(), name)?;
     }
     Ok(true)
 }
@@ -95,9 +110,24 @@ fn end_rows<R: Threads + Wait + Sync + Abort + AllocGlobal>(
     Ok(ended)
 }
 
+/// The same of the rows that are too long to write out.
+fn end_long_rows<R: Threads + Wait + Sync + Abort + AllocGlobal>(
+    rt: &R,
+    rows: &[BuiltRow],
+) -> Result<u32, Fail> {
+    let mut ended = 0u32;
+    for (name, parts, _) in rows {
+        let text = written(rt.alloc(), parts)?;
+        if assert_ends_as_its_replay(rt, text.as_str(), name)? {
+            ended = ended.saturating_add(1);
+        }
+    }
+    Ok(ended)
+}
+
 #[test]
 fn a_script_of_one_worker_ends_on_either_ground_as_its_replay(rt: HostRuntime) -> Result<(), Fail> {
-    let mut ended = 0u32;
+    let mut ended = end_long_rows(&rt, built::ROWS)?;
     for rows in [
         pools::ROWS,
         caches::ROWS,
@@ -106,12 +136,6 @@ fn a_script_of_one_worker_ends_on_either_ground_as_its_replay(rt: HostRuntime) -
         desks::ROWS,
     ] {
         ended = ended.saturating_add(end_rows(&rt, rows)?);
-    }
-    for (name, parts, _) in built::ROWS {
-        let text = written(rt.alloc(), parts)?;
-        if assert_ends_as_its_replay(&rt, text.as_str(), name)? {
-            ended = ended.saturating_add(1);
-        }
     }
     assert!(rt; ended > 30, "{ended} rows have one worker");
     Ok(())
@@ -131,9 +155,7 @@ fn first_end<R: Threads + Wait + Sync>(
 #[test]
 fn refused_memory_changes_no_run(rt: HostRuntime) {
     for grounds in GROUNDS {
-        match first_end(&rt, rt.alloc(), grounds) {
-            Ok(text) => assert_eq!(rt; text.as_slice(), FIRST_END.as_bytes()),
-            Err(refusal) => assert_eq!(rt; refusal, Refusal::OutOfMemory),
-        }
+        let end = first_end(&rt, rt.alloc(), grounds);
+        assert_given(&rt, end, FIRST_END, "the end of the first run");
     }
 }

@@ -1,6 +1,6 @@
 //! A packet that one worker makes and another frees, as a library's user writes it.
 
-use super::DEFAULTS;
+use super::{DEFAULTS, same};
 use commons::limits::Limits;
 use commons::refusal::Refusal;
 use mbuf::acts::Act;
@@ -20,6 +20,14 @@ fn handed_over(alloc: Global, limits: &Limits) -> Result<u64, Refusal> {
     Ok(statement.available)
 }
 
+/// So many elements are free then, or memory was wanting.
+fn assert_free<R: Abort + AllocGlobal>(rt: &R, limits: &Limits, free: u64, what: &str) {
+    match handed_over(rt.alloc(), limits) {
+        Ok(available) => same(rt, &available, &free, what),
+        Err(cause) => same(rt, &cause, &Refusal::OutOfMemory, "the pool wasn't made"),
+    }
+}
+
 #[test]
 fn a_packet_is_made_by_one_worker_and_freed_by_another(rt: HostRuntime) {
     let two = Limits {
@@ -28,13 +36,8 @@ fn a_packet_is_made_by_one_worker_and_freed_by_another(rt: HostRuntime) {
         desks: 1,
         ..DEFAULTS
     };
-    match handed_over(rt.alloc(), &two) {
-        Ok(available) => assert!(rt; available == 4, "an element is still in use"),
-        Err(cause) => assert!(rt; cause == Refusal::OutOfMemory, "the pool wasn't made"),
-    }
+    assert_free(&rt, &two, 4, "no element is in use");
     // Without a desk the packet stays with the worker that made it.
-    match handed_over(rt.alloc(), &Limits { desks: 0, ..two }) {
-        Ok(available) => assert!(rt; available == 3, "the packet isn't in use"),
-        Err(cause) => assert!(rt; cause == Refusal::OutOfMemory, "the pool wasn't made"),
-    }
+    let without = Limits { desks: 0, ..two };
+    assert_free(&rt, &without, 3, "the packet is in use");
 }

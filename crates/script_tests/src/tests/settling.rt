@@ -1,6 +1,6 @@
 //! How a pool is settled with the shares of its workers, and what is refused.
 
-use super::DEFAULTS;
+use super::{DEFAULTS, assert_given, same, text_of};
 use commons::closed::Closed;
 use commons::limits::Limits;
 use commons::refusal::Refusal;
@@ -15,26 +15,53 @@ use std::process::Abort;
 use std::test::Fail;
 
 /// The pool of four workers and two desks.
-const FOUR: Limits = Limits {
+pub(super) const FOUR: Limits = Limits {
     population: 16,
     workers: 4,
     desks: 2,
     ..DEFAULTS
 };
 
+/// What a worker does who wants desk 0.
+const FOR_DESK_0: &[Act] = &[
+    Act::Alloc,
+    Act::ClonePacket(0),
+    Act::Free(0),
+    Act::Offer(1, 0),
+    Act::Free(1),
+];
+
+/// What a worker does who wants desk 1.
+const FOR_DESK_1: &[Act] = &[
+    Act::Alloc,
+    Act::ClonePacket(0),
+    Act::Free(0),
+    Act::Offer(1, 1),
+    Act::Free(1),
+];
+
+/// Lets a worker do all this.
+fn play(pool: &mut SitePool, worker: u32, acts: &[Act]) {
+    for act in acts {
+        let _ = pool.perform(worker, *act);
+    }
+}
+
 /// Plays the lines of four workers, of whom two each want one desk, worker by worker.
-fn play_four(pool: &mut SitePool) {
-    for worker in 1..5 {
-        let desk = (worker - 1) / 2;
-        let acts = [
-            Act::Alloc,
-            Act::ClonePacket(0),
-            Act::Free(0),
-            Act::Offer(1, desk),
-            Act::Free(1),
-        ];
-        for act in acts {
-            let _ = pool.perform(worker, act);
+pub(super) fn play_four(pool: &mut SitePool) {
+    play(pool, 1, FOR_DESK_0);
+    play(pool, 2, FOR_DESK_0);
+    play(pool, 3, FOR_DESK_1);
+    play(pool, 4, FOR_DESK_1);
+}
+
+/// Closes a pool.
+fn closed_once(alloc: Global, pool: SitePool) -> Option<(Limits, Closed, Vec<Share>)> {
+    match pool.close(alloc) {
+        Ok(parts) => Some(parts),
+        Err((_, pool)) => {
+            pool.lose();
+            None
         }
     }
 }
@@ -43,13 +70,7 @@ fn play_four(pool: &mut SitePool) {
 fn closed_at_last(alloc: Global, pool: SitePool) -> Option<(Limits, Closed, Vec<Share>)> {
     match pool.close(alloc) {
         Ok(parts) => Some(parts),
-        Err((_, pool)) => match pool.close(alloc) {
-            Ok(parts) => Some(parts),
-            Err((_, pool)) => {
-                pool.lose();
-                None
-            }
-        },
+        Err((_, pool)) => closed_once(alloc, pool),
     }
 }
 
@@ -64,17 +85,22 @@ fn book_at_last(alloc: Global, limits: &Limits) -> Option<Book> {
     }
 }
 
+/// The statement of a closed pool with this book, if it settles.
+fn settled_once(alloc: Global, closed: Closed, book: Book) -> Option<Statement> {
+    match settle(alloc, closed, book) {
+        Ok(statement) => Some(statement),
+        Err((_, _, book)) => {
+            book.lose();
+            None
+        }
+    }
+}
+
 /// Settles a closed pool, and tries once more with what a refusal handed back.
 fn settled_at_last(alloc: Global, closed: Closed, book: Book) -> Option<Statement> {
     match settle(alloc, closed, book) {
         Ok(statement) => Some(statement),
-        Err((_, closed, book)) => match settle(alloc, closed, book) {
-            Ok(statement) => Some(statement),
-            Err((_, _, book)) => {
-                book.lose();
-                None
-            }
-        },
+        Err((_, closed, book)) => settled_once(alloc, closed, book),
     }
 }
 
@@ -87,24 +113,35 @@ fn deposit_one(book: &mut Book, share: Option<Share>) {
     }
 }
 
+/// Ends a share, where there is one.
+fn lose_one(share: Option<Share>) {
+    if let Some(share) = share {
+        share.lose();
+    }
+}
+
+/// Puts the shares of four workers in a book but the third's, which is answered.
+fn deposit_but_third(book: &mut Book, mut shares: Vec<Share>) -> Option<Share> {
+    deposit_one(book, shares.pop());
+    let third = shares.pop();
+    deposit_one(book, shares.pop());
+    deposit_one(book, shares.pop());
+    lose_all(shares);
+    third
+}
+
 /// Settles with the shares of all workers but the third, and then with that one too. Tells why the
 /// first was refused.
 fn settled_late(
     alloc: Global,
     closed: Closed,
     mut book: Book,
-    mut shares: Vec<Share>,
+    shares: Vec<Share>,
 ) -> (Option<Unsettled>, Option<Statement>) {
-    deposit_one(&mut book, shares.pop());
-    let third = shares.pop();
-    deposit_one(&mut book, shares.pop());
-    deposit_one(&mut book, shares.pop());
-    lose_all(shares);
+    let third = deposit_but_third(&mut book, shares);
     match settle(alloc, closed, book) {
         Ok(statement) => {
-            if let Some(share) = third {
-                share.lose();
-            }
+            lose_one(third);
             (None, Some(statement))
         }
         Err((cause, closed, mut book)) => {
@@ -114,18 +151,28 @@ fn settled_late(
     }
 }
 
+/// Settles late, with a book of these limits.
+fn settled_with_book(
+    alloc: Global,
+    limits: &Limits,
+    closed: Closed,
+    shares: Vec<Share>,
+) -> (Option<Unsettled>, Option<Statement>) {
+    match book_at_last(alloc, limits) {
+        Some(book) => settled_late(alloc, closed, book, shares),
+        None => {
+            lose_all(shares);
+            (None, None)
+        }
+    }
+}
+
 /// Plays the lines, closes the pool, and settles it late.
 fn settle_four(alloc: Global) -> Result<(Option<Unsettled>, Option<Statement>), Refusal> {
     let mut pool = SitePool::make(alloc, &FOUR)?;
     play_four(&mut pool);
     match closed_at_last(alloc, pool) {
-        Some((limits, closed, shares)) => match book_at_last(alloc, &limits) {
-            Some(book) => Ok(settled_late(alloc, closed, book, shares)),
-            None => {
-                lose_all(shares);
-                Ok((None, None))
-            }
-        },
+        Some((limits, closed, shares)) => Ok(settled_with_book(alloc, &limits, closed, shares)),
         None => Ok((None, None)),
     }
 }
@@ -139,10 +186,8 @@ const FOUR_TEXT: &str = "population 16\navailable 12\nin use 4\n\
 
 /// Whether the statement is that of the four workers' pool, where there is memory to print it.
 fn assert_end<R: Abort + AllocGlobal>(rt: &R, statement: &Statement) {
-    match statement_text(rt.alloc(), statement) {
-        Ok(text) => assert_eq!(rt; text.as_slice(), FOUR_TEXT.as_bytes()),
-        Err(refusal) => assert_eq!(rt; refusal, Refusal::OutOfMemory),
-    }
+    let text = statement_text(rt.alloc(), statement);
+    assert_given(rt, text, FOUR_TEXT, "the statement of the four workers");
 }
 
 /// Whichever request for memory is refused, a missing share is told of, and what was handed back settles.
@@ -150,11 +195,11 @@ fn assert_end<R: Abort + AllocGlobal>(rt: &R, statement: &Statement) {
 fn a_missing_share_is_named_and_what_is_handed_back_settles(rt: HostRuntime) {
     match settle_four(rt.alloc()) {
         Ok((cause, Some(statement))) => {
-            assert_eq!(rt; cause, Some(Unsettled::MissingShare(3)));
+            same(&rt, &cause, &Some(Unsettled::MissingShare(3)), "the cause");
             assert_end(&rt, &statement);
         }
         Ok((_, None)) => assert!(rt; false, "what was handed back doesn't settle"),
-        Err(refusal) => assert_eq!(rt; refusal, Refusal::OutOfMemory),
+        Err(refusal) => same(&rt, &refusal, &Refusal::OutOfMemory, "the refusal"),
     }
 }
 
@@ -200,34 +245,25 @@ const MOST_TEXT: &[Part] = &[
 /// Lets each worker make a packet and leave its clone on the desk of the worker's own.
 fn play_most(pool: &mut SitePool) {
     for worker in 1..65 {
-        for act in [Act::Alloc, Act::ClonePacket(0), Act::Offer(1, worker - 1)] {
-            let _ = pool.perform(worker, act);
-        }
+        let acts = [Act::Alloc, Act::ClonePacket(0), Act::Offer(1, worker - 1)];
+        play(pool, worker, &acts);
     }
 }
 
+/// Puts all shares in a book.
+fn deposit_all(book: &mut Book, mut shares: Vec<Share>) {
+    while let Some(share) = shares.pop() {
+        deposit_one(book, Some(share));
+    }
+    shares.destroy_empty();
+}
+
 /// The statement of a closed pool with these shares, if it settles.
-fn ended(
-    alloc: Global,
-    limits: &Limits,
-    closed: Closed,
-    mut shares: Vec<Share>,
-) -> Option<Statement> {
+fn ended(alloc: Global, limits: &Limits, closed: Closed, shares: Vec<Share>) -> Option<Statement> {
     match Book::make(alloc, limits) {
         Ok(mut book) => {
-            while let Some(share) = shares.pop() {
-                if let Err((_, stranger)) = book.deposit(share) {
-                    stranger.lose();
-                }
-            }
-            shares.destroy_empty();
-            match settle(alloc, closed, book) {
-                Ok(statement) => Some(statement),
-                Err((_, _, book)) => {
-                    book.lose();
-                    None
-                }
-            }
+            deposit_all(&mut book, shares);
+            settled_once(alloc, closed, book)
         }
         Err(_) => {
             lose_all(shares);
@@ -251,8 +287,13 @@ fn sixty_four_workers_and_desks_settle(rt: HostRuntime) -> Result<(), Fail> {
     let text = written(rt.alloc(), MOST_TEXT)?;
     match settle_most(rt.alloc())? {
         Some(statement) => {
-            let printed = String::from_utf8(statement_text(rt.alloc(), &statement)?)?;
-            assert_eq!(rt; printed.as_str(), text.as_str());
+            let printed = text_of(rt.alloc(), &statement)?;
+            same(
+                &rt,
+                &printed.as_str(),
+                &text.as_str(),
+                "the statement of the most workers",
+            );
         }
         None => assert!(rt; false, "the pool doesn't settle"),
     }

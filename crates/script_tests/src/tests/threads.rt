@@ -2,19 +2,19 @@
 
 ghost use Rattle.std.specs.Prelude.{◌≤◌};
 
-use super::DEFAULTS;
+use super::same;
+use super::settling::{FOUR, play_four};
 use commons::closed::Closed;
-use commons::limits::Limits;
 use commons::refusal::Refusal;
+use commons::seq::Seq;
 use crossbeam_utils::Backoff;
-use mbuf::acts::Act;
-use pool_model::statement::Statement;
+use pool_model::statement::{Held, Statement};
 use script::{Gate, Grounds, OpenGate, run_threads};
 use script_rows::parts::{Field, Part, written};
 use script_text::parse;
 use share_book::site_pool::SitePool;
 use share_book::{Book, Share, deposit, lose_all, settle};
-use std::alloc::Global;
+use std::alloc::{AllocError, Global};
 use std::process::Abort;
 use std::sync::atomic::{AtomicBool, AtomicU32, Ordering};
 use std::sync::{Mutex, Wait};
@@ -34,14 +34,6 @@ const FOUR_WORKERS: &str = "pool 16 workers 4 desks 2\n\
     2: alloc a\n2: clone a b\n2: free a\n2: offer b 0\n2: free b\n\
     3: alloc a\n3: clone a b\n3: free a\n3: offer b 1\n3: free b\n\
     4: alloc a\n4: clone a b\n4: free a\n4: offer b 1\n4: free b\n";
-
-/// The limits that its first line says.
-const FOUR: Limits = Limits {
-    population: 16,
-    workers: 4,
-    desks: 2,
-    ..DEFAULTS
-};
 
 /// Two workers who each make a packet.
 const TWO_WORKERS: &str = "pool 2 workers 2\nalloc a\n2: alloc a\n";
@@ -145,17 +137,38 @@ impl Gate for Handover {
     }
 }
 
-/// The elements that a statement lists, ascending: those in the common list, in caches, and held.
-fn listed(alloc: Global, statement: &Statement) -> Result<Vec<u32>, Fail> {
-    let mut elems = statement.common.as_slice().to_vec(alloc)?;
-    for cache in statement.caches.as_slice() {
+/// Adds the elements in caches.
+fn add_cached(elems: &mut Vec<u32>, caches: &[Seq<u32>]) -> Result<(), AllocError> {
+    for cache in caches {
         elems.extend_from_slice(cache.as_slice())?;
     }
-    for held in statement.held.as_slice() {
+    Ok(())
+}
+
+/// Adds the elements that packets hold.
+fn add_held(elems: &mut Vec<u32>, held: &[Held]) -> Result<(), AllocError> {
+    for held in held {
         elems.push(held.elem)?;
     }
+    Ok(())
+}
+
+/// The elements that a statement lists, ascending: those in the common list, in caches, and held.
+fn listed(alloc: Global, statement: &Statement) -> Result<Vec<u32>, AllocError> {
+    let mut elems = statement.common.as_slice().to_vec(alloc)?;
+    add_cached(&mut elems, statement.caches.as_slice())?;
+    add_held(&mut elems, statement.held.as_slice())?;
     elems.sort_unstable();
     Ok(elems)
+}
+
+/// So many elements, from 0.
+fn all_below(alloc: Global, population: u32) -> Result<Vec<u32>, AllocError> {
+    let mut all = Vec::new(alloc);
+    for elem in 0..population {
+        all.push(elem)?;
+    }
+    Ok(all)
 }
 
 /// A statement lists each of so many elements once, and no other.
@@ -165,18 +178,20 @@ fn assert_each_once<R: Abort>(
     statement: &Statement,
     population: u32,
 ) -> Result<(), Fail> {
-    let mut all = Vec::new(alloc);
-    for elem in 0..population {
-        all.push(elem)?;
-    }
+    let all = all_below(alloc, population)?;
     let elems = listed(alloc, statement)?;
-    assert_eq!(rt; elems, all);
-    assert_eq!(rt; statement.population, u64::from(population));
+    let wanted = (u64::from(population), all.as_slice());
+    same(
+        rt,
+        &(statement.population, elems.as_slice()),
+        &wanted,
+        "each once",
+    );
     Ok(())
 }
 
 /// The worker and the slot of each packet.
-fn places_of(alloc: Global, statement: &Statement) -> Result<Vec<(u32, u32)>, Fail> {
+fn places_of(alloc: Global, statement: &Statement) -> Result<Vec<(u32, u32)>, AllocError> {
     let mut places = Vec::new(alloc);
     for packet in statement.packets.as_slice() {
         places.push((packet.worker, packet.slot))?;
@@ -187,9 +202,13 @@ fn places_of(alloc: Global, statement: &Statement) -> Result<Vec<(u32, u32)>, Fa
 /// Whoever came first at a desk has filled it, and all else is free.
 fn assert_four<R: Abort>(rt: &R, alloc: Global, statement: &Statement) -> Result<(), Fail> {
     let totals = (statement.population, statement.available, statement.in_use);
-    assert_eq!(rt; totals, (16, 12, 4));
-    assert_eq!(rt; statement.desks.len(), 2);
-    assert_eq!(rt; statement.packets.len(), 0);
+    let packets = (statement.desks.len(), statement.packets.len());
+    same(
+        rt,
+        &(totals, packets),
+        &((16, 12, 4), (2, 0)),
+        "the end of four workers",
+    );
     assert_each_once(rt, alloc, statement, 16)
 }
 
@@ -232,9 +251,14 @@ fn meet<R: Threads + Wait + Sync + Abort + AllocGlobal>(
         failed: AtomicBool::new(false),
     };
     let statement = run(rt, TWO_WORKERS, grounds, turns, &gate)?;
-    assert!(rt; !gate.failed.load(Ordering::SeqCst));
     let places = places_of(rt.alloc(), &statement)?;
-    assert_eq!(rt; places.as_slice(), [(1, 0), (2, 0)].as_slice());
+    let given = (gate.failed.load(Ordering::SeqCst), places.as_slice());
+    same(
+        rt,
+        &given,
+        &(false, [(1, 0), (2, 0)].as_slice()),
+        "a meeting",
+    );
     assert_each_once(rt, rt.alloc(), &statement, 2)
 }
 
@@ -258,9 +282,17 @@ fn hand_over<R: Threads + Wait + Sync + Abort + AllocGlobal>(
 {
     let gate = Handover::after(2);
     let statement = run(rt, HANDED_OVER, grounds, turns, &gate)?;
-    assert!(rt; !gate.failed());
-    assert_eq!(rt; statement.available, 4);
-    assert_eq!(rt; statement.common.as_slice(), [0, 1, 2, 3].as_slice());
+    let given = (
+        gate.failed(),
+        statement.available,
+        statement.common.as_slice(),
+    );
+    same(
+        rt,
+        &given,
+        &(false, 4, [0, 1, 2, 3].as_slice()),
+        "a handover",
+    );
     Ok(())
 }
 
@@ -303,30 +335,26 @@ fn a_take_is_tried_until_the_packet_is_there(rt: HostRuntime) -> Result<(), Fail
     let text = written(rt.alloc(), CIRCLE)?;
     for grounds in GROUNDS {
         let statement = run(&rt, text.as_str(), grounds, TURNS, &OpenGate)?;
-        assert_eq!(rt; (statement.available, statement.in_use), (64, 0));
+        same(
+            &rt,
+            &(statement.available, statement.in_use),
+            &(64, 0),
+            "a circle",
+        );
         assert_each_once(&rt, rt.alloc(), &statement, 64)?;
     }
     Ok(())
 }
 
-/// Plays the lines of the four workers, worker by worker.
-fn play_four(pool: &mut SitePool) {
-    for worker in 1..5 {
-        let desk = (worker - 1) / 2;
-        let acts = [
-            Act::Alloc,
-            Act::ClonePacket(0),
-            Act::Free(0),
-            Act::Offer(1, desk),
-            Act::Free(1),
-        ];
-        for act in acts {
-            let _ = pool.perform(worker, act);
-        }
+/// Puts a share in a book, and notes a failure where that is refused.
+fn deposit_noted<R: Wait>(rt: &R, book: &Mutex<Book>, failed: &AtomicBool, share: Share) {
+    if let Err((_, share)) = deposit(rt, book, share) {
+        share.lose();
+        failed.store(true, Ordering::SeqCst);
     }
 }
 
-/// Puts a share in a book, and notes a failure where that is refused.
+/// The same with the share of a slot, where there is one.
 fn deposit_slot<R: Wait>(
     rt: &R,
     book: &Mutex<Book>,
@@ -334,10 +362,7 @@ fn deposit_slot<R: Wait>(
     slot: &mut Option<Share>,
 ) {
     if let Some(share) = slot.take() {
-        if let Err((_, share)) = deposit(rt, book, share) {
-            share.lose();
-            failed.store(true, Ordering::SeqCst);
-        }
+        deposit_noted(rt, book, failed, share);
     }
 }
 

@@ -6,7 +6,7 @@ ghost use Rattle.word_tests.specs.Ready.{IsReady};
 
 use super::players::{FreeSeat, Player, Retired};
 use super::settling::Ending;
-use super::{assert_each_once, assert_holds};
+use super::{assert_each_once, assert_holds, same};
 use book::settling::Unsettled;
 use commons::refusal::Refusal;
 use ground::pool::Ground;
@@ -103,25 +103,38 @@ fn end_of(alloc: Global, third_is_missing: bool) -> Result<Result<Statement, Uns
     Ok(end)
 }
 
+/// A statement of the end where each clone is on a desk, and each other packet was freed.
+fn assert_settled<R: Abort>(rt: &R, alloc: Global, statement: &Statement) -> Result<(), Fail> {
+    let packets = (statement.desks.len(), statement.packets.len());
+    same(
+        rt,
+        &packets,
+        &(2, 0),
+        "a clone is on each desk, each other was freed",
+    );
+    assert_each_once(rt, alloc, statement, "four workers")?;
+    assert_holds(rt, alloc, statement, "four workers")
+}
+
 #[test]
 fn a_share_that_is_missing_is_named(rt: HostRuntime) -> Result<(), Fail> {
-    match end_of(rt.alloc(), true)? {
-        Ok(statement) => assert!(&rt; false, "{statement:?}"),
-        Err(cause) => assert_eq!(&rt; cause, Unsettled::MissingShare(3)),
-    }
+    let cause = end_of(rt.alloc(), true)?.err();
+    same(
+        &rt,
+        &cause,
+        &Some(Unsettled::MissingShare(3)),
+        "why there is no statement",
+    );
     Ok(())
 }
 
 #[test]
 fn four_workers_and_all_their_shares_settle(rt: HostRuntime) -> Result<(), Fail> {
     match end_of(rt.alloc(), false)? {
-        Ok(statement) => {
-            assert_eq!(&rt; statement.desks.len(), 2, "a clone is on each desk");
-            assert_eq!(&rt; statement.packets.len(), 0, "each other was freed");
-            assert_each_once(&rt, rt.alloc(), &statement, "four workers")?;
-            assert_holds(&rt, rt.alloc(), &statement, "four workers")?;
+        Ok(statement) => assert_settled(&rt, rt.alloc(), &statement),
+        Err(cause) => {
+            same(&rt, &Some(cause), &None, "why there is no statement");
+            Ok(())
         }
-        Err(cause) => assert!(&rt; false, "{cause:?}"),
     }
-    Ok(())
 }

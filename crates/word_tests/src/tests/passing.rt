@@ -4,7 +4,7 @@ ghost use Rattle.ground.specs.Seats.{IsOf};
 ghost use Rattle.word_pool.specs.Workers.{AreWorkers, Stays};
 
 use super::crews::{Tallies, Tally, act, free, free_any, make};
-use super::{DEFAULTS, assert_all_free, assert_each_once, assert_holds};
+use super::{DEFAULTS, assert_all_free, assert_each_once, assert_holds, same};
 use commons::limits::Limits;
 use commons::packet::MAX_SEGS;
 use commons::refusal::Refusal;
@@ -241,46 +241,64 @@ fn all_clear<R: Threads + Sync>(
     );
 }
 
+/// The pool of all workers and desks.
+const LIMITS: Limits = Limits {
+    population: 20_000,
+    cache: 64,
+    workers: CROWD as u64,
+    desks: CROWD as u64,
+    ..DEFAULTS
+};
+
 /// The statement of a pool whose workers have passed packets round, and in the end freed all of them, or none.
+fn ended<R: Threads + Sync>(
+    rt: &R,
+    alloc: Global,
+    tallies: &Tallies,
+    frees: bool,
+) -> Result<Statement, Refusal> {
+    let (ground, mut workers) = pool::make(alloc, &LIMITS)?;
+    all_work(rt, &ground, workers.as_mut_slice(), tallies, frees);
+    if frees {
+        all_clear(rt, &ground, workers.as_mut_slice(), tallies);
+    }
+    pool::settled(alloc, ground, workers)
+}
+
+/// No call was refused for another cause, so much was done, and each packet that was left was taken or is on a desk.
+fn assert_told<R: Abort>(rt: &R, told: &Tally, on_desks: usize) {
+    let calls = (told.calls, told.calls >= 1_000_000);
+    let taken = (told.taken, told.taken >= TAKEN);
+    let left = told.taken.saturating_add(on_desks as u64);
+    let wanted = ((told.calls, true), (told.taken, true), left, 0);
+    same(
+        rt,
+        &(calls, taken, told.left, told.wrong),
+        &wanted,
+        "calls, taken, left and wrong",
+    );
+}
+
+/// The same statement, once what is told of the workers is right.
 fn passed<R: Threads + Sync + Abort>(
     rt: &R,
     alloc: Global,
     frees: bool,
 ) -> Result<Statement, Fail> {
-    let limits = Limits {
-        population: 20_000,
-        cache: 64,
-        workers: u64::from(CROWD),
-        desks: u64::from(CROWD),
-        ..DEFAULTS
-    };
     let tallies = Tallies::new();
-    let (ground, mut workers) = pool::make(alloc, &limits)?;
-    all_work(rt, &ground, workers.as_mut_slice(), &tallies, frees);
-    if frees {
-        all_clear(rt, &ground, workers.as_mut_slice(), &tallies);
-    }
-    let statement = pool::settled(alloc, ground, workers)?;
-    let told = tallies.all();
-    assert_eq!(rt; told.wrong, 0, "calls that were refused for another cause");
-    assert!(rt; told.calls >= 1_000_000, "{} calls", told.calls);
-    assert!(rt; told.taken >= TAKEN, "{} packets were taken", told.taken);
-    let on_desks = statement.desks.len() as u64;
-    assert_eq!(rt;
-        told.left,
-        told.taken.saturating_add(on_desks),
-        "packets left on desks"
-    );
+    let statement = ended(rt, alloc, &tallies, frees)?;
+    assert_told(rt, &tallies.all(), statement.desks.len());
     Ok(statement)
 }
 
 #[test]
 fn each_element_stands_once_after_a_million_calls(rt: HostRuntime) -> Result<(), Fail> {
     let statement = passed(&rt, rt.alloc(), false)?;
-    assert_eq!(&rt;
-        statement.packets.len(),
-        CROWD as usize,
-        "each worker's own packet"
+    same(
+        &rt,
+        &statement.packets.len(),
+        &(CROWD as usize),
+        "each worker's own packet",
     );
     assert_each_once(&rt, rt.alloc(), &statement, "a million calls")?;
     assert_holds(&rt, rt.alloc(), &statement, "a million calls")

@@ -1,6 +1,6 @@
 //! Clones of 32 segments that are refused at each of their gets, and at each of their raises.
 
-use super::assert_same;
+use super::{assert_same, same};
 use commons::refusal::Refusal;
 use mbuf::acts::Reply;
 use script_rows::parts::{Field, Part, written};
@@ -45,33 +45,46 @@ fn assert_refused<R: Abort>(
     let script = parse(alloc, text.as_bytes())?;
     let (replies, statement) = assert_same(rt, alloc, &script, name)?;
     let told = refusals(replies.as_slice(), cause);
-    assert_eq!(rt;
-        told,
-        (1, 1),
-        "{name}: the refusals, and those for the cause"
-    );
-    assert_eq!(rt; statement.available, script.limits.population, "{name}");
+    let wanted = ((1, 1), script.limits.population);
+    same(rt, &(told, statement.available), &wanted, name);
     Ok(())
+}
+
+/// The same, of the script of this number.
+fn assert_refused_at<R: Abort>(
+    rt: &R,
+    alloc: Global,
+    text: &str,
+    cause: Refusal,
+    number: u32,
+) -> Result<(), Fail> {
+    let name = format!(in alloc; "{cause:?} at {number}")?;
+    assert_refused(rt, alloc, text, cause, name.as_str())
+}
+
+/// A script in which so many elements are left for a clone of 32 segments.
+fn with_elements_left(alloc: Global, left: u32) -> Result<String, Fail> {
+    let population = left.wrapping_add(32);
+    let packets = written(alloc, PACKETS)?;
+    let chains = written(alloc, CHAINS)?;
+    Ok(format!(in alloc; "pool {population}\n{packets}{chains}clone p0 c\nfree p0\n")?)
+}
+
+/// A script in which the count of this element of 32 is at its limit.
+fn with_spent_count(alloc: Global, spent: u32) -> Result<String, Fail> {
+    let packets = written(alloc, PACKETS)?;
+    let chains = written(alloc, CHAINS)?;
+    Ok(format!(in alloc;
+        "pool 65 refs 2\n{packets}alloc x\nattach x p{spent}\n{chains}clone p0 c\nfree p0\nfree x\n"
+    )?)
 }
 
 /// A clone of 32 segments is refused where so many elements are left.
 #[test]
 fn a_clone_is_refused_at_each_of_its_gets(rt: HostRuntime) -> Result<(), Fail> {
-    let packets = written(rt.alloc(), PACKETS)?;
-    let chains = written(rt.alloc(), CHAINS)?;
     for left in 0..32u32 {
-        let population = left.wrapping_add(32);
-        let text = format!(in rt.alloc();
-            "pool {population}\n{packets}{chains}clone p0 c\nfree p0\n"
-        )?;
-        let name = format!(in rt.alloc(); "{left} elements are left")?;
-        assert_refused(
-            &rt,
-            rt.alloc(),
-            text.as_str(),
-            Refusal::NoEntries,
-            name.as_str(),
-        )?;
+        let text = with_elements_left(rt.alloc(), left)?;
+        assert_refused_at(&rt, rt.alloc(), text.as_str(), Refusal::NoEntries, left)?;
     }
     Ok(())
 }
@@ -79,20 +92,9 @@ fn a_clone_is_refused_at_each_of_its_gets(rt: HostRuntime) -> Result<(), Fail> {
 /// A clone of 32 segments is refused where the count of the element of one of them is at its limit.
 #[test]
 fn a_clone_is_refused_at_each_of_its_raises(rt: HostRuntime) -> Result<(), Fail> {
-    let packets = written(rt.alloc(), PACKETS)?;
-    let chains = written(rt.alloc(), CHAINS)?;
     for spent in 0..32u32 {
-        let text = format!(in rt.alloc();
-            "pool 65 refs 2\n{packets}alloc x\nattach x p{spent}\n{chains}clone p0 c\nfree p0\nfree x\n"
-        )?;
-        let name = format!(in rt.alloc(); "the count of {spent} is at its limit")?;
-        assert_refused(
-            &rt,
-            rt.alloc(),
-            text.as_str(),
-            Refusal::RefSpent,
-            name.as_str(),
-        )?;
+        let text = with_spent_count(rt.alloc(), spent)?;
+        assert_refused_at(&rt, rt.alloc(), text.as_str(), Refusal::RefSpent, spent)?;
     }
     Ok(())
 }

@@ -4,11 +4,13 @@ ghost use Rattle.ground.specs.Seats.{IsOf};
 ghost use Rattle.word_pool.specs.Workers.{AreWorkers, Stays};
 
 use super::crews::{Tallies, Tally, act, free, free_any, make};
-use super::{DEFAULTS, assert_all_free};
+use super::{DEFAULTS, assert_all_free, same};
 use commons::limits::Limits;
+use commons::refusal::Refusal;
 use ground::pool::Ground;
 use mbuf::acts::{Act, Reply};
 use mbuf::packets::Pid;
+use pool_model::statement::Statement;
 use std::alloc::Global;
 use std::process::Abort;
 use std::test::Fail;
@@ -99,6 +101,31 @@ fn all_work<R: Threads + Sync>(
     );
 }
 
+/// The statement of a pool whose workers have freed all that they made.
+fn ended<R: Threads + Sync>(
+    rt: &R,
+    alloc: Global,
+    limits: &Limits,
+    tallies: &Tallies,
+    times: u32,
+) -> Result<Statement, Refusal> {
+    let (ground, mut workers) = pool::make(alloc, limits)?;
+    all_work(rt, &ground, workers.as_mut_slice(), tallies, times);
+    pool::settled(alloc, ground, workers)
+}
+
+/// No call was refused for another cause, and at least so many packets were made.
+fn assert_told<R: Abort>(rt: &R, told: &Tally, times: u32, name: &str) {
+    let enough = told.made >= u64::from(times);
+    let wanted = ("wrong, made", 0, told.made, true);
+    same(
+        rt,
+        &("wrong, made", told.wrong, told.made, enough),
+        &wanted,
+        name,
+    );
+}
+
 /// Four workers of one pool, who free all that they made.
 fn four_of<R: Threads + Sync + Abort>(
     rt: &R,
@@ -115,20 +142,8 @@ fn four_of<R: Threads + Sync + Abort>(
         ..DEFAULTS
     };
     let tallies = Tallies::new();
-    let (ground, mut workers) = pool::make(alloc, &limits)?;
-    all_work(rt, &ground, workers.as_mut_slice(), &tallies, times);
-    let statement = pool::settled(alloc, ground, workers)?;
-    let told = tallies.all();
-    assert_eq!(rt;
-        told.wrong,
-        0,
-        "{name}: a call was refused for another cause"
-    );
-    assert!(rt;
-        told.made >= u64::from(times),
-        "{name}: {} packets were made",
-        told.made
-    );
+    let statement = ended(rt, alloc, &limits, &tallies, times)?;
+    assert_told(rt, &tallies.all(), times, name.as_str());
     assert_all_free(rt, alloc, &statement, name.as_str())
 }
 
