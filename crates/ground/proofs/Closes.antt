@@ -18,7 +18,7 @@ use Rattle.step_core.specs.Headers.{HeaderLaw}
 use Rattle.step_core.proofs.Bags.{times-head, times-nil}
 use Rattle.ground.specs.declared.known.Known.{Known}
 use Rattle.ground.specs.Closing.{Nothing, LeftOf, IsKept, kept_on, packet_on}
-use Rattle.ground.specs.Layout.{pack, unpack, lines, words_with, word_on, rows_of, words_of}
+use Rattle.ground.specs.Layout.{pack, unpack, lines, words_with, word_on, rows_of, words_of, length_word, links_at}
 use Rattle.ground.specs.Rule.{Slot, Ruled, home_by, home_of}
 use Rattle.ground.proofs.Alone.{others_idle}
 use Rattle.ground.proofs.Playing.{unpack_pack}
@@ -74,13 +74,13 @@ drop_past (x ∷ xs) ys (suc n) p e =
     ap (λ (m : ℕ). drop m (x ∷ (xs ++ ys))) same ∙ drop_past xs ys n p (omega arith)
 
 row_links : (h n : ℕ) (links counts desks : List ℕ) (p : ℕ) → length links ≡ p →
-    take p (drop 16 (words_with h n links counts desks)) ≡ links
+    take p (drop links_at (words_with h n links counts desks)) ≡ links
 row_links h n links counts desks p e = take_front links (counts ++ desks) p e
 
 row_counts : (h n : ℕ) (links counts desks : List ℕ) (p : ℕ) → length links ≡ p →
-    length counts ≡ p → take p (drop (16 + p) (words_with h n links counts desks)) ≡ counts
+    length counts ≡ p → take p (drop (links_at + p) (words_with h n links counts desks)) ≡ counts
 row_counts h n links counts desks p e f =
-    ap (λ (l : List ℕ). take p l) (drop_past (lines h n) (links ++ (counts ++ desks)) 16 p refl)
+    ap (λ (l : List ℕ). take p l) (drop_past (lines h n) (links ++ (counts ++ desks)) links_at p refl)
     ∙ (ap (λ (l : List ℕ). take p l) (drop_front links (counts ++ desks) p e)
     ∙ take_front counts desks p f)
 
@@ -105,7 +105,7 @@ small_desks (x ∷ xs) h zero = let a = h 0 in omega arith
 small_desks (x ∷ xs) h (suc j) = small_desks xs (λ d. h (suc d)) j
 
 pub small_words : (l : Limits) (id : ℕ) (n : Known) (ws : List ℕ) (slots : List Slot) →
-    Final (Seen (Ruled l) id n) ws slots → (i : ℕ) → 16 ≤ i → slice_index ws i < 4294967296
+    Final (Seen (Ruled l) id n) ws slots → (i : ℕ) → links_at ≤ i → slice_index ws i < 4294967296
 small_words l id n ws slots f i past =
     let r : Ruled l f.0 = f.1.0 in
     let w = r.world in
@@ -178,11 +178,11 @@ kept_more words slots out i word slot size at_word at_slot kept k n y here a b =
 
 -- the words of the desks, which are the last
 row_desks : (h n : ℕ) (links counts desks : List ℕ) (p : ℕ) → length links ≡ p →
-    length counts ≡ p → drop (16 + 2 * p) (words_with h n links counts desks) ≡ desks
+    length counts ≡ p → drop (links_at + 2 * p) (words_with h n links counts desks) ≡ desks
 row_desks h n links counts desks p e f =
-    let twice : 16 + 2 * p ≡ 16 + (p + (p + 0)) = omega arith in
+    let twice : links_at + 2 * p ≡ links_at + (p + (p + 0)) = omega arith in
     ap (λ (m : ℕ). drop m (words_with h n links counts desks)) twice
-    ∙ (drop_past (lines h n) (links ++ (counts ++ desks)) 16 (p + (p + 0)) refl
+    ∙ (drop_past (lines h n) (links ++ (counts ++ desks)) links_at (p + (p + 0)) refl
     ∙ (drop_past links (counts ++ desks) p (p + 0) e ∙ drop_past counts desks p 0 f))
 
 at_least : {A : Type 0} (xs : List A) (k : ℕ) → k < length xs → (x : A) × (get_elem? xs k ≡ some x)
@@ -238,9 +238,9 @@ desks_are ds out ws slots size words homes same small kept =
 pub closes : (key l : Limits) → key ≡ l → (v : View) (id : ℕ) (n : Known) → n.view ≡ v →
     (ws : List ℕ) (slots : List Slot) → Final (Seen (Ruled key) id n) ws slots →
     (word : ℕ) (head : Head) (len : ℕ) (links counts : List ℕ) → get_elem? ws 0 ≡ some word →
-    head ≡ unpack word → get_elem? ws 8 ≡ some len → links ≡ take l.population (drop 16 ws) →
-    counts ≡ take l.population (drop (16 + l.population) ws) → (desks : List Slot) →
-    length desks ≡ l.desks → IsKept (drop (16 + 2 * l.population) ws) slots desks → LeftOf l v
+    head ≡ unpack word → get_elem? ws length_word ≡ some len → links ≡ take l.population (drop links_at ws) →
+    counts ≡ take l.population (drop (links_at + l.population) ws) → (desks : List Slot) →
+    length desks ≡ l.desks → IsKept (drop (links_at + 2 * l.population) ws) slots desks → LeftOf l v
     (record { top = head.top; length = len; links = links; counts = counts; desks = desks })
 closes
     key l key_is v id n same ws slots f word head len links counts at_head head_is at_len links_are
@@ -271,21 +271,21 @@ closes
       top = ap (λ (h : Head). h.top) read;
       length =
           some-injective len w.length
-          (sym at_len ∙ ap (λ (xs : List ℕ). get_elem? xs 8) words);
+          (sym at_len ∙ ap (λ (xs : List ℕ). get_elem? xs length_word) words);
       links =
           links_are
-          ∙ (ap (λ (xs : List ℕ). take l.population (drop 16 xs)) words
+          ∙ (ap (λ (xs : List ℕ). take l.population (drop links_at xs)) words
           ∙ row_links (pack w.head) w.length w.links w.counts (map word_on w.desks) l.population
           (r.stack.links ∙ population));
       counts =
           counts_are
-          ∙ (ap (λ (xs : List ℕ). take l.population (drop (16 + l.population) xs)) words
+          ∙ (ap (λ (xs : List ℕ). take l.population (drop (links_at + l.population) xs)) words
           ∙ row_counts (pack w.head) w.length w.links w.counts (map word_on w.desks) l.population
           (r.stack.links ∙ population) (r.counts.counts ∙ population));
       desks =
-          desks_are w.desks desks (drop (16 + 2 * l.population) ws) slots
+          desks_are w.desks desks (drop (links_at + 2 * l.population) ws) slots
           as_many
-          (ap (λ (xs : List ℕ). drop (16 + 2 * l.population) xs) words
+          (ap (λ (xs : List ℕ). drop (links_at + 2 * l.population) xs) words
           ∙ row_desks (pack w.head) w.length w.links w.counts (map word_on w.desks) l.population
           (r.stack.links ∙ population) (r.counts.counts ∙ population))
           (λ k y e. f.4 k y (ap (λ (hs : List (maybe.Option Slot)). get_elem? hs k) r.homes_are ∙ e))

@@ -1,6 +1,6 @@
 -- Each of the four steps on a desk's word keeps the rule, and tells its seat what its contract says. What the seat put into
 -- the slot, or took out of it, since it has the slot is a step of the machine before the one on the word.
-use Rattle.std.proofs.Common.{◌≡◌, ℕ, suc, ◌+◌, ◌-◌, ◌*◌, ◌<◌, Bool, true, eqb, List, [], ◌∷◌, Option, Some, None, length, set, refl, sym, ap, ◌∙◌, subst, arith, eq-eqb, ne_eqb, get_or-set_same}
+use Rattle.std.proofs.Common.{◌≡◌, ℕ, suc, ◌<◌, Bool, true, eqb, List, [], ◌∷◌, Option, Some, None, length, set, refl, sym, ap, ◌∙◌, subst, arith, eq-eqb, ne_eqb, get_or-set_same}
 use Rattle.std.specs.Prelude.{slice_index, nat_lt, nat_le, is_none, IfSome, if◌then◌else◌}
 use Rattle.std.proofs.lemmas.Bool.{lt-ltb, le-leb, and_from}
 use Rattle.std.proofs.lemmas.List.{length-set}
@@ -32,6 +32,7 @@ use Rattle.step_core.specs.declared.view.Work.{Work}
 use Rattle.step_core.proofs.Bags.{times-cons, times-head}
 use Rattle.step_core.proofs.HeaderWalks.{keeps_headers}
 use Rattle.step_core.proofs.Theorem.{keeps_law}
+use Rattle.ground.specs.Layout.{desk_word, desk_standing_at}
 use Rattle.ground.specs.declared.known.Known.{Known}
 use Rattle.ground.specs.DeskTells.{moved, Moved, hold_found, hold_tells, open_tells, seize_found, seize_tells, clear_tells}
 use Rattle.ground.specs.Own.{AtDesk}
@@ -57,7 +58,7 @@ includes_all xs ys (z ∷ zs) h =
     and_from (nat_le (bag ys z) (bag xs z)) (includes_from xs ys zs)
     (le-leb (bag ys z) (bag xs z) (h z)) (includes_all xs ys zs h)
 
-pub holds_desk : (l : Limits) (slots id : ℕ) (me : Sat) (d k : ℕ) → k ≡ 16 + 2 * l.population + d →
+pub holds_desk : (l : Limits) (slots id : ℕ) (me : Sat) (d k : ℕ) → k ≡ desk_word l.population d →
     d < l.desks → me.0.view.work ≡ None → Sits me →
     Allows (Ruled l) slots id me k (λ x. either (eqb x 0) 1 x) (hold_tells (step slots k 0 1 none) me)
 holds_desk l slots id me d k word inside idle busy s r _ at _ =
@@ -80,7 +81,7 @@ holds_desk l slots id me d k word inside idle busy s r _ at _ =
     let G : Bool → Type 0 = λ b.
     (n : Known) × (a : Act Slot) × Valid s.homes me.1 a
     × Ruled l (stepped s k (either b 1 x) id me.1 n a)
-    × hold_found b (k - (16 + 2 * me.0.limits.population)) x me (n, carried_after me.1 a) in
+    × hold_found b (desk_standing_at me.0.limits.population k) x me (n, carried_after me.1 a) in
     dite (ℕ_discrete x 0)
     (λ hit.
     let zero_word : y.word ≡ 0 = sym read ∙ hit in
@@ -123,7 +124,7 @@ holds_desk l slots id me d k word inside idle busy s r _ at _ =
           (λ (j : ℕ). Tells (Hold j) (Lost x) me (noted (Hold d) (Lost x) me)) done.1,
     ))
 
-pub seizes_desk : (l : Limits) (slots id : ℕ) (me : Sat) (d k : ℕ) → k ≡ 16 + 2 * l.population + d →
+pub seizes_desk : (l : Limits) (slots id : ℕ) (me : Sat) (d k : ℕ) → k ≡ desk_word l.population d →
     d < l.desks → me.0.view.work ≡ None → Sits me →
     Allows (Ruled l) slots id me k (λ x. either (eqb x 2) 3 x) (seize_tells (step slots k 2 3 none) me)
 seizes_desk l slots id me d k word inside idle busy s r _ at _ =
@@ -145,7 +146,7 @@ seizes_desk l slots id me d k word inside idle busy s r _ at _ =
     let G : Bool → Type 0 = λ b.
     (n : Known) × (a : Act Slot) × Valid s.homes me.1 a
     × Ruled l (stepped s k (either b 3 x) id me.1 n a)
-    × seize_found b (k - (16 + 2 * me.0.limits.population)) x me (n, carried_after me.1 a) in
+    × seize_found b (desk_standing_at me.0.limits.population k) x me (n, carried_after me.1 a) in
     dite (ℕ_discrete x 2)
     (λ hit.
     let full_word : y.word ≡ 2 = sym read ∙ hit in
@@ -195,7 +196,7 @@ seizes_desk l slots id me d k word inside idle busy s r _ at _ =
 
 -- a step of the machine that changes a slot alone, and then one on the same desk's word
 module _ (l : Limits) (s : St) (r : Ruled l s) (id : ℕ) (me : Sat) (at : get_elem? s.views id ≡ some me.0)
-    (busy : Sits me) (d k : ℕ) (word : k ≡ 16 + 2 * l.population + d) (inside : d < l.desks) (y' : Desk) (v' : View)
+    (busy : Sits me) (d k : ℕ) (word : k ≡ desk_word l.population d) (inside : d < l.desks) (y' : Desk) (v' : View)
     (part : v'.part ≡ me.0.view.part) (st : Step) (o : Outcome) (own : OpensOwn (view_at r.world.views id) st)
     (played : play r.world (suc id) st ≡ Some (o, desked r.world id d y' v')) where
   abbrev between : World
@@ -255,7 +256,7 @@ module _ (l : Limits) (s : St) (r : Ruled l s) (id : ℕ) (me : Sat) (at : get_e
       (subst Lawful same law_end, subst HeaderLaw same headers_end)
 
 pub opens_desk : (l : Limits) (slots id : ℕ) (me : Sat) (d k : ℕ) (p : List Seg) →
-    k ≡ 16 + 2 * l.population + d → d < l.desks → me.0.view.work ≡ at_desk d ToFill →
+    k ≡ desk_word l.population d → d < l.desks → me.0.view.work ≡ at_desk d ToFill →
     me.1 ≡ (d, Some p) ∷ [] → Includes me.0.view.holds (holds_of_packet p) →
     OwnsHeaders me.0.view p → Sits me →
     Allows (Ruled l) slots id me k (λ _. 2) (λ _. open_tells (step slots k 2 0 none) me 2)
@@ -314,7 +315,7 @@ opens_desk l slots id me d k p word inside work out holds owns busy s r _ at _ =
     )
 
 pub clears_desk : (l : Limits) (slots id : ℕ) (me : Sat) (d k : ℕ) (p : List Seg) →
-    k ≡ 16 + 2 * l.population + d → d < l.desks → me.0.view.work ≡ at_desk d (Seized p) →
+    k ≡ desk_word l.population d → d < l.desks → me.0.view.work ≡ at_desk d (Seized p) →
     me.1 ≡ (d, None) ∷ [] → Sits me →
     Allows (Ruled l) slots id me k (λ _. 0) (λ _. clear_tells (step slots k 0 0 none) me 0)
 clears_desk l slots id me d k p word inside work out busy s r _ at _ =

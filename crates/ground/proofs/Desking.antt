@@ -19,7 +19,7 @@ use Rattle.step_core.specs.Law.{Lawful}
 use Rattle.step_core.specs.Headers.{HeaderLaw}
 use Rattle.ground.specs.declared.known.Known.{Known}
 use Rattle.ground.specs.DeskTells.{moved, Moved}
-use Rattle.ground.specs.Layout.{pack, lines, word_on, rows_of, words_of}
+use Rattle.ground.specs.Layout.{pack, lines, word_on, rows_of, words_of, links_at, desk_word, desk_standing_at}
 use Rattle.ground.specs.Own.{Owned, AtDesk}
 use Rattle.ground.specs.Rule.{Slot, Sat, Ruled, view_in, home_of}
 use Rattle.ground.proofs.Owning.{owned_of}
@@ -46,7 +46,7 @@ abbrev pub desked : World → ℕ → ℕ → Desk → View → World
 desked w id d x v = record w { desks = set w.desks d x; views = set w.views id v }
 
 module _ (l : Limits) (s : St) (r : Ruled l s) (id : ℕ) (me : Sat) (at : get_elem? s.views id ≡ some me.0)
-    (busy : Sits me) (d k : ℕ) (word : k ≡ 16 + 2 * l.population + d) (inside : d < l.desks) where
+    (busy : Sits me) (d k : ℕ) (word : k ≡ desk_word l.population d) (inside : d < l.desks) where
   pub desk : Desk
   desk = desk_at r.world.desks d
 
@@ -57,10 +57,10 @@ module _ (l : Limits) (s : St) (r : Ruled l s) (id : ℕ) (me : Sat) (at : get_e
       omega arith
 
   -- what is told of the desk is told of the word
-  pub by_desk : (P : ℕ → Type 0) → P d → P (k - (16 + 2 * me.0.limits.population))
+  pub by_desk : (P : ℕ → Type 0) → P d → P (desk_standing_at me.0.limits.population k)
   by_desk P =
       let mine = ap (λ (z : Limits). z.population) (my_limits l s r id me at busy) in
-      let same : d ≡ k - (16 + 2 * me.0.limits.population) = omega arith in
+      let same : d ≡ desk_standing_at me.0.limits.population k = omega arith in
       subst P same
 
   pop : r.world.limits.population ≡ l.population
@@ -75,11 +75,11 @@ module _ (l : Limits) (s : St) (r : Ruled l s) (id : ℕ) (me : Sat) (at : get_e
   -- a desk's word stands behind the counts
   pub desk_read : slice_index s.words k ≡ (desk_at r.world.desks d).word
   desk_read =
-      let a : k - 16 ≡ 2 * l.population + d = omega arith in
+      let a : k - links_at ≡ 2 * l.population + d = omega arith in
       let b : 2 * l.population + d - l.population ≡ l.population + d = omega arith in
       let c : l.population + d - l.population ≡ d = omega arith in
       read_at l s r id me at busy k
-      ∙ (get_or-append_right (lines (pack r.world.head) r.world.length) (rows_of r.world) 16 k 0 refl
+      ∙ (get_or-append_right (lines (pack r.world.head) r.world.length) (rows_of r.world) links_at k 0 refl
       (omega arith)
       ∙ (ap (λ (j : ℕ). slice_index (rows_of r.world) j) a
       ∙ (get_or-append_right r.world.links (tail_of r.world) l.population (2 * l.population + d) 0 links
@@ -94,10 +94,10 @@ module _ (l : Limits) (s : St) (r : Ruled l s) (id : ℕ) (me : Sat) (at : get_e
       ≡ lines (pack r.world.head) r.world.length
       ++ (r.world.links ++ (r.world.counts ++ map word_on (set r.world.desks d x)))
   desk_set x =
-      let a : k - 16 ≡ 2 * l.population + d = omega arith in
+      let a : k - links_at ≡ 2 * l.population + d = omega arith in
       let b : 2 * l.population + d - l.population ≡ l.population + d = omega arith in
       let c : l.population + d - l.population ≡ d = omega arith in
-      set-append_right (lines (pack r.world.head) r.world.length) (rows_of r.world) 16 k x.word refl
+      set-append_right (lines (pack r.world.head) r.world.length) (rows_of r.world) links_at k x.word refl
       (omega arith)
       ∙ ap (λ (ys : List ℕ). lines (pack r.world.head) r.world.length ++ ys)
       (ap (λ (j : ℕ). set (rows_of r.world) j x.word) a

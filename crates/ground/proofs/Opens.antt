@@ -15,7 +15,7 @@ use Rattle.step_core.specs.Opening.{links_up}
 use Rattle.step_core.proofs.OpeningLaw.{length-links_up}
 use Rattle.step_core.proofs.LinksUp.{top_is}
 use Rattle.ground.specs.declared.known.Known.{Known}
-use Rattle.ground.specs.Layout.{pack, words_with, word_on, words_of, word_count}
+use Rattle.ground.specs.Layout.{pack, words_with, word_on, words_of, word_count, links_at}
 use Rattle.ground.specs.Opening.{opening_alone, opening_words}
 use Rattle.ground.specs.Own.{Owned}
 use Rattle.ground.specs.Rule.{Slot, Ruled, home_of, first_known}
@@ -84,7 +84,7 @@ length_words l =
     length-append (replicate l.population 1) (replicate l.desks 0) in
     let e : length (links_up 0 l.population ++ rest) ≡ length (links_up 0 l.population) + length rest =
     length-append (links_up 0 l.population) rest in
-    let f : length (opening_words l) ≡ 16 + length (links_up 0 l.population ++ rest) = omega arith in
+    let f : length (opening_words l) ≡ links_at + length (links_up 0 l.population ++ rest) = omega arith in
     omega arith
 
 pub owned_none : (l : Limits) (part : ℕ) → IsPool l → 0 < part → Owned l (empty_view part)

@@ -1,5 +1,5 @@
 -- A step of the machine by one seat, on one word, keeps the rule and tells the seat.
-use Rattle.std.proofs.Common.{◌≡◌, ◌≢◌, ℕ, zero, suc, ◌+◌, ◌-◌, ◌*◌, ◌/◌, ◌%◌, ◌<◌, true, List, [], ◌∷◌, ◌++◌, Some, None, length, set, refl, sym, ap, ◌∙◌, subst, ⊎_elim, arith, get_or-set_same}
+use Rattle.std.proofs.Common.{◌≡◌, ◌≢◌, ℕ, zero, suc, ◌+◌, ◌*◌, ◌/◌, ◌%◌, ◌<◌, true, List, [], ◌∷◌, ◌++◌, Some, None, length, set, refl, sym, ap, ◌∙◌, subst, ⊎_elim, arith, get_or-set_same}
 use Rattle.std.specs.Prelude.{slice_index, option_map, if◌then◌else◌, map, Option}
 use Rattle.std.proofs.lemmas.Bool.{lt-ltb}
 use Rattle.std.proofs.lemmas.List.{length-set, get_or_append_left, get_or-append_right, set-append_left, set-append_right}
@@ -24,7 +24,7 @@ use Rattle.step_core.specs.Steps.{Play, in_range, row, turn, played, play}
 use Rattle.step_core.proofs.Theorem.{keeps_law, changes_little, same_population}
 use Rattle.step_core.proofs.HeaderWalks.{keeps_headers}
 use Rattle.ground.specs.declared.known.Known.{Known}
-use Rattle.ground.specs.Layout.{pack, unpack, lines, word_on, rows_of, words_of}
+use Rattle.ground.specs.Layout.{pack, unpack, lines, word_on, rows_of, words_of, length_word, links_at, link_word, element_linked_at}
 use Rattle.ground.specs.Own.{Owned, AtDesk}
 use Rattle.ground.specs.Rule.{Slot, Sat, Ruled, view_in, home_of}
 use Rattle.ground.specs.Tells.{noted, Tells}
@@ -181,8 +181,8 @@ module _ (l : Limits) (s : St) (r : Ruled l s) (id : ℕ) (me : Sat) (at : get_e
   pub read_at : (i : ℕ) → slice_index s.words i ≡ slice_index (words_of r.world) i
   read_at i = ap (λ (ws : List ℕ). slice_index ws i) r.words_are
 
-  pub read_length : slice_index s.words 8 ≡ r.world.length
-  read_length = read_at 8
+  pub read_length : slice_index s.words length_word ≡ r.world.length
+  read_length = read_at length_word
 
   pub read_head : slice_index s.words 0 ≡ pack r.world.head
   read_head = read_at 0
@@ -194,23 +194,23 @@ module _ (l : Limits) (s : St) (r : Ruled l s) (id : ℕ) (me : Sat) (at : get_e
       let pop = ap (λ (k : Limits). k.population) r.limits in
       ap unpack read_head ∙ unpack_pack r.world.head (omega arith)
 
-  -- a link stands 16 words on
+  -- a link stands behind the lines
   pub link_at : (i : ℕ) → i < length r.world.links →
-      slice_index (words_of r.world) (16 + i) ≡ slice_index r.world.links i
+      slice_index (words_of r.world) (link_word i) ≡ slice_index r.world.links i
   link_at i inside =
-      let behind : 16 + i - 16 ≡ i = omega arith in
+      let behind : element_linked_at (link_word i) ≡ i = omega arith in
       get_or-append_right (lines (pack r.world.head) r.world.length)
-      (rows_of r.world) 16 (16 + i) 0 refl (omega arith)
+      (rows_of r.world) links_at (link_word i) 0 refl (omega arith)
       ∙ (ap (λ (j : ℕ). slice_index (rows_of r.world) j) behind
       ∙ get_or_append_left r.world.links (tail_of r.world) 0 i inside)
 
   pub link_set : (i x : ℕ) → i < length r.world.links →
-      set (words_of r.world) (16 + i) x
+      set (words_of r.world) (link_word i) x
       ≡ lines (pack r.world.head) r.world.length ++ (set r.world.links i x ++ tail_of r.world)
   link_set i x inside =
-      let behind : 16 + i - 16 ≡ i = omega arith in
+      let behind : element_linked_at (link_word i) ≡ i = omega arith in
       set-append_right (lines (pack r.world.head) r.world.length)
-      (rows_of r.world) 16 (16 + i) x refl (omega arith)
+      (rows_of r.world) links_at (link_word i) x refl (omega arith)
       ∙ ap (λ (ys : List ℕ). lines (pack r.world.head) r.world.length ++ ys)
       (ap (λ (j : ℕ). set (rows_of r.world) j x) behind
       ∙ set-append_left r.world.links (tail_of r.world) i x inside)

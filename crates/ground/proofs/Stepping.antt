@@ -28,7 +28,7 @@ use Rattle.step_core.specs.Table.{Get, Put}
 use Rattle.step_core.proofs.StackSteps.{one_view}
 use Rattle.step_core.proofs.Telling.{length_is_bounded, lost_is_later_law}
 use Rattle.ground.specs.declared.known.Known.{Known}
-use Rattle.ground.specs.Layout.{pack, unpack, lines, rows_of, words_of}
+use Rattle.ground.specs.Layout.{pack, unpack, lines, rows_of, words_of, length_word, link_word, element_linked_at}
 use Rattle.ground.specs.Own.{Owned}
 use Rattle.ground.specs.Rule.{Slot, Sat, Ruled}
 use Rattle.ground.specs.Seats.{KnowsLength, KnowsEnd, front_of, count_of, element_of}
@@ -40,16 +40,16 @@ use Rattle.ground.proofs.Alone.{knows as knows_length, knows_end}
 
 module _ (l : Limits) (s : St) (r : Ruled l s) (id : ℕ) (me : Sat) (at : get_elem? s.views id ≡ some me.0) (busy : Sits me) where
   -- a seat of every part knows the length word
-  my_length : KnowsLength me.0.limits me.0.view (slice_index s.words 8)
+  my_length : KnowsLength me.0.limits me.0.view (slice_index s.words length_word)
   my_length =
-      subst (λ (k : Limits). KnowsLength k me.0.view (slice_index s.words 8))
+      subst (λ (k : Limits). KnowsLength k me.0.view (slice_index s.words length_word))
       (sym (my_limits l s r id me at busy))
       (subst (λ (n : ℕ). KnowsLength l me.0.view n) (sym (read_length l s r id me at busy))
       (knows_length r.world (law l s r id me at busy) r.counts.headers r.desks.count l r.limits id
       (here l s r id me at busy) me.0.view (is_view l s r id me at busy)))
 
   -- the length word may be written as it was found
-  length_kept : set (words_of r.world) 8 (slice_index s.words 8) ≡ words_of r.world
+  length_kept : set (words_of r.world) length_word (slice_index s.words length_word) ≡ words_of r.world
   length_kept =
       ap (λ (n : ℕ). lines (pack r.world.head) n ++ rows_of r.world)
       (read_length l s r id me at busy)
@@ -59,16 +59,16 @@ module _ (l : Limits) (s : St) (r : Ruled l s) (id : ℕ) (me : Sat) (at : get_e
   views_kept = sym (same_views l s r id me at busy)
 
 pub loads_length : (l : Limits) (slots id : ℕ) (me : Sat) → Sits me →
-    Allows (Ruled l) slots id me 8 (λ n. n) (loaded_length (step slots 8 0 0 none) me)
+    Allows (Ruled l) slots id me length_word (λ n. n) (loaded_length (step slots length_word 0 0 none) me)
 loads_length l slots id me busy s r _ at _ =
-    let x : ℕ = slice_index s.words 8 in
+    let x : ℕ = slice_index s.words length_word in
     let w = r.world in
     let e = read_length l s r id me at busy in
     let p : Play = quiet (Value w.length) w in
     let played : play w (suc id) LoadLength ≡ Some (Value x, w) =
     row_played w id me.0.view LoadLength p (here l s r id me at busy) (is_view l s r id me at busy) refl
     refl ∙ ap (λ (n : ℕ). Some (Value n, w)) (sym e) in
-    let done = steps l s r id me at busy 8 x LoadLength (Value x) w tt played
+    let done = steps l s r id me at busy length_word x LoadLength (Value x) w tt played
     (length_kept l s r id me at busy) (views_kept l s r id me at busy) refl refl refl in
     let few = length_is_bounded w (law l s r id me at busy) in
     let pop = ap (λ (k : Limits). k.population) r.limits in
@@ -85,10 +85,10 @@ pub played_when : (test : Bool) (p : Play) → test ≡ true → when test p ≡
 played_when test p e = ap (λ (b : Bool). when b p) e
 
 pub reserves : (l : Limits) (slots id : ℕ) (me : Sat) (old new : ℕ) → new < old → Sits me →
-    Allows (Ruled l) slots id me 8 (λ x. either (eqb x old) new x)
-    (reserved (step slots 8 old new none) me)
+    Allows (Ruled l) slots id me length_word (λ x. either (eqb x old) new x)
+    (reserved (step slots length_word old new none) me)
 reserves l slots id me old new less busy s r _ at _ =
-    let x : ℕ = slice_index s.words 8 in
+    let x : ℕ = slice_index s.words length_word in
     let w = r.world in
     let v = me.0.view in
     let n : ℕ = old - new in
@@ -98,7 +98,7 @@ reserves l slots id me old new less busy s r _ at _ =
     and_from (nat_le 1 n) (nat_le n old) (le-leb 1 n (omega arith)) (le-leb n old (omega arith)) in
     let won : World = record w { length = old - n; views = set w.views id (more_credit v n) } in
     let G : Bool → Type 0 = λ b.
-    (u : Known) × (a : Act Slot) × Valid s.homes me.1 a × Ruled l (stepped s 8 (either b new x) id me.1 u a)
+    (u : Known) × (a : Act Slot) × Valid s.homes me.1 a × Ruled l (stepped s length_word (either b new x) id me.1 u a)
     × (Tells (Reserve old n) (exchanged b x) me (u, carried_after me.1 a)
     × KnowsLength me.0.limits me.0.view x) in
     let tried : (o : Outcome) (u : World) (test : Bool) → (w.length == old) ≡ test →
@@ -111,7 +111,7 @@ reserves l slots id me old new less busy s r _ at _ =
     dite (ℕ_discrete x old)
     (λ hit.
     let back : old - n ≡ new = omega arith in
-    let done = steps l s r id me at busy 8 new (Reserve old n) Won won tt
+    let done = steps l s r id me at busy length_word new (Reserve old n) Won won tt
     (tried Won won true (eq-eqb w.length old (sym e ∙ hit)) refl)
     (ap (λ (m : ℕ). lines (pack w.head) m ++ rows_of w) (sym back)) refl refl refl refl in
     subst G (sym (eq-eqb x old hit))
@@ -120,16 +120,16 @@ reserves l slots id me old new less busy s r _ at _ =
     let lost : play w (suc id) (Reserve old n) ≡ Some (Lost x, w) =
     tried (Lost w.length) w false (ne_eqb w.length old (λ same. miss (e ∙ same))) refl
     ∙ ap (λ (m : ℕ). Some (Lost m, w)) (sym e) in
-    let done = steps l s r id me at busy 8 x (Reserve old n) (Lost x) w tt lost
+    let done = steps l s r id me at busy length_word x (Reserve old n) (Lost x) w tt lost
     (length_kept l s r id me at busy) (views_kept l s r id me at busy) refl refl refl in
     subst G (sym (ne_eqb x old miss))
     ((noted (Reserve old n) (Lost x) me).0, keeps, tt, done.0, (done.1, known)))
 
 pub adds : (l : Limits) (slots id : ℕ) (me : Sat) (n : ℕ) → 1 ≤ n → n ≤ me.0.view.credit →
     Sits me →
-    Allows (Ruled l) slots id me 8 (λ x. (x + n) % 2 ^ 64) (added (step slots 8 n 0 none) me)
+    Allows (Ruled l) slots id me length_word (λ x. (x + n) % 2 ^ 64) (added (step slots length_word n 0 none) me)
 adds l slots id me n some_of within busy s r _ at _ =
-    let x : ℕ = slice_index s.words 8 in
+    let x : ℕ = slice_index s.words length_word in
     let w = r.world in
     let v = me.0.view in
     let e = read_length l s r id me at busy in
@@ -145,7 +145,7 @@ adds l slots id me n some_of within busy s r _ at _ =
     let played : play w (suc id) (Add n) ≡ Some (Done, u) =
     row_played w id v (Add n) (quiet Done u) (here l s r id me at busy) (is_view l s r id me at busy) refl
     (played_when (nat_le 1 n && nat_le n v.credit) (quiet Done u) asked) in
-    let done = steps l s r id me at busy 8 ((x + n) % 18446744073709551616) (Add n) Done u tt played
+    let done = steps l s r id me at busy length_word ((x + n) % 18446744073709551616) (Add n) Done u tt played
     (ap (λ (m : ℕ). lines (pack w.head) m ++ rows_of w) no_wrap) refl refl refl refl in
     ((noted (Add n) Done me).0, keeps, tt, done.0, done.1)
 
@@ -240,11 +240,12 @@ hand_inside l v i own h =
     (λ (c : l.population ≤ i). absurd (let z = own.hand_below i c in omega arith))
     (cases_lt i l.population)
 
-pub loads_link : (l : Limits) (slots id : ℕ) (me : Sat) (i : ℕ) → walks_to me.0.view.look i ≡ true →
+-- of the link's own word
+loads_own : (l : Limits) (slots id : ℕ) (me : Sat) (i : ℕ) → walks_to me.0.view.look i ≡ true →
     Sits me → Owned me.0.limits me.0.view →
-    Allows (Ruled l) slots id me (16 + i) (λ n. n) (loaded_link (step slots (16 + i) 0 0 none) me)
-loads_link l slots id me i may busy own s r _ at _ =
-    let x : ℕ = slice_index s.words (16 + i) in
+    Allows (Ruled l) slots id me (link_word i) (λ n. n) (loaded_link (step slots (link_word i) 0 0 none) me)
+loads_own l slots id me i may busy own s r _ at _ =
+    let x : ℕ = slice_index s.words (link_word i) in
     let w = r.world in
     let v = me.0.view in
     let found = look_there v.look i may in
@@ -254,7 +255,7 @@ loads_link l slots id me i may busy own s r _ at _ =
     let all = r.stack.links in
     let inside : i < length w.links = omega arith in
     let in_pool : i < w.limits.population = omega arith in
-    let e : x ≡ slice_index (words_of w) (16 + i) = read_at l s r id me at busy (16 + i) in
+    let e : x ≡ slice_index (words_of w) (link_word i) = read_at l s r id me at busy (link_word i) in
     let link : x ≡ link_in w.links i = e ∙ link_at l s r id me at busy i inside in
     let on : ℕ → View = λ n. record v { look = Some (record { head = k.head; front = k.front ++ i ∷ []; next = n }) } in
     let same : (n : ℕ) → on n ≡ view_after None (LoadLink i) (Value n) v = λ n.
@@ -266,14 +267,14 @@ loads_link l slots id me i may busy own s r _ at _ =
     (ap (λ (o : Option Look). given o (λ z. when (z.next == suc i) (load_link w id v i z))) found.1
     ∙ played_when (k.next == suc i) (load_link w id v i k) found.2)
     ∙ ap (λ (n : ℕ). Some (Value n, knows w id (on n))) (sym link) in
-    let kept : set (words_of w) (16 + i) x ≡ words_of w =
-    ap (λ (n : ℕ). set (words_of w) (16 + i) n) e ∙ set-get_or (words_of w) (16 + i) 0 in
+    let kept : set (words_of w) (link_word i) x ≡ words_of w =
+    ap (λ (n : ℕ). set (words_of w) (link_word i) n) e ∙ set-get_or (words_of w) (link_word i) 0 in
     let views : u.views ≡ set w.views id (view_after None (LoadLink i) (Value x) v) =
     ap (λ (y : View). set w.views id y) (same x) in
-    let done = steps l s r id me at busy (16 + i) x (LoadLink i) (Value x) u tt played kept views refl refl refl in
+    let done = steps l s r id me at busy (link_word i) x (LoadLink i) (Value x) u tt played kept views refl refl refl in
     let range = r.stack.links_in_range i in
     let ends = end_after l s r id me at busy (LoadLink i) (Value x) u played views in
-    let word : i ≡ 16 + i - 16 = omega arith in (
+    let word : i ≡ element_linked_at (link_word i) = omega arith in (
       (noted (LoadLink i) (Value x) me).0,
       keeps,
       tt,
@@ -285,11 +286,18 @@ loads_link l slots id me i may busy own s r _ at _ =
       ),
     )
 
-pub stores_link : (l : Limits) (slots id : ℕ) (me : Sat) (i x : ℕ) → 0 < bag me.0.view.hand i →
+pub loads_link : (l : Limits) (slots id : ℕ) (me : Sat) (i k : ℕ) → k ≡ link_word i →
+    walks_to me.0.view.look i ≡ true → Sits me → Owned me.0.limits me.0.view →
+    Allows (Ruled l) slots id me k (λ n. n) (loaded_link (step slots k 0 0 none) me)
+loads_link l slots id me i k word may busy own =
+    subst (λ (j : ℕ). Allows (Ruled l) slots id me j (λ n. n) (loaded_link (step slots j 0 0 none) me)) (sym word)
+    (loads_own l slots id me i may busy own)
+
+stores_own : (l : Limits) (slots id : ℕ) (me : Sat) (i x : ℕ) → 0 < bag me.0.view.hand i →
     x ≤ l.population → Sits me → Owned me.0.limits me.0.view →
-    Allows (Ruled l) slots id me (16 + i) (λ _. x)
-    (λ _. stored_link (step slots (16 + i) x 0 none) me x)
-stores_link l slots id me i x hand small busy own s r _ at _ =
+    Allows (Ruled l) slots id me (link_word i) (λ _. x)
+    (λ _. stored_link (step slots (link_word i) x 0 none) me x)
+stores_own l slots id me i x hand small busy own s r _ at _ =
     let w = r.world in
     let v = me.0.view in
     let mine = my_population l s r id me at busy in
@@ -310,17 +318,24 @@ stores_link l slots id me i x hand small busy own s r _ at _ =
     (and_from (nat_lt i w.limits.population) (nat_le (link_value j) w.limits.population)
     (lt-ltb i w.limits.population in_pool) (le-leb (link_value j) w.limits.population range))
     (played_when (nat_lt 0 (bag v.hand i)) (quiet Done u) (lt-ltb 0 (bag v.hand i) hand)) in
-    let words : set (words_of w) (16 + i) x ≡ words_of u =
+    let words : set (words_of w) (link_word i) x ≡ words_of u =
     link_set l s r id me at busy i x inside
     ∙ ap (λ (n : ℕ). lines (pack w.head) w.length ++ (set w.links i n ++ tail_of w)) (sym value) in
-    let done = steps l s r id me at busy (16 + i) x (StoreLink i j) Done u tt played words refl refl refl refl in
-    let word : i ≡ 16 + i - 16 = omega arith in (
+    let done = steps l s r id me at busy (link_word i) x (StoreLink i j) Done u tt played words refl refl refl refl in
+    let word : i ≡ element_linked_at (link_word i) = omega arith in (
       (noted (StoreLink i j) Done me).0,
       keeps,
       tt,
       done.0,
       subst (λ (k : ℕ). Tells (StoreLink k j) Done me (noted (StoreLink i j) Done me)) word done.1,
     )
+
+pub stores_link : (l : Limits) (slots id : ℕ) (me : Sat) (i k x : ℕ) → k ≡ link_word i →
+    0 < bag me.0.view.hand i → x ≤ l.population → Sits me → Owned me.0.limits me.0.view →
+    Allows (Ruled l) slots id me k (λ _. x) (λ _. stored_link (step slots k x 0 none) me x)
+stores_link l slots id me i k x word hand small busy own =
+    subst (λ (j : ℕ). Allows (Ruled l) slots id me j (λ _. x) (λ _. stored_link (step slots j x 0 none) me x))
+    (sym word) (stores_own l slots id me i x hand small busy own)
 
 -- ---- the exchanges of the head
 

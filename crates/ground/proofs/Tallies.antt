@@ -24,7 +24,7 @@ use Rattle.step_core.specs.Table.{Free, Attach}
 use Rattle.step_core.proofs.Bags.{times-nil, below-le}
 use Rattle.step_core.proofs.StackSteps.{one_view}
 use Rattle.ground.specs.declared.known.Known.{Known}
-use Rattle.ground.specs.Layout.{pack, lines, word_on, rows_of, words_of}
+use Rattle.ground.specs.Layout.{pack, lines, word_on, rows_of, words_of, links_at, count_word, element_counted_at}
 use Rattle.ground.specs.Own.{Owned}
 use Rattle.ground.specs.Rule.{Slot, Sat, Ruled}
 use Rattle.ground.specs.Seats.{KnowsCount}
@@ -47,7 +47,7 @@ zero_inside l v i own h =
     (cases_lt i l.population)
 
 module _ (l : Limits) (s : St) (r : Ruled l s) (id : ℕ) (me : Sat) (at : get_elem? s.views id ≡ some me.0)
-    (busy : Sits me) (i k : ℕ) (word : k ≡ 16 + l.population + i) (inside : i < l.population) where
+    (busy : Sits me) (i k : ℕ) (word : k ≡ count_word l.population i) (inside : i < l.population) where
   mine : me.0.limits.population ≡ l.population
   mine = ap (λ (z : Limits). z.population) (my_limits l s r id me at busy)
 
@@ -57,11 +57,11 @@ module _ (l : Limits) (s : St) (r : Ruled l s) (id : ℕ) (me : Sat) (at : get_e
   in_pool : nat_lt i r.world.limits.population ≡ true
   in_pool = let p = pop in lt-ltb i r.world.limits.population (omega arith)
 
-  index : i ≡ k - (16 + me.0.limits.population)
+  index : i ≡ element_counted_at me.0.limits.population k
   index = let p = mine in omega arith
 
   -- the words behind the lines, and the counts behind the links
-  place : k - 16 ≡ l.population + i
+  place : k - links_at ≡ l.population + i
   place = omega arith
 
   behind : l.population + i - l.population ≡ i
@@ -80,7 +80,7 @@ module _ (l : Limits) (s : St) (r : Ruled l s) (id : ℕ) (me : Sat) (at : get_e
   count_read =
       read_at l s r id me at busy k
       ∙ (get_or-append_right (lines (pack r.world.head) r.world.length)
-      (rows_of r.world) 16 k 0 refl (omega arith)
+      (rows_of r.world) links_at k 0 refl (omega arith)
       ∙ (ap (λ (j : ℕ). slice_index (rows_of r.world) j) place
       ∙ (get_or-append_right r.world.links (tail_of r.world) l.population (l.population + i) 0 links
       (omega arith)
@@ -92,7 +92,7 @@ module _ (l : Limits) (s : St) (r : Ruled l s) (id : ℕ) (me : Sat) (at : get_e
       ++ (r.world.links ++ (set r.world.counts i x ++ map word_on r.world.desks))
   count_set x =
       set-append_right (lines (pack r.world.head) r.world.length)
-      (rows_of r.world) 16 k x refl (omega arith)
+      (rows_of r.world) links_at k x refl (omega arith)
       ∙ ap (λ (ys : List ℕ). lines (pack r.world.head) r.world.length ++ ys)
       (ap (λ (j : ℕ). set (rows_of r.world) j x) place
       ∙ (set-append_right r.world.links (tail_of r.world) l.population (l.population + i) x links
@@ -187,10 +187,10 @@ module _ (l : Limits) (s : St) (r : Ruled l s) (id : ℕ) (me : Sat) (at : get_e
   plays st p = row_played r.world id me.0.view st p (here l s r id me at busy) my_view
 
   -- what is told of the element is told of the word
-  by_word : (P : ℕ → Type 0) → P i → P (k - (16 + me.0.limits.population))
+  by_word : (P : ℕ → Type 0) → P i → P (element_counted_at me.0.limits.population k)
   by_word P = subst P index
 
-pub claims : (l : Limits) (slots id : ℕ) (me : Sat) (i k : ℕ) → k ≡ 16 + l.population + i →
+pub claims : (l : Limits) (slots id : ℕ) (me : Sat) (i k : ℕ) → k ≡ count_word l.population i →
     i < l.population → 0 < bag me.0.view.hand i → Sits me →
     Allows (Ruled l) slots id me k (λ n. n) (claim_tells (step slots k 0 0 none) me)
 claims l slots id me i k word inside hand busy s r _ at _ =
@@ -219,7 +219,7 @@ claims l slots id me i k word inside hand busy s r _ at _ =
     )
 
 pub soles : (l : Limits) (slots id : ℕ) (me : Sat) (free : Bool) (i k : ℕ) →
-    k ≡ 16 + l.population + i → i < l.population → 0 < bag me.0.view.holds i → Sits me →
+    k ≡ count_word l.population i → i < l.population → 0 < bag me.0.view.holds i → Sits me →
     Allows (Ruled l) slots id me k (λ n. n) (sole_tells free (step slots k 0 0 none) me)
 soles l slots id me free i k word inside held busy s r _ at _ =
     let x : ℕ = slice_index s.words k in
@@ -286,7 +286,7 @@ soles l slots id me free i k word inside held busy s r _ at _ =
     (ap (λ (y : View). y.part) (sym same)) (ap (λ (y : View). y.work) (sym same)))
     (cases_Bool (free && (x == 1)))
 
-pub raises : (l : Limits) (slots id : ℕ) (me : Sat) (i k old new : ℕ) → k ≡ 16 + l.population + i →
+pub raises : (l : Limits) (slots id : ℕ) (me : Sat) (i k old new : ℕ) → k ≡ count_word l.population i →
     i < l.population → 0 < bag me.0.view.holds i → old < l.ref_limit → new ≡ old + 1 →
     Sits me →
     Allows (Ruled l) slots id me k (λ x. either (eqb x old) new x)
@@ -315,14 +315,14 @@ raises l slots id me i k old new word inside held limited next busy s r _ at _ =
     (lt-ltb 0 (bag v.holds i) held) (lt-ltb old w.limits.ref_limit low))
     ∙ ap (λ (q : Play). Some q) e) in
     let by : (o : Outcome) → Tells (Raise i old) o me (noted (Raise i old) o me) →
-    Tells (Raise (k - (16 + me.0.limits.population)) old) o me (noted (Raise i old) o me) = λ o.
+    Tells (Raise (element_counted_at me.0.limits.population k) old) o me (noted (Raise i old) o me) = λ o.
     by_word l s r id me at busy i k word inside
     (λ (j : ℕ). Tells (Raise j old) o me (noted (Raise i old) o me)) in
     let G : Bool → Type 0 = λ b.
     (n : Known) × (a : Act Slot) × Valid s.homes me.1 a
     × Ruled l (stepped s k (either b new x) id me.1 n a)
-    × (Tells (Raise (k - (16 + me.0.limits.population)) old) (exchanged b x) me (n, carried_after me.1 a)
-    × KnowsCount me.0.limits v (k - (16 + me.0.limits.population)) x) in
+    × (Tells (Raise (element_counted_at me.0.limits.population k) old) (exchanged b x) me (n, carried_after me.1 a)
+    × KnowsCount me.0.limits v (element_counted_at me.0.limits.population k) x) in
     dite (ℕ_discrete x old)
     (λ hit.
     let words : set (words_of w) k new ≡ words_of u =
@@ -344,7 +344,7 @@ raises l slots id me i k old new word inside held limited next busy s r _ at _ =
     subst G (sym (ne_eqb x old miss))
     ((noted (Raise i old) (Lost x) me).0, keeps, tt, done.0, (by (Lost x) done.1, known)))
 
-pub lowers : (l : Limits) (slots id : ℕ) (me : Sat) (i k : ℕ) → k ≡ 16 + l.population + i →
+pub lowers : (l : Limits) (slots id : ℕ) (me : Sat) (i k : ℕ) → k ≡ count_word l.population i →
     i < l.population → 0 < bag me.0.view.holds i → Sits me →
     Allows (Ruled l) slots id me k (λ n. (n + (2 ^ 64 - 1)) % 2 ^ 64)
     (lower_tells (step slots k 1 0 none) me)
@@ -384,7 +384,7 @@ lowers l slots id me i k word inside held busy s r _ at small =
       ),
     )
 
-pub resets : (l : Limits) (slots id : ℕ) (me : Sat) (i k : ℕ) → k ≡ 16 + l.population + i →
+pub resets : (l : Limits) (slots id : ℕ) (me : Sat) (i k : ℕ) → k ≡ count_word l.population i →
     i < l.population → 0 < bag me.0.view.zeros i → Sits me →
     Allows (Ruled l) slots id me k (λ _. 1) (λ _. reset_tells (step slots k 1 0 none) me 1)
 resets l slots id me i k word inside zero busy s r _ at _ =

@@ -1,5 +1,5 @@
 -- What each step on a desk's word tells its seat. The desk is the one whose word it is.
-use Rattle.std.specs.Prelude.{◌≡◌, ℕ, ◌+◌, ◌-◌, ◌*◌, ◌==◌, Bool, true, false, List, [], ◌∷◌, ◌++◌, Some, None}
+use Rattle.std.specs.Prelude.{◌≡◌, ℕ, ◌==◌, Bool, true, false, List, [], ◌∷◌, ◌++◌, Some, None}
 use Rattle.atomic_table.specs.Table as table
 use Rattle.commons.specs.declared.packet.Seg.{Seg}
 use Rattle.step_core.specs.declared.step.Step.{Step}
@@ -9,12 +9,13 @@ use Rattle.step_core.specs.declared.step.Outcome.TheVariants.{Won, Lost, Done, F
 use Rattle.step_core.specs.declared.view.View.{View}
 use Rattle.step_core.specs.Sights.{view_after, working, opened}
 use Rattle.ground.specs.declared.known.Known.{Known}
+use Rattle.ground.specs.Layout.{desk_standing_at}
 use Rattle.ground.specs.Own.{Owned, AtDesk}
 use Rattle.ground.specs.Rule.{Slot, Sat}
 use Rattle.ground.specs.Tells.{Tells}
 
 abbrev pub desk_by : table.Step Slot → Known → ℕ
-desk_by st n = st.word - (16 + 2 * n.limits.population)
+desk_by st n = desk_standing_at n.limits.population st.word
 
 -- the seat after a step that moved a slot
 abbrev pub moved : Step → Outcome → View → List (ℕ × Slot) → Sat → Sat

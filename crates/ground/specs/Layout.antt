@@ -1,7 +1,7 @@
 -- Where each word of a pool stands. Every get and put of every worker exchanges the head and the length. So each of the
--- two has a cache line of 8 words for itself, and the links and counts begin behind both: an exchange of the one takes
--- away neither the other nor an element's words from a worker that reads them.
-use Rattle.std.specs.Prelude.{ℕ, ◌+◌, ◌*◌, ◌/◌, ◌%◌, List, [], ◌∷◌, ◌++◌, map}
+-- two has a cache line for itself, and the links and counts begin behind both: an exchange of the one takes away
+-- neither the other nor an element's words from a worker that reads them.
+use Rattle.std.specs.Prelude.{ℕ, ◌+◌, ◌-◌, ◌*◌, ◌/◌, ◌%◌, List, ◌∷◌, ◌++◌, map, replicate}
 use Rattle.step_core.specs.declared.view.Head.{Head}
 use Rattle.step_core.specs.declared.view.Desk.{Desk}
 use Rattle.step_core.specs.World.{World}
@@ -13,10 +13,24 @@ pack h = h.count * 65536 + h.top
 abbrev pub unpack : ℕ → Head
 unpack n = record { top = n % 65536; count = n / 65536 }
 
+-- how many words a cache line has
+abbrev pub line_words : ℕ
+line_words = 8
+
+-- where the length stands, and where the links begin; the head stands at 0
+abbrev pub length_word : ℕ
+length_word = line_words
+
+abbrev pub links_at : ℕ
+links_at = 2 * line_words
+
+-- a word with a line for itself
+abbrev pub line_of : ℕ → List ℕ
+line_of word = word ∷ replicate (line_words - 1) 0
+
 -- the words before the links: the head's line and the length's
 abbrev pub lines : ℕ → ℕ → List ℕ
-lines head length =
-    head ∷ 0 ∷ 0 ∷ 0 ∷ 0 ∷ 0 ∷ 0 ∷ 0 ∷ length ∷ 0 ∷ 0 ∷ 0 ∷ 0 ∷ 0 ∷ 0 ∷ 0 ∷ []
+lines head length = line_of head ++ line_of length
 
 -- then a link for each element, a count for each, and a word for each desk
 abbrev pub words_with : ℕ → ℕ → List ℕ → List ℕ → List ℕ → List ℕ
@@ -34,14 +48,24 @@ words_of w = words_with (pack w.head) w.length w.links w.counts (map word_on w.d
 
 -- the index of an element's link, of its count, and of a desk's word
 abbrev pub link_word : ℕ → ℕ
-link_word i = 16 + i
+link_word i = links_at + i
 
 abbrev pub count_word : ℕ → ℕ → ℕ
-count_word population i = 16 + population + i
+count_word population i = links_at + population + i
 
 abbrev pub desk_word : ℕ → ℕ → ℕ
-desk_word population d = 16 + 2 * population + d
+desk_word population d = links_at + 2 * population + d
+
+-- the element whose link the word at this index is, the one whose count it is, and the desk whose word it is
+abbrev pub element_linked_at : ℕ → ℕ
+element_linked_at word = word - links_at
+
+abbrev pub element_counted_at : ℕ → ℕ → ℕ
+element_counted_at population word = word - (links_at + population)
+
+abbrev pub desk_standing_at : ℕ → ℕ → ℕ
+desk_standing_at population word = word - (links_at + 2 * population)
 
 -- how many words there are
 abbrev pub word_count : ℕ → ℕ → ℕ
-word_count population desks = 16 + 2 * population + desks
+word_count population desks = links_at + 2 * population + desks

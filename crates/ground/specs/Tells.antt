@@ -1,5 +1,5 @@
 -- What each step tells its seat.
-use Rattle.std.specs.Prelude.{◌≡◌, ◌≢◌, ℕ, ◌+◌, ◌-◌, ◌%◌, ◌<◌, ◌≤◌, ◌==◌, Bool, true, false, List, [], ◌∷◌, ◌++◌, None}
+use Rattle.std.specs.Prelude.{◌≡◌, ◌≢◌, ℕ, ◌-◌, ◌%◌, ◌<◌, ◌≤◌, ◌==◌, Bool, true, false, List, [], ◌∷◌, ◌++◌, None}
 use Rattle.atomic_table.specs.Table as table
 use Rattle.commons.specs.Bag.{bag}
 use Rattle.step_core.specs.declared.step.Step.{Step}
@@ -8,7 +8,7 @@ use Rattle.step_core.specs.declared.step.Outcome.{Outcome}
 use Rattle.step_core.specs.declared.step.Outcome.TheVariants.{Value, HeadIs, Won, Got, Lost, LostTo, Done}
 use Rattle.step_core.specs.Sights.{view_after}
 use Rattle.ground.specs.declared.known.Known.{Known}
-use Rattle.ground.specs.Layout.{unpack}
+use Rattle.ground.specs.Layout.{unpack, element_linked_at, element_counted_at}
 use Rattle.ground.specs.Own.{Owned, AtDesk}
 use Rattle.ground.specs.Rule.{Slot, Sat}
 use Rattle.ground.specs.Seats.{KnowsLength, KnowsEnd, KnowsCount, front_of, count_of, element_of}
@@ -74,8 +74,8 @@ loaded_head st m found m' =
 
 abbrev pub loaded_link : table.Step Slot → Sat → ℕ → Sat → Type 0
 loaded_link st m found m' =
-    Tells (LoadLink (st.word - 16)) (Value found) m m' × (found ≤ m.0.limits.population)
-    × KnowsEnd m.0.limits (view_after None (LoadLink (st.word - 16)) (Value found) m.0.view)
+    Tells (LoadLink (element_linked_at st.word)) (Value found) m m' × (found ≤ m.0.limits.population)
+    × KnowsEnd m.0.limits (view_after None (LoadLink (element_linked_at st.word)) (Value found) m.0.view)
 
 abbrev pub cut_tells : table.Step Slot → Sat → ℕ → Sat → Type 0
 cut_tells st m found m' =
@@ -83,7 +83,7 @@ cut_tells st m found m' =
     × IsLater (found == st.first) m.0 found × IsShared (found == st.first) m.0
 
 abbrev pub stored_link : table.Step Slot → Sat → ℕ → Sat → Type 0
-stored_link st m found m' = Tells (StoreLink (st.word - 16) (element_of st.first)) Done m m'
+stored_link st m found m' = Tells (StoreLink (element_linked_at st.word) (element_of st.first)) Done m m'
 
 abbrev pub push_tells : table.Step Slot → Sat → ℕ → Sat → Type 0
 push_tells st m found m' =
@@ -97,7 +97,7 @@ looked st m found m' = (m' ≡ m) × Owned m.0.limits m.0.view
 -- ---- the counts: the element is the one whose count the word is
 
 abbrev pub counted_by : table.Step Slot → Known → ℕ
-counted_by st n = st.word - (16 + n.limits.population)
+counted_by st n = element_counted_at n.limits.population st.word
 
 abbrev pub claim_tells : table.Step Slot → Sat → ℕ → Sat → Type 0
 claim_tells st m found m' = Tells (Claim (counted_by st m.0)) (Value found) m m' × (found ≡ 1)

@@ -9,6 +9,7 @@ ghost use Rattle.ground.specs.Closing.{IsKept, kept_on};
 ghost use Rattle.ground.specs.Opening.{opening_words};
 
 use crate::head::word_of;
+use crate::stack::{LINE_WORDS, LINKS};
 use atomic_table::Closed as Left;
 use commons::limits::Limits;
 use commons::packet::Packet;
@@ -23,15 +24,15 @@ pub(crate) fn opening_words(alloc: Global, limits: &Limits) -> Result<Vec<u64>, 
 {
     let mut words = Vec::with_capacity(
         alloc,
-        16 + 2 * limits.population as usize + limits.desks as usize,
+        LINKS + 2 * limits.population as usize + limits.desks as usize,
     )?;
     words.push(word_of(Head {
         top: 1,
         count: limits.start_count,
     }))?;
-    push_many(&mut words, 0, 7)?;
+    push_many(&mut words, 0, LINE_WORDS as u64 - 1)?;
     words.push(limits.population)?;
-    push_many(&mut words, 0, 7)?;
+    push_many(&mut words, 0, LINE_WORDS as u64 - 1)?;
     push_links(&mut words, limits.population)?;
     push_many(&mut words, 1, limits.population)?;
     push_many(&mut words, 0, limits.desks)?;

@@ -7,6 +7,7 @@ ghost use Rattle.commons.specs.Calls.{spent};
 ghost use Rattle.step_core.specs.declared.step.Step.TheVariants.{LoadLength, Reserve, Add, LoadHead, LoadLink, Cut, StoreLink, Push};
 ghost use Rattle.step_core.specs.declared.step.Outcome.TheVariants.{Value, HeadIs, Done};
 ghost use Rattle.step_core.specs.Sights.{walks_to, MayCut, MayPush};
+ghost use Rattle.ground.specs.Layout.{link_word};
 ghost use Rattle.ground.specs.Seats.{IsOf, Steps, outcome_of, cut_outcome, push_outcome, front_of, element_of, KnowsLength, KnowsEnd};
 
 use crate::head::{head_of, word_of};
@@ -15,12 +16,22 @@ use crate::pool::Ground;
 use crate::seat::GroundSeat;
 use step_core::view::Head;
 
-/// Where the words stand: the head and the length each on a cache line of 64 bytes, then the links.
+/// How many words a cache line of 64 bytes has.
+pub(crate) const LINE_WORDS: usize = 8;
+
+/// Where the words stand: the head and the length each on a line, then the links.
 pub(crate) const HEAD: usize = 0;
 
-pub(crate) const LENGTH: usize = 8;
+pub(crate) const LENGTH: usize = LINE_WORDS;
 
-pub(crate) const LINKS: usize = 16;
+pub(crate) const LINKS: usize = 2 * LINE_WORDS;
+
+/// Where the link of an element stands: behind the lines.
+fn link_word(element: u32) -> usize
+    ensures { result ≡ link_word element }
+{
+    LINKS + element as usize
+}
 
 impl Ground {
     /// Reads the length word: how many elements of the common list nobody has reserved. A seat of every part learns
@@ -90,7 +101,7 @@ impl Ground {
         seat.owned();
         self.table
             .shared
-            .load::<LoadsLink>(&mut seat.seat, LINKS + element as usize) as u32
+            .load::<LoadsLink>(&mut seat.seat, link_word(element)) as u32
     }
 
     /// Takes the elements that the seat has walked and reserved: swings the head from the one that was read to what
@@ -130,7 +141,7 @@ impl Ground {
         seat.owned();
         self.table
             .shared
-            .store::<StoresLink>(&mut seat.seat, LINKS + element as usize, u64::from(link));
+            .store::<StoresLink>(&mut seat.seat, link_word(element), u64::from(link));
     }
 
     /// Puts the chain that the seat has linked: swings the head from the one that was read to the chain's first

@@ -1,6 +1,7 @@
 use Rattle.std.proofs.Common.{◌≡◌, ◌+◌, ◌*◌, ◌∙◌, List, drop, length, sym, ap, subst, arith}
 use Rattle.std.specs.Slots.{slots_items}
 use Rattle.commons.specs.declared.limits.Limits.{Limits}
+use Rattle.ground.specs.Layout.{links_at}
 use Rattle.ground.specs.Closing.{LeftOf, IsKept}
 use Rattle.ground.specs.Rule.{Slot}
 use Rattle.ground.specs.Seats.{Grounded, Seated}
@@ -41,5 +42,5 @@ returns-clause-closed c =
     (ap (λ (xs : List Slot). length xs) c.new-3.ensures
     ∙ (c.read_desks.ensures.count ∙ (c.close_with-left.ensures.counts.1 ∙ c.self.invariant.3)))
     (subst (λ (xs : List Slot).
-    IsKept (drop (16 + 2 * c.self.inside.limits.population) (slots_items c.close_with-left.result.words))
+    IsKept (drop (links_at + 2 * c.self.inside.limits.population) (slots_items c.close_with-left.result.words))
     (slots_items c.close_with-left.result.slots) xs) (sym c.new-3.ensures) c.read_desks.ensures.desks))

@@ -19,8 +19,9 @@ load-requires c =
     ap (λ (z : Limits). z.population) c.requires.of.limits in
     let here : c.self.inside.limits.population ≡ c.args.self.now.limits.population =
     ap (λ (z : Grounded). z.limits.population) c.self.view_is in
-    let words = c.self.invariant.0 in (
+    let words = c.self.invariant.0 in
+    let at = c.link_word.ensures in (
       search rules,
       omega arith,
-      loads_link _ _ _ _ c.args.element may (c.seat.invariant.0.busy, c.seat.invariant.1) c.seat.invariant.0,
+      loads_link _ _ _ _ c.args.element _ at may (c.seat.invariant.0.busy, c.seat.invariant.1) c.seat.invariant.0,
     )

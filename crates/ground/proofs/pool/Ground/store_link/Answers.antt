@@ -23,9 +23,10 @@ store-requires c =
     ap (λ (z : Grounded). z.limits.population) c.self.view_is in
     let key : c.self.inside.table.shared.key.population ≡ c.self.inside.limits.population =
     ap (λ (z : Limits). z.population) c.self.invariant.2 in
-    let words = c.self.invariant.0 in (
+    let words = c.self.invariant.0 in
+    let at = c.link_word.ensures in (
       search rules,
       omega arith,
-      stores_link _ _ _ _ c.args.element _ hand (omega arith) (c.seat.invariant.0.busy, c.seat.invariant.1)
+      stores_link _ _ _ _ c.args.element _ _ at hand (omega arith) (c.seat.invariant.0.busy, c.seat.invariant.1)
           c.seat.invariant.0,
     )
