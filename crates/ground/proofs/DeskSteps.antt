@@ -40,7 +40,7 @@ use Rattle.ground.specs.Rule.{Slot, Sat, Ruled, home_by}
 use Rattle.ground.specs.Tells.{noted, Tells}
 use Rattle.ground.proofs.Desking.{set_twice, desked, desk_inside, by_desk, desk_read, desk_kept, desk_home, ruled}
 use Rattle.ground.proofs.Playing.{St, Sits, row_played, law, here, is as is_view, busy_here, my_limits, law_after, owned, steps}
-use Rattle.ground.proofs.Stepping.{played_when, views_kept}
+use Rattle.ground.proofs.Stepping.{played_when}
 use Rattle.ground.proofs.Tallies.{held_inside}
 
 phase_here : (d : ℕ) (ph : Phase) → phase_at d (at_desk d ph) ≡ Some ph
@@ -114,7 +114,7 @@ holds_desk l slots id me d k word inside idle busy s r _ at _ =
     (ne_eqb y.word 0 (λ same. miss (read ∙ same))))
     ∙ ap (λ (n : ℕ). Some (Lost n, w)) (sym read) in
     let done = steps l s r id me at busy k x (Hold d) (Lost x) w tt played
-    (desk_kept l s r id me at busy d k word inside) (views_kept l s r id me at busy) refl refl refl in
+    (desk_kept l s r id me at busy d k word inside) refl refl refl in
     subst G (sym (ne_eqb x 0 miss)) (
       (noted (Hold d) (Lost x) me).0,
       keeps,
@@ -184,7 +184,7 @@ seizes_desk l slots id me d k word inside idle busy s r _ at _ =
     (ne_eqb y.word 2 (λ same. miss (read ∙ same))))
     ∙ ap (λ (n : ℕ). Some (Lost n, w)) (sym read) in
     let done = steps l s r id me at busy k x (Seize d) (Lost x) w tt played
-    (desk_kept l s r id me at busy d k word inside) (views_kept l s r id me at busy) refl refl refl in
+    (desk_kept l s r id me at busy d k word inside) refl refl refl in
     subst G (sym (ne_eqb x 2 miss)) (
       (noted (Seize d) (Lost x) me).0,
       keeps,

@@ -7,7 +7,7 @@ use mathlib.Core.Option.{some, some-ne-none, some-injective}
 use lib.ListN.{get_elem?}
 use lib.Seq.{map-set}
 use Rattle.atomic_table.specs.Table.{State, keeps, stepped}
-use Rattle.atomic_table.proofs.Lists.{at_set, at_map, set_again}
+use Rattle.atomic_table.proofs.Lists.{at_set, at_map}
 use Rattle.commons.specs.Bounds.{IsPool}
 use Rattle.commons.specs.declared.limits.Limits.{Limits}
 use Rattle.step_core.specs.declared.view.Head.{Head}
@@ -19,9 +19,10 @@ use Rattle.step_core.specs.declared.step.Outcome.{Outcome}
 use Rattle.step_core.specs.World.{World, empty_view, view_at, view_of}
 use Rattle.step_core.specs.Law.{Lawful}
 use Rattle.step_core.specs.Headers.{HeaderLaw, OpensOwn}
+use Rattle.step_core.specs.Schedules.{slot_at}
 use Rattle.step_core.specs.Sights.{view_after}
 use Rattle.step_core.specs.Steps.{Play, in_range, row, turn, played, play}
-use Rattle.step_core.proofs.Theorem.{keeps_law, changes_little, same_population}
+use Rattle.step_core.proofs.Theorem.{keeps_law, changes_little, views_after, same_population}
 use Rattle.step_core.proofs.HeaderWalks.{keeps_headers}
 use Rattle.ground.specs.declared.known.Known.{Known}
 use Rattle.ground.specs.Layout.{pack, unpack, lines, word_on, rows_of, words_of, length_word, links_at, link_word, element_linked_at}
@@ -101,9 +102,6 @@ module _ (l : Limits) (s : St) (r : Ruled l s) (id : ℕ) (me : Sat) (at : get_e
   pub my_limits : me.0.limits ≡ l
   my_limits = r.told id me.0 at busy.0
 
-  pub same_views : set r.world.views id me.0.view ≡ r.world.views
-  same_views = set_again r.world.views id me.0.view found_view
-
   -- what the rule says of the seat's view by itself
   pub owned : Owned me.0.limits me.0.view
   owned =
@@ -132,6 +130,16 @@ module _ (l : Limits) (s : St) (r : Ruled l s) (id : ℕ) (me : Sat) (at : get_e
             ∙ get_or-set_same r.world.views id v (empty_view 0) here,
       )
 
+  -- by the law the view is as told; where the step makes nothing of a slot, without one
+  pub told_views : (st : Step) (o : Outcome) (u : World) →
+      play r.world (suc id) st ≡ Some (o, u) →
+      view_after (slot_at r.world.desks st) st o me.0.view ≡ view_after None st o me.0.view →
+      u.views ≡ set r.world.views id (view_after None st o me.0.view)
+  told_views st o u e bare =
+      (views_after r.world id st o u e).1
+      ∙ ap (λ (v : View). set r.world.views id v)
+      (ap (λ (v : View). view_after (slot_at r.world.desks st) st o v) is ∙ bare)
+
   -- the desks are as many as the limits say
   pub counted_desks : (u : World) → u.desks ≡ r.world.desks → u.limits ≡ l →
       length u.desks ≡ u.limits.desks
@@ -143,17 +151,20 @@ module _ (l : Limits) (s : St) (r : Ruled l s) (id : ℕ) (me : Sat) (at : get_e
   pub steps : (i x : ℕ) (st : Step) (o : Outcome) (u : World) →
       OpensOwn (view_at r.world.views id) st → play r.world (suc id) st ≡ Some (o, u) →
       set (words_of r.world) i x ≡ words_of u →
-      u.views ≡ set r.world.views id (view_after None st o me.0.view) → u.desks ≡ r.world.desks →
-      (view_after None st o me.0.view).part ≡ me.0.view.part →
-      (view_after None st o me.0.view).work ≡ me.0.view.work
+      view_after (slot_at r.world.desks st) st o me.0.view ≡ view_after None st o me.0.view →
+      u.desks ≡ r.world.desks → (view_after None st o me.0.view).work ≡ me.0.view.work
       → Ruled l (stepped s i x id me.1 (noted st o me).0 keeps) × Tells st o me (noted st o me)
-  steps i x st o u own e words views desks part work =
+  steps i x st o u own e words bare desks work =
       let v = view_after None st o me.0.view in
       let kept : Lawful u = law_after st o u e in
       let headers : HeaderLaw u =
       keeps_headers r.world (suc id) st o u law r.counts.headers busy_here own e in
       let limits : u.limits ≡ l = limits_after st o u e in
+      let views = told_views st o u e bare in
       let there = view_there_after u v views in
+      let part : v.part ≡ me.0.view.part =
+      ap (λ (y : View). y.part) (sym there.1)
+      ∙ ((changes_little r.world (suc id) st o u e).part ∙ ap (λ (y : View). y.part) is) in
       let pool = subst IsPool (sym limits) r.pool in (
         record {
           world = u;

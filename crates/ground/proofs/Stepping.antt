@@ -21,7 +21,8 @@ use Rattle.step_core.specs.declared.step.Outcome.{Outcome}
 use Rattle.step_core.specs.declared.step.Outcome.TheVariants.{Value, HeadIs, Won, Got, Lost, LostTo, Done}
 use Rattle.step_core.specs.World.{World, view_at, credits, link_in}
 use Rattle.step_core.specs.Links.{link_value, first_value}
-use Rattle.step_core.specs.Sights.{view_after, reserved as more_credit, given_back, looking_at, walks_to, walked_on, can_cut, MayCut, cut_view, cut_look, seen_by, lost_look, chained, can_push, MayPush, push_view, lost_push}
+use Rattle.step_core.specs.Schedules.{slot_at}
+use Rattle.step_core.specs.Sights.{view_after, reserved as more_credit, given_back, looking_at, walks_to, can_cut, MayCut, cut_view, cut_look, seen_by, lost_look, chained, can_push, MayPush, push_view, lost_push}
 use Rattle.step_core.specs.Steps.{Play, when, given, quiet, knows, next_head, same_head, reserve, load_head, load_link, cut, push, play}
 use Rattle.step_core.specs.Law.{LookRule}
 use Rattle.step_core.specs.Table.{Get, Put}
@@ -33,7 +34,7 @@ use Rattle.ground.specs.Own.{Owned}
 use Rattle.ground.specs.Rule.{Slot, Sat, Ruled}
 use Rattle.ground.specs.Seats.{KnowsLength, KnowsEnd, front_of, count_of, element_of}
 use Rattle.ground.specs.Tells.{noted, Tells, exchanged, cut_found, push_found, IsLater, IsShared, loaded_length, reserved, added, loaded_head, loaded_link, cut_tells, stored_link, push_tells}
-use Rattle.ground.proofs.Playing.{St, Sits, tail_of, unpack_pack, row_played, law, here, is as is_view, busy_here, my_limits, same_views, law_after, limits_after, view_there_after, steps, read_at, read_length, read_head, head_is, link_at, link_set}
+use Rattle.ground.proofs.Playing.{St, Sits, tail_of, unpack_pack, row_played, law, here, is as is_view, busy_here, my_limits, law_after, limits_after, view_there_after, told_views, steps, read_at, read_length, read_head, head_is, link_at, link_set}
 use Rattle.ground.proofs.Alone.{knows as knows_length, knows_end}
 
 -- ---- the length
@@ -54,10 +55,6 @@ module _ (l : Limits) (s : St) (r : Ruled l s) (id : ℕ) (me : Sat) (at : get_e
       ap (λ (n : ℕ). lines (pack r.world.head) n ++ rows_of r.world)
       (read_length l s r id me at busy)
 
-  -- the views may be written as they are
-  pub views_kept : r.world.views ≡ set r.world.views id me.0.view
-  views_kept = sym (same_views l s r id me at busy)
-
 pub loads_length : (l : Limits) (slots id : ℕ) (me : Sat) → Sits me →
     Allows (Ruled l) slots id me length_word (λ n. n) (loaded_length (step slots length_word 0 0 none) me)
 loads_length l slots id me busy s r _ at _ =
@@ -69,7 +66,7 @@ loads_length l slots id me busy s r _ at _ =
     row_played w id me.0.view LoadLength p (here l s r id me at busy) (is_view l s r id me at busy) refl
     refl ∙ ap (λ (n : ℕ). Some (Value n, w)) (sym e) in
     let done = steps l s r id me at busy length_word x LoadLength (Value x) w tt played
-    (length_kept l s r id me at busy) (views_kept l s r id me at busy) refl refl refl in
+    (length_kept l s r id me at busy) refl refl refl in
     let few = length_is_bounded w (law l s r id me at busy) in
     let pop = ap (λ (k : Limits). k.population) r.limits in
     let mine = ap (λ (k : Limits). k.population) (my_limits l s r id me at busy) in (
@@ -113,7 +110,7 @@ reserves l slots id me old new less busy s r _ at _ =
     let back : old - n ≡ new = omega arith in
     let done = steps l s r id me at busy length_word new (Reserve old n) Won won tt
     (tried Won won true (eq-eqb w.length old (sym e ∙ hit)) refl)
-    (ap (λ (m : ℕ). lines (pack w.head) m ++ rows_of w) (sym back)) refl refl refl refl in
+    (ap (λ (m : ℕ). lines (pack w.head) m ++ rows_of w) (sym back)) refl refl refl in
     subst G (sym (eq-eqb x old hit))
     ((noted (Reserve old n) Won me).0, keeps, tt, done.0, (done.1, known)))
     (λ miss.
@@ -121,7 +118,7 @@ reserves l slots id me old new less busy s r _ at _ =
     tried (Lost w.length) w false (ne_eqb w.length old (λ same. miss (e ∙ same))) refl
     ∙ ap (λ (m : ℕ). Some (Lost m, w)) (sym e) in
     let done = steps l s r id me at busy length_word x (Reserve old n) (Lost x) w tt lost
-    (length_kept l s r id me at busy) (views_kept l s r id me at busy) refl refl refl in
+    (length_kept l s r id me at busy) refl refl refl in
     subst G (sym (ne_eqb x old miss))
     ((noted (Reserve old n) (Lost x) me).0, keeps, tt, done.0, (done.1, known)))
 
@@ -146,7 +143,7 @@ adds l slots id me n some_of within busy s r _ at _ =
     row_played w id v (Add n) (quiet Done u) (here l s r id me at busy) (is_view l s r id me at busy) refl
     (played_when (nat_le 1 n && nat_le n v.credit) (quiet Done u) asked) in
     let done = steps l s r id me at busy length_word ((x + n) % 18446744073709551616) (Add n) Done u tt played
-    (ap (λ (m : ℕ). lines (pack w.head) m ++ rows_of w) no_wrap) refl refl refl refl in
+    (ap (λ (m : ℕ). lines (pack w.head) m ++ rows_of w) no_wrap) refl refl refl in
     ((noted (Add n) Done me).0, keeps, tt, done.0, done.1)
 
 -- ---- the head
@@ -174,10 +171,12 @@ module _ (l : Limits) (s : St) (r : Ruled l s) (id : ℕ) (me : Sat) (at : get_e
 
   -- what the seat of every part knows once its step is played
   end_after : (st : Step) (o : Outcome) (u : World) → play r.world (suc id) st ≡ Some (o, u) →
-      u.views ≡ set r.world.views id (view_after None st o me.0.view) →
+      view_after (slot_at r.world.desks st) st o me.0.view ≡ view_after None st o me.0.view →
       KnowsEnd me.0.limits (view_after None st o me.0.view)
-  end_after st o u e views =
-      let there = view_there_after l s r id me at busy u (view_after None st o me.0.view) views in
+  end_after st o u e bare =
+      let there =
+      view_there_after l s r id me at busy u (view_after None st o me.0.view)
+      (told_views l s r id me at busy st o u e bare) in
       subst (λ (k : Limits). KnowsEnd k (view_after None st o me.0.view))
       (sym (my_limits l s r id me at busy))
       (knows_end u (law_after l s r id me at busy st o u e) l
@@ -195,7 +194,7 @@ loads_head l slots id me busy s r _ at _ =
     row_played w id v LoadHead (load_head w id v) (here l s r id me at busy) (is_view l s r id me at busy) refl refl
     ∙ ap (λ (h : Head). Some (HeadIs h, knows w id (looking_at v h))) (sym found) in
     let done = steps l s r id me at busy 0 x LoadHead (HeadIs (unpack x)) u tt played
-    (head_kept l s r id me at busy) refl refl refl refl in
+    (head_kept l s r id me at busy) refl refl refl in
     let seen : (view_at w.views id).seen ≤ w.head.count = r.stack.looks.seen id in
     let mine : v.seen ≤ w.head.count = subst (λ (y : View). y.seen ≤ w.head.count) (is_view l s r id me at busy) seen in (
       (noted LoadHead (HeadIs (unpack x)) me).0,
@@ -258,8 +257,6 @@ loads_own l slots id me i may busy own s r _ at _ =
     let e : x ≡ slice_index (words_of w) (link_word i) = read_at l s r id me at busy (link_word i) in
     let link : x ≡ link_in w.links i = e ∙ link_at l s r id me at busy i inside in
     let on : ℕ → View = λ n. record v { look = Some (record { head = k.head; front = k.front ++ i ∷ []; next = n }) } in
-    let same : (n : ℕ) → on n ≡ view_after None (LoadLink i) (Value n) v = λ n.
-    ap (λ (o : Option Look). record v { look = walked_on o i n }) (sym found.1) in
     let u : World = knows w id (on x) in
     let played : play w (suc id) (LoadLink i) ≡ Some (Value x, u) =
     row_played w id v (LoadLink i) (load_link w id v i k) (here l s r id me at busy) (is_view l s r id me at busy)
@@ -269,11 +266,9 @@ loads_own l slots id me i may busy own s r _ at _ =
     ∙ ap (λ (n : ℕ). Some (Value n, knows w id (on n))) (sym link) in
     let kept : set (words_of w) (link_word i) x ≡ words_of w =
     ap (λ (n : ℕ). set (words_of w) (link_word i) n) e ∙ set-get_or (words_of w) (link_word i) 0 in
-    let views : u.views ≡ set w.views id (view_after None (LoadLink i) (Value x) v) =
-    ap (λ (y : View). set w.views id y) (same x) in
-    let done = steps l s r id me at busy (link_word i) x (LoadLink i) (Value x) u tt played kept views refl refl refl in
+    let done = steps l s r id me at busy (link_word i) x (LoadLink i) (Value x) u tt played kept refl refl refl in
     let range = r.stack.links_in_range i in
-    let ends = end_after l s r id me at busy (LoadLink i) (Value x) u played views in
+    let ends = end_after l s r id me at busy (LoadLink i) (Value x) u played refl in
     let word : i ≡ element_linked_at (link_word i) = omega arith in (
       (noted (LoadLink i) (Value x) me).0,
       keeps,
@@ -321,7 +316,7 @@ stores_own l slots id me i x hand small busy own s r _ at _ =
     let words : set (words_of w) (link_word i) x ≡ words_of u =
     link_set l s r id me at busy i x inside
     ∙ ap (λ (n : ℕ). lines (pack w.head) w.length ++ (set w.links i n ++ tail_of w)) (sym value) in
-    let done = steps l s r id me at busy (link_word i) x (StoreLink i j) Done u tt played words refl refl refl refl in
+    let done = steps l s r id me at busy (link_word i) x (StoreLink i j) Done u tt played words refl refl refl in
     let word : i ≡ element_linked_at (link_word i) = omega arith in (
       (noted (StoreLink i j) Done me).0,
       keeps,
@@ -450,15 +445,11 @@ cuts l slots id me head next old new was becomes may busy s r _ at _ =
     (found_same l s r id me at busy k mine (hit ∙ expected)) in
     let played : play w (suc id) Cut ≡ Some (Got front, u) =
     asked won e ∙ ap (λ (xs : List ℕ). Some (Got xs, u)) (sym is_front) in
-    let views : u.views ≡ set w.views id (view_after None Cut (Got front) v) =
-    ap (λ (o : Option Look). set w.views id (cut_look v o)) (sym mine) in
-    let part : (view_after None Cut (Got front) v).part ≡ v.part =
-    ap (λ (o : Option Look). (cut_look v o).part) mine in
     let work : (view_after None Cut (Got front) v).work ≡ v.work =
     ap (λ (o : Option Look). (cut_look v o).work) mine in
     let words : set (words_of w) 0 new ≡ words_of u =
     ap (λ (n : ℕ). lines n w.length ++ rows_of w) written in
-    let done = steps l s r id me at busy 0 new Cut (Got front) u tt played words views refl part work in
+    let done = steps l s r id me at busy 0 new Cut (Got front) u tt played words refl refl work in
     subst G (sym (eq-eqb x old hit))
     ((noted Cut (Got front) me).0, keeps, tt, done.0, (done.1, tt, tt)))
     (λ miss.
@@ -476,7 +467,7 @@ cuts l slots id me head next old new was becomes may busy s r _ at _ =
     let played : play w (suc id) Cut ≡ Some (LostTo (unpack x), u) =
     asked lost e ∙ ap (λ (h : Head). Some (LostTo h, knows w id (lost_look v h.count))) (sym found) in
     let done = steps l s r id me at busy 0 x Cut (LostTo (unpack x)) u tt played
-    (head_kept l s r id me at busy) refl refl refl refl in
+    (head_kept l s r id me at busy) refl refl refl in
     subst G (sym (ne_eqb x old miss)) (
       (noted Cut (LostTo (unpack x)) me).0,
       keeps,
@@ -520,13 +511,10 @@ pushes l slots id me head first old new was becomes may busy s r _ at _ =
     ap (λ (b : Bool). if b then won else lost) (found_same l s r id me at busy k mine (hit ∙ expected)) in
     let same : push_view v c (k.head.count + 1) ≡ view_after None Push Won v =
     (λ i. push_chain_of v (sym mine i) (sym chain i)) in
-    let views : after.views ≡ set w.views id (view_after None Push Won v) =
-    ap (λ (u : View). set w.views id u) same in
-    let part : (view_after None Push Won v).part ≡ v.part = ap (λ (u : View). u.part) (sym same) in
     let work : (view_after None Push Won v).work ≡ v.work = ap (λ (u : View). u.work) (sym same) in
     let words : set (words_of w) 0 new ≡ words_of after =
     ap (λ (n : ℕ). lines n w.length ++ rows_of w) written in
-    let done = steps l s r id me at busy 0 new Push Won after tt (asked won e) words views refl part work in
+    let done = steps l s r id me at busy 0 new Push Won after tt (asked won e) words refl refl work in
     subst G (sym (eq-eqb x old hit))
     ((noted Push Won me).0, keeps, tt, done.0, (done.1, tt, tt)))
     (λ miss.
@@ -538,7 +526,7 @@ pushes l slots id me head first old new was becomes may busy s r _ at _ =
     let played : play w (suc id) Push ≡ Some (LostTo (unpack x), u) =
     asked lost e ∙ ap (λ (h : Head). Some (LostTo h, knows w id (lost_push v h.count))) (sym found) in
     let done = steps l s r id me at busy 0 x Push (LostTo (unpack x)) u tt played
-    (head_kept l s r id me at busy) refl refl refl refl in
+    (head_kept l s r id me at busy) refl refl refl in
     subst G (sym (ne_eqb x old miss)) (
       (noted Push (LostTo (unpack x)) me).0,
       keeps,

@@ -30,7 +30,7 @@ use Rattle.ground.specs.Rule.{Slot, Sat, Ruled}
 use Rattle.ground.specs.Seats.{KnowsCount}
 use Rattle.ground.specs.Tells.{noted, Tells, exchanged, claim_tells, sole_tells, raise_tells, lower_tells, reset_tells}
 use Rattle.ground.proofs.Playing.{St, Sits, tail_of, row_played, law, here, is as is_view, my_limits, steps, read_at}
-use Rattle.ground.proofs.Stepping.{played_when, views_kept}
+use Rattle.ground.proofs.Stepping.{played_when}
 use Rattle.ground.proofs.Alone.{lying, may_lie, holds_known}
 
 -- an element that is held, or of count 0 for the moment, is one of the pool's
@@ -206,7 +206,7 @@ claims l slots id me i k word inside hand busy s r _ at _ =
     (played_when (nat_lt 0 (bag v.hand i)) (claim w id v i) (lt-ltb 0 (bag v.hand i) hand))
     ∙ ap (λ (n : ℕ). Some (Value n, u)) (sym read) in
     let done = steps l s r id me at busy k x (Claim i) (Value x) u tt played
-    (count_kept l s r id me at busy i k word inside) refl refl refl refl in (
+    (count_kept l s r id me at busy i k word inside) refl refl refl in (
       (noted (Claim i) (Value x) me).0,
       keeps,
       tt,
@@ -243,13 +243,11 @@ soles l slots id me free i k word inside held busy s r _ at _ =
     (n : Known) × (a : Act Slot) × Valid s.homes me.1 a × Ruled l (stepped s k x id me.1 n a)
     × sole_tells free (step slots k 0 0 none) me x (n, carried_after me.1 a) in
     let last : (u : World) → play w (suc id) (Sole i free) ≡ Some (Value x, u) →
-    u.views ≡ set w.views id (view_after None (Sole i free) (Value x) v) →
     words_of u ≡ words_of w → u.desks ≡ w.desks →
-    (view_after None (Sole i free) (Value x) v).part ≡ v.part →
     (view_after None (Sole i free) (Value x) v).work ≡ v.work → G =
-    λ u played views words desks part work.
+    λ u played words desks work.
     let done = steps l s r id me at busy k x (Sole i free) (Value x) u tt played (kept ∙ sym words)
-    views desks part work in (
+    refl desks work in (
       (noted (Sole i free) (Value x) me).0,
       keeps,
       tt,
@@ -274,16 +272,14 @@ soles l slots id me free i k word inside held busy s r _ at _ =
     last (knows w id (freed v i))
     (asked ends (ap (λ (b : Bool). if b then ends else stays) (test ∙ yes))
     ∙ ap (λ (n : ℕ). Some (Value n, knows w id (freed v i))) (sym one))
-    (ap (λ (y : View). set w.views id y) same) refl refl
-    (ap (λ (y : View). y.part) (sym same)) (ap (λ (y : View). y.work) (sym same)))
+    refl refl (ap (λ (y : View). y.work) (sym same)))
     (λ (no : (free && (x == 1)) ≡ false).
     let same : v ≡ (if free && (x == 1) then freed v i else v) =
     ap (λ (b : Bool). if b then freed v i else v) (sym no) in
     last w
     (asked stays (ap (λ (b : Bool). if b then ends else stays) (test ∙ no))
     ∙ ap (λ (n : ℕ). Some (Value n, w)) (sym read))
-    (views_kept l s r id me at busy ∙ ap (λ (y : View). set w.views id y) same) refl refl
-    (ap (λ (y : View). y.part) (sym same)) (ap (λ (y : View). y.work) (sym same)))
+    refl refl (ap (λ (y : View). y.work) (sym same)))
     (cases_Bool (free && (x == 1)))
 
 pub raises : (l : Limits) (slots id : ℕ) (me : Sat) (i k old new : ℕ) → k ≡ count_word l.population i →
@@ -331,7 +327,7 @@ raises l slots id me i k old new word inside held limited next busy s r _ at _ =
     let played : play w (suc id) (Raise i old) ≡ Some (Won, u) =
     asked won (ap (λ (b : Bool). if b then won else lost)
     (eq-eqb (slice_index w.counts i) old (sym read ∙ hit))) in
-    let done = steps l s r id me at busy k new (Raise i old) Won u tt played words refl refl refl refl in
+    let done = steps l s r id me at busy k new (Raise i old) Won u tt played words refl refl refl in
     subst G (sym (eq-eqb x old hit))
     ((noted (Raise i old) Won me).0, keeps, tt, done.0, (by Won done.1, known)))
     (λ miss.
@@ -340,7 +336,7 @@ raises l slots id me i k old new word inside held limited next busy s r _ at _ =
     (ne_eqb (slice_index w.counts i) old (λ same. miss (read ∙ same))))
     ∙ ap (λ (n : ℕ). Some (Lost n, w)) (sym read) in
     let done = steps l s r id me at busy k x (Raise i old) (Lost x) w tt played
-    (count_kept l s r id me at busy i k word inside) (views_kept l s r id me at busy) refl refl refl in
+    (count_kept l s r id me at busy i k word inside) refl refl refl in
     subst G (sym (ne_eqb x old miss))
     ((noted (Raise i old) (Lost x) me).0, keeps, tt, done.0, (by (Lost x) done.1, known)))
 
@@ -365,13 +361,11 @@ lowers l slots id me i k word inside held busy s r _ at small =
     (in_pool l s r id me at busy i k word inside)
     (played_when (nat_lt 0 (bag v.holds i)) (lower w id v i) (lt-ltb 0 (bag v.holds i) held))
     ∙ ap (λ (n : ℕ). Some (Value n, u)) (sym read) in
-    let views : u.views ≡ set w.views id (hold_ended v i (x == 1)) =
-    ap (λ (n : ℕ). set w.views id (hold_ended v i (n == 1))) (sym read) in
     let words : set (words_of w) k ((x + (18446744073709551616 - 1)) % 18446744073709551616) ≡ words_of u =
     ap (λ (n : ℕ). set (words_of w) k n) less
     ∙ count_set l s r id me at busy i k word inside (slice_index w.counts i - 1) in
     let done = steps l s r id me at busy k ((x + (18446744073709551616 - 1)) % 18446744073709551616)
-    (Lower i) (Value x) u tt played words views refl refl refl in (
+    (Lower i) (Value x) u tt played words refl refl refl in (
       (noted (Lower i) (Value x) me).0,
       keeps,
       tt,
@@ -396,7 +390,7 @@ resets l slots id me i k word inside zero busy s r _ at _ =
     (in_pool l s r id me at busy i k word inside)
     (played_when (nat_lt 0 (bag v.zeros i)) (reset w id v i) (lt-ltb 0 (bag v.zeros i) zero)) in
     let done = steps l s r id me at busy k 1 (Reset i) Done u tt played
-    (count_set l s r id me at busy i k word inside 1) refl refl refl refl in (
+    (count_set l s r id me at busy i k word inside 1) refl refl refl in (
       (noted (Reset i) Done me).0,
       keeps,
       tt,

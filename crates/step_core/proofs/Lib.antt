@@ -16,6 +16,7 @@ pub mod RowEvents
 pub mod Regroup
 pub mod RowNames
 pub mod RowChanges
+pub mod RowViews
 pub mod Theorem
 pub mod ElemLemmas
 pub mod Facts

@@ -1,22 +1,24 @@
 -- The theorem on steps.
-use Rattle.std.proofs.Common.{◌≡◌, ℕ, zero, suc, ◌<◌, true, Option, Some, None, length, refl, sym, ap, subst, ◌∙◌}
+use Rattle.std.proofs.Common.{◌≡◌, ℕ, zero, suc, ◌<◌, true, List, Option, Some, None, length, set, refl, sym, ap, subst, ◌∙◌, get_or-set_same}
 use Rattle.std.specs.Prelude.{IfSome, option_map, option_and_then, nat_lt}
 use Rattle.std.proofs.lemmas.Bool.{cond_both, ltb-true}
 use Rattle.std.proofs.lemmas.Option.{some_pair_parts}
-use Rattle.step_core.specs.World.{World, Limits, view_at, view_of}
+use Rattle.step_core.specs.World.{World, Limits, View, view_at, view_of, empty_view}
 use Rattle.step_core.specs.Law.{Lawful}
 use Rattle.step_core.specs.Table.{Table, IsTable, Place, Common, Hand, Held, IsPlace, Event, NamesBelow, worker_of}
 use Rattle.step_core.specs.Shows.{Shows, Standing, Stands, Happens}
 use Rattle.step_core.specs.Steps.{Step, Outcome, Play, row, turn, played, play, event_of, in_range}
 use Rattle.step_core.specs.Opening.{opening}
 use Rattle.step_core.specs.Changes.{ChangesOne}
-use Rattle.step_core.specs.Schedules.{OpensLawful, KeepsLaw, MakesItsEvent, ChangesLittle, LawfulShows}
+use Rattle.step_core.specs.Schedules.{OpensLawful, KeepsLaw, MakesItsEvent, ChangesLittle, MakesItsView, LawfulShows, slot_at}
+use Rattle.step_core.specs.Sights.{view_after}
 use Rattle.step_core.proofs.Rules.{FourLaws}
 use Rattle.step_core.proofs.Regroup.{four_of_eight, eight_of_four}
 use Rattle.step_core.proofs.Rows.{row_lawful}
 use Rattle.step_core.proofs.RowEvents.{Goes, MovesBy, row_goes}
 use Rattle.step_core.proofs.RowNames.{IsBy, row_by}
 use Rattle.step_core.proofs.RowChanges.{ChangesIn, row_changes}
+use Rattle.step_core.proofs.RowViews.{IsTold, row_told}
 use Rattle.step_core.proofs.OpeningLaw.{opening_lawful}
 use Rattle.step_core.proofs.Shows.{shows, shown_table}
 
@@ -67,6 +69,32 @@ changes_little w worker s o u e =
     let p = play_is w worker s o u e in
     let r = played_row ChangesIn w worker s p.0 (λ k is here inside. row_changes w k here s) p.1 in
     subst (ChangesOne worker w) p.3 (subst (λ (n : ℕ). ChangesOne n w p.0.after) (sym r.1) r.3.0)
+
+-- the views after a step, by what is told of it
+pub views_after : (w : World) (k : ℕ) (s : Step) (o : Outcome) (u : World) →
+    play w (suc k) s ≡ Some (o, u) →
+    (k < length w.views)
+    × (u.views ≡ set w.views k (view_after (slot_at w.desks s) s o (view_at w.views k)))
+views_after w k s o u e =
+    let p = play_is w (suc k) s o u e in
+    let r = played_row (IsTold s) w (suc k) s p.0 (λ j is here inside. row_told w j s) p.1 in
+    let T : ℕ → Outcome → List View → Type 0 = λ j x vs.
+    vs ≡ set w.views j (view_after (slot_at w.desks s) s x (view_at w.views j)) in
+    let same : r.0 ≡ k = cc (r.1) in (
+      subst (λ (j : ℕ). j < length w.views) same r.2,
+      subst (λ (j : ℕ). T j o u.views) same
+          (subst (λ (x : Outcome). T r.0 x u.views) p.2
+          (subst (λ (v : World). T r.0 p.0.outcome v.views) p.3 r.3)),
+    )
+
+pub makes_its_view : MakesItsView
+makes_its_view w zero s o u e = absurd (cc e)
+makes_its_view w (suc k) s o u e =
+    let after = views_after w k s o u e in (
+      ap (λ (vs : List View). view_at vs k) after.1
+          ∙ get_or-set_same w.views k (view_after (slot_at w.desks s) s o (view_at w.views k)) (empty_view 0) after.0,
+      (changes_little w (suc k) s o u e).others,
+    )
 
 -- a world shows nothing that is held by nobody
 is_place : (s : Standing) (p : Place) → Stands s p → IsPlace p

@@ -1,10 +1,11 @@
 -- Schedules: lists of steps, each by a worker.
-use Rattle.std.specs.Prelude.{◌≡◌, ℕ, ◌<◌, ◌≤◌, List, Some}
+use Rattle.std.specs.Prelude.{◌≡◌, ◌≢◌, ℕ, ◌<◌, ◌≤◌, List, Option, Some, None}
 use Rattle.step_core.specs.Table.{Table}
-use Rattle.step_core.specs.World.{World, Limits, view_of}
+use Rattle.step_core.specs.World.{World, Limits, Packet, Desk, view_of, desk_at}
 use Rattle.step_core.specs.Shows.{Shows, Happens}
 use Rattle.step_core.specs.Law.{Lawful}
-use Rattle.step_core.specs.Steps.{Step, Outcome, play, event_of}
+use Rattle.step_core.specs.Steps.{Step, Hold, PutIn, Open, Seize, TakeOut, Clear, Outcome, play, event_of}
+use Rattle.step_core.specs.Sights.{view_after}
 use Rattle.step_core.specs.Opening.{opening}
 use Rattle.step_core.specs.Changes.{ChangesOne}
 
@@ -34,6 +35,24 @@ abbrev pub ChangesLittle : Type 0
 ChangesLittle =
     (w : World) (worker : ℕ) (s : Step) (o : Outcome) (u : World) → play w worker s ≡ Some (o, u) →
     ChangesOne worker w u
+
+-- what stood in the slot of the desk that a step names; nothing for a step that names none
+abbrev pub slot_at : List Desk → Step → Option Packet
+slot_at desks (Hold d) = (desk_at desks d).slot
+slot_at desks (PutIn d p) = (desk_at desks d).slot
+slot_at desks (Open d) = (desk_at desks d).slot
+slot_at desks (Seize d) = (desk_at desks d).slot
+slot_at desks (TakeOut d) = (desk_at desks d).slot
+slot_at desks (Clear d) = (desk_at desks d).slot
+slot_at desks step = None
+
+-- a step makes of its worker's view what `view_after` tells, by the slot as it was before, and leaves every other
+-- worker's view
+abbrev pub MakesItsView : Type 0
+MakesItsView =
+    (w : World) (worker : ℕ) (s : Step) (o : Outcome) (u : World) → play w worker s ≡ Some (o, u)
+    → (view_of u.views worker ≡ view_after (slot_at w.desks s) s o (view_of w.views worker))
+    × ((other : ℕ) → other ≢ worker → view_of u.views other ≡ view_of w.views other)
 
 -- a lawful world shows a table
 abbrev pub LawfulShows : Type 0

@@ -1,5 +1,6 @@
--- What a step makes of the view of the worker that takes it. The rows of the steps cite it, and so may whoever plays the
--- same steps on words of its own.
+-- What a step makes of the view of the worker that takes it: the parts, which the rows of the steps cite, and one
+-- function of them all, `view_after`, which whoever plays the same steps on words of its own may cite. That the rows make
+-- just what it tells is a law (`MakesItsView`, Schedules.antt).
 use Rattle.std.specs.Prelude.{◌≡◌, ℕ, suc, ◌+◌, ◌-◌, ◌<◌, ◌≤◌, Bool, true, false, List, [], ◌∷◌, ◌++◌, Option, Some, None, IfSome, length, nat_lt, nat_le, ◌==◌, ◌&&◌, if◌then◌else◌}
 use Rattle.commons.specs.Bag.{bag}
 use Rattle.commons.specs.Calls.{spent}

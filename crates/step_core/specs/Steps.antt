@@ -1,5 +1,5 @@
 -- The 19 kinds of step, a row for each: its condition, its answer, what it changes, and its event.
-use Rattle.std.specs.Prelude.{ℕ, zero, suc, ◌+◌, ◌-◌, Bool, true, [], ◌∷◌, ◌++◌, Option, Some, None, is_none, option_map, option_and_then, length, slice_index, slice_set, nat_lt, nat_le, ◌==◌, ◌&&◌, if◌then◌else◌}
+use Rattle.std.specs.Prelude.{ℕ, zero, suc, ◌+◌, ◌-◌, Bool, true, Option, Some, None, is_none, option_map, option_and_then, length, slice_index, slice_set, nat_lt, nat_le, ◌==◌, ◌&&◌, if◌then◌else◌}
 pub use Rattle.step_core.specs.declared.step.Step.{Step}
 pub use Rattle.step_core.specs.declared.step.Step.TheVariants.{LoadLength, Reserve, Add, LoadHead, LoadLink, Cut, StoreLink, Push, Claim, Sole, Raise, Lower, Reset, Hold, PutIn, Open, Seize, TakeOut, Clear}
 pub use Rattle.step_core.specs.declared.step.Outcome.{Outcome}
@@ -10,7 +10,7 @@ use Rattle.step_core.specs.Bags.{has, includes, all_below}
 use Rattle.step_core.specs.Links.{link_value, first_value}
 use Rattle.step_core.specs.World.{Head, Look, Chain, Phase, ToFill, Filled, Seized, TakenOut, Work, View, Desk, World, Packet, view_at, link_in, desk_at}
 pub use Rattle.step_core.specs.Sights.{can_cut, chain_after, can_push, chain_without, at_desk, phase_at, headers_left}
-use Rattle.step_core.specs.Sights.{reserved, given_back, looking_at, cut_view, lost_look, chained, push_view, lost_push, claimed, freed, raised, hold_ended, was_reset, working, opened, seized}
+use Rattle.step_core.specs.Sights.{reserved, given_back, looking_at, walked_on, cut_view, lost_look, chained, push_view, lost_push, claimed, freed, raised, hold_ended, was_reset, working, opened, seized}
 use Rattle.step_core.specs.Table.{Event, Get, Put, Claim as ClaimEvent, Attach, Free, Offer, Take}
 
 -- what a step makes of the world, what it answers, and the event of the table that it is, if any
@@ -56,9 +56,8 @@ load_head w k v =
 
 abbrev pub load_link : World → ℕ → View → ℕ → Look → Play
 load_link w k v i l =
-    quiet (Value (link_in w.links i)) (knows w k (record v {
-      look = Some (record { head = l.head; front = l.front ++ i ∷ []; next = link_in w.links i });
-    }))
+    quiet (Value (link_in w.links i))
+    (knows w k (record v { look = walked_on (Some l) i (link_in w.links i) }))
 
 abbrev pub same_head : Head → Head → Bool
 same_head a b = (a.top == b.top) && (a.count == b.count)

@@ -4,7 +4,7 @@ ghost use Rattle.step_core.specs.Handing.{GivesWhatWasPutIn};
 ghost use Rattle.step_core.specs.Headers.{OpensWithHeaders, KeepsHeaders, SchedulesKeepHeaders};
 ghost use Rattle.step_core.specs.Headline.{AllAreThere, LengthIsBounded, FrontThenRest, LostIsLater, ChainIsOfHand, CutGetsAll, SchedulesAreRuns, NotGivenAgain, StoppedKeepsItsView};
 ghost use Rattle.step_core.specs.Runs.{EveryScheduleWalks};
-ghost use Rattle.step_core.specs.Schedules.{OpensLawful, KeepsLaw, MakesItsEvent, ChangesLittle, LawfulShows};
+ghost use Rattle.step_core.specs.Schedules.{OpensLawful, KeepsLaw, MakesItsEvent, ChangesLittle, MakesItsView, LawfulShows};
 
 /// The opening world is lawful.
 pub fn the_opening_is_lawful()
@@ -24,6 +24,12 @@ pub fn a_step_is_its_event()
 /// A step changes at most one word or slot, and no other worker's view.
 pub fn a_step_changes_little()
     ensures { ChangesLittle }
+{}
+
+/// A step that is played makes of its worker's view what `view_after` tells of the step and its
+/// outcome, by the slot that stood at its desk before; every other worker's view stays as it is.
+pub fn a_step_makes_the_view_that_is_told()
+    ensures { MakesItsView }
 {}
 
 /// A lawful world shows a table: each element has one place.
