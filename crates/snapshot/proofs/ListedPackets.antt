@@ -32,9 +32,9 @@ in_share s worker slot segs stands =
     let share : ShareData = get_or s.shares n no_share in
     let within : n < length s.shares = omega (arith, stands.0, length-map s.shares (member_of s)) in
     let shown : get_or (pool_of s).members n (nobody s.limits) ≡ member_of s share =
-        get_or-map (member_of s) s.shares n no_share (nobody s.limits) within in
+    get_or-map (member_of s) s.shares n no_share (nobody s.limits) within in
     let there : get_or share.slots slot None ≡ Some segs =
-        sym (ap (λ (m : Member). get_or m.table slot None) shown) ∙ stands.1 in
+    sym (ap (λ (m : Member). get_or m.table slot None) shown) ∙ stands.1 in
     inr (share, Contains-get_or s.shares n no_share within, in_table share.slots slot segs there)
 
 -- so each that is listed is a packet
