@@ -1,6 +1,7 @@
 //! How a closed pool and the shares in its book become a statement, or the reason why they don't.
 
 ghost use Rattle.std.specs.Prelude.{ℕ, ◌≡◌, ◌≢◌, ◌+◌, IfOk, IfErr, MatchResult};
+ghost use Rattle.pool_model.specs.Sound.{ListsOnlyPackets};
 ghost use Rattle.pool_model.specs.Statements.{ListsEachOnce, PlacesEachOnce};
 ghost use Rattle.snapshot.specs.Snapshots.{IsLawful, statement_in};
 ghost use Rattle.book.specs.Books.{IsFull, IsLeastMissing};
@@ -28,7 +29,8 @@ pub enum Unsettled {
 }
 
 /// The statement of a closed pool and the shares in its book, which ends both. It lists each element
-/// exactly once; what is available and what is in use are the population.
+/// exactly once; what is available and what is in use are the population. Each packet that it lists has
+/// 1 to 32 segments, each with its data within its buffer.
 ///
 /// Refused `MissingShare` of the least worker whose share isn't in the book, else `OutOfMemory` where
 /// memory was refused, else the first fault of the pool. The closed pool and the book are then handed
@@ -44,6 +46,7 @@ pub fn settle(
     ensures statement { IfOk result (λ s. s ≡ statement_in (snapshot_with book closed)) }
     ensures once { IfOk result (λ s. ListsEachOnce s) }
     ensures places { IfOk result (λ s. PlacesEachOnce book.limits s) }
+    ensures sound { IfOk result (λ s. ListsOnlyPackets s) }
     ensures whole { IfOk result (λ s. s.available + s.in_use ≡ book.limits.population) }
     ensures unsettled { IfErr result (λ e. IsUnsettled book closed e.0) }
     // What stands in a slot of a share or lies on a desk is a packet.
@@ -70,6 +73,7 @@ fn statement(alloc: Global, closed: &Closed, book: &Book) -> Result<Statement, U
     ensures statement { IfOk result (λ s. s ≡ statement_in (snapshot_with book.now closed.now)) }
     ensures once { IfOk result (λ s. ListsEachOnce s) }
     ensures places { IfOk result (λ s. PlacesEachOnce book.now.limits s) }
+    ensures sound { IfOk result (λ s. ListsOnlyPackets s) }
     ensures unsettled { IfErr result (λ cause. IsUnsettled book.now closed.now cause) }
     ensures packets { IfErr result (λ cause. cause ≢ Unsettled.Fault Fault.BadPacket) }
 {

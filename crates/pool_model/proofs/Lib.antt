@@ -14,6 +14,7 @@ mod Leaves
 mod LinkSteps
 mod Links
 pub mod Listed
+pub mod ListedPackets
 pub mod NewMembers
 pub mod Numbered
 mod PacketsKeep

@@ -40,3 +40,9 @@ pub record ListsSoundPackets (l : Limits) (s : Statement) : Type 0 where
   pub counts : All (λ held. held.count ≤ l.ref_limit) s.held
   pub direct : (seg other : Seg) → IsListed s seg → IsListed s other → seg.base ≡ Some other.elem →
       other.base ≡ None
+
+-- Of any statement: each packet that it lists, in a slot and on a desk, is one, of 1 to 32 segments, each with its data
+-- within its buffer.
+pub record ListsOnlyPackets (s : Statement) : Type 0 where
+  pub in_slots : All (λ placed. IsPacket placed.segs) s.packets
+  pub on_desks : All (λ packet. IsPacket packet.segs) s.desks

@@ -3,7 +3,7 @@
 ghost use Rattle.std.specs.Prelude.{◌≡◌, IfOk, IfErr, map};
 ghost use Rattle.std.specs.List.{range_with_len};
 ghost use Rattle.commons.specs.Bounds.{IsPool};
-ghost use Rattle.pool_model.specs.Sound.{ListsSoundPackets};
+ghost use Rattle.pool_model.specs.Sound.{ListsOnlyPackets, ListsSoundPackets};
 ghost use Rattle.pool_model.specs.Statements.{ListsEachOnce, PlacesEachOnce, statement_of};
 ghost use Rattle.book.specs.Books.{IsFull};
 ghost use Rattle.book.specs.Settling.{snapshot_with};
@@ -45,7 +45,8 @@ pub fn settled(alloc: Global, pool: SitePool) -> Result<Statement, Refusal>
 }
 
 /// Settles what a pool within these limits left, when it was closed, with the shares of all its workers. The statement is
-/// the one of the snapshot that they are.
+/// the one of the snapshot that they are. Each packet that it lists has 1 to 32 segments, each with its data within its
+/// buffer.
 ///
 /// Refused `OutOfMemory` where memory was refused. Nothing is left of the pool then either.
 pub fn settled_parts(
@@ -60,6 +61,7 @@ pub fn settled_parts(
     ensures statement { IfOk result (λ s. s ≡ statement_in (snapshot_of limits.now closed shares.items)) }
     ensures once { IfOk result (λ s. ListsEachOnce s) }
     ensures places { IfOk result (λ s. PlacesEachOnce limits.now s) }
+    ensures sound { IfOk result (λ s. ListsOnlyPackets s) }
     ensures memory { IfErr result (λ e. e ≡ Refusal.OutOfMemory) }
 {
     match Book::make(alloc, limits) {
@@ -81,6 +83,7 @@ fn settled_book(alloc: Global, closed: Closed, book: Book) -> Result<Statement, 
     ensures statement { IfOk result (λ s. s ≡ statement_in (snapshot_with book closed)) }
     ensures once { IfOk result (λ s. ListsEachOnce s) }
     ensures places { IfOk result (λ s. PlacesEachOnce book.limits s) }
+    ensures sound { IfOk result (λ s. ListsOnlyPackets s) }
     ensures memory { IfErr result (λ e. e ≡ Refusal.OutOfMemory) }
 {
     match settle(alloc, closed, book) {

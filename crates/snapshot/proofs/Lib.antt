@@ -9,6 +9,7 @@ mod HoldBounds
 mod InOrder
 mod Lawful
 mod Least
+mod ListedPackets
 mod MappedSums
 mod Meetings
 mod NamedSums

@@ -2,6 +2,7 @@
 
 ghost use Rattle.std.specs.Prelude.{◌≡◌, ◌⊎◌, IfOk, IfErr};
 ghost use Rattle.commons.specs.Bounds.{IsPool};
+ghost use Rattle.pool_model.specs.Sound.{ListsOnlyPackets};
 ghost use Rattle.pool_model.specs.Statements.{ListsEachOnce, PlacesEachOnce};
 ghost use Rattle.snapshot.specs.Faults.{IsFirstFault};
 ghost use Rattle.snapshot.specs.Snapshots.{HasSlots, IsLawful, statement_in};
@@ -12,7 +13,9 @@ use crate::{elements, laws, packets, placing, shape, tally, walking};
 use pool_model::statement::Statement;
 use std::alloc::Global;
 
-/// The statement of a lawful snapshot, else the first of its faults, or `OutOfMemory` where memory was refused.
+/// The statement of a lawful snapshot, else the first of its faults, or `OutOfMemory` where memory was refused. Each
+/// packet that is listed has 1 to 32 segments, each with its data within its buffer. Of the reference limit nothing is
+/// said.
 pub fn audit(alloc: Global, snapshot: &Snapshot) -> Result<Statement, Fault>
     requires pool { IsPool snapshot.now.limits }
     requires slots { HasSlots snapshot.now }
@@ -20,6 +23,7 @@ pub fn audit(alloc: Global, snapshot: &Snapshot) -> Result<Statement, Fault>
     ensures statement { IfOk result (λ s. s ≡ statement_in snapshot.now) }
     ensures once { IfOk result (λ s. ListsEachOnce s) }
     ensures places { IfOk result (λ s. PlacesEachOnce snapshot.now.limits s) }
+    ensures sound { IfOk result (λ s. ListsOnlyPackets s) }
     ensures first { IfErr result (λ f. (f ≡ Fault.OutOfMemory) ⊎ IsFirstFault snapshot.now f) }
 {
     laws::a_lawful_snapshot_lists_each_element_once();

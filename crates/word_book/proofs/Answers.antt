@@ -3,6 +3,7 @@ use Rattle.std.proofs.Common.{◌≡◌, ◌≢◌, length, Result, Ok, Err, ref
 use Rattle.std.specs.Prelude.{IfErr, IfOk}
 use Rattle.commons.specs.declared.closed.Closed.{Closed}
 use Rattle.pool_model.specs.declared.statement.Statement.{Statement}
+use Rattle.pool_model.specs.Sound.{ListsOnlyPackets}
 use Rattle.snapshot.specs.declared.fault.Fault.{Fault}
 use Rattle.snapshot.specs.declared.fault.Fault.TheVariants.{BadPacket}
 use Rattle.book.specs.declared.settling.Unsettled.{Unsettled}
@@ -51,7 +52,9 @@ module _ (b : Places) (closed : Closed) (left : IsLeftWith b.limits closed (shar
 
   -- a statement that is given lists packets
   pub packets_listed : (r : Answer) → IfOk r (λ _. IsLawful (snapshot_with b closed)) →
-      IfOk r (λ s. s ≡ statement_in (snapshot_with b closed)) → IfOk r (λ s. ListsPackets b.limits s)
-  packets_listed (Ok s) law same =
-      subst (ListsPackets b.limits) (sym same) (lists_packets b.limits closed (shares_in b.places) left law)
-  packets_listed (Err e) law same = tt
+      IfOk r (λ s. s ≡ statement_in (snapshot_with b closed)) → IfOk r ListsOnlyPackets →
+      IfOk r (λ s. ListsPackets b.limits s)
+  packets_listed (Ok s) law same only =
+      subst (ListsPackets b.limits) (sym same)
+      (lists_packets b.limits closed (shares_in b.places) left law (subst ListsOnlyPackets same only))
+  packets_listed (Err e) law same only = tt

@@ -8,6 +8,7 @@ use Rattle.pool_model.specs.Pool.{new_pool}
 use Rattle.pool_model.specs.Sound.{ListsSoundPackets}
 use Rattle.pool_model.specs.Statements.{statement_of}
 use Rattle.pool_model.specs.declared.statement.Statement.{Statement}
+use Rattle.pool_model.proofs.ListedPackets.{sound_packets_are_packets}
 use Rattle.word_book.specs.Listing.{ListsPackets}
 use Rattle.script.proofs.under_lock.run.Goals as goal
 
@@ -20,11 +21,7 @@ of_acts l P all (Err e) h = tt
 
 -- a packet of a pool is a packet
 listed : (l : Limits) (s : Statement) → ListsSoundPackets l s → ListsPackets l s
-listed l s sound = record {
-  in_slots = λ k d b. (sound.in_slots k d b).packet;
-  on_desks = λ k d b. (sound.on_desks k d b).packet;
-  counts = sound.counts;
-}
+listed l s sound = record { packets = sound_packets_are_packets l s sound; counts = sound.counts }
 
 -- acts of a new pool led to the end, and acts leave packets sound
 pub returns-clause-sound : goal.returns-clause-sound

@@ -1,4 +1,5 @@
 -- The pool that it shows is balanced and numbered.
+use Rattle.snapshot.proofs.ListedPackets.{lawful_lists_packets}
 use Rattle.snapshot.proofs.Shown.{lawful_lists_once, lawful_places_once}
 use Rattle.snapshot.proofs.laws.a_lawful_snapshot_lists_each_element_once.Goals as goal
 
@@ -9,3 +10,7 @@ returns-clause-once c = lawful_lists_once
 -- in a pool whose workers are numbered each packet has a place of its own
 pub returns-clause-places : goal.returns-clause-places
 returns-clause-places c = lawful_places_once
+
+-- what stands in a slot or on a desk is a packet
+pub returns-clause-sound : goal.returns-clause-sound
+returns-clause-sound c = lawful_lists_packets

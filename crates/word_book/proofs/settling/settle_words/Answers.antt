@@ -19,3 +19,4 @@ pub returns-clause-sound : goal.returns-clause-sound
 returns-clause-sound c =
     packets_listed c.args.book c.args.closed c.requires.left c.fits_its_limits.ensures.workers
     c.fits_its_limits.ensures.each c.settle.result c.settle.ensures.lawful c.settle.ensures.statement
+    c.settle.ensures.sound
