@@ -4,7 +4,7 @@ use Rattle.commons.specs.Calls.{Call, GetList, PutList, Claim, CountOf, Raise, L
 use Rattle.commons.specs.declared.limits.Limits.{Limits}
 use Rattle.stack_lf.specs.Tries.{Try, IsOfCall, notes_of, readings_of}
 
--- how many steps on words; an offer or a take that is met has one more, on the desk's slot
+-- how many steps on words are noted; the exchange of what is in a desk's slot is noted nowhere
 abbrev pub most_steps : Limits → Call → ℕ
 most_steps l (GetList n answer) = l.tries * (n + 4) + 1
 most_steps l (PutList xs answer) = l.tries * (length xs + 2) + 1
