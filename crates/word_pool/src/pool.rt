@@ -26,8 +26,7 @@ use word_book::{ending, laws};
 /// Makes a pool on words, and its workers, numbered from 1, each with one part of it. All elements are in the common
 /// list, element 0 on top, and no worker has anything yet.
 ///
-/// Refused `BadPool` where the limits are out of range, or the ground can't have so many desks, and `OutOfMemory` where
-/// memory was refused.
+/// Refused `BadPool` where the limits are out of range, and `OutOfMemory` where memory was refused.
 pub fn make(alloc: Global, limits: &Limits) -> Result<(Ground, Vec<WordWorker>), Refusal>
     ensures limits { IfOk result (λ made. made.0.limits ≡ limits.now) }
     ensures workers { IfOk result (λ made. AreWorkers made.0 made.1.items) }

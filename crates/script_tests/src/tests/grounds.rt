@@ -3,7 +3,7 @@
 ghost use Rattle.std.specs.Prelude.{◌≤◌};
 
 use super::threads::{GROUNDS, Handover, TURNS, run};
-use super::{assert_given, same, text_of};
+use super::{assert_given, json, same, text_of};
 use commons::refusal::Refusal;
 use script::{Grounds, OpenGate, replay, run_script, statement_text};
 use script_rows::parts::written;
@@ -15,6 +15,24 @@ use std::process::Abort;
 use std::sync::Wait;
 use std::test::Fail;
 use std::thread::Threads;
+
+/// Scripts of several workers that end alike in whatever order their threads act: one worker alone
+/// takes elements and puts any back, and who takes a packet off a desk waits for the one offer there.
+///
+/// These don't, and are left out:
+/// - Where two workers take elements of the common stack, the first gets the upper ones: "two
+///   workers", "a held element is listed with its desks", "take into a full table".
+/// - Where two free what shares a base, it goes back to the cache of the last: "clone over a desk".
+/// - Where a desk is offered on twice, the second offer is met if a take comes between: "desk refusals".
+/// - A worker who waits at a desk on which it has offered may take its own packet back: "a name that is
+///   offered and taken is each workers own", "a packet of 32 segments goes over all desks and back".
+const ALIKE: &[&str] = &[
+    "example of desks",
+    "names and caches are each workers own",
+    "a packet on a desk keeps its base as its clone is freed",
+    "a clone on a desk keeps its base as its packet is freed",
+    "a chain of two lengths in buffers of 300 bytes",
+];
 
 /// A packet of some length goes from one worker to another.
 const IN_TRANSIT: &str = "pool 4 workers 2 desks 1\nalloc a\nappend a 7\noffer a 0\n2: take 0 x\n";
@@ -71,10 +89,13 @@ fn assert_ends_on<R: Threads + Wait + Sync + Abort + AllocGlobal>(
     rt: &R,
     text: &str,
     grounds: Grounds,
+    turns: u32,
     wanted: &str,
     name: &str,
-) -> Result<(), Fail> {
-    let statement = run(rt, text, grounds, 1, &OpenGate)?;
+) -> Result<(), Fail>
+    requires turns { 1 ≤ turns }
+{
+    let statement = run(rt, text, grounds, turns, &OpenGate)?;
     let end = text_of(rt.alloc(), &statement)?;
     same(rt, &(grounds, end.as_str()), &(grounds, wanted), name);
     Ok(())
@@ -91,7 +112,7 @@ fn assert_ends_as_its_replay<R: Threads + Wait + Sync + Abort + AllocGlobal>(
     }
     let wanted = end_of_replay(rt.alloc(), text)?;
     for grounds in GROUNDS {
-        assert_ends_on(rt, text, grounds, wanted.as_str(), name)?;
+        assert_ends_on(rt, text, grounds, 1, wanted.as_str(), name)?;
     }
     Ok(true)
 }
@@ -138,6 +159,45 @@ fn a_script_of_one_worker_ends_on_either_ground_as_its_replay(rt: HostRuntime) -
         ended = ended.saturating_add(end_rows(&rt, rows)?);
     }
     assert!(rt; ended > 30, "{ended} rows have one worker");
+    Ok(())
+}
+
+/// Runs a script that ends alike 20 times on each ground, where it has to end as its replay does. Whether it is one.
+fn assert_ends_alike<R: Threads + Wait + Sync + Abort + AllocGlobal>(
+    rt: &R,
+    text: &str,
+    name: &str,
+) -> Result<bool, Fail> {
+    if !ALIKE.contains(&name) {
+        return Ok(false);
+    }
+    let wanted = end_of_replay(rt.alloc(), text)?;
+    for _ in 0..20 {
+        for grounds in GROUNDS {
+            assert_ends_on(rt, text, grounds, TURNS, wanted.as_str(), name)?;
+        }
+    }
+    Ok(true)
+}
+
+#[test]
+fn a_script_that_ends_alike_in_each_order_ends_on_either_ground_as_its_replay(
+    rt: HostRuntime,
+) -> Result<(), Fail> {
+    let mut ended = 0usize;
+    for rows in [pools::ROWS, caches::ROWS, desks::ROWS] {
+        for (name, text, _) in rows {
+            if assert_ends_alike(&rt, text, name)? {
+                ended = ended.saturating_add(1);
+            }
+        }
+    }
+    for (name, text, _, _) in json::ROWS {
+        if assert_ends_alike(&rt, text, name)? {
+            ended = ended.saturating_add(1);
+        }
+    }
+    same(&rt, &ended, &ALIKE.len(), "how many end alike");
     Ok(())
 }
 

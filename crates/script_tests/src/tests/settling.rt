@@ -8,10 +8,12 @@ use mbuf::acts::Act;
 use pool_model::statement::Statement;
 use script::statement_text;
 use script_rows::parts::{Field, Part, written};
+use share_book::locked_site::LockedSite;
 use share_book::site_pool::SitePool;
 use share_book::{Book, Share, Unsettled, lose_all, settle};
 use std::alloc::Global;
 use std::process::Abort;
+use std::sync::Wait;
 use std::test::Fail;
 
 /// The pool of four workers and two desks.
@@ -40,6 +42,20 @@ const FOR_DESK_1: &[Act] = &[
     Act::Free(1),
 ];
 
+/// What four workers do, of whom two each want one desk, worker by worker.
+const FOUR_WORKERS: [(u32, &[Act]); 4] = [
+    (1, FOR_DESK_0),
+    (2, FOR_DESK_0),
+    (3, FOR_DESK_1),
+    (4, FOR_DESK_1),
+];
+
+/// What is there of a closed pool.
+type Parts = (Limits, Closed, Vec<Share>);
+
+/// How a pool without a worker's share settled: why it didn't, and its statement with that share.
+type Late = (Option<Unsettled>, Option<Statement>);
+
 /// Lets a worker do all this.
 fn play(pool: &mut SitePool, worker: u32, acts: &[Act]) {
     for act in acts {
@@ -47,16 +63,43 @@ fn play(pool: &mut SitePool, worker: u32, acts: &[Act]) {
     }
 }
 
-/// Plays the lines of four workers, of whom two each want one desk, worker by worker.
+/// Plays the lines of the four workers.
 pub(super) fn play_four(pool: &mut SitePool) {
-    play(pool, 1, FOR_DESK_0);
-    play(pool, 2, FOR_DESK_0);
-    play(pool, 3, FOR_DESK_1);
-    play(pool, 4, FOR_DESK_1);
+    for (worker, acts) in FOUR_WORKERS {
+        play(pool, worker, acts);
+    }
+}
+
+/// Lets a worker do all this under a lock. Each reply is that of a pool without one.
+fn play_locked<R: Wait + Abort>(
+    rt: &R,
+    site: &LockedSite,
+    pool: &mut SitePool,
+    worker: u32,
+    acts: &[Act],
+) {
+    for act in acts {
+        let given = site.act(rt, worker, *act);
+        let wanted = pool.perform(worker, *act);
+        same(
+            rt,
+            &(worker, *act, given),
+            &(worker, *act, wanted),
+            "a reply under the lock",
+        );
+    }
+}
+
+/// Plays the lines of the four workers under a lock, and lets a fifth try, who is a stranger.
+fn play_four_locked<R: Wait + Abort>(rt: &R, site: &LockedSite, pool: &mut SitePool) {
+    for (worker, acts) in FOUR_WORKERS {
+        play_locked(rt, site, pool, worker, acts);
+    }
+    play_locked(rt, site, pool, 5, FOR_DESK_0);
 }
 
 /// Closes a pool.
-fn closed_once(alloc: Global, pool: SitePool) -> Option<(Limits, Closed, Vec<Share>)> {
+fn closed_once(alloc: Global, pool: SitePool) -> Option<Parts> {
     match pool.close(alloc) {
         Ok(parts) => Some(parts),
         Err((_, pool)) => {
@@ -67,8 +110,16 @@ fn closed_once(alloc: Global, pool: SitePool) -> Option<(Limits, Closed, Vec<Sha
 }
 
 /// Closes a pool, and tries once more with what a refusal handed back.
-fn closed_at_last(alloc: Global, pool: SitePool) -> Option<(Limits, Closed, Vec<Share>)> {
+fn closed_at_last(alloc: Global, pool: SitePool) -> Option<Parts> {
     match pool.close(alloc) {
+        Ok(parts) => Some(parts),
+        Err((_, pool)) => closed_once(alloc, pool),
+    }
+}
+
+/// Takes a pool out of its lock and closes it, and tries once more with what a refusal handed back.
+fn unlocked_at_last(alloc: Global, site: LockedSite) -> Option<Parts> {
+    match site.close(alloc) {
         Ok(parts) => Some(parts),
         Err((_, pool)) => closed_once(alloc, pool),
     }
@@ -132,12 +183,7 @@ fn deposit_but_third(book: &mut Book, mut shares: Vec<Share>) -> Option<Share> {
 
 /// Settles with the shares of all workers but the third, and then with that one too. Tells why the
 /// first was refused.
-fn settled_late(
-    alloc: Global,
-    closed: Closed,
-    mut book: Book,
-    shares: Vec<Share>,
-) -> (Option<Unsettled>, Option<Statement>) {
+fn settled_late(alloc: Global, closed: Closed, mut book: Book, shares: Vec<Share>) -> Late {
     let third = deposit_but_third(&mut book, shares);
     match settle(alloc, closed, book) {
         Ok(statement) => {
@@ -151,14 +197,12 @@ fn settled_late(
     }
 }
 
-/// Settles late, with a book of these limits.
-fn settled_with_book(
-    alloc: Global,
-    limits: &Limits,
-    closed: Closed,
-    shares: Vec<Share>,
-) -> (Option<Unsettled>, Option<Statement>) {
-    match book_at_last(alloc, limits) {
+/// Settles late what a closed pool left, if it was closed.
+fn settled_with_book(alloc: Global, parts: Option<Parts>) -> Late {
+    let Some((limits, closed, shares)) = parts else {
+        return (None, None);
+    };
+    match book_at_last(alloc, &limits) {
         Some(book) => settled_late(alloc, closed, book, shares),
         None => {
             lose_all(shares);
@@ -168,12 +212,25 @@ fn settled_with_book(
 }
 
 /// Plays the lines, closes the pool, and settles it late.
-fn settle_four(alloc: Global) -> Result<(Option<Unsettled>, Option<Statement>), Refusal> {
+fn settle_four(alloc: Global) -> Result<Late, Refusal> {
     let mut pool = SitePool::make(alloc, &FOUR)?;
     play_four(&mut pool);
-    match closed_at_last(alloc, pool) {
-        Some((limits, closed, shares)) => Ok(settled_with_book(alloc, &limits, closed, shares)),
-        None => Ok((None, None)),
+    Ok(settled_with_book(alloc, closed_at_last(alloc, pool)))
+}
+
+/// Plays the lines under a lock, closes the pool, and settles it late.
+fn settle_four_locked<R: Wait + Abort>(rt: &R, alloc: Global) -> Result<Late, Refusal> {
+    let site = LockedSite::make(alloc, &FOUR)?;
+    match SitePool::make(alloc, &FOUR) {
+        Ok(mut pool) => {
+            play_four_locked(rt, &site, &mut pool);
+            pool.lose();
+            Ok(settled_with_book(alloc, unlocked_at_last(alloc, site)))
+        }
+        Err(cause) => {
+            site.lose();
+            Err(cause)
+        }
     }
 }
 
@@ -190,17 +247,28 @@ fn assert_end<R: Abort + AllocGlobal>(rt: &R, statement: &Statement) {
     assert_given(rt, text, FOUR_TEXT, "the statement of the four workers");
 }
 
+/// The missing share was named, and what was handed back settled, or memory for a pool was wanting.
+fn assert_late<R: Abort + AllocGlobal>(rt: &R, late: Result<Late, Refusal>) {
+    match late {
+        Ok((cause, Some(statement))) => {
+            same(rt, &cause, &Some(Unsettled::MissingShare(3)), "the cause");
+            assert_end(rt, &statement);
+        }
+        Ok((_, None)) => assert!(rt; false, "what was handed back doesn't settle"),
+        Err(refusal) => same(rt, &refusal, &Refusal::OutOfMemory, "the refusal"),
+    }
+}
+
 /// Whichever request for memory is refused, a missing share is told of, and what was handed back settles.
 #[test]
 fn a_missing_share_is_named_and_what_is_handed_back_settles(rt: HostRuntime) {
-    match settle_four(rt.alloc()) {
-        Ok((cause, Some(statement))) => {
-            same(&rt, &cause, &Some(Unsettled::MissingShare(3)), "the cause");
-            assert_end(&rt, &statement);
-        }
-        Ok((_, None)) => assert!(rt; false, "what was handed back doesn't settle"),
-        Err(refusal) => same(&rt, &refusal, &Refusal::OutOfMemory, "the refusal"),
-    }
+    assert_late(&rt, settle_four(rt.alloc()));
+}
+
+/// The same of a pool under a lock, each of whose acts is replied to as without one.
+#[test]
+fn a_missing_share_of_a_locked_pool_is_named_and_what_is_handed_back_settles(rt: HostRuntime) {
+    assert_late(&rt, settle_four_locked(&rt, rt.alloc()));
 }
 
 /// A pool of as many workers and desks as there can be.

@@ -16,16 +16,18 @@ loop-init c = record {
   len = refl;
 }
 
--- the seat is one of the ground, and has reserved as many
+-- the seat is one of the ground
 pub try_cut-requires-clause-of : goal.try_cut-requires-clause-of
 try_cut-requires-clause-of c = c.loop.invariant.of
 
+-- at least one element is asked for
 pub try_cut-requires-clause-some : goal.try_cut-requires-clause-some
 try_cut-requires-clause-some c =
     let len : length c.loop.out ≡ length c.args.out.now = c.loop.invariant.len in
     let some = c.requires.some in
     omega arith
 
+-- as many are reserved as are asked for
 pub try_cut-requires-clause-reserved : goal.try_cut-requires-clause-reserved
 try_cut-requires-clause-reserved c =
     let len : length c.loop.out ≡ length c.args.out.now = c.loop.invariant.len in
