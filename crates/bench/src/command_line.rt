@@ -4,11 +4,11 @@ use crate::failures::Failure;
 use crate::words::{Cells, NAMES};
 use clap::builder::ValueParser;
 use clap::error::ErrorKind;
-use clap::{Arg, Command};
+use clap::{Arg, Command, Error};
 use std::alloc::Global;
 use std::env;
 use std::env::Env;
-use std::io::Print;
+use std::io::{Eprint, Print};
 
 /// What can be measured.
 #[derive(Clone, Copy, PartialEq, Eq, Debug)]
@@ -88,14 +88,14 @@ pub fn words<R: Env + AllocGlobal>(rt: &R) -> Result<Vec<String>, Failure> {
     Ok(env::args(rt)?.collect(rt.alloc())?)
 }
 
-/// What the words ask for. `CommandLine` where they are wrong, or ask for help.
-pub fn read<'a>(alloc: Global, words: &'a [String]) -> Result<Asked<'a>, Failure> {
+/// What the words ask for, or what is to be said where they are wrong or ask for help.
+pub fn read<'a>(alloc: Global, words: &'a [String]) -> Result<Asked<'a>, Error> {
     let matches = command(alloc)?.try_get_matches_from(words)?;
     let workload = match matches.get_str("WORKLOAD") {
         None => None,
         Some(name) => match named(name) {
             Some(workload) => Some(workload),
-            None => return Err(Failure::CommandLine(unknown(alloc)?)),
+            None => return Err(unknown(alloc)?),
         },
     };
     Ok(Asked {
@@ -110,6 +110,18 @@ pub fn read<'a>(alloc: Global, words: &'a [String]) -> Result<Asked<'a>, Failure
             millis: number(matches.get_str("ms")).unwrap_or(40),
         },
     })
+}
+
+/// Says why nothing is asked for, and gives the status of the program: 0 for help, else 2, and 1 where it can't be said.
+pub fn tell<R: Print + Eprint>(rt: &R, error: &Error) -> u8 {
+    let status = match error.kind() {
+        ErrorKind::DisplayHelp | ErrorKind::DisplayVersion => 0,
+        _ => 2,
+    };
+    match error.print(rt) {
+        Ok(()) => status,
+        Err(_) => 1,
+    }
 }
 
 /// Lists the workloads.
@@ -129,7 +141,7 @@ fn named(name: &str) -> Option<Workload> {
     None
 }
 
-fn unknown(alloc: Global) -> Result<clap::Error, clap::Error> {
+fn unknown(alloc: Global) -> Result<Error, Error> {
     Ok(command(alloc)?.error(ErrorKind::InvalidValue, "there is no such workload")?)
 }
 
@@ -139,7 +151,7 @@ fn number(word: Option<&str>) -> Option<u64> {
 
 /// `bench [WORKLOAD] [--rounds N] [--runs R]`, and for the words of a pool `[--workload NAMES] [--threads LIST]
 /// [--cache LIST] [--population N] [--ms N]`.
-fn command<'a>(alloc: Global) -> Result<Command<'a>, clap::Error> {
+fn command<'a>(alloc: Global) -> Result<Command<'a>, Error> {
     let workload = Arg::new(alloc, "WORKLOAD").help(
         "What is measured; none: the list of workloads",
     );

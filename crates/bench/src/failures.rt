@@ -1,19 +1,15 @@
 //! Why nothing was measured.
 
 use book::settling::Unsettled;
-use clap::Error;
-use clap::error::ErrorKind;
 use commons::refusal::Refusal;
 use snapshot::fault::Fault;
 use std::alloc::AllocError;
 use std::io;
-use std::io::{Eprint, Print};
+use std::io::Eprint;
 
 /// Why nothing was measured.
 #[derive(Debug, Drop)]
 pub enum Failure {
-    /// The words of the command line are wrong, or ask for help.
-    CommandLine(Error),
     /// The clock, or an output, failed.
     System(io::Error),
     /// A pool could not be made, or its first packets.
@@ -28,12 +24,6 @@ pub enum Failure {
     Missing(u64),
     /// A packet wasn't handed over, or didn't come back.
     NotHanded,
-}
-
-impl From<Error> for Failure {
-    fn from(error: Error) -> Self {
-        Failure::CommandLine(error)
-    }
 }
 
 impl From<io::Error> for Failure {
@@ -54,13 +44,9 @@ impl From<AllocError> for Failure {
     }
 }
 
-/// Tells of a failure, and gives its status: 2 for wrong words, 0 for help, else 1.
-pub fn tell<R: Print + Eprint>(rt: &R, failure: Failure) -> u8 {
+/// Tells of a failure, and gives its status: 2 for a list that names what can't be measured, else 1.
+pub fn tell<R: Eprint>(rt: &R, failure: &Failure) -> u8 {
     let (told, status) = match failure {
-        Failure::CommandLine(error) => match error.kind() {
-            ErrorKind::DisplayHelp | ErrorKind::DisplayVersion => (error.print(rt), 0),
-            _ => (error.print(rt), 2),
-        },
         Failure::System(error) => (rt.eprintln(format_args!("bench: {error}")), 1),
         Failure::Refused(refusal) => (rt.eprintln(format_args!("bench: {refusal}")), 1),
         Failure::Unlawful(fault) => (rt.eprintln(format_args!("bench: {fault:?}")), 1),

@@ -14,7 +14,7 @@ mod pools;
 mod replays;
 mod words;
 
-use command_line::Workload;
+use command_line::{Asked, Workload};
 use failures::Failure;
 use std::process::ExitCode;
 use std::rt::Runtime;
@@ -26,15 +26,27 @@ fn main(rt: HostRuntime) -> ExitCode {
 
 /// Measures what the command line asks for, and gives the status that the program ends with.
 fn run<R: Runtime + AllocGlobal + Threads + Sync>(rt: &R) -> u8 {
-    match measure(rt) {
-        Ok(()) => 0,
-        Err(failure) => failures::tell(rt, failure),
+    match command_line::words(rt) {
+        Ok(words) => asked(rt, words.as_slice()),
+        Err(failure) => failures::tell(rt, &failure),
     }
 }
 
-fn measure<R: Runtime + AllocGlobal + Threads + Sync>(rt: &R) -> Result<(), Failure> {
-    let words = command_line::words(rt)?;
-    let asked = command_line::read(rt.alloc(), words.as_slice())?;
+/// Measures what these words ask for.
+fn asked<R: Runtime + AllocGlobal + Threads + Sync>(rt: &R, words: &[String]) -> u8 {
+    match command_line::read(rt.alloc(), words) {
+        Ok(asked) => match measure(rt, &asked) {
+            Ok(()) => 0,
+            Err(failure) => failures::tell(rt, &failure),
+        },
+        Err(error) => command_line::tell(rt, &error),
+    }
+}
+
+fn measure<R: Runtime + AllocGlobal + Threads + Sync>(
+    rt: &R,
+    asked: &Asked<'_>,
+) -> Result<(), Failure> {
     match asked.workload {
         None => command_line::list(rt),
         Some(Workload::Replays) => replays::measure(rt, asked.rounds, asked.runs),

@@ -2,33 +2,19 @@
 //! `mbufpool run FILE` and `mbufpool steps FILE`.
 #![tactic(auto)]
 
-mod command_line;
-mod failures;
-mod replay;
-mod report;
-mod running;
-mod scripts;
-mod task;
-#[cfg(test)]
-mod tests;
-
-ghost use Rattle.std.specs.Prelude.{◌≡◌, ◌≤◌};
-ghost use Rattle.mbufpool.specs.Replays.{PrintsFile};
-
-use crate::command_line::Request;
-use crate::scripts::{Disk, Scripts};
-use std::alloc::Global;
 use std::env::Env;
 use std::io::Write;
 use std::process::ExitCode;
 use std::sync::Wait;
 use std::thread::Threads;
+use tasks::scripts::{Disk, Scripts};
 
 fn main(rt: HostRuntime) -> ExitCode {
     ExitCode::from(run(&rt, &Disk(&rt), &mut rt.stdout(), &mut rt.stderr()))
 }
 
-/// Does what the command line asks for, and gives the status that the program ends with.
+/// Does what the command line asks for, and gives the status that the program ends with: 1 where a print or a failure
+/// couldn't be written.
 fn run<R: Env + AllocGlobal + Threads + Wait + Sync, S: Scripts, O: Write, E: Write>(
     rt: &R,
     scripts: &S,
@@ -37,30 +23,12 @@ fn run<R: Env + AllocGlobal + Threads + Wait + Sync, S: Scripts, O: Write, E: Wr
 ) -> u8 {
     let words = match command_line::words(rt) {
         Ok(words) => words,
-        Err(failure) => return report::failure(screen, errors, &failure),
+        Err(unasked) => return command_line::tell(screen, errors, &unasked),
     };
     match command_line::request_of(rt.alloc(), words.as_slice()) {
-        Ok(request) => print(rt, rt.alloc(), scripts, &request, screen, errors),
-        Err(failure) => report::failure(screen, errors, &failure),
-    }
-}
-
-/// Prints what is asked for of the script that a request names, or tells why there is none.
-fn print<R: Threads + Wait + Sync, S: Scripts, O: Write, E: Write>(
-    rt: &R,
-    alloc: Global,
-    scripts: &S,
-    request: &Request<'_>,
-    screen: &mut O,
-    errors: &mut E,
-) -> u8
-    // With status 0 the screen has the print for what the reading of this file gave, and nothing else new.
-    ensures whole { result ≡ 0 → PrintsFile (S.gives scripts.now request.now.file.now) request.now.task
-        (O.contents screen.old) (O.contents screen.new) }
-    ensures status { result ≤ 1 }
-{
-    match replay::printed(rt, alloc, scripts, request) {
-        Ok(text) => report::text(screen, text.as_slice()),
-        Err(failure) => report::failure(screen, errors, &failure),
+        Ok(request) => {
+            tasks::print(rt, rt.alloc(), scripts, &request, screen, errors).unwrap_or(1)
+        }
+        Err(unasked) => command_line::tell(screen, errors, &unasked),
     }
 }

@@ -1,0 +1,28 @@
+-- The status that the program ends with where the words of its command line ask for nothing that can be done.
+use Rattle.std.specs.Prelude.{ℕ}
+use Rattle.clap.specs.Values.{kind_of}
+use Rattle.clap.specs.declared.error.Error.{Error}
+use Rattle.clap.specs.declared.error.kind.ErrorKind.{ErrorKind}
+use Rattle.clap.specs.declared.error.kind.ErrorKind.TheVariants.{DisplayHelp, DisplayVersion, OutOfMemory}
+use Rattle.command_line.specs.declared.unasked.Unasked.{Unasked}
+use Rattle.command_line.specs.declared.unasked.Unasked.TheVariants.{Said, Memory}
+
+-- what an error of this kind says of the words: that memory was refused, or itself
+abbrev pub unasked_of_kind : ErrorKind → Error → Unasked
+unasked_of_kind OutOfMemory error = Memory
+unasked_of_kind _ error = Said error
+
+-- what an error says of them
+abbrev pub unasked_by : Error → Unasked
+unasked_by error = unasked_of_kind (kind_of error) error
+
+-- 0 where help or the version was asked for, and 2 for a mistake
+abbrev pub status_of_kind : ErrorKind → ℕ
+status_of_kind DisplayHelp = 0
+status_of_kind DisplayVersion = 0
+status_of_kind _ = 2
+
+-- the status of the program, where the text can be written
+abbrev pub status_of : Unasked → ℕ
+status_of (Said error) = status_of_kind (kind_of error)
+status_of Memory = 1

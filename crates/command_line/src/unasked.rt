@@ -1,0 +1,66 @@
+//! Why the words of the command line ask for nothing that can be done, and what is said of that.
+ghost use Rattle.std.specs.Prelude.{◌≡◌, ◌<◌, ◌≤◌};
+ghost use Rattle.command_line.specs.Statuses.{status_of, unasked_by};
+
+use clap::Error;
+use clap::error::ErrorKind;
+use commons::refusal::Refusal;
+use std::io;
+use std::io::Write;
+use tasks::failures::Failure;
+
+/// Why the words of the command line ask for nothing that can be done.
+#[derive(Debug, Drop)]
+pub enum Unasked {
+    /// They are wrong, or ask for help or the version: what is to be said.
+    Said(Error),
+    /// Memory was refused.
+    Memory,
+}
+
+impl Unasked {
+    /// The status of the program: 0 where help or the version was asked for, 2 where the words are wrong, and 1 where
+    /// memory was refused.
+    pub fn status(&self) -> u8
+        ensures { result ≡ status_of self.now }
+    {
+        match self {
+            Unasked::Said(error) => match error.kind() {
+                ErrorKind::DisplayHelp | ErrorKind::DisplayVersion => 0,
+                _ => 2,
+            },
+            Unasked::Memory => 1,
+        }
+    }
+}
+
+impl From<Error> for Unasked {
+    ghost from_gives = { λ error unasked. unasked ≡ unasked_by error };
+
+    fn from(error: Error) -> Self {
+        match error.kind() {
+            ErrorKind::OutOfMemory => Unasked::Memory,
+            _ => Unasked::Said(error),
+        }
+    }
+}
+
+/// Says why nothing was asked for, and gives the status of the program. It is 1 for 0 where the text can't be written.
+pub fn tell<O: Write, E: Write>(screen: &mut O, errors: &mut E, unasked: &Unasked) -> u8
+    ensures failed { 0 < status_of unasked.now → result ≡ status_of unasked.now }
+    ensures help { status_of unasked.now ≡ 0 → result ≤ 1 }
+{
+    match say(screen, errors, unasked) {
+        Ok(()) => unasked.status(),
+        Err(_) => unasked.status().max(1),
+    }
+}
+
+/// Writes help and the version to the standard output, and all else as errors.
+fn say<O: Write, E: Write>(screen: &mut O, errors: &mut E, unasked: &Unasked) -> io::Result<()> {
+    match unasked {
+        Unasked::Said(error) if error.use_stderr() => write!(errors, "{error}"),
+        Unasked::Said(error) => write!(screen, "{error}"),
+        Unasked::Memory => tasks::tell(errors, &Failure::Fault(Refusal::OutOfMemory)),
+    }
+}

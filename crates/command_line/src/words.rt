@@ -1,0 +1,151 @@
+//! The words of the command line.
+use crate::unasked::Unasked;
+use clap::builder::ValueParser;
+use clap::error::ErrorKind;
+use clap::{Arg, ArgAction, Command, Error};
+use script::Grounds;
+use std::alloc::Global;
+use std::env::Env;
+use std::{env, io};
+use tasks::task::{Form, Request, Task, Turns};
+
+/// What `--version` tells behind the program's name.
+const VERSION: &str = "0.1.0";
+
+/// The most tries of a line that `--turns` may name.
+const MAX_TURNS: u64 = 1_000_000;
+
+/// The words of the command line, the program's name first.
+///
+/// `Said` where a word isn't text, and `Memory` where memory was refused.
+pub fn words<R: Env + AllocGlobal>(rt: &R) -> Result<Vec<String>, Unasked> {
+    match env::args(rt) {
+        Ok(words) => words.collect(rt.alloc()).map_err(|_| Unasked::Memory),
+        Err(error) if error.kind() == io::ErrorKind::OutOfMemory => Err(Unasked::Memory),
+        Err(_) => Err(wrong(rt.alloc(), "a word of the command line is not text")),
+    }
+}
+
+/// The file that the words name, and what is to be done with its script.
+///
+/// `Said` where the words are wrong, or ask for help or the version, and `Memory` where memory was refused.
+pub fn request_of<'a>(alloc: Global, words: &'a [String]) -> Result<Request<'a>, Unasked> {
+    match requested(alloc, words)? {
+        Some(request) => Ok(request),
+        None => Err(wrong(alloc, "no file was given")),
+    }
+}
+
+/// The request that a parse of the words finds.
+fn requested<'a>(alloc: Global, words: &'a [String]) -> Result<Option<Request<'a>>, Error> {
+    let matches = command(alloc)?.try_get_matches_from(words)?;
+    if let Some(replay) = matches.subcommand_matches("replay") {
+        let task = Task::Replay(form_of(replay.get_flag("json")));
+        return Ok(replay.get_str("FILE").map(|file| Request { file, task }));
+    }
+    if let Some(steps) = matches.subcommand_matches("steps") {
+        let task = Task::Steps;
+        return Ok(steps.get_str("FILE").map(|file| Request { file, task }));
+    }
+    let Some(run) = matches.subcommand_matches("run") else {
+        return Ok(None);
+    };
+    let turns = Turns::new(
+        run.get_str("turns")
+            .and_then(|word| word.parse().ok())
+            .unwrap_or(0),
+    );
+    match (
+        run.get_str("FILE"),
+        run.get_str("ground").and_then(grounds_of),
+        turns,
+    ) {
+        (Some(file), Some(grounds), Some(turns)) => Ok(Some(Request {
+            file,
+            task: Task::Run(grounds, turns, form_of(run.get_flag("json"))),
+        })),
+        _ => Ok(None),
+    }
+}
+
+/// The ground that a word names.
+fn grounds_of(word: &str) -> Option<Grounds> {
+    match word {
+        "words" => Some(Grounds::Words),
+        "locked" => Some(Grounds::Locked),
+        _ => None,
+    }
+}
+
+/// The form that is asked for.
+fn form_of(json: bool) -> Form {
+    if json { Form::Json } else { Form::Text }
+}
+
+/// What is said of words that are wrong in a way that a parse doesn't tell.
+fn wrong(alloc: Global, message: &str) -> Unasked {
+    match wrong_words(alloc, message) {
+        Ok(error) | Err(error) => Unasked::from(error),
+    }
+}
+
+fn wrong_words(alloc: Global, message: &str) -> Result<Error, Error> {
+    Ok(command(alloc)?.error(ErrorKind::InvalidValue, message)?)
+}
+
+/// `mbufpool replay FILE [--json]`, `mbufpool run FILE [--ground words|locked] [--turns T] [--json]`
+/// and `mbufpool steps FILE`.
+fn command<'a>(alloc: Global) -> Result<Command<'a>, Error> {
+    let replay = Command::new(alloc, "replay")
+        .about("Replays a script, and prints each reply and where each element is at the end")
+        .arg(script_file(alloc))?
+        .arg(json(alloc).help(
+            "Print where each element is at the end as one line of JSON, and no replies",
+        ))?;
+    let ground = Arg::new(alloc, "ground")
+        .long("ground")
+        .value_name("GROUND")
+        .value_parser(&["words", "locked"][..])
+        .default_value("words")
+        .help("What the threads share: words without a lock, or lists under one lock");
+    let turns = Arg::new(alloc, "turns")
+        .long("turns")
+        .value_name("T")
+        .value_parser(ValueParser::unsigned(1, MAX_TURNS))
+        .default_value("1000")
+        .help("How often a line is tried in all where others are in its way");
+    let run = Command::new(alloc, "run")
+        .about(
+            "Runs a script with a thread for each worker, and prints where each element is at the end",
+        )
+        .arg(script_file(alloc))?
+        .arg(ground)?
+        .arg(turns)?
+        .arg(json(alloc).help("Print it as one line of JSON"))?;
+    let steps = Command::new(alloc, "steps")
+        .about(
+            "Plays a script of steps on the words of the stack, and prints what each saw and the words",
+        )
+        .arg(script_file(alloc))?;
+    Ok(
+        Command::new(alloc, "mbufpool")
+            .about("A pool of packet buffers")
+            .version(VERSION)
+            .subcommand_required(true)
+            .subcommand(replay)?
+            .subcommand(run)?
+            .subcommand(steps)?,
+    )
+}
+
+/// The file that is named.
+fn script_file<'a>(alloc: Global) -> Arg<'a> {
+    Arg::new(alloc, "FILE").required(true).help("The script")
+}
+
+/// The flag that asks for JSON.
+fn json<'a>(alloc: Global) -> Arg<'a> {
+    Arg::new(alloc, "json")
+        .long("json")
+        .action(ArgAction::SetTrue)
+}

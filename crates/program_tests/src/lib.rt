@@ -1,0 +1,5 @@
+//! Tests of the program, from its words and files to its statuses and lines.
+#![tactic(auto)]
+
+#[cfg(test)]
+mod tests;

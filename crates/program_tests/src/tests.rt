@@ -1,0 +1,13 @@
+//! Tests of the program, from its words and files to its statuses and lines.
+use std::fmt::Debug;
+use std::process::Abort;
+
+mod faults;
+mod files;
+mod screen;
+mod words;
+
+/// Both are one; else it is told of what, with both.
+fn same<R: Abort, T: PartialEq + Debug>(rt: &R, given: &T, wanted: &T, what: &str) {
+    assert!(rt; *given == *wanted, "{what}: {given:?}, not {wanted:?}");
+}

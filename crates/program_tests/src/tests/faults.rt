@@ -1,0 +1,74 @@
+//! Faults: their lines and statuses.
+use super::same;
+use super::screen::Full;
+use commons::refusal::Refusal;
+use std::test::Fail;
+use tasks::failures::{Failure, FaultLine};
+use tasks::tell;
+
+static REFUSALS: [Refusal; 23] = [
+    Refusal::BadPool,
+    Refusal::OutOfMemory,
+    Refusal::NoEntries,
+    Refusal::Contended,
+    Refusal::HeadSpent,
+    Refusal::RefSpent,
+    Refusal::TooManySegs,
+    Refusal::NoRoom,
+    Refusal::TooShort,
+    Refusal::NotDirect,
+    Refusal::NotIndirect,
+    Refusal::InUse,
+    Refusal::NoSuchPacket,
+    Refusal::PacketsFull,
+    Refusal::DeskTaken,
+    Refusal::DeskEmpty,
+    Refusal::NoSuchDesk,
+    Refusal::MissingShare(64),
+    Refusal::StrangerShare,
+    Refusal::ScriptFault(0),
+    Refusal::StepRefused,
+    Refusal::Foreign,
+    Refusal::SamePacket,
+];
+
+#[test]
+fn a_fault_line_has_the_number_and_what_the_refusal_displays(rt: HostRuntime) -> Result<(), Fail> {
+    let alloc = rt.alloc();
+    for refusal in REFUSALS {
+        let line = format!(in alloc; "{}", FaultLine(refusal))?;
+        let displayed = format!(in alloc; "fault {} {}", refusal.number(), refusal)?;
+        same(&rt, &line.as_str(), &displayed.as_str(), "a fault line");
+    }
+    Ok(())
+}
+
+static LINES: [(Failure<'static>, &str); 4] = [
+    (
+        Failure::Fault(Refusal::OutOfMemory),
+        "fault 2 OutOfMemory\n",
+    ),
+    (
+        Failure::Fault(Refusal::MissingShare(3)),
+        "fault 18 MissingShare worker 3\n",
+    ),
+    (
+        Failure::Fault(Refusal::ScriptFault(17)),
+        "fault 20 ScriptFault line 17\n",
+    ),
+    (
+        Failure::Unreadable("../no such file"),
+        "cannot read ../no such file\n",
+    ),
+];
+
+#[test]
+fn a_failure_has_its_line(rt: HostRuntime) -> Result<(), Fail> {
+    for (failure, line) in &LINES {
+        let mut errors = Vec::new(rt.alloc());
+        tell(&mut errors, failure)?;
+        same(&rt, &String::from_utf8(errors)?.as_str(), line, line);
+        same(&rt, &tell(&mut Full, failure).is_err(), &true, "untold");
+    }
+    Ok(())
+}

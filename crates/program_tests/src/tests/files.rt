@@ -1,0 +1,287 @@
+//! Files that are replayed, run, played step by step, or can't be read.
+use super::same;
+use super::screen::{Full, Screen};
+use script::Grounds;
+use std::alloc::Global;
+use std::io::Read;
+use std::rt::Files;
+use std::sync::Wait;
+use std::test::Fail;
+use std::thread::Threads;
+use std::{env, fs, io, process};
+use tasks::scripts::{Disk, Scripts, bytes_of};
+use tasks::task::{Form, Request, Task, Turns};
+use tasks::{print, printed, tell};
+
+/// The path of a file of this test in the folder for such files.
+fn path(rt: &HostRuntime, name: &str) -> Result<String, Fail> {
+    let folder = env::temp_dir(rt)?;
+    let process = process::id(rt.process());
+    Ok(format!(in rt.alloc(); "{}/mbufpool-{process}-{name}", folder.display())?)
+}
+
+const FIRST_RUN: &str = "pool 3\nalloc a\nalloc b\nfree a\n";
+
+const FIRST_RUN_TEXT: &str = "2: ok 0\n3: ok 1\n4: ok back 1 flushed 1\n\
+    population 3\navailable 2\nin use 1\ncommon 2: 0 2\ncache 1 0:\n\
+    packet 1 1 segs 1 len 0: 1@128+0/2048\nheld 1 count 1: 1\n";
+
+const FIRST_RUN_STATEMENT: &str = "population 3\navailable 2\nin use 1\ncommon 2: 0 2\ncache 1 0:\n\
+    packet 1 1 segs 1 len 0: 1@128+0/2048\nheld 1 count 1: 1\n";
+
+const FIRST_RUN_JSON: &str = "{\"available\":2,\"caches\":[[]],\"common\":[0,2],\"desks\":[],\
+    \"held\":[{\"count\":1,\"elem\":1,\"holders\":[\"1\"]}],\"in_use\":1,\
+    \"packets\":[{\"segs\":[{\"base\":null,\"buf\":2048,\"elem\":1,\"len\":0,\"off\":128}],\
+    \"slot\":1,\"worker\":1}],\"population\":3}\n";
+
+/// What comes of a task with a script: its text, or the line of the failure.
+fn outcome<R: Threads + Wait + Sync, S: Scripts>(
+    rt: &R,
+    alloc: Global,
+    scripts: &S,
+    request: &Request<'_>,
+) -> Result<String, Fail> {
+    match printed(rt, alloc, scripts, request) {
+        Ok(text) => Ok(String::from_utf8(text)?),
+        Err(failure) => {
+            let mut errors = Vec::new(alloc);
+            tell(&mut errors, &failure)?;
+            Ok(String::from_utf8(errors)?)
+        }
+    }
+}
+
+/// What comes of a task with a file, which is removed afterwards.
+fn outcome_of<R: Threads + Wait + Sync + Files + AllocGlobal>(
+    rt: &R,
+    path: &str,
+    script: &str,
+    task: Task,
+) -> Result<String, Fail> {
+    fs::write(rt, path, script)?;
+    let told = outcome(rt, rt.alloc(), &Disk(rt), &Request { file: path, task })?;
+    fs::remove_file(rt, path)?;
+    Ok(told)
+}
+
+static REPLAYED: [(&str, Form, &str); 4] = [
+    (FIRST_RUN, Form::Text, FIRST_RUN_TEXT),
+    (FIRST_RUN, Form::Json, FIRST_RUN_JSON),
+    ("pull 3\n", Form::Text, "fault 20 ScriptFault line 1\n"),
+    ("pull 3\n", Form::Json, "fault 20 ScriptFault line 1\n"),
+];
+
+#[test]
+fn a_file_is_replayed_or_a_fault(rt: HostRuntime) -> Result<(), Fail> {
+    let path = path(&rt, "script")?;
+    for (script, form, text) in REPLAYED {
+        let told = outcome_of(&rt, path.as_str(), script, Task::Replay(form))?;
+        same(&rt, &told.as_str(), &text, script);
+    }
+    Ok(())
+}
+
+static RUN: [(&str, Form, &str); 4] = [
+    (FIRST_RUN, Form::Text, FIRST_RUN_STATEMENT),
+    (FIRST_RUN, Form::Json, FIRST_RUN_JSON),
+    ("pool 0\n", Form::Text, "fault 1 BadPool\n"),
+    ("pull 3\n", Form::Json, "fault 20 ScriptFault line 1\n"),
+];
+
+/// A run of one worker is its replay without the replies, whatever its pool rests on.
+#[test]
+fn a_run_prints_where_each_element_is_at_the_end(rt: HostRuntime) -> Result<(), Fail> {
+    let path = path(&rt, "run")?;
+    let Some(turns) = Turns::new(1) else {
+        return Err(Fail::from("one turn is some"));
+    };
+    for (script, form, text) in RUN {
+        for grounds in [Grounds::Words, Grounds::Locked] {
+            let told = outcome_of(&rt, path.as_str(), script, Task::Run(grounds, turns, form))?;
+            same(&rt, &told.as_str(), &text, script);
+        }
+    }
+    Ok(())
+}
+
+static STEPPED: [(&str, &str); 4] = [
+    (
+        "pool 1\nloadlength\ncut\n",
+        "2: value 1\n3: refused 21 StepRefused\n\
+        head 0 0\nlength 1\ncommon 1: 0\nview 1 credit 0\nhand 1 0:\nholds 1 0:\n",
+    ),
+    ("pool 0\n", "fault 1 BadPool\n"),
+    ("pool 1\ncuts\n", "fault 20 ScriptFault line 2\n"),
+    ("pool 1\nalloc a\n", "fault 20 ScriptFault line 2\n"),
+];
+
+#[test]
+fn steps_print_what_each_saw_and_the_words(rt: HostRuntime) -> Result<(), Fail> {
+    let path = path(&rt, "steps")?;
+    for (script, text) in STEPPED {
+        let told = outcome_of(&rt, path.as_str(), script, Task::Steps)?;
+        same(&rt, &told.as_str(), &text, script);
+    }
+    Ok(())
+}
+
+/// What a replay of a file tells, and what it ought to tell where it can't be read.
+fn told_unread<R: Threads + Wait + Sync + Files + AllocGlobal>(
+    rt: &R,
+    file: &str,
+) -> Result<(String, String), Fail> {
+    let task = Task::Replay(Form::Text);
+    let told = outcome(rt, rt.alloc(), &Disk(rt), &Request { file, task })?;
+    Ok((told, format!(in rt.alloc(); "cannot read {file}\n")?))
+}
+
+#[test]
+fn a_missing_file_and_a_folder_cant_be_read(rt: HostRuntime) -> Result<(), Fail> {
+    let missing = path(&rt, "missing")?;
+    let folder = env::temp_dir(&rt)?;
+    let folder = format!(in rt.alloc(); "{}", folder.display())?;
+    for file in [missing.as_str(), folder.as_str()] {
+        let (told, wanted) = told_unread(&rt, file)?;
+        same(&rt, &told.as_str(), &wanted.as_str(), file);
+    }
+    Ok(())
+}
+
+/// A file, what is printed and what is told of it, and the status.
+type EndRow = (&'static str, &'static str, &'static str, u8);
+
+static ENDED: [EndRow; 2] = [
+    (FIRST_RUN, FIRST_RUN_TEXT, "", 0),
+    ("pull 3\n", "", "fault 20 ScriptFault line 1\n", 1),
+];
+
+/// What is printed of a file's replay, what is told, and the status.
+fn ended<R: Threads + Wait + Sync + Files + AllocGlobal>(
+    rt: &R,
+    file: &str,
+) -> Result<(String, String, u8), Fail> {
+    let mut screen = Screen::new(rt.alloc());
+    let (output, errors) = (&mut screen.output, &mut screen.errors);
+    let task = Task::Replay(Form::Text);
+    let status = print(
+        rt,
+        rt.alloc(),
+        &Disk(rt),
+        &Request { file, task },
+        output,
+        errors,
+    )?;
+    let (output, errors) = screen.written()?;
+    Ok((output, errors, status))
+}
+
+#[test]
+fn a_print_goes_to_the_output_and_a_failure_to_the_errors(rt: HostRuntime) -> Result<(), Fail> {
+    let path = path(&rt, "print")?;
+    for (script, text, line, wanted) in ENDED {
+        fs::write(&rt, path.as_str(), script)?;
+        let (output, errors, status) = ended(&rt, path.as_str())?;
+        fs::remove_file(&rt, path.as_str())?;
+        let given = (output.as_str(), errors.as_str(), status);
+        same(&rt, &given, &(text, line, wanted), script);
+    }
+    Ok(())
+}
+
+/// Whether a print to a writer that takes nothing, and a failure told to one, fail.
+fn unwritten<R: Threads + Wait + Sync + Files + AllocGlobal>(rt: &R, file: &str) -> bool {
+    let task = Task::Replay(Form::Text);
+    let request = Request { file, task };
+    print(rt, rt.alloc(), &Disk(rt), &request, &mut Full, &mut Full).is_err()
+}
+
+#[test]
+fn a_print_and_a_failure_that_cant_be_written_are_errors(rt: HostRuntime) -> Result<(), Fail> {
+    let path = path(&rt, "full")?;
+    same(&rt, &unwritten(&rt, path.as_str()), &true, "a failure");
+    fs::write(&rt, path.as_str(), FIRST_RUN)?;
+    let failed = unwritten(&rt, path.as_str());
+    fs::remove_file(&rt, path.as_str())?;
+    same(&rt, &failed, &true, "a print");
+    Ok(())
+}
+
+#[test]
+fn of_a_file_that_is_too_long_one_byte_too_many_is_read(rt: HostRuntime) -> Result<(), Fail> {
+    let path = path(&rt, "long")?;
+    let long = vec![in rt.alloc(); b'#'; 1_048_580]?;
+    fs::write(&rt, path.as_str(), long.as_slice())?;
+    let script = Disk(&rt).read(rt.alloc(), path.as_str());
+    fs::remove_file(&rt, path.as_str())?;
+    let len = script.map(|bytes| bytes.len()).ok();
+    same(&rt, &len, &Some(1_048_577), "how many bytes are read");
+    Ok(())
+}
+
+/// A disk that fails in this way.
+#[derive(Drop)]
+struct Fails(io::ErrorKind);
+
+impl Scripts for Fails {
+    fn read(&self, _alloc: Global, _name: &str) -> io::Result<Vec<u8>> {
+        Err(io::Error::from(self.0))
+    }
+}
+
+static FAILED: [(io::ErrorKind, &str); 5] = [
+    (io::ErrorKind::OutOfMemory, "fault 2 OutOfMemory\n"),
+    (io::ErrorKind::NotFound, "cannot read a.script\n"),
+    (io::ErrorKind::PermissionDenied, "cannot read a.script\n"),
+    (io::ErrorKind::IsADirectory, "cannot read a.script\n"),
+    (io::ErrorKind::Other, "cannot read a.script\n"),
+];
+
+#[test]
+fn each_error_of_a_reading_is_told_but_memory_as_a_file_that_cant_be_read(
+    rt: HostRuntime,
+) -> Result<(), Fail> {
+    let file = "a.script";
+    for (kind, line) in FAILED {
+        for task in [
+            Task::Replay(Form::Text),
+            Task::Replay(Form::Json),
+            Task::Steps,
+        ] {
+            let found = outcome(&rt, rt.alloc(), &Fails(kind), &Request { file, task })?;
+            same(&rt, &found.as_str(), &line, "a reading that fails");
+        }
+    }
+    Ok(())
+}
+
+/// A reader that gives one byte, and then this error.
+#[derive(Drop)]
+struct Breaks {
+    is_begun: bool,
+    kind: io::ErrorKind,
+}
+
+impl Read for Breaks {
+    fn read(&mut self, bytes: &mut [u8]) -> io::Result<usize> {
+        if self.is_begun || bytes.is_empty() {
+            return Err(io::Error::from(self.kind));
+        }
+        self.is_begun = true;
+        bytes[0] = b'p';
+        Ok(1)
+    }
+}
+
+#[test]
+fn a_reading_that_breaks_gives_its_error_and_no_bytes(rt: HostRuntime) {
+    for kind in [io::ErrorKind::OutOfMemory, io::ErrorKind::TimedOut] {
+        let source = Breaks {
+            is_begun: false,
+            kind,
+        };
+        let error = bytes_of(rt.alloc(), source)
+            .map_err(|error| error.kind())
+            .err();
+        same(&rt, &error, &Some(kind), "the error of a reading");
+    }
+}

@@ -1,0 +1,169 @@
+//! The words of the command line.
+use super::same;
+use super::screen::{Full, Screen};
+use command_line::{request_of, tell};
+use script::Grounds;
+use std::alloc::{AllocError, Global};
+use std::test::Fail;
+use tasks::task::{Form, Task};
+
+/// What a task is called, a run with what it rests on, in how many turns a line is tried, 0 where none are named, and its
+/// form.
+type Asked = (&'static str, u32, Form);
+
+/// Words, the file that they name, and what they ask for.
+type NamedRow = (&'static [&'static str], &'static str, Asked);
+
+static NAMED: &[NamedRow] = &[
+    (
+        &["replay", "a.script"],
+        "a.script",
+        ("replay", 0, Form::Text),
+    ),
+    (&["replay", "a", "--json"], "a", ("replay", 0, Form::Json)),
+    (&["replay", "--json", "a"], "a", ("replay", 0, Form::Json)),
+    (
+        &["replay", "--", "--json"],
+        "--json",
+        ("replay", 0, Form::Text),
+    ),
+    (&["run", "a"], "a", ("run on words", 1_000, Form::Text)),
+    (
+        &["run", "a", "--ground", "words"],
+        "a",
+        ("run on words", 1_000, Form::Text),
+    ),
+    (
+        &["run", "a", "--ground", "locked"],
+        "a",
+        ("run under a lock", 1_000, Form::Text),
+    ),
+    (
+        &["run", "a", "--turns", "1", "--json"],
+        "a",
+        ("run on words", 1, Form::Json),
+    ),
+    (
+        &["run", "--turns", "1000000", "a", "--ground=locked"],
+        "a",
+        ("run under a lock", 1_000_000, Form::Text),
+    ),
+    (
+        &["steps", "aba.script"],
+        "aba.script",
+        ("steps", 0, Form::Text),
+    ),
+    (&["steps", "--", "-"], "-", ("steps", 0, Form::Text)),
+];
+
+static WRONG: &[&[&str]] = &[
+    &["steps"],
+    &["steps", "a", "--json"],
+    &["steps", "a", "b"],
+    &["run"],
+    &["run", "a", "--turns", "0"],
+    &["run", "a", "--turns", "1000001"],
+    &["run", "a", "--turns", "-1"],
+    &["run", "a", "--turns", "many"],
+    &["run", "a", "--ground", "lists"],
+    &["run", "a", "--ground", ""],
+    &["run", "a", "--ground"],
+    &["replay", "a", "--ground", "words"],
+    &["replay", "a", "--turns", "5"],
+    &[],
+    &["replay"],
+    &["replay", "a", "b"],
+    &["play", "a"],
+    &["play"],
+    &["replay", "-x"],
+    &["replay", "--json"],
+    &["replay", "a", "--json", "--json"],
+    &["replay", "a", "--json=true"],
+];
+
+/// Words that ask for a text, and a part of it.
+static ASKED: &[(&[&str], &str)] = &[
+    (
+        &["replay", "--help"],
+        "Usage: mbufpool replay [OPTIONS] <FILE>",
+    ),
+    (&["replay", "--help"], "--json"),
+    (&["--help"], "Usage: mbufpool"),
+    (&["--version"], "mbufpool 0.1.0\n"),
+];
+
+fn line(alloc: Global, words: &[&str]) -> Result<Vec<String>, AllocError> {
+    let mut line = vec![in alloc; String::from_str(alloc, "mbufpool")?]?;
+    for word in words {
+        line.push(String::from_str(alloc, word)?)?;
+    }
+    Ok(line)
+}
+
+/// What a task is called, with its turns and its form.
+fn asked_by(task: Task) -> Asked {
+    match task {
+        Task::Replay(form) => ("replay", 0, form),
+        Task::Run(Grounds::Words, turns, form) => ("run on words", turns.count(), form),
+        Task::Run(Grounds::Locked, turns, form) => ("run under a lock", turns.count(), form),
+        Task::Steps => ("steps", 0, Form::Text),
+    }
+}
+
+#[test]
+fn words_name_a_file_and_what_is_to_be_done_with_it(rt: HostRuntime) -> Result<(), Fail> {
+    for (words, file, asked) in NAMED {
+        let words = line(rt.alloc(), words)?;
+        match request_of(rt.alloc(), words.as_slice()) {
+            Ok(found) => same(
+                &rt,
+                &(found.file, asked_by(found.task)),
+                &(*file, *asked),
+                file,
+            ),
+            Err(_) => return Err(Fail::from("no file")),
+        }
+    }
+    Ok(())
+}
+
+/// What is told of words that name no file, on the output and as errors, and two statuses: where that is
+/// written, and where it can't be.
+fn told(alloc: Global, words: &[&str]) -> Result<(String, String, u8, u8), Fail> {
+    let words = line(alloc, words)?;
+    match request_of(alloc, words.as_slice()) {
+        Ok(_) => Err(Fail::from("a file")),
+        Err(unasked) => {
+            let mut screen = Screen::new(alloc);
+            let status = tell(&mut screen.output, &mut screen.errors, &unasked);
+            let (output, errors) = screen.written()?;
+            let untold = tell(&mut Full, &mut Full, &unasked);
+            Ok((output, errors, status, untold))
+        }
+    }
+}
+
+#[test]
+fn wrong_words_are_told_of_as_an_error_with_status_2(rt: HostRuntime) -> Result<(), Fail> {
+    for words in WRONG {
+        let (output, errors, status, untold) = told(rt.alloc(), words)?;
+        let given = (
+            output.is_empty(),
+            errors.starts_with("error: "),
+            status,
+            untold,
+        );
+        same(&rt, &given, &(true, true, 2, 2), "wrong words");
+    }
+    Ok(())
+}
+
+#[test]
+fn help_and_the_version_are_written_to_the_output(rt: HostRuntime) -> Result<(), Fail> {
+    for (words, text) in ASKED {
+        let (output, errors, status, untold) = told(rt.alloc(), words)?;
+        let given = (output.contains(*text), errors.is_empty(), status, untold);
+        same(&rt, &given, &(true, true, 0, 1), text);
+    }
+    Ok(())
+}

@@ -1,0 +1,10 @@
+use Rattle.std.proofs.Common.{IfErr, IfOk, subst, sym}
+use Rattle.tasks.specs.Forms.{IsCauseFor, IsDoneAs}
+use Rattle.tasks.specs.declared.task.Task.{Task}
+use Rattle.tasks.proofs.replay.done.Goals as goal
+
+-- the task is a run, and this is printed for it
+pub returns-in-Run-clause-printed : goal.returns-in-Run-clause-printed
+returns-in-Run-clause-printed g c =
+    subst (λ (t : Task). IfOk c.text.result (λ out. IsDoneAs t c.args.script.now out.items))
+    (sym c.in-Run.is) c.text.ensures.printed

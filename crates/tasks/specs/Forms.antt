@@ -1,0 +1,44 @@
+-- What is printed in each form, and for each task.
+use Rattle.std.specs.Prelude.{ℕ, ◌≡◌, List, ◌++◌, codes}
+use Rattle.commons.specs.declared.refusal.Refusal.{Refusal}
+use Rattle.json_text.specs.StatementData.{json_of}
+use Rattle.pool_model.specs.declared.statement.Statement.{Statement}
+use Rattle.script.specs.Printed.{IsJsonFor, IsPrintedFor}
+use Rattle.script.specs.Running.{RunsTo}
+use Rattle.script.specs.declared.threaded.Grounds.{Grounds}
+use Rattle.script.specs.StatementText.{text_of}
+use Rattle.script_text.specs.Grammar.{IsCause}
+use Rattle.script_text.specs.StepGrammar.{IsStepCause}
+use Rattle.step_text.specs.Printed.{IsStepsPrint}
+use Rattle.tasks.specs.declared.task.Form.{Form}
+use Rattle.tasks.specs.declared.task.Form.TheVariants.{Text, Json}
+use Rattle.tasks.specs.declared.task.Task.{Task}
+use Rattle.tasks.specs.declared.task.Task.TheVariants.{Replay, Run, Steps}
+
+-- the bytes are a script, and this is printed for its replay in this form
+abbrev pub IsPrintedAs : Form → List ℕ → List ℕ → Type 0
+IsPrintedAs Text = IsPrintedFor
+IsPrintedAs Json = IsJsonFor
+
+-- this is the statement in this form
+abbrev pub IsStatementAs : Form → Statement → List ℕ → Type 0
+IsStatementAs Text s out = out ≡ text_of s
+IsStatementAs Json s out = out ≡ json_of s ++ codes "\n"
+
+-- the bytes are a script, and this is printed for its run in threads on such a ground in this form
+pub record IsRunPrintedAs (grounds : Grounds) (form : Form) (bytes out : List ℕ) : Type 0 where
+  pub statement : Statement
+  pub runs : RunsTo grounds bytes statement
+  pub written : IsStatementAs form statement out
+
+-- the bytes are a script, and this is printed for what is done with it
+abbrev pub IsDoneAs : Task → List ℕ → List ℕ → Type 0
+IsDoneAs (Replay form) = IsPrintedAs form
+IsDoneAs (Run grounds turns form) = IsRunPrintedAs grounds form
+IsDoneAs Steps = IsStepsPrint
+
+-- why nothing is printed for what is to be done with these bytes
+abbrev pub IsCauseFor : Task → List ℕ → Refusal → Type 0
+IsCauseFor (Replay form) = IsCause
+IsCauseFor (Run grounds turns form) = IsCause
+IsCauseFor Steps = IsStepCause

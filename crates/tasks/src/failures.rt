@@ -1,0 +1,45 @@
+//! Why nothing was printed of a script, and the line that tells of it.
+ghost use Rattle.std.specs.Prelude.{OnOk, Some};
+ghost use Rattle.std.specs.Io.KnownBytes.{Appends};
+ghost use Rattle.tasks.specs.Failures.{fault_text, line_of};
+
+use commons::refusal::Refusal;
+use std::io::Write;
+use std::{fmt, io};
+
+/// Why nothing was printed of a script.
+#[derive(Clone, Copy, Debug)]
+pub enum Failure<'a> {
+    /// This file can't be read.
+    Unreadable(&'a str),
+    /// The script has a fault, or memory was refused.
+    Fault(Refusal),
+}
+
+/// The line that tells of a fault: the refusal's number and name, and the worker or the line.
+#[derive(Clone, Copy)]
+pub struct FaultLine(pub Refusal);
+
+impl fmt::Display for FaultLine {
+    ghost output = { λ line. Some (fault_text line.0) };
+
+    fn fmt<W: fmt::Write>(&self, f: &mut fmt::Formatter<W>) -> fmt::Result {
+        let refusal = self.0;
+        write!(f, "fault {} {}", refusal.number(), refusal.name())?;
+        match refusal {
+            Refusal::MissingShare(worker) => write!(f, " worker {worker}"),
+            Refusal::ScriptFault(line) => write!(f, " line {line}"),
+            _ => Ok(()),
+        }
+    }
+}
+
+/// Writes the line that tells of a failure.
+pub fn tell<E: Write>(errors: &mut E, failure: &Failure<'_>) -> io::Result<()>
+    ensures { OnOk result (Appends (E.contents errors.old) (E.contents errors.new) (line_of failure.now)) }
+{
+    match failure {
+        Failure::Unreadable(file) => writeln!(errors, "cannot read {file}"),
+        Failure::Fault(refusal) => writeln!(errors, "{}", FaultLine(*refusal)),
+    }
+}

@@ -1,0 +1,13 @@
+//! What the program does with a script: its replay, its run in threads, or its steps, printed; or the failure that
+//! came.
+#![tactic(auto)]
+
+pub mod failures;
+pub mod printing;
+mod replay;
+mod running;
+pub mod scripts;
+pub mod task;
+
+pub use failures::tell;
+pub use printing::{print, printed};

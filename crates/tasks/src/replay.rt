@@ -1,0 +1,43 @@
+//! What is printed of a script: its replay, what its run comes to, or its steps, in the form that is asked for.
+ghost use Rattle.std.specs.Prelude.{IfErr, IfOk};
+ghost use Rattle.script_text.specs.Grammar.{IsCause};
+ghost use Rattle.tasks.specs.Forms.{IsCauseFor, IsDoneAs, IsPrintedAs};
+
+use crate::running;
+use crate::task::{Form, Task};
+use commons::refusal::Refusal;
+use script::{run_replay, run_replay_json, run_steps};
+use std::alloc::Global;
+use std::sync::Wait;
+use std::thread::Threads;
+
+/// What is printed of these bytes for a task.
+///
+/// `ScriptFault` where they are no script, `BadPool` where no pool can be made within the script's limits, and
+/// `OutOfMemory` where memory was refused, or of a run under the lock a thread.
+pub fn done<R: Threads + Wait + Sync>(
+    rt: &R,
+    alloc: Global,
+    script: &[u8],
+    task: Task,
+) -> Result<Vec<u8>, Refusal>
+    ensures printed { IfOk result (λ out. IsDoneAs task script.now out.items) }
+    ensures cause { IfErr result (IsCauseFor task script.now) }
+{
+    match task {
+        Task::Replay(form) => replayed(alloc, script, form),
+        Task::Run(grounds, turns, form) => running::text(rt, alloc, script, grounds, turns, form),
+        Task::Steps => run_steps(alloc, script),
+    }
+}
+
+/// What the replay of these bytes prints in a form.
+fn replayed(alloc: Global, script: &[u8], form: Form) -> Result<Vec<u8>, Refusal>
+    ensures printed { IfOk result (λ out. IsPrintedAs form script.now out.items) }
+    ensures cause { IfErr result (IsCause script.now) }
+{
+    match form {
+        Form::Text => run_replay(alloc, script),
+        Form::Json => run_replay_json(alloc, script),
+    }
+}

@@ -1,0 +1,42 @@
+//! The run of a script in threads, in the form that is asked for.
+ghost use Rattle.std.specs.Prelude.{◌≡◌, IfErr, IfOk};
+ghost use Rattle.script_text.specs.Grammar.{IsCause};
+ghost use Rattle.tasks.specs.Forms.{IsRunPrintedAs, IsStatementAs};
+
+use crate::task::{Form, Turns};
+use commons::refusal::Refusal;
+use pool_model::statement::Statement;
+use script::{Grounds, run_script, statement_json, statement_text};
+use std::alloc::Global;
+use std::sync::Wait;
+use std::thread::Threads;
+
+/// What a run of these bytes with a thread for each worker prints in a form.
+///
+/// `ScriptFault` where they are no script, `BadPool` where no pool can be made within the script's limits, and
+/// `OutOfMemory` where memory was refused, or under the lock a thread.
+pub fn text<R: Threads + Wait + Sync>(
+    rt: &R,
+    alloc: Global,
+    script: &[u8],
+    grounds: Grounds,
+    turns: Turns,
+    form: Form,
+) -> Result<Vec<u8>, Refusal>
+    ensures printed { IfOk result (λ out. IsRunPrintedAs grounds form script.now out.items) }
+    ensures cause { IfErr result (IsCause script.now) }
+{
+    let statement = run_script(rt, alloc, script, grounds, turns.count())?;
+    written(alloc, &statement, form)
+}
+
+/// A statement in a form.
+fn written(alloc: Global, statement: &Statement, form: Form) -> Result<Vec<u8>, Refusal>
+    ensures text { IfOk result (λ out. IsStatementAs form statement.now out.items) }
+    ensures memory { IfErr result (λ refusal. refusal ≡ Refusal.OutOfMemory) }
+{
+    match form {
+        Form::Text => statement_text(alloc, statement),
+        Form::Json => statement_json(alloc, statement),
+    }
+}

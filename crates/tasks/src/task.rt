@@ -1,0 +1,59 @@
+//! What is to be done with a script, and in which form it is printed.
+
+ghost use Rattle.std.specs.Prelude.{◌≡◌, ◌≤◌, MatchOption};
+
+use script::Grounds;
+
+/// In which form it is printed where each element is at the end.
+#[derive(Clone, Copy, PartialEq, Eq, Debug)]
+pub enum Form {
+    /// Line by line; behind the replies, if it is a replay.
+    Text,
+    /// As one line of JSON.
+    Json,
+}
+
+/// How often a line is tried in all, at least once.
+#[derive(Clone, Copy, PartialEq, Eq, Debug)]
+pub struct Turns {
+    count: u32,
+    ghost at_least_one: { 1 ≤ count },
+}
+
+impl Turns {
+    /// So many turns, if they are any.
+    pub fn new(count: u32) -> Option<Turns>
+        ensures { MatchOption result (count ≡ 0) (λ turns. turns.count ≡ count) }
+    {
+        if count == 0 {
+            None
+        } else {
+            Some(Turns { count })
+        }
+    }
+
+    /// How many they are.
+    pub fn count(self) -> u32
+        ensures { 1 ≤ result }
+    {
+        self.count
+    }
+}
+
+/// What is to be done with a script.
+#[derive(Clone, Copy, PartialEq, Eq, Debug)]
+pub enum Task {
+    /// Its replay in one thread.
+    Replay(Form),
+    /// Its run with a thread for each worker, on a pool that rests on this.
+    Run(Grounds, Turns, Form),
+    /// Its steps, each on one word or slot.
+    Steps,
+}
+
+/// What is asked for: what is to be done with a file.
+#[derive(Clone, Copy, PartialEq, Eq, Debug)]
+pub struct Request<'a> {
+    pub file: &'a str,
+    pub task: Task,
+}
