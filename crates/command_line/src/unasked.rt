@@ -45,7 +45,8 @@ impl From<Error> for Unasked {
     }
 }
 
-/// Says why nothing was asked for, and gives the status of the program. It is 1 for 0 where the text can't be written.
+/// Says why nothing was asked for, and gives the status of the program; where the text can't be written, 1 in place of 0.
+/// No clause says what is written, since `clap` says nothing of the text of its errors.
 pub fn tell<O: Write, E: Write>(screen: &mut O, errors: &mut E, unasked: &Unasked) -> u8
     ensures failed { 0 < status_of unasked.now → result ≡ status_of unasked.now }
     ensures help { status_of unasked.now ≡ 0 → result ≤ 1 }

@@ -16,8 +16,8 @@ use std::thread::Threads;
 
 /// Prints what is asked for of the script that a request names, or tells why there is nothing to print.
 ///
-/// Gives the status that the program ends with: 0 where it was printed, and 1 where a failure was told. The error is that
-/// of the writer that failed.
+/// Gives the status that the program ends with: 0 where it was printed, and 1 where a failure was told; the other writer
+/// is then as before. The error is that of the writer that failed, which may have taken a part.
 pub fn print<R: Threads + Wait + Sync, S: Scripts, O: Write, E: Write>(
     rt: &R,
     alloc: Global,
@@ -41,6 +41,10 @@ pub fn print<R: Threads + Wait + Sync, S: Scripts, O: Write, E: Write>(
         (E.contents errors.old)
         (E.contents errors.new)) }
     ensures status { IfOk result (λ status. status ≤ 1) }
+    // The other of the two is as it was.
+    ensures quiet { IfOk result (λ status.
+        (status ≡ 0 → E.contents errors.new ≡ E.contents errors.old)
+        × (status ≢ 0 → O.contents screen.new ≡ O.contents screen.old)) }
 {
     match printed(rt, alloc, scripts, request) {
         Ok(text) => {

@@ -39,7 +39,7 @@ impl<R: Files> Scripts for Disk<'_, R> {
     }
 }
 
-/// All bytes of a reader, or the first `BYTES_READ` of more.
+/// All bytes of a reader, or the first `BYTES_READ` of more. The error is the reader's, or that memory was refused.
 pub fn bytes_of<S: Read + Drop>(alloc: Global, source: S) -> io::Result<Vec<u8>>
     ensures { IfOk result (λ bytes. IfSome (S.remaining source) (λ known. bytes.items ≡ take BYTES_READ known)) }
 {

@@ -34,7 +34,8 @@ impl Turns {
 
     /// How many they are.
     pub fn count(self) -> u32
-        ensures { 1 ≤ result }
+        ensures count { result ≡ self.count }
+        ensures some { 1 ≤ result }
     {
         self.count
     }
