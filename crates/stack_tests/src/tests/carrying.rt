@@ -9,8 +9,9 @@ use commons::shared::Commons;
 use crossbeam_utils::Backoff;
 use stack_lf::words::WordCommons;
 
-/// How often a worker tries to leave a packet on a desk, or to take one off, while another is in its way.
-const TRIES: u32 = 1_000_000;
+/// How often a worker tries to leave a packet on a desk, or to take one off, while another is in its way: for longer than a
+/// test may run, since beside other work the other's thread may begin late.
+const TRIES: u32 = 100_000_000;
 
 /// The most bytes of data in a buffer of 2,048 behind a headroom of 128.
 const MOST_DATA: u16 = 1_920;

@@ -288,10 +288,9 @@ fn hand_over(alloc: Global, ground: &Ground, worker: Worker) -> Played
     for place in 0..PACKETS {
         if sound {
             sound &= make(&mut c, &mut carried, len_of(place)).is_ok();
-            if offer_in_turn(&mut c, &mut carried) {
+            sound &= offer_in_turn(&mut c, &mut carried);
+            if sound {
                 met = met.saturating_add(1);
-            } else {
-                sound = false;
             }
         }
     }
@@ -321,7 +320,8 @@ fn take_over(alloc: Global, ground: &Ground, worker: Worker) -> Played
     for place in 0..PACKETS {
         if sound {
             sound &= take_in_turn(&mut c, &mut carried);
-            if let Some(seg) = first_seg(&carried) {
+            let taken = if sound { first_seg(&carried) } else { None };
+            if let Some(seg) = taken {
                 sound &= seg.data_len == len_of(place);
                 sound &= kept.push(seg.elem).is_ok();
                 met = met.saturating_add(1);
