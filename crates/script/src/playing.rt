@@ -133,8 +133,7 @@ pub fn asked<'a>(names: &Names<'a>, line: &'a Line) -> Option<Act>
     }
 }
 
-/// Keeps which packets a worker's names stand for, once its line has this reply. Refused where memory was refused;
-/// nothing is said of the names then.
+/// Keeps which packets a worker's names stand for, once its line has this reply.
 pub fn note<'a, const ROOM: usize>(
     names: &mut Names<'a>,
     line: &'a Line,
