@@ -13,8 +13,7 @@ fn main(rt: HostRuntime) -> ExitCode {
     ExitCode::from(run(&rt, &Disk(&rt), &mut rt.stdout(), &mut rt.stderr()))
 }
 
-/// Does what the command line asks for, and gives the status that the program ends with: 1 where a print or a failure
-/// couldn't be written.
+/// Does what the command line asks for, and gives the status that the program ends with.
 fn run<R: Env + AllocGlobal + Threads + Wait + Sync, S: Scripts, O: Write, E: Write>(
     rt: &R,
     scripts: &S,
@@ -26,9 +25,7 @@ fn run<R: Env + AllocGlobal + Threads + Wait + Sync, S: Scripts, O: Write, E: Wr
         Err(unasked) => return command_line::tell(screen, errors, &unasked),
     };
     match command_line::request_of(rt.alloc(), words.as_slice()) {
-        Ok(request) => {
-            tasks::print(rt, rt.alloc(), scripts, &request, screen, errors).unwrap_or(1)
-        }
+        Ok(request) => tasks::print(rt, rt.alloc(), scripts, &request, screen, errors),
         Err(unasked) => command_line::tell(screen, errors, &unasked),
     }
 }

@@ -10,4 +10,4 @@ pub mod scripts;
 pub mod task;
 
 pub use failures::tell;
-pub use printing::{print, printed};
+pub use printing::{print, print_or_tell, printed};

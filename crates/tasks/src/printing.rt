@@ -14,11 +14,35 @@ use std::io::Write;
 use std::sync::Wait;
 use std::thread::Threads;
 
+/// Prints what is asked for of the script that a request names, or tells why there is nothing to print, and gives the
+/// status that the program ends with: 0 where it was printed, else 1, also where a writer failed.
+pub fn print<R: Threads + Wait + Sync, S: Scripts, O: Write, E: Write>(
+    rt: &R,
+    alloc: Global,
+    scripts: &S,
+    request: &Request<'_>,
+    screen: &mut O,
+    errors: &mut E,
+) -> u8
+    // With status 0 the screen has the print for what the reading of this file gave, and nothing else new.
+    ensures whole { result ≡ 0 → PrintsFile
+        (S.gives scripts.now request.now.file.now)
+        request.now.task
+        (O.contents screen.old)
+        (O.contents screen.new) }
+    ensures status { result ≤ 1 }
+{
+    match print_or_tell(rt, alloc, scripts, request, screen, errors) {
+        Ok(status) => status,
+        Err(_) => 1,
+    }
+}
+
 /// Prints what is asked for of the script that a request names, or tells why there is nothing to print.
 ///
-/// Gives the status that the program ends with: 0 where it was printed, and 1 where a failure was told; the other writer
+/// Gives the status: 0 where it was printed, and 1 where a failure was told; the other writer
 /// is then as before. The error is that of the writer that failed, which may have taken a part.
-pub fn print<R: Threads + Wait + Sync, S: Scripts, O: Write, E: Write>(
+pub fn print_or_tell<R: Threads + Wait + Sync, S: Scripts, O: Write, E: Write>(
     rt: &R,
     alloc: Global,
     scripts: &S,

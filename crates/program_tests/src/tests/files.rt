@@ -11,7 +11,7 @@ use std::thread::Threads;
 use std::{env, fs, io, process};
 use tasks::scripts::{Disk, Scripts, bytes_of};
 use tasks::task::{Form, Request, Task, Turns};
-use tasks::{print, printed, tell};
+use tasks::{print, print_or_tell, printed, tell};
 
 /// The path of a file of this test in the folder for such files.
 fn path(rt: &HostRuntime, name: &str) -> Result<String, Fail> {
@@ -170,7 +170,7 @@ fn ended<R: Threads + Wait + Sync + Files + AllocGlobal>(
         &Request { file, task },
         output,
         errors,
-    )?;
+    );
     let (output, errors) = screen.written()?;
     Ok((output, errors, status))
 }
@@ -188,21 +188,23 @@ fn a_print_goes_to_the_output_and_a_failure_to_the_errors(rt: HostRuntime) -> Re
     Ok(())
 }
 
-/// Whether a print to a writer that takes nothing, and a failure told to one, fail.
-fn unwritten<R: Threads + Wait + Sync + Files + AllocGlobal>(rt: &R, file: &str) -> bool {
+/// Whether a print to a writer that takes nothing, or a failure told to one, fails, and the status then.
+fn unwritten<R: Threads + Wait + Sync + Files + AllocGlobal>(rt: &R, file: &str) -> (bool, u8) {
     let task = Task::Replay(Form::Text);
     let request = Request { file, task };
-    print(rt, rt.alloc(), &Disk(rt), &request, &mut Full, &mut Full).is_err()
+    let failed = print_or_tell(rt, rt.alloc(), &Disk(rt), &request, &mut Full, &mut Full).is_err();
+    let status = print(rt, rt.alloc(), &Disk(rt), &request, &mut Full, &mut Full);
+    (failed, status)
 }
 
 #[test]
 fn a_print_and_a_failure_that_cant_be_written_are_errors(rt: HostRuntime) -> Result<(), Fail> {
     let path = path(&rt, "full")?;
-    same(&rt, &unwritten(&rt, path.as_str()), &true, "a failure");
+    same(&rt, &unwritten(&rt, path.as_str()), &(true, 1), "a failure");
     fs::write(&rt, path.as_str(), FIRST_RUN)?;
     let failed = unwritten(&rt, path.as_str());
     fs::remove_file(&rt, path.as_str())?;
-    same(&rt, &failed, &true, "a print");
+    same(&rt, &failed, &(true, 1), "a print");
     Ok(())
 }
 

@@ -25,7 +25,7 @@ pub struct Screen {
 }
 
 impl Screen {
-    pub fn new(alloc: Global) -> Screen {
+    pub(super) fn new(alloc: Global) -> Screen {
         Screen {
             output: Vec::new(alloc),
             errors: Vec::new(alloc),
@@ -33,7 +33,7 @@ impl Screen {
     }
 
     /// Both as text.
-    pub fn written(self) -> Result<(String, String), Fail> {
+    pub(super) fn written(self) -> Result<(String, String), Fail> {
         let Screen { output, errors } = self;
         Ok((String::from_utf8(output)?, String::from_utf8(errors)?))
     }
