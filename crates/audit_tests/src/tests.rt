@@ -13,6 +13,7 @@ use std::test::Fail;
 mod building;
 mod calling;
 mod faults;
+mod guests;
 mod shown;
 mod vectors;
 mod words;
@@ -139,6 +140,7 @@ fn audit_rows<R: Abort + AllocGlobal>(rt: &R, rows: &[Row]) {
 #[test]
 fn each_snapshot_is_lawful_or_has_its_first_fault(rt: HostRuntime) {
     audit_rows(&rt, vectors::ROWS);
+    audit_rows(&rt, guests::ROWS);
     audit_rows(&rt, faults::LAWFUL);
     audit_rows(&rt, faults::SHAPES);
     audit_rows(&rt, faults::WALKS);
@@ -192,6 +194,54 @@ fn each_other_word_has_its_answer(rt: HostRuntime) -> Result<(), Fail> {
     Ok(())
 }
 
+/// How often each kind of answer came.
+#[derive(Clone, Copy, Default, PartialEq, Eq, Debug)]
+struct Tally {
+    lawful: u32,
+    bad_top: u32,
+    endless: u32,
+    bad_length: u32,
+    bad_count: u32,
+    other: u32,
+}
+
+impl Tally {
+    /// One answer more.
+    fn add(&mut self, answer: &Result<Statement, Fault>) {
+        let kind = match answer {
+            Ok(_) => &mut self.lawful,
+            Err(Fault::BadTop(_)) => &mut self.bad_top,
+            Err(Fault::Loop) => &mut self.endless,
+            Err(Fault::BadLength { .. }) => &mut self.bad_length,
+            Err(Fault::BadCount { .. }) => &mut self.bad_count,
+            Err(_) => &mut self.other,
+        };
+        *kind = kind.saturating_add(1);
+    }
+}
+
+/// What is answered of the small snapshot where one word is each other value of 0 to 5 in turn.
+#[test]
+fn of_forty_damaged_words_so_many_have_each_answer(rt: HostRuntime) {
+    let mut tally = Tally::default();
+    for (word, value) in vectors::SMALL_WORDS {
+        for other in 0..6 {
+            if other != *value {
+                tally.add(&audited(rt.alloc(), &vectors::SMALL, Some((*word, other))));
+            }
+        }
+    }
+    let wanted = Tally {
+        lawful: 5,
+        bad_top: 6,
+        endless: 5,
+        bad_length: 9,
+        bad_count: 15,
+        other: 0,
+    };
+    same(&rt, &tally, &wanted, "the small snapshot");
+}
+
 /// How many elements of a row's snapshot are held; `BadShape` where no pool has its limits.
 fn held_in(alloc: Global, shown: &Shown) -> Result<u64, Fault> {
     if shown.limits.check().is_err() {
@@ -214,12 +264,17 @@ fn a_caller_learns_how_many_elements_are_held(rt: HostRuntime) {
 }
 
 /// Whichever request for memory is refused, the answer is the same or `OutOfMemory`.
-#[test]
-fn refused_memory_changes_no_answer(rt: HostRuntime) {
-    for (name, shown, wanted) in faults::FOR_MEMORY {
+fn rows_for_memory<R: Abort + AllocGlobal>(rt: &R, rows: &[Row]) {
+    for (name, shown, wanted) in rows {
         match audited(rt.alloc(), shown, None) {
             Err(Fault::OutOfMemory) => {}
-            answer => assert_answer(&rt, answer, wanted, name),
+            answer => assert_answer(rt, answer, wanted, name),
         }
     }
+}
+
+#[test]
+fn refused_memory_changes_no_answer(rt: HostRuntime) {
+    rows_for_memory(&rt, faults::FOR_MEMORY);
+    rows_for_memory(&rt, guests::ROWS);
 }

@@ -6,7 +6,7 @@ ghost use Rattle.snapshot.specs.Snapshots.{HasSlots};
 
 use crate::failures::Failure;
 use crate::figures::{print_each, since};
-use crate::pools::LARGEST;
+use crate::pools::LARGE;
 use commons::limits::Limits;
 use commons::packet::Seg;
 use commons::seq::Seq;
@@ -23,7 +23,7 @@ pub fn measure<R: Runtime + AllocGlobal>(
     runs: u64,
 ) -> Result<(), Failure> {
     let rounds = rounds.unwrap_or(10);
-    let limits = LARGEST;
+    let limits = LARGE;
     limits.check()?;
     let snapshot = large(rt.alloc(), &limits)?;
     let elements = rounds.saturating_mul(limits.population);
@@ -138,6 +138,8 @@ fn large(alloc: Global, limits: &Limits) -> Result<Snapshot, AllocError>
         counts: Seq::new(counts),
         desks: Seq::new(desks),
         shares: shares(alloc)?,
+        guests: Seq::new(Vec::new(alloc)),
+        foreign: false,
     })
 }
 

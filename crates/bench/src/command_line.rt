@@ -179,7 +179,7 @@ fn command<'a>(alloc: Global) -> Result<Command<'a>, Error> {
             .arg(whole(
                 alloc,
                 "population",
-                65_534,
+                1_000_000,
                 "Words: how many elements a pool has",
             ))?
             .arg(whole(

@@ -5,7 +5,7 @@ ghost use Rattle.std.specs.List.{range_with_len};
 
 use crate::failures::Failure;
 use crate::figures::{print_each, since};
-use crate::pools::LARGEST;
+use crate::pools::LARGE;
 use book::book::Book;
 use book::deposits::deposit_all;
 use book::settling::settle;
@@ -37,8 +37,8 @@ pub fn measure<R: Runtime + AllocGlobal>(
 ) -> Result<(), Failure> {
     let rounds = rounds.unwrap_or(1);
     let least = least_of(rt, rounds, runs)?;
-    let elements = rounds.saturating_mul(LARGEST.population);
-    let shares = rounds.saturating_mul(LARGEST.workers);
+    let elements = rounds.saturating_mul(LARGE.population);
+    let shares = rounds.saturating_mul(LARGE.workers);
     print_each(
         rt,
         "close of 65534 elements, for each",
@@ -93,7 +93,7 @@ fn sum_of<R: Clock + AllocGlobal>(rt: &R, rounds: u64) -> Result<Times, Failure>
 
 /// A pool whose workers have full tables and caches, and whose desks each have a packet.
 fn filled(alloc: Global) -> Result<SitePool, Refusal> {
-    let mut pool = SitePool::make(alloc, &LARGEST)?;
+    let mut pool = SitePool::make(alloc, &LARGE)?;
     for worker in 1..65 {
         let acts = [Act::Alloc, Act::Offer(0, worker - 1), Act::AllocBulk(256)];
         for act in acts {

@@ -12,7 +12,7 @@ use crate::words::carried::Carried;
 use crate::words::span::{Span, Tally};
 use acted::Acted;
 use called::Called;
-use commons::limits::Limits;
+use commons::limits::{Limits, PutRule};
 use commons::refusal::Refusal;
 use ground::pool::Ground;
 use hands::{Hands, alone, echo, serve};
@@ -36,6 +36,7 @@ const LIMITS: Limits = Limits {
     ref_limit: 65_535,
     tries: 64,
     start_count: 0,
+    put_rule: PutRule::Keep,
 };
 
 /// Whose calls hand the packet over, and by how many threads.

@@ -2,14 +2,14 @@
 
 use crate::failures::Failure;
 use crate::words::numbers_of;
-use commons::limits::Limits;
+use commons::limits::{Limits, PutRule};
 use ground::pool::Ground;
 use std::fs;
 use std::io::Print;
 use std::rt::Runtime;
 use word_pool::pool;
 
-/// Prints how much of the process is in memory, of the largest pool with each of these caches: before there is anything,
+/// Prints how much of the process is in memory, of a large pool with each of these caches: before there is anything,
 /// with a ground alone, and with a second ground that has its workers. A line has how much it is, and how much more than
 /// in the line before.
 pub fn measure<R: Runtime + AllocGlobal>(rt: &R, caches: &str) -> Result<(), Failure> {
@@ -32,6 +32,7 @@ fn of_cache<R: Runtime + AllocGlobal>(rt: &R, cache: u64) -> Result<(), Failure>
         ref_limit: 65_535,
         tries: 64,
         start_count: 0,
+        put_rule: PutRule::Keep,
     };
     let before = resident(rt)?;
     print_resident(rt, cache, "nothing", before, before)?;

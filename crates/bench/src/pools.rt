@@ -4,12 +4,12 @@ ghost use Rattle.commons.specs.Lists.{opening, side_of};
 ghost use Rattle.mbuf.specs.Members.{slots};
 ghost use Rattle.mbuf.specs.Own.{Own};
 
-use commons::limits::Limits;
+use commons::limits::{Limits, PutRule};
 use commons::plain::PlainCommons;
 use mbuf::packets::Packets;
 
-/// The limits of the largest pool, with as many workers and desks as there can be.
-pub const LARGEST: Limits = Limits {
+/// The limits of a pool of 65,534 elements, with as many workers and desks as there can be.
+pub const LARGE: Limits = Limits {
     population: 65_534,
     cache: 512,
     workers: 64,
@@ -18,6 +18,7 @@ pub const LARGEST: Limits = Limits {
     ref_limit: 65_535,
     tries: 64,
     start_count: 0,
+    put_rule: PutRule::Keep,
 };
 
 /// A pool of one worker, with a cache of this size, and one desk.
@@ -31,6 +32,7 @@ pub fn limits(population: u64, cache: u64) -> Limits {
         ref_limit: 65_535,
         tries: 64,
         start_count: 0,
+        put_rule: PutRule::Keep,
     }
 }
 

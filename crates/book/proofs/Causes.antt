@@ -9,6 +9,10 @@ use Rattle.book.specs.declared.settling.Unsettled.TheVariants.{MissingShare, Out
 use Rattle.book.specs.Books.{IsFull}
 use Rattle.book.specs.Places.{Places}
 use Rattle.book.specs.Settling.{IsUnsettled, snapshot_with}
+use Rattle.book.specs.declared.twin_settling.TwinUnsettled.{TwinUnsettled}
+use Rattle.book.specs.declared.twin_settling.TwinUnsettled.TheVariants as twin
+use Rattle.book.specs.TwinPlaces.{TwinPlaces}
+use Rattle.book.specs.TwinSettling.{IsTwinUnsettled, first_with, second_with}
 use Rattle.book.specs.inside.Causes.{cause_of}
 
 -- what an audit answers where no share is missing
@@ -24,3 +28,12 @@ pub memory_alone : (b : Places) (closed : Closed) (cause : Unsettled) → IsFull
 memory_alone b closed (MissingShare w) full sound is = absurd (full w is.missing)
 memory_alone b closed NoMemory full sound is = refl
 memory_alone b closed (HasFault f) full sound is = absurd (sound f is.1.0)
+
+-- so it is with two pools
+pub twin_memory_alone : (b : TwinPlaces) (one two : Closed) (cause : TwinUnsettled) → IsFull b.first →
+    ((f : Fault) → ¬ (IsFault (first_with b one) f)) → ((f : Fault) → ¬ (IsFault (second_with b two) f)) →
+    IsTwinUnsettled b one two cause → cause ≡ twin.OutOfMemory
+twin_memory_alone b one two (twin.MissingShare w) full sound fine is = absurd (full w is.missing)
+twin_memory_alone b one two twin.OutOfMemory full sound fine is = refl
+twin_memory_alone b one two (twin.First f) full sound fine is = absurd (sound f is.1.0)
+twin_memory_alone b one two (twin.Second f) full sound fine is = absurd (fine f is.2.0)

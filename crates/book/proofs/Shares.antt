@@ -1,11 +1,13 @@
 -- The shares in the places of a book.
 use Rattle.std.proofs.Common.{ℕ, ◌≡◌, ◌+◌, ◌<◌, List, [], ◌∷◌, ◌++◌, length, get_or, map, take, All, Option, Some, None, refl, sym, ◌∙◌, ap, suc}
-use Rattle.std.proofs.lemmas.List.{append-nil, map-append, take_more}
+use Rattle.std.proofs.lemmas.List.{append-nil, flat_map_more, map-append, take_more}
 use Rattle.std.proofs.lemmas.List.Elements.{All-append, All-cons, All-nil}
+use Rattle.std.specs.Prelude.{flat_map}
 use Rattle.mbuf.specs.Members.{Member, slots}
 use Rattle.snapshot.specs.declared.snapshot.ShareData.{ShareData}
 use Rattle.snapshot.specs.inside.Checked.{HasPackets, HavePackets}
 use Rattle.book.specs.Books.{shares_in}
+use Rattle.pool_model.specs.Guests.{guests_by}
 use Rattle.snapshot.specs.Closing.{share_of}
 
 -- the shares of places in two parts
@@ -39,6 +41,25 @@ none_more places k place l e f =
     shares_more places k place l e
     ∙ ap (λ p. map share_of (shares_in (take k places)) ++ map share_of (shares_in (p ∷ []))) f
     ∙ append-nil (map share_of (shares_in (take k places)))
+
+-- the guests of one place more, where a share stands there
+pub guests_more : (places : List (Option Member)) (k : ℕ) (place : Option Member) (m : Member) → k < length places →
+    place ≡ get_or places k place → place ≡ Some m →
+    flat_map guests_by (shares_in (take (k + 1) places)) ≡ flat_map guests_by (shares_in (take k places)) ++ guests_by m
+guests_more places k place m l e f =
+    ap (λ ps. flat_map guests_by (shares_in ps)) (take_more places k place l)
+    ∙ ap (λ p. flat_map guests_by (shares_in (take k places ++ p ∷ []))) (sym e ∙ f)
+    ∙ ap (flat_map guests_by) (shares_in-append (take k places) (Some m ∷ []))
+    ∙ sym (flat_map_more guests_by [] (shares_in (take k places)) m)
+
+-- and where none does
+pub guests_none_more : (places : List (Option Member)) (k : ℕ) (place : Option Member) → k < length places →
+    place ≡ get_or places k place → place ≡ None →
+    flat_map guests_by (shares_in (take (k + 1) places)) ≡ flat_map guests_by (shares_in (take k places))
+guests_none_more places k place l e f =
+    ap (λ ps. flat_map guests_by (shares_in ps)) (take_more places k place l)
+    ∙ ap (λ p. flat_map guests_by (shares_in (take k places ++ p ∷ []))) (sym e ∙ f)
+    ∙ ap (flat_map guests_by) (shares_in-append (take k places) (None ∷ []) ∙ append-nil (shares_in (take k places)))
 
 -- one share more with packets alone in its slots
 pub packets_more : (shares : List ShareData) (share : ShareData) → HavePackets shares → HasPackets share.slots →

@@ -1,4 +1,8 @@
 pub mod Books
+pub mod Lost
 pub mod Places
 pub mod Settling
+pub mod TwinBooks
+pub mod TwinPlaces
+pub mod TwinSettling
 pub mod inside

@@ -5,6 +5,7 @@ ghost use Rattle.std.specs.Prelude.{◌≡◌, ◌↔◌, length, replicate, IfO
 ghost use Rattle.commons.specs.Bounds.{IsPool};
 ghost use Rattle.commons.specs.Lists.{IsMakeCause};
 ghost use Rattle.book.specs.Books.{AreShares, IsFull, IsLeastMissing, IsMissing, new_book, with_share};
+ghost use Rattle.book.specs.Lost.{IsFullBut, IsLeastUnlisted};
 
 use crate::share::Share;
 use commons::limits::Limits;
@@ -67,6 +68,20 @@ impl Book {
         for (at, place) in self.places.iter().enumerate() {
             if place.is_none() {
                 return Some(at as u32 + 1);
+            }
+        }
+        None
+    }
+
+    /// The least worker whose share isn't in the book and who isn't listed. A listed number that isn't a worker's is passed
+    /// over.
+    pub fn missing_but(&self, listed: &[u32]) -> Option<u32>
+        ensures { MatchOption result (IsFullBut self.now listed.now) (λ w. IsLeastUnlisted self.now listed.now w) }
+    {
+        for (at, place) in self.places.iter().enumerate() {
+            let worker = at as u32 + 1;
+            if place.is_none() && !listed.contains(&worker) {
+                return Some(worker);
             }
         }
         None

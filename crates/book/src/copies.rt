@@ -29,6 +29,8 @@ pub(crate) fn snapshot(alloc: Global, closed: &Closed, book: &Book) -> Result<Sn
         counts: copied(alloc, closed.counts.as_slice())?,
         desks: desks(alloc, closed.desks.as_slice())?,
         shares: shares(alloc, book.places())?,
+        guests: Seq::new(Vec::new(alloc)),
+        foreign: false,
     })
 }
 

@@ -1,8 +1,9 @@
-//! The shares of all workers, put in the book of their pool.
+//! The shares of all workers, or of those who are left, put in the book of their pool.
 
 ghost use Rattle.std.specs.Prelude.{◌≡◌, Some, map};
 ghost use Rattle.std.specs.List.{range_with_len};
-ghost use Rattle.book.specs.Books.{IsFull, new_book, shares_in};
+ghost use Rattle.book.specs.Books.{IsFull, IsMissing, new_book, shares_in};
+ghost use Rattle.book.specs.Lost.{AreOrdered, IsFullBut, unlisted_of, with_unlisted};
 
 use crate::book::Book;
 use crate::share::Share;
@@ -22,4 +23,33 @@ pub fn deposit_all(book: &mut Book, mut shares: Vec<Share>)
         }
     }
     shares.destroy_empty();
+}
+
+/// Puts the shares of those workers who aren't listed, in the order of their numbers, in a book without shares. What is
+/// listed is lost. Where each worker has a share or is listed, the book lacks no other's.
+pub fn deposit_unlisted(book: &mut Book, mut shares: Vec<Share>, listed: &[u32])
+    requires empty { book.old ≡ new_book book.old.limits }
+    requires ordered { AreOrdered book.old.limits listed.now shares.items }
+    ensures limits { book.new.limits ≡ book.old.limits }
+    ensures shares { shares_in book.new.places ≡ unlisted_of listed.now shares.items }
+    ensures full { IsFullBut book.new listed.now }
+{
+    while let Some(share) = shares.pop() {
+        deposit_unless(book, share, listed);
+    }
+    shares.destroy_empty();
+    book.fits_its_limits();
+}
+
+/// Puts a share in the place of its worker, unless that worker is listed: then the share is lost.
+fn deposit_unless(book: &mut Book, share: Share, listed: &[u32])
+    requires { IsMissing book.old share.number }
+    ensures { book.new ≡ with_unlisted listed.now book.old share }
+{
+    if listed.contains(&share.worker()) {
+        share.lose();
+    } else if let Err((_, share)) = book.deposit(share) {
+        share.lose();
+        unreachable!()
+    }
 }

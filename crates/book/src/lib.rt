@@ -4,5 +4,12 @@
 pub mod book;
 mod copies;
 pub mod deposits;
+pub mod ending;
+mod guests;
+pub mod laws;
+pub mod losing;
 pub mod settling;
 pub mod share;
+pub mod twin_book;
+pub mod twin_settling;
+pub mod twin_share;

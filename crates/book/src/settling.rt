@@ -84,6 +84,7 @@ fn statement(alloc: Global, closed: &Closed, book: &Book) -> Result<Statement, U
     let Ok(snapshot) = copies::snapshot(alloc, closed, book) else {
         return Err(Unsettled::OutOfMemory);
     };
+    laws::a_pool_alone_has_no_guests();
     match audit(alloc, &snapshot) {
         Ok(statement) => Ok(statement),
         Err(fault) => Err(cause(fault)),

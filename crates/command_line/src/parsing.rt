@@ -15,6 +15,9 @@ const VERSION: &str = "0.1.0";
 /// The most tries of a line that `--turns` may name.
 const MAX_TURNS: u64 = 1_000_000;
 
+/// The greatest number of a worker that `--lose` may name.
+const MAX_WORKER: u64 = 4_294_967_295;
+
 /// The words of the command line, the program's name first.
 ///
 /// `Said` where a word isn't text, and `Memory` where memory was refused.
@@ -60,11 +63,21 @@ fn requested<'a>(alloc: Global, words: &'a [String]) -> Result<Option<Request<'a
         run.get_str("ground").and_then(grounds_of),
         turns,
     ) {
-        (Some(file), Some(grounds), Some(turns)) => Ok(Some(Request {
-            file,
-            task: Task::Run(grounds, turns, form_of(run.get_flag("json"))),
-        })),
+        (Some(file), Some(grounds), Some(turns)) => {
+            let lose = run.get_str("lose").and_then(|word| word.parse().ok());
+            let form = form_of(run.get_flag("json"));
+            let task = task_of(grounds, turns, lose, form);
+            Ok(Some(Request { file, task }))
+        }
         _ => Ok(None),
+    }
+}
+
+/// The run that is asked for, and the worker that is to be lost at its end, if one is named.
+fn task_of(grounds: Grounds, turns: Turns, lose: Option<u32>, form: Form) -> Task {
+    match lose {
+        Some(worker) => Task::RunLost(grounds, turns, worker, form),
+        None => Task::Run(grounds, turns, form),
     }
 }
 
@@ -93,7 +106,7 @@ fn wrong_words(alloc: Global, message: &str) -> Result<Error, Error> {
     Ok(command(alloc)?.error(ErrorKind::InvalidValue, message)?)
 }
 
-/// `mbufpool replay FILE [--json]`, `mbufpool run FILE [--ground words|locked] [--turns T] [--json]`
+/// `mbufpool replay FILE [--json]`, `mbufpool run FILE [--ground words|locked] [--turns T] [--lose W] [--json]`
 /// and `mbufpool steps FILE`.
 fn command<'a>(alloc: Global) -> Result<Command<'a>, Error> {
     let replay = Command::new(alloc, "replay")
@@ -114,6 +127,11 @@ fn command<'a>(alloc: Global) -> Result<Command<'a>, Error> {
         .value_parser(ValueParser::unsigned(1, MAX_TURNS))
         .default_value("1000")
         .help("How often a line is tried in all where others are in its way");
+    let lose = Arg::new(alloc, "lose")
+        .long("lose")
+        .value_name("W")
+        .value_parser(ValueParser::unsigned(0, MAX_WORKER))
+        .help("Lose worker W at the end, and print which elements are lost with it");
     let run = Command::new(alloc, "run")
         .about(
             "Runs a script with a thread for each worker, and prints where each element is at the end",
@@ -121,6 +139,7 @@ fn command<'a>(alloc: Global) -> Result<Command<'a>, Error> {
         .arg(script_file(alloc))?
         .arg(ground)?
         .arg(turns)?
+        .arg(lose)?
         .arg(json(alloc).help("Print it as one line of JSON"))?;
     let steps = Command::new(alloc, "steps")
         .about(

@@ -1,11 +1,11 @@
 -- The limits within which a pool can be made.
 use Rattle.std.specs.Prelude.{ℕ, ◌≤◌, ◌*◌, ◌/◌}
-use Rattle.commons.specs.Calls.{spent}
+use Rattle.head_word.specs.Heads.{spent, max_elements}
 use Rattle.commons.specs.declared.limits.Limits.{Limits}
 
--- the most elements
+-- the most elements: each can be the top of the common list
 abbrev pub max_population : ℕ
-max_population = 65534
+max_population = max_elements
 
 -- the most elements that a cache keeps, or takes at once
 abbrev pub max_cache : ℕ

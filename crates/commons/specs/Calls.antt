@@ -1,5 +1,7 @@
 -- The calls of a shared pool, what each read, and what of it is the cause of its answer.
 use Rattle.std.specs.Prelude.{ℕ, ◌≡◌, ◌≢◌, ◌+◌, ◌<◌, ◌≤◌, nat_lt, if◌then◌else◌, List, [], ◌∷◌, length, Bool, true, false, count_by, map, Result, Ok, Err, Option, Some, None, ◌==◌, cond}
+-- the modification count at which the head is spent
+pub use Rattle.head_word.specs.Heads.{spent}
 use Rattle.commons.specs.Bag.{bag, one}
 use Rattle.commons.specs.Packets.{holds_of_packet, own_of_packet}
 use Rattle.commons.specs.declared.limits.Limits.{Limits}
@@ -39,10 +41,6 @@ with_list (Err e) xs = Err e
 abbrev pub without_packet : Result (Unit {0}) (Refusal × List Seg) → Result (Unit {0}) Refusal
 without_packet (Ok met) = Ok met
 without_packet (Err e) = Err e.0
-
--- the modification count at which the head is spent, the greatest of 48 bits
-abbrev pub spent : ℕ
-spent = 281474976710655
 
 -- what a reading tells, by its kind: the length of the common list, the head's count, the count of this element, or the
 -- word of this desk

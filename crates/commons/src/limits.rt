@@ -2,8 +2,8 @@
 
 use crate::refusal::Refusal;
 
-/// The most elements of a pool.
-pub const MAX_POPULATION: u64 = 65_534;
+/// The most elements of a pool, each of which can be the top of the common stack.
+pub const MAX_POPULATION: u64 = head_word::MAX_ELEMENTS as u64;
 
 /// The most elements that a worker's cache keeps, and that a put takes into a cache.
 /// (rte_config.h, `RTE_MEMPOOL_CACHE_MAX_SIZE`, DPDK 21.11)
@@ -24,13 +24,22 @@ pub const MAX_REFS: u64 = 65_535;
 /// The most tries after which a call gives up.
 pub const MAX_TRIES: u64 = 1_000_000;
 
-/// The modification count at which the head is spent: the greatest of 48 bits.
-pub const SPENT: u64 = 281_474_976_710_655;
+/// The modification count at which the head is spent: the greatest that a head's word holds.
+pub const SPENT: u64 = head_word::SPENT;
+
+/// What a put does where a worker's cache grows past its threshold.
+#[derive(Clone, Copy, Debug, PartialEq, Eq)]
+pub enum PutRule {
+    /// The cache keeps as many as its size, and all beyond goes to the common stack.
+    Keep,
+    /// The whole cache goes to the common stack, and the list that is put becomes the cache.
+    Whole,
+}
 
 /// What a pool is made of. Every number is a count, but `buf`, which is bytes.
 #[derive(Clone, Copy, Debug, PartialEq, Eq)]
 pub struct Limits {
-    /// Elements in the pool, 1 to 65,534.
+    /// Elements in the pool, 1 to 16,777,214.
     pub population: u64,
     /// Elements that a worker's cache keeps, 0 to 512; one and a half times as many, rounded down, are at most
     /// the population.
@@ -45,8 +54,10 @@ pub struct Limits {
     pub ref_limit: u64,
     /// Lost tries after which a call gives up, 1 to 1,000,000.
     pub tries: u64,
-    /// The modification count that the stack starts with, 0 to 2^48 - 1.
+    /// The modification count that the stack starts with, 0 to 2^40 - 1.
     pub start_count: u64,
+    /// What a put does where a worker's cache grows past its threshold.
+    pub put_rule: PutRule,
 }
 
 impl Limits {

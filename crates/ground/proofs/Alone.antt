@@ -1,14 +1,14 @@
 -- Where one seat has every part, no other view names anything, and so the seat knows the length of the common list.
 use Rattle.std.proofs.Common.{◌≡◌, ◌≢◌, ℕ, zero, suc, ◌+◌, ◌<◌, ◌≤◌, Bool, true, false, List, [], ◌∷◌, ◌++◌, Option, Some, None}
 use Rattle.std.proofs.Common.{length, set, refl, sym, ap, ◌∙◌, subst, ⊎_elim, arith, length-append, eq-eqb, ne_eqb}
-use Rattle.std.specs.Prelude.{sum_by, IfSome, flat_map, map, not, slice_index_or, ◌&&◌, ◌==◌, if◌then◌else◌}
+use Rattle.std.specs.Prelude.{sum_by, IfSome, IsSome, flat_map, not, slice_index_or, ◌&&◌, ◌==◌, if◌then◌else◌}
 use Rattle.std.proofs.lemmas.Bool.{cases_lt}
 use Rattle.std.proofs.lemmas.List.Sums.{sum_by-set, sum_by-cons}
 use lib.ListN.{length-map}
 use Rattle.commons.specs.Bag.{bag}
 use Rattle.commons.specs.Calls.{desk_full}
 use Rattle.commons.specs.declared.packet.Seg.{Seg}
-use Rattle.commons.specs.Packets.{held_in, holds_in_slot, own_in, own_in_slot}
+use Rattle.commons.specs.Packets.{IsPacket, held_in, holds_in_slot, own_in, own_in_slot}
 use Rattle.commons.specs.declared.limits.Limits.{Limits}
 use Rattle.step_core.specs.declared.view.Look.{Look}
 use Rattle.step_core.specs.declared.view.View.{View}
@@ -24,7 +24,10 @@ use Rattle.step_core.proofs.Bags.{below-le, below-past, times-nil, times-append,
 use Rattle.step_core.proofs.Frame.{each_view}
 use Rattle.step_core.proofs.StackSteps.{one_view, two_views}
 use Rattle.step_core.proofs.Telling.{all_are_there, front_then_rest}
-use Rattle.ground.specs.Closing.{kept_on, packet_on}
+use Rattle.ground.specs.declared.known.Known.{Known}
+use Rattle.ground.specs.Closing.{kept_on, packet_on, lying_on}
+use Rattle.ground.specs.Own.{KnowsDesks}
+use Rattle.ground.specs.Rule.{SeesDesks}
 use Rattle.ground.specs.Seats.{held_below, MayLie, KnowsLength, KnowsEnd}
 
 -- without a part there is nothing
@@ -61,10 +64,6 @@ held_alone w (suc n) xs h =
     let b = h n in
     omega arith
 
--- what lies on full desks
-pub lying : List Desk → List (Option (List Seg))
-lying ds = map packet_on ds
-
 -- what is read of a slot, where the desk is full, is what is read of what lies there
 if_full : (read : Option (List Seg) → List ℕ) → read None ≡ [] → (full : Bool)
     (slot : Option (List Seg)) (i : ℕ) →
@@ -73,24 +72,23 @@ if_full read none true slot i = refl
 if_full read none false slot i = ap (λ (xs : List ℕ). bag xs i) none
 
 read_lying : (read : Option (List Seg) → List ℕ) → read None ≡ [] → (ds : List Desk) (i : ℕ) →
-    sum_by (λ (slot : Option (List Seg)). bag (read slot) i) (lying ds)
+    sum_by (λ (slot : Option (List Seg)). bag (read slot) i) (lying_on ds)
     ≡ sum_by (λ (x : Desk). bag (if x.word == desk_full then read x.slot else []) i) ds
-unfolding lying
 read_lying read none [] i = refl
 read_lying read none (x ∷ xs) i = omega (
   arith,
   read_lying read none xs i,
   if_full read none (x.word == desk_full) x.slot i,
-  sum_by-cons (λ (slot : Option (List Seg)). bag (read slot) i) (packet_on x) (lying xs),
+  sum_by-cons (λ (slot : Option (List Seg)). bag (read slot) i) (packet_on x) (lying_on xs),
   sum_by-cons (λ (y : Desk). bag (if y.word == desk_full then read y.slot else []) i) x xs,
 )
 
 -- these packets hold what full desks hold, and their own elements are those on full desks
-held_lying : (i : ℕ) (ds : List Desk) → held_in (lying ds) i ≡ sum_by (λ (x : Desk). bag (shelf x) i) ds
+held_lying : (i : ℕ) (ds : List Desk) → held_in (lying_on ds) i ≡ sum_by (λ (x : Desk). bag (shelf x) i) ds
 held_lying i ds = read_lying holds_in_slot refl ds i
 
 own_lying : (i : ℕ) (ds : List Desk) →
-    own_in (lying ds) i ≡ sum_by (λ (x : Desk). bag (own_shelf x) i) ds
+    own_in (lying_on ds) i ≡ sum_by (λ (x : Desk). bag (own_shelf x) i) ds
 own_lying i ds = read_lying own_in_slot refl ds i
 
 -- as a list, what packets hold has each element as often
@@ -105,13 +103,28 @@ in_list i (x ∷ xs) = omega (
 )
 
 -- what lies on a desk is the packet of that desk, where it is full
-lying_at : (ds : List Desk) (d : ℕ) → slice_index_or (lying ds) d None ≡ packet_on (desk_at ds d)
-unfolding lying
+pub lying_at : (ds : List Desk) (d : ℕ) → slice_index_or (lying_on ds) d None ≡ packet_on (desk_at ds d)
 lying_at [] d = refl
 lying_at (x ∷ xs) zero = refl
 lying_at (x ∷ xs) (suc d) = lying_at xs d
 
-not_full : (word : ℕ) (slot : Option (List Seg)) → word ≢ 2 → kept_on word slot ≡ None
+-- what lies on a desk is a packet, as what is in its slot is one
+packet_lies : (full : Bool) (slot : Option (List Seg)) → IfSome slot IsPacket →
+    IfSome (if full then slot else None) IsPacket
+packet_lies true slot h = h
+packet_lies false slot h = tt
+
+-- the slots of all desks have packets, or nothing
+abbrev pub HavePackets : World → Type 0
+HavePackets w = (d : ℕ) → IfSome (desk_at w.desks d).slot IsPacket
+
+-- a seat that knows what lies on the desks, and is right
+known_to_lie : (o : Option (List (Option (List Seg)))) (P : Type 0) (xs : List (Option (List Seg))) →
+    IfSome o (λ ds. P × (ds ≡ xs)) → IsSome o → o ≡ Some xs
+known_to_lie None P xs h is = absurd (cc is)
+known_to_lie (Some ds) P xs h is = ap Some h.1
+
+pub not_full : (word : ℕ) (slot : Option (List Seg)) → word ≢ 2 → kept_on word slot ≡ None
 not_full word slot other = ap (λ (b : Bool). if b then slot else None) (ne_eqb word 2 other)
 
 -- ---- what lies on the desks of a world beside one of its views
@@ -126,7 +139,7 @@ module _ (w : World) (law : Lawful w) (k : ℕ) where
   zeros_of_all : (i : ℕ) → bag beside.zeros i ≤ all_zeros i w.views
   zeros_of_all i = one_view (λ (u : View). bag u.zeros i) w.views k (times-nil i)
 
-  holds_of_all : (i : ℕ) → bag beside.holds i + held_in (lying w.desks) i ≤ all_holds i w.views w.desks
+  holds_of_all : (i : ℕ) → bag beside.holds i + held_in (lying_on w.desks) i ≤ all_holds i w.views w.desks
   holds_of_all i =
       let views = one_view (λ (u : View). bag u.holds i) w.views k (times-nil i) in
       omega (arith, held_lying i w.desks)
@@ -146,7 +159,7 @@ module _ (w : World) (law : Lawful w) (k : ℕ) where
 
   -- a desk in work isn't full
   in_work : (o : Option Work) → beside.work ≡ o →
-      IfSome o (λ x. slice_index_or (lying w.desks) x.desk None ≡ None)
+      IfSome o (λ x. slice_index_or (lying_on w.desks) x.desk None ≡ None)
   in_work None e = tt
   in_work (Some x) e =
       lying_at w.desks x.desk
@@ -176,10 +189,13 @@ module _ (w : World) (law : Lawful w) (k : ℕ) where
           let all = law.desks.emptied x.desk ∙ ap (λ (n : ℕ). one_if (n == 3)) full in
           omega arith
 
-  lies_beside : HeaderLaw w → length w.desks ≡ w.limits.desks → MayLie w.limits beside (lying w.desks)
-  unfolding lying
-  lies_beside headers count = record {
+  lies_beside : HeaderLaw w → length w.desks ≡ w.limits.desks → HavePackets w →
+      MayLie w.limits beside (lying_on w.desks)
+  lies_beside headers count packets = record {
     as_many = length-map w.desks packet_on ∙ count;
+    packets = λ d.
+        subst (λ (slot : Option (List Seg)). IfSome slot IsPacket) (sym (lying_at w.desks d))
+        (packet_lies ((desk_at w.desks d).word == desk_full) (desk_at w.desks d).slot (packets d));
     below = λ i past.
         let place = law.places.one_place i in
         omega (arith, holds_of_all i, below-past w.limits.population i past);
@@ -195,11 +211,17 @@ module _ (w : World) (law : Lawful w) (k : ℕ) where
   }
 
 -- the same, of the view as it is known
-pub may_lie : (w : World) → Lawful w → HeaderLaw w → length w.desks ≡ w.limits.desks → (l : Limits) →
-    w.limits ≡ l → (k : ℕ) (v : View) → view_at w.views k ≡ v → MayLie l v (lying w.desks)
-may_lie w law headers count l limits k v is =
-    subst (λ (m : Limits). MayLie m v (lying w.desks)) limits
-    (subst (λ (u : View). MayLie w.limits u (lying w.desks)) is (lies_beside w law k headers count))
+pub may_lie : (w : World) → Lawful w → HeaderLaw w → length w.desks ≡ w.limits.desks → HavePackets w →
+    (l : Limits) → w.limits ≡ l → (k : ℕ) (v : View) → view_at w.views k ≡ v → MayLie l v (lying_on w.desks)
+may_lie w law headers count packets l limits k v is =
+    subst (λ (m : Limits). MayLie m v (lying_on w.desks)) limits
+    (subst (λ (u : View). MayLie w.limits u (lying_on w.desks)) is (lies_beside w law k headers count packets))
+
+-- what a seat of every part knows of the desks is what lies there
+pub lies_known : (w : World) (n : Known) → KnowsDesks n → SeesDesks w n → n.view.part ≡ n.limits.workers →
+    n.lying ≡ Some (lying_on w.desks)
+lies_known w n knows_desks sees whole =
+    known_to_lie n.lying (n.view.part ≡ w.limits.workers) (lying_on w.desks) sees (knows_desks whole)
 
 module _ (w : World) (law : Lawful w) (k : ℕ) (here : k < length w.views) (whole : (view_at w.views k).part ≡ w.limits.workers) where
   abbrev pub v : View
@@ -208,7 +230,7 @@ module _ (w : World) (law : Lawful w) (k : ℕ) (here : k < length w.views) (who
   none : (j : ℕ) → j ≢ k → NamesNothing (view_at w.views j)
   none = others_idle w law k whole
 
-  pub my_holds : (i : ℕ) → all_holds i w.views w.desks ≡ bag v.holds i + held_in (lying w.desks) i
+  pub my_holds : (i : ℕ) → all_holds i w.views w.desks ≡ bag v.holds i + held_in (lying_on w.desks) i
   my_holds i =
       let s = alone_sum (λ (u : View). bag u.holds i) w.views k here (times-nil i)
       (λ j ne. times-from_length i (view_at w.views j).holds (none j ne).holds) in
@@ -216,15 +238,15 @@ module _ (w : World) (law : Lawful w) (k : ℕ) (here : k < length w.views) (who
 
   -- the view's holds, and those of what lies on full desks
   abbrev all_of : List ℕ
-  all_of = v.holds ++ flat_map holds_in_slot (lying w.desks)
+  all_of = v.holds ++ flat_map holds_in_slot (lying_on w.desks)
 
   listed_holds : (i : ℕ) → all_holds i w.views w.desks ≡ bag all_of i
   listed_holds i =
       omega (
         arith,
         my_holds i,
-        in_list i (lying w.desks),
-        times-append i v.holds (flat_map holds_in_slot (lying w.desks)),
+        in_list i (lying_on w.desks),
+        times-append i v.holds (flat_map holds_in_slot (lying_on w.desks)),
       )
 
   my_credit : credits w.views ≡ v.credit
@@ -275,15 +297,17 @@ module _ (w : World) (law : Lawful w) (k : ℕ) (here : k < length w.views) (who
           some_part (suc n) is = omega arith
 
 -- a seat of every part knows the length word
-pub knows : (w : World) → Lawful w → HeaderLaw w → length w.desks ≡ w.limits.desks → (l : Limits) → w.limits ≡ l →
-    (k : ℕ) → k < length w.views → (v : View) → view_at w.views k ≡ v → KnowsLength l v w.length
-knows w law headers count l limits k here v is whole = (
-  lying w.desks,
-  may_lie w law headers count l limits k v is,
-  subst (λ (m : Limits). w.length + v.credit + length v.hand + length v.zeros
-      + held_below m.population (v.holds ++ flat_map holds_in_slot (lying w.desks)) ≡ m.population) limits
+pub knows : (w : World) → Lawful w → HeaderLaw w → length w.desks ≡ w.limits.desks → HavePackets w →
+    (n : Known) → w.limits ≡ n.limits → (k : ℕ) → k < length w.views → view_at w.views k ≡ n.view →
+    KnowsDesks n → SeesDesks w n → KnowsLength n w.length
+knows w law headers count packets n limits k here is knows_desks sees whole = (
+  lying_on w.desks,
+  lies_known w n knows_desks sees whole,
+  may_lie w law headers count packets n.limits limits k n.view is,
+  subst (λ (m : Limits). w.length + n.view.credit + length n.view.hand + length n.view.zeros
+      + held_below m.population (n.view.holds ++ flat_map holds_in_slot (lying_on w.desks)) ≡ m.population) limits
       (subst (λ (u : View). w.length + u.credit + length u.hand + length u.zeros
-      + held_below w.limits.population (u.holds ++ flat_map holds_in_slot (lying w.desks))
+      + held_below w.limits.population (u.holds ++ flat_map holds_in_slot (lying_on w.desks))
       ≡ w.limits.population) is
       (length_known w law k here
       (ap (λ (u : View). u.part) is ∙ (whole ∙ sym (ap (λ (m : Limits). m.workers) limits))))),
@@ -302,8 +326,29 @@ knows_end w law l limits k here v is whole = all v.look refl
         (ap (λ (u : View). u.part) is ∙ (whole ∙ sym (ap (λ (m : Limits). m.workers) limits))) x
         (ap (λ (u : View). u.look) is ∙ e) ends)
 
+-- where its view has no desk in work, no desk is in work
+pub none_in_work : (w : World) → Lawful w → (k : ℕ) → k < length w.views →
+    (view_at w.views k).part ≡ w.limits.workers → (view_at w.views k).work ≡ None → (d : ℕ) →
+    ((desk_at w.desks d).word ≢ 1) × ((desk_at w.desks d).word ≢ 3)
+none_in_work w law k here whole idle d = (
+  λ one.
+      let some = ap (λ (n : ℕ). one_if (n == 1)) one in
+      let mine = ap (fills d) idle in
+      let all = law.desks.filled d in
+      let none = alone_sum (λ (u : View). fills d u.work) w.views k here refl
+      (λ j ne. ap (fills d) (others_idle w law k whole j ne).work) in
+      omega arith,
+  λ three.
+      let some = ap (λ (n : ℕ). one_if (n == 3)) three in
+      let mine = ap (empties d) idle in
+      let all = law.desks.emptied d in
+      let none = alone_sum (λ (u : View). empties d u.work) w.views k here refl
+      (λ j ne. ap (empties d) (others_idle w law k whole j ne).work) in
+      omega arith,
+)
+
 -- and how often each element is held
 pub holds_known : (w : World) → Lawful w → (k : ℕ) → k < length w.views →
     (view_at w.views k).part ≡ w.limits.workers → (i : ℕ) →
-    all_holds i w.views w.desks ≡ bag (view_at w.views k).holds i + held_in (lying w.desks) i
+    all_holds i w.views w.desks ≡ bag (view_at w.views k).holds i + held_in (lying_on w.desks) i
 holds_known w law k here whole i = my_holds w law k here whole i

@@ -1,6 +1,6 @@
 -- What the last state of a table says of the words that are left.
 use Rattle.std.proofs.Common.{◌≡◌, ◌≢◌, ℕ, zero, suc, ◌+◌, ◌*◌, ◌<◌, ◌≤◌, List, [], ◌∷◌, ◌++◌, length, take, drop, refl, sym, ap, ◌∙◌, subst, arith, ⊎_elim, length-append}
-use Rattle.std.specs.Prelude.{slice_index, map}
+use Rattle.std.specs.Prelude.{slice_index, map, Option, Some, None, IfSome}
 use Rattle.std.proofs.lemmas.Bool.{cases_lt}
 use mathlib.Core.Option as maybe
 use mathlib.Core.Option.{some, some-injective, some-ne-none}
@@ -8,21 +8,25 @@ use lib.ListN.{get_elem?, length-map}
 use Rattle.atomic_table.specs.Table.{Final, Seen}
 use Rattle.atomic_table.proofs.Lists.{at_map, at_longer, at_last}
 use Rattle.commons.specs.Bag.{bag}
+use Rattle.commons.specs.declared.closed.Closed.{Closed}
 use Rattle.commons.specs.declared.limits.Limits.{Limits}
 use Rattle.step_core.specs.declared.view.Head.{Head}
 use Rattle.step_core.specs.declared.view.Desk.{Desk}
 use Rattle.step_core.specs.declared.view.View.{View}
 use Rattle.step_core.specs.World.{World, view_at, desk_at}
 use Rattle.step_core.specs.Law.{Lawful}
+use Rattle.step_core.specs.Opening.{opening}
 use Rattle.step_core.specs.Headers.{HeaderLaw}
 use Rattle.step_core.proofs.Bags.{times-head, times-nil}
 use Rattle.ground.specs.declared.known.Known.{Known}
-use Rattle.ground.specs.Closing.{Nothing, LeftOf, IsKept, kept_on, packet_on}
+use Rattle.ground.specs.Changing.{IsFresh, closed_at_start}
+use Rattle.ground.specs.Closing.{Nothing, LeftOf, IsKept, kept_on, packet_on, lying_on}
 use Rattle.ground.specs.Layout.{pack, unpack, lines, words_with, word_on, rows_of, words_of, length_word, links_at}
 use Rattle.ground.specs.Rule.{Slot, Ruled, home_by, home_of}
 use Rattle.ground.proofs.Alone.{others_idle}
 use Rattle.ground.proofs.Playing.{unpack_pack}
-use Rattle.ground.proofs.Sitting.{law_of, there, is}
+use Rattle.ground.proofs.Opens.{none_lie}
+use Rattle.ground.proofs.Sitting.{law_of, there, is, all_unmoved}
 
 pub take_front : (xs ys : List ℕ) (n : ℕ) → length xs ≡ n → take n (xs ++ ys) ≡ xs
 take_front [] ys zero e = refl
@@ -84,6 +88,10 @@ row_counts h n links counts desks p e f =
     ∙ (ap (λ (l : List ℕ). take p l) (drop_front links (counts ++ desks) p e)
     ∙ take_front counts desks p f)
 
+-- the greatest number of 32 bits
+abbrev short : ℕ
+short = 4294967295
+
 -- links and counts are small
 small_in : (xs ys : List ℕ) (b : ℕ) → ((j : ℕ) → slice_index xs j ≤ b) →
     ((j : ℕ) → slice_index ys j ≤ b) → (i : ℕ) → slice_index (xs ++ ys) i ≤ b
@@ -99,7 +107,7 @@ small_past (x ∷ xs) ys b g (suc i) h = small_past xs ys b g i (omega arith)
 
 -- and desks' words
 small_desks : (ds : List Desk) → ((d : ℕ) → (desk_at ds d).word ≤ 3) →
-    (j : ℕ) → slice_index (map word_on ds) j ≤ 65535
+    (j : ℕ) → slice_index (map word_on ds) j ≤ short
 small_desks [] h j = omega arith
 small_desks (x ∷ xs) h zero = let a = h 0 in omega arith
 small_desks (x ∷ xs) h (suc j) = small_desks xs (λ d. h (suc d)) j
@@ -114,13 +122,13 @@ small_words l id n ws slots f i past =
     let refs = ap (λ (k : Limits). k.ref_limit) r.limits in
     let few = r.pool.population in
     let limited = r.pool.refs in
-    let links : (j : ℕ) → slice_index w.links j ≤ 65535 =
+    let links : (j : ℕ) → slice_index w.links j ≤ short =
     (λ j. let a = r.stack.links_in_range j in omega arith) in
-    let counts : (j : ℕ) → slice_index w.counts j ≤ 65535 =
+    let counts : (j : ℕ) → slice_index w.counts j ≤ short =
     (λ j. let a = r.counts.in_range j in omega arith) in
-    let small = small_past (lines (pack w.head) w.length) (rows_of w) 65535
-    (small_in w.links (w.counts ++ map word_on w.desks) 65535 links
-    (small_in w.counts (map word_on w.desks) 65535 counts (small_desks w.desks r.desks.desks.words)))
+    let small = small_past (lines (pack w.head) w.length) (rows_of w) short
+    (small_in w.links (w.counts ++ map word_on w.desks) short links
+    (small_in w.counts (map word_on w.desks) short counts (small_desks w.desks r.desks.desks.words)))
     i past in
     let same = ap (λ (xs : List ℕ). slice_index xs i) is_words in
     omega arith
@@ -234,17 +242,39 @@ desks_are ds out ws slots size words homes same small kept =
     index_desk (z ∷ zs) zero x e = some-injective z x e
     index_desk (z ∷ zs) (suc k) x e = index_desk zs k x e
 
+-- what a seat that knows the desks knew to lie there
+as_known : (o : Option (List Slot)) (P : Type 0) (xs desks : List Slot) → desks ≡ xs →
+    IfSome o (λ ds. P × (ds ≡ xs)) → IfSome o (λ ds. desks ≡ ds)
+as_known None P xs desks e h = tt
+as_known (Some ds) P xs desks e h = e ∙ sym h.1
+
+-- what is left of the world at the start
+left_at_start : (l : Limits) (v : View) (c : Closed) (left : LeftOf l v c) →
+    left.world ≡ record (opening l) { views = left.world.views } → c ≡ closed_at_start l
+left_at_start l v c left same =
+    let top = left.top ∙ ap (λ (w : World). w.head.top) same in
+    let size = left.length ∙ ap (λ (w : World). w.length) same in
+    let links = left.links ∙ ap (λ (w : World). w.links) same in
+    let counts = left.counts ∙ ap (λ (w : World). w.counts) same in
+    let desks = left.desks ∙ (ap (λ (w : World). lying_on w.desks) same ∙ sym (none_lie l.desks)) in
+    λ i. record { top = top i; length = size i; links = links i; counts = counts i; desks = desks i }
+
+-- what is left is of a lawful world, has the packets that the seat knew of, and is that of the start where nobody did anything
+abbrev pub Closes : Limits → View → Known → Closed → Type 0
+Closes l v n c =
+    LeftOf l v c × IfSome n.lying (λ ds. c.desks ≡ ds) × (IsFresh n → c ≡ closed_at_start l)
+
 -- what is left, by the words that were read
 pub closes : (key l : Limits) → key ≡ l → (v : View) (id : ℕ) (n : Known) → n.view ≡ v →
     (ws : List ℕ) (slots : List Slot) → Final (Seen (Ruled key) id n) ws slots →
     (word : ℕ) (head : Head) (len : ℕ) (links counts : List ℕ) → get_elem? ws 0 ≡ some word →
     head ≡ unpack word → get_elem? ws length_word ≡ some len → links ≡ take l.population (drop links_at ws) →
     counts ≡ take l.population (drop (links_at + l.population) ws) → (desks : List Slot) →
-    length desks ≡ l.desks → IsKept (drop (links_at + 2 * l.population) ws) slots desks → LeftOf l v
-    (record { top = head.top; length = len; links = links; counts = counts; desks = desks })
+    length desks ≡ l.desks → IsKept (drop (links_at + 2 * l.population) ws) slots desks → 0 < n.view.part →
+    Closes l v n (record { top = head.top; length = len; links = links; counts = counts; desks = desks })
 closes
     key l key_is v id n same ws slots f word head len links counts at_head head_is at_len links_are
-    counts_are desks size kept =
+    counts_are desks size kept busy =
     let r : Ruled l f.0 = subst (λ (k : Limits). Ruled k f.0) key_is f.1.0 in
     let w = r.world in
     let law = law_of l f.0 r in
@@ -257,7 +287,8 @@ closes
     let word_is : word ≡ pack w.head =
     some-injective word (pack w.head) (sym at_head ∙ ap (λ (xs : List ℕ). get_elem? xs 0) words) in
     let read : head ≡ w.head = head_is ∙ (ap unpack word_is ∙ unpack_pack w.head (omega arith)) in
-    record {
+    let c : Closed = record { top = head.top; length = len; links = links; counts = counts; desks = desks } in
+    let left : LeftOf l v c = record {
       world = w;
       id = id;
       law = law;
@@ -292,4 +323,12 @@ closes
           (as_many ∙ (sym (length-map w.desks home_of)
           ∙ (sym (ap (λ (hs : List (maybe.Option Slot)). length hs) r.homes_are) ∙ f.3)))
           r.desks.desks.words kept;
-    }
+    } in
+    let lies : IfSome n.lying (λ ds. (n.view.part ≡ w.limits.workers) × (ds ≡ lying_on w.desks)) = r.lies id n f.1.1 in (
+      left,
+      as_known n.lying (n.view.part ≡ w.limits.workers) (lying_on w.desks) c.desks left.desks lies,
+      λ fresh.
+          let same_world : w ≡ record (opening l) { views = w.views } =
+          r.opened (all_unmoved l f.0 r id n f.1.1 busy fresh) in
+          left_at_start l v c left same_world,
+    )

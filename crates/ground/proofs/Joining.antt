@@ -1,25 +1,32 @@
 -- What two seats know is made one, and the rule stands.
-use Rattle.std.proofs.Common.{◌≡◌, ◌≢◌, ℕ, ◌<◌, List, set, refl, sym, ap, ◌∙◌, subst, ⊎_elim, arith}
-use Rattle.std.specs.Prelude.{slice_index}
+use Rattle.std.proofs.Common.{◌≡◌, ◌≢◌, ℕ, ◌<◌, List, [], ◌∷◌, set, refl, sym, ap, ◌∙◌, subst, ⊎_elim, arith}
+use Rattle.std.specs.Prelude.{slice_index, map, Option, Some, None}
 use Rattle.std.proofs.lemmas.List.{set-get_or}
 use mathlib.Core.Option.{some, none}
+use mathlib.Core.Logic.{dite}
+use native.Mathlib.Decide.{ℕ_discrete}
 use lib.ListN.{get_elem?}
 use lib.Seq.{map-set}
-use Rattle.atomic_table.specs.Table.{State, Joins, Allows, step, keeps, stepped as table_stepped}
-use Rattle.atomic_table.proofs.Lists.{at_set, set_again}
+use Rattle.atomic_table.specs.Table.{Act, Joins, Allows, Valid, step, keeps, stepped as table_stepped, carried_after}
+use Rattle.atomic_table.proofs.Lists.{at_map, at_set, set_again}
 use Rattle.commons.specs.declared.limits.Limits.{Limits}
 use Rattle.step_core.specs.declared.view.View.{View}
 use Rattle.step_core.specs.World.{World, empty_view}
 use Rattle.step_core.specs.Law.{Lawful}
 use Rattle.step_core.specs.Headers.{HeaderLaw}
 use Rattle.ground.specs.declared.known.Known.{Known}
-use Rattle.ground.specs.Own.{AtRest}
+use Rattle.ground.specs.Own.{AtRest, KnowsDesks}
 use Rattle.ground.specs.Parting.{both_views, both, spent_seat}
-use Rattle.ground.specs.Rule.{Slot, Sat, Ruled, view_in}
+use Rattle.ground.specs.Closing.{lying_on}
+use Rattle.ground.specs.Rule.{Slot, Sat, Ruled, SeesDesks, view_in}
 use Rattle.ground.specs.Tells.{looked}
 use Rattle.ground.proofs.Reviews.{join_lawful, join_headers}
 use Rattle.ground.proofs.Rules.{stack_of, counts_of, desks_of}
-use Rattle.ground.proofs.Sitting.{law_of, here, is, owns, told_set}
+use Rattle.ground.specs.History.{Log, Joined, Led, log_of, logs_of}
+use Rattle.ground.proofs.History.{same_logs}
+use Rattle.ground.proofs.Changing.{sum_set, sum_join, unmoved_set, unmoved_join}
+use Rattle.ground.proofs.Playing.{idle_again}
+use Rattle.ground.proofs.Sitting.{law_of, here, is, owns, told_set, seen_set}
 
 -- the world once these views, at these indices, are one
 abbrev joined_at : World → ℕ → ℕ → View → View → World
@@ -65,15 +72,94 @@ merges l id n other o busy rest rest' s r at apart there =
       told = told_set l (set s.views id b) other spent_seat
           (told_set l s.views id b r.told (λ _. r.told id n at busy))
           (λ part. absurd (omega arith));
+      packets = r.packets;
+      lies = seen_set w (set s.views id b) other spent_seat (seen_set w s.views id b r.lies refl) refl;
+      changed = (let before = r.changed in let same = sum_join s.views id n other o at there in omega arith);
+      idle =
+          idle_again (set s.views id b) other spent_seat
+          (idle_again s.views id b r.idle (λ none. absurd (omega arith)))
+          (λ none. record { steps = refl; joined = refl });
+      opened = λ all.
+          ap (λ (z : World). joined_at z id other n.view o.view)
+          (r.opened (unmoved_join s.views id n other o at apart theirs all));
+      history = Joined id other ∷ r.history;
+      led = (
+        w,
+        logs_of s.views,
+        law_of l s r,
+        r.led,
+        (
+          apart,
+          k_rests,
+          j_rests,
+          (λ i. joined_at w id other (sym k_is i) (sym j_is i)),
+          (
+            log_of n,
+            log_of o,
+            at_map log_of s.views id n at,
+            at_map log_of s.views other o theirs,
+            map-set log_of (set s.views id b) other spent_seat
+                ∙ ap (λ (xs : List Log). set xs other ([], [])) (map-set log_of s.views id b),
+          ),
+        ),
+      );
     }
 
--- a load that changes nothing tells what the seat's type keeps
+-- A load that changes no word tells what the seat's type keeps; and where the seat has every part, what lies on the desks
+-- is what it knows from now on.
 pub looks : (l : Limits) (slots id : ℕ) (me : Sat) → 0 < me.0.view.part →
     Allows (Ruled l) slots id me 0 (λ n. n) (looked (step slots 0 0 0 none) me)
-looks l slots id me busy s r _ at _ =
-    let words : set s.words 0 (slice_index s.words 0) ≡ s.words = set-get_or s.words 0 0 in
-    let views : set s.views id me.0 ≡ s.views = set_again s.views id me.0 at in
-    let again : Ruled l (table_stepped s 0 (slice_index s.words 0) id me.1 me.0 keeps) =
-    subst (λ (z : State Slot Known). Ruled l z)
-    (λ i. record { words = sym words i; homes = s.homes; views = sym views i }) r in
-    (me.0, keeps, tt, again, (refl, owns l s r id me.0 at busy))
+looks l slots id me busy s r _ at _ = dite (ℕ_discrete me.0.view.part me.0.limits.workers)
+    (λ whole. look (Some (lying_on r.world.desks)) (whole ∙ workers, refl) (λ _. refl))
+    (λ shared. look None tt (λ whole. absurd (shared whole)))
+  where
+    limits : me.0.limits ≡ l
+    limits = r.told id me.0 at busy
+
+    workers : me.0.limits.workers ≡ r.world.limits.workers
+    workers = ap (λ (z : Limits). z.workers) (limits ∙ sym r.limits)
+
+    look : (lying : Option (List Slot)) → SeesDesks r.world (record me.0 { lying = lying }) →
+        KnowsDesks (record me.0 { lying = lying }) →
+        (w : Known) × (a : Act Slot) × Valid s.homes me.1 a
+        × Ruled l (table_stepped s 0 (slice_index s.words 0) id me.1 w a)
+        × looked (step slots 0 0 0 none) me (slice_index s.words 0) (w, carried_after me.1 a)
+    look lying sees knows =
+        let n : Known = record me.0 { lying = lying } in
+        let words : set s.words 0 (slice_index s.words 0) ≡ s.words = set-get_or s.words 0 0 in
+        let views : map view_in (set s.views id n) ≡ map view_in s.views =
+        map-set view_in s.views id n
+        ∙ (sym (map-set view_in s.views id me.0) ∙ ap (λ (ns : List Known). map view_in ns) (set_again s.views id me.0 at)) in (
+          n,
+          keeps,
+          tt,
+          record {
+            world = r.world;
+            words_are = words ∙ r.words_are;
+            homes_are = r.homes_are;
+            views_are = views ∙ r.views_are;
+            limits = r.limits;
+            pool = r.pool;
+            stack = r.stack;
+            counts = r.counts;
+            desks = r.desks;
+            told = told_set l s.views id n r.told (λ _. limits);
+            packets = r.packets;
+            lies = λ j o e.
+                ⊎_elim (λ (x : (j ≡ id) × (n ≡ o)). subst (SeesDesks r.world) x.1 sees)
+                (λ (x : (j ≢ id) × (get_elem? s.views j ≡ some o)). r.lies j o x.1)
+                (at_set s.views id j n o e);
+            changed =
+                (let before = r.changed in
+                let sum = sum_set s.views id me.0 n at in
+                omega arith);
+            idle = idle_again s.views id n r.idle (λ none. absurd (omega arith));
+            opened = λ all.
+                r.opened
+                (unmoved_set s.views id me.0 n at (λ h. record { steps = h.steps; joined = h.joined }) all);
+            history = r.history;
+            led =
+                subst (λ (xs : List Log). Led l r.history r.world xs) (sym (same_logs s.views id me.0 n at refl)) r.led;
+          },
+          (lying, refl, owns l s r id me.0 at busy, knows),
+        )

@@ -1,5 +1,8 @@
 pub mod Rules
 pub mod Owning
+pub mod Changing
+pub mod History
+pub mod Ruling
 pub mod Playing
 pub mod Alone
 pub mod Stepping
@@ -12,4 +15,5 @@ pub mod Closes
 pub mod Tallies
 pub mod Desking
 pub mod DeskSteps
+pub mod Operations
 pub mod Phasing

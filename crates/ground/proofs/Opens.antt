@@ -1,16 +1,18 @@
 -- The words at the start, and that the rule holds of them.
-use Rattle.std.proofs.Common.{◌≡◌, ℕ, zero, suc, ◌+◌, ◌-◌, ◌<◌, ◌≤◌, List, [], ◌∷◌, ◌++◌, length, replicate, refl, sym, ap, ◌∙◌, arith, append_assoc, length-append}
+use Rattle.std.proofs.Common.{◌≡◌, ℕ, zero, suc, ◌+◌, ◌-◌, ◌<◌, ◌≤◌, List, [], ◌∷◌, ◌++◌, length, replicate, refl, sym, ap, ◌∙◌, subst, arith, append_assoc, length-append}
 use Rattle.std.proofs.lemmas.List.{length-replicate}
-use Rattle.std.specs.Prelude.{None, map}
+use Rattle.std.specs.Prelude.{None, IfSome, map}
 use mathlib.Core.Option as maybe
 use mathlib.Core.Option.{some, some-ne-none, some-injective}
+use lib.ListN.{get_elem?}
 use native.Mathlib.Decide.{dec_lt}
 use Rattle.atomic_table.specs.Table as table
 use Rattle.commons.proofs.Bags.{bag-nil}
 use Rattle.commons.specs.Bounds.{IsPool}
+use Rattle.commons.specs.Packets.{IsPacket}
 use Rattle.commons.specs.declared.limits.Limits.{Limits}
 use Rattle.step_core.specs.declared.view.Desk.{Desk}
-use Rattle.step_core.specs.World.{World, empty_view, no_desk}
+use Rattle.step_core.specs.World.{World, desk_at, empty_view, no_desk}
 use Rattle.step_core.specs.Opening.{links_up}
 use Rattle.step_core.proofs.OpeningLaw.{length-links_up}
 use Rattle.step_core.proofs.LinksUp.{top_is}
@@ -18,7 +20,9 @@ use Rattle.ground.specs.declared.known.Known.{Known}
 use Rattle.ground.specs.Layout.{pack, words_with, word_on, words_of, word_count, links_at}
 use Rattle.ground.specs.Opening.{opening_alone, opening_words}
 use Rattle.ground.specs.Own.{Owned}
-use Rattle.ground.specs.Rule.{Slot, Ruled, home_of, first_known}
+use Rattle.ground.specs.Changing.{IsUnmoved}
+use Rattle.ground.specs.Closing.{lying_on}
+use Rattle.ground.specs.Rule.{Slot, Ruled, SeesDesks, home_of, first_known}
 use Rattle.ground.proofs.Reviews.{alone_lawful, alone_headers}
 use Rattle.ground.proofs.Rules.{stack_of, counts_of, desks_of}
 use Rattle.ground.proofs.Sitting.{Told}
@@ -73,6 +77,11 @@ homes_are : (n : ℕ) →
 homes_are zero = refl
 homes_are (suc n) = ap (λ (hs : List (maybe.Option Slot)). some None ∷ hs) (homes_are n)
 
+-- and nothing lies on a desk
+pub none_lie : (n : ℕ) → replicate {A = Slot} n None ≡ lying_on (replicate {A = Desk} n no_desk)
+none_lie zero = refl
+none_lie (suc n) = ap (λ (xs : List Slot). None ∷ xs) (none_lie n)
+
 pub length_words : (l : Limits) → length (opening_words l) ≡ word_count l.population l.desks
 length_words l =
     let a : length (links_up 0 l.population) ≡ l.population = length-links_up 0 l.population in
@@ -87,10 +96,11 @@ length_words l =
     let f : length (opening_words l) ≡ links_at + length (links_up 0 l.population ++ rest) = omega arith in
     omega arith
 
-pub owned_none : (l : Limits) (part : ℕ) → IsPool l → 0 < part → Owned l (empty_view part)
-owned_none l part pool busy = record {
+pub owned_none : (l : Limits) (part : ℕ) → IsPool l → 0 < part → part ≤ l.workers → Owned l (empty_view part)
+owned_none l part pool busy within = record {
   pool = pool;
   busy = busy;
+  within = within;
   hand_once = λ i. omega (arith, bag-nil i);
   hand_below = λ i h. omega (arith, bag-nil i);
   held_below = λ i h. bag-nil i;
@@ -114,6 +124,13 @@ opens l pool words is = record {
   counts = counts_of w (alone_lawful l pool.refs_low) (alone_headers l);
   desks = desks_of w (alone_lawful l pool.refs_low) (length-replicate l.desks no_desk);
   told = first;
+  packets = λ d. bare_slot l.desks d;
+  lies = sees;
+  changed = omega arith;
+  idle = idle;
+  opened = λ _. refl;
+  history = [];
+  led = (refl, refl);
 }
   where
     w : World
@@ -122,3 +139,16 @@ opens l pool words is = record {
     first : Told l (first_known l ∷ [])
     first zero n at _ = ap (λ (x : Known). x.limits) (sym (some-injective (first_known l) n at))
     first (suc id) n at _ = absurd (some-ne-none n (sym at))
+
+    idle : (id : ℕ) (n : Known) → get_elem? (first_known l ∷ []) id ≡ some n → n.view.part ≡ 0 → IsUnmoved n
+    idle zero n at _ = subst IsUnmoved (some-injective (first_known l) n at) (record { steps = refl; joined = refl })
+    idle (suc id) n at _ = absurd (some-ne-none n (sym at))
+
+    bare_slot : (n d : ℕ) → IfSome (desk_at (replicate {A = Desk} n no_desk) d).slot IsPacket
+    bare_slot zero d = tt
+    bare_slot (suc n) zero = tt
+    bare_slot (suc n) (suc d) = bare_slot n d
+
+    sees : (id : ℕ) (n : Known) → get_elem? (first_known l ∷ []) id ≡ some n → SeesDesks w n
+    sees zero n at = subst (SeesDesks w) (some-injective (first_known l) n at) (refl, none_lie l.desks)
+    sees (suc id) n at = absurd (some-ne-none n (sym at))

@@ -1,5 +1,5 @@
 -- What a lawful world says of one of its views by itself.
-use Rattle.std.proofs.Common.{◌≡◌, ℕ, suc, ◌<◌, ◌≤◌, sym, subst, arith, ⊎_elim}
+use Rattle.std.proofs.Common.{◌≡◌, ℕ, suc, ◌<◌, ◌≤◌, refl, sym, subst, arith, ⊎_elim}
 use Rattle.std.specs.Prelude.{sum_by, IfSome, Option, Some, None}
 use Rattle.std.proofs.lemmas.Bool.{cases_lt}
 use Rattle.commons.specs.Bag.{bag}
@@ -58,6 +58,10 @@ module _ (w : World) (law : Lawful w) (headers : HeaderLaw w) (k : ℕ) where
   owned_at busy pool = record {
     pool = pool;
     busy = busy;
+    within =
+        (let one = one_view (λ v. v.part) w.views k refl in
+        let all = law.parts.parts in
+        omega arith);
     hand_once =
         λ i. (let p = law.places.one_place i in
         omega (arith, at_hand i, at_zeros i, below-le w.limits.population i));

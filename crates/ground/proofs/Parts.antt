@@ -1,8 +1,11 @@
 -- What a seat knows is cut in two, and the rule stands.
-use Rattle.std.proofs.Common.{◌≡◌, ℕ, ◌≤◌, List, [], ◌∷◌, ◌++◌, set, sym, ap, ◌∙◌, subst, arith}
+use Rattle.std.proofs.Common.{◌≡◌, ℕ, ◌≤◌, List, [], ◌∷◌, ◌++◌, set, refl, sym, ap, ◌∙◌, subst, ⊎_elim, arith}
 use Rattle.std.proofs.lemmas.List.{map-append}
 use lib.Seq.{map-set}
+use mathlib.Core.Option.{some}
+use lib.ListN.{get_elem?}
 use Rattle.atomic_table.specs.Table.{Splits}
+use Rattle.atomic_table.proofs.Lists.{at_snoc}
 use Rattle.commons.specs.declared.limits.Limits.{Limits}
 use Rattle.step_core.specs.declared.view.View.{View}
 use Rattle.step_core.specs.World.{World, view_at, empty_view}
@@ -14,12 +17,18 @@ use Rattle.ground.specs.Parting.{less, less_part, newcomer}
 use Rattle.ground.specs.Rule.{Ruled, view_in}
 use Rattle.ground.proofs.Reviews.{split_lawful, split_headers}
 use Rattle.ground.proofs.Rules.{stack_of, counts_of, desks_of}
-use Rattle.ground.proofs.Sitting.{law_of, here, is, told_set, told_push}
+use Rattle.ground.specs.Changing.{IsUnmoved}
+use Rattle.ground.specs.History.{Log, Split, log_of, logs_of}
+use Rattle.ground.proofs.History.{same_logs}
+use Rattle.ground.proofs.Changing.{sum_split, unmoved_split}
+use Rattle.ground.proofs.Playing.{idle_again}
+use Rattle.ground.proofs.Sitting.{law_of, here, is, told_set, told_push, seen_set, seen_push}
 
 pub owned_less : (l : Limits) (v : View) → 2 ≤ v.part → Owned l v → Owned l (less v)
 owned_less l v two o = record {
   pool = o.pool;
   busy = omega arith;
+  within = (let w = o.within in omega arith);
   hand_once = o.hand_once;
   hand_below = o.hand_below;
   held_below = o.held_below;
@@ -63,4 +72,29 @@ splits l id n two s r at =
       desks = desks_of _ law r.desks.count;
       told = told_push l (set s.views id (less_part n)) (newcomer n)
           (told_set l s.views id (less_part n) r.told (λ _. mine)) mine;
+      packets = r.packets;
+      lies = seen_push w (set s.views id (less_part n)) (newcomer n)
+          (seen_set w s.views id (less_part n) r.lies refl) refl;
+      changed = (let before = r.changed in let same = sum_split s.views id n at in omega arith);
+      idle = λ j o e none.
+          ⊎_elim
+          (λ (x : get_elem? (set s.views id (less_part n)) j ≡ some o).
+          idle_again s.views id (less_part n) r.idle (λ z. absurd (omega arith)) j o x none)
+          (λ (x : newcomer n ≡ o). subst IsUnmoved x (record { steps = refl; joined = refl }))
+          (at_snoc (set s.views id (less_part n)) (newcomer n) o j e);
+      opened = λ all.
+          ap (λ (z : World). split_at z id n.view) (r.opened (unmoved_split s.views id n at all));
+      history = Split id ∷ r.history;
+      led = (
+        w,
+        logs_of s.views,
+        law_of l s r,
+        r.led,
+        (
+          two',
+          (λ i. split_at w id (sym same i)),
+          map-append log_of (set s.views id (less_part n)) (newcomer n ∷ [])
+              ∙ ap (λ (xs : List Log). xs ++ ([], []) ∷ []) (same_logs s.views id n (less_part n) at refl),
+        ),
+      );
     }

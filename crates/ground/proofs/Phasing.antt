@@ -3,6 +3,7 @@ use Rattle.std.proofs.Common.{◌≡◌, ◌==◌, ℕ, Bool, true, false, List,
 use Rattle.std.specs.Prelude.{if◌then◌else◌}
 use Rattle.std.proofs.lemmas.Bool.{eqb-true}
 use Rattle.commons.specs.declared.packet.Seg.{Seg}
+use Rattle.commons.specs.Packets.{IsPacket}
 use Rattle.step_core.specs.Sights.{at_desk, phase_at}
 use Rattle.step_core.specs.declared.view.Phase.{Phase}
 use Rattle.step_core.specs.declared.view.Phase.TheVariants.{ToFill, Filled, Seized, TakenOut}
@@ -55,10 +56,11 @@ stands (Some x) slots d ph at e =
 
 -- a filled desk is one to be filled, and what is in the slot
 filled_from : (x : Phase) (slot : Slot) (p : List Seg) → IsSince x slot → phase_by x slot ≡ Filled p →
-    (x ≡ ToFill) × (slot ≡ Some p)
+    (x ≡ ToFill) × (slot ≡ Some p) × IsPacket p
 unfolding packet_of
 filled_from ToFill None p h e = absurd (cc e)
-filled_from ToFill (Some q) p h e = (refl, ap (λ (ph : Phase). Some (packet_of ph)) e)
+filled_from ToFill (Some q) p h e =
+    (refl, ap (λ (ph : Phase). Some (packet_of ph)) e, subst IsPacket (ap packet_of e) h)
 filled_from (Filled q) slot p h e = absurd h
 filled_from (Seized q) None p h e = absurd (cc e)
 filled_from (Seized q) (Some q') p h e = absurd (cc e)
@@ -66,12 +68,13 @@ filled_from TakenOut slot p h e = absurd h
 
 pub filled_at : (o : Option Work) (slots : List (ℕ × Slot)) (d : ℕ) (p : List Seg) → AtDesk o slots →
     phase_at d (work_by o slots) ≡ Some (Filled p) →
-    (o ≡ at_desk d ToFill) × (slots ≡ (d, Some p) ∷ [])
+    (o ≡ at_desk d ToFill) × (slots ≡ (d, Some p) ∷ []) × IsPacket p
 filled_at o slots d p at e =
     let s = stands o slots d (Filled p) at e in
     let both = filled_from s.phase s.slot p s.since s.seen in (
       s.work ∙ ap (λ (ph : Phase). at_desk d ph) both.0,
       s.out ∙ ap (λ (x : Slot). (d, x) ∷ []) both.1,
+      both.2,
     )
 
 -- a desk whose packet is out was seized, and its slot has nothing

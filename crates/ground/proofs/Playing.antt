@@ -1,6 +1,6 @@
 -- A step of the machine by one seat, on one word, keeps the rule and tells the seat.
 use Rattle.std.proofs.Common.{◌≡◌, ◌≢◌, ℕ, zero, suc, ◌+◌, ◌*◌, ◌/◌, ◌%◌, ◌<◌, true, List, [], ◌∷◌, ◌++◌, Some, None, length, set, refl, sym, ap, ◌∙◌, subst, ⊎_elim, arith, get_or-set_same}
-use Rattle.std.specs.Prelude.{slice_index, option_map, if◌then◌else◌, map, Option}
+use Rattle.std.specs.Prelude.{slice_index, option_map, if◌then◌else◌, map, Option, IfSome}
 use Rattle.std.proofs.lemmas.Bool.{lt-ltb}
 use Rattle.std.proofs.lemmas.List.{length-set, get_or_append_left, get_or-append_right, set-append_left, set-append_right}
 use mathlib.Core.Option.{some, some-ne-none, some-injective}
@@ -8,7 +8,9 @@ use lib.ListN.{get_elem?}
 use lib.Seq.{map-set}
 use Rattle.atomic_table.specs.Table.{State, keeps, stepped}
 use Rattle.atomic_table.proofs.Lists.{at_set, at_map}
+use Rattle.head_word.specs.Heads.{low_in, count_in, low_values}
 use Rattle.commons.specs.Bounds.{IsPool}
+use Rattle.commons.specs.Packets.{IsPacket}
 use Rattle.commons.specs.declared.limits.Limits.{Limits}
 use Rattle.step_core.specs.declared.view.Head.{Head}
 use Rattle.step_core.specs.declared.view.Desk.{Desk}
@@ -16,7 +18,7 @@ use Rattle.step_core.specs.declared.view.View.{View}
 use Rattle.step_core.specs.declared.view.Work.{Work}
 use Rattle.step_core.specs.declared.step.Step.{Step}
 use Rattle.step_core.specs.declared.step.Outcome.{Outcome}
-use Rattle.step_core.specs.World.{World, empty_view, view_at, view_of}
+use Rattle.step_core.specs.World.{World, desk_at, empty_view, view_at, view_of}
 use Rattle.step_core.specs.Law.{Lawful}
 use Rattle.step_core.specs.Headers.{HeaderLaw, OpensOwn}
 use Rattle.step_core.specs.Schedules.{slot_at}
@@ -25,16 +27,18 @@ use Rattle.step_core.specs.Steps.{Play, in_range, row, turn, played, play}
 use Rattle.step_core.proofs.Theorem.{keeps_law, changes_little, views_after, same_population}
 use Rattle.step_core.proofs.HeaderWalks.{keeps_headers}
 use Rattle.ground.specs.declared.known.Known.{Known}
+use Rattle.ground.specs.Changing.{changes_by, IsUnmoved}
+use Rattle.ground.specs.Closing.{lying_on}
 use Rattle.ground.specs.Layout.{pack, unpack, lines, word_on, rows_of, words_of, length_word, links_at, link_word, element_linked_at}
+use Rattle.ground.specs.Operations.{Sits}
 use Rattle.ground.specs.Own.{Owned, AtDesk}
-use Rattle.ground.specs.Rule.{Slot, Sat, Ruled, view_in, home_of}
+use Rattle.ground.specs.Rule.{Slot, Sat, Ruled, SeesDesks, view_in, home_of}
 use Rattle.ground.specs.Tells.{noted, Tells}
 use Rattle.ground.proofs.Rules.{lawful_of, stack_of, counts_of, desks_of}
 use Rattle.ground.proofs.Owning.{owned_of}
-
--- a seat that has a part, and the slot of the desk that it has in work
-abbrev pub Sits : Sat → Type 0
-Sits m = (0 < m.0.view.part) × AtDesk m.0.view.work m.1
+use Rattle.ground.specs.History.{Stepped, notes_of}
+use Rattle.ground.proofs.Changing.{sum_set, one_step, none_unmoved}
+use Rattle.ground.proofs.History.{led_on}
 
 -- the words behind the links
 abbrev pub tail_of : World → List ℕ
@@ -62,11 +66,41 @@ told_again l views id u others mine j n e =
     ⊎_elim (λ (x : (j ≡ id) × (u ≡ n)). λ _. ap (λ (m : Known). m.limits) (sym x.1) ∙ mine)
     (λ (x : (j ≢ id) × (get_elem? views j ≡ some n)). others j n x.1) (at_set views id j u n e)
 
+-- each seat that knows the desks is right, also once one of them has taken a step that leaves them
+pub seen_again : (w u : World) (views : List Known) (id : ℕ) (m n : Known) → get_elem? views id ≡ some m →
+    ((j : ℕ) (o : Known) → get_elem? views j ≡ some o → SeesDesks w o) → u.limits ≡ w.limits →
+    u.desks ≡ w.desks → n.lying ≡ m.lying → n.view.part ≡ m.view.part →
+    (j : ℕ) (o : Known) → get_elem? (set views id n) j ≡ some o → SeesDesks u o
+seen_again w u views id m n at all limits desks lying part j o e =
+    ⊎_elim
+    (λ (x : (j ≡ id) × (n ≡ o)).
+    subst (SeesDesks u) x.1
+    (subst (λ (z : Option (List Slot)). IfSome z (λ ds. (n.view.part ≡ u.limits.workers) × (ds ≡ lying_on u.desks)))
+    (sym lying)
+    (subst (λ (p : ℕ). IfSome m.lying (λ ds. (p ≡ u.limits.workers) × (ds ≡ lying_on u.desks))) (sym part)
+    (moved_on m (all id m at)))))
+    (λ (x : (j ≢ id) × (get_elem? views j ≡ some o)). moved_on o (all j o x.1)) (at_set views id j n o e)
+  where
+    moved_on : (k : Known) → SeesDesks w k → SeesDesks u k
+    moved_on k h = subst (λ (z : Limits × List Desk).
+        IfSome k.lying (λ ds. (k.view.part ≡ z.0.workers) × (ds ≡ lying_on z.1)))
+        (λ i. (sym limits i, sym desks i)) h
+
+-- a seat without a part has done nothing, also once one of them is another
+pub idle_again : (views : List Known) (id : ℕ) (u : Known) →
+    ((j : ℕ) (n : Known) → get_elem? views j ≡ some n → n.view.part ≡ 0 → IsUnmoved n) →
+    (u.view.part ≡ 0 → IsUnmoved u) → (j : ℕ) (n : Known) → get_elem? (set views id u) j ≡ some n →
+    n.view.part ≡ 0 → IsUnmoved n
+idle_again views id u others mine j n e =
+    ⊎_elim
+    (λ (x : (j ≡ id) × (u ≡ n)). subst (λ (m : Known). m.view.part ≡ 0 → IsUnmoved m) x.1 mine)
+    (λ (x : (j ≢ id) × (get_elem? views j ≡ some n)). others j n x.1) (at_set views id j u n e)
+
 -- a head is what its word unpacks to
-pub unpack_pack : (h : Head) → h.top < 65536 → unpack (pack h) ≡ h
+pub unpack_pack : (h : Head) → h.top < low_values → unpack (pack h) ≡ h
 unpack_pack h small =
-    let a : (h.count * 65536 + h.top) % 65536 ≡ h.top = omega arith in
-    let b : (h.count * 65536 + h.top) / 65536 ≡ h.count = omega arith in
+    let a : low_in (pack h) ≡ h.top = omega arith in
+    let b : count_in (pack h) ≡ h.count = omega arith in
     λ i. record { top = a i; count = b i }
 
 -- a step that its row plays is played
@@ -148,13 +182,16 @@ module _ (l : Limits) (s : St) (r : Ruled l s) (id : ℕ) (me : Sat) (at : get_e
       ∙ (r.desks.count ∙ ap (λ (k : Limits). k.desks) (r.limits ∙ sym limits))
 
   -- what a step of this seat on one word owes, and gives
-  pub steps : (i x : ℕ) (st : Step) (o : Outcome) (u : World) →
+  pub steps_by : (i x : ℕ) (st : Step) (o : Outcome) (u : World) →
       OpensOwn (view_at r.world.views id) st → play r.world (suc id) st ≡ Some (o, u) →
       set (words_of r.world) i x ≡ words_of u →
       view_after (slot_at r.world.desks st) st o me.0.view ≡ view_after None st o me.0.view →
-      u.desks ≡ r.world.desks → (view_after None st o me.0.view).work ≡ me.0.view.work
-      → Ruled l (stepped s i x id me.1 (noted st o me).0 keeps) × Tells st o me (noted st o me)
-  steps i x st o u own e words bare desks work =
+      u.desks ≡ r.world.desks → (view_after None st o me.0.view).work ≡ me.0.view.work →
+      u.head.count ≡ r.world.head.count + changes_by st o →
+      notes_of st o (slot_at r.world.desks st) ≡ (st, o) ∷ []
+      → ((after : Ruled l (stepped s i x id me.1 (noted st o me).0 keeps)) × (after.world ≡ u))
+      × Tells st o me (noted st o me)
+  steps_by i x st o u own e words bare desks work count noting =
       let v = view_after None st o me.0.view in
       let kept : Lawful u = law_after st o u e in
       let headers : HeaderLaw u =
@@ -165,28 +202,58 @@ module _ (l : Limits) (s : St) (r : Ruled l s) (id : ℕ) (me : Sat) (at : get_e
       let part : v.part ≡ me.0.view.part =
       ap (λ (y : View). y.part) (sym there.1)
       ∙ ((changes_little r.world (suc id) st o u e).part ∙ ap (λ (y : View). y.part) is) in
-      let pool = subst IsPool (sym limits) r.pool in (
-        record {
-          world = u;
-          words_are = ap (λ (ws : List ℕ). set ws i x) r.words_are ∙ words;
-          homes_are = r.homes_are ∙ ap (λ (ds : List Desk). map home_of ds) (sym desks);
-          views_are =
-              map-set view_in s.views id (noted st o me).0
-              ∙ (ap (λ (vs : List View). set vs id v) r.views_are ∙ sym views);
-          limits = limits;
-          pool = r.pool;
-          stack = stack_of u kept;
-          counts = counts_of u kept headers;
-          desks = desks_of u kept (counted_desks u desks limits);
-          told = told_again l s.views id (noted st o me).0 r.told my_limits;
-        },
+      let pool = subst IsPool (sym limits) r.pool in
+      let some_part = busy.0 in
+      let n : Known = (noted st o me).0 in
+      let after : Ruled l (stepped s i x id me.1 n keeps) = record {
+        world = u;
+        words_are = ap (λ (ws : List ℕ). set ws i x) r.words_are ∙ words;
+        homes_are = r.homes_are ∙ ap (λ (ds : List Desk). map home_of ds) (sym desks);
+        views_are =
+            map-set view_in s.views id (noted st o me).0
+            ∙ (ap (λ (vs : List View). set vs id v) r.views_are ∙ sym views);
+        limits = limits;
+        pool = r.pool;
+        stack = stack_of u kept;
+        counts = counts_of u kept headers;
+        desks = desks_of u kept (counted_desks u desks limits);
+        told = told_again l s.views id (noted st o me).0 r.told my_limits;
+        packets = λ d. subst (λ (ds : List Desk). IfSome (desk_at ds d).slot IsPacket) (sym desks) (r.packets d);
+        lies = seen_again r.world u s.views id me.0 n at r.lies (limits ∙ sym r.limits) desks refl part;
+        changed =
+            (let before = r.changed in
+            let sum = sum_set s.views id me.0 n at in
+            let one = one_step me.0 n st o refl refl in
+            omega arith);
+        idle = idle_again s.views id n r.idle (λ none. absurd (omega arith));
+        opened = λ all. absurd (none_unmoved s.views id me.0 n (st, o) at refl all);
+        history = Stepped id st o ∷ r.history;
+        led =
+            led_on l r.history r.world s.views id me.0 n st o u at law r.led busy_here e
+            (λ i. (me.0.steps ++ sym noting i, me.0.joined));
+      } in (
+        (after, refl),
         (
           refl,
           subst (λ (k : Limits). Owned k v) (limits ∙ sym my_limits)
               (owned_of u kept headers id v there.1 (subst (λ n. 0 < n) (sym part) busy.0) pool),
           subst (λ (z : Option Work). AtDesk z me.1) (sym work) busy.1,
+          λ whole. busy.2 (sym part ∙ whole),
         ),
       )
+
+  -- so of a step that doesn't change the stack
+  pub steps : (i x : ℕ) (st : Step) (o : Outcome) (u : World) →
+      OpensOwn (view_at r.world.views id) st → play r.world (suc id) st ≡ Some (o, u) →
+      set (words_of r.world) i x ≡ words_of u →
+      view_after (slot_at r.world.desks st) st o me.0.view ≡ view_after None st o me.0.view →
+      u.desks ≡ r.world.desks → (view_after None st o me.0.view).work ≡ me.0.view.work →
+      (changes_by st o ≡ 0) × (u.head.count ≡ r.world.head.count)
+      × (notes_of st o (slot_at r.world.desks st) ≡ (st, o) ∷ [])
+      → ((after : Ruled l (stepped s i x id me.1 (noted st o me).0 keeps)) × (after.world ≡ u))
+      × Tells st o me (noted st o me)
+  steps i x st o u own e words bare desks work quiet =
+      steps_by i x st o u own e words bare desks work (let a = quiet.0 in let b = quiet.1 in omega arith) quiet.2
 
   -- the words as they are read
   pub read_at : (i : ℕ) → slice_index s.words i ≡ slice_index (words_of r.world) i

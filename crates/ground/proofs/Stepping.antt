@@ -9,6 +9,7 @@ use native.Mathlib.Decide.{ℕ_discrete}
 use lib.ListN.{get_elem?}
 use prog.Atomic.{either}
 use Rattle.atomic_table.specs.Table.{Act, step, keeps, stepped, Allows, Valid, carried_after}
+use Rattle.head_word.specs.Heads.{low_in}
 use Rattle.commons.specs.Bag.{bag}
 use Rattle.commons.specs.declared.limits.Limits.{Limits}
 use Rattle.step_core.specs.declared.view.Head.{Head}
@@ -21,6 +22,7 @@ use Rattle.step_core.specs.declared.step.Outcome.{Outcome}
 use Rattle.step_core.specs.declared.step.Outcome.TheVariants.{Value, HeadIs, Won, Got, Lost, LostTo, Done}
 use Rattle.step_core.specs.World.{World, view_at, credits, link_in}
 use Rattle.step_core.specs.Links.{link_value, first_value}
+use Rattle.step_core.specs.Runs.{Reaches}
 use Rattle.step_core.specs.Schedules.{slot_at}
 use Rattle.step_core.specs.Sights.{view_after, reserved as more_credit, given_back, looking_at, walks_to, can_cut, MayCut, cut_view, cut_look, seen_by, lost_look, chained, can_push, MayPush, push_view, lost_push}
 use Rattle.step_core.specs.Steps.{Play, when, given, quiet, knows, next_head, same_head, reserve, load_head, load_link, cut, push, play}
@@ -34,20 +36,22 @@ use Rattle.ground.specs.Own.{Owned}
 use Rattle.ground.specs.Rule.{Slot, Sat, Ruled}
 use Rattle.ground.specs.Seats.{KnowsLength, KnowsEnd, front_of, count_of, element_of}
 use Rattle.ground.specs.Tells.{noted, Tells, exchanged, cut_found, push_found, IsLater, IsShared, loaded_length, reserved, added, loaded_head, loaded_link, cut_tells, stored_link, push_tells}
-use Rattle.ground.proofs.Playing.{St, Sits, tail_of, unpack_pack, row_played, law, here, is as is_view, busy_here, my_limits, law_after, limits_after, view_there_after, told_views, steps, read_at, read_length, read_head, head_is, link_at, link_set}
+use Rattle.ground.specs.Operations.{Sits, Moves}
+use Rattle.ground.proofs.Playing.{St, tail_of, unpack_pack, row_played, law, here, is as is_view, busy_here, my_limits, law_after, limits_after, view_there_after, told_views, steps, steps_by, read_at, read_length, read_head, head_is, link_at, link_set}
+use Rattle.ground.specs.Changing.{KnowsChanges, KnowsOpening}
+use Rattle.ground.proofs.Sitting.{changes_known, opening_known}
 use Rattle.ground.proofs.Alone.{knows as knows_length, knows_end}
 
 -- ---- the length
 
 module _ (l : Limits) (s : St) (r : Ruled l s) (id : ℕ) (me : Sat) (at : get_elem? s.views id ≡ some me.0) (busy : Sits me) where
   -- a seat of every part knows the length word
-  my_length : KnowsLength me.0.limits me.0.view (slice_index s.words length_word)
+  my_length : KnowsLength me.0 (slice_index s.words length_word)
   my_length =
-      subst (λ (k : Limits). KnowsLength k me.0.view (slice_index s.words length_word))
-      (sym (my_limits l s r id me at busy))
-      (subst (λ (n : ℕ). KnowsLength l me.0.view n) (sym (read_length l s r id me at busy))
-      (knows_length r.world (law l s r id me at busy) r.counts.headers r.desks.count l r.limits id
-      (here l s r id me at busy) me.0.view (is_view l s r id me at busy)))
+      subst (λ (n : ℕ). KnowsLength me.0 n) (sym (read_length l s r id me at busy))
+      (knows_length r.world (law l s r id me at busy) r.counts.headers r.desks.count r.packets me.0
+      (r.limits ∙ sym (my_limits l s r id me at busy)) id (here l s r id me at busy)
+      (is_view l s r id me at busy) busy.2 (r.lies id me.0 at))
 
   -- the length word may be written as it was found
   length_kept : set (words_of r.world) length_word (slice_index s.words length_word) ≡ words_of r.world
@@ -55,9 +59,10 @@ module _ (l : Limits) (s : St) (r : Ruled l s) (id : ℕ) (me : Sat) (at : get_e
       ap (λ (n : ℕ). lines (pack r.world.head) n ++ rows_of r.world)
       (read_length l s r id me at busy)
 
-pub loads_length : (l : Limits) (slots id : ℕ) (me : Sat) → Sits me →
-    Allows (Ruled l) slots id me length_word (λ n. n) (loaded_length (step slots length_word 0 0 none) me)
-loads_length l slots id me busy s r _ at _ =
+pub loads_length_moves : (l : Limits) (slots id : ℕ) (me : Sat) → Sits me →
+    Moves l slots id me length_word (λ n. n) (LoadLength ∷ []) (λ x. Value x ∷ [])
+    (loaded_length (step slots length_word 0 0 none) me)
+loads_length_moves l slots id me busy s r _ at _ =
     let x : ℕ = slice_index s.words length_word in
     let w = r.world in
     let e = read_length l s r id me at busy in
@@ -66,25 +71,30 @@ loads_length l slots id me busy s r _ at _ =
     row_played w id me.0.view LoadLength p (here l s r id me at busy) (is_view l s r id me at busy) refl
     refl ∙ ap (λ (n : ℕ). Some (Value n, w)) (sym e) in
     let done = steps l s r id me at busy length_word x LoadLength (Value x) w tt played
-    (length_kept l s r id me at busy) refl refl refl in
+    (length_kept l s r id me at busy) refl refl refl (refl, refl, refl) in
     let few = length_is_bounded w (law l s r id me at busy) in
     let pop = ap (λ (k : Limits). k.population) r.limits in
     let mine = ap (λ (k : Limits). k.population) (my_limits l s r id me at busy) in (
       (noted LoadLength (Value x) me).0,
       keeps,
       tt,
-      done.0,
+      (done.0.0, (w, played, done.0.1)),
       (done.1, omega arith, my_length l s r id me at busy),
     )
+
+pub loads_length : (l : Limits) (slots id : ℕ) (me : Sat) → Sits me →
+    Allows (Ruled l) slots id me length_word (λ n. n) (loaded_length (step slots length_word 0 0 none) me)
+loads_length l slots id me busy s r size at small =
+    let m = loads_length_moves l slots id me busy s r size at small in (m.0, m.1, m.2, m.3.0, m.4)
 
 -- where the row's test holds, its play is what becomes of the step
 pub played_when : (test : Bool) (p : Play) → test ≡ true → when test p ≡ Some p
 played_when test p e = ap (λ (b : Bool). when b p) e
 
-pub reserves : (l : Limits) (slots id : ℕ) (me : Sat) (old new : ℕ) → new < old → Sits me →
-    Allows (Ruled l) slots id me length_word (λ x. either (eqb x old) new x)
-    (reserved (step slots length_word old new none) me)
-reserves l slots id me old new less busy s r _ at _ =
+pub reserves_moves : (l : Limits) (slots id : ℕ) (me : Sat) (old new : ℕ) → new < old → Sits me →
+    Moves l slots id me length_word (λ x. either (eqb x old) new x) (Reserve old (old - new) ∷ [])
+    (λ x. exchanged (eqb x old) x ∷ []) (reserved (step slots length_word old new none) me)
+reserves_moves l slots id me old new less busy s r _ at _ =
     let x : ℕ = slice_index s.words length_word in
     let w = r.world in
     let v = me.0.view in
@@ -95,9 +105,11 @@ reserves l slots id me old new less busy s r _ at _ =
     and_from (nat_le 1 n) (nat_le n old) (le-leb 1 n (omega arith)) (le-leb n old (omega arith)) in
     let won : World = record w { length = old - n; views = set w.views id (more_credit v n) } in
     let G : Bool → Type 0 = λ b.
-    (u : Known) × (a : Act Slot) × Valid s.homes me.1 a × Ruled l (stepped s length_word (either b new x) id me.1 u a)
+    (u : Known) × (a : Act Slot) × Valid s.homes me.1 a
+    × ((after : Ruled l (stepped s length_word (either b new x) id me.1 u a))
+    × Reaches w ((suc id, Reserve old n) ∷ []) (exchanged b x ∷ []) after.world)
     × (Tells (Reserve old n) (exchanged b x) me (u, carried_after me.1 a)
-    × KnowsLength me.0.limits me.0.view x) in
+    × KnowsLength me.0 x) in
     let tried : (o : Outcome) (u : World) (test : Bool) → (w.length == old) ≡ test →
     ◌≡◌ {A = Play} (if test then quiet Won won else quiet (Lost w.length) w) (quiet o u) →
     play w (suc id) (Reserve old n) ≡ Some (o, u) = λ o u test is goes.
@@ -108,24 +120,32 @@ reserves l slots id me old new less busy s r _ at _ =
     dite (ℕ_discrete x old)
     (λ hit.
     let back : old - n ≡ new = omega arith in
-    let done = steps l s r id me at busy length_word new (Reserve old n) Won won tt
-    (tried Won won true (eq-eqb w.length old (sym e ∙ hit)) refl)
-    (ap (λ (m : ℕ). lines (pack w.head) m ++ rows_of w) (sym back)) refl refl refl in
+    let played : play w (suc id) (Reserve old n) ≡ Some (Won, won) =
+    tried Won won true (eq-eqb w.length old (sym e ∙ hit)) refl in
+    let done = steps l s r id me at busy length_word new (Reserve old n) Won won tt played
+    (ap (λ (m : ℕ). lines (pack w.head) m ++ rows_of w) (sym back)) refl refl refl (refl, refl, refl) in
     subst G (sym (eq-eqb x old hit))
-    ((noted (Reserve old n) Won me).0, keeps, tt, done.0, (done.1, known)))
+    ((noted (Reserve old n) Won me).0, keeps, tt, (done.0.0, (won, played, done.0.1)), (done.1, known)))
     (λ miss.
     let lost : play w (suc id) (Reserve old n) ≡ Some (Lost x, w) =
     tried (Lost w.length) w false (ne_eqb w.length old (λ same. miss (e ∙ same))) refl
     ∙ ap (λ (m : ℕ). Some (Lost m, w)) (sym e) in
     let done = steps l s r id me at busy length_word x (Reserve old n) (Lost x) w tt lost
-    (length_kept l s r id me at busy) refl refl refl in
+    (length_kept l s r id me at busy) refl refl refl (refl, refl, refl) in
     subst G (sym (ne_eqb x old miss))
-    ((noted (Reserve old n) (Lost x) me).0, keeps, tt, done.0, (done.1, known)))
+    ((noted (Reserve old n) (Lost x) me).0, keeps, tt, (done.0.0, (w, lost, done.0.1)), (done.1, known)))
 
-pub adds : (l : Limits) (slots id : ℕ) (me : Sat) (n : ℕ) → 1 ≤ n → n ≤ me.0.view.credit →
+pub reserves : (l : Limits) (slots id : ℕ) (me : Sat) (old new : ℕ) → new < old → Sits me →
+    Allows (Ruled l) slots id me length_word (λ x. either (eqb x old) new x)
+    (reserved (step slots length_word old new none) me)
+reserves l slots id me old new less busy s r size at small =
+    let m = reserves_moves l slots id me old new less busy s r size at small in (m.0, m.1, m.2, m.3.0, m.4)
+
+pub adds_moves : (l : Limits) (slots id : ℕ) (me : Sat) (n : ℕ) → 1 ≤ n → n ≤ me.0.view.credit →
     Sits me →
-    Allows (Ruled l) slots id me length_word (λ x. (x + n) % 2 ^ 64) (added (step slots length_word n 0 none) me)
-adds l slots id me n some_of within busy s r _ at _ =
+    Moves l slots id me length_word (λ x. (x + n) % 2 ^ 64) (Add n ∷ []) (λ _. Done ∷ [])
+    (added (step slots length_word n 0 none) me)
+adds_moves l slots id me n some_of within busy s r _ at _ =
     let x : ℕ = slice_index s.words length_word in
     let w = r.world in
     let v = me.0.view in
@@ -143,8 +163,14 @@ adds l slots id me n some_of within busy s r _ at _ =
     row_played w id v (Add n) (quiet Done u) (here l s r id me at busy) (is_view l s r id me at busy) refl
     (played_when (nat_le 1 n && nat_le n v.credit) (quiet Done u) asked) in
     let done = steps l s r id me at busy length_word ((x + n) % 18446744073709551616) (Add n) Done u tt played
-    (ap (λ (m : ℕ). lines (pack w.head) m ++ rows_of w) no_wrap) refl refl refl in
-    ((noted (Add n) Done me).0, keeps, tt, done.0, done.1)
+    (ap (λ (m : ℕ). lines (pack w.head) m ++ rows_of w) no_wrap) refl refl refl (refl, refl, refl) in
+    ((noted (Add n) Done me).0, keeps, tt, (done.0.0, (u, played, done.0.1)), done.1)
+
+pub adds : (l : Limits) (slots id : ℕ) (me : Sat) (n : ℕ) → 1 ≤ n → n ≤ me.0.view.credit →
+    Sits me →
+    Allows (Ruled l) slots id me length_word (λ x. (x + n) % 2 ^ 64) (added (step slots length_word n 0 none) me)
+adds l slots id me n some_of within busy s r size at small =
+    let m = adds_moves l slots id me n some_of within busy s r size at small in (m.0, m.1, m.2, m.3.0, m.4)
 
 -- ---- the head
 
@@ -161,9 +187,9 @@ module _ (l : Limits) (s : St) (r : Ruled l s) (id : ℕ) (me : Sat) (at : get_e
       ∙ sym (ap (λ (k : Limits). k.population) r.limits)
 
   -- the top that was read is one of the pool's
-  top_read : slice_index s.words 0 % 65536 ≤ me.0.limits.population
+  top_read : low_in (slice_index s.words 0) ≤ me.0.limits.population
   top_read =
-      let same : slice_index s.words 0 % 65536 ≡ r.world.head.top =
+      let same : low_in (slice_index s.words 0) ≡ r.world.head.top =
       ap (λ (h : Head). h.top) (head_is l s r id me at busy) in
       let top = r.stack.top in
       let mine = my_population in
@@ -182,9 +208,10 @@ module _ (l : Limits) (s : St) (r : Ruled l s) (id : ℕ) (me : Sat) (at : get_e
       (knows_end u (law_after l s r id me at busy st o u e) l
       (limits_after l s r id me at busy st o u e) id there.0 (view_after None st o me.0.view) there.1)
 
-pub loads_head : (l : Limits) (slots id : ℕ) (me : Sat) → Sits me →
-    Allows (Ruled l) slots id me 0 (λ n. n) (loaded_head (step slots 0 0 0 none) me)
-loads_head l slots id me busy s r _ at _ =
+pub loads_head_moves : (l : Limits) (slots id : ℕ) (me : Sat) → Sits me →
+    Moves l slots id me 0 (λ n. n) (LoadHead ∷ []) (λ x. HeadIs (unpack x) ∷ [])
+    (loaded_head (step slots 0 0 0 none) me)
+loads_head_moves l slots id me busy s r _ at _ =
     let x : ℕ = slice_index s.words 0 in
     let w = r.world in
     let v = me.0.view in
@@ -194,20 +221,27 @@ loads_head l slots id me busy s r _ at _ =
     row_played w id v LoadHead (load_head w id v) (here l s r id me at busy) (is_view l s r id me at busy) refl refl
     ∙ ap (λ (h : Head). Some (HeadIs h, knows w id (looking_at v h))) (sym found) in
     let done = steps l s r id me at busy 0 x LoadHead (HeadIs (unpack x)) u tt played
-    (head_kept l s r id me at busy) refl refl refl in
+    (head_kept l s r id me at busy) refl refl refl (refl, refl, refl) in
     let seen : (view_at w.views id).seen ≤ w.head.count = r.stack.looks.seen id in
     let mine : v.seen ≤ w.head.count = subst (λ (y : View). y.seen ≤ w.head.count) (is_view l s r id me at busy) seen in (
       (noted LoadHead (HeadIs (unpack x)) me).0,
       keeps,
       tt,
-      done.0,
+      (done.0.0, (u, played, done.0.1)),
       (
         done.1,
         top_read l s r id me at busy,
         subst (λ (h : Head). v.seen ≤ h.count) (sym found) mine,
+        subst (λ (h : Head). KnowsChanges me.0 h.count) (sym found) (changes_known l s r id me.0 at busy.0),
+        subst (λ (h : Head). KnowsOpening me.0 h) (sym found) (opening_known l s r id me.0 at busy.0),
         end_after l s r id me at busy LoadHead (HeadIs (unpack x)) u played refl,
       ),
     )
+
+pub loads_head : (l : Limits) (slots id : ℕ) (me : Sat) → Sits me →
+    Allows (Ruled l) slots id me 0 (λ n. n) (loaded_head (step slots 0 0 0 none) me)
+loads_head l slots id me busy s r size at small =
+    let m = loads_head_moves l slots id me busy s r size at small in (m.0, m.1, m.2, m.3.0, m.4)
 
 -- ---- the links
 
@@ -242,7 +276,8 @@ hand_inside l v i own h =
 -- of the link's own word
 loads_own : (l : Limits) (slots id : ℕ) (me : Sat) (i : ℕ) → walks_to me.0.view.look i ≡ true →
     Sits me → Owned me.0.limits me.0.view →
-    Allows (Ruled l) slots id me (link_word i) (λ n. n) (loaded_link (step slots (link_word i) 0 0 none) me)
+    Moves l slots id me (link_word i) (λ n. n) (LoadLink i ∷ []) (λ x. Value x ∷ [])
+    (loaded_link (step slots (link_word i) 0 0 none) me)
 loads_own l slots id me i may busy own s r _ at _ =
     let x : ℕ = slice_index s.words (link_word i) in
     let w = r.world in
@@ -266,14 +301,14 @@ loads_own l slots id me i may busy own s r _ at _ =
     ∙ ap (λ (n : ℕ). Some (Value n, knows w id (on n))) (sym link) in
     let kept : set (words_of w) (link_word i) x ≡ words_of w =
     ap (λ (n : ℕ). set (words_of w) (link_word i) n) e ∙ set-get_or (words_of w) (link_word i) 0 in
-    let done = steps l s r id me at busy (link_word i) x (LoadLink i) (Value x) u tt played kept refl refl refl in
+    let done = steps l s r id me at busy (link_word i) x (LoadLink i) (Value x) u tt played kept refl refl refl (refl, refl, refl) in
     let range = r.stack.links_in_range i in
     let ends = end_after l s r id me at busy (LoadLink i) (Value x) u played refl in
     let word : i ≡ element_linked_at (link_word i) = omega arith in (
       (noted (LoadLink i) (Value x) me).0,
       keeps,
       tt,
-      done.0,
+      (done.0.0, (u, played, done.0.1)),
       (
         subst (λ (j : ℕ). Tells (LoadLink j) (Value x) me (noted (LoadLink i) (Value x) me)) word done.1,
         omega arith,
@@ -281,16 +316,23 @@ loads_own l slots id me i may busy own s r _ at _ =
       ),
     )
 
+pub loads_link_moves : (l : Limits) (slots id : ℕ) (me : Sat) (i k : ℕ) → k ≡ link_word i →
+    walks_to me.0.view.look i ≡ true → Sits me → Owned me.0.limits me.0.view →
+    Moves l slots id me k (λ n. n) (LoadLink i ∷ []) (λ x. Value x ∷ []) (loaded_link (step slots k 0 0 none) me)
+loads_link_moves l slots id me i k word may busy own =
+    subst (λ (j : ℕ). Moves l slots id me j (λ n. n) (LoadLink i ∷ []) (λ x. Value x ∷ [])
+    (loaded_link (step slots j 0 0 none) me)) (sym word)
+    (loads_own l slots id me i may busy own)
+
 pub loads_link : (l : Limits) (slots id : ℕ) (me : Sat) (i k : ℕ) → k ≡ link_word i →
     walks_to me.0.view.look i ≡ true → Sits me → Owned me.0.limits me.0.view →
     Allows (Ruled l) slots id me k (λ n. n) (loaded_link (step slots k 0 0 none) me)
-loads_link l slots id me i k word may busy own =
-    subst (λ (j : ℕ). Allows (Ruled l) slots id me j (λ n. n) (loaded_link (step slots j 0 0 none) me)) (sym word)
-    (loads_own l slots id me i may busy own)
+loads_link l slots id me i k word may busy own s r size at small =
+    let m = loads_link_moves l slots id me i k word may busy own s r size at small in (m.0, m.1, m.2, m.3.0, m.4)
 
 stores_own : (l : Limits) (slots id : ℕ) (me : Sat) (i x : ℕ) → 0 < bag me.0.view.hand i →
     x ≤ l.population → Sits me → Owned me.0.limits me.0.view →
-    Allows (Ruled l) slots id me (link_word i) (λ _. x)
+    Moves l slots id me (link_word i) (λ _. x) (StoreLink i (element_of x) ∷ []) (λ _. Done ∷ [])
     (λ _. stored_link (step slots (link_word i) x 0 none) me x)
 stores_own l slots id me i x hand small busy own s r _ at _ =
     let w = r.world in
@@ -316,21 +358,29 @@ stores_own l slots id me i x hand small busy own s r _ at _ =
     let words : set (words_of w) (link_word i) x ≡ words_of u =
     link_set l s r id me at busy i x inside
     ∙ ap (λ (n : ℕ). lines (pack w.head) w.length ++ (set w.links i n ++ tail_of w)) (sym value) in
-    let done = steps l s r id me at busy (link_word i) x (StoreLink i j) Done u tt played words refl refl refl in
+    let done = steps l s r id me at busy (link_word i) x (StoreLink i j) Done u tt played words refl refl refl (refl, refl, refl) in
     let word : i ≡ element_linked_at (link_word i) = omega arith in (
       (noted (StoreLink i j) Done me).0,
       keeps,
       tt,
-      done.0,
+      (done.0.0, (u, played, done.0.1)),
       subst (λ (k : ℕ). Tells (StoreLink k j) Done me (noted (StoreLink i j) Done me)) word done.1,
     )
+
+pub stores_link_moves : (l : Limits) (slots id : ℕ) (me : Sat) (i k x : ℕ) → k ≡ link_word i →
+    0 < bag me.0.view.hand i → x ≤ l.population → Sits me → Owned me.0.limits me.0.view →
+    Moves l slots id me k (λ _. x) (StoreLink i (element_of x) ∷ []) (λ _. Done ∷ [])
+    (λ _. stored_link (step slots k x 0 none) me x)
+stores_link_moves l slots id me i k x word hand small busy own =
+    subst (λ (j : ℕ). Moves l slots id me j (λ _. x) (StoreLink i (element_of x) ∷ []) (λ _. Done ∷ [])
+    (λ _. stored_link (step slots j x 0 none) me x))
+    (sym word) (stores_own l slots id me i x hand small busy own)
 
 pub stores_link : (l : Limits) (slots id : ℕ) (me : Sat) (i k x : ℕ) → k ≡ link_word i →
     0 < bag me.0.view.hand i → x ≤ l.population → Sits me → Owned me.0.limits me.0.view →
     Allows (Ruled l) slots id me k (λ _. x) (λ _. stored_link (step slots k x 0 none) me x)
-stores_link l slots id me i k x word hand small busy own =
-    subst (λ (j : ℕ). Allows (Ruled l) slots id me j (λ _. x) (λ _. stored_link (step slots j x 0 none) me x))
-    (sym word) (stores_own l slots id me i x hand small busy own)
+stores_link l slots id me i k x word hand small busy own s r size at fits =
+    let m = stores_link_moves l slots id me i k x word hand small busy own s r size at fits in (m.0, m.1, m.2, m.3.0, m.4)
 
 -- ---- the exchanges of the head
 
@@ -355,6 +405,10 @@ module _ (l : Limits) (s : St) (r : Ruled l s) (id : ℕ) (me : Sat) (at : get_e
       let small = r.pool.population in
       let top = look_top in
       sym (head_is l s r id me at busy) ∙ (ap unpack hit ∙ unpack_pack k.head (omega arith))
+
+  -- which has one change less than the head that is written
+  raised : slice_index s.words 0 ≡ pack k.head → k.head.count + 1 ≡ r.world.head.count + 1
+  raised hit = ap (λ (h : Head). h.count + 1) (sym (head_found hit))
 
   found_same : slice_index s.words 0 ≡ pack k.head → same_head r.world.head k.head ≡ true
   found_same hit =
@@ -411,10 +465,11 @@ module _ (l : Limits) (s : St) (r : Ruled l s) (id : ℕ) (me : Sat) (at : get_e
         subst (λ (n : ℕ). n < (unpack (slice_index s.words 0)).count) (sym seen) (found_later miss),
       )
 
-pub cuts : (l : Limits) (slots id : ℕ) (me : Sat) (head : Head) (next old new : ℕ) → old ≡ pack head →
+pub cuts_moves : (l : Limits) (slots id : ℕ) (me : Sat) (head : Head) (next old new : ℕ) → old ≡ pack head →
     new ≡ pack (next_head next head.count) → MayCut me.0.view head next → Sits me →
-    Allows (Ruled l) slots id me 0 (λ x. either (eqb x old) new x) (cut_tells (step slots 0 old new none) me)
-cuts l slots id me head next old new was becomes may busy s r _ at _ =
+    Moves l slots id me 0 (λ x. either (eqb x old) new x) (Cut ∷ [])
+    (λ x. cut_found (eqb x old) (front_of me.0.view.look) x ∷ []) (cut_tells (step slots 0 old new none) me)
+cuts_moves l slots id me head next old new was becomes may busy s r _ at _ =
     let x : ℕ = slice_index s.words 0 in
     let w = r.world in
     let v = me.0.view in
@@ -427,7 +482,9 @@ cuts l slots id me head next old new was becomes may busy s r _ at _ =
     let front : List ℕ = front_of v.look in
     let is_front : front ≡ k.front = ap front_of mine in
     let G : Bool → Type 0 = λ b.
-    (u : Known) × (a : Act Slot) × Valid s.homes me.1 a × Ruled l (stepped s 0 (either b new x) id me.1 u a)
+    (u : Known) × (a : Act Slot) × Valid s.homes me.1 a
+    × ((after : Ruled l (stepped s 0 (either b new x) id me.1 u a))
+    × Reaches w ((suc id, Cut) ∷ []) (cut_found b front x ∷ []) after.world)
     × (Tells Cut (cut_found b front x) me (u, carried_after me.1 a) × IsLater b me.0 x × IsShared b me.0) in
     let asked : (p : Play) → cut w id v k ≡ p → play w (suc id) Cut ≡ Some (p.outcome, p.after) = λ p e.
     row_played w id v Cut p (here l s r id me at busy) (is_view l s r id me at busy) refl
@@ -449,9 +506,10 @@ cuts l slots id me head next old new was becomes may busy s r _ at _ =
     ap (λ (o : Option Look). (cut_look v o).work) mine in
     let words : set (words_of w) 0 new ≡ words_of u =
     ap (λ (n : ℕ). lines n w.length ++ rows_of w) written in
-    let done = steps l s r id me at busy 0 new Cut (Got front) u tt played words refl refl work in
+    let done = steps_by l s r id me at busy 0 new Cut (Got front) u tt played words refl refl work
+    (raised l s r id me at busy k mine (hit ∙ expected)) refl in
     subst G (sym (eq-eqb x old hit))
-    ((noted Cut (Got front) me).0, keeps, tt, done.0, (done.1, tt, tt)))
+    ((noted Cut (Got front) me).0, keeps, tt, (done.0.0, (u, played, done.0.1)), (done.1, tt, tt)))
     (λ miss.
     let other : x ≡ pack k.head → ⊥ = λ same. miss (same ∙ sym expected) in
     let found = head_is l s r id me at busy in
@@ -467,19 +525,26 @@ cuts l slots id me head next old new was becomes may busy s r _ at _ =
     let played : play w (suc id) Cut ≡ Some (LostTo (unpack x), u) =
     asked lost e ∙ ap (λ (h : Head). Some (LostTo h, knows w id (lost_look v h.count))) (sym found) in
     let done = steps l s r id me at busy 0 x Cut (LostTo (unpack x)) u tt played
-    (head_kept l s r id me at busy) refl refl refl in
+    (head_kept l s r id me at busy) refl refl refl (refl, refl, refl) in
     subst G (sym (ne_eqb x old miss)) (
       (noted Cut (LostTo (unpack x)) me).0,
       keeps,
       tt,
-      done.0,
+      (done.0.0, (u, played, done.0.1)),
       (done.1, is_later l s r id me at busy k mine other, not_alone l s r id me at busy k mine other),
     ))
 
-pub pushes : (l : Limits) (slots id : ℕ) (me : Sat) (head : Head) (first old new : ℕ) → old ≡ pack head →
+pub cuts : (l : Limits) (slots id : ℕ) (me : Sat) (head : Head) (next old new : ℕ) → old ≡ pack head →
+    new ≡ pack (next_head next head.count) → MayCut me.0.view head next → Sits me →
+    Allows (Ruled l) slots id me 0 (λ x. either (eqb x old) new x) (cut_tells (step slots 0 old new none) me)
+cuts l slots id me head next old new was becomes may busy s r size at small =
+    let m = cuts_moves l slots id me head next old new was becomes may busy s r size at small in (m.0, m.1, m.2, m.3.0, m.4)
+
+pub pushes_moves : (l : Limits) (slots id : ℕ) (me : Sat) (head : Head) (first old new : ℕ) → old ≡ pack head →
     new ≡ pack (next_head first head.count) → MayPush me.0.view head first → Sits me →
-    Allows (Ruled l) slots id me 0 (λ x. either (eqb x old) new x) (push_tells (step slots 0 old new none) me)
-pushes l slots id me head first old new was becomes may busy s r _ at _ =
+    Moves l slots id me 0 (λ x. either (eqb x old) new x) (Push ∷ []) (λ x. push_found (eqb x old) x ∷ [])
+    (push_tells (step slots 0 old new none) me)
+pushes_moves l slots id me head first old new was becomes may busy s r _ at _ =
     let x : ℕ = slice_index s.words 0 in
     let w = r.world in
     let v = me.0.view in
@@ -492,7 +557,9 @@ pushes l slots id me head first old new was becomes may busy s r _ at _ =
     let written : new ≡ pack (next_head (first_value c.items) k.head.count) =
     becomes ∙ (λ i. pack (next_head (sym may.6 i) (sym may.5 i).count)) in
     let G : Bool → Type 0 = λ b.
-    (u : Known) × (a : Act Slot) × Valid s.homes me.1 a × Ruled l (stepped s 0 (either b new x) id me.1 u a)
+    (u : Known) × (a : Act Slot) × Valid s.homes me.1 a
+    × ((after : Ruled l (stepped s 0 (either b new x) id me.1 u a))
+    × Reaches w ((suc id, Push) ∷ []) (push_found b x ∷ []) after.world)
     × (Tells Push (push_found b x) me (u, carried_after me.1 a) × IsLater b me.0 x × IsShared b me.0) in
     let asked : (p : Play) → push w id v k c ≡ p → play w (suc id) Push ≡ Some (p.outcome, p.after) = λ p e.
     row_played w id v Push p (here l s r id me at busy) (is_view l s r id me at busy) refl
@@ -514,9 +581,10 @@ pushes l slots id me head first old new was becomes may busy s r _ at _ =
     let work : (view_after None Push Won v).work ≡ v.work = ap (λ (u : View). u.work) (sym same) in
     let words : set (words_of w) 0 new ≡ words_of after =
     ap (λ (n : ℕ). lines n w.length ++ rows_of w) written in
-    let done = steps l s r id me at busy 0 new Push Won after tt (asked won e) words refl refl work in
+    let done = steps_by l s r id me at busy 0 new Push Won after tt (asked won e) words refl refl work
+    (raised l s r id me at busy k mine (hit ∙ expected)) refl in
     subst G (sym (eq-eqb x old hit))
-    ((noted Push Won me).0, keeps, tt, done.0, (done.1, tt, tt)))
+    ((noted Push Won me).0, keeps, tt, (done.0.0, (after, asked won e, done.0.1)), (done.1, tt, tt)))
     (λ miss.
     let other : x ≡ pack k.head → ⊥ = λ same. miss (same ∙ sym expected) in
     let found = head_is l s r id me at busy in
@@ -526,15 +594,21 @@ pushes l slots id me head first old new was becomes may busy s r _ at _ =
     let played : play w (suc id) Push ≡ Some (LostTo (unpack x), u) =
     asked lost e ∙ ap (λ (h : Head). Some (LostTo h, knows w id (lost_push v h.count))) (sym found) in
     let done = steps l s r id me at busy 0 x Push (LostTo (unpack x)) u tt played
-    (head_kept l s r id me at busy) refl refl refl in
+    (head_kept l s r id me at busy) refl refl refl (refl, refl, refl) in
     subst G (sym (ne_eqb x old miss)) (
       (noted Push (LostTo (unpack x)) me).0,
       keeps,
       tt,
-      done.0,
+      (done.0.0, (u, played, done.0.1)),
       (done.1, is_later l s r id me at busy k mine other, not_alone l s r id me at busy k mine other),
     ))
   where
     push_chain_of : View → Option Look → Option Chain → View
     push_chain_of u o None = u
     push_chain_of u o (Some d) = push_view u d (seen_by o)
+
+pub pushes : (l : Limits) (slots id : ℕ) (me : Sat) (head : Head) (first old new : ℕ) → old ≡ pack head →
+    new ≡ pack (next_head first head.count) → MayPush me.0.view head first → Sits me →
+    Allows (Ruled l) slots id me 0 (λ x. either (eqb x old) new x) (push_tells (step slots 0 old new none) me)
+pushes l slots id me head first old new was becomes may busy s r size at small =
+    let m = pushes_moves l slots id me head first old new was becomes may busy s r size at small in (m.0, m.1, m.2, m.3.0, m.4)

@@ -1,5 +1,5 @@
 -- Each of the five steps on a count keeps the rule, and tells its seat what its contract says.
-use Rattle.std.proofs.Common.{◌≡◌, ◌==◌, ℕ, suc, ◌+◌, ◌-◌, ◌%◌, ◌^◌, ◌<◌, ◌≤◌, Bool, true, false, eqb, List, ◌++◌, Some, length, set, refl, sym, ap, ◌∙◌, subst, ⊎_elim, arith, eq-eqb, ne_eqb}
+use Rattle.std.proofs.Common.{◌≡◌, ◌==◌, ℕ, suc, ◌+◌, ◌-◌, ◌%◌, ◌^◌, ◌<◌, ◌≤◌, Bool, true, false, eqb, List, [], ◌∷◌, ◌++◌, Some, length, set, refl, sym, ap, ◌∙◌, subst, ⊎_elim, arith, eq-eqb, ne_eqb}
 use Rattle.std.specs.Prelude.{map, slice_index, None, sum_by, nat_lt, ◌&&◌, if◌then◌else◌}
 use Rattle.std.proofs.lemmas.Bool.{cases_lt, cases_Bool, lt-ltb, and_from, and_parts, eqb-true}
 use Rattle.std.proofs.lemmas.List.{set-get_or, get_or_append_left, get_or-append_right, set-append_left, set-append_right}
@@ -20,6 +20,7 @@ use Rattle.step_core.specs.declared.step.Outcome.TheVariants.{Value, Won, Lost, 
 use Rattle.step_core.specs.World.{World, view_at, hands, all_zeros, all_holds}
 use Rattle.step_core.specs.Sights.{view_after, claimed, freed, raised, hold_ended, was_reset}
 use Rattle.step_core.specs.Steps.{Play, in_range, quiet, knows, row, claim, sole, raise, lower, reset, play}
+use Rattle.step_core.specs.Runs.{Reaches}
 use Rattle.step_core.specs.Table.{Free, Attach}
 use Rattle.step_core.proofs.Bags.{times-nil, below-le}
 use Rattle.step_core.proofs.StackSteps.{one_view}
@@ -29,9 +30,11 @@ use Rattle.ground.specs.Own.{Owned}
 use Rattle.ground.specs.Rule.{Slot, Sat, Ruled}
 use Rattle.ground.specs.Seats.{KnowsCount}
 use Rattle.ground.specs.Tells.{noted, Tells, exchanged, claim_tells, sole_tells, raise_tells, lower_tells, reset_tells}
-use Rattle.ground.proofs.Playing.{St, Sits, tail_of, row_played, law, here, is as is_view, my_limits, steps, read_at}
+use Rattle.ground.specs.Operations.{Sits, Moves}
+use Rattle.ground.proofs.Playing.{St, tail_of, row_played, law, here, is as is_view, my_limits, steps, read_at}
 use Rattle.ground.proofs.Stepping.{played_when}
-use Rattle.ground.proofs.Alone.{lying, may_lie, holds_known}
+use Rattle.ground.specs.Closing.{lying_on}
+use Rattle.ground.proofs.Alone.{lies_known, may_lie, holds_known}
 
 -- an element that is held, or of count 0 for the moment, is one of the pool's
 pub held_inside : (l : Limits) (v : View) (i : ℕ) → Owned l v → 0 < bag v.holds i → i < l.population
@@ -166,17 +169,18 @@ module _ (l : Limits) (s : St) (r : Ruled l s) (id : ℕ) (me : Sat) (at : get_e
 
   -- a seat of every part has all holds
   pub known_count : 0 < bag me.0.view.holds i →
-      KnowsCount me.0.limits me.0.view i (slice_index s.words k)
+      KnowsCount me.0 i (slice_index s.words k)
   known_count held whole =
       let all = holds_known r.world (law l s r id me at busy) id
       (here l s r id me at busy)
       (ap (λ (v : View). v.part) my_view
       ∙ (whole ∙ ap (λ (z : Limits). z.workers) (my_limits l s r id me at busy ∙ sym r.limits)))
       i in
-      let same = ap (λ (v : View). bag v.holds i + held_in (lying r.world.desks) i) my_view in
+      let same = ap (λ (v : View). bag v.holds i + held_in (lying_on r.world.desks) i) my_view in
       let limits = my_limits l s r id me at busy in (
-        lying r.world.desks,
-        may_lie r.world (law l s r id me at busy) r.counts.headers r.desks.count me.0.limits
+        lying_on r.world.desks,
+        lies_known r.world me.0 busy.2 (r.lies id me.0 at) whole,
+        may_lie r.world (law l s r id me at busy) r.counts.headers r.desks.count r.packets me.0.limits
             (r.limits ∙ sym limits) id me.0.view my_view,
         count_read ∙ (held_count held ∙ (all ∙ same)),
       )
@@ -190,10 +194,10 @@ module _ (l : Limits) (s : St) (r : Ruled l s) (id : ℕ) (me : Sat) (at : get_e
   by_word : (P : ℕ → Type 0) → P i → P (element_counted_at me.0.limits.population k)
   by_word P = subst P index
 
-pub claims : (l : Limits) (slots id : ℕ) (me : Sat) (i k : ℕ) → k ≡ count_word l.population i →
+pub claims_moves : (l : Limits) (slots id : ℕ) (me : Sat) (i k : ℕ) → k ≡ count_word l.population i →
     i < l.population → 0 < bag me.0.view.hand i → Sits me →
-    Allows (Ruled l) slots id me k (λ n. n) (claim_tells (step slots k 0 0 none) me)
-claims l slots id me i k word inside hand busy s r _ at _ =
+    Moves l slots id me k (λ n. n) (Claim i ∷ []) (λ x. Value x ∷ []) (claim_tells (step slots k 0 0 none) me)
+claims_moves l slots id me i k word inside hand busy s r _ at _ =
     let x : ℕ = slice_index s.words k in
     let w = r.world in
     let v = me.0.view in
@@ -206,11 +210,11 @@ claims l slots id me i k word inside hand busy s r _ at _ =
     (played_when (nat_lt 0 (bag v.hand i)) (claim w id v i) (lt-ltb 0 (bag v.hand i) hand))
     ∙ ap (λ (n : ℕ). Some (Value n, u)) (sym read) in
     let done = steps l s r id me at busy k x (Claim i) (Value x) u tt played
-    (count_kept l s r id me at busy i k word inside) refl refl refl in (
+    (count_kept l s r id me at busy i k word inside) refl refl refl (refl, refl, refl) in (
       (noted (Claim i) (Value x) me).0,
       keeps,
       tt,
-      done.0,
+      (done.0.0, (u, played, done.0.1)),
       (
         by_word l s r id me at busy i k word inside
             (λ (j : ℕ). Tells (Claim j) (Value x) me (noted (Claim i) (Value x) me)) done.1,
@@ -218,10 +222,17 @@ claims l slots id me i k word inside hand busy s r _ at _ =
       ),
     )
 
-pub soles : (l : Limits) (slots id : ℕ) (me : Sat) (free : Bool) (i k : ℕ) →
+pub claims : (l : Limits) (slots id : ℕ) (me : Sat) (i k : ℕ) → k ≡ count_word l.population i →
+    i < l.population → 0 < bag me.0.view.hand i → Sits me →
+    Allows (Ruled l) slots id me k (λ n. n) (claim_tells (step slots k 0 0 none) me)
+claims l slots id me i k word inside hand busy s r size at small =
+    let m = claims_moves l slots id me i k word inside hand busy s r size at small in (m.0, m.1, m.2, m.3.0, m.4)
+
+pub soles_moves : (l : Limits) (slots id : ℕ) (me : Sat) (free : Bool) (i k : ℕ) →
     k ≡ count_word l.population i → i < l.population → 0 < bag me.0.view.holds i → Sits me →
-    Allows (Ruled l) slots id me k (λ n. n) (sole_tells free (step slots k 0 0 none) me)
-soles l slots id me free i k word inside held busy s r _ at _ =
+    Moves l slots id me k (λ n. n) (Sole i free ∷ []) (λ x. Value x ∷ [])
+    (sole_tells free (step slots k 0 0 none) me)
+soles_moves l slots id me free i k word inside held busy s r _ at _ =
     let x : ℕ = slice_index s.words k in
     let w = r.world in
     let v = me.0.view in
@@ -240,25 +251,27 @@ soles l slots id me free i k word inside held busy s r _ at _ =
     (played_when (nat_lt 0 (bag v.holds i)) (sole w id v i free) (lt-ltb 0 (bag v.holds i) held)
     ∙ ap (λ (q : Play). Some q) e) in
     let G : Type 0 =
-    (n : Known) × (a : Act Slot) × Valid s.homes me.1 a × Ruled l (stepped s k x id me.1 n a)
+    (n : Known) × (a : Act Slot) × Valid s.homes me.1 a
+    × ((after : Ruled l (stepped s k x id me.1 n a))
+    × Reaches w ((suc id, Sole i free) ∷ []) (Value x ∷ []) after.world)
     × sole_tells free (step slots k 0 0 none) me x (n, carried_after me.1 a) in
     let last : (u : World) → play w (suc id) (Sole i free) ≡ Some (Value x, u) →
-    words_of u ≡ words_of w → u.desks ≡ w.desks →
+    words_of u ≡ words_of w → u.desks ≡ w.desks → u.head.count ≡ w.head.count →
     (view_after None (Sole i free) (Value x) v).work ≡ v.work → G =
-    λ u played words desks work.
+    λ u played words desks head work.
     let done = steps l s r id me at busy k x (Sole i free) (Value x) u tt played (kept ∙ sym words)
-    refl desks work in (
+    refl desks work (refl, head, refl) in (
       (noted (Sole i free) (Value x) me).0,
       keeps,
       tt,
-      done.0,
+      (done.0.0, (u, played, done.0.1)),
       (
         by_word l s r id me at busy i k word inside
             (λ (j : ℕ). Tells (Sole j free) (Value x) me (noted (Sole i free) (Value x) me)) done.1,
         by_word l s r id me at busy i k word inside (λ (j : ℕ). bag v.holds j ≤ x)
             (own_count l s r id me at busy i k word inside held),
         limited_count l s r id me at busy i k word inside,
-        by_word l s r id me at busy i k word inside (λ (j : ℕ). KnowsCount me.0.limits v j x)
+        by_word l s r id me at busy i k word inside (λ (j : ℕ). KnowsCount me.0 j x)
             (known_count l s r id me at busy i k word inside held),
       ),
     ) in
@@ -272,29 +285,35 @@ soles l slots id me free i k word inside held busy s r _ at _ =
     last (knows w id (freed v i))
     (asked ends (ap (λ (b : Bool). if b then ends else stays) (test ∙ yes))
     ∙ ap (λ (n : ℕ). Some (Value n, knows w id (freed v i))) (sym one))
-    refl refl (ap (λ (y : View). y.work) (sym same)))
+    refl refl refl (ap (λ (y : View). y.work) (sym same)))
     (λ (no : (free && (x == 1)) ≡ false).
     let same : v ≡ (if free && (x == 1) then freed v i else v) =
     ap (λ (b : Bool). if b then freed v i else v) (sym no) in
     last w
     (asked stays (ap (λ (b : Bool). if b then ends else stays) (test ∙ no))
     ∙ ap (λ (n : ℕ). Some (Value n, w)) (sym read))
-    refl refl (ap (λ (y : View). y.work) (sym same)))
+    refl refl refl (ap (λ (y : View). y.work) (sym same)))
     (cases_Bool (free && (x == 1)))
 
-pub raises : (l : Limits) (slots id : ℕ) (me : Sat) (i k old new : ℕ) → k ≡ count_word l.population i →
+pub soles : (l : Limits) (slots id : ℕ) (me : Sat) (free : Bool) (i k : ℕ) →
+    k ≡ count_word l.population i → i < l.population → 0 < bag me.0.view.holds i → Sits me →
+    Allows (Ruled l) slots id me k (λ n. n) (sole_tells free (step slots k 0 0 none) me)
+soles l slots id me free i k word inside held busy s r size at small =
+    let m = soles_moves l slots id me free i k word inside held busy s r size at small in (m.0, m.1, m.2, m.3.0, m.4)
+
+pub raises_moves : (l : Limits) (slots id : ℕ) (me : Sat) (i k old new : ℕ) → k ≡ count_word l.population i →
     i < l.population → 0 < bag me.0.view.holds i → old < l.ref_limit → new ≡ old + 1 →
     Sits me →
-    Allows (Ruled l) slots id me k (λ x. either (eqb x old) new x)
+    Moves l slots id me k (λ x. either (eqb x old) new x) (Raise i old ∷ []) (λ x. exchanged (eqb x old) x ∷ [])
     (raise_tells (step slots k old new none) me)
-raises l slots id me i k old new word inside held limited next busy s r _ at _ =
+raises_moves l slots id me i k old new word inside held limited next busy s r _ at _ =
     let x : ℕ = slice_index s.words k in
     let w = r.world in
     let v = me.0.view in
     let read = count_read l s r id me at busy i k word inside in
     let limit = ap (λ (z : Limits). z.ref_limit) r.limits in
     let low : old < w.limits.ref_limit = omega arith in
-    let known = by_word l s r id me at busy i k word inside (λ (j : ℕ). KnowsCount me.0.limits v j x)
+    let known = by_word l s r id me at busy i k word inside (λ (j : ℕ). KnowsCount me.0 j x)
     (known_count l s r id me at busy i k word inside held) in
     let u : World = record w {
       counts = set w.counts i (old + 1);
@@ -316,9 +335,10 @@ raises l slots id me i k old new word inside held limited next busy s r _ at _ =
     (λ (j : ℕ). Tells (Raise j old) o me (noted (Raise i old) o me)) in
     let G : Bool → Type 0 = λ b.
     (n : Known) × (a : Act Slot) × Valid s.homes me.1 a
-    × Ruled l (stepped s k (either b new x) id me.1 n a)
+    × ((after : Ruled l (stepped s k (either b new x) id me.1 n a))
+    × Reaches w ((suc id, Raise i old) ∷ []) (exchanged b x ∷ []) after.world)
     × (Tells (Raise (element_counted_at me.0.limits.population k) old) (exchanged b x) me (n, carried_after me.1 a)
-    × KnowsCount me.0.limits v (element_counted_at me.0.limits.population k) x) in
+    × KnowsCount me.0 (element_counted_at me.0.limits.population k) x) in
     dite (ℕ_discrete x old)
     (λ hit.
     let words : set (words_of w) k new ≡ words_of u =
@@ -327,24 +347,32 @@ raises l slots id me i k old new word inside held limited next busy s r _ at _ =
     let played : play w (suc id) (Raise i old) ≡ Some (Won, u) =
     asked won (ap (λ (b : Bool). if b then won else lost)
     (eq-eqb (slice_index w.counts i) old (sym read ∙ hit))) in
-    let done = steps l s r id me at busy k new (Raise i old) Won u tt played words refl refl refl in
+    let done = steps l s r id me at busy k new (Raise i old) Won u tt played words refl refl refl (refl, refl, refl) in
     subst G (sym (eq-eqb x old hit))
-    ((noted (Raise i old) Won me).0, keeps, tt, done.0, (by Won done.1, known)))
+    ((noted (Raise i old) Won me).0, keeps, tt, (done.0.0, (u, played, done.0.1)), (by Won done.1, known)))
     (λ miss.
     let played : play w (suc id) (Raise i old) ≡ Some (Lost x, w) =
     asked lost (ap (λ (b : Bool). if b then won else lost)
     (ne_eqb (slice_index w.counts i) old (λ same. miss (read ∙ same))))
     ∙ ap (λ (n : ℕ). Some (Lost n, w)) (sym read) in
     let done = steps l s r id me at busy k x (Raise i old) (Lost x) w tt played
-    (count_kept l s r id me at busy i k word inside) refl refl refl in
+    (count_kept l s r id me at busy i k word inside) refl refl refl (refl, refl, refl) in
     subst G (sym (ne_eqb x old miss))
-    ((noted (Raise i old) (Lost x) me).0, keeps, tt, done.0, (by (Lost x) done.1, known)))
+    ((noted (Raise i old) (Lost x) me).0, keeps, tt, (done.0.0, (w, played, done.0.1)), (by (Lost x) done.1, known)))
 
-pub lowers : (l : Limits) (slots id : ℕ) (me : Sat) (i k : ℕ) → k ≡ count_word l.population i →
+pub raises : (l : Limits) (slots id : ℕ) (me : Sat) (i k old new : ℕ) → k ≡ count_word l.population i →
+    i < l.population → 0 < bag me.0.view.holds i → old < l.ref_limit → new ≡ old + 1 →
+    Sits me →
+    Allows (Ruled l) slots id me k (λ x. either (eqb x old) new x)
+    (raise_tells (step slots k old new none) me)
+raises l slots id me i k old new word inside held limited next busy s r size at small =
+    let m = raises_moves l slots id me i k old new word inside held limited next busy s r size at small in (m.0, m.1, m.2, m.3.0, m.4)
+
+pub lowers_moves : (l : Limits) (slots id : ℕ) (me : Sat) (i k : ℕ) → k ≡ count_word l.population i →
     i < l.population → 0 < bag me.0.view.holds i → Sits me →
-    Allows (Ruled l) slots id me k (λ n. (n + (2 ^ 64 - 1)) % 2 ^ 64)
+    Moves l slots id me k (λ n. (n + (2 ^ 64 - 1)) % 2 ^ 64) (Lower i ∷ []) (λ x. Value x ∷ [])
     (lower_tells (step slots k 1 0 none) me)
-lowers l slots id me i k word inside held busy s r _ at small =
+lowers_moves l slots id me i k word inside held busy s r _ at small =
     let x : ℕ = slice_index s.words k in
     let w = r.world in
     let v = me.0.view in
@@ -365,23 +393,32 @@ lowers l slots id me i k word inside held busy s r _ at small =
     ap (λ (n : ℕ). set (words_of w) k n) less
     ∙ count_set l s r id me at busy i k word inside (slice_index w.counts i - 1) in
     let done = steps l s r id me at busy k ((x + (18446744073709551616 - 1)) % 18446744073709551616)
-    (Lower i) (Value x) u tt played words refl refl refl in (
+    (Lower i) (Value x) u tt played words refl refl refl (refl, refl, refl) in (
       (noted (Lower i) (Value x) me).0,
       keeps,
       tt,
-      done.0,
+      (done.0.0, (u, played, done.0.1)),
       (
         by_word l s r id me at busy i k word inside
             (λ (j : ℕ). Tells (Lower j) (Value x) me (noted (Lower i) (Value x) me)) done.1,
         by_word l s r id me at busy i k word inside (λ (j : ℕ). bag v.holds j ≤ x) own,
         limited_count l s r id me at busy i k word inside,
+        by_word l s r id me at busy i k word inside (λ (j : ℕ). KnowsCount me.0 j x)
+            (known_count l s r id me at busy i k word inside held),
       ),
     )
 
-pub resets : (l : Limits) (slots id : ℕ) (me : Sat) (i k : ℕ) → k ≡ count_word l.population i →
+pub lowers : (l : Limits) (slots id : ℕ) (me : Sat) (i k : ℕ) → k ≡ count_word l.population i →
+    i < l.population → 0 < bag me.0.view.holds i → Sits me →
+    Allows (Ruled l) slots id me k (λ n. (n + (2 ^ 64 - 1)) % 2 ^ 64)
+    (lower_tells (step slots k 1 0 none) me)
+lowers l slots id me i k word inside held busy s r size at small =
+    let m = lowers_moves l slots id me i k word inside held busy s r size at small in (m.0, m.1, m.2, m.3.0, m.4)
+
+pub resets_moves : (l : Limits) (slots id : ℕ) (me : Sat) (i k : ℕ) → k ≡ count_word l.population i →
     i < l.population → 0 < bag me.0.view.zeros i → Sits me →
-    Allows (Ruled l) slots id me k (λ _. 1) (λ _. reset_tells (step slots k 1 0 none) me 1)
-resets l slots id me i k word inside zero busy s r _ at _ =
+    Moves l slots id me k (λ _. 1) (Reset i ∷ []) (λ _. Done ∷ []) (λ _. reset_tells (step slots k 1 0 none) me 1)
+resets_moves l slots id me i k word inside zero busy s r _ at _ =
     let w = r.world in
     let v = me.0.view in
     let u : World = record w { counts = set w.counts i 1; views = set w.views id (was_reset v i) } in
@@ -390,11 +427,17 @@ resets l slots id me i k word inside zero busy s r _ at _ =
     (in_pool l s r id me at busy i k word inside)
     (played_when (nat_lt 0 (bag v.zeros i)) (reset w id v i) (lt-ltb 0 (bag v.zeros i) zero)) in
     let done = steps l s r id me at busy k 1 (Reset i) Done u tt played
-    (count_set l s r id me at busy i k word inside 1) refl refl refl in (
+    (count_set l s r id me at busy i k word inside 1) refl refl refl (refl, refl, refl) in (
       (noted (Reset i) Done me).0,
       keeps,
       tt,
-      done.0,
+      (done.0.0, (u, played, done.0.1)),
       by_word l s r id me at busy i k word inside
           (λ (j : ℕ). Tells (Reset j) Done me (noted (Reset i) Done me)) done.1,
     )
+
+pub resets : (l : Limits) (slots id : ℕ) (me : Sat) (i k : ℕ) → k ≡ count_word l.population i →
+    i < l.population → 0 < bag me.0.view.zeros i → Sits me →
+    Allows (Ruled l) slots id me k (λ _. 1) (λ _. reset_tells (step slots k 1 0 none) me 1)
+resets l slots id me i k word inside zero busy s r size at small =
+    let m = resets_moves l slots id me i k word inside zero busy s r size at small in (m.0, m.1, m.2, m.3.0, m.4)

@@ -36,6 +36,10 @@ IsKept words slots kept =
 abbrev pub packet_on : Desk → Option (List Seg)
 packet_on x = kept_on x.word x.slot
 
+-- what lies on the desks: the packets of the full ones
+abbrev pub lying_on : List Desk → List (Option (List Seg))
+lying_on desks = map packet_on desks
+
 -- What is left is of a lawful world of these limits, in which this view is a worker's. Where it has every part, no
 -- other view names anything.
 pub record LeftOf (l : Limits) (v : View) (c : Closed) : Type 0 where
@@ -51,4 +55,4 @@ pub record LeftOf (l : Limits) (v : View) (c : Closed) : Type 0 where
   pub length : c.length ≡ world.length
   pub links : c.links ≡ world.links
   pub counts : c.counts ≡ world.counts
-  pub desks : c.desks ≡ map packet_on world.desks
+  pub desks : c.desks ≡ lying_on world.desks

@@ -9,11 +9,15 @@ use Rattle.step_core.specs.declared.step.Step.TheVariants.{Hold, PutIn, Open, Se
 use Rattle.step_core.specs.declared.step.Outcome.TheVariants.{Won, Done, Found}
 use Rattle.step_core.specs.declared.view.Phase.TheVariants.{Filled, Seized}
 use Rattle.step_core.specs.declared.view.View.{View}
-use Rattle.ground.specs.Seats.{Seated, after, sight}
+use Rattle.ground.specs.Seats.{Seated, after, sight, laid_on}
 
 -- the seat with these slots
 abbrev pub with_slots : Seated → List (ℕ × Option (List Seg)) → Seated
 with_slots s slots = record s { slots = slots }
+
+-- the seat, which knows this to lie on desk d if it knows what lies on the desks
+abbrev pub laid : ℕ → Option (List Seg) → Seated → Seated
+laid d slot s = record s { known = record s.known { lying = laid_on d slot s.known.lying } }
 
 -- what is in the slot may be given away: the worker holds it, and its own elements are distinct headers of the worker
 pub record MayOpen (d : ℕ) (v : View) : Type 0 where
@@ -36,14 +40,14 @@ Fills d p s t =
 abbrev pub Opens : ℕ → Seated → Seated → Type 0
 Opens d s t =
     (p : List Seg) × (phase_at d (sight s).work ≡ Some (Filled p))
-    × (t ≡ with_slots
-    (after s ((Open d, Found p) ∷ []) (working (opened s.known.view p) None)) [])
+    × (t ≡ with_slots (laid d (Some p)
+    (after s ((Open d, Found p) ∷ []) (working (opened s.known.view p) None))) [])
     × (sight t ≡ view_after (Some p) (Open d) Done (sight s))
 
 abbrev pub Seizes : ℕ → List Seg → Seated → Seated → Type 0
 Seizes d p s t =
-    (t ≡ with_slots
-    (after s ((Seize d, Found p) ∷ []) (view_after (Some p) (Seize d) Won s.known.view)) ((d, Some p) ∷ []))
+    (t ≡ with_slots (laid d None
+    (after s ((Seize d, Found p) ∷ []) (view_after (Some p) (Seize d) Won s.known.view))) ((d, Some p) ∷ []))
     × (sight t ≡ view_after (Some p) (Seize d) Won (sight s))
 
 abbrev pub Empties : ℕ → List Seg → Seated → Seated → Type 0

@@ -1,5 +1,5 @@
 -- What each step on a desk's word tells its seat. The desk is the one whose word it is.
-use Rattle.std.specs.Prelude.{◌≡◌, ℕ, ◌==◌, Bool, true, false, List, [], ◌∷◌, ◌++◌, Some, None}
+use Rattle.std.specs.Prelude.{◌≡◌, ℕ, ◌==◌, Bool, true, false, List, [], ◌∷◌, ◌++◌, Option, Some, None}
 use Rattle.atomic_table.specs.Table as table
 use Rattle.commons.specs.declared.packet.Seg.{Seg}
 use Rattle.step_core.specs.declared.step.Step.{Step}
@@ -10,28 +10,31 @@ use Rattle.step_core.specs.declared.view.View.{View}
 use Rattle.step_core.specs.Sights.{view_after, working, opened}
 use Rattle.ground.specs.declared.known.Known.{Known}
 use Rattle.ground.specs.Layout.{desk_standing_at}
-use Rattle.ground.specs.Own.{Owned, AtDesk}
+use Rattle.ground.specs.Own.{Owned, AtDesk, KnowsDesks}
 use Rattle.ground.specs.Rule.{Slot, Sat}
+use Rattle.ground.specs.Seats.{laid_on, KnowsThere, KnowsEmpty, KnowsFull}
 use Rattle.ground.specs.Tells.{Tells}
 
 abbrev pub desk_by : table.Step Slot → Known → ℕ
 desk_by st n = desk_standing_at n.limits.population st.word
 
--- the seat after a step that moved a slot
-abbrev pub moved : Step → Outcome → View → List (ℕ × Slot) → Sat → Sat
-moved st o v slots m = (
-  record { view = v; steps = m.0.steps ++ (st, o) ∷ []; limits = m.0.limits },
+-- the seat after a step that moved a slot, and what is known to lie on the desks then
+abbrev pub moved : Step → Outcome → View → Option (List Slot) → List (ℕ × Slot) → Sat → Sat
+moved st o v lying slots m = (
+  record { view = v; steps = m.0.steps ++ (st, o) ∷ []; limits = m.0.limits; lying = lying; joined = m.0.joined },
   slots,
 )
 
-abbrev pub Moved : Step → Outcome → View → List (ℕ × Slot) → Sat → Sat → Type 0
-Moved st o v slots m m' =
-    (m' ≡ moved st o v slots m) × Owned m.0.limits v × AtDesk v.work slots
+abbrev pub Moved : Step → Outcome → View → Option (List Slot) → List (ℕ × Slot) → Sat → Sat → Type 0
+Moved st o v lying slots m m' =
+    (m' ≡ moved st o v lying slots m) × Owned m.0.limits v × AtDesk v.work slots
+    × KnowsDesks (moved st o v lying slots m).0
 
 abbrev pub hold_found : Bool → ℕ → ℕ → Sat → Sat → Type 0
 hold_found true d found m m' =
-    Moved (Hold d) Won (view_after None (Hold d) Won m.0.view) ((d, None) ∷ []) m m'
-hold_found false d found m m' = Tells (Hold d) (Lost found) m m'
+    Moved (Hold d) Won (view_after None (Hold d) Won m.0.view) m.0.lying ((d, None) ∷ []) m m'
+    × KnowsEmpty d m.0
+hold_found false d found m m' = Tells (Hold d) (Lost found) m m' × KnowsFull d m.0
 
 abbrev pub hold_tells : table.Step Slot → Sat → ℕ → Sat → Type 0
 hold_tells st m found m' = hold_found (found == st.first) (desk_by st m.0) found m m'
@@ -40,17 +43,20 @@ hold_tells st m found m' = hold_found (found == st.first) (desk_by st m.0) found
 abbrev pub open_tells : table.Step Slot → Sat → ℕ → Sat → Type 0
 open_tells st m found m' =
     (p : List Seg) × (m.1 ≡ (desk_by st m.0, Some p) ∷ [])
-    × Moved (Open (desk_by st m.0)) (Found p) (working (opened m.0.view p) None) [] m m'
+    × Moved (Open (desk_by st m.0)) (Found p) (working (opened m.0.view p) None)
+    (laid_on (desk_by st m.0) (Some p) m.0.lying) [] m m'
 
 abbrev pub seize_found : Bool → ℕ → ℕ → Sat → Sat → Type 0
 seize_found true d found m m' =
     (p : List Seg)
-    × Moved (Seize d) (Found p) (view_after (Some p) (Seize d) Won m.0.view) ((d, Some p) ∷ []) m m'
-seize_found false d found m m' = Tells (Seize d) (Lost found) m m'
+    × Moved (Seize d) (Found p) (view_after (Some p) (Seize d) Won m.0.view)
+    (laid_on d None m.0.lying) ((d, Some p) ∷ []) m m'
+    × KnowsThere d p m.0
+seize_found false d found m m' = Tells (Seize d) (Lost found) m m' × KnowsEmpty d m.0
 
 abbrev pub seize_tells : table.Step Slot → Sat → ℕ → Sat → Type 0
 seize_tells st m found m' = seize_found (found == st.first) (desk_by st m.0) found m m'
 
 abbrev pub clear_tells : table.Step Slot → Sat → ℕ → Sat → Type 0
 clear_tells st m found m' =
-    Moved (Clear (desk_by st m.0)) Done (working m.0.view None) [] m m'
+    Moved (Clear (desk_by st m.0)) Done (working m.0.view None) m.0.lying [] m m'

@@ -1,17 +1,18 @@
 -- Where each word of a pool stands. Every get and put of every worker exchanges the head and the length. So each of the
 -- two has a cache line for itself, and the links and counts begin behind both: an exchange of the one takes away
 -- neither the other nor an element's words from a worker that reads them.
-use Rattle.std.specs.Prelude.{ℕ, ◌+◌, ◌-◌, ◌*◌, ◌/◌, ◌%◌, List, ◌∷◌, ◌++◌, map, replicate}
+use Rattle.std.specs.Prelude.{ℕ, ◌+◌, ◌-◌, ◌*◌, List, ◌∷◌, ◌++◌, map, replicate}
+use Rattle.head_word.specs.Heads.{low_in, count_in, word_with}
 use Rattle.step_core.specs.declared.view.Head.{Head}
 use Rattle.step_core.specs.declared.view.Desk.{Desk}
 use Rattle.step_core.specs.World.{World}
 
--- the head's word: its count above 16 bits for its top
+-- the head's word: its count above the low bits, which are its top
 abbrev pub pack : Head → ℕ
-pack h = h.count * 65536 + h.top
+pack h = word_with h.top h.count
 
 abbrev pub unpack : ℕ → Head
-unpack n = record { top = n % 65536; count = n / 65536 }
+unpack n = record { top = low_in n; count = count_in n }
 
 -- how many words a cache line has
 abbrev pub line_words : ℕ

@@ -1,13 +1,17 @@
 pub mod Layout
 pub mod Own
+pub mod Changing
+pub mod History
 pub mod Seats
 pub mod DeskSeats
 pub mod StackRule
 pub mod CountRule
 pub mod DeskRule
 pub mod Rule
+pub mod Ruling
 pub mod Tells
 pub mod DeskTells
+pub mod Operations
 pub mod Opening
 pub mod Parting
 pub mod Closing

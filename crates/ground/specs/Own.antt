@@ -1,18 +1,21 @@
 -- What is true of a worker's view by itself, so that no step of another worker can end it.
-use Rattle.std.specs.Prelude.{◌≡◌, ℕ, ◌+◌, ◌<◌, ◌≤◌, List, [], ◌∷◌, Option, Some, None, IfSome, ⊤}
+use Rattle.std.specs.Prelude.{◌≡◌, ℕ, ◌+◌, ◌<◌, ◌≤◌, List, [], ◌∷◌, Option, Some, None, IfSome, IsSome}
 use Rattle.commons.specs.Bag.{bag}
 use Rattle.commons.specs.Bounds.{IsPool}
 use Rattle.commons.specs.declared.limits.Limits.{Limits}
 use Rattle.commons.specs.declared.packet.Seg.{Seg}
+use Rattle.commons.specs.Packets.{IsPacket}
 use Rattle.step_core.specs.declared.view.Phase.{Phase}
 use Rattle.step_core.specs.declared.view.Phase.TheVariants.{ToFill, Filled, Seized, TakenOut}
 use Rattle.step_core.specs.declared.view.View.{View}
 use Rattle.step_core.specs.declared.view.Work.{Work}
 use Rattle.step_core.specs.Links.{first_value}
+use Rattle.ground.specs.declared.known.Known.{Known}
 
 pub record Owned (l : Limits) (v : View) : Type 0 where
   pub pool : IsPool l
   pub busy : 0 < v.part
+  pub within : v.part ≤ l.workers
   -- an element of the pool is in the hand, or of count 0 for the moment, at most once, and no other element is
   pub hand_once : (i : ℕ) → bag v.hand i + bag v.zeros i ≤ 1
   pub hand_below : (i : ℕ) → l.population ≤ i → bag v.hand i + bag v.zeros i ≡ 0
@@ -27,12 +30,12 @@ pub record Owned (l : Limits) (v : View) : Type 0 where
   pub chain :
       IfSome v.chain (λ c. (c.end ≤ l.population) × (first_value c.items ≤ l.population))
 
--- What a word step leaves of a work, and what its slot may hold since: it is to be filled, with whatever, or was seized
--- with a packet, and has that one or none.
+-- What a word step leaves of a work, and what its slot may hold since: it is to be filled, with whatever packet, or was
+-- seized with a packet, and has that one or none.
 abbrev pub IsSince : Phase → Option (List Seg) → Type 0
-IsSince ToFill slot = ⊤
+IsSince ToFill slot = IfSome slot IsPacket
 IsSince (Filled p) slot = ⊥
-IsSince (Seized p) slot = IfSome slot (λ q. q ≡ p)
+IsSince (Seized p) slot = IsPacket p × IfSome slot (λ q. q ≡ p)
 IsSince TakenOut slot = ⊥
 
 -- the slot of a desk in work is out with the seat that has the work, and no other is
@@ -40,6 +43,10 @@ abbrev pub AtDesk : Option Work → List (ℕ × Option (List Seg)) → Type 0
 AtDesk None slots = slots ≡ []
 AtDesk (Some x) slots =
     (slot : Option (List Seg)) × (slots ≡ (x.desk, slot) ∷ []) × IsSince x.phase slot
+
+-- a seat of every part knows what lies on the desks
+abbrev pub KnowsDesks : Known → Type 0
+KnowsDesks n = n.view.part ≡ n.limits.workers → IsSome n.lying
 
 -- between calls: nothing is reserved, nothing chained, no element has count 0, and no desk is in work
 pub record AtRest (v : View) : Type 0 where

@@ -1,19 +1,24 @@
 -- What a seat knows, cut in two, and what two seats know, made one.
-use Rattle.std.specs.Prelude.{◌+◌, ◌-◌, max, [], ◌++◌, None}
+use Rattle.std.specs.Prelude.{◌≡◌, ◌+◌, ◌-◌, max, List, [], ◌++◌, Option, None}
+use Rattle.atomic_table.specs.Table.{Me}
+use Rattle.commons.specs.declared.packet.Seg.{Seg}
+use Rattle.commons.specs.declared.limits.PutRule.TheVariants.{Keep}
 use Rattle.step_core.specs.declared.view.View.{View}
 use Rattle.step_core.specs.World.{empty_view}
 use Rattle.ground.specs.declared.known.Known.{Known}
+use Rattle.ground.specs.Seats.{Seated}
 
 -- all that was there, but for one part
 abbrev pub less : View → View
 less v = record v { part = v.part - 1 }
 
+-- and for what lies on the desks, since another seat may change that now
 abbrev pub less_part : Known → Known
-less_part n = record n { view = less n.view }
+less_part n = record n { view = less n.view; lying = None }
 
 -- one part, which names nothing and has taken no step
 abbrev pub newcomer : Known → Known
-newcomer n = record { view = empty_view 1; steps = []; limits = n.limits }
+newcomer n = record { view = empty_view 1; steps = []; limits = n.limits; lying = None; joined = [] }
 
 -- what two views at rest name, with the parts of both
 abbrev pub both_views : View → View → View
@@ -30,9 +35,25 @@ both_views v u = record {
   part = v.part + u.part;
 }
 
--- with the steps of the first
+-- with the steps of the first, which has joined those of the second; what lies on the desks isn't known yet
 abbrev pub both : Known → Known → Known
-both n o = record n { view = both_views n.view o.view }
+both n o = record n {
+  view = both_views n.view o.view;
+  lying = None;
+  joined = n.joined ++ (o.steps ++ o.joined);
+}
+
+-- the same, and what lies on the desks as it is read once they are one
+abbrev pub both_with : Known → Known → Option (List (Option (List Seg))) → Known
+both_with n o lying = record (both n o) { lying = lying }
+
+abbrev pub AreBoth : Me (Option (List Seg)) Known → Known → Me (Option (List Seg)) Known → Type 0
+AreBoth m o m' = (lying : Option (List (Option (List Seg)))) × (m' ≡ (both_with m.0 o lying, m.1))
+
+-- the first seat is that of both
+abbrev pub IsBoth : Seated → Known → Seated → Type 0
+IsBoth s o t =
+    (lying : Option (List (Option (List Seg)))) × (t ≡ record s { known = both_with s.known o lying })
 
 -- what is left of the second
 abbrev pub spent_seat : Known
@@ -48,5 +69,8 @@ spent_seat = record {
     ref_limit = 0;
     tries = 0;
     start_count = 0;
+    put_rule = Keep;
   };
+  lying = None;
+  joined = [];
 }

@@ -1,11 +1,11 @@
 -- A ground and a seat as contracts see them, and what a step makes of what a seat knows.
 use Rattle.std.specs.Prelude.{◌≡◌, ℕ, zero, suc, min, ◌+◌, ◌<◌, ◌≤◌, List, [], ◌∷◌, ◌++◌, length, Option, Some, None}
-use Rattle.std.specs.Prelude.{IfSome, flat_map, slice_index_or, Result, Ok, Err}
+use Rattle.std.specs.Prelude.{IfSome, flat_map, option_map, slice_index_or, slice_set, Result, Ok, Err}
 use Rattle.atomic_table.specs.Seated.{TableId}
 use Rattle.commons.specs.Bag.{bag}
 use Rattle.commons.specs.declared.limits.Limits.{Limits}
 use Rattle.commons.specs.declared.packet.Seg.{Seg}
-use Rattle.commons.specs.Packets.{held_in, holds_in_slot, own_in}
+use Rattle.commons.specs.Packets.{IsPacket, held_in, holds_in_slot, own_in}
 use Rattle.step_core.specs.declared.view.Head.{Head}
 use Rattle.step_core.specs.declared.view.Look.{Look}
 use Rattle.step_core.specs.declared.view.Phase.{Phase}
@@ -98,34 +98,54 @@ abbrev pub held_below : ℕ → List ℕ → ℕ
 held_below zero xs = 0
 held_below (suc n) xs = held_below n xs + min 1 (bag xs n)
 
--- What may lie on the desks beside a view: on each desk of the pool a packet, or nothing. The packets hold elements of
--- the pool alone, and none that is in the hand; with the view's own holds no element is held more often than the
--- reference limit says; none is an own one of two segments, or of one and a header of the view; and the desk that the
--- view has in work isn't full.
+-- what lies on a desk, by what lies on all
+abbrev pub on_desk : List (Option (List Seg)) → ℕ → Option (List Seg)
+on_desk desks d = slice_index_or desks d None
+
+-- What may lie on the desks beside a view: on each desk of the pool a packet, or nothing. A packet has 1 to 32 segments,
+-- each with its data within its buffer. The packets hold elements of the pool alone, and none that is in the hand; with
+-- the view's own holds no element is held more often than the reference limit says; none is an own one of two segments,
+-- or of one and a header of the view; and the desk that the view has in work isn't full.
 pub record MayLie (l : Limits) (v : View) (desks : List (Option (List Seg))) : Type 0 where
   pub as_many : length desks ≡ l.desks
+  pub packets : (d : ℕ) → IfSome (on_desk desks d) IsPacket
   pub below : (i : ℕ) → l.population ≤ i → held_in desks i ≡ 0
   pub apart : (i : ℕ) → 0 < held_in desks i → bag v.hand i + bag v.zeros i ≡ 0
   pub limited : (i : ℕ) → bag v.holds i + held_in desks i ≤ l.ref_limit
   pub own_once : (i : ℕ) → bag v.headers i + own_in desks i ≤ 1
-  pub work : IfSome v.work (λ x. slice_index_or desks x.desk None ≡ None)
+  pub work : IfSome v.work (λ x. on_desk desks x.desk ≡ None)
 
--- A seat of every part knows the length word, but for what lies on full desks: it is the population without the hand,
--- the credit, and the elements that are held, each once, by the seat or by a packet on a desk. In a pool without desks
--- nothing lies there.
-abbrev pub KnowsLength : Limits → View → ℕ → Type 0
-KnowsLength l v found =
-    v.part ≡ l.workers →
-    (desks : List (Option (List Seg))) × MayLie l v desks
-    × (found + v.credit + length v.hand + length v.zeros
-    + held_below l.population (v.holds ++ flat_map holds_in_slot desks) ≡ l.population)
+-- A seat of every part knows what lies on the desks, and so the length word: it is the population without the hand, the
+-- credit, and the elements that are held, each once, by the seat or by a packet on a desk.
+abbrev pub KnowsLength : Known → ℕ → Type 0
+KnowsLength n found =
+    n.view.part ≡ n.limits.workers →
+    (desks : List (Option (List Seg))) × (n.lying ≡ Some desks) × MayLie n.limits n.view desks
+    × (found + n.view.credit + length n.view.hand + length n.view.zeros
+    + held_below n.limits.population (n.view.holds ++ flat_map holds_in_slot desks) ≡ n.limits.population)
 
 -- and that a walk to the end of the list has passed all that is reserved
 abbrev pub KnowsEnd : Limits → View → Type 0
 KnowsEnd l v = v.part ≡ l.workers → IfSome v.look (λ k. k.next ≡ 0 → v.credit ≤ length k.front)
 
--- and the count of each element that it holds, which is how often it and the packets on full desks do
-abbrev pub KnowsCount : Limits → View → ℕ → ℕ → Type 0
-KnowsCount l v i count =
-    v.part ≡ l.workers →
-    (desks : List (Option (List Seg))) × MayLie l v desks × (count ≡ bag v.holds i + held_in desks i)
+-- and the count of each element that it holds, which is how often it and the packets on desks do
+abbrev pub KnowsCount : Known → ℕ → ℕ → Type 0
+KnowsCount n i count =
+    n.view.part ≡ n.limits.workers →
+    (desks : List (Option (List Seg))) × (n.lying ≡ Some desks) × MayLie n.limits n.view desks
+    × (count ≡ bag n.view.holds i + held_in desks i)
+
+-- what is known to lie on the desks, once this lies on desk d
+abbrev pub laid_on : ℕ → Option (List Seg) → Option (List (Option (List Seg))) →
+    Option (List (Option (List Seg)))
+laid_on d slot known = option_map (λ desks. slice_set desks d slot) known
+
+-- a seat that knows what lies on the desks knows that this lies on desk d, that nothing does, or that a packet does
+abbrev pub KnowsThere : ℕ → List Seg → Known → Type 0
+KnowsThere d p n = IfSome n.lying (λ desks. on_desk desks d ≡ Some p)
+
+abbrev pub KnowsEmpty : ℕ → Known → Type 0
+KnowsEmpty d n = IfSome n.lying (λ desks. on_desk desks d ≡ None)
+
+abbrev pub KnowsFull : ℕ → Known → Type 0
+KnowsFull d n = IfSome n.lying (λ desks. (p : List Seg) × (on_desk desks d ≡ Some p))

@@ -1,15 +1,18 @@
 -- What each step tells its seat.
-use Rattle.std.specs.Prelude.{◌≡◌, ◌≢◌, ℕ, ◌-◌, ◌%◌, ◌<◌, ◌≤◌, ◌==◌, Bool, true, false, List, [], ◌∷◌, ◌++◌, None}
+use Rattle.std.specs.Prelude.{◌≡◌, ◌≢◌, ℕ, ◌-◌, ◌<◌, ◌≤◌, ◌==◌, Bool, true, false, List, [], ◌∷◌, ◌++◌, Option, None}
 use Rattle.atomic_table.specs.Table as table
+use Rattle.head_word.specs.Heads.{low_in, no_low}
 use Rattle.commons.specs.Bag.{bag}
+use Rattle.commons.specs.declared.packet.Seg.{Seg}
 use Rattle.step_core.specs.declared.step.Step.{Step}
 use Rattle.step_core.specs.declared.step.Step.TheVariants.{LoadLength, Reserve, Add, LoadHead, LoadLink, Cut, StoreLink, Push, Claim, Sole, Raise, Lower, Reset}
 use Rattle.step_core.specs.declared.step.Outcome.{Outcome}
 use Rattle.step_core.specs.declared.step.Outcome.TheVariants.{Value, HeadIs, Won, Got, Lost, LostTo, Done}
 use Rattle.step_core.specs.Sights.{view_after}
 use Rattle.ground.specs.declared.known.Known.{Known}
+use Rattle.ground.specs.Changing.{KnowsChanges, KnowsOpening}
 use Rattle.ground.specs.Layout.{unpack, element_linked_at, element_counted_at}
-use Rattle.ground.specs.Own.{Owned, AtDesk}
+use Rattle.ground.specs.Own.{Owned, AtDesk, KnowsDesks}
 use Rattle.ground.specs.Rule.{Slot, Sat}
 use Rattle.ground.specs.Seats.{KnowsLength, KnowsEnd, KnowsCount, front_of, count_of, element_of}
 
@@ -20,15 +23,18 @@ noted st o m = (
     view = view_after None st o m.0.view;
     steps = m.0.steps ++ (st, o) ∷ [];
     limits = m.0.limits;
+    lying = m.0.lying;
+    joined = m.0.joined;
   },
   m.1,
 )
 
--- a step tells what it made of the seat, what is true of the new view by itself, and where the slots are
+-- a step tells what it made of the seat, what is true of the new view by itself, where the slots are, and that a seat of
+-- every part knows the desks
 abbrev pub Tells : Step → Outcome → Sat → Sat → Type 0
 Tells st o m m' =
     (m' ≡ noted st o m) × Owned m.0.limits (view_after None st o m.0.view)
-    × AtDesk (view_after None st o m.0.view).work m.1
+    × AtDesk (view_after None st o m.0.view).work m.1 × KnowsDesks (noted st o m).0
 
 -- the outcome of an exchange by whether it found what it expected
 abbrev pub exchanged : Bool → ℕ → Outcome
@@ -46,7 +52,7 @@ push_found false found = LostTo (unpack found)
 -- an exchange of the head that lost found a head, and a later one than was looked at
 abbrev pub IsLater : Bool → Known → ℕ → Type 0
 IsLater true n found = Unit {0}
-IsLater false n found = (found % 65536 < 65535) × (count_of n.view.look < (unpack found).count)
+IsLater false n found = (low_in found < no_low) × (count_of n.view.look < (unpack found).count)
 
 -- and the seat hasn't every part
 abbrev pub IsShared : Bool → Known → Type 0
@@ -56,20 +62,21 @@ IsShared false n = n.view.part ≢ n.limits.workers
 abbrev pub loaded_length : table.Step Slot → Sat → ℕ → Sat → Type 0
 loaded_length st m found m' =
     Tells LoadLength (Value found) m m' × (found ≤ m.0.limits.population)
-    × KnowsLength m.0.limits m.0.view found
+    × KnowsLength m.0 found
 
 abbrev pub reserved : table.Step Slot → Sat → ℕ → Sat → Type 0
 reserved st m found m' =
     Tells (Reserve st.first (st.first - st.second)) (exchanged (found == st.first) found) m m'
-    × KnowsLength m.0.limits m.0.view found
+    × KnowsLength m.0 found
 
 abbrev pub added : table.Step Slot → Sat → ℕ → Sat → Type 0
 added st m found m' = Tells (Add st.first) Done m m'
 
 abbrev pub loaded_head : table.Step Slot → Sat → ℕ → Sat → Type 0
 loaded_head st m found m' =
-    Tells LoadHead (HeadIs (unpack found)) m m' × (found % 65536 ≤ m.0.limits.population)
-    × (m.0.view.seen ≤ (unpack found).count)
+    Tells LoadHead (HeadIs (unpack found)) m m' × (low_in found ≤ m.0.limits.population)
+    × (m.0.view.seen ≤ (unpack found).count) × KnowsChanges m.0 (unpack found).count
+    × KnowsOpening m.0 (unpack found)
     × KnowsEnd m.0.limits (view_after None LoadHead (HeadIs (unpack found)) m.0.view)
 
 abbrev pub loaded_link : table.Step Slot → Sat → ℕ → Sat → Type 0
@@ -90,9 +97,11 @@ push_tells st m found m' =
     Tells Push (push_found (found == st.first) found) m m'
     × IsLater (found == st.first) m.0 found × IsShared (found == st.first) m.0
 
--- a load that only looks tells what the seat's view is by itself
+-- a load that only looks tells what the seat's view is by itself, and a seat of every part what lies on the desks
 abbrev pub looked : table.Step Slot → Sat → ℕ → Sat → Type 0
-looked st m found m' = (m' ≡ m) × Owned m.0.limits m.0.view
+looked st m found m' =
+    (lying : Option (List (Option (List Seg)))) × (m' ≡ (record m.0 { lying = lying }, m.1))
+    × Owned m.0.limits m.0.view × KnowsDesks (record m.0 { lying = lying })
 
 -- ---- the counts: the element is the one whose count the word is
 
@@ -106,17 +115,18 @@ abbrev pub sole_tells : Bool → table.Step Slot → Sat → ℕ → Sat → Typ
 sole_tells free st m found m' =
     Tells (Sole (counted_by st m.0) free) (Value found) m m'
     × (bag m.0.view.holds (counted_by st m.0) ≤ found) × (found ≤ m.0.limits.ref_limit)
-    × KnowsCount m.0.limits m.0.view (counted_by st m.0) found
+    × KnowsCount m.0 (counted_by st m.0) found
 
 abbrev pub raise_tells : table.Step Slot → Sat → ℕ → Sat → Type 0
 raise_tells st m found m' =
     Tells (Raise (counted_by st m.0) st.first) (exchanged (found == st.first) found) m m'
-    × KnowsCount m.0.limits m.0.view (counted_by st m.0) found
+    × KnowsCount m.0 (counted_by st m.0) found
 
 abbrev pub lower_tells : table.Step Slot → Sat → ℕ → Sat → Type 0
 lower_tells st m found m' =
     Tells (Lower (counted_by st m.0)) (Value found) m m'
     × (bag m.0.view.holds (counted_by st m.0) ≤ found) × (found ≤ m.0.limits.ref_limit)
+    × KnowsCount m.0 (counted_by st m.0) found
 
 abbrev pub reset_tells : table.Step Slot → Sat → ℕ → Sat → Type 0
 reset_tells st m found m' = Tells (Reset (counted_by st m.0)) Done m m'

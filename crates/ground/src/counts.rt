@@ -1,7 +1,7 @@
 //! The five steps of the counts. Each is one atomic operation on one element's count, by one seat, whose view changes as
 //! the machine's step says, whatever the other seats do.
 
-ghost use Rattle.std.specs.Prelude.{◌≡◌, ◌≢◌, ◌+◌, ◌<◌, ◌≤◌, IfErr};
+ghost use Rattle.std.specs.Prelude.{◌≡◌, ◌≢◌, ◌+◌, ◌<◌, ◌≤◌, IfErr, MatchResult};
 ghost use Rattle.commons.specs.Bag.{bag};
 ghost use Rattle.step_core.specs.declared.step.Step.TheVariants.{Claim, Sole, Raise, Lower, Reset};
 ghost use Rattle.step_core.specs.declared.step.Outcome.TheVariants.{Value, Done};
@@ -44,7 +44,7 @@ impl Ground {
         ensures step { Steps (Sole element free) (Value result) seat.old seat.new }
         ensures own { bag seat.old.known.view.holds element ≤ result }
         ensures limited { result ≤ self.now.limits.ref_limit }
-        ensures known { KnowsCount seat.old.known.limits seat.old.known.view element result }
+        ensures known { KnowsCount seat.old.known element result }
     {
         seat.owned();
         let word = self.count_word(element);
@@ -63,7 +63,7 @@ impl Ground {
         requires limited { old < self.now.limits.ref_limit }
         ensures step { Steps (Raise element old) (outcome_of result) seat.old seat.new }
         ensures lost { IfErr result (λ found. found ≢ old) }
-        ensures known { IfErr result (λ found. KnowsCount seat.old.known.limits seat.old.known.view element found) }
+        ensures known { MatchResult result (λ _. KnowsCount seat.old.known element old) (λ found. KnowsCount seat.old.known element found) }
     {
         seat.owned();
         let word = self.count_word(element);
@@ -82,6 +82,7 @@ impl Ground {
         ensures step { Steps (Lower element) (Value result) seat.old seat.new }
         ensures own { bag seat.old.known.view.holds element ≤ result }
         ensures limited { result ≤ self.now.limits.ref_limit }
+        ensures known { KnowsCount seat.old.known element result }
     {
         seat.owned();
         let word = self.count_word(element);

@@ -2,7 +2,7 @@
 //! one seat, whose view changes as the machine's step says, whatever the other seats do. The slot of a desk is with the
 //! seat that has the desk in work, and so nobody else reads or writes it then.
 
-ghost use Rattle.std.specs.Prelude.{◌≡◌, ◌≢◌, ◌<◌, [], ◌∷◌, ℕ, List, Some, None, IfOk, IfErr};
+ghost use Rattle.std.specs.Prelude.{◌≡◌, ◌≢◌, ◌<◌, [], ◌∷◌, ℕ, List, Some, None, IfOk, IfErr, MatchResult};
 ghost use Rattle.commons.specs.Bag.{bag};
 ghost use Rattle.commons.specs.Packets.{holds_of_packet};
 ghost use Rattle.commons.specs.declared.packet.Seg.{Seg};
@@ -10,7 +10,7 @@ ghost use Rattle.step_core.specs.declared.step.Step.TheVariants.{Hold, PutIn, Op
 ghost use Rattle.step_core.specs.declared.step.Outcome.TheVariants.{Won, Lost, Done, Found};
 ghost use Rattle.step_core.specs.declared.view.Phase.TheVariants.{ToFill, Seized, TakenOut};
 ghost use Rattle.step_core.specs.Sights.{phase_at};
-ghost use Rattle.ground.specs.Seats.{IsOf, Steps, sight};
+ghost use Rattle.ground.specs.Seats.{IsOf, Steps, sight, KnowsThere, KnowsEmpty, KnowsFull};
 ghost use Rattle.ground.specs.DeskSeats.{MayOpen, Holds, Fills, Opens, Seizes, Empties, Clears};
 ghost use Rattle.ground.specs.Layout.{desk_word};
 
@@ -29,13 +29,15 @@ impl Ground {
         LINKS + 2 * self.limits.population as usize + desk as usize
     }
 
-    /// Begins to fill a desk, where its word is 0. Else answers what it is, and nothing has changed.
+    /// Begins to fill a desk, where its word is 0. Else answers what it is, and nothing has changed. A seat that knows
+    /// what lies on the desks knew this before.
     pub fn hold(&self, seat: &mut GroundSeat, desk: u32) -> Result<(), u64>
         requires of { IsOf self.now seat.old }
         requires desk { desk < self.now.limits.desks }
         requires idle { seat.old.known.view.work ≡ None }
         ensures won { IfOk result (λ _. Holds desk seat.old seat.new) }
         ensures lost { IfErr result (λ found. (found ≢ 0) × Steps (Hold desk) (Lost found) seat.old seat.new) }
+        ensures known { MatchResult result (λ _. KnowsEmpty desk seat.old.known) (λ _. KnowsFull desk seat.old.known) }
     {
         let word = self.desk_word(desk);
         let found = self
@@ -53,6 +55,8 @@ impl Ground {
         ensures { Fills desk packet seat.old seat.new }
     {
         seat.at_desk();
+        // What is put in is a packet.
+        let _ = packet.segs();
         let before = self
             .table
             .shared
@@ -75,13 +79,14 @@ impl Ground {
     }
 
     /// Begins to empty a desk, where its word is 2: its packet's holds and headers are the seat's. Else answers what it
-    /// is, and nothing has changed.
+    /// is, and nothing has changed. A seat that knows what lies on the desks knew this before, and the packet.
     pub fn seize(&self, seat: &mut GroundSeat, desk: u32) -> Result<(), u64>
         requires of { IsOf self.now seat.old }
         requires desk { desk < self.now.limits.desks }
         requires idle { seat.old.known.view.work ≡ None }
-        ensures won { IfOk result (λ _. (p : List Seg) × Seizes desk p seat.old seat.new) }
+        ensures won { IfOk result (λ _. (p : List Seg) × Seizes desk p seat.old seat.new × KnowsThere desk p seat.old.known) }
         ensures lost { IfErr result (λ found. (found ≢ 2) × Steps (Seize desk) (Lost found) seat.old seat.new) }
+        ensures known { IfErr result (λ _. KnowsEmpty desk seat.old.known) }
     {
         let word = self.desk_word(desk);
         let found = self

@@ -1,14 +1,14 @@
 //! The head as a word.
 
-ghost use Rattle.std.specs.Prelude.{◌≡◌, ◌+◌, ◌<◌, ◌≤◌, ◌%◌, IfSome};
-ghost use Rattle.commons.specs.Calls.{spent};
+ghost use Rattle.std.specs.Prelude.{◌≡◌, ◌+◌, ◌<◌, ◌≤◌, IfSome};
+ghost use Rattle.head_word.specs.Heads.{low_in, no_low, spent};
 ghost use Rattle.ground.specs.Layout.{pack, unpack};
 
 use step_core::view::Head;
 
 /// The word of a head.
 pub(crate) fn word_of(head: Head) -> u64
-    requires top { head.top < 65535 }
+    requires top { head.top < no_low }
     requires count { head.count ≤ spent }
     ensures { result ≡ pack head }
 {
@@ -22,7 +22,7 @@ pub(crate) fn word_of(head: Head) -> u64
 
 /// The head that a word is, which has low bits of a head.
 pub(crate) fn head_of(word: u64) -> Head
-    requires { word % 65536 < 65535 }
+    requires { low_in word < no_low }
     ensures head { result ≡ unpack word }
     ensures count { result.count ≤ spent }
 {

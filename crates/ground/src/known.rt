@@ -1,6 +1,7 @@
 //! What a seat knows.
 
 use commons::limits::Limits;
+use commons::packet::Packet;
 use std::collections::LinkedList;
 use step_core::step::{Outcome, Step};
 use step_core::view::View;
@@ -11,4 +12,8 @@ pub struct Known {
     pub view: View,
     pub steps: LinkedList<(Step, Outcome)>,
     pub limits: Limits,
+    /// What lies on each desk, where the seat has every part: no other seat puts anything there then.
+    pub lying: Option<LinkedList<Option<Packet>>>,
+    /// The steps of the seats that were joined to it.
+    pub joined: LinkedList<(Step, Outcome)>,
 }

@@ -6,6 +6,7 @@ mod counts;
 mod desks;
 mod head;
 pub mod known;
+pub mod laws;
 mod life;
 mod plays;
 pub mod pool;

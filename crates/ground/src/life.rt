@@ -1,11 +1,12 @@
 //! The life of a ground: it is made with one seat, seats are split and joined, and it is closed with one.
 
-ghost use Rattle.std.specs.Prelude.{◌≡◌, ◌<◌, ◌≤◌, [], IfOk, IfErr};
+ghost use Rattle.std.specs.Prelude.{◌≡◌, ◌<◌, ◌≤◌, [], IfOk, IfErr, IfSome};
 ghost use Rattle.commons.specs.Bounds.{IsPool};
+ghost use Rattle.ground.specs.Changing.{IsFresh, closed_at_start};
 ghost use Rattle.ground.specs.Closing.{LeftOf};
 ghost use Rattle.ground.specs.Opening.{IsGroundCause};
-ghost use Rattle.ground.specs.Own.{Owned, AtRest};
-ghost use Rattle.ground.specs.Parting.{less_part, newcomer, both};
+ghost use Rattle.ground.specs.Own.{Owned, AtRest, KnowsDesks};
+ghost use Rattle.ground.specs.Parting.{less_part, newcomer, IsBoth, AreBoth};
 ghost use Rattle.ground.specs.Rule.{first_known};
 ghost use Rattle.ground.specs.Seats.{IsOf};
 
@@ -74,14 +75,14 @@ impl Ground {
 
     /// Makes one seat of two that are between calls: it has the elements, holds, headers and parts of both, the later
     /// of the two counts that they saw of the head, and its own steps. What it had read of the common list is
-    /// forgotten.
+    /// forgotten. Where it has every part now, it knows what lies on the desks.
     pub fn join(&self, seat: &mut GroundSeat, other: GroundSeat)
         requires of { IsOf self.now seat.old }
         requires other_of { IsOf self.now other }
         requires rest { AtRest seat.old.known.view }
         requires other_rest { AtRest other.known.view }
         requires slots { other.slots ≡ [] }
-        ensures { seat.new ≡ record seat.old { known = both seat.old.known other.known } }
+        ensures { IsBoth seat.old other.known seat.new }
     {
         seat.owned();
         other.owned();
@@ -92,12 +93,15 @@ impl Ground {
     /// Ends the pool, and leaves its words as plain data: the top and the length of the common list, and each element's
     /// link and count, and the packets of the full desks. They are those of a lawful world in which this seat's view is
     /// a worker's. Where the seat has every part, all that is neither in the common list nor on a full desk is what
-    /// this seat names.
+    /// this seat names, and the packets are those that it knows to lie there. Where nobody has done anything, it is what
+    /// the ground was made with.
     ///
     /// Refused `OutOfMemory` where memory was refused. Ground and seat come back then, as they were.
     pub fn close(self, seat: GroundSeat) -> Result<Closed, (Refusal, Ground, GroundSeat)>
         requires { IsOf self seat }
         ensures closed { IfOk result (LeftOf self.limits seat.known.view) }
+        ensures desks { IfOk result (λ closed. IfSome seat.known.lying (λ desks. closed.desks ≡ desks)) }
+        ensures fresh { IfOk result (λ closed. IsFresh seat.known → closed ≡ closed_at_start self.limits) }
         ensures memory { IfErr result (λ refused. refused.0 ≡ Refusal.OutOfMemory) }
         ensures back { IfErr result (λ refused. (refused.1 ≡ self) × (refused.2 ≡ seat)) }
     {
@@ -149,8 +153,9 @@ fn merge(
     requires other_rest { AtRest other.me.0.view }
     requires slots { other.me.1 ≡ [] }
     ensures same { (seat.new.table_id ≡ seat.old.table_id) × (seat.new.id ≡ seat.old.id) }
-    ensures me { seat.new.me ≡ (both seat.old.me.0 other.me.0, seat.old.me.1) }
+    ensures me { AreBoth seat.old.me other.me.0 seat.new.me }
     ensures own { Owned seat.new.me.0.limits seat.new.me.0.view }
+    ensures desks { KnowsDesks seat.new.me.0 }
 {
     shared.join_seat::<Parts>(seat, other);
     shared.load::<Looks>(seat, HEAD);

@@ -3,7 +3,7 @@
 ghost use Rattle.std.specs.Prelude.{◌≡◌, ℕ, ◌+◌, ◌<◌, ◌≤◌, ◌++◌, IfOk, replicate, [], take, drop, false, slice_index, slice_index_or, length};
 ghost use Rattle.std.specs.Slots.{IsFull, slots_items, slots_len, slots_filled};
 ghost use Rattle.std.specs.Vec.{vec_len, vec_capacity};
-ghost use Rattle.commons.specs.Bounds.{IsPool};
+ghost use Rattle.commons.specs.Bounds.{IsPool, max_population};
 ghost use Rattle.step_core.specs.Opening.{links_up};
 ghost use Rattle.ground.specs.Closing.{IsKept, kept_on};
 ghost use Rattle.ground.specs.Opening.{opening_words};
@@ -51,7 +51,7 @@ fn push_many(words: &mut Vec<u64>, word: u64, count: u64) -> Result<(), AllocErr
 
 /// Pushes links that lead from element 0 through all.
 fn push_links(words: &mut Vec<u64>, count: u64) -> Result<(), AllocError>
-    requires { count ≤ 65534 }
+    requires { count ≤ max_population }
     ensures { IfOk result (λ _. words.new.items ≡ words.old.items ++ links_up 0 count) }
 {
     for i in 0..count {
@@ -62,7 +62,7 @@ fn push_links(words: &mut Vec<u64>, count: u64) -> Result<(), AllocError>
 
 /// The link of an element at the start: to the next, and of the last to the end.
 fn link_after(element: u64, count: u64) -> u64
-    requires few { count ≤ 65534 }
+    requires few { count ≤ max_population }
     requires below { element < count }
     ensures next { element + 1 < count → result ≡ element + 2 }
     ensures last { count ≤ element + 1 → result ≡ 0 }

@@ -13,17 +13,18 @@ pub struct GroundSeat {
 
 impl Model for GroundSeat {
     ghost use Rattle.ground.specs.Seats.{Seated};
-    ghost use Rattle.ground.specs.Own.{Owned, AtDesk};
+    ghost use Rattle.ground.specs.Own.{Owned, AtDesk, KnowsDesks};
 
     ghost Value = { Seated };
 
     ghost view = { λ s. record { table = s.seat.table_id; id = s.seat.id; known = s.seat.me.0; slots = s.seat.me.1 } };
 
-    ghost invariant = { λ s. Owned s.seat.me.0.limits s.seat.me.0.view × AtDesk s.seat.me.0.view.work s.seat.me.1 };
+    ghost invariant = { λ s. Owned s.seat.me.0.limits s.seat.me.0.view × AtDesk s.seat.me.0.view.work s.seat.me.1
+        × KnowsDesks s.seat.me.0 };
 }
 
 impl GroundSeat {
-    ghost use Rattle.ground.specs.Own.{Owned, AtDesk};
+    ghost use Rattle.ground.specs.Own.{Owned, AtDesk, KnowsDesks};
 
     /// What the type of a seat keeps, for contracts alone: what is true of its view by itself.
     pub fn owned(&self)
@@ -35,6 +36,13 @@ impl GroundSeat {
     /// The slot of the desk that the seat has in work is out with it, and no other is.
     pub fn at_desk(&self)
         ensures { AtDesk self.now.known.view.work self.now.slots }
+    {
+        let _ = &self.seat;
+    }
+
+    /// A seat of every part knows what lies on the desks.
+    pub fn knows_desks(&self)
+        ensures { KnowsDesks self.now.known }
     {
         let _ = &self.seat;
     }

@@ -1,12 +1,13 @@
 //! The eight steps of the stack. Each is one atomic operation on one word, by one seat, whose view changes as the
 //! machine's step says, whatever the other seats do.
 
-ghost use Rattle.std.specs.Prelude.{◌≡◌, ◌≢◌, ◌<◌, ◌≤◌, true, IfErr};
+ghost use Rattle.std.specs.Prelude.{◌≡◌, ◌≢◌, ◌<◌, ◌≤◌, true, IfErr, MatchResult};
 ghost use Rattle.commons.specs.Bag.{bag};
 ghost use Rattle.commons.specs.Calls.{spent};
 ghost use Rattle.step_core.specs.declared.step.Step.TheVariants.{LoadLength, Reserve, Add, LoadHead, LoadLink, Cut, StoreLink, Push};
 ghost use Rattle.step_core.specs.declared.step.Outcome.TheVariants.{Value, HeadIs, Done};
 ghost use Rattle.step_core.specs.Sights.{walks_to, MayCut, MayPush};
+ghost use Rattle.ground.specs.Changing.{KnowsChanges, KnowsOpening};
 ghost use Rattle.ground.specs.Layout.{link_word};
 ghost use Rattle.ground.specs.Seats.{IsOf, Steps, outcome_of, cut_outcome, push_outcome, front_of, element_of, KnowsLength, KnowsEnd};
 
@@ -35,12 +36,12 @@ fn link_word(element: u32) -> usize
 
 impl Ground {
     /// Reads the length word: how many elements of the common list nobody has reserved. A seat of every part learns
-    /// just how many those are, but for what packets on full desks hold (rte_stack_lf.h, __rte_stack_lf_count).
+    /// just how many those are (rte_stack_lf.h, __rte_stack_lf_count).
     pub fn load_length(&self, seat: &mut GroundSeat) -> u64
         requires of { IsOf self.now seat.old }
         ensures step { Steps LoadLength (Value result) seat.old seat.new }
         ensures few { result ≤ self.now.limits.population }
-        ensures known { KnowsLength seat.old.known.limits seat.old.known.view result }
+        ensures known { KnowsLength seat.old.known result }
     {
         self.table
             .shared
@@ -55,7 +56,7 @@ impl Ground {
         requires enough { n ≤ old }
         ensures step { Steps (Reserve old n) (outcome_of result) seat.old seat.new }
         ensures lost { IfErr result (λ found. found ≢ old) }
-        ensures known { IfErr result (λ found. KnowsLength seat.old.known.limits seat.old.known.view found) }
+        ensures known { MatchResult result (λ _. KnowsLength seat.old.known old) (λ found. KnowsLength seat.old.known found) }
     {
         let found = self
             .table
@@ -76,7 +77,9 @@ impl Ground {
             .fetch_add::<Adds>(&mut seat.seat, LENGTH, n);
     }
 
-    /// Reads the head. Its count is never below one that the seat has seen.
+    /// Reads the head. Its count is never below one that the seat has seen, nor below the start and the changes of the
+    /// stack by this seat and those joined to it; to a seat of every part it is just that. Where nobody has done anything
+    /// it is the head at the start.
     pub fn load_head(&self, seat: &mut GroundSeat) -> Head
         requires of { IsOf self.now seat.old }
         ensures step { Steps LoadHead (HeadIs result) seat.old seat.new }
@@ -84,6 +87,8 @@ impl Ground {
         ensures count { result.count ≤ spent }
         ensures top { result.top ≤ self.now.limits.population }
         ensures known { KnowsEnd seat.new.known.limits seat.new.known.view }
+        ensures changes { KnowsChanges seat.old.known result.count }
+        ensures opening { KnowsOpening seat.old.known result }
     {
         head_of(self.table.shared.load::<LoadsHead>(&mut seat.seat, HEAD))
     }

@@ -1,7 +1,8 @@
 //! Each step of the stack as a player takes it: it asks its own view whether the step's condition holds, calls the
 //! ground, and moves the view as the step says.
 
-ghost use Rattle.std.specs.Prelude.{◌≡◌, ◌<◌, IfSome, length};
+ghost use Rattle.std.specs.Prelude.{◌≡◌, ◌≤◌, ◌<◌, IfSome, length};
+ghost use Rattle.commons.specs.Bounds.{max_population};
 ghost use Rattle.step_core.specs.Sights.{LinkOf};
 ghost use Rattle.step_core.specs.declared.step.Step.TheVariants.{LoadLength, Reserve, Add, LoadHead, LoadLink, Cut, StoreLink, Push};
 ghost use Rattle.ground.specs.Seats.{IsOf};
@@ -162,7 +163,7 @@ pub(crate) fn cut(
 
 /// The link value of an element, or of none, if it is of a pool of so many.
 fn link_value(population: u64, next: Option<u64>) -> Option<u32>
-    requires { population < 65536 }
+    requires { population ≤ max_population }
     ensures { LinkOf population next result }
 {
     match next {

@@ -1,6 +1,7 @@
 -- How deep a statement's JSON nests.
 use Rattle.std.proofs.Common.{ℕ, ◌≤◌, List, [], ◌∷◌, Option, None, Some, map, arith}
 use Rattle.commons.specs.declared.packet.Seg.{Seg}
+use Rattle.pool_model.specs.declared.settled.Settled.{Settled}
 use Rattle.pool_model.specs.declared.statement.Statement.{Statement}
 use Rattle.pool_model.specs.declared.statement.DeskPacket.{DeskPacket}
 use Rattle.pool_model.specs.declared.statement.PlacedPacket.{PlacedPacket}
@@ -9,7 +10,7 @@ use Rattle.pool_model.specs.declared.statement.Holder.{Holder}
 use Rattle.pool_model.specs.declared.statement.Holder.TheVariants.{Worker, Desk}
 use Rattle.serde_json.specs.Data.{Data, depth, items_depth}
 use Rattle.serde_json.specs.View.{items_of}
-use Rattle.json_text.specs.StatementData.{base_data, count_data, counts_data, desk_data, held_data, holder_data, packet_data, seg_data, segs_data, statement_data}
+use Rattle.json_text.specs.StatementData.{base_data, count_data, counts_data, desk_data, held_data, holder_data, packet_data, seg_data, segs_data, settled_data, settled_with, statement_data}
 
 -- a list nests one deeper than its items
 items_low : {X : Type 0} (n : ℕ) (f : X → Data) → ((x : X) → depth (f x) ≤ n) → (xs : List X) →
@@ -17,7 +18,7 @@ items_low : {X : Type 0} (n : ℕ) (f : X → Data) → ((x : X) → depth (f x)
 items_low n f each [] = omega arith
 items_low n f each (x ∷ xs) = omega (arith, each x, items_low n f each xs)
 
-counts_low : (ns : List ℕ) → depth (counts_data ns) ≤ 1
+pub counts_low : (ns : List ℕ) → depth (counts_data ns) ≤ 1
 counts_low ns = omega (arith, items_low 0 count_data (λ n. omega arith) ns)
 
 -- a base is a number or null, and nests nothing
@@ -55,3 +56,11 @@ statement_low s = omega (
   items_low 2 held_data held_low s.held,
   items_low 3 packet_data packet_low s.packets,
 )
+
+-- two of them are one level deeper
+pub settled_low : (s : Settled) → depth (settled_data s) ≤ 6
+settled_low s = with_low s.first s.second
+  where
+    with_low : (first : Statement) (second : Option Statement) → depth (settled_with first second) ≤ 6
+    with_low first None = omega (arith, statement_low first)
+    with_low first (Some second) = omega (arith, statement_low first, statement_low second)

@@ -1,6 +1,7 @@
 -- A statement's JSON has no float.
 use Rattle.std.proofs.Common.{◌≡◌, ℕ, false, List, [], ◌∷◌, Option, None, Some, map, refl}
 use Rattle.commons.specs.declared.packet.Seg.{Seg}
+use Rattle.pool_model.specs.declared.settled.Settled.{Settled}
 use Rattle.pool_model.specs.declared.statement.Statement.{Statement}
 use Rattle.pool_model.specs.declared.statement.DeskPacket.{DeskPacket}
 use Rattle.pool_model.specs.declared.statement.PlacedPacket.{PlacedPacket}
@@ -10,7 +11,7 @@ use Rattle.pool_model.specs.declared.statement.Holder.TheVariants.{Worker, Desk}
 use Rattle.serde_json.specs.Data.{Data}
 use Rattle.serde_json.specs.View.{items_of}
 use Rattle.serde_json.specs.Written.{has_float, items_have_float}
-use Rattle.json_text.specs.StatementData.{base_data, count_data, counts_data, desk_data, held_data, holder_data, packet_data, seg_data, segs_data, statement_data}
+use Rattle.json_text.specs.StatementData.{base_data, count_data, counts_data, desk_data, held_data, holder_data, packet_data, seg_data, segs_data, settled_data, settled_with, statement_data}
 
 -- a list has none where no item has
 items_whole : {X : Type 0} (f : X → Data) → ((x : X) → has_float (f x) ≡ false) → (xs : List X) →
@@ -18,7 +19,7 @@ items_whole : {X : Type 0} (f : X → Data) → ((x : X) → has_float (f x) ≡
 items_whole f each [] = refl
 items_whole f each (x ∷ xs) = rw (each x, items_whole f each xs) refl
 
-counts_whole : (ns : List ℕ) → has_float (counts_data ns) ≡ false
+pub counts_whole : (ns : List ℕ) → has_float (counts_data ns) ≡ false
 counts_whole = items_whole count_data (λ n. refl)
 
 -- a base is a whole number or null
@@ -55,3 +56,11 @@ statement_whole s = rw (
   items_whole held_data held_whole s.held,
   items_whole packet_data packet_whole s.packets,
 ) refl
+
+-- nor has any part of two
+pub settled_whole : (s : Settled) → has_float (settled_data s) ≡ false
+settled_whole s = with_whole s.first s.second
+  where
+    with_whole : (first : Statement) (second : Option Statement) → has_float (settled_with first second) ≡ false
+    with_whole first None = statement_whole first
+    with_whole first (Some second) = rw (statement_whole first, statement_whole second) refl

@@ -4,6 +4,7 @@ use Rattle.serde_json.specs.Data.{Data, null, number, unsigned, string, array, o
 use Rattle.serde_json.specs.View.{items_of}
 use Rattle.serde_json.specs.Written.{compact_text}
 use Rattle.commons.specs.declared.packet.Seg.{Seg}
+use Rattle.pool_model.specs.declared.settled.Settled.{Settled}
 use Rattle.pool_model.specs.declared.statement.Statement.{Statement}
 use Rattle.pool_model.specs.declared.statement.DeskPacket.{DeskPacket}
 use Rattle.pool_model.specs.declared.statement.PlacedPacket.{PlacedPacket}
@@ -70,6 +71,23 @@ statement_data s =
 -- its text, with no space
 unfoldable pub json_of : Statement → List ℕ
 json_of s = compact_text (statement_data s)
+
+-- the text of numbers, in order, with no space
+unfoldable pub numbers_of : List ℕ → List ℕ
+numbers_of ns = compact_text (counts_data ns)
+
+-- what a script's pools come to: the one statement, or both by name
+abbrev pub settled_with : Statement → Option Statement → Data
+settled_with first None = statement_data first
+settled_with first (Some second) =
+    object (member (codes "first") (statement_data first)
+    (member (codes "second") (statement_data second) no_members))
+
+abbrev pub settled_data : Settled → Data
+settled_data s = settled_with s.first s.second
+
+unfoldable pub json_of_settled : Settled → List ℕ
+json_of_settled s = compact_text (settled_data s)
 
 -- the number of a worker or a desk fits a word
 abbrev pub IsWord : Holder → Type 0

@@ -1,14 +1,17 @@
-//! A pool's statement as JSON.
+//! A pool's statement as JSON, and a list of elements.
 #![tactic(auto)]
 
 pub mod laws;
+pub mod lists;
 mod values;
 
 ghost use Rattle.std.specs.Prelude.{◌≡◌, ◌++◌, codes, IfErr, IfOk, Some};
 ghost use Rattle.serde_json.specs.Read.{read};
-ghost use Rattle.json_text.specs.StatementData.{json_of, statement_data};
+ghost use Rattle.json_text.specs.StatementData.{json_of, json_of_settled, settled_data, statement_data};
 
 use commons::refusal::Refusal;
+pub use lists::numbers_json;
+use pool_model::settled::Settled;
 use pool_model::statement::Statement;
 use std::alloc::{AllocError, Global};
 
@@ -43,5 +46,40 @@ fn compact(alloc: Global, statement: &Statement) -> Result<Vec<u8>, AllocError>
     ensures reads_back { IfOk result (λ _. read (json_of statement.now) ≡ Some (statement_data statement.now)) }
 {
     let text = values::statement(alloc, statement)?.to_vec(alloc)?;
+    Ok(text)
+}
+
+/// The compact text of what a script's pools come to, with a line feed at its end: of one pool its statement, and of
+/// two an object with `first` and `second`.
+///
+/// Refused `OutOfMemory` where memory was refused.
+pub fn settled_json(alloc: Global, settled: &Settled) -> Result<Vec<u8>, Refusal>
+    ensures text { IfOk result (λ out. out.items ≡ json_of_settled settled.now ++ codes "\n") }
+    // A reader of JSON finds both statements in it.
+    ensures reads_back { IfOk result (λ _. read (json_of_settled settled.now) ≡ Some (settled_data settled.now)) }
+    ensures memory { IfErr result (λ e. e ≡ Refusal.OutOfMemory) }
+{
+    match settled_line(alloc, settled) {
+        Ok(line) => Ok(line),
+        Err(_) => Err(Refusal::OutOfMemory),
+    }
+}
+
+/// The text with the line feed.
+fn settled_line(alloc: Global, settled: &Settled) -> Result<Vec<u8>, AllocError>
+    ensures text { IfOk result (λ out. out.items ≡ json_of_settled settled.now ++ codes "\n") }
+    ensures reads_back { IfOk result (λ _. read (json_of_settled settled.now) ≡ Some (settled_data settled.now)) }
+{
+    let mut line = settled_compact(alloc, settled)?;
+    line.push(b'\n')?;
+    Ok(line)
+}
+
+/// The text without it.
+fn settled_compact(alloc: Global, settled: &Settled) -> Result<Vec<u8>, AllocError>
+    ensures text { IfOk result (λ out. out.items ≡ json_of_settled settled.now) }
+    ensures reads_back { IfOk result (λ _. read (json_of_settled settled.now) ≡ Some (settled_data settled.now)) }
+{
+    let text = values::settled(alloc, settled)?.to_vec(alloc)?;
     Ok(text)
 }

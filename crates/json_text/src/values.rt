@@ -3,10 +3,11 @@
 ghost use Rattle.std.specs.Prelude.{◌≡◌, IfOk, map};
 ghost use Rattle.serde_json.specs.Data.{array};
 ghost use Rattle.serde_json.specs.View.{items_of, view};
-ghost use Rattle.json_text.specs.StatementData.{counts_data, desk_data, held_data, holder_data, packet_data, seg_data, segs_data, statement_data};
+ghost use Rattle.json_text.specs.StatementData.{counts_data, desk_data, held_data, holder_data, packet_data, seg_data, segs_data, settled_data, statement_data};
 
 use commons::packet::Seg;
 use commons::seq::Seq;
+use pool_model::settled::Settled;
 use pool_model::statement::{DeskPacket, Held, Holder, PlacedPacket, Statement};
 use serde_json::{Value, json};
 use std::alloc::{AllocError, Global};
@@ -32,8 +33,22 @@ pub(crate) fn statement(alloc: Global, statement: &Statement) -> Result<Value, A
     })
 }
 
+/// What a script's pools come to.
+pub(crate) fn settled(alloc: Global, settled: &Settled) -> Result<Value, AllocError>
+    ensures { IfOk result (λ v. view v ≡ settled_data settled.now) }
+{
+    let first = statement(alloc, &settled.first)?;
+    match &settled.second {
+        None => Ok(first),
+        Some(second) => {
+            let second = statement(alloc, second)?;
+            json!(in alloc; {"first": first, "second": second})
+        }
+    }
+}
+
 /// A list of numbers.
-fn numbers(alloc: Global, numbers: &[u32]) -> Result<Value, AllocError>
+pub(crate) fn numbers(alloc: Global, numbers: &[u32]) -> Result<Value, AllocError>
     ensures { IfOk result (λ v. view v ≡ counts_data numbers.now) }
 {
     let mut values = Vec::with_capacity(alloc, numbers.len())?;

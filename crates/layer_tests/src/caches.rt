@@ -1,7 +1,7 @@
 //! A worker's cache on the lists: bulks through it and past it, flushes, and a new worker's.
 
 use crate::equal::same;
-use commons::limits::Limits;
+use commons::limits::{Limits, PutRule};
 use commons::plain::PlainCommons;
 use commons::refusal::Refusal;
 use commons::site::PlainSite;
@@ -20,6 +20,7 @@ const LIMITS: Limits = Limits {
     ref_limit: 65_535,
     tries: 8,
     start_count: 0,
+    put_rule: PutRule::Keep,
 };
 
 /// What a worker does once it has got elements.
@@ -31,11 +32,12 @@ enum Then {
     Flushes,
 }
 
-/// A row: its name; how many elements are got, and the least of them, which the others follow; what
-/// the worker does then, and what comes of it; the cache afterwards; and how many elements the
+/// A row: its name; the put rule; how many elements are got, and the least of them, which the others follow;
+/// what the worker does then, and what comes of it; the cache afterwards; and how many elements the
 /// common list has then, with its top.
 type Row = (
     &'static str,
+    PutRule,
     usize,
     u32,
     Then,
@@ -45,9 +47,10 @@ type Row = (
     u32,
 );
 
-const ROWS: [Row; 3] = [
+const ROWS: [Row; 6] = [
     (
         "a bulk of 512 goes through the cache",
+        PutRule::Keep,
         512,
         0,
         Then::Puts,
@@ -58,6 +61,7 @@ const ROWS: [Row; 3] = [
     ),
     (
         "a bulk of 513 goes past the cache",
+        PutRule::Keep,
         513,
         0,
         Then::Puts,
@@ -68,6 +72,7 @@ const ROWS: [Row; 3] = [
     ),
     (
         "a get of 1 fills the cache with 5 and takes the last, and a flush gives the other 4 back",
+        PutRule::Keep,
         1,
         4,
         Then::Flushes,
@@ -76,17 +81,55 @@ const ROWS: [Row; 3] = [
         1_099,
         3,
     ),
+    (
+        "where a cache goes whole, a bulk of 6 stays in it",
+        PutRule::Whole,
+        6,
+        0,
+        Then::Puts,
+        (Put::Kept, None),
+        &[0, 1, 2, 3, 4, 5],
+        1_094,
+        6,
+    ),
+    (
+        "where a cache goes whole, a bulk of 7 goes past it",
+        PutRule::Whole,
+        7,
+        0,
+        Then::Puts,
+        (Put::Flushed(7), None),
+        &[],
+        1_100,
+        6,
+    ),
+    (
+        "where a cache goes whole, a bulk of 513 goes past it",
+        PutRule::Whole,
+        513,
+        0,
+        Then::Puts,
+        (Put::Flushed(513), None),
+        &[],
+        1_100,
+        512,
+    ),
 ];
 
 /// What came of a get and of what the worker did then, the cache that it left, and the common list,
 /// top last.
 fn got_and(
     alloc: Global,
+    rule: PutRule,
     out: &mut [u32],
     then: Then,
 ) -> Result<((Put, Option<Put>), Vec<u32>, Vec<u32>), Fail> {
-    let mut site = PlainSite::make(alloc, &LIMITS)?;
-    let mut worker = Worker::make(alloc, &LIMITS, 1)?;
+    let limits = Limits {
+        put_rule: rule,
+        ..LIMITS
+    };
+    let mut site = PlainSite::make(alloc, &limits)?;
+    let mut worker = Worker::make(alloc, &limits, 1)?;
     let mut c = PlainCommons::new(&mut site, 1);
     let done = match worker.get_bulk(&mut c, out) {
         Ok(()) => match then {
@@ -106,10 +149,10 @@ fn got_and(
 
 /// Plays a row.
 fn assert_row<R: Abort + AllocGlobal>(rt: &R, row: &Row) -> Result<(), Fail> {
-    let (name, count, least, then, wanted, left, in_common, top) = *row;
+    let (name, rule, count, least, then, wanted, left, in_common, top) = *row;
     let mut out = Vec::new(rt.alloc());
     out.resize(count, 0)?;
-    let (done, cache, common) = got_and(rt.alloc(), &mut out, then)?;
+    let (done, cache, common) = got_and(rt.alloc(), rule, &mut out, then)?;
     for (i, x) in out.iter().enumerate() {
         same(rt, &(*x as usize), &(i + least as usize), name);
     }

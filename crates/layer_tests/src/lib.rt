@@ -16,3 +16,5 @@ mod packets;
 mod rows;
 #[cfg(test)]
 mod several;
+#[cfg(test)]
+mod twins;

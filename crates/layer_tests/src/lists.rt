@@ -5,7 +5,7 @@ ghost use Rattle.commons.specs.Bag.{bag, one};
 ghost use Rattle.commons.specs.Packets.{holds_of_packet, own_of_packet};
 
 use crate::equal::same;
-use commons::limits::Limits;
+use commons::limits::{Limits, PutRule};
 use commons::packet::{Packet, Seg};
 use commons::place::Place;
 use commons::plain::PlainCommons;
@@ -25,6 +25,7 @@ const LIMITS: Limits = Limits {
     ref_limit: 65_535,
     tries: 8,
     start_count: 0,
+    put_rule: PutRule::Keep,
 };
 
 // How often an element is held by worker 1 and by worker 2, and its place.
@@ -35,6 +36,35 @@ fn held(site: &PlainSite, element: u32) -> Option<(u32, u32, Place)> {
     }
     let place = site.places().get(element as usize).copied()?;
     Some((site.hold(1, element), site.hold(2, element), place))
+}
+
+#[test]
+fn a_large_pool_has_all_elements_in_the_common_list(rt: HostRuntime) -> Result<(), Fail> {
+    let limits = Limits {
+        population: 70_000,
+        ..LIMITS
+    };
+    let site = PlainSite::make(rt.alloc(), &limits)?;
+    same(&rt, &site.common_count(), &70_000, "the length");
+    Ok(())
+}
+
+#[test]
+fn a_pool_has_16777214_elements_at_most(rt: HostRuntime) {
+    let counts = [
+        (0, Err(Refusal::BadPool)),
+        (65_534, Ok(())),
+        (65_535, Ok(())),
+        (16_777_214, Ok(())),
+        (16_777_215, Err(Refusal::BadPool)),
+    ];
+    for (population, wanted) in counts {
+        let limits = Limits {
+            population,
+            ..LIMITS
+        };
+        same(&rt, &limits.check(), &wanted, "the limits");
+    }
 }
 
 #[test]
@@ -158,7 +188,7 @@ fn a_list_goes_back_with_its_last_on_top(rt: HostRuntime) -> Result<(), Fail> {
 #[test]
 fn a_spent_head_is_told_of_behind_a_short_list(rt: HostRuntime) -> Result<(), Fail> {
     let limits = Limits {
-        start_count: 281_474_976_710_655,
+        start_count: 1_099_511_627_775,
         ..LIMITS
     };
     let mut site = PlainSite::make(rt.alloc(), &limits)?;

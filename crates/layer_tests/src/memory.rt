@@ -1,7 +1,7 @@
 //! What is made of the pool and its workers where memory is refused.
 
 use crate::equal::same;
-use commons::limits::Limits;
+use commons::limits::{Limits, PutRule};
 use commons::place::Place;
 use commons::refusal::Refusal;
 use commons::site::PlainSite;
@@ -20,6 +20,7 @@ const LIMITS: Limits = Limits {
     ref_limit: 65_535,
     tries: 8,
     start_count: 0,
+    put_rule: PutRule::Keep,
 };
 
 // A site is whole, or memory was refused.

@@ -1,6 +1,6 @@
 //! Tables of what workers do on new pools, and what they are told, worked out by hand.
 
-use commons::limits::Limits;
+use commons::limits::{Limits, PutRule};
 use mbuf::acts::Act;
 
 /// What a worker does at one step of a row.
@@ -66,6 +66,7 @@ pub const ONE: Limits = Limits {
     ref_limit: 65_535,
     tries: 64,
     start_count: 0,
+    put_rule: PutRule::Keep,
 };
 
 /// The rows.

@@ -8,7 +8,7 @@ ghost use Rattle.mbuf.specs.Own.{Own};
 
 use crate::equal::same;
 use commons::laws::a_worker_leaves_the_others;
-use commons::limits::Limits;
+use commons::limits::{Limits, PutRule};
 use commons::plain::PlainCommons;
 use commons::refusal::Refusal;
 use commons::shared::Commons;
@@ -27,6 +27,7 @@ const LIMITS: Limits = Limits {
     ref_limit: 65_535,
     tries: 8,
     start_count: 0,
+    put_rule: PutRule::Keep,
 };
 
 // Makes a packet of one element, at any site.

@@ -1,5 +1,5 @@
 -- Segments that are cloned one after another.
-use Rattle.std.proofs.Common.{◌≡◌, ℕ, zero, suc, ◌+◌, ◌<◌, inl, inr, List, [], ◌∷◌, ◌++◌, length, length-set, take, drop, get_or, set, get_or-set_same, Option, Some, None, refl, sym, ap, ◌∙◌, subst, append_assoc, arith}
+use Rattle.std.proofs.Common.{◌≡◌, ℕ, zero, suc, ◌+◌, ◌<◌, ◌≤◌, inl, inr, List, [], ◌∷◌, ◌++◌, length, length-set, take, drop, get_or, set, get_or-set_same, Option, Some, None, refl, sym, ap, ◌∙◌, subst, append_assoc, arith}
 use Rattle.std.proofs.lemmas.Bool.{cases_lt}
 use Rattle.std.proofs.lemmas.List.{append-nil, drop_more, set-set, take-append-drop}
 use Rattle.std.proofs.lemmas.Grind.{flat_map-append}
@@ -149,6 +149,13 @@ buffer_held (seg ∷ segs) (suc k) d within =
       buffer_held segs k d (omega (arith, within)),
       bag-append (holds_of_seg seg) (holds_of_packet segs) (buffer_of (get_or segs k d)),
     )
+
+-- an element that is new now, or was new before, wasn't held at first
+pub new_only : (a b first later : ℕ) → (0 < a → first ≡ 0) → (0 < b → later ≡ 0) → first ≤ later → 0 < a + b → first ≡ 0
+new_only a b first later before now grows some = elim (cases_lt 0 a) [
+  | inl here ↦ before here
+  | inr none ↦ omega (arith, now (omega (arith, some, none)), grows)
+]
 
 -- where nothing is held in the end that wasn't held before, the headers are as before
 pub same_headers : (h0 h1 h2 o0 o2 add : ℕ) → o2 ≡ o0 → h1 ≡ h0 + add → (0 < add → o0 ≡ 0) →

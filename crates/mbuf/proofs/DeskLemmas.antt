@@ -9,14 +9,15 @@ use Rattle.commons.proofs.Bags.{bag-nil}
 use Rattle.commons.proofs.PacketBags.{held_in-set, own_in-set, own_in-held}
 use Rattle.commons.specs.Packets.{holds_of_packet, own_of_packet, holds_in_slot, own_in_slot, held_in}
 use Rattle.mbuf.specs.Members.{Member}
-use Rattle.mbuf.specs.Own.{Own}
+use Rattle.mbuf.specs.Own.{OwnWith}
 
 -- a packet has gone with all that it holds, and its slot is free
-pub own_offered : (m : Member) (s0 s1 : Side) (slot : ℕ) (segs : List Seg) → Own m s0 →
+pub own_offered : (guests : ℕ → ℕ) (m : Member) (s0 s1 : Side) (slot : ℕ) (segs : List Seg) →
+    OwnWith guests m s0 →
     slot < length m.table → get_or m.table slot None ≡ Some segs → IsOffer segs s0 s1 →
-    Own (record m { table = set m.table slot None }) s1
-own_offered m s0 s1 slot segs own within there sent =
-    let held : (i : ℕ) → s1.holds i ≡ held_in (set m.table slot None) i = λ i.
+    OwnWith guests (record m { table = set m.table slot None }) s1
+own_offered guests m s0 s1 slot segs own within there sent =
+    let held : (i : ℕ) → s1.holds i ≡ held_in (set m.table slot None) i + guests i = λ i.
     omega (
       arith,
       sent.holds i,
@@ -43,12 +44,13 @@ own_offered m s0 s1 slot segs own within there sent =
     }
 
 -- a packet has come with all that it holds, into a free slot
-pub own_taken : (m : Member) (s0 s1 : Side) (slot : ℕ) (segs : List Seg) → Own m s0 →
+pub own_taken : (guests : ℕ → ℕ) (m : Member) (s0 s1 : Side) (slot : ℕ) (segs : List Seg) →
+    OwnWith guests m s0 →
     s1.limits ≡ s0.limits → slot < length m.table → get_or m.table slot None ≡ None →
     s1.hand ≡ s0.hand → ((i : ℕ) → s1.holds i ≡ s0.holds i + bag (holds_of_packet segs) i) →
     ((i : ℕ) → s1.headers i ≡ s0.headers i + bag (own_of_packet segs) i) →
-    Own (record m { table = set m.table slot (Some segs) }) s1
-own_taken m s0 s1 slot segs own same within free hand holds headers = record {
+    OwnWith guests (record m { table = set m.table slot (Some segs) }) s1
+own_taken guests m s0 s1 slot segs own same within free hand holds headers = record {
   limits = own.limits ∙ sym same;
   cached = λ i. ap (λ (h : ℕ → ℕ). h i) hand ∙ own.cached i;
   held =

@@ -15,7 +15,7 @@ use Rattle.commons.proofs.Bags.{bag-nil, bag-cons, bag-single}
 use Rattle.mbuf.specs.inside.Kept.{shown}
 use Rattle.commons.specs.Packets.{held_in, own_in}
 use Rattle.mbuf.specs.Members.{Member}
-use Rattle.mbuf.specs.Own.{Own}
+use Rattle.mbuf.specs.Own.{OwnWith}
 use Rattle.mbuf.specs.PacketRules.{fresh_seg, free_slot, free_from, free_slots, stood}
 use Rattle.commons.proofs.PacketBags.{held_in-set, own_in-set}
 use Rattle.mbuf.proofs.OwnLemmas.{free_slot-is}
@@ -129,14 +129,14 @@ holds_stood l (e ∷ es) table h i =
     )
 
 -- packets of fresh elements stand in the lowest free slots
-pub own_stood : (m : Member) (s0 s1 s2 : Side) (cache es : List ℕ) →
-    Own m s0 → s2.limits ≡ s0.limits → length es ≤ length (free_slots m.table) →
+pub own_stood : (guests : ℕ → ℕ) (m : Member) (s0 s1 s2 : Side) (cache es : List ℕ) →
+    OwnWith guests m s0 → s2.limits ≡ s0.limits → length es ≤ length (free_slots m.table) →
     ((i : ℕ) → s1.hand i + bag m.cache i ≡ s0.hand i + bag cache i + bag es i) →
     s1.holds ≡ s0.holds → s1.headers ≡ s0.headers →
     ((i : ℕ) → s1.hand i ≡ s2.hand i + bag es i) → ((i : ℕ) → s2.holds i ≡ s1.holds i + bag es i) →
     ((i : ℕ) → s2.headers i ≡ s1.headers i + bag es i) →
-    Own (record m { cache = cache; table = stood m.limits es (take (length es) (free_slots m.table)) m.table }) s2
-own_stood m s0 s1 s2 cache es own same free got_hand got_holds got_headers hand holds headers = record {
+    OwnWith guests (record m { cache = cache; table = stood m.limits es (take (length es) (free_slots m.table)) m.table }) s2
+own_stood guests m s0 s1 s2 cache es own same free got_hand got_holds got_headers hand holds headers = record {
   limits = own.limits ∙ sym same;
   cached = λ i. omega (arith, got_hand i, hand i, own.cached i);
   held =

@@ -6,13 +6,14 @@ use Rattle.std.proofs.lemmas.Bool.{cases_lt}
 use Rattle.std.proofs.lemmas.List.{append-nil, length-take}
 use Rattle.commons.specs.Bag.{bag}
 use Rattle.commons.specs.Calls.{Call, Side}
-use Rattle.commons.specs.Packets.{own_in_slot, own_of_packet}
+use Rattle.commons.specs.Packets.{held_in, own_in_slot, own_of_packet}
 use Rattle.commons.specs.declared.limits.Limits.{Limits}
 use Rattle.commons.specs.declared.packet.Seg.{Seg}
 use Rattle.commons.proofs.Bags.{bag-nil}
 use Rattle.mbuf.specs.Acts.{first_elem, new_packet}
 use Rattle.mbuf.specs.Fresh.{AreFresh, own_in_slots}
 use Rattle.mbuf.specs.Members.{Member}
+use Rattle.mbuf.specs.Own.{OwnWith}
 use Rattle.mbuf.specs.PacketRules.{Allocs, Full, NotGot, Fresh, AllocsBulk, TooFull, BulkNotGot, FreshBulk, fresh_seg, free_slots, stood}
 use Rattle.mbuf.proofs.FreeLemmas.{first_free, taken_first, stays, stood_there}
 use Rattle.mbuf.proofs.OwnLemmas.{free_slot-is}
@@ -37,6 +38,15 @@ fresh_headers s t population held es once own past more unheld = record {
   ];
   once = λ i. omega (arith, once i, more i);
   unheld = unheld;
+}
+
+-- what the worker didn't hold was in none of its packets
+pub fresh_packets : (guests : ℕ → ℕ) (m : Member) (s : Side) (population : ℕ) (es : List ℕ) → OwnWith guests m s →
+    AreFresh population s.holds es → AreFresh population (held_in m.table) es
+fresh_packets guests m s population es own fresh = record {
+  below = fresh.below;
+  once = fresh.once;
+  unheld = λ i some. omega (arith, own.held i, fresh.unheld i some);
 }
 
 -- the elements of the packet in one slot

@@ -4,6 +4,7 @@ pub mod ChainLemmas
 pub mod CloneLemmas
 pub mod DeskLemmas
 pub mod EndLemmas
+pub mod ForeignLemmas
 pub mod FreeLemmas
 pub mod FreshLemmas
 pub mod MemberLemmas

@@ -10,7 +10,7 @@ use Rattle.commons.proofs.Bags.{bag-nil}
 use Rattle.commons.specs.Packets.{holds_of_packet, held_in, own_in}
 use Rattle.mbuf.specs.Members.{Member, slots}
 use Rattle.commons.proofs.PacketBags.{held_in-empty, held_in-set, own_in-empty, own_in-set, own_in-held}
-use Rattle.mbuf.specs.Own.{Own}
+use Rattle.mbuf.specs.Own.{OwnWith, no_guests}
 use Rattle.mbuf.specs.PacketRules.{free_slot}
 
 -- a slot that tests as empty shows nothing
@@ -25,16 +25,16 @@ free_slot-is table slot e =
     let h = position-Some is_none table slot None e in (h.0, none_is (get_or table slot None) h.1)
 
 -- what is still an own element is still held, and so a header as before
-pub own_headed : (own before held holds d1 d0 : ℕ) → own ≤ before → before ≤ d0 → own ≤ held →
-    holds ≡ held → (0 < holds → d1 ≡ d0) → own ≤ d1
-own_headed own before held holds d1 d0 a b c e f = elim (cases_lt 0 holds) [
+pub own_headed : (own before held guests holds d1 d0 : ℕ) → own ≤ before → before ≤ d0 → own ≤ held →
+    holds ≡ held + guests → (0 < holds → d1 ≡ d0) → own ≤ d1
+own_headed own before held guests holds d1 d0 a b c e f = elim (cases_lt 0 holds) [
   | inl some ↦ omega (arith, a, b, f some)
   | inr none ↦ omega (arith, c, e, none)
 ]
 
 -- a new worker's packets are its own where it has nothing
 pub own_new : (s : Side) (number : ℕ) → ((i : ℕ) → s.hand i ≡ 0) → ((i : ℕ) → s.holds i ≡ 0) →
-    Own (record { limits = s.limits; number = number; cache = []; table = replicate slots None }) s
+    OwnWith no_guests (record { limits = s.limits; number = number; cache = []; table = replicate slots None }) s
 own_new s number no_hand no_hold = record {
   limits = refl;
   cached = λ i. omega (arith, no_hand i, bag-nil i);
@@ -43,8 +43,9 @@ own_new s number no_hand no_hold = record {
 }
 
 -- what is the same of each element is so for the packets
-pub own_same : (m : Member) (s t : Side) → Own m s → SameSide s t → Own m t
-own_same m s t own same = record {
+pub own_same : (guests : ℕ → ℕ) (m : Member) (s t : Side) → OwnWith guests m s → SameSide s t →
+    OwnWith guests m t
+own_same guests m s t own same = record {
   limits = own.limits ∙ sym same.limits;
   cached = λ i. same.hand i ∙ own.cached i;
   held = λ i. same.holds i ∙ own.held i;
@@ -52,14 +53,14 @@ own_same m s t own same = record {
 }
 
 -- a packet's holds have ended, and its slot is free
-pub own_free : (m : Member) (s0 s1 : Side) (cache : List ℕ) (slot : ℕ) (segs : List Seg) →
-    Own m s0 → s1.limits ≡ s0.limits → slot < length m.table → get_or m.table slot None ≡ Some segs →
+pub own_free : (guests : ℕ → ℕ) (m : Member) (s0 s1 : Side) (cache : List ℕ) (slot : ℕ) (segs : List Seg) →
+    OwnWith guests m s0 → s1.limits ≡ s0.limits → slot < length m.table → get_or m.table slot None ≡ Some segs →
     ((i : ℕ) → s1.hand i ≡ bag cache i) →
     ((i : ℕ) → s0.holds i ≡ s1.holds i + bag (holds_of_packet segs) i) →
     ((i : ℕ) → 0 < s1.holds i → s1.headers i ≡ s0.headers i) →
-    Own (record m { cache = cache; table = set m.table slot None }) s1
-own_free m s0 s1 cache slot segs own same within there hand holds headers =
-    let left : (i : ℕ) → s1.holds i ≡ held_in (set m.table slot None) i = λ i.
+    OwnWith guests (record m { cache = cache; table = set m.table slot None }) s1
+own_free guests m s0 s1 cache slot segs own same within there hand holds headers =
+    let left : (i : ℕ) → s1.holds i ≡ held_in (set m.table slot None) i + guests i = λ i.
     let t = rw there at (held_in-set m.table slot None i within) in
     omega (arith, holds i, own.held i, t, bag-nil i) in
     let fewer : (i : ℕ) → own_in (set m.table slot None) i ≤ own_in m.table i =
@@ -71,6 +72,6 @@ own_free m s0 s1 cache slot segs own same within there hand holds headers =
       headed =
           λ i.
           own_headed (own_in (set m.table slot None) i) (own_in m.table i)
-          (held_in (set m.table slot None) i) (s1.holds i) (s1.headers i) (s0.headers i)
+          (held_in (set m.table slot None) i) (guests i) (s1.holds i) (s1.headers i) (s0.headers i)
           (fewer i) (own.headed i) (own_in-held (set m.table slot None) i) (left i) (headers i);
     }

@@ -73,6 +73,15 @@ filled p w flags packets slot segs kept low same taken laid =
     (set (shown p.free p.packets.items) slot (Some segs)) same.limits same.number
     (rw (taken, laid) (shown-set p.free p.packets.items slot false segs low.within (alike p kept)))
 
+-- With another cache the packets are the same.
+pub recached : (p : Inside) (w : WorkerCache) → KeepsNumber p.worker w →
+    ◌≡◌ {A = Member}
+    (record { limits = w.limits; number = w.number; cache = w.cache; table = shown p.free p.packets.items })
+    (record (member_of p) { cache = w.cache })
+recached p w same =
+    member_is w.limits p.worker.limits w.number p.worker.number w.cache (shown p.free p.packets.items)
+    (shown p.free p.packets.items) same.limits same.number refl
+
 -- While the slot is free, it shows nothing of what was laid there.
 pub hidden : (p : Inside) (w : WorkerCache) (packets : List (List Seg)) (slot : ℕ)
     (segs : List Seg) → IsLowest p slot → KeepsNumber p.worker w →

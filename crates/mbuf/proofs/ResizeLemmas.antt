@@ -9,7 +9,7 @@ use Rattle.mbuf.specs.Lengths.{with_seg, appended, prepended, adjusted, trimmed,
 use Rattle.commons.specs.Packets.{no_seg, hold_of, holds_of_seg, holds_of_packet}
 use Rattle.mbuf.specs.Members.{Member}
 use Rattle.commons.specs.Calls.{Side}
-use Rattle.mbuf.specs.Own.{Own}
+use Rattle.mbuf.specs.Own.{OwnWith}
 use Rattle.commons.specs.declared.change.Change.{Change}
 use Rattle.commons.specs.declared.change.Change.TheVariants.{Append, Prepend, Adj, Trim}
 use Rattle.commons.proofs.PacketBags.{held_in-set, own_in-set}
@@ -124,10 +124,11 @@ pub KeepsHolds-refl : (m : Member) → KeepsHolds m m
 KeepsHolds-refl m = record { limits = refl; cache = refl; held = λ i. refl; own = λ i. refl }
 
 -- packets that hold what they held stay a worker's own
-pub own_kept : (m after : Member) (s : Side) → Own m s → KeepsHolds m after → Own after s
-own_kept m after s own kept = record {
+pub own_kept : (guests : ℕ → ℕ) (m after : Member) (s : Side) → OwnWith guests m s → KeepsHolds m after →
+    OwnWith guests after s
+own_kept guests m after s own kept = record {
   limits = kept.limits ∙ own.limits;
   cached = λ i. own.cached i ∙ ap (λ (c : List ℕ). bag c i) (sym kept.cache);
-  held = λ i. own.held i ∙ sym (kept.held i);
+  held = λ i. omega (arith, own.held i, kept.held i);
   headed = λ i. omega (arith, own.headed i, kept.own i);
 }

@@ -9,7 +9,7 @@ use Rattle.commons.proofs.Bags.{bag-nil, bag-append, bag-single, one-same}
 use Rattle.mbuf.specs.inside.Cloning.{ArePair, IsIndirect}
 use Rattle.commons.specs.Packets.{hold_of, holds_in_slot, holds_of_packet, holds_of_seg, held_in, own_in}
 use Rattle.mbuf.specs.Members.{Member}
-use Rattle.mbuf.specs.Own.{Own}
+use Rattle.mbuf.specs.Own.{OwnWith}
 use Rattle.mbuf.specs.PacketRules.{fresh_seg, free_slot}
 use Rattle.mbuf.specs.Sharing.{attachable, attached, buffer_of, detachable, first_seg, if_alone, if_direct, if_indirect}
 use Rattle.mbuf.proofs.CloneLemmas.{buffer_held}
@@ -148,9 +148,10 @@ single_seg (seg ∷ (other ∷ segs)) some few = absurd (omega (arith, few))
 -- ---- what is held
 
 -- what a packet holds that stands in a slot is held
-pub in_slot_held : (m : Member) (s : Side) (slot : ℕ) (segs : List Seg) (i : ℕ) → Own m s →
+pub in_slot_held : (guests : ℕ → ℕ) (m : Member) (s : Side) (slot : ℕ) (segs : List Seg) (i : ℕ) →
+    OwnWith guests m s →
     get_or m.table slot None ≡ Some segs → bag (holds_of_packet segs) i ≤ s.holds i
-in_slot_held m s slot segs i own there =
+in_slot_held guests m s slot segs i own there =
     omega (
       arith,
       own.held i,
@@ -184,30 +185,32 @@ first_held (seg ∷ segs) some =
     )
 
 -- the element of a pair is held, and so is the buffer that it is to share
-pub pair_held : (m : Member) (s : Side) (mi target : ℕ) (pair : ℕ × Seg) → Own m s →
+pub pair_held : (guests : ℕ → ℕ) (m : Member) (s : Side) (mi target : ℕ) (pair : ℕ × Seg) →
+    OwnWith guests m s →
     ArePair m.table mi target pair → (0 < s.holds pair.0) × (0 < s.holds (buffer_of pair.1))
-pair_held m s mi target pair own are = (
+pair_held guests m s mi target pair own are = (
   omega (
     arith,
-    in_slot_held m s mi (are.own ∷ []) pair.0 own are.here,
+    in_slot_held guests m s mi (are.own ∷ []) pair.0 own are.here,
     holds_alone None are.own pair.0 are.direct,
     ap (λ (e : ℕ). one e pair.0) are.elem,
     one-same pair.0,
   ),
   omega (
     arith,
-    in_slot_held m s target (pair.1 ∷ are.others) (buffer_of pair.1) own are.there,
+    in_slot_held guests m s target (pair.1 ∷ are.others) (buffer_of pair.1) own are.there,
     buffer_held (pair.1 ∷ are.others) 0 pair.1 (omega arith),
   ),
 )
 
 -- the base of an indirect segment is held
-pub base_held : (m : Member) (s : Side) (slot : ℕ) (pair : ℕ × ℕ) → Own m s →
+pub base_held : (guests : ℕ → ℕ) (m : Member) (s : Side) (slot : ℕ) (pair : ℕ × ℕ) →
+    OwnWith guests m s →
     IsIndirect m.table slot pair → 0 < s.holds pair.1
-base_held m s slot pair own is =
+base_held guests m s slot pair own is =
     omega (
       arith,
-      in_slot_held m s slot (is.own ∷ []) pair.1 own is.here,
+      in_slot_held guests m s slot (is.own ∷ []) pair.1 own is.here,
       holds_alone (Some pair.1) is.own pair.1 is.base,
       bag-single pair.1 pair.1,
       one-same pair.1,
@@ -216,13 +219,13 @@ base_held m s slot pair own is =
 -- ---- what stays a worker's own
 
 -- a packet that is attached
-pub own_attached : (m : Member) (s0 s1 : Side) (mi target : ℕ) (pair : ℕ × Seg) (new : Seg) →
-    Own m s0 → s1.limits ≡ s0.limits → ArePair m.table mi target pair →
+pub own_attached : (guests : ℕ → ℕ) (m : Member) (s0 s1 : Side) (mi target : ℕ) (pair : ℕ × Seg) (new : Seg) →
+    OwnWith guests m s0 → s1.limits ≡ s0.limits → ArePair m.table mi target pair →
     new ≡ attached pair.0 pair.1 →
     ((i : ℕ) → s1.hand i ≡ s0.hand i) →
     ((i : ℕ) → s1.holds i ≡ s0.holds i + one (buffer_of pair.1) i) → s1.headers ≡ s0.headers →
-    Own (record m { table = set m.table mi (Some (new ∷ [])) }) s1
-own_attached m s0 s1 mi target pair new own same are is hand holds headers =
+    OwnWith guests (record m { table = set m.table mi (Some (new ∷ [])) }) s1
+own_attached guests m s0 s1 mi target pair new own same are is hand holds headers =
     let within = stands_within m.table mi (are.own ∷ []) are.here in
     record {
       limits = own.limits ∙ sym same;
@@ -246,15 +249,15 @@ own_attached m s0 s1 mi target pair new own same are is hand holds headers =
     }
 
 -- one that has its own buffer again
-pub own_detached : (m : Member) (s0 s1 : Side) (cache : List ℕ) (slot : ℕ) (pair : ℕ × ℕ) →
-    Own m s0 → s1.limits ≡ s0.limits → IsIndirect m.table slot pair →
+pub own_detached : (guests : ℕ → ℕ) (m : Member) (s0 s1 : Side) (cache : List ℕ) (slot : ℕ) (pair : ℕ × ℕ) →
+    OwnWith guests m s0 → s1.limits ≡ s0.limits → IsIndirect m.table slot pair →
     ((i : ℕ) → s1.hand i ≡ bag cache i) → ((i : ℕ) → s0.holds i ≡ s1.holds i + one pair.1 i) →
     ((i : ℕ) → 0 < s1.holds i → s1.headers i ≡ s0.headers i) →
-    Own (record m { cache = cache; table = set m.table slot (Some (fresh_seg m.limits pair.0 ∷ [])) }) s1
-own_detached m s0 s1 cache slot pair own same is hand holds headers =
+    OwnWith guests (record m { cache = cache; table = set m.table slot (Some (fresh_seg m.limits pair.0 ∷ [])) }) s1
+own_detached guests m s0 s1 cache slot pair own same is hand holds headers =
     let within = stands_within m.table slot (is.own ∷ []) is.here in
     let new = set m.table slot (Some (fresh_seg m.limits pair.0 ∷ [])) in
-    let left : (i : ℕ) → s1.holds i ≡ held_in new i = λ i.
+    let left : (i : ℕ) → s1.holds i ≡ held_in new i + guests i = λ i.
     let t = rw is.here at (held_in-set m.table slot (Some (fresh_seg m.limits pair.0 ∷ [])) i within) in
     omega (
       arith,
@@ -276,18 +279,18 @@ own_detached m s0 s1 cache slot pair own same is hand holds headers =
       held = left;
       headed =
           λ i.
-          own_headed (own_in new i) (own_in m.table i) (held_in new i) (s1.holds i) (s1.headers i)
+          own_headed (own_in new i) (own_in m.table i) (held_in new i) (guests i) (s1.holds i) (s1.headers i)
           (s0.headers i) (same_own i) (own.headed i) (own_in-held new i) (left i) (headers i);
     }
 
 -- a clone that stands in the lowest free slot
-pub own_cloned : (m : Member) (s0 s1 : Side) (cache : List ℕ) (slot : ℕ) (new : List Seg) →
-    Own m s0 → s1.limits ≡ s0.limits → free_slot m.table ≡ Some slot →
+pub own_cloned : (guests : ℕ → ℕ) (m : Member) (s0 s1 : Side) (cache : List ℕ) (slot : ℕ) (new : List Seg) →
+    OwnWith guests m s0 → s1.limits ≡ s0.limits → free_slot m.table ≡ Some slot →
     ((i : ℕ) → s1.hand i ≡ bag cache i) →
     ((i : ℕ) → s1.holds i ≡ s0.holds i + bag (holds_of_packet new) i) →
     ((i : ℕ) → s1.headers i ≡ s0.headers i + bag (map (λ seg. seg.elem) new) i) →
-    Own (record m { cache = cache; table = set m.table slot (Some new) }) s1
-own_cloned m s0 s1 cache slot new own same free hand holds headers =
+    OwnWith guests (record m { cache = cache; table = set m.table slot (Some new) }) s1
+own_cloned guests m s0 s1 cache slot new own same free hand holds headers =
     let empty = free_slot-is m.table slot free in
     record {
       limits = own.limits ∙ sym same;
@@ -303,10 +306,11 @@ own_cloned m s0 s1 cache slot new own same free hand holds headers =
     }
 
 -- and one that was given up
-pub own_given_up : (m : Member) (s0 s1 : Side) (cache : List ℕ) → Own m s0 → s1.limits ≡ s0.limits →
+pub own_given_up : (guests : ℕ → ℕ) (m : Member) (s0 s1 : Side) (cache : List ℕ) →
+    OwnWith guests m s0 → s1.limits ≡ s0.limits →
     ((i : ℕ) → s1.hand i ≡ bag cache i) → ((i : ℕ) → s1.holds i ≡ s0.holds i) →
-    ((i : ℕ) → s1.headers i ≡ s0.headers i) → Own (record m { cache = cache }) s1
-own_given_up m s0 s1 cache own same hand holds headers = record {
+    ((i : ℕ) → s1.headers i ≡ s0.headers i) → OwnWith guests (record m { cache = cache }) s1
+own_given_up guests m s0 s1 cache own same hand holds headers = record {
   limits = own.limits ∙ sym same;
   cached = hand;
   held = λ i. holds i ∙ own.held i;

@@ -1,5 +1,6 @@
 pub mod Acts
 pub mod Desks
+pub mod Foreign
 pub mod Fresh
 pub mod Lengths
 pub mod Members
@@ -8,4 +9,5 @@ pub mod PacketRules
 pub mod Refused
 pub mod Sharing
 pub mod Slots
+pub mod Twins
 pub mod inside

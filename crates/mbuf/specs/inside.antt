@@ -2,4 +2,6 @@
 pub mod Bits
 pub mod Changes
 pub mod Cloning
+pub mod ForeignSteps
 pub mod Kept
+pub mod Twins

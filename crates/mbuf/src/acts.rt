@@ -3,10 +3,10 @@
 ghost use Rattle.std.specs.Prelude.{◌≡◌, ◌≤◌, [], All, List, IsSome, None, length, map, slice_index_or};
 ghost use Rattle.commons.specs.Calls.{Calls};
 ghost use Rattle.mbuf.specs.Acts.{HasRoom, Performs, as_reply, chained, first_elem, new_packet, told_len as len_reply, told_taken as taken_reply};
-ghost use Rattle.commons.specs.Packets.{held_in, own_in_slot};
+ghost use Rattle.commons.specs.Packets.{own_in_slot};
 ghost use Rattle.mbuf.specs.Fresh.{AreFresh, new_elements};
 ghost use Rattle.mbuf.specs.Members.{KeepsMember, slots as slot_count};
-ghost use Rattle.mbuf.specs.Own.{Own};
+ghost use Rattle.mbuf.specs.Own.{Own, OwnWithGuests, StaysOwn};
 ghost use Rattle.mbuf.specs.Refused.{AsBefore, IfRefused};
 
 use crate::freed::Freed;
@@ -122,12 +122,13 @@ fn told_len<const ROOM: usize>(answer: Result<u32, Refusal>) -> Answer<ROOM>
 /// Makes a packet, and tells of it.
 #[tactic(auto, using(crate::proofs::FreshLemmas::fresh_none))]
 fn alloc<C: Commons, const ROOM: usize>(packets: &mut Packets, c: &mut C) -> Answer<ROOM>
-    requires own { Own packets.old (C.side c.old) }
+    requires own { OwnWithGuests packets.old (C.side c.old) }
     ensures calls { Calls C.did C.side c.old c.new (λ calls.
         Performs Act.Alloc packets.old calls (as_reply result) packets.new) }
-    ensures fresh { AreFresh packets.old.limits.population (held_in packets.old.table)
+    ensures fresh { AreFresh packets.old.limits.population (C.side c.old).holds
         (new_elements (as_reply result)) }
-    ensures own { Own packets.new (C.side c.new) }
+    ensures own { Own packets.old (C.side c.old) → Own packets.new (C.side c.new) }
+    ensures guests { StaysOwn packets.old (C.side c.old) packets.new (C.side c.new) }
     ensures refused { IfRefused (as_reply result)
         (AsBefore Act.Alloc packets.old (C.side c.old) packets.new (C.side c.new)) }
 {
@@ -160,14 +161,15 @@ fn alloc_all<C: Commons, const ROOM: usize>(
     c: &mut C,
     slots: &mut [Pid],
 ) -> Answer<ROOM>
-    requires own { Own packets.old (C.side c.old) }
+    requires own { OwnWithGuests packets.old (C.side c.old) }
     requires few { length slots.old ≤ slot_count }
     requires room { HasRoom ROOM (Act.AllocBulk (length slots.old)) }
     ensures calls { Calls C.did C.side c.old c.new (λ calls.
         Performs (Act.AllocBulk (length slots.old)) packets.old calls (as_reply result) packets.new) }
-    ensures fresh { AreFresh packets.old.limits.population (held_in packets.old.table)
+    ensures fresh { AreFresh packets.old.limits.population (C.side c.old).holds
         (new_elements (as_reply result)) }
-    ensures own { Own packets.new (C.side c.new) }
+    ensures own { Own packets.old (C.side c.old) → Own packets.new (C.side c.new) }
+    ensures guests { StaysOwn packets.old (C.side c.old) packets.new (C.side c.new) }
     ensures refused { IfRefused (as_reply result)
         (AsBefore (Act.AllocBulk (length slots.old)) packets.old (C.side c.old)
         packets.new (C.side c.new)) }
@@ -186,12 +188,13 @@ fn alloc_bulk<C: Commons, const ROOM: usize>(
     count: usize,
 ) -> Answer<ROOM>
     requires room { HasRoom ROOM (Act.AllocBulk count) }
-    requires own { Own packets.old (C.side c.old) }
+    requires own { OwnWithGuests packets.old (C.side c.old) }
     ensures calls { Calls C.did C.side c.old c.new (λ calls.
         Performs (Act.AllocBulk count) packets.old calls (as_reply result) packets.new) }
-    ensures fresh { AreFresh packets.old.limits.population (held_in packets.old.table)
+    ensures fresh { AreFresh packets.old.limits.population (C.side c.old).holds
         (new_elements (as_reply result)) }
-    ensures own { Own packets.new (C.side c.new) }
+    ensures own { Own packets.old (C.side c.old) → Own packets.new (C.side c.new) }
+    ensures guests { StaysOwn packets.old (C.side c.old) packets.new (C.side c.new) }
     ensures refused { IfRefused (as_reply result)
         (AsBefore (Act.AllocBulk count) packets.old (C.side c.old) packets.new (C.side c.new)) }
 {
@@ -210,11 +213,12 @@ fn chain<C: Commons, const ROOM: usize>(
     head: Pid,
     tail: Pid,
 ) -> Answer<ROOM>
-    requires own { Own packets.old (C.side c.old) }
+    requires own { OwnWithGuests packets.old (C.side c.old) }
     ensures calls { Calls C.did C.side c.old c.new (λ calls.
         Performs (Act.Chain head tail) packets.old calls (as_reply result) packets.new) }
     ensures none { new_elements (as_reply result) ≡ [] }
-    ensures own { Own packets.new (C.side c.new) }
+    ensures own { Own packets.old (C.side c.old) → Own packets.new (C.side c.new) }
+    ensures guests { StaysOwn packets.old (C.side c.old) packets.new (C.side c.new) }
     ensures refused { IfRefused (as_reply result)
         (AsBefore (Act.Chain head tail) packets.old (C.side c.old) packets.new (C.side c.new)) }
 {
@@ -246,12 +250,13 @@ fn clone_packet<C: Commons, const ROOM: usize>(
     c: &mut C,
     p: Pid,
 ) -> Answer<ROOM>
-    requires own { Own packets.old (C.side c.old) }
+    requires own { OwnWithGuests packets.old (C.side c.old) }
     ensures calls { Calls C.did C.side c.old c.new (λ calls.
         Performs (Act.ClonePacket p) packets.old calls (as_reply result) packets.new) }
-    ensures fresh { AreFresh packets.old.limits.population (held_in packets.old.table)
+    ensures fresh { AreFresh packets.old.limits.population (C.side c.old).holds
         (new_elements (as_reply result)) }
-    ensures own { Own packets.new (C.side c.new) }
+    ensures own { Own packets.old (C.side c.old) → Own packets.new (C.side c.new) }
+    ensures guests { StaysOwn packets.old (C.side c.old) packets.new (C.side c.new) }
     ensures refused { IfRefused (as_reply result)
         (AsBefore (Act.ClonePacket p) packets.old (C.side c.old) packets.new (C.side c.new)) }
 {
@@ -273,11 +278,12 @@ fn told_taken<const ROOM: usize>(packets: &Packets, slot: Pid) -> Answer<ROOM>
 
 /// Takes a packet off a desk, and tells of it.
 fn take<C: Commons, const ROOM: usize>(packets: &mut Packets, c: &mut C, desk: u32) -> Answer<ROOM>
-    requires own { Own packets.old (C.side c.old) }
+    requires own { OwnWithGuests packets.old (C.side c.old) }
     ensures calls { Calls C.did C.side c.old c.new (λ calls.
         Performs (Act.Take desk) packets.old calls (as_reply result) packets.new) }
     ensures none { new_elements (as_reply result) ≡ [] }
-    ensures own { Own packets.new (C.side c.new) }
+    ensures own { Own packets.old (C.side c.old) → Own packets.new (C.side c.new) }
+    ensures guests { StaysOwn packets.old (C.side c.old) packets.new (C.side c.new) }
     ensures refused { IfRefused (as_reply result)
         (AsBefore (Act.Take desk) packets.old (C.side c.old) packets.new (C.side c.new)) }
 {
@@ -294,11 +300,12 @@ fn take<C: Commons, const ROOM: usize>(packets: &mut Packets, c: &mut C, desk: u
 /// but that a refused clone may share out the free elements otherwise between cache and stack. The
 /// worker keeps its number, its limits and its 256 slots.
 pub fn perform<C: Commons>(packets: &mut Packets, c: &mut C, act: Act) -> Reply
-    requires own { Own packets.old (C.side c.old) }
+    requires own { OwnWithGuests packets.old (C.side c.old) }
     ensures calls { Calls C.did C.side c.old c.new (λ calls.
         Performs act packets.old calls result packets.new) }
-    ensures fresh { AreFresh packets.old.limits.population (held_in packets.old.table) (new_elements result) }
-    ensures own { Own packets.new (C.side c.new) }
+    ensures fresh { AreFresh packets.old.limits.population (C.side c.old).holds (new_elements result) }
+    ensures own { Own packets.old (C.side c.old) → Own packets.new (C.side c.new) }
+    ensures guests { StaysOwn packets.old (C.side c.old) packets.new (C.side c.new) }
     ensures refused { IfRefused result (AsBefore act packets.old (C.side c.old) packets.new (C.side c.new)) }
     ensures member { KeepsMember packets.old packets.new }
 {
@@ -307,18 +314,20 @@ pub fn perform<C: Commons>(packets: &mut Packets, c: &mut C, act: Act) -> Reply
 
 /// Does what `perform` does, and answers with room for a bulk of `ROOM` packets: with none the answer is
 /// small.
+#[inline(always)]
 pub fn perform_in<C: Commons, const ROOM: usize>(
     packets: &mut Packets,
     c: &mut C,
     act: Act,
 ) -> Answer<ROOM>
     requires room { HasRoom ROOM act }
-    requires own { Own packets.old (C.side c.old) }
+    requires own { OwnWithGuests packets.old (C.side c.old) }
     ensures calls { Calls C.did C.side c.old c.new (λ calls.
         Performs act packets.old calls (as_reply result) packets.new) }
-    ensures fresh { AreFresh packets.old.limits.population (held_in packets.old.table)
+    ensures fresh { AreFresh packets.old.limits.population (C.side c.old).holds
         (new_elements (as_reply result)) }
-    ensures own { Own packets.new (C.side c.new) }
+    ensures own { Own packets.old (C.side c.old) → Own packets.new (C.side c.new) }
+    ensures guests { StaysOwn packets.old (C.side c.old) packets.new (C.side c.new) }
     ensures refused { IfRefused (as_reply result)
         (AsBefore act packets.old (C.side c.old) packets.new (C.side c.new)) }
     ensures member { KeepsMember packets.old packets.new }
@@ -328,15 +337,17 @@ pub fn perform_in<C: Commons, const ROOM: usize>(
 }
 
 /// Does this with a worker's packets.
+#[inline(always)]
 #[tactic(auto, using(crate::proofs::FreshLemmas::fresh_none))]
 fn act_in<C: Commons, const ROOM: usize>(packets: &mut Packets, c: &mut C, act: Act) -> Answer<ROOM>
     requires room { HasRoom ROOM act }
-    requires own { Own packets.old (C.side c.old) }
+    requires own { OwnWithGuests packets.old (C.side c.old) }
     ensures calls { Calls C.did C.side c.old c.new (λ calls.
         Performs act packets.old calls (as_reply result) packets.new) }
-    ensures fresh { AreFresh packets.old.limits.population (held_in packets.old.table)
+    ensures fresh { AreFresh packets.old.limits.population (C.side c.old).holds
         (new_elements (as_reply result)) }
-    ensures own { Own packets.new (C.side c.new) }
+    ensures own { Own packets.old (C.side c.old) → Own packets.new (C.side c.new) }
+    ensures guests { StaysOwn packets.old (C.side c.old) packets.new (C.side c.new) }
     ensures refused { IfRefused (as_reply result)
         (AsBefore act packets.old (C.side c.old) packets.new (C.side c.new)) }
 {

@@ -9,6 +9,8 @@ ghost use Rattle.mbuf.specs.PacketRules.{EndsHolds, freed_nothing};
 ghost use Rattle.mbuf.specs.Sharing.{attached as attached_seg, buffer_of as buffer};
 ghost use Rattle.mbuf.specs.inside.Cloning.{AttachesElem, TriesSeg, TriesSegs, new_headers, new_holds};
 
+pub mod foreign;
+
 use crate::freed::Freed;
 use crate::steps;
 use commons::packet::{Packet, Seg};

@@ -5,8 +5,9 @@ ghost use Rattle.commons.specs.Calls.{Call, SameSide, Side};
 ghost use Rattle.mbuf.specs.Acts.{Performs, Reply};
 ghost use Rattle.mbuf.specs.declared.acts.Act.{Act};
 ghost use Rattle.mbuf.specs.Members.{Member, slots};
-ghost use Rattle.mbuf.specs.Own.{Own};
+ghost use Rattle.mbuf.specs.Own.{Own, OwnWith};
 ghost use Rattle.mbuf.specs.Slots.{LeavesOtherSlots};
+ghost use Rattle.mbuf.specs.Twins.{OwnTwin, TwinMember};
 
 /// The packets of a new worker are its own where it has nothing of the shared pool, in its hand or
 /// held.
@@ -15,9 +16,25 @@ pub fn new_packets_are_own()
         Own (record { limits = s.limits; number = number; cache = []; table = replicate slots None }) s }
 {}
 
-/// A worker's packets stay its own while what it has of the shared pool stays, whatever others do.
+/// A worker's packets stay its own, with whatever guests, while what it has of the shared pool stays, whatever others do.
 pub fn packets_stay_own()
-    ensures { (m : Member) (before after : Side) → Own m before → SameSide before after → Own m after }
+    ensures { (guests : ℕ → ℕ) (m : Member) (before after : Side) → OwnWith guests m before → SameSide before after →
+        OwnWith guests m after }
+{}
+
+/// A new worker of two pools is its own in both, where it has nothing of the shared part of either, in its hand or held.
+pub fn new_twins_are_own()
+    ensures { (s t : Side) (number : ℕ) → ((i : ℕ) → s.hand i ≡ 0) → ((i : ℕ) → s.holds i ≡ 0) →
+        ((i : ℕ) → t.hand i ≡ 0) → ((i : ℕ) → t.holds i ≡ 0) → OwnTwin (record {
+          first = record { limits = s.limits; number = number; cache = []; table = replicate slots None };
+          second = record { limits = t.limits; number = number; cache = []; table = replicate slots None };
+        }) s t }
+{}
+
+/// A worker of two pools stays its own while what it has of either stays, whatever others do.
+pub fn twins_stay_own()
+    ensures { (twin : TwinMember) (s t s_after t_after : Side) → OwnTwin twin s t → SameSide s s_after →
+        SameSide t t_after → OwnTwin twin s_after t_after }
 {}
 
 /// An act leaves the slots that it doesn't name, over any shared pool: a free, a change of lengths, a chain, an attach,

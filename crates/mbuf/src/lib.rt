@@ -1,5 +1,5 @@
 //! Packets of one worker over any shared pool: mbufs with lengths, chains, counts and clones, which
-//! pass to other workers over desks.
+//! pass to other workers over desks; and a worker of two pools, whose clones are of the second.
 #![tactic(auto)]
 
 pub mod acts;
@@ -10,3 +10,4 @@ pub mod laws;
 pub mod lengths;
 pub mod packets;
 mod steps;
+pub mod twin;

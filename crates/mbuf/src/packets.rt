@@ -4,6 +4,7 @@ ghost use Rattle.commons.specs.Bounds.{IsPool};
 ghost use Rattle.mempool.specs.WorkerCache.{IsWorkerCause};
 ghost use Rattle.mbuf.specs.Members.{slots};
 
+mod foreign;
 mod freeing;
 mod making;
 mod passing;

@@ -9,6 +9,8 @@ ghost use Rattle.mempool.specs.WorkerCache.{KeepsNumber};
 ghost use Rattle.commons.specs.Packets.{holds_of_packet, holds_of_seg, max_segs};
 ghost use Rattle.mbuf.specs.PacketRules.{fresh_seg, freed_nothing, counted as counted_put, EndsHold, EndsHolds};
 
+pub mod foreign;
+
 use crate::freed::Freed;
 use commons::limits::Limits;
 use commons::packet::Seg;

@@ -2,6 +2,7 @@
 -- reply and the cache that is left.
 use Rattle.std.specs.Prelude.{ℕ, ◌≡◌, ◌+◌, ◌-◌, ◌*◌, ◌/◌, ◌<◌, ◌≤◌, ◌⊎◌, List, [], ◌∷◌, ◌++◌, Result, Ok, Err, length, take, drop, reverse}
 use Rattle.commons.specs.declared.limits.Limits.{Limits}
+use Rattle.commons.specs.declared.limits.PutRule.TheVariants as rules
 use Rattle.commons.specs.declared.refusal.Refusal.{Refusal}
 use Rattle.commons.specs.Bounds.{max_cache}
 use Rattle.commons.specs.Calls.{Reading, Call, GetList, PutList, Did, Side}
@@ -83,7 +84,8 @@ put_count Kept = 0
 put_count (Flushed k) = k
 put_count (PutOff k e) = k
 
--- what a put of a list does with a cache
+-- what a put of a list does with a cache, by the pool's rule: `Whole` has the cases that begin with its name, `Keep` the
+-- others, and both have the first
 pub data Puts (l : Limits) (cache list : List ℕ) (calls : List Call) (answer : Put) (left : List ℕ)
     : Type 0 where
   -- nothing is put
@@ -95,6 +97,7 @@ pub data Puts (l : Limits) (cache list : List ℕ) (calls : List Call) (answer :
       Puts l cache list calls answer left
   -- more than a cache ever keeps goes past it
   Bypass :
+      l.put_rule ≡ rules.Keep →
       max_cache < length list →
       calls ≡ PutList list (Ok tt) ∷ [] →
       answer ≡ Flushed (length list) →
@@ -102,6 +105,7 @@ pub data Puts (l : Limits) (cache list : List ℕ) (calls : List Call) (answer :
       Puts l cache list calls answer left
   -- and stays in it where the stack refuses it
   BypassPutOff :
+      l.put_rule ≡ rules.Keep →
       max_cache < length list →
       (cause : Refusal) →
       calls ≡ PutList list (Err cause) ∷ [] →
@@ -110,6 +114,7 @@ pub data Puts (l : Limits) (cache list : List ℕ) (calls : List Call) (answer :
       Puts l cache list calls answer left
   -- from the threshold on, all beyond the size goes to the stack in one push
   Flush :
+      l.put_rule ≡ rules.Keep →
       0 < length list →
       length list ≤ max_cache →
       threshold l ≤ length (cache ++ list) →
@@ -120,6 +125,7 @@ pub data Puts (l : Limits) (cache list : List ℕ) (calls : List Call) (answer :
       Puts l cache list calls answer left
   -- and stays in the cache where the stack refuses it
   FlushPutOff :
+      l.put_rule ≡ rules.Keep →
       0 < length list →
       length list ≤ max_cache →
       threshold l ≤ length (cache ++ list) →
@@ -131,9 +137,60 @@ pub data Puts (l : Limits) (cache list : List ℕ) (calls : List Call) (answer :
       Puts l cache list calls answer left
   -- below it the cache keeps all
   Keep :
+      l.put_rule ≡ rules.Keep →
       0 < length list →
       length list ≤ max_cache →
       (length (cache ++ list) < threshold l) ⊎ (length (cache ++ list) ≤ l.cache) →
+      calls ≡ [] →
+      answer ≡ Kept →
+      left ≡ cache ++ list →
+      Puts l cache list calls answer left
+  -- more than a cache ever keeps, or than the threshold, goes past it
+  WholeBypass :
+      l.put_rule ≡ rules.Whole →
+      (max_cache < length list) ⊎ (threshold l < length list) →
+      calls ≡ PutList list (Ok tt) ∷ [] →
+      answer ≡ Flushed (length list) →
+      left ≡ cache →
+      Puts l cache list calls answer left
+  -- and stays in it where the stack refuses it
+  WholeBypassPutOff :
+      l.put_rule ≡ rules.Whole →
+      (max_cache < length list) ⊎ (threshold l < length list) →
+      (cause : Refusal) →
+      calls ≡ PutList list (Err cause) ∷ [] →
+      answer ≡ PutOff (length list) cause →
+      left ≡ cache ++ list →
+      Puts l cache list calls answer left
+  -- where the two would pass the threshold, the whole cache goes to the stack in one push, and the list becomes the cache
+  WholeFlush :
+      l.put_rule ≡ rules.Whole →
+      0 < length list →
+      length list ≤ max_cache →
+      length list ≤ threshold l →
+      threshold l < length (cache ++ list) →
+      calls ≡ PutList cache (Ok tt) ∷ [] →
+      answer ≡ Flushed (length cache) →
+      left ≡ list →
+      Puts l cache list calls answer left
+  -- and the list comes behind the cache where the stack refuses that
+  WholeFlushPutOff :
+      l.put_rule ≡ rules.Whole →
+      0 < length list →
+      length list ≤ max_cache →
+      length list ≤ threshold l →
+      threshold l < length (cache ++ list) →
+      (cause : Refusal) →
+      calls ≡ PutList cache (Err cause) ∷ [] →
+      answer ≡ PutOff (length cache) cause →
+      left ≡ cache ++ list →
+      Puts l cache list calls answer left
+  -- up to the threshold the cache keeps all
+  WholeKeep :
+      l.put_rule ≡ rules.Whole →
+      0 < length list →
+      length list ≤ max_cache →
+      length (cache ++ list) ≤ threshold l →
       calls ≡ [] →
       answer ≡ Kept →
       left ≡ cache ++ list →

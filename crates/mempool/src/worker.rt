@@ -8,7 +8,7 @@ ghost use Rattle.mempool.specs.inside.Kept.{IsFlushLength};
 
 use crate::put::Put;
 use crate::steps;
-use commons::limits::{Limits, MAX_CACHE};
+use commons::limits::{Limits, MAX_CACHE, PutRule};
 use commons::refusal::Refusal;
 use commons::shared::Commons;
 use std::alloc::Global;
@@ -39,7 +39,8 @@ impl Model for Worker {
 impl Worker {
     ghost use Rattle.std.specs.Prelude.{◌≡◌, ◌≤◌, ◌<◌, ◌⊎◌, [], IfOk, IfErr};
     ghost use Rattle.commons.specs.Bounds.{IsPool};
-    ghost use Rattle.mempool.specs.Caches.{Gets, Puts, Flushes, as_list, put_count};
+    ghost use Rattle.commons.specs.declared.limits.PutRule.TheVariants.{Whole};
+    ghost use Rattle.mempool.specs.Caches.{Gets, Puts, Flushes, as_list, put_count, threshold};
     ghost use Rattle.mempool.specs.WorkerCache.{IsWorkerCause, KeepsNumber};
 
     /// A worker with an empty cache, which has room for the whole population from now on.
@@ -62,7 +63,7 @@ impl Worker {
                 limits: *limits,
                 number,
                 cache,
-                flush_length: flush_length(limits.cache as usize),
+                flush_length: flush_length(limits.put_rule, limits.cache as usize),
             }),
             Err(_) => Err(Refusal::OutOfMemory),
         }
@@ -300,13 +301,20 @@ impl Worker {
         self.get_bulk(c, out)
     }
 
-    /// Puts distinct elements of the hand, none of which is in the cache, into the cache, and from
-    /// the threshold on all beyond its size onto the common stack. A list of more than 512 goes
-    /// there past the cache. Where the stack refuses (`HeadSpent` or `Contended`, the cause in
-    /// `PutOff`), all of them stay in the cache, and the next flush offers them again. An empty put
-    /// takes no step.
+    /// Puts distinct elements of the hand, none of which is in the cache, into the cache, or some of
+    /// them and of the cache onto the common stack, by the pool's rule. By either a list of more than
+    /// 512 goes there past the cache, and an empty put takes no step.
     ///
-    /// After rte_mempool.h, `rte_mempool_do_generic_put` (DPDK 21.11), whose stack can't refuse.
+    /// - `PutRule::Keep`: from the threshold on all beyond the cache's size goes to the stack.
+    /// - `PutRule::Whole`: a list that is longer than the threshold goes past the cache too. Where
+    ///   cache and list would pass the threshold, the whole cache goes to the stack, and the list
+    ///   becomes the cache.
+    ///
+    /// Where the stack refuses (`HeadSpent` or `Contended`, the cause in `PutOff`), the list comes
+    /// behind the cache, which keeps all, and the next flush offers them again.
+    ///
+    /// After rte_mempool.h, `rte_mempool_do_generic_put`: `Keep` as in DPDK 21.11, `Whole` as in
+    /// DPDK 22.11. Its stack can't refuse.
     #[inline(always)]
     #[tactic(auto, using(commons::proofs::Bags::bags))]
     pub fn put_bulk<C: Commons>(&mut self, c: &mut C, list: &[u32]) -> Put
@@ -336,12 +344,46 @@ impl Worker {
             steps::append(&mut self.cache, list);
             return Put::Kept;
         }
+        match self.limits.put_rule {
+            PutRule::Keep => {}
+            PutRule::Whole => return self.put_whole(c, list),
+        }
         if size == 0 && len == 0 {
             // All of the list goes to the stack: it need not pass through the cache.
             return steps::put_past(&mut self.cache, c, list);
         }
         steps::append(&mut self.cache, list);
         steps::flush_beyond(&mut self.cache, c, size)
+    }
+
+    /// Puts a list by the rule `Whole`, where cache and list pass the threshold: the list onto the
+    /// common stack, where it is longer than the threshold itself, else the whole cache.
+    #[inline(never)]
+    #[tactic(auto, using(commons::proofs::Bags::bags))]
+    fn put_whole<C: Commons>(&mut self, c: &mut C, list: &[u32]) -> Put
+        requires limits { (C.side c.old).limits ≡ self.old.limits }
+        requires in_hand { (i : ℕ) → bag self.old.cache i + bag list.now i ≤ (C.side c.old).hand i }
+        requires rule { self.old.limits.put_rule ≡ Whole }
+        requires some { 0 < length list.now }
+        requires short { length list.now ≤ max_cache }
+        requires over { threshold self.old.limits < length self.old.cache + length list.now }
+        ensures calls { Calls C.did C.side c.old c.new (λ calls.
+            Puts self.old.limits self.old.cache list.now calls result self.new.cache) }
+        ensures few { put_count result ≤ self.old.limits.population }
+        ensures hand { (i : ℕ) → (C.side c.new).hand i + bag self.old.cache i + bag list.now i
+            ≡ (C.side c.old).hand i + bag self.new.cache i }
+        ensures holds { (C.side c.new).holds ≡ (C.side c.old).holds }
+        ensures headers { (C.side c.new).headers ≡ (C.side c.old).headers }
+        ensures limits { (C.side c.new).limits ≡ (C.side c.old).limits }
+        ensures number { KeepsNumber self.old self.new }
+    {
+        steps::room(c, &self.cache, list);
+        if list.len() >= self.flush_length {
+            return steps::put_past(&mut self.cache, c, list);
+        }
+        let put = steps::flush_beyond(&mut self.cache, c, 0);
+        steps::append(&mut self.cache, list);
+        put
     }
 
     /// Puts the whole cache onto the common stack in one push. An empty cache takes no step.
@@ -368,10 +410,14 @@ impl Worker {
     }
 }
 
-/// The least length from which a cache of this size is flushed: the threshold, where that is more than the size.
-fn flush_length(size: usize) -> usize
+/// The least length from which a cache of this size is flushed: where it keeps its size the threshold, if that is more
+/// than the size, and where it goes whole the first past the threshold.
+fn flush_length(rule: PutRule, size: usize) -> usize
     requires { size ≤ max_cache }
-    ensures { IsFlushLength size result }
+    ensures { IsFlushLength rule size result }
 {
-    (size * 3 / 2).max(size + 1)
+    match rule {
+        PutRule::Keep => (size * 3 / 2).max(size + 1),
+        PutRule::Whole => size * 3 / 2 + 1,
+    }
 }

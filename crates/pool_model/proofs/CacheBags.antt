@@ -6,12 +6,15 @@ use Rattle.std.proofs.lemmas.Bool.{cases_Bool, leb-true, ltb-false, eqb-true}
 use Rattle.commons.specs.Bag.{bag}
 use Rattle.commons.specs.Calls.{spent}
 use Rattle.commons.specs.declared.limits.Limits.{Limits}
+use Rattle.commons.specs.declared.limits.PutRule.{PutRule}
+use Rattle.commons.specs.declared.limits.PutRule.TheVariants.{Keep, Whole}
 use Rattle.commons.specs.declared.refusal.Refusal.{Refusal}
 use Rattle.commons.proofs.Bags.{bag-nil, bag-append, bag-take-drop, bag-reverse, bag-last, bag-empty}
 use Rattle.mempool.specs.declared.put.Put.{Put}
+use Rattle.mempool.specs.declared.put.Put.TheVariants.{Kept}
 use Rattle.mempool.specs.Caches.{last, without_last, threshold}
 use Rattle.pool_model.specs.Pool.{Shared}
-use Rattle.pool_model.specs.CacheModel.{ask, push, get_direct, get_refilled, get, put_past, put_beyond, put_whole, put, flush}
+use Rattle.pool_model.specs.CacheModel.{ask, push, get_direct, get_refilled, get, put_past, put_beyond, put_after, put_by_rule, put_whole, put, flush}
 
 -- how often an answer has an element
 abbrev pub in_answer : Result (List ℕ) Refusal → ℕ → ℕ
@@ -158,41 +161,74 @@ flush-IsPut cache s = elim (cases_Bool (length cache == 0)) [
       record { moved = λ i. omega (arith, bag-nil i); desks = refl; changes = omega arith }))
 ]
 
+-- a list that goes past a cache, or comes behind it
+past-IsPut : (list cache : List ℕ) (s : Shared) → IsPut list cache s (put_past cache list (push list s))
+past-IsPut list cache s = push-bag list s (λ r. IsPut list cache s (put_past cache list r))
+    (λ t h same more.
+    record { moved = λ i. omega (arith, h i); desks = same; changes = more })
+    (λ e.
+    record { moved = λ i. omega (arith, bag-append cache list i); desks = refl; changes = omega arith })
+
+-- a list that a cache keeps
+kept-IsPut : (list cache : List ℕ) (s : Shared) → IsPut list cache s (Kept, cache ++ list, s)
+kept-IsPut list cache s = record {
+  moved = λ i. omega (arith, bag-append cache list i);
+  desks = refl;
+  changes = omega arith;
+}
+
+-- a list that takes the place of a cache, or comes behind it
+after-IsPut : (list cache : List ℕ) (s : Shared) → IsPut list cache s (put_after cache list (push cache s))
+after-IsPut list cache s = push-bag cache s (λ r. IsPut list cache s (put_after cache list r))
+    (λ t h same more.
+    record { moved = λ i. omega (arith, h i); desks = same; changes = more })
+    (λ e.
+    record { moved = λ i. omega (arith, bag-append cache list i); desks = refl; changes = omega arith })
+
+-- by each rule a put moves elements, and loses none
+rule-IsPut : (rule : PutRule) (l : Limits) (list cache : List ℕ) (s : Shared) →
+    IsPut list cache s (put_by_rule rule l list cache s)
+rule-IsPut Keep l list cache s = elim (cases_Bool (nat_lt 512 (length list))) [
+  | inl b ↦ rw b (past-IsPut list cache s)
+  | inr b ↦ elim (cases_Bool (nat_lt (length (cache ++ list)) (threshold l))) [
+    | inl c ↦ rw (b, c) (kept-IsPut list cache s)
+    | inr c ↦ elim (cases_Bool (nat_le (length (cache ++ list)) l.cache)) [
+      | inl d ↦ rw (b, c, d) (kept-IsPut list cache s)
+      | inr d ↦
+          rw (b, c, d) (push-bag (drop l.cache (cache ++ list)) s
+          (λ r. IsPut list cache s (put_beyond l.cache (cache ++ list) r))
+          (λ t h same more.
+          record {
+            moved =
+                λ i.
+                omega (arith, h i, bag-append cache list i, bag-take-drop l.cache (cache ++ list) i);
+            desks = same;
+            changes = more;
+          })
+          (λ e.
+          record { moved = λ i. omega (arith, bag-append cache list i); desks = refl; changes = omega arith }))
+    ]
+  ]
+]
+rule-IsPut Whole l list cache s = elim (cases_Bool (nat_lt 512 (length list))) [
+  | inl b ↦ rw b (past-IsPut list cache s)
+  | inr b ↦ elim (cases_Bool (nat_lt (threshold l) (length list))) [
+    | inl c ↦ rw (b, c) (past-IsPut list cache s)
+    | inr c ↦ elim (cases_Bool (nat_le (length (cache ++ list)) (threshold l))) [
+      | inl d ↦ rw (b, c, d) (kept-IsPut list cache s)
+      | inr d ↦ rw (b, c, d) (after-IsPut list cache s)
+    ]
+  ]
+]
+
 -- each put moves elements, and loses none
 pub put-IsPut : (l : Limits) (list cache : List ℕ) (s : Shared) → IsPut list cache s (put l list cache s)
-put-IsPut l list cache s =
-    let all : (i : ℕ) → bag (cache ++ list) i ≡ bag cache i + bag list i = bag-append cache list in
-    elim (cases_Bool (length list == 0)) [
-      | inl a ↦
-          rw a (record {
-            moved = λ i. omega (arith, bag-empty list i (eqb-true (length list) 0 a));
-            desks = refl;
-            changes = omega arith;
-          })
-      | inr a ↦ elim (cases_Bool (nat_lt 512 (length list))) [
-        | inl b ↦ rw (a, b) (push-bag list s (λ r. IsPut list cache s (put_past cache list r))
-            (λ t h same more.
-            record { moved = λ i. omega (arith, h i); desks = same; changes = more })
-            (λ e.
-            record { moved = λ i. omega (arith, all i); desks = refl; changes = omega arith }))
-        | inr b ↦ elim (cases_Bool (nat_lt (length (cache ++ list)) (threshold l))) [
-          | inl c ↦ rw (a, b, c) (record { moved = λ i. omega (arith, all i); desks = refl; changes = omega arith })
-          | inr c ↦ elim (cases_Bool (nat_le (length (cache ++ list)) l.cache)) [
-            | inl d ↦
-                rw (a, b, c, d) (record
-                { moved = λ i. omega (arith, all i); desks = refl; changes = omega arith })
-            | inr d ↦
-                rw (a, b, c, d) (push-bag (drop l.cache (cache ++ list)) s
-                (λ r. IsPut list cache s (put_beyond l.cache (cache ++ list) r))
-                (λ t h same more.
-                record {
-                  moved =
-                      λ i. omega (arith, h i, all i, bag-take-drop l.cache (cache ++ list) i);
-                  desks = same;
-                  changes = more;
-                })
-                (λ e. record { moved = λ i. omega (arith, all i); desks = refl; changes = omega arith }))
-          ]
-        ]
-      ]
-    ]
+put-IsPut l list cache s = elim (cases_Bool (length list == 0)) [
+  | inl a ↦
+      rw a (record {
+        moved = λ i. omega (arith, bag-empty list i (eqb-true (length list) 0 a));
+        desks = refl;
+        changes = omega arith;
+      })
+  | inr a ↦ rw a (rule-IsPut l.put_rule l list cache s)
+]

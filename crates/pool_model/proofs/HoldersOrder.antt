@@ -14,29 +14,29 @@ use Rattle.pool_model.proofs.Numbered.{AreInOrder}
 use Rattle.pool_model.proofs.Pairs.{AllPairs-append, AllPairs-nil}
 
 -- one holder, as often as it holds the element, stands in order with itself
-copies-order : (n : ℕ) (holder : Holder) → IsNotAfter holder holder → AllPairs IsNotAfter (replicate n holder)
+pub copies-order : (n : ℕ) (holder : Holder) → IsNotAfter holder holder → AllPairs IsNotAfter (replicate n holder)
 copies-order zero holder same = AllPairs-nil IsNotAfter
 copies-order (suc n) holder same =
     AllPairs-cons IsNotAfter holder (replicate n holder)
     (All-replicate (IsNotAfter holder) n holder same) (copies-order n holder same)
 
 -- a worker with this number or a higher one, and a desk
-abbrev IsWorkerFrom : ℕ → Holder → Type 0
+abbrev pub IsWorkerFrom : ℕ → Holder → Type 0
 IsWorkerFrom low (Worker w) = low ≤ w
 IsWorkerFrom low (Desk d) = ⊥
 
 -- a desk of this number or a higher one, and no worker
-abbrev IsDeskFrom : ℕ → Holder → Type 0
+abbrev pub IsDeskFrom : ℕ → Holder → Type 0
 IsDeskFrom low (Worker w) = ⊥
 IsDeskFrom low (Desk d) = low ≤ d
 
 -- who is numbered above a worker is numbered from that one on
-worker_from : (number : ℕ) (holder : Holder) → IsWorkerFrom (number + 1) holder → IsWorkerFrom number holder
+pub worker_from : (number : ℕ) (holder : Holder) → IsWorkerFrom (number + 1) holder → IsWorkerFrom number holder
 worker_from number (Worker w) h = omega (arith, h)
 worker_from number (Desk d) h = absurd h
 
 -- a worker stands before each one of a higher number
-worker_before : (v number : ℕ) → v ≡ number → (holder : Holder) → IsWorkerFrom (number + 1) holder →
+pub worker_before : (v number : ℕ) → v ≡ number → (holder : Holder) → IsWorkerFrom (number + 1) holder →
     IsNotAfter (Worker v) holder
 worker_before v number e (Worker w) h = omega (arith, e, h)
 worker_before v number e (Desk d) h = absurd h
@@ -52,7 +52,7 @@ desk_before desk (Worker w) h = absurd h
 desk_before desk (Desk d) h = omega (arith, h)
 
 -- every desk stands behind every worker, whatever their numbers are
-desks_behind : (low other : ℕ) (one two : Holder) → IsWorkerFrom low one → IsDeskFrom other two → IsNotAfter one two
+pub desks_behind : (low other : ℕ) (one two : Holder) → IsWorkerFrom low one → IsDeskFrom other two → IsNotAfter one two
 desks_behind low other (Worker w) (Worker v) h k = absurd k
 desks_behind low other (Worker w) (Desk d) h k = tt
 desks_behind low other (Desk e) two h k = absurd h
@@ -82,7 +82,7 @@ workers_of-order number (m ∷ members) i a =
     (worker_before m.number number a.0) later (workers_of-from (number + 1) members i a.1)))
 
 -- and the desks
-desks_of-from : (desk : ℕ) (desks : List (Option (List Seg))) (i : ℕ) → All (IsDeskFrom desk) (desks_of desk desks i)
+pub desks_of-from : (desk : ℕ) (desks : List (Option (List Seg))) (i : ℕ) → All (IsDeskFrom desk) (desks_of desk desks i)
 desks_of-from desk [] i = All-nil (IsDeskFrom desk)
 desks_of-from desk (slot ∷ desks) i =
     All-append (IsDeskFrom desk) (replicate (bag (holds_in_slot slot) i) (Desk desk)) (desks_of (desk + 1) desks i)
@@ -91,7 +91,7 @@ desks_of-from desk (slot ∷ desks) i =
     (desks_of (desk + 1) desks i) (desks_of-from (desk + 1) desks i))
 
 -- desks ascend by number, and each stands as often as its packet holds the element
-desks_of-order : (desk : ℕ) (desks : List (Option (List Seg))) (i : ℕ) → AllPairs IsNotAfter (desks_of desk desks i)
+pub desks_of-order : (desk : ℕ) (desks : List (Option (List Seg))) (i : ℕ) → AllPairs IsNotAfter (desks_of desk desks i)
 desks_of-order desk [] i = AllPairs-nil IsNotAfter
 desks_of-order desk (slot ∷ desks) i =
     let copies : List Holder = replicate (bag (holds_in_slot slot) i) (Desk desk) in

@@ -1,5 +1,6 @@
 mod ActLeaves
 pub mod AfterActs
+pub mod Alone
 pub mod Balance
 mod BasesDirect
 mod CacheBags
@@ -8,6 +9,8 @@ mod DeskLemmas
 mod DeskStays
 mod DeskWaits
 mod DesksLeave
+pub mod GuestHolders
+pub mod GuestsListed
 pub mod HeldBags
 mod HoldersOrder
 mod Leaves
@@ -15,6 +18,7 @@ mod LinkSteps
 mod Links
 pub mod Listed
 pub mod ListedPackets
+pub mod LocalPools
 pub mod NewMembers
 pub mod Numbered
 mod PacketsKeep
@@ -28,3 +32,4 @@ pub mod SharedKeep
 mod SlotsLeft
 mod Sound
 mod SoundStatement
+mod TwinRows

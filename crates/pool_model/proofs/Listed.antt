@@ -47,7 +47,7 @@ sum_by-map f g (x ∷ xs) =
     (arith, sum_by-cons f (g x) (map g xs), sum_by-cons (λ x. f (g x)) x xs, sum_by-map f g xs)
 
 -- an element that passes is kept as often as it is there
-bag-filter_yes : (p : ℕ → Bool) (xs : List ℕ) (i : ℕ) → p i ≡ true → bag (filter p xs) i ≡ bag xs i
+pub bag-filter_yes : (p : ℕ → Bool) (xs : List ℕ) (i : ℕ) → p i ≡ true → bag (filter p xs) i ≡ bag xs i
 bag-filter_yes p [] i h = refl
 bag-filter_yes p (x ∷ xs) i h = elim (cases_Bool (p x)) [
   | inl e ↦ rw e (omega (arith, bag-cons x (filter p xs) i, bag-cons x xs i, bag-filter_yes p xs i h))
@@ -61,7 +61,7 @@ bag-filter_yes p (x ∷ xs) i h = elim (cases_Bool (p x)) [
 ]
 
 -- one that does not pass is not kept
-bag-filter_no : (p : ℕ → Bool) (xs : List ℕ) (i : ℕ) → p i ≡ false → bag (filter p xs) i ≡ 0
+pub bag-filter_no : (p : ℕ → Bool) (xs : List ℕ) (i : ℕ) → p i ≡ false → bag (filter p xs) i ≡ 0
 bag-filter_no p [] i h = bag-nil i
 bag-filter_no p (x ∷ xs) i h = elim (cases_Bool (p x)) [
   | inl e ↦
@@ -75,7 +75,7 @@ bag-filter_no p (x ∷ xs) i h = elim (cases_Bool (p x)) [
 ]
 
 -- where an element is placed once, one that is held is among the population's as often as it is held at all
-held_once : (b h i n others : ℕ) → 0 < h → b ≡ cond (nat_lt i n) 1 0 →
+pub held_once : (b h i n others : ℕ) → 0 < h → b ≡ cond (nat_lt i n) 1 0 →
     others + min 1 h ≡ cond (nat_lt i n) 1 0 → b ≡ min 1 h
 held_once b h i n others p q r = omega (arith, at_most_one i n)
 
@@ -110,13 +110,13 @@ placed_once pool b i =
     ))
 
 -- a list of each number below n once, and of no other, has the length n
-length-each : (n : ℕ) (xs : List ℕ) → ((i : ℕ) → bag xs i ≡ cond (nat_lt i n) 1 0) → length xs ≡ n
+pub length-each : (n : ℕ) (xs : List ℕ) → ((i : ℕ) → bag xs i ≡ cond (nat_lt i n) 1 0) → length xs ≡ n
 length-each n xs h =
     length-is n xs (λ i l. h i ∙ cond-true (nat_lt i n) 1 0 (lt-ltb i n l))
     (λ i l. h i ∙ cond-false (nat_lt i n) 1 0 (le-ltb i n l))
 
 -- the bag of lists end to end
-bag-flat_map : {X : Type 0} (f : X → List ℕ) (xs : List X) (i : ℕ) →
+pub bag-flat_map : {X : Type 0} (f : X → List ℕ) (xs : List X) (i : ℕ) →
     bag (flat_map f xs) i ≡ sum_by (λ x. bag (f x) i) xs
 bag-flat_map f [] i = bag-nil i
 bag-flat_map f (x ∷ xs) i =
@@ -163,7 +163,7 @@ length-workers (m ∷ members) i =
     )
 
 -- an element's holders among the desks are as many as the holds that packets on desks have
-length-desks : (desk : ℕ) (desks : List (Option (List Seg))) (i : ℕ) → length (desks_of desk desks i) ≡ held_in desks i
+pub length-desks : (desk : ℕ) (desks : List (Option (List Seg))) (i : ℕ) → length (desks_of desk desks i) ≡ held_in desks i
 length-desks desk [] i = refl
 length-desks desk (slot ∷ desks) i =
     let copies : List Holder = replicate (bag (holds_in_slot slot) i) (Desk desk) in
@@ -209,7 +209,7 @@ packets_from-holds worker slot (Some segs ∷ table) i =
     )
 
 -- and so are those of all tables
-packets-holds : (members : List Member) (i : ℕ) →
+pub packets-holds : (members : List Member) (i : ℕ) →
     sum_by (λ (placed : PlacedPacket). bag (holds_of_packet placed.segs) i)
     (flat_map packets_of members) ≡ held_by members i
 packets-holds [] i = refl
@@ -224,7 +224,7 @@ packets-holds (m ∷ members) i =
     )
 
 -- and those of the desks
-desks_from-holds : (desk : ℕ) (desks : List (Option (List Seg))) (i : ℕ) →
+pub desks_from-holds : (desk : ℕ) (desks : List (Option (List Seg))) (i : ℕ) →
     sum_by (λ (packet : DeskPacket). bag (holds_of_packet packet.segs) i) (desks_from desk desks)
     ≡ held_in desks i
 desks_from-holds desk [] i = refl
@@ -267,7 +267,7 @@ packets_from-own worker slot (Some segs ∷ table) i =
     )
 
 -- the listed packets of all members have the own elements that the tables have
-packets-own : (members : List Member) (i : ℕ) →
+pub packets-own : (members : List Member) (i : ℕ) →
     sum_by (λ (placed : PlacedPacket). bag (own_of_packet placed.segs) i)
     (flat_map packets_of members) ≡ own_by members i
 packets-own [] i = refl
@@ -282,7 +282,7 @@ packets-own (m ∷ members) i =
     )
 
 -- the listed packets on desks have the own elements that the desks have
-desks_from-own : (desk : ℕ) (desks : List (Option (List Seg))) (i : ℕ) →
+pub desks_from-own : (desk : ℕ) (desks : List (Option (List Seg))) (i : ℕ) →
     sum_by (λ (packet : DeskPacket). bag (own_of_packet packet.segs) i) (desks_from desk desks)
     ≡ own_in desks i
 desks_from-own desk [] i = refl
@@ -308,19 +308,19 @@ times_flag true n = omega arith
 times_flag false n = omega arith
 
 -- two numbers that count under the same condition count together
-sum_flag : (b : Bool) (x y : ℕ) → ◌≡◌ {A = ℕ} (cond b x 0 + cond b y 0) (cond b (x + y) 0)
+pub sum_flag : (b : Bool) (x y : ℕ) → ◌≡◌ {A = ℕ} (cond b x 0 + cond b y 0) (cond b (x + y) 0)
 sum_flag true x y = refl
 sum_flag false x y = refl
 
 -- nothing counts as nothing, under a condition or not
-no_flag : (b : Bool) → ◌≡◌ {A = ℕ} (cond b 0 0) 0
+pub no_flag : (b : Bool) → ◌≡◌ {A = ℕ} (cond b 0 0) 0
 no_flag true = refl
 no_flag false = refl
 
-copies-worker : (n v w : ℕ) → ◌≡◌ {A = ℕ} (count_by (is_worker w) (replicate n (Worker v))) (cond (v == w) n 0)
+pub copies-worker : (n v w : ℕ) → ◌≡◌ {A = ℕ} (count_by (is_worker w) (replicate n (Worker v))) (cond (v == w) n 0)
 copies-worker n v w = sum_by-replicate (λ (h : Holder). cond (is_worker w h) 1 0) n (Worker v) ∙ times_flag (v == w) n
 
-copies-desk : (n v d : ℕ) → ◌≡◌ {A = ℕ} (count_by (is_desk d) (replicate n (Worker v))) 0
+pub copies-desk : (n v d : ℕ) → ◌≡◌ {A = ℕ} (count_by (is_desk d) (replicate n (Worker v))) 0
 copies-desk n v d = sum_by-replicate (λ (h : Holder). cond (is_desk d h) 1 0) n (Worker v) ∙ omega arith
 
 -- and of a desk
@@ -358,7 +358,7 @@ workers-desk (m ∷ members) i d =
     )
 
 -- among the desks that hold an element there is no worker
-no_worker : (desk : ℕ) (desks : List (Option (List Seg))) (i w : ℕ) → count_by (is_worker w) (desks_of desk desks i) ≡ 0
+pub no_worker : (desk : ℕ) (desks : List (Option (List Seg))) (i w : ℕ) → count_by (is_worker w) (desks_of desk desks i) ≡ 0
 no_worker desk [] i w = refl
 no_worker desk (slot ∷ desks) i w =
     let copies : List Holder = replicate (bag (holds_in_slot slot) i) (Desk desk) in
@@ -370,7 +370,7 @@ no_worker desk (slot ∷ desks) i w =
     )
 
 -- a desk stands there as often as its packet holds the element
-desks_of-desk : (desk : ℕ) (desks : List (Option (List Seg))) (i d : ℕ) →
+pub desks_of-desk : (desk : ℕ) (desks : List (Option (List Seg))) (i d : ℕ) →
     count_by (is_desk d) (desks_of desk desks i)
     ≡ sum_by
     (λ (packet : DeskPacket). cond (packet.desk == d) (bag (holds_of_packet packet.segs) i) 0)
@@ -452,7 +452,7 @@ packets_from-worker worker slot (Some segs ∷ table) i w =
     ∙ ap (λ (n : ℕ). cond (worker == w) n 0) (sym same)
 
 -- the listed packets of a worker hold an element as often as its table does
-packets-worker : (members : List Member) (i w : ℕ) →
+pub packets-worker : (members : List Member) (i w : ℕ) →
     sum_by (λ (placed : PlacedPacket). cond (placed.worker == w)
     (bag (holds_of_packet placed.segs) i) 0) (flat_map packets_of members)
     ≡ sum_by (λ (m : Member). cond (m.number == w) (held_in m.table i) 0) members
@@ -468,7 +468,7 @@ packets-worker (m ∷ members) i w =
     )
 
 -- numbers in a row rise
-range-rises : (n : ℕ) → IsStrictlyIncreasing (range_with_len 0 n)
+pub range-rises : (n : ℕ) → IsStrictlyIncreasing (range_with_len 0 n)
 range-rises n k h =
     let l : k + 1 < n = omega (arith, length-range_with_len 0 n) in
     omega (arith, get_or-range_with_len 0 n k 0 (omega arith), get_or-range_with_len 0 n (k + 1) 0 l)

@@ -1,6 +1,8 @@
 -- The reference model of requests to the stack and of a worker's cache.
 use Rattle.std.specs.Prelude.{ℕ, ◌+◌, ◌-◌, ◌==◌, nat_lt, nat_le, if◌then◌else◌, List, [], ◌++◌, length, take, drop, reverse, Result, Ok, Err}
 use Rattle.commons.specs.declared.limits.Limits.{Limits}
+use Rattle.commons.specs.declared.limits.PutRule.{PutRule}
+use Rattle.commons.specs.declared.limits.PutRule.TheVariants.{Keep, Whole}
 use Rattle.commons.specs.declared.refusal.Refusal.{Refusal}
 use Rattle.commons.specs.declared.refusal.Refusal.TheVariants.{NoEntries, HeadSpent}
 use Rattle.commons.specs.Calls.{spent}
@@ -59,11 +61,25 @@ put_whole cache (Err e, s) = (PutOff (length cache) e, cache, s)
 abbrev pub flush : List ℕ → Shared → Put × List ℕ × Shared
 flush cache s = if length cache == 0 then (Kept, cache, s) else put_whole cache (push cache s)
 
--- the answer to a put of a list, and the cache and the stack that it leaves
-abbrev pub put : Limits → List ℕ → List ℕ → Shared → Put × List ℕ × Shared
-put l list cache s =
-    if length list == 0 then (Kept, cache, s)
-    else if nat_lt 512 (length list) then put_past cache list (push list s)
+-- the whole cache goes and the list takes its place, or comes behind it where that was refused
+abbrev pub put_after : List ℕ → List ℕ → Result (Unit {0}) Refusal × Shared → Put × List ℕ × Shared
+put_after cache list (Ok _, s) = (Flushed (length cache), list, s)
+put_after cache list (Err e, s) = (PutOff (length cache) e, cache ++ list, s)
+
+-- by each rule: the answer to a put of a list that isn't empty, and the cache and the stack that it leaves
+abbrev pub put_by_rule : PutRule → Limits → List ℕ → List ℕ → Shared → Put × List ℕ × Shared
+put_by_rule Keep l list cache s =
+    if nat_lt 512 (length list) then put_past cache list (push list s)
     else if nat_lt (length (cache ++ list)) (threshold l) then (Kept, cache ++ list, s)
     else if nat_le (length (cache ++ list)) l.cache then (Kept, cache ++ list, s)
     else put_beyond l.cache (cache ++ list) (push (drop l.cache (cache ++ list)) s)
+put_by_rule Whole l list cache s =
+    if nat_lt 512 (length list) then put_past cache list (push list s)
+    else if nat_lt (threshold l) (length list) then put_past cache list (push list s)
+    else if nat_le (length (cache ++ list)) (threshold l) then (Kept, cache ++ list, s)
+    else put_after cache list (push cache s)
+
+-- the answer to a put of a list, and the cache and the stack that it leaves
+abbrev pub put : Limits → List ℕ → List ℕ → Shared → Put × List ℕ × Shared
+put l list cache s =
+    if length list == 0 then (Kept, cache, s) else put_by_rule l.put_rule l list cache s

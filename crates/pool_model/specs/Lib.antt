@@ -1,5 +1,6 @@
 pub mod CacheLaw
 pub mod CacheModel
+pub mod Guests
 pub mod HoldModel
 pub mod PacketModel
 pub mod Pool
@@ -7,3 +8,4 @@ pub mod SharingModel
 pub mod Sound
 pub mod Standing
 pub mod Statements
+pub mod TwinModel

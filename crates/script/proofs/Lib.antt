@@ -1,4 +1,5 @@
 mod CommandsKeep
+mod Losses
 mod NameLemmas
 mod Outcomes
 mod WordWorkers

@@ -1,3 +1,4 @@
+pub mod Losing
 pub mod Printed
 pub mod Replay
 pub mod ReplyText

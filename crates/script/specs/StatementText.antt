@@ -1,5 +1,5 @@
 -- The text of a statement, line by line.
-use Rattle.std.specs.Prelude.{ℕ, ◌+◌, List, [], ◌∷◌, ◌++◌, length, codes, decimal}
+use Rattle.std.specs.Prelude.{ℕ, ◌+◌, List, [], ◌∷◌, ◌++◌, Option, None, Some, length, codes, decimal}
 use Rattle.std.specs.List.{flat_map}
 use Rattle.commons.specs.declared.packet.Seg.{Seg}
 use Rattle.element_text.specs.Elements.{base_text, elements_text, joined}
@@ -9,6 +9,7 @@ use Rattle.pool_model.specs.declared.statement.Holder.TheVariants.{Worker, Desk}
 use Rattle.pool_model.specs.declared.statement.Held.{Held}
 use Rattle.pool_model.specs.declared.statement.PlacedPacket.{PlacedPacket}
 use Rattle.pool_model.specs.declared.statement.DeskPacket.{DeskPacket}
+use Rattle.pool_model.specs.declared.settled.Settled.{Settled}
 use Rattle.pool_model.specs.declared.statement.Statement.{Statement}
 
 -- a segment: its element and base, where its data begins, how long it is, and how long the buffer is
@@ -68,3 +69,15 @@ unfoldable pub text_of : Statement → List ℕ
 text_of s =
     totals_text s ++ codes "common" ++ elements_text s.common ++ caches_text 1 s.caches
     ++ flat_map packet_text s.packets ++ flat_map desk_text s.desks ++ flat_map held_text s.held
+
+-- that of a second pool, behind its line
+unfoldable pub second_text : Statement → List ℕ
+second_text s = codes "second\n" ++ text_of s
+
+-- what a script's pools come to
+abbrev pub text_with : Statement → Option Statement → List ℕ
+text_with first None = text_of first
+text_with first (Some second) = text_of first ++ second_text second
+
+abbrev pub text_of_settled : Settled → List ℕ
+text_of_settled s = text_with s.first s.second

@@ -3,9 +3,11 @@
 ghost use Rattle.std.specs.Prelude.{All, ◌≡◌, ◌<◌, ◌≤◌, length, IfOk, IfErr};
 ghost use Rattle.ground.specs.Seats.{IsOf};
 ghost use Rattle.pool_model.specs.Statements.{ListsEachOnce, PlacesEachOnce};
+ghost use Rattle.book.specs.Lost.{IsOf as IsWorkerOf};
+ghost use Rattle.script.specs.Losing.{AreOfPool, LosesOnWords};
 ghost use Rattle.script.specs.Running.{EndsOnWords};
 ghost use Rattle.word_book.specs.Listing.{ListsPackets};
-ghost use Rattle.word_pool.specs.Workers.{AllStay, Stays};
+ghost use Rattle.word_pool.specs.Workers.{AllStay, AreWorkers, Stays};
 
 use crate::acting::{Actor, Worker, perform_lines};
 use crate::gate::Gate;
@@ -19,7 +21,7 @@ use std::sync::atomic::{AtomicBool, Ordering};
 use std::thread;
 use std::thread::Threads;
 use word_pool::laws;
-use word_pool::pool::{make, settled};
+use word_pool::pool::{lose, make, settled, settled_without};
 use word_pool::worker::WordWorker;
 
 impl Worker<Ground> for WordWorker {
@@ -53,6 +55,45 @@ pub(crate) fn run<G: Gate, R: Threads + Sync>(
     ensures packets { IfOk result (λ s. ListsPackets script.now.limits s) }
     ensures memory { IfErr result (λ e. e ≡ Refusal.OutOfMemory) }
 {
+    let (ground, workers) = played(rt, alloc, script, turns, gate)?;
+    settled(alloc, ground, workers)
+}
+
+/// Plays a script so, and ends a worker then, as one who died. Ends the pool, and answers which elements are lost.
+///
+/// Refused as `run` is.
+pub(crate) fn run_lost<G: Gate, R: Threads + Sync>(
+    rt: &R,
+    alloc: Global,
+    script: &Script,
+    turns: u32,
+    worker: u32,
+    gate: &G,
+) -> Result<Vec<u32>, Refusal>
+    requires turns { 1 ≤ turns }
+    requires worker { IsWorkerOf script.now.limits worker }
+    ensures lost { IfOk result (λ elems. LosesOnWords script.now.limits worker elems.items) }
+    ensures pool { IfOk result (λ elems. AreOfPool script.now.limits elems.items) }
+    ensures memory { IfErr result (λ e. e ≡ Refusal.OutOfMemory) }
+{
+    let (ground, mut workers) = played(rt, alloc, script, turns, gate)?;
+    lose(&ground, &mut workers, worker);
+    settled_without(alloc, ground, workers, &[worker])
+}
+
+/// Plays a script so, and gives the ground with all its workers once their threads have ended.
+fn played<G: Gate, R: Threads + Sync>(
+    rt: &R,
+    alloc: Global,
+    script: &Script,
+    turns: u32,
+    gate: &G,
+) -> Result<(Ground, Vec<WordWorker>), Refusal>
+    requires turns { 1 ≤ turns }
+    ensures limits { IfOk result (λ left. left.0.limits ≡ script.now.limits) }
+    ensures workers { IfOk result (λ left. AreWorkers left.0 left.1.items) }
+    ensures memory { IfErr result (λ e. e ≡ Refusal.OutOfMemory) }
+{
     laws::workers_who_stay_are_all();
     let (ground, mut workers) = make(alloc, &script.limits)?;
     if !play(
@@ -66,7 +107,7 @@ pub(crate) fn run<G: Gate, R: Threads + Sync>(
     ) {
         return Err(Refusal::OutOfMemory);
     }
-    settled(alloc, ground, workers)
+    Ok((ground, workers))
 }
 
 /// Lets each worker perform its lines, in a thread of its own where one can be started, and returns once each has. False

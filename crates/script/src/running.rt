@@ -6,11 +6,12 @@ ghost use Rattle.pool_model.specs.Sound.{ListsSoundPackets};
 ghost use Rattle.pool_model.specs.Statements.{ListsEachOnce, PlacesEachOnce};
 ghost use Rattle.script_text.specs.Commands.{Line};
 ghost use Rattle.script_text.specs.Grammar.{IsCause, IsScript};
+ghost use Rattle.script.specs.Losing.{IsCauseWithout, LosesFrom};
 ghost use Rattle.script.specs.Running.{RunsTo};
 ghost use Rattle.word_book.specs.Listing.{ListsPackets};
 
 use crate::gate::OpenGate;
-use crate::threaded::{Grounds, run_threads};
+use crate::threaded::{Grounds, run_lost, run_threads};
 use commons::refusal::Refusal;
 use pool_model::statement::Statement;
 use script_text::parse;
@@ -51,6 +52,32 @@ pub fn run_script<R: Threads + Wait + Sync>(
     match parse(alloc, bytes) {
         Ok(script) => match run_threads(rt, alloc, &script, grounds, turns, &OpenGate) {
             Ok(statement) => Ok(statement),
+            Err(cause) => Err(cause),
+        },
+        Err(refusal) => Err(refusal),
+    }
+}
+
+/// The elements that are lost with a worker at the end of a run of the script that the bytes are, ascending. The run is
+/// as `run_script`'s.
+///
+/// Refused as reading the script is, then `StrangerShare` where the pool doesn't have such a worker. `OutOfMemory` comes
+/// only where memory was refused, or under the lock a thread.
+pub fn run_script_lost<R: Threads + Wait + Sync>(
+    rt: &R,
+    alloc: Global,
+    bytes: &[u8],
+    grounds: Grounds,
+    turns: u32,
+    lose: u32,
+) -> Result<Vec<u32>, Refusal>
+    requires turns { 1 ≤ turns }
+    ensures lost { IfOk result (λ elems. LosesFrom grounds lose bytes.now elems.items) }
+    ensures faults { IfErr result (IsCauseWithout lose bytes.now) }
+{
+    match parse(alloc, bytes) {
+        Ok(script) => match run_lost(rt, alloc, &script, grounds, turns, lose, &OpenGate) {
+            Ok(elems) => Ok(elems),
             Err(cause) => Err(cause),
         },
         Err(refusal) => Err(refusal),

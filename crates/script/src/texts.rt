@@ -2,9 +2,11 @@
 
 mod caches;
 mod held;
+mod lost;
 mod replies;
 mod segments;
 mod whole;
 
+pub use lost::lost_text;
 pub use replies::push_reply;
-pub use whole::statement_text;
+pub use whole::{settled_text, statement_text};

@@ -3,6 +3,7 @@
 ghost use Rattle.std.specs.Prelude.{◌≡◌, ◌≤◌, IfOk, IfErr};
 ghost use Rattle.pool_model.specs.Sound.{ListsSoundPackets};
 ghost use Rattle.pool_model.specs.Statements.{ListsEachOnce, PlacesEachOnce};
+ghost use Rattle.script.specs.Losing.{IsLostCause, Loses};
 ghost use Rattle.script.specs.Running.{EndsByActs, EndsOnWords};
 ghost use Rattle.word_book.specs.Listing.{ListsPackets};
 
@@ -60,5 +61,32 @@ pub fn run_threads<G: Gate, R: Threads + Wait + Sync>(
     match grounds {
         Grounds::Words => on_words::run(rt, alloc, script, turns, gate),
         Grounds::Locked => under_lock::run(rt, alloc, script, turns, gate),
+    }
+}
+
+/// Plays a script as `run_threads` does, and ends the worker `lose` at the end, as one who died: its cache and its packets
+/// are lost, and on words its seat too, but that of an only worker, which closes the ground. Answers which elements are lost
+/// then, ascending: exactly those of which this worker alone knows, in its hand or held by it and by nobody else.
+///
+/// Refused `StrangerShare` where `lose` isn't a worker of the pool, and `OutOfMemory` as `run_threads` is.
+pub fn run_lost<G: Gate, R: Threads + Wait + Sync>(
+    rt: &R,
+    alloc: Global,
+    script: &Script,
+    grounds: Grounds,
+    turns: u32,
+    lose: u32,
+    gate: &G,
+) -> Result<Vec<u32>, Refusal>
+    requires turns { 1 ≤ turns }
+    ensures lost { IfOk result (λ elems. Loses grounds script.now.limits lose elems.items) }
+    ensures cause { IfErr result (IsLostCause script.now.limits lose) }
+{
+    if lose == 0 || u64::from(lose) > script.limits.workers {
+        return Err(Refusal::StrangerShare);
+    }
+    match grounds {
+        Grounds::Words => on_words::run_lost(rt, alloc, script, turns, lose, gate),
+        Grounds::Locked => under_lock::run_lost(rt, alloc, script, turns, lose, gate),
     }
 }

@@ -1,20 +1,30 @@
 //! A run in threads on a pool under one lock.
 
-ghost use Rattle.std.specs.Prelude.{◌≡◌, ◌≤◌, IfOk, IfErr};
+ghost use Rattle.std.specs.Prelude.{ℕ, ◌≡◌, ◌≤◌, List, IfOk, IfErr, map};
+ghost use Rattle.std.specs.List.{range_with_len};
+ghost use Rattle.commons.specs.Bounds.{IsPool};
 ghost use Rattle.commons.specs.declared.limits.Limits.{Limits};
+ghost use Rattle.mbuf.specs.declared.acts.Act.{Act};
 ghost use Rattle.pool_model.specs.Sound.{ListsSoundPackets};
 ghost use Rattle.pool_model.specs.Statements.{ListsEachOnce, PlacesEachOnce};
+ghost use Rattle.script.specs.Losing.{AreOfPool, LosesByActs};
 ghost use Rattle.script.specs.Running.{EndsByActs};
+ghost use Rattle.share_book.specs.Locked.{AreLeftBy};
+ghost use Rattle.snapshot.specs.Closing.{snapshot_of};
+ghost use Rattle.snapshot.specs.Snapshots.{IsLawful};
 ghost use Rattle.word_book.specs.Listing.{ListsPackets};
 
 use crate::acting::{Actor, Worker, perform_lines};
 use crate::gate::Gate;
+use commons::closed::Closed;
+use commons::limits::Limits;
 use commons::refusal::Refusal;
 use mbuf::acts::{Act, Answer};
 use pool_model::laws;
 use pool_model::statement::Statement;
 use script_text::commands::Script;
-use share_book::ending::settled_parts;
+use share_book::Share;
+use share_book::ending::{settled_parts, settled_parts_without};
 use share_book::locked_site::{LockedPool, OfLimits};
 use std::alloc::Global;
 use std::marker::Brand;
@@ -61,23 +71,47 @@ pub(crate) fn run<G: Gate, R: Threads + Wait + Sync>(
     ensures memory { IfErr result (λ e. e ≡ Refusal.OutOfMemory) }
 {
     laws::acts_leave_packets_sound();
-    run_locked::<Brand, G, R>(rt, alloc, script, turns, gate)
+    let (limits, closed, shares) = played::<Brand, G, R>(rt, alloc, script, turns, gate)?;
+    settled_parts(alloc, &limits, closed, shares)
 }
 
-/// Does so under a lock whose type knows the script's limits.
-fn run_locked<K: OfLimits + Send + Sync, G: Gate, R: Threads + Wait + Sync>(
+/// Plays a script so, and loses the share of a worker then, as of one who died. Answers which elements are lost.
+///
+/// Refused as `run` is.
+pub(crate) fn run_lost<G: Gate, R: Threads + Wait + Sync>(
+    rt: &R,
+    alloc: Global,
+    script: &Script,
+    turns: u32,
+    worker: u32,
+    gate: &G,
+) -> Result<Vec<u32>, Refusal>
+    requires turns { 1 ≤ turns }
+    ensures lost { IfOk result (λ elems. LosesByActs script.now.limits worker elems.items) }
+    ensures pool { IfOk result (λ elems. AreOfPool script.now.limits elems.items) }
+    ensures memory { IfErr result (λ e. e ≡ Refusal.OutOfMemory) }
+{
+    let (limits, closed, shares) = played::<Brand, G, R>(rt, alloc, script, turns, gate)?;
+    settled_parts_without(alloc, &limits, closed, shares, &[worker])
+}
+
+/// Plays a script under a lock whose type knows the script's limits, and gives what the pool left with the shares of all
+/// its workers, once their threads have ended.
+fn played<K: OfLimits + Send + Sync, G: Gate, R: Threads + Wait + Sync>(
     rt: &R,
     alloc: Global,
     script: &Script,
     turns: u32,
     gate: &G,
-) -> Result<Statement, Refusal>
+) -> Result<(Limits, Closed, Vec<Share>), Refusal>
     requires turns { 1 ≤ turns }
     requires allowed { K.allows script.now.limits }
     requires only { (l : Limits) → K.allows l → l ≡ script.now.limits }
-    ensures reached { IfOk result (EndsByActs script.now.limits) }
-    ensures once { IfOk result (λ s. ListsEachOnce s) }
-    ensures places { IfOk result (λ s. PlacesEachOnce script.now.limits s) }
+    ensures limits { IfOk result (λ left. left.0 ≡ script.now.limits) }
+    ensures range { IfOk result (λ left. IsPool left.0) }
+    ensures reached { IfOk result (λ left. (acts : List (ℕ × Act)) × AreLeftBy acts left.0 left.1 left.2.items) }
+    ensures numbers { IfOk result (λ left. map (λ share. share.number) left.2.items ≡ range_with_len 1 left.0.workers) }
+    ensures lawful { IfOk result (λ left. IsLawful (snapshot_of left.0 left.1 left.2.items)) }
     ensures memory { IfErr result (λ e. e ≡ Refusal.OutOfMemory) }
 {
     let site = LockedPool::<K>::make(alloc, &script.limits)?;
@@ -86,7 +120,7 @@ fn run_locked<K: OfLimits + Send + Sync, G: Gate, R: Threads + Wait + Sync>(
         return Err(Refusal::OutOfMemory);
     }
     match site.close(alloc) {
-        Ok((limits, closed, shares)) => settled_parts(alloc, &limits, closed, shares),
+        Ok(left) => Ok(left),
         Err((cause, pool)) => {
             pool.lose();
             Err(cause)

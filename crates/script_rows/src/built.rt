@@ -132,10 +132,10 @@ pub const ROWS: &[BuiltRow] = &[
     ),
     (
         "limits",
-        &[Part::Text("pool 65534\n")],
+        &[Part::Text("pool 65535\n")],
         &[
-            Part::Text("population 65534\navailable 65534\nin use 0\ncommon 65534:"),
-            Part::Each(65_534, &[Field(" ", 0, 1)], ""),
+            Part::Text("population 65535\navailable 65535\nin use 0\ncommon 65535:"),
+            Part::Each(65_535, &[Field(" ", 0, 1)], ""),
             Part::Text("\ncache 1 0:\n"),
         ],
     ),

@@ -28,7 +28,7 @@ pub const ROWS: &[Row] = &[
     ),
     (
         "count spent",
-        "pool 3 start 281474976710654\nalloc a\nfree a\nalloc b\n",
+        "pool 3 start 1099511627774\nalloc a\nfree a\nalloc b\n",
         "2: ok 0\n3: ok back 1 flushed 0 putoff 1 HeadSpent\n4: refused 5 HeadSpent\n\
         population 3\navailable 3\nin use 0\ncommon 2: 1 2\ncache 1 1: 0\n",
     ),

@@ -1,6 +1,6 @@
 //! The functions that walk the tables. A row that fails is named.
 
-use commons::limits::Limits;
+use commons::limits::{Limits, PutRule};
 use commons::packet::Seg;
 use commons::refusal::Refusal;
 use commons::seq::Seq;
@@ -27,6 +27,7 @@ mod grounds;
 mod handing;
 mod json;
 mod long;
+mod lost;
 mod readings;
 mod replies;
 mod settling;
@@ -37,6 +38,7 @@ mod step_texts;
 mod texts;
 mod threads;
 mod told;
+mod twins;
 
 use building::placed;
 use shown::{shown_lines, shown_steps};
@@ -103,6 +105,7 @@ const DEFAULTS: Limits = Limits {
     ref_limit: 65_535,
     tries: 64,
     start_count: 0,
+    put_rule: PutRule::Keep,
 };
 
 /// Both are one; else it is told of what, with both.

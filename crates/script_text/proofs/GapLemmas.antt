@@ -1,13 +1,13 @@
 -- Each text is a script of the grammar, or has a first faulty line, or has a bad pool.
 use Rattle.std.proofs.Common.{◌≡◌, ◌≢◌, ℕ, ◌+◌, ◌-◌, max, ltb, Bool, true, false, cond, List, [], ◌∷◌, length, Option, Some, None, Result, Ok, Err, refl, ap, ◌∙◌, inl, inr}
 use Rattle.std.specs.Prelude.{◌⊎◌}
-use Rattle.commons.specs.declared.limits.Limits.{Limits}
 use Rattle.commons.specs.declared.refusal.Refusal.{Refusal}
 use Rattle.commons.specs.declared.refusal.Refusal.TheVariants as refusals
+use Rattle.script_text.specs.declared.pool_line.PoolNumbers.{PoolNumbers}
 use Rattle.script_text.specs.Scripts.{State, start, HasBadPool, IsCause, IsSomeScript, HasSomeFault}
 use Rattle.script_text.specs.inside.Reading.{parts}
 use Rattle.script_text.specs.inside.ScriptReading.{Lexicon, are_ready, read_line, judged_as, judged, finish, goes_on, read_lines, read_from, read_text}
-use Rattle.script_text.proofs.ScriptLemmas.{script_from, cause_from}
+use Rattle.script_text.proofs.ScriptLemmas.{some_script, cause_from}
 use Rattle.script_text.proofs.Right.{IsRight}
 
 module _ {C : Type 0} (lexicon : Lexicon C) (right : IsRight lexicon) where
@@ -15,9 +15,9 @@ module _ {C : Type 0} (lexicon : Lexicon C) (right : IsRight lexicon) where
   abbrev wants_memory : Result (State C) Refusal
   wants_memory = Err refusals.OutOfMemory
 
-  -- what was read has limits, or was refused, but not for want of memory
+  -- something was read, or was refused, but not for want of memory
   abbrev IsAnswer : Result (State C) Refusal → Type 0
-  IsAnswer (Ok state) = (limits : Limits) × (state.limits ≡ Some limits)
+  IsAnswer (Ok state) = Unit {0}
   IsAnswer (Err refusal) = refusal ≢ refusals.OutOfMemory
 
   -- a faulty line is no want of memory
@@ -32,15 +32,15 @@ module _ {C : Type 0} (lexicon : Lexicon C) (right : IsRight lexicon) where
   -- a line goes on, is a fault or finds a bad pool, and never wants memory
   judged_answers : (o : Option (State C)) (number : ℕ) → judged_as number o ≢ wants_memory
   judged_answers None number e = cc
-  judged_answers (Some next) number e = ready_answers (are_ready next.limits) next e
+  judged_answers (Some next) number e = ready_answers (are_ready next.numbers) next e
 
-  -- at the end there are limits, or a line isn't ended, or no pool line was read
-  finish_answers : (o : Option Limits) (state : State C) (number : ℕ) (rest : List ℕ) →
-      state.limits ≡ o → IsAnswer (finish o state number rest)
-  finish_answers None state number [] e = fault_answers (max 1 (number - 1))
-  finish_answers (Some limits) state number [] e = (limits, e)
-  finish_answers None state number (byte ∷ rest) e = fault_answers number
-  finish_answers (Some limits) state number (byte ∷ rest) e = fault_answers number
+  -- at the end a pool's numbers are told, or a line isn't ended, or no pool line was read
+  finish_answers : (o : Option PoolNumbers) (state : State C) (number : ℕ) (rest : List ℕ) →
+      IsAnswer (finish o state number rest)
+  finish_answers None state number [] = fault_answers (max 1 (number - 1))
+  finish_answers (Some numbers) state number [] = tt
+  finish_answers None state number (byte ∷ rest) = fault_answers number
+  finish_answers (Some numbers) state number (byte ∷ rest) = fault_answers number
 
   -- where no line wants memory, what comes of going on doesn't
   goes_answers : (r : Result (State C) Refusal) (f : State C → Result (State C) Refusal) → r ≢ wants_memory →
@@ -52,7 +52,7 @@ module _ {C : Type 0} (lexicon : Lexicon C) (right : IsRight lexicon) where
   lines_answer : (lines : List (List ℕ)) (state : State C) (number : ℕ) (rest : List ℕ) →
       IsAnswer (read_lines lexicon state number lines rest)
   unfolding read_lines judged
-  lines_answer [] state number rest = finish_answers state.limits state number rest refl
+  lines_answer [] state number rest = finish_answers state.numbers state number rest
   lines_answer (line ∷ lines) state number rest =
       goes_answers (judged lexicon state number line) (λ next. read_lines lexicon next (number + 1) lines rest)
       (judged_answers (read_line lexicon state number line) number)
@@ -82,13 +82,7 @@ module _ {C : Type 0} (lexicon : Lexicon C) (right : IsRight lexicon) where
   -- what was read is a script of the grammar, and what was refused has its cause
   read_by : (read : Result (State C) Refusal) (bytes : List ℕ) → read_text lexicon bytes ≡ read → IsAnswer read →
       IsSomeScript lexicon.language bytes ⊎ (HasSomeFault lexicon.language bytes ⊎ HasBadPool lexicon.language bytes)
-  read_by (Ok state) bytes e h = inl (record {
-    limits = h.0;
-    lines = state.lines;
-    script =
-        script_from lexicon right bytes h.0 state.lines
-        (e ∙ ap (λ (o : Option Limits). Ok (record { limits = o; lines = state.lines })) h.1);
-  })
+  read_by (Ok state) bytes e h = inl (some_script lexicon right bytes state e)
   read_by (Err refusal) bytes e h = inr (fault_or_pool refusal bytes h (cause_from lexicon right bytes refusal e))
 
   -- a text has an answer, which is a script of the grammar, or a fault, or a bad pool

@@ -3,11 +3,11 @@ use Rattle.std.proofs.Common.{◌≡◌, ℕ, true, false, cond, ltb, leb, List,
 use Rattle.std.specs.Prelude.{option_and_then}
 use Rattle.std.specs.List.{list_all}
 use Rattle.std.proofs.lemmas.Bool.{cond-true, cond-false, cases_Bool, leb-true, le-leb, ltb-true, lt-ltb, and_parts, and_from}
-use Rattle.commons.specs.declared.limits.Limits.{Limits}
+use Rattle.script_text.specs.declared.pool_line.PoolNumbers.{PoolNumbers}
 use Rattle.script_text.specs.Text.{IsPrinted, IsPlain}
 use Rattle.script_text.specs.Scripts.{State, with_command, ReadsPool, ReadsCommand, Takes, skips, gives_pool, commands, Reads}
-use Rattle.script_text.specs.inside.Reading.{words_of, is_printed, is_plain, is_skipped, limits_from}
-use Rattle.script_text.specs.inside.ScriptReading.{Lexicon, repeats, order_from, with_limits, add_command, read_command, read_pool, read_words, read_line, is_made}
+use Rattle.script_text.specs.inside.Reading.{words_of, is_printed, is_plain, is_skipped, numbers_from}
+use Rattle.script_text.specs.inside.ScriptReading.{Lexicon, repeats, order_from, with_numbers, add_command, read_command, read_pool, read_words, read_line, is_made}
 use Rattle.script_text.proofs.WordLemmas.{spelled_once, words_are, skipped_is, skipped_from}
 use Rattle.script_text.proofs.NumberLemmas.{all_from, all_to, within_from, within_to}
 use Rattle.script_text.proofs.PoolLineLemmas.{pool_line_from, pool_line_is}
@@ -35,53 +35,53 @@ plain_is line h =
     (all_to is_printed IsPrinted (λ byte p. within_to 32 126 byte p) line h.printed)
 
 module _ {C : Type 0} (lexicon : Lexicon C) (right : IsRight lexicon) where
-  -- in front of the limits what is read is the pool line
-  pool_takes : (state after : State C) (number : ℕ) (line : List ℕ) → state.limits ≡ None →
+  -- in front of the numbers what is read is the pool line
+  pool_takes : (state after : State C) (number : ℕ) (line : List ℕ) → state.numbers ≡ None →
       read_pool state (words_of line) ≡ Some after → Takes lexicon.language state number line after
   pool_takes state after number line none e =
-      let l = and_then_some (λ limits. Some (with_limits state limits)) (limits_from (words_of line)) after e in
+      let l = and_then_some (λ numbers. Some (with_numbers state numbers)) (numbers_from (words_of line)) after e in
       gives_pool (record {
         first = none;
         words = words_of line;
         spelled = words_are line;
-        limits = l.0;
+        numbers = l.0;
         is_pool_line = pool_line_from (words_of line) l.0 l.1;
-        after_is = sym (found_is (with_limits state l.0) after l.2);
+        after_is = sym (found_is (with_numbers state l.0) after l.2);
       })
 
   -- behind the pool line what is read is a command line: not one too many, its names made anew
-  command_takes : (state after : State C) (number : ℕ) (line : List ℕ) (limits : Limits) →
-      state.limits ≡ Some limits →
-      read_command lexicon limits.workers state number (words_of line) ≡ Some after →
+  command_takes : (state after : State C) (number : ℕ) (line : List ℕ) (numbers : PoolNumbers) →
+      state.numbers ≡ Some numbers →
+      read_command lexicon numbers.workers state number (words_of line) ≡ Some after →
       Takes lexicon.language state number line after
-  command_takes state after number line limits some e =
+  command_takes state after number line numbers some e =
       let few =
       if_some (ltb (length state.lines) 10000)
-      (option_and_then (add_command lexicon state number) (order_from lexicon limits.workers (words_of line)))
+      (option_and_then (add_command lexicon state number) (order_from lexicon numbers.workers (words_of line)))
       after e in
-      let c = and_then_some (add_command lexicon state number) (order_from lexicon limits.workers (words_of line)) after few.1 in
+      let c = and_then_some (add_command lexicon state number) (order_from lexicon numbers.workers (words_of line)) after few.1 in
       let anew =
       if_none (repeats (is_made lexicon state.lines) c.0.0 (lexicon.language.names_made c.0.1))
       (Some (with_command state number c.0.0 c.0.1)) after c.2 in
       commands (record {
-        limits = limits;
+        numbers = numbers;
         behind_pool = some;
         few = ltb-true (length state.lines) 10000 few.0;
         words = words_of line;
         spelled = words_are line;
         worker = c.0.0;
         command = c.0.1;
-        is_command_line = order_comes lexicon right limits.workers (words_of line) c.0 c.1;
+        is_command_line = order_comes lexicon right numbers.workers (words_of line) c.0 c.1;
         anew = anew_from lexicon state.lines c.0.0 c.0.1 anew.0;
         after_is = sym (found_is (with_command state number c.0.0 c.0.1) after anew.1);
       })
 
-  -- whether limits are told says whether a line is the pool line or a command
-  words_take : (limits : Option Limits) (state after : State C) (number : ℕ) (line : List ℕ) →
-      state.limits ≡ limits → read_words lexicon limits state number (words_of line) ≡ Some after →
+  -- whether numbers are told says whether a line is the pool line or a command
+  words_take : (numbers : Option PoolNumbers) (state after : State C) (number : ℕ) (line : List ℕ) →
+      state.numbers ≡ numbers → read_words lexicon numbers state number (words_of line) ≡ Some after →
       Takes lexicon.language state number line after
   words_take None state after number line e h = pool_takes state after number line e h
-  words_take (Some limits) state after number line e h = command_takes state after number line limits e h
+  words_take (Some numbers) state after number line e h = command_takes state after number line numbers e h
 
   -- a line that is read is plain, and is skipped, or the pool line, or a command
   pub reads_from : (state after : State C) (number : ℕ) (line : List ℕ) →
@@ -90,30 +90,30 @@ module _ {C : Type 0} (lexicon : Lexicon C) (right : IsRight lexicon) where
   reads_from state after number line e =
       let plain =
       if_some (is_plain line) (cond (is_skipped (words_of line)) (Some state)
-      (read_words lexicon state.limits state number (words_of line))) after e in
+      (read_words lexicon state.numbers state number (words_of line))) after e in
       record {
         plain = plain_from line plain.0;
         takes = elim (cases_Bool (is_skipped (words_of line))) [
           | inl skipped ↦
               skips (skipped_from line skipped) (sym (found_is state after (sym
               (cond-true (is_skipped (words_of line)) (Some state)
-              (read_words lexicon state.limits state number (words_of line)) skipped) ∙ plain.1)))
+              (read_words lexicon state.numbers state number (words_of line)) skipped) ∙ plain.1)))
           | inr counted ↦
-              words_take state.limits state after number line refl (sym (cond-false
+              words_take state.numbers state after number line refl (sym (cond-false
               (is_skipped (words_of line)) (Some state)
-              (read_words lexicon state.limits state number (words_of line)) counted) ∙ plain.1)
+              (read_words lexicon state.numbers state number (words_of line)) counted) ∙ plain.1)
         ];
       }
 
-  -- a pool line of the grammar isn't skipped, and is read as its limits
+  -- a pool line of the grammar isn't skipped, and is read as its numbers
   pool_is_read : (state after : State C) (number : ℕ) (line : List ℕ) → IsPlain line →
       ReadsPool state line after → read_line lexicon state number line ≡ Some after
   pool_is_read state after number line plain h =
       let words : words_of line ≡ h.words = spelled_once h.words line h.spelled in
       let counted : is_skipped (words_of line) ≡ false = ap is_skipped (words ∙ h.is_pool_line.words_are) in
       read_as lexicon state number line None (plain_is line plain) counted h.first
-      ∙ ap (option_and_then (λ limits. Some (with_limits state limits)))
-      (ap limits_from words ∙ pool_line_is h.words h.limits h.is_pool_line)
+      ∙ ap (option_and_then (λ numbers. Some (with_numbers state numbers)))
+      (ap numbers_from words ∙ pool_line_is h.words h.numbers h.is_pool_line)
       ∙ ap (λ (s : State C). Some s) (sym h.after_is)
 
   -- a command line of the grammar isn't skipped, and is read as its worker's command
@@ -121,15 +121,15 @@ module _ {C : Type 0} (lexicon : Lexicon C) (right : IsRight lexicon) where
       ReadsCommand lexicon.language state number line after → read_line lexicon state number line ≡ Some after
   command_is_read state after number line plain h =
       let words : words_of line ≡ h.words = spelled_once h.words line h.spelled in
-      let order : order_from lexicon h.limits.workers (words_of line) ≡ Some (h.worker, h.command) =
-      ap (order_from lexicon h.limits.workers) words
-      ∙ order_is lexicon right h.limits.workers h.words h.worker h.command h.is_command_line in
+      let order : order_from lexicon h.numbers.workers (words_of line) ≡ Some (h.worker, h.command) =
+      ap (order_from lexicon h.numbers.workers) words
+      ∙ order_is lexicon right h.numbers.workers h.words h.worker h.command h.is_command_line in
       let counted : is_skipped (words_of line) ≡ false =
       ap is_skipped words
-      ∙ counted_line lexicon right h.limits.workers h.words h.worker h.command h.is_command_line in
-      read_as lexicon state number line (Some h.limits) (plain_is line plain) counted h.behind_pool
+      ∙ counted_line lexicon right h.numbers.workers h.words h.worker h.command h.is_command_line in
+      read_as lexicon state number line (Some h.numbers) (plain_is line plain) counted h.behind_pool
       ∙ cond-true (ltb (length state.lines) 10000)
-      (option_and_then (add_command lexicon state number) (order_from lexicon h.limits.workers (words_of line)))
+      (option_and_then (add_command lexicon state number) (order_from lexicon h.numbers.workers (words_of line)))
       None (lt-ltb (length state.lines) 10000 h.few)
       ∙ ap (option_and_then (add_command lexicon state number)) order
       ∙ cond-false (repeats (is_made lexicon state.lines) h.worker (lexicon.language.names_made h.command)) None

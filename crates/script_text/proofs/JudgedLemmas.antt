@@ -2,15 +2,15 @@
 use Rattle.std.proofs.Common.{◌≡◌, ℕ, ◌+◌, ◌-◌, ◌<◌, ◌≤◌, true, false, cond, ltb, List, [], ◌∷◌, length, Option, Some, None, Result, Ok, Err, refl, sym, ap, ◌∙◌, arith, max}
 use Rattle.std.specs.Prelude.{option_and_then}
 use Rattle.std.proofs.lemmas.Bool.{cond-true, cond-false, lt-ltb, le-ltb}
-use Rattle.commons.specs.declared.limits.Limits.{Limits}
 use Rattle.commons.specs.declared.refusal.Refusal.{Refusal}
 use Rattle.commons.specs.declared.refusal.Refusal.TheVariants as refusals
 use Rattle.script_text.specs.declared.lines.Line.{Line}
+use Rattle.script_text.specs.declared.pool_line.PoolNumbers.{PoolNumbers}
 use Rattle.script_text.specs.declared.reader.Stop.{Stop}
 use Rattle.script_text.specs.declared.reader.Stop.TheVariants.{Fault, BadPool, OutOfMemory}
 use Rattle.script_text.specs.Scripts.{State, start}
-use Rattle.script_text.specs.inside.Reading.{Parts, parts, words_of, is_plain, is_skipped, limits_from}
-use Rattle.script_text.specs.inside.ScriptReading.{Lexicon, are_ready, with_limits, read_pool, read_words, read_line, judged_as, judged, finish, goes_on, read_lines, read_from, read_text}
+use Rattle.script_text.specs.inside.Reading.{Parts, parts, words_of, is_plain, is_skipped, numbers_from}
+use Rattle.script_text.specs.inside.ScriptReading.{Lexicon, are_ready, with_numbers, read_pool, read_words, read_line, judged_as, judged, finish, goes_on, read_lines, read_from, read_text}
 use Rattle.script_text.specs.inside.Agreement.{StopsPool, StopsCommand, StopsLine, Fails, refusal_at}
 use Rattle.script_text.proofs.LineLemmas.{parts_of}
 
@@ -19,7 +19,7 @@ module _ {C : Type 0} (lexicon : Lexicon C) where
 
   -- the reading of a plain line
   abbrev plain_line : State C → ℕ → List ℕ → Option (State C)
-  plain_line s n line = cond (is_skipped (words_of line)) (Some s) (read_words lexicon s.limits s n (words_of line))
+  plain_line s n line = cond (is_skipped (words_of line)) (Some s) (read_words lexicon s.numbers s n (words_of line))
 
   -- a plain line is skipped, or read by its words
   read_plain : (s : State C) (n : ℕ) (line : List ℕ) → is_plain line ≡ true → read_line lexicon s n line ≡ plain_line s n line
@@ -36,24 +36,24 @@ module _ {C : Type 0} (lexicon : Lexicon C) where
       is_skipped (words_of line) ≡ true → read_line lexicon s n line ≡ Some s
   read_skipped s n line e f =
       read_plain s n line e
-      ∙ cond-true (is_skipped (words_of line)) (Some s) (read_words lexicon s.limits s n (words_of line)) f
+      ∙ cond-true (is_skipped (words_of line)) (Some s) (read_words lexicon s.numbers s n (words_of line)) f
 
-  -- a plain line that isn't skipped is read by whether limits are told
-  pub read_as : (s : State C) (n : ℕ) (line : List ℕ) (o : Option Limits) → is_plain line ≡ true →
-      is_skipped (words_of line) ≡ false → s.limits ≡ o →
+  -- a plain line that isn't skipped is read by whether numbers are told
+  pub read_as : (s : State C) (n : ℕ) (line : List ℕ) (o : Option PoolNumbers) → is_plain line ≡ true →
+      is_skipped (words_of line) ≡ false → s.numbers ≡ o →
       read_line lexicon s n line ≡ read_words lexicon o s n (words_of line)
   read_as s n line o e f g =
       read_plain s n line e
-      ∙ cond-false (is_skipped (words_of line)) (Some s) (read_words lexicon s.limits s n (words_of line)) f
-      ∙ ap (λ (x : Option Limits). read_words lexicon x s n (words_of line)) g
+      ∙ cond-false (is_skipped (words_of line)) (Some s) (read_words lexicon s.numbers s n (words_of line)) f
+      ∙ ap (λ (x : Option PoolNumbers). read_words lexicon x s n (words_of line)) g
 
   -- ---- what a line's reading is judged as
 
-  -- a reading whose limits, if told, are a pool's goes on
+  -- a reading whose numbers, if told, are a pool's goes on
   pub judged_ok : (s next : State C) (n : ℕ) (line : List ℕ) → read_line lexicon s n line ≡ Some next →
-      are_ready next.limits ≡ true → judged lexicon s n line ≡ Ok next
+      are_ready next.numbers ≡ true → judged lexicon s n line ≡ Ok next
   unfolding judged
-  judged_ok s next n line e f = ap (judged_as n) e ∙ cond-true (are_ready next.limits) (Ok next) (Err refusals.BadPool) f
+  judged_ok s next n line e f = ap (judged_as n) e ∙ cond-true (are_ready next.numbers) (Ok next) (Err refusals.BadPool) f
 
   -- a line without a reading is a fault with its number
   pub judged_fault : (s : State C) (n : ℕ) (line : List ℕ) → read_line lexicon s n line ≡ None →
@@ -61,11 +61,11 @@ module _ {C : Type 0} (lexicon : Lexicon C) where
   unfolding judged
   judged_fault s n line e = ap (judged_as n) e
 
-  -- a reading whose limits are no pool's is a bad pool
+  -- a reading whose numbers are no pool's is a bad pool
   pub judged_bad : (s next : State C) (n : ℕ) (line : List ℕ) → read_line lexicon s n line ≡ Some next →
-      are_ready next.limits ≡ false → judged lexicon s n line ≡ Err refusals.BadPool
+      are_ready next.numbers ≡ false → judged lexicon s n line ≡ Err refusals.BadPool
   unfolding judged
-  judged_bad s next n line e f = ap (judged_as n) e ∙ cond-false (are_ready next.limits) (Ok next) (Err refusals.BadPool) f
+  judged_bad s next n line e f = ap (judged_as n) e ∙ cond-false (are_ready next.numbers) (Ok next) (Err refusals.BadPool) f
 
   -- a command that stops a reader stops the line, as a fault or for want of memory
   pub stops_command : (stop : Stop) (s : State C) (n : ℕ) (line : List ℕ) (read : Option (State C)) →
@@ -77,11 +77,11 @@ module _ {C : Type 0} (lexicon : Lexicon C) where
   -- a pool line that stops a reader stops the line, as a fault or a bad pool
   pub stops_pool : (stop : Stop) (s : State C) (n : ℕ) (line : List ℕ) →
       read_line lexicon s n line ≡ read_pool s (words_of line) →
-      StopsPool stop (limits_from (words_of line)) → StopsLine stop n (judged lexicon s n line)
-  stops_pool Fault s n line e h = judged_fault s n line (e ∙ ap (option_and_then (λ limits. Some (with_limits s limits))) h)
+      StopsPool stop (numbers_from (words_of line)) → StopsLine stop n (judged lexicon s n line)
+  stops_pool Fault s n line e h = judged_fault s n line (e ∙ ap (option_and_then (λ numbers. Some (with_numbers s numbers))) h)
   stops_pool BadPool s n line e h =
-      judged_bad s (with_limits s h.0) n line
-      (e ∙ ap (option_and_then (λ limits. Some (with_limits s limits))) h.1) h.2
+      judged_bad s (with_numbers s h.0) n line
+      (e ∙ ap (option_and_then (λ numbers. Some (with_numbers s numbers))) h.1) h.2
   stops_pool OutOfMemory s n line e h = absurd h
 
   -- ---- lines
@@ -124,18 +124,18 @@ module _ {C : Type 0} (lexicon : Lexicon C) where
 
   -- where no line is left, only the end is looked at
   read_last : (s : State C) (n : ℕ) (text : List ℕ) → parts text ≡ parts_of [] text →
-      read_from lexicon s n text ≡ finish s.limits s n text
+      read_from lexicon s n text ≡ finish s.numbers s n text
   unfolding read_from read_lines
   read_last s n text e = ap (lines_of s n) e
 
   -- bytes that are left behind the last line end are a fault
-  finish_rest : (o : Option Limits) (s : State C) (n : ℕ) (text : List ℕ) → 0 < length text →
+  finish_rest : (o : Option PoolNumbers) (s : State C) (n : ℕ) (text : List ℕ) → 0 < length text →
       finish o s n text ≡ Err (refusals.ScriptFault n)
   finish_rest o s n [] lt = absurd (omega (arith, lt))
   finish_rest o s n (byte ∷ text) lt = refl
 
   -- where nothing is left the end is that of an empty rest
-  finish_end : (o : Option Limits) (s : State C) (n : ℕ) (text : List ℕ) → length text ≡ 0 →
+  finish_end : (o : Option PoolNumbers) (s : State C) (n : ℕ) (text : List ℕ) → length text ≡ 0 →
       finish o s n text ≡ finish o s n []
   finish_end o s n [] e = refl
   finish_end o s n (byte ∷ text) e = absurd (omega (arith, e))
@@ -144,23 +144,23 @@ module _ {C : Type 0} (lexicon : Lexicon C) where
   pub unfinished_rest : (s : State C) (n : ℕ) (text : List ℕ) (whole : Result (State C) Refusal) →
       parts text ≡ parts_of [] text → 0 < length text → read_from lexicon s n text ≡ whole →
       whole ≡ Err (refusals.ScriptFault n)
-  unfinished_rest s n text whole e lt w = sym w ∙ read_last s n text e ∙ finish_rest s.limits s n text lt
+  unfinished_rest s n text whole e lt w = sym w ∙ read_last s n text e ∙ finish_rest s.numbers s n text lt
 
   -- a text that ends before a pool line is refused with the last line's number, or 1
   pub no_pool_line : (s : State C) (n : ℕ) (text : List ℕ) (whole : Result (State C) Refusal) →
-      parts text ≡ parts_of [] text → length text ≡ 0 → s.limits ≡ None → read_from lexicon s n text ≡ whole →
+      parts text ≡ parts_of [] text → length text ≡ 0 → s.numbers ≡ None → read_from lexicon s n text ≡ whole →
       whole ≡ Err (refusals.ScriptFault (max 1 (n - 1)))
   no_pool_line s n text whole e z none w =
-      sym w ∙ read_last s n text e ∙ finish_end s.limits s n text z
-      ∙ ap (λ (o : Option Limits). finish o s n []) none
+      sym w ∙ read_last s n text e ∙ finish_end s.numbers s n text z
+      ∙ ap (λ (o : Option PoolNumbers). finish o s n []) none
 
   -- a text that ends behind its pool line is read as what its lines told
-  pub whole_script : (s : State C) (n : ℕ) (text : List ℕ) (limits : Limits)
+  pub whole_script : (s : State C) (n : ℕ) (text : List ℕ) (numbers : PoolNumbers)
       (whole : Result (State C) Refusal) → parts text ≡ parts_of [] text → length text ≡ 0 →
-      s.limits ≡ Some limits → read_from lexicon s n text ≡ whole → whole ≡ Ok s
-  whole_script s n text limits whole e z some w =
-      sym w ∙ read_last s n text e ∙ finish_end s.limits s n text z
-      ∙ ap (λ (o : Option Limits). finish o s n []) some
+      s.numbers ≡ Some numbers → read_from lexicon s n text ≡ whole → whole ≡ Ok s
+  whole_script s n text numbers whole e z some w =
+      sym w ∙ read_last s n text e ∙ finish_end s.numbers s n text z
+      ∙ ap (λ (o : Option PoolNumbers). finish o s n []) some
 
   -- ---- the whole text
 
@@ -178,10 +178,10 @@ module _ {C : Type 0} (lexicon : Lexicon C) where
       cond-false (ltb 1048576 (length bytes)) (Err (refusals.ScriptFault 0)) (read_from lexicon start 1 bytes)
       (le-ltb 1048576 (length bytes) le)
 
-  -- what was told are these limits and these lines, by their parts
-  pub same_state : (s : State C) (limits : Limits) (lines : List (Line C)) (whole : Result (State C) Refusal) →
-      s.limits ≡ Some limits → lines ≡ s.lines → whole ≡ Ok s →
-      whole ≡ Ok (record { limits = Some limits; lines = lines })
-  same_state s limits lines whole e f w =
-      w ∙ ap (λ (o : Option Limits). Ok (record { limits = o; lines = s.lines })) e
-      ∙ ap (λ (ls : List (Line C)). Ok (record { limits = Some limits; lines = ls })) (sym f)
+  -- what was told are these numbers and these lines, by their parts
+  pub same_state : (s : State C) (numbers : PoolNumbers) (lines : List (Line C)) (whole : Result (State C) Refusal) →
+      s.numbers ≡ Some numbers → lines ≡ s.lines → whole ≡ Ok s →
+      whole ≡ Ok (record { numbers = Some numbers; lines = lines })
+  same_state s numbers lines whole e f w =
+      w ∙ ap (λ (o : Option PoolNumbers). Ok (record { numbers = o; lines = s.lines })) e
+      ∙ ap (λ (ls : List (Line C)). Ok (record { numbers = Some numbers; lines = ls })) (sym f)

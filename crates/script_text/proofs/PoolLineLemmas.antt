@@ -1,16 +1,16 @@
--- The pool line's limits are those that the reading function gives, and no others.
+-- The pool line's numbers are those that the reading function gives, and no others.
 use Rattle.std.proofs.Common.{◌≡◌, ℕ, true, false, List, [], ◌∷◌, Option, Some, None, refl, sym, ap, ◌∙◌, subst, inl, inr}
 use Rattle.std.specs.Prelude.{option_and_then, is_some, codes}
 use Rattle.std.specs.Str.{bytes_eq}
 use Rattle.std.proofs.lemmas.Bool.{cond-true, cond-false, cases_Bool, false≢true}
 use Rattle.std.proofs.lemmas.Slice.Eq.{bytes_eq-Decides}
-use Rattle.commons.specs.declared.limits.Limits.{Limits}
 use Rattle.script_text.specs.declared.commands.Key.{Key}
-use Rattle.script_text.specs.declared.commands.Key.TheVariants.{Cache, Workers, Desks, Buf, Refs, Tries, Start}
+use Rattle.script_text.specs.declared.commands.Key.TheVariants.{Cache, Workers, Desks, Buf, Refs, Tries, Start, Rule}
+use Rattle.script_text.specs.declared.pool_line.PoolNumbers.{PoolNumbers}
 use Rattle.script_text.specs.declared.pool_line.Settings.{Settings}
 use Rattle.script_text.specs.Numbers.{IsNumber}
-use Rattle.script_text.specs.PoolLine.{key_word, same_key, ArePairs, first_number, AreOnce, limits_with, IsPoolLine}
-use Rattle.script_text.specs.inside.Reading.{number_at, keys, key_at, value_of, value_with, with_value, none_given, add_value, add_pair, settings_from, limits_by, pool_with, limits_from}
+use Rattle.script_text.specs.PoolLine.{key_word, same_key, ArePairs, first_number, AreOnce, numbers_with, IsPoolLine}
+use Rattle.script_text.specs.inside.Reading.{number_at, keys, key_at, value_of, value_with, with_value, none_given, add_value, add_pair, settings_from, numbers_by, pool_with, numbers_from}
 use Rattle.script_text.proofs.NumberLemmas.{number_from, number_is}
 use Rattle.script_text.proofs.SettingsLemmas.{no_settings, no_number, one_pair, with_pair}
 use Rattle.script_text.proofs.FoundLemmas.{and_then_some, found_is, if_some, if_none, spelled_from}
@@ -29,6 +29,7 @@ key_at-key_word Buf = refl
 key_at-key_word Refs = refl
 key_at-key_word Tries = refl
 key_at-key_word Start = refl
+key_at-key_word Rule = refl
 
 -- keys with the same word are the same
 same_key-true : (a b : Key) → same_key a b ≡ true → a ≡ b
@@ -49,6 +50,7 @@ with-each settings key Buf value = refl
 with-each settings key Refs value = refl
 with-each settings key Tries value = refl
 with-each settings key Start value = refl
+with-each settings key Rule value = refl
 
 -- a key that was given a value has it
 with-same : (settings : Settings) (key : Key) (value : ℕ) → value_of (with_value settings key value) key ≡ Some value
@@ -231,7 +233,7 @@ settings_go ((key, value) ∷ pairs) words settings p once free =
       AreWith-more settings key value pairs more.0 once.0 more.2,
     )
 
--- ---- the limits
+-- ---- the numbers
 
 -- a value or nothing is that value
 or_none : (o : Option ℕ) → or_else o None ≡ o
@@ -247,11 +249,12 @@ none_value Buf = refl
 none_value Refs = refl
 none_value Tries = refl
 none_value Start = refl
+none_value Rule = refl
 
--- each limit is the number that the pairs give its key, or its default
-limits_same : (population : ℕ) (pairs : List (Key × ℕ)) (settings : Settings) →
-    AreWith none_given pairs settings → limits_by population settings ≡ limits_with population pairs
-limits_same population pairs settings h =
+-- each number is the one that the pairs give its key, or its default
+numbers_same : (population : ℕ) (pairs : List (Key × ℕ)) (settings : Settings) →
+    AreWith none_given pairs settings → numbers_by population settings ≡ numbers_with population pairs
+numbers_same population pairs settings h =
     let cache : settings.cache ≡ first_number Cache pairs = h Cache ∙ or_none (first_number Cache pairs) in
     let workers : settings.workers ≡ first_number Workers pairs = h Workers ∙ or_none (first_number Workers pairs) in
     let desks : settings.desks ≡ first_number Desks pairs = h Desks ∙ or_none (first_number Desks pairs) in
@@ -259,18 +262,19 @@ limits_same population pairs settings h =
     let refs : settings.refs ≡ first_number Refs pairs = h Refs ∙ or_none (first_number Refs pairs) in
     let tries : settings.tries ≡ first_number Tries pairs = h Tries ∙ or_none (first_number Tries pairs) in
     let start : settings.start ≡ first_number Start pairs = h Start ∙ or_none (first_number Start pairs) in
-    rw (cache, workers, desks, buf, refs, tries, start) refl
+    let rule : settings.rule ≡ first_number Rule pairs = h Rule ∙ or_none (first_number Rule pairs) in
+    rw (cache, workers, desks, buf, refs, tries, start, rule) refl
 
--- behind `pool` stand a number and then pairs, of which the limits are made
-pool_from_words : (word : List ℕ) (words : List (List ℕ)) (limits : Limits) → word ≡ codes "pool" →
-    pool_with words ≡ Some limits → IsPoolLine (word ∷ words) limits
-pool_from_words word [] limits e f = absurd cc
-pool_from_words word (number ∷ words) limits e f =
+-- behind `pool` stand a number and then pairs, of which the numbers are made
+pool_from_words : (word : List ℕ) (words : List (List ℕ)) (numbers : PoolNumbers) → word ≡ codes "pool" →
+    pool_with words ≡ Some numbers → IsPoolLine (word ∷ words) numbers
+pool_from_words word [] numbers e f = absurd cc
+pool_from_words word (number ∷ words) numbers e f =
     let a =
     and_then_some (λ population.
-    option_and_then (λ settings. Some (limits_by population settings))
-    (settings_from none_given words)) (number_at number) limits f in
-    let b = and_then_some (λ settings. Some (limits_by a.0 settings)) (settings_from none_given words) limits a.2 in
+    option_and_then (λ settings. Some (numbers_by population settings))
+    (settings_from none_given words)) (number_at number) numbers f in
+    let b = and_then_some (λ settings. Some (numbers_by a.0 settings)) (settings_from none_given words) numbers a.2 in
     let c = settings_come words none_given b.0 b.1 in
     record {
       number = number;
@@ -281,24 +285,24 @@ pool_from_words word (number ∷ words) limits e f =
       population_is = number_from number a.0 a.1;
       pairs_are = c.are_pairs;
       once = c.once;
-      limits_are = sym (found_is (limits_by a.0 b.0) limits b.2) ∙ limits_same a.0 c.pairs b.0 c.are_with;
+      numbers_are = sym (found_is (numbers_by a.0 b.0) numbers b.2) ∙ numbers_same a.0 c.pairs b.0 c.are_with;
     }
 
 -- words that are read as a pool line begin with `pool`
-pub pool_line_from : (words : List (List ℕ)) (limits : Limits) → limits_from words ≡ Some limits →
-    IsPoolLine words limits
-pool_line_from [] limits e = absurd cc
-pool_line_from (word ∷ words) limits e =
-    let a = if_some (bytes_eq word (codes "pool")) (pool_with words) limits e in
-    pool_from_words word words limits ((bytes_eq-Decides word (codes "pool")).0 a.0) a.1
+pub pool_line_from : (words : List (List ℕ)) (numbers : PoolNumbers) → numbers_from words ≡ Some numbers →
+    IsPoolLine words numbers
+pool_line_from [] numbers e = absurd cc
+pool_line_from (word ∷ words) numbers e =
+    let a = if_some (bytes_eq word (codes "pool")) (pool_with words) numbers e in
+    pool_from_words word words numbers ((bytes_eq-Decides word (codes "pool")).0 a.0) a.1
 
--- a pool line of the grammar is read as its limits
-pub pool_line_is : (words : List (List ℕ)) (limits : Limits) → IsPoolLine words limits → limits_from words ≡ Some limits
-pool_line_is words limits h =
+-- a pool line of the grammar is read as its numbers
+pub pool_line_is : (words : List (List ℕ)) (numbers : PoolNumbers) → IsPoolLine words numbers → numbers_from words ≡ Some numbers
+pool_line_is words numbers h =
     let s = settings_go h.pairs h.rest none_given h.pairs_are h.once (λ key value f. none_value key) in
-    ap limits_from h.words_are
+    ap numbers_from h.words_are
     ∙ ap (option_and_then (λ population.
-    option_and_then (λ settings. Some (limits_by population settings))
+    option_and_then (λ settings. Some (numbers_by population settings))
     (settings_from none_given h.rest))) (number_is h.number h.population h.population_is)
-    ∙ ap (option_and_then (λ settings. Some (limits_by h.population settings))) s.1
-    ∙ ap (λ (l : Limits). Some l) (limits_same h.population h.pairs s.0 s.2 ∙ sym h.limits_are)
+    ∙ ap (option_and_then (λ settings. Some (numbers_by h.population settings))) s.1
+    ∙ ap (λ (n : PoolNumbers). Some n) (numbers_same h.population h.pairs s.0 s.2 ∙ sym h.numbers_are)

@@ -1,21 +1,22 @@
 -- What the bytes are read as is a script of the grammar, or its first fault, and no script of the grammar is read otherwise.
 use Rattle.std.proofs.Common.{◌≡◌, ◌≢◌, ℕ, ◌+◌, ◌-◌, max, true, false, List, [], ◌∷◌, ◌++◌, length, Option, Some, None, Result, Ok, Err, refl, sym, ap, ◌∙◌, subst, append_assoc, arith, inl, inr}
-use Rattle.std.specs.Prelude.{◌⊎◌, IfOk, IfErr, MatchResult}
+use Rattle.std.specs.Prelude.{◌⊎◌, IfSome, IfOk, IfErr, MatchResult}
 use Rattle.std.proofs.lemmas.Bool.{cases_Bool, cases_lt, both_ways, false_from_ne_true, cond-true, cond-false}
 use Rattle.std.proofs.lemmas.List.{length_push}
-use Rattle.commons.specs.Bounds.{IsPool}
 use Rattle.commons.specs.declared.limits.Limits.{Limits}
 use Rattle.commons.specs.declared.refusal.Refusal.{Refusal}
 use Rattle.commons.specs.declared.refusal.Refusal.TheVariants as refusals
 use Rattle.script_text.specs.declared.lines.Line.{Line}
 use Rattle.script_text.specs.declared.lines.Script.{Script}
+use Rattle.script_text.specs.declared.pool_line.PoolNumbers.{PoolNumbers}
+use Rattle.script_text.specs.PoolLine.{IsSomePool, numbers_of}
 use Rattle.script_text.specs.Text.{AreLines}
-use Rattle.script_text.specs.Scripts.{State, start, Reads, IsReady, AreRead, IsShort, IsScript, Reaches, IsFirstFault, too_long, no_reading, unfinished, no_pool, HasBadPool, IsCause}
+use Rattle.script_text.specs.Scripts.{State, start, Reads, IsReady, AreRead, IsShort, IsScript, Reaches, IsFirstFault, too_long, no_reading, unfinished, no_pool, HasBadPool, IsCause, IsSomeScript}
 use Rattle.script_text.specs.inside.Reading.{parts, is_pool}
 use Rattle.script_text.specs.inside.ScriptReading.{Lexicon, are_ready, read_line, judged_as, judged, finish, goes_on, read_lines, read_from, read_text}
 use Rattle.script_text.specs.inside.Agreement.{Fails, Gives}
 use Rattle.script_text.proofs.LineLemmas.{parts_are, lines_once}
-use Rattle.script_text.proofs.PoolLemmas.{pool_is, pool_from, ready_is, ready_from}
+use Rattle.script_text.proofs.PoolLemmas.{limits_once, pool_is, pool_from, ready_is, ready_from}
 use Rattle.script_text.proofs.GrammarLemmas.{reads_from, reads_is}
 use Rattle.script_text.proofs.JudgedLemmas.{judged_ok, judged_bad, text_too_long, text_short}
 use Rattle.script_text.proofs.FoundLemmas.{found_is}
@@ -38,24 +39,24 @@ module _ {C : Type 0} (lexicon : Lexicon C) (right : IsRight lexicon) where
 
   -- ---- one line
 
-  -- the line has this reading, and a pool can be made within its limits
+  -- the line has this reading, and a pool has its numbers
   record IsJudged (state next : State C) (number : ℕ) (line : List ℕ) : Type 0 where
     reads : Reads lexicon.language state number line next
     ready : IsReady next
 
-  -- only a reading whose limits, if told, are a pool's isn't refused
+  -- only a reading whose numbers, if told, are a pool's isn't refused
   judged_gives : (o : Option (State C)) (number : ℕ) (next : State C) → judged_as number o ≡ Ok next →
-      (o ≡ Some next) × (are_ready next.limits ≡ true)
+      (o ≡ Some next) × (are_ready next.numbers ≡ true)
   judged_gives None number next e = absurd cc
-  judged_gives (Some other) number next e = elim (cases_Bool (are_ready other.limits)) [
+  judged_gives (Some other) number next e = elim (cases_Bool (are_ready other.numbers)) [
     | inl ready ↦
         let same : other ≡ next =
         ok_is other next
-        (sym (cond-true (are_ready other.limits) (Ok other) (Err refusals.BadPool) ready) ∙ e)
+        (sym (cond-true (are_ready other.numbers) (Ok other) (Err refusals.BadPool) ready) ∙ e)
         in
-        (ap (λ (s : State C). Some s) same, ap (λ (s : State C). are_ready s.limits) (sym same) ∙ ready)
+        (ap (λ (s : State C). Some s) same, ap (λ (s : State C). are_ready s.numbers) (sym same) ∙ ready)
     | inr bad ↦ let clash : read_err refusals.BadPool ≡ read_ok next =
-        sym (cond-false (are_ready other.limits) (Ok other) (Err refusals.BadPool) bad)
+        sym (cond-false (are_ready other.numbers) (Ok other) (Err refusals.BadPool) bad)
         ∙ e in absurd cc
   ]
 
@@ -66,25 +67,25 @@ module _ {C : Type 0} (lexicon : Lexicon C) (right : IsRight lexicon) where
   unfolding judged
   judged_from state next number line e =
       let h = judged_gives (read_line lexicon state number line) number next e in
-      record { reads = reads_from lexicon right state next number line h.0; ready = ready_from next.limits h.1 }
+      record { reads = reads_from lexicon right state next number line h.0; ready = ready_from next.numbers h.1 }
 
   -- a line's reading in the grammar, ready to be a pool's, is what is told after it
   judged_is : (state next : State C) (number : ℕ) (line : List ℕ) → Reads lexicon.language state number line next →
       IsReady next → judged lexicon state number line ≡ Ok next
   judged_is state next number line reads ready =
       judged_ok lexicon state next number line (reads_is lexicon right state next number line reads)
-      (ready_is next.limits ready)
+      (ready_is next.numbers ready)
 
-  -- a line is refused where it has no reading, or where the limits are no pool's
+  -- a line is refused where it has no reading, or where the numbers are no pool's
   judged_refuses : (o : Option (State C)) (number : ℕ) (refusal : Refusal) →
       judged_as number o ≡ Err refusal →
       ((o ≡ None) × (refusals.ScriptFault number ≡ refusal))
-      ⊎ ((next : State C) × (o ≡ Some next) × (are_ready next.limits ≡ false)
+      ⊎ ((next : State C) × (o ≡ Some next) × (are_ready next.numbers ≡ false)
       × (refusals.BadPool ≡ refusal))
   judged_refuses None number refusal e = inl (refl, err_is (refusals.ScriptFault number) refusal e)
-  judged_refuses (Some next) number refusal e = elim (cases_Bool (are_ready next.limits)) [
+  judged_refuses (Some next) number refusal e = elim (cases_Bool (are_ready next.numbers)) [
     | inl ready ↦ let clash : read_ok next ≡ read_err refusal =
-        sym (cond-true (are_ready next.limits) (Ok next) (Err refusals.BadPool) ready)
+        sym (cond-true (are_ready next.numbers) (Ok next) (Err refusals.BadPool) ready)
         ∙ e in absurd cc
     | inr bad ↦
         inr (
@@ -92,45 +93,45 @@ module _ {C : Type 0} (lexicon : Lexicon C) (right : IsRight lexicon) where
           refl,
           bad,
           err_is refusals.BadPool refusal
-              (sym (cond-false (are_ready next.limits) (Ok next) (Err refusals.BadPool) bad) ∙ e),
+              (sym (cond-false (are_ready next.numbers) (Ok next) (Err refusals.BadPool) bad) ∙ e),
         )
   ]
 
   -- ---- lines one after another
 
   -- lines that are read in the grammar are read so, one after another
-  lines_is : (lines : List (List ℕ)) (state last : State C) (number : ℕ) (limits : Limits) →
-      AreRead lexicon.language state number lines last → last.limits ≡ Some limits →
+  lines_is : (lines : List (List ℕ)) (state last : State C) (number : ℕ) (numbers : PoolNumbers) →
+      AreRead lexicon.language state number lines last → last.numbers ≡ Some numbers →
       read_lines lexicon state number lines [] ≡ Ok last
   unfolding read_lines
-  lines_is [] state last number limits h e =
-      ap (λ (o : Option Limits). finish o state number []) (ap (λ (s : State C). s.limits) (sym h) ∙ e) ∙ ap read_ok (sym h)
-  lines_is (line ∷ lines) state last number limits h e =
+  lines_is [] state last number numbers h e =
+      ap (λ (o : Option PoolNumbers). finish o state number []) (ap (λ (s : State C). s.numbers) (sym h) ∙ e) ∙ ap read_ok (sym h)
+  lines_is (line ∷ lines) state last number numbers h e =
       ap (λ (r : Result (State C) Refusal). goes_on r (λ next. read_lines lexicon next (number + 1) lines []))
       (judged_is state h.0 number line h.1 h.2)
-      ∙ lines_is lines h.0 last (number + 1) limits h.3 e
+      ∙ lines_is lines h.0 last (number + 1) numbers h.3 e
 
   -- what a reading of lines says
   record ReadAll (state last : State C) (number : ℕ) (lines : List (List ℕ)) (rest : List ℕ) : Type 0 where
     are_read : AreRead lexicon.language state number lines last
     none : rest ≡ []
-    limits : Limits
-    limits_are : last.limits ≡ Some limits
+    numbers : PoolNumbers
+    numbers_are : last.numbers ≡ Some numbers
 
   -- a text ends well where nothing is left behind its last line and a pool line was read
-  finish_from : (o : Option Limits) (state last : State C) (number : ℕ) (rest : List ℕ) →
-      state.limits ≡ o → finish o state number rest ≡ Ok last → ReadAll state last number [] rest
+  finish_from : (o : Option PoolNumbers) (state last : State C) (number : ℕ) (rest : List ℕ) →
+      state.numbers ≡ o → finish o state number rest ≡ Ok last → ReadAll state last number [] rest
   finish_from None state last number [] some e = absurd cc
-  finish_from (Some limits) state last number [] some e =
+  finish_from (Some numbers) state last number [] some e =
       let same = ok_is state last e in
       record {
         are_read = sym same;
         none = refl;
-        limits = limits;
-        limits_are = ap (λ (s : State C). s.limits) (sym same) ∙ some;
+        numbers = numbers;
+        numbers_are = ap (λ (s : State C). s.numbers) (sym same) ∙ some;
       }
   finish_from None state last number (byte ∷ rest) some e = absurd cc
-  finish_from (Some limits) state last number (byte ∷ rest) some e = absurd cc
+  finish_from (Some numbers) state last number (byte ∷ rest) some e = absurd cc
 
   -- what came of going on came of what wasn't refused
   goes_from : (r : Result (State C) Refusal) (f : State C → Result (State C) Refusal) (last : State C) →
@@ -138,11 +139,11 @@ module _ {C : Type 0} (lexicon : Lexicon C) (right : IsRight lexicon) where
   goes_from (Ok next) f last e = (next, refl, e)
   goes_from (Err refusal) f last e = absurd cc
 
-  -- lines that are read to the end each have a reading, and the limits are told
+  -- lines that are read to the end each have a reading, and a pool's numbers are told
   lines_from : (lines : List (List ℕ)) (state last : State C) (number : ℕ) (rest : List ℕ) →
       read_lines lexicon state number lines rest ≡ Ok last → ReadAll state last number lines rest
   unfolding read_lines
-  lines_from [] state last number rest e = finish_from state.limits state last number rest refl e
+  lines_from [] state last number rest e = finish_from state.numbers state last number rest refl e
   lines_from (line ∷ lines) state last number rest e =
       let a = goes_from (judged lexicon state number line) (λ next. read_lines lexicon next (number + 1) lines rest) last e in
       let one = judged_from state a.0 number line a.1 in
@@ -150,8 +151,8 @@ module _ {C : Type 0} (lexicon : Lexicon C) (right : IsRight lexicon) where
       record {
         are_read = (a.0, one.reads, one.ready, more.are_read);
         none = more.none;
-        limits = more.limits;
-        limits_are = more.limits_are;
+        numbers = more.numbers;
+        numbers_are = more.numbers_are;
       }
 
   -- ---- what comes first
@@ -196,19 +197,20 @@ module _ {C : Type 0} (lexicon : Lexicon C) (right : IsRight lexicon) where
         place;
   }
 
-  -- limits that don't pass the test are there, and no pool can be made within them
-  bad_limits : (o : Option Limits) → are_ready o ≡ false → (limits : Limits) × (o ≡ Some limits) × (IsPool limits → ⊥)
-  bad_limits None e = absurd cc
-  bad_limits (Some limits) e = (limits, refl, λ pool. both_ways (is_pool limits) e (pool_is limits pool))
+  -- numbers that don't pass the test are there, and no pool has them
+  bad_numbers : (o : Option PoolNumbers) → are_ready o ≡ false →
+      (numbers : PoolNumbers) × (o ≡ Some numbers) × (IsSomePool numbers → ⊥)
+  bad_numbers None e = absurd cc
+  bad_numbers (Some numbers) e = (numbers, refl, λ pool. both_ways (is_pool numbers) e (pool_is numbers pool))
 
   -- a text ends badly where its last line isn't ended, or where every line is skipped
-  finish_cause : (o : Option Limits) (bytes : List ℕ) (state : State C) (number : ℕ) (rest : List ℕ)
-      (refusal : Refusal) → IsShort bytes → state.limits ≡ o → Reaches lexicon.language bytes state number [] rest →
+  finish_cause : (o : Option PoolNumbers) (bytes : List ℕ) (state : State C) (number : ℕ) (rest : List ℕ)
+      (refusal : Refusal) → IsShort bytes → state.numbers ≡ o → Reaches lexicon.language bytes state number [] rest →
       finish o state number rest ≡ Err refusal → IsCause lexicon.language bytes refusal
   finish_cause None bytes state number [] refusal short none reached e =
       subst (IsCause lexicon.language bytes) (err_is (refusals.ScriptFault (max 1 (number - 1))) refusal e)
-      (no_pool short (record { state = state; behind = number; reached = reached; no_limits = none; number_is = refl }))
-  finish_cause (Some limits) bytes state number [] refusal short some reached e = absurd cc
+      (no_pool short (record { state = state; behind = number; reached = reached; no_numbers = none; number_is = refl }))
+  finish_cause (Some numbers) bytes state number [] refusal short some reached e = absurd cc
   finish_cause None bytes state number (byte ∷ rest) refusal short none reached e =
       subst (IsCause lexicon.language bytes) (err_is (refusals.ScriptFault number) refusal e)
       (unfinished short (record {
@@ -217,7 +219,7 @@ module _ {C : Type 0} (lexicon : Lexicon C) (right : IsRight lexicon) where
         reached = reached;
         some = λ nothing. let clash = nothing in absurd cc;
       }))
-  finish_cause (Some limits) bytes state number (byte ∷ rest) refusal short some reached e =
+  finish_cause (Some numbers) bytes state number (byte ∷ rest) refusal short some reached e =
       subst (IsCause lexicon.language bytes) (err_is (refusals.ScriptFault number) refusal e)
       (unfinished short (record {
         state = state;
@@ -250,7 +252,7 @@ module _ {C : Type 0} (lexicon : Lexicon C) (right : IsRight lexicon) where
           none = λ next reads. let clash = sym h.0 ∙ reads_is lexicon right state next number line reads in absurd cc;
         }))
         | inr h ↦
-            let bad = bad_limits h.0.limits h.2 in
+            let bad = bad_numbers h.0.numbers h.2 in
             subst (IsCause lexicon.language bytes) h.3 (record {
               short = short;
               state = state;
@@ -261,8 +263,8 @@ module _ {C : Type 0} (lexicon : Lexicon C) (right : IsRight lexicon) where
               reached = reached;
               next = h.0;
               reads = reads_from lexicon right state h.0 number line h.1;
-              limits = bad.0;
-              limits_are = bad.1;
+              numbers = bad.0;
+              numbers_are = bad.1;
               bad = bad.2;
             })
       ]
@@ -273,7 +275,7 @@ module _ {C : Type 0} (lexicon : Lexicon C) (right : IsRight lexicon) where
       read_lines lexicon state number lines rest ≡ Err refusal → IsCause lexicon.language bytes refusal
   unfolding read_lines
   lines_cause [] bytes state number rest refusal short reached e =
-      finish_cause state.limits bytes state number rest refusal short refl reached e
+      finish_cause state.numbers bytes state number rest refusal short refl reached e
   lines_cause (line ∷ lines) bytes state number rest refusal short reached e =
       elim (goes_cause (judged lexicon state number line) (λ next. read_lines lexicon next (number + 1) lines rest) refusal e) [
         | inl h ↦ judged_cause bytes state number line lines rest refusal short reached h
@@ -287,7 +289,7 @@ module _ {C : Type 0} (lexicon : Lexicon C) (right : IsRight lexicon) where
 
   -- what is read of a text is read of its lines, within the length that a script has
   pub script_from : (bytes : List ℕ) (limits : Limits) (lines : List (Line C)) →
-      read_text lexicon bytes ≡ Ok (record { limits = Some limits; lines = lines }) →
+      read_text lexicon bytes ≡ Ok (record { numbers = Some (numbers_of limits); lines = lines }) →
       IsScript lexicon.language bytes limits lines
   unfolding read_from
   script_from bytes limits lines e =
@@ -295,7 +297,7 @@ module _ {C : Type 0} (lexicon : Lexicon C) (right : IsRight lexicon) where
         | inl long ↦ let clash = sym (text_too_long lexicon bytes long) ∙ e in absurd cc
         | inr short ↦
             let h =
-            lines_from (parts bytes).lines start (record { limits = Some limits; lines = lines })
+            lines_from (parts bytes).lines start (record { numbers = Some (numbers_of limits); lines = lines })
             1 (parts bytes).rest (sym (text_short lexicon bytes short) ∙ e) in
             record {
               short = short;
@@ -305,15 +307,45 @@ module _ {C : Type 0} (lexicon : Lexicon C) (right : IsRight lexicon) where
             }
       ]
 
+  -- lines that are read leave what a pool has
+  ready_after : (lines : List (List ℕ)) (state last : State C) (number : ℕ) →
+      AreRead lexicon.language state number lines last → IsReady state → IsReady last
+  ready_after [] state last number h ready = subst (λ (s : State C). IsReady s) (sym h) ready
+  ready_after (line ∷ lines) state last number h ready = ready_after lines h.0 last (number + 1) h.3 h.2
+
+  -- what is read of a text is some script: the numbers that are told are a pool's
+  pub some_script : (bytes : List ℕ) (state : State C) → read_text lexicon bytes ≡ Ok state →
+      IsSomeScript lexicon.language bytes
+  unfolding read_from
+  some_script bytes state e =
+      elim (cases_lt 1048576 (length bytes)) [
+        | inl long ↦ let clash = sym (text_too_long lexicon bytes long) ∙ e in absurd cc
+        | inr short ↦
+            let h =
+            lines_from (parts bytes).lines start state 1 (parts bytes).rest
+            (sym (text_short lexicon bytes short) ∙ e) in
+            let ready = ready_after (parts bytes).lines start state 1 h.are_read tt in
+            let pool : IsSomePool h.numbers =
+            subst (λ (o : Option PoolNumbers). IfSome o IsSomePool) h.numbers_are ready in
+            record {
+              limits = pool.limits;
+              lines = state.lines;
+              script =
+                  script_from bytes pool.limits state.lines
+                  (e ∙ ap (λ (o : Option PoolNumbers). Ok (record { numbers = o; lines = state.lines }))
+                  (h.numbers_are ∙ ap (λ (n : PoolNumbers). Some n) pool.numbers_are));
+            }
+      ]
+
   -- a text has one reading as lines, and each line one reading, so a script is read as itself
   pub script_is : (bytes : List ℕ) (limits : Limits) (lines : List (Line C)) →
       IsScript lexicon.language bytes limits lines →
-      read_text lexicon bytes ≡ Ok (record { limits = Some limits; lines = lines })
+      read_text lexicon bytes ≡ Ok (record { numbers = Some (numbers_of limits); lines = lines })
   unfolding read_from
   script_is bytes limits lines h =
       text_short lexicon bytes h.short
       ∙ ap (λ p. read_lines lexicon start 1 p.lines p.rest) (lines_once bytes h.texts [] h.are_lines)
-      ∙ lines_is h.texts start (record { limits = Some limits; lines = lines }) 1 limits h.read
+      ∙ lines_is h.texts start (record { numbers = Some (numbers_of limits); lines = lines }) 1 (numbers_of limits) h.read
       refl
 
   -- a text that is too long has the fault 0, and else the first refused line or the end is the cause
@@ -371,7 +403,7 @@ module _ {C : Type 0} (lexicon : Lexicon C) (right : IsRight lexicon) where
       e
 
   -- bytes behind the last line end are a fault of that line
-  finish_some : (o : Option Limits) (state : State C) (number : ℕ) (rest : List ℕ) → rest ≢ [] →
+  finish_some : (o : Option PoolNumbers) (state : State C) (number : ℕ) (rest : List ℕ) → rest ≢ [] →
       finish o state number rest ≡ Err (refusals.ScriptFault number)
   finish_some o state number [] some = absurd (some refl)
   finish_some o state number (byte ∷ rest) some = refl
@@ -391,14 +423,14 @@ module _ {C : Type 0} (lexicon : Lexicon C) (right : IsRight lexicon) where
       unread_as (read_line lexicon state number line) number
       (λ next e. none next (reads_from lexicon right state next number line e))
 
-  -- a line whose limits are no pool's is refused as a bad pool
-  bad_judged : (state next : State C) (number : ℕ) (line : List ℕ) (limits : Limits) →
-      Reads lexicon.language state number line next → next.limits ≡ Some limits → (IsPool limits → ⊥) →
+  -- a line whose numbers are no pool's is refused as a bad pool
+  bad_judged : (state next : State C) (number : ℕ) (line : List ℕ) (numbers : PoolNumbers) →
+      Reads lexicon.language state number line next → next.numbers ≡ Some numbers → (IsSomePool numbers → ⊥) →
       judged lexicon state number line ≡ Err refusals.BadPool
-  bad_judged state next number line limits reads e bad =
+  bad_judged state next number line numbers reads e bad =
       judged_bad lexicon state next number line (reads_is lexicon right state next number line reads)
       (ap are_ready e
-      ∙ false_from_ne_true (is_pool limits) (λ ready. bad (pool_from limits ready)))
+      ∙ false_from_ne_true (is_pool numbers) (λ ready. bad (pool_from numbers ready)))
 
   -- the first fault of the bytes is what they are read as
   pub fault_is : (bytes : List ℕ) (number : ℕ) → IsFirstFault lexicon.language bytes number →
@@ -411,17 +443,17 @@ module _ {C : Type 0} (lexicon : Lexicon C) (right : IsRight lexicon) where
       h.reached (unread_judged h.state number h.line h.none)
   fault_is bytes number (unfinished short h) =
       reached_text bytes h.state number [] h.rest short h.reached
-      ∙ finish_some h.state.limits h.state number h.rest h.some
+      ∙ finish_some h.state.numbers h.state number h.rest h.some
   fault_is bytes number (no_pool short h) =
       reached_text bytes h.state h.behind [] [] short h.reached
-      ∙ ap (λ (o : Option Limits). finish o h.state h.behind []) h.no_limits
+      ∙ ap (λ (o : Option PoolNumbers). finish o h.state h.behind []) h.no_numbers
       ∙ ap (λ (n : ℕ). Err (refusals.ScriptFault n)) (sym h.number_is)
 
-  -- the lines before the pool line are read, and its limits are no pool's
+  -- the lines before the pool line are read, and its numbers are no pool's
   pub bad_pool_is : (bytes : List ℕ) → HasBadPool lexicon.language bytes → read_text lexicon bytes ≡ Err refusals.BadPool
   bad_pool_is bytes h =
       reached_line bytes h.state h.number h.line h.left h.rest refusals.BadPool h.short h.reached
-      (bad_judged h.state h.next h.number h.line h.limits h.reads h.limits_are h.bad)
+      (bad_judged h.state h.next h.number h.line h.numbers h.reads h.numbers_are h.bad)
 
   -- a refusal for want of memory needs no cause, and each other one is the text's
   cause_of : (refusal : Refusal) (bytes : List ℕ) → Fails refusal (read_text lexicon bytes) → IsCause lexicon.language bytes refusal
@@ -452,12 +484,15 @@ module _ {C : Type 0} (lexicon : Lexicon C) (right : IsRight lexicon) where
       (λ refusal. refusal ≡ refusals.OutOfMemory)
   only_one (Ok script) bytes limits lines h given =
       let same =
-      ok_is (record { limits = Some script.limits; lines = script.lines })
-      (record { limits = Some limits; lines = lines })
-      (sym given ∙ script_is bytes limits lines h) in
-      (found_is script.limits limits (ap (λ (s : State C). s.limits) same), ap (λ (s : State C). s.lines) same)
+      ok_is (record { numbers = Some (numbers_of script.limits); lines = script.lines })
+      (record { numbers = Some (numbers_of limits); lines = lines })
+      (sym given ∙ script_is bytes limits lines h) in (
+        limits_once script.limits limits
+            (found_is (numbers_of script.limits) (numbers_of limits) (ap (λ (s : State C). s.numbers) same)),
+        ap (λ (s : State C). s.lines) same,
+      )
   only_one (Err refusal) bytes limits lines h given =
-      fails_ok refusal (record { limits = Some limits; lines = lines })
+      fails_ok refusal (record { numbers = Some (numbers_of limits); lines = lines })
       (subst (Fails refusal) (script_is bytes limits lines h) given)
 
   -- ---- laws
@@ -468,10 +503,13 @@ module _ {C : Type 0} (lexicon : Lexicon C) (right : IsRight lexicon) where
       (limits ≡ other_limits) × (lines ≡ other_lines)
   one_script bytes limits other_limits lines other_lines h k =
       let same =
-      ok_is (record { limits = Some limits; lines = lines })
-      (record { limits = Some other_limits; lines = other_lines })
-      (sym (script_is bytes limits lines h) ∙ script_is bytes other_limits other_lines k) in
-      (found_is limits other_limits (ap (λ (s : State C). s.limits) same), ap (λ (s : State C). s.lines) same)
+      ok_is (record { numbers = Some (numbers_of limits); lines = lines })
+      (record { numbers = Some (numbers_of other_limits); lines = other_lines })
+      (sym (script_is bytes limits lines h) ∙ script_is bytes other_limits other_lines k) in (
+        limits_once limits other_limits
+            (found_is (numbers_of limits) (numbers_of other_limits) (ap (λ (s : State C). s.numbers) same)),
+        ap (λ (s : State C). s.lines) same,
+      )
 
   -- a text is refused with one number, so two first faults have the same
   pub one_line : (bytes : List ℕ) (number other : ℕ) → IsFirstFault lexicon.language bytes number →

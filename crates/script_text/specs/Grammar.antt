@@ -21,7 +21,7 @@ IsScript bytes limits lines = scripts.IsScript commands bytes limits lines
 abbrev pub IsFirstFault : List ℕ → ℕ → Type 0
 IsFirstFault bytes number = scripts.IsFirstFault commands bytes number
 
--- the pool line has a reading, as each line before it, and no pool can be made within its limits
+-- the pool line has a reading, as each line before it, and no pool has its numbers
 abbrev pub HasBadPool : List ℕ → Type 0
 HasBadPool bytes = scripts.HasBadPool commands bytes
 

@@ -1,10 +1,13 @@
--- The pool line: which limits its words give.
+-- The pool line: which numbers its words give, and which limits have these.
 use Rattle.std.specs.Prelude.{◌≡◌, ℕ, Bool, if◌then◌else◌, List, [], ◌∷◌, Option, Some, None, unwrap_or, codes}
 use Rattle.std.specs.Str.{bytes_eq}
-use Rattle.commons.specs.Bounds.{max_refs}
+use Rattle.commons.specs.Bounds.{IsPool, max_refs}
 use Rattle.commons.specs.declared.limits.Limits.{Limits}
+use Rattle.commons.specs.declared.limits.PutRule.{PutRule}
+use Rattle.commons.specs.declared.limits.PutRule.TheVariants.{Keep, Whole}
 use Rattle.script_text.specs.declared.commands.Key.{Key}
-use Rattle.script_text.specs.declared.commands.Key.TheVariants.{Cache, Workers, Desks, Buf, Refs, Tries, Start}
+use Rattle.script_text.specs.declared.commands.Key.TheVariants.{Cache, Workers, Desks, Buf, Refs, Tries, Start, Rule}
+use Rattle.script_text.specs.declared.pool_line.PoolNumbers.{PoolNumbers}
 use Rattle.script_text.specs.Numbers.{IsNumber}
 
 -- how a key is written
@@ -16,6 +19,7 @@ key_word Buf = codes "buf"
 key_word Refs = codes "refs"
 key_word Tries = codes "tries"
 key_word Start = codes "start"
+key_word Rule = codes "putrule"
 
 -- whether two keys are the same, which they are where they are written alike
 abbrev pub same_key : Key → Key → Bool
@@ -39,9 +43,9 @@ abbrev pub AreOnce : List (Key × ℕ) → Type 0
 AreOnce [] = Unit {0}
 AreOnce (pair ∷ pairs) = (first_number pair.0 pairs ≡ None) × AreOnce pairs
 
--- the limits of a pool of so many elements; each key that doesn't stand there has its default
-abbrev pub limits_with : ℕ → List (Key × ℕ) → Limits
-limits_with population pairs = record {
+-- the numbers of a pool line with so many elements; each key that doesn't stand there has its default
+abbrev pub numbers_with : ℕ → List (Key × ℕ) → PoolNumbers
+numbers_with population pairs = record {
   population = population;
   cache = unwrap_or (first_number Cache pairs) 0;
   workers = unwrap_or (first_number Workers pairs) 1;
@@ -50,11 +54,12 @@ limits_with population pairs = record {
   ref_limit = unwrap_or (first_number Refs pairs) max_refs;
   tries = unwrap_or (first_number Tries pairs) 64;
   start_count = unwrap_or (first_number Start pairs) 0;
+  put_rule = unwrap_or (first_number Rule pairs) 0;
 }
 
 -- the words are `pool`, the number of elements and pairs of a key and a number, each key once, and
--- give these limits
-pub record IsPoolLine (words : List (List ℕ)) (limits : Limits) : Type 0 where
+-- give these numbers
+pub record IsPoolLine (words : List (List ℕ)) (numbers : PoolNumbers) : Type 0 where
   pub number : List ℕ
   pub population : ℕ
   pub rest : List (List ℕ)
@@ -63,4 +68,29 @@ pub record IsPoolLine (words : List (List ℕ)) (limits : Limits) : Type 0 where
   pub population_is : IsNumber number population
   pub pairs_are : ArePairs rest pairs
   pub once : AreOnce pairs
-  pub limits_are : limits ≡ limits_with population pairs
+  pub numbers_are : numbers ≡ numbers_with population pairs
+
+-- the number of a put rule
+abbrev pub rule_number : PutRule → ℕ
+rule_number Keep = 0
+rule_number Whole = 1
+
+-- the numbers of limits
+abbrev pub numbers_of : Limits → PoolNumbers
+numbers_of l = record {
+  population = l.population;
+  cache = l.cache;
+  workers = l.workers;
+  desks = l.desks;
+  buf = l.buf;
+  ref_limit = l.ref_limit;
+  tries = l.tries;
+  start_count = l.start_count;
+  put_rule = rule_number l.put_rule;
+}
+
+-- a pool has these numbers
+pub record IsSomePool (numbers : PoolNumbers) : Type 0 where
+  pub limits : Limits
+  pub numbers_are : numbers ≡ numbers_of limits
+  pub pool : IsPool limits

@@ -1,14 +1,14 @@
 -- The form of scripts, whatever their lines tell workers to do: which bytes are which script, and
 -- which line is the first faulty one. A step is a command here too.
 use Rattle.std.specs.Prelude.{◌≡◌, ◌≢◌, ℕ, ◌+◌, ◌-◌, ◌<◌, ◌≤◌, ◌⊎◌, max, List, [], ◌∷◌, ◌++◌, length, All, Option, Some, None, IfSome, codes}
-use Rattle.commons.specs.Bounds.{IsPool}
 use Rattle.commons.specs.declared.limits.Limits.{Limits}
 use Rattle.commons.specs.declared.refusal.Refusal.{Refusal}
 use Rattle.commons.specs.declared.refusal.Refusal.TheVariants.{BadPool, OutOfMemory, ScriptFault}
 use Rattle.script_text.specs.declared.lines.Line.{Line}
+use Rattle.script_text.specs.declared.pool_line.PoolNumbers.{PoolNumbers}
 use Rattle.script_text.specs.Numbers.{IsNumber}
 use Rattle.script_text.specs.Text.{AreLines, IsPlain, Spells, IsSkipped}
-use Rattle.script_text.specs.PoolLine.{IsPoolLine}
+use Rattle.script_text.specs.PoolLine.{IsPoolLine, IsSomePool, numbers_of}
 
 -- what the lines of one kind of script say, behind the pool line and a worker's number
 pub record Language (C : Type 0) : Type 1 where
@@ -43,25 +43,25 @@ AreApart (name ∷ names) = (IsOneOf names name → ⊥) × AreApart names
 
 -- ---- what was told
 
--- what the lines so far have told: the limits, if the pool line was read, and the command lines
+-- what the lines so far have told: the pool's numbers, if the pool line was read, and the command lines
 pub record State (C : Type 0) : Type 0 where
-  pub limits : Option Limits
+  pub numbers : Option PoolNumbers
   pub lines : List (Line C)
 
 -- before the first line
 abbrev pub start : {C : Type 0} → State C
-start = record { limits = None; lines = [] }
+start = record { numbers = None; lines = [] }
 
 -- what is told after one command line more
 abbrev pub with_command : {C : Type 0} → State C → ℕ → ℕ → C → State C
 with_command state number worker command = record {
-  limits = state.limits;
+  numbers = state.numbers;
   lines = state.lines ++ record { number = number; worker = worker; command = command } ∷ [];
 }
 
--- a pool can be made within the limits, if they were told
+-- a pool has the numbers, if they were told
 abbrev pub IsReady : {C : Type 0} → State C → Type 0
-IsReady state = IfSome state.limits IsPool
+IsReady state = IfSome state.numbers IsSomePool
 
 -- the bytes are no more than a script has
 abbrev pub IsShort : List ℕ → Type 0
@@ -70,12 +70,12 @@ IsShort bytes = length bytes ≤ 1048576
 module _ {C : Type 0} where
   -- the line is the pool line, which comes before each command
   pub record ReadsPool (before : State C) (line : List ℕ) (after : State C) : Type 0 where
-    pub first : before.limits ≡ None
+    pub first : before.numbers ≡ None
     pub words : List (List ℕ)
     pub spelled : Spells line words
-    pub limits : Limits
-    pub is_pool_line : IsPoolLine words limits
-    pub after_is : after ≡ record { limits = Some limits; lines = before.lines }
+    pub numbers : PoolNumbers
+    pub is_pool_line : IsPoolLine words numbers
+    pub after_is : after ≡ record { numbers = Some numbers; lines = before.lines }
 
 module _ {C : Type 0} (language : Language C) where
   -- the words are a line of this worker, in a pool of so many, with this command
@@ -105,14 +105,14 @@ module _ {C : Type 0} (language : Language C) where
   -- the line is the next command, and the one with this number
   pub record ReadsCommand (before : State C) (number : ℕ) (line : List ℕ)
       (after : State C) : Type 0 where
-    pub limits : Limits
-    pub behind_pool : before.limits ≡ Some limits
+    pub numbers : PoolNumbers
+    pub behind_pool : before.numbers ≡ Some numbers
     pub few : length before.lines < 10000
     pub words : List (List ℕ)
     pub spelled : Spells line words
     pub worker : ℕ
     pub command : C
-    pub is_command_line : IsCommandLine limits.workers words worker command
+    pub is_command_line : IsCommandLine numbers.workers words worker command
     pub anew : MakesAnew before.lines worker command
     pub after_is : after ≡ with_command before number worker command
 
@@ -139,7 +139,7 @@ module _ {C : Type 0} (language : Language C) where
     pub short : IsShort bytes
     pub texts : List (List ℕ)
     pub are_lines : AreLines bytes texts []
-    pub read : AreRead start 1 texts (record { limits = Some limits; lines = lines })
+    pub read : AreRead start 1 texts (record { numbers = Some (numbers_of limits); lines = lines })
 
   -- the lines before the one with this number are read, and then these lines and this rest are left
   pub record Reaches (bytes : List ℕ) (state : State C) (number : ℕ) (left : List (List ℕ))
@@ -170,7 +170,7 @@ module _ {C : Type 0} (language : Language C) where
     pub state : State C
     pub behind : ℕ
     pub reached : Reaches bytes state behind [] []
-    pub no_limits : state.limits ≡ None
+    pub no_numbers : state.numbers ≡ None
     pub number_is : number ≡ max 1 (behind - 1)
 
   -- the first faulty line has this number; it is 0 where there are more bytes than a script has
@@ -180,7 +180,7 @@ module _ {C : Type 0} (language : Language C) where
     unfinished : IsShort bytes → IsUnfinished bytes number → IsFirstFault bytes number
     no_pool : IsShort bytes → HasNoPool bytes number → IsFirstFault bytes number
 
-  -- the pool line has a reading, as each line before it, and no pool can be made within its limits
+  -- the pool line has a reading, as each line before it, and no pool has its numbers
   pub record HasBadPool (bytes : List ℕ) : Type 0 where
     pub short : IsShort bytes
     pub state : State C
@@ -191,9 +191,9 @@ module _ {C : Type 0} (language : Language C) where
     pub reached : Reaches bytes state number (line ∷ left) rest
     pub next : State C
     pub reads : Reads state number line next
-    pub limits : Limits
-    pub limits_are : next.limits ≡ Some limits
-    pub bad : IsPool limits → ⊥
+    pub numbers : PoolNumbers
+    pub numbers_are : next.numbers ≡ Some numbers
+    pub bad : IsSomePool numbers → ⊥
 
   -- why the bytes are refused; of a refusal for want of memory nothing is said, and no other is
   -- given

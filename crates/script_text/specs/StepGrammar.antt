@@ -20,7 +20,7 @@ IsStepScript bytes limits lines = scripts.IsScript steps bytes limits lines
 abbrev pub IsFirstStepFault : List ℕ → ℕ → Type 0
 IsFirstStepFault bytes number = scripts.IsFirstFault steps bytes number
 
--- the pool line has a reading, as each line before it, and no pool can be made within its limits
+-- the pool line has a reading, as each line before it, and no pool has its numbers
 abbrev pub HasBadStepPool : List ℕ → Type 0
 HasBadStepPool bytes = scripts.HasBadPool steps bytes
 

@@ -85,4 +85,6 @@ pub enum Key {
     Tries,
     /// The modification count at the start.
     Start,
+    /// The number of the put rule.
+    Rule,
 }

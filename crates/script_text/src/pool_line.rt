@@ -1,13 +1,14 @@
 //! The pool line.
 
-ghost use Rattle.std.specs.Prelude.{◌≡◌, codes};
+ghost use Rattle.std.specs.Prelude.{◌≡◌, ◌<◌, MatchOption, codes};
 ghost use Rattle.std.specs.Str.{bytes_eq};
-ghost use Rattle.script_text.specs.inside.Reading.{words_of, key_at, add_value, value_of, settings_from, none_given, limits_by, limits_from};
+ghost use Rattle.script_text.specs.inside.Reading.{words_of, key_at, add_value, value_of, settings_from, none_given, numbers_by, numbers_from};
+ghost use Rattle.script_text.specs.PoolLine.{rule_number, numbers_of};
 
 use crate::commands::Key;
 use crate::line::next_word;
 use crate::number::number_of;
-use commons::limits::{Limits, MAX_REFS};
+use commons::limits::{Limits, MAX_REFS, PutRule};
 
 /// The key that a word spells.
 fn key_of(word: &[u8]) -> Option<Key>
@@ -27,6 +28,8 @@ fn key_of(word: &[u8]) -> Option<Key>
         Some(Key::Tries)
     } else if word == b"start".as_slice() {
         Some(Key::Start)
+    } else if word == b"putrule".as_slice() {
+        Some(Key::Rule)
     } else {
         None
     }
@@ -42,6 +45,7 @@ pub(crate) struct Settings {
     refs: Option<u64>,
     tries: Option<u64>,
     start: Option<u64>,
+    rule: Option<u64>,
 }
 
 /// No key was given a value.
@@ -53,6 +57,7 @@ const NONE_GIVEN: Settings = Settings {
     refs: None,
     tries: None,
     start: None,
+    rule: None,
 };
 
 impl Settings {
@@ -68,6 +73,7 @@ impl Settings {
             Key::Refs => self.refs,
             Key::Tries => self.tries,
             Key::Start => self.start,
+            Key::Rule => self.rule,
         }
     }
 
@@ -88,15 +94,16 @@ impl Settings {
             Key::Refs => settings.refs = value,
             Key::Tries => settings.tries = value,
             Key::Start => settings.start = value,
+            Key::Rule => settings.rule = value,
         }
         Some(settings)
     }
 
-    /// The limits of a pool with these settings.
-    fn limits(&self, population: u64) -> Limits
-        ensures { result ≡ limits_by population self.now }
+    /// The numbers of a pool line with so many elements and these settings.
+    fn numbers(&self, population: u64) -> PoolNumbers
+        ensures { result ≡ numbers_by population self.now }
     {
-        Limits {
+        PoolNumbers {
             population,
             cache: self.cache.unwrap_or(0),
             workers: self.workers.unwrap_or(1),
@@ -105,7 +112,53 @@ impl Settings {
             ref_limit: self.refs.unwrap_or(MAX_REFS),
             tries: self.tries.unwrap_or(64),
             start_count: self.start.unwrap_or(0),
+            put_rule: self.rule.unwrap_or(0),
         }
+    }
+}
+
+/// The numbers that a pool line gives: those that stand there, and the defaults.
+#[derive(Clone, Copy, PartialEq, Eq, Debug)]
+pub(crate) struct PoolNumbers {
+    population: u64,
+    cache: u64,
+    workers: u64,
+    desks: u64,
+    buf: u64,
+    ref_limit: u64,
+    tries: u64,
+    start_count: u64,
+    put_rule: u64,
+}
+
+/// The put rule with this number, or `None` where no rule has it.
+fn rule_of(number: u64) -> Option<PutRule>
+    ensures { MatchOption result (1 < number) (λ rule. number ≡ rule_number rule) }
+{
+    match number {
+        0 => Some(PutRule::Keep),
+        1 => Some(PutRule::Whole),
+        _ => None,
+    }
+}
+
+impl PoolNumbers {
+    /// The limits with these numbers, or `None` where no put rule has the number that is given for it.
+    pub(crate) fn limits(&self) -> Option<Limits>
+        ensures { MatchOption result (1 < self.now.put_rule) (λ limits. self.now ≡ numbers_of limits) }
+    {
+        let put_rule = rule_of(self.put_rule)?;
+        Some(Limits {
+            population: self.population,
+            cache: self.cache,
+            workers: self.workers,
+            desks: self.desks,
+            buf: self.buf,
+            ref_limit: self.ref_limit,
+            tries: self.tries,
+            start_count: self.start_count,
+            put_rule,
+        })
     }
 }
 
@@ -132,9 +185,9 @@ fn is_pool_word(word: &[u8]) -> bool
     word == b"pool".as_slice()
 }
 
-/// The limits that a pool line spells, or `None` where it spells none.
-pub(crate) fn limits_of(line: &[u8]) -> Option<Limits>
-    ensures { result ≡ limits_from (words_of line.now) }
+/// The numbers that a pool line spells, or `None` where it spells none.
+pub(crate) fn pool_numbers_of(line: &[u8]) -> Option<PoolNumbers>
+    ensures { result ≡ numbers_from (words_of line.now) }
 {
     let (word, rest) = next_word(line)?;
     if !is_pool_word(word) {
@@ -143,5 +196,5 @@ pub(crate) fn limits_of(line: &[u8]) -> Option<Limits>
     let (word, rest) = next_word(rest)?;
     let population = number_of(word)?;
     let settings = settings_of(rest)?;
-    Some(settings.limits(population))
+    Some(settings.numbers(population))
 }

@@ -2,8 +2,9 @@
 
 ghost use Rattle.std.specs.Prelude.{◌≡◌, None, Some, Ok, OnOk, MatchOption, MatchResult, true};
 ghost use Rattle.script_text.specs.inside.Agreement.{StopsPool};
+ghost use Rattle.script_text.specs.PoolLine.{numbers_of};
 ghost use Rattle.script_text.specs.Scripts.{start};
-ghost use Rattle.script_text.specs.inside.Reading.{words_of, limits_from, is_pool};
+ghost use Rattle.script_text.specs.inside.Reading.{words_of, numbers_from, is_pool};
 ghost use Rattle.script_text.specs.inside.ScriptReading.{read_command as read_command_line, judged};
 ghost use Rattle.script_text.specs.declared.reader.Stop.TheVariants.{OutOfMemory};
 
@@ -11,7 +12,7 @@ use crate::line::{is_plain, is_skipped};
 use crate::lines::{Line, Script};
 use crate::made_names::MadeNames;
 use crate::order::order_of;
-use crate::pool_line::limits_of;
+use crate::pool_line::pool_numbers_of;
 use crate::spelled::Spelled;
 use commons::limits::Limits;
 use commons::seq::Seq;
@@ -58,11 +59,14 @@ pub(crate) struct Reader<C> {
 /// The limits that a pool line gives, within which a pool can be made.
 fn pool_of(line: &[u8]) -> Result<Limits, Stop>
     ensures { MatchResult result
-        (λ limits. (limits_from (words_of line.now) ≡ Some limits) × (is_pool limits ≡ true))
-        (λ stop. StopsPool stop (limits_from (words_of line.now))) }
+        (λ limits. (numbers_from (words_of line.now) ≡ Some (numbers_of limits)) × (is_pool (numbers_of limits) ≡ true))
+        (λ stop. StopsPool stop (numbers_from (words_of line.now))) }
 {
-    let Some(limits) = limits_of(line) else {
+    let Some(numbers) = pool_numbers_of(line) else {
         return Err(Stop::Fault);
+    };
+    let Some(limits) = numbers.limits() else {
+        return Err(Stop::BadPool);
     };
     match limits.check() {
         Ok(()) => Ok(limits),

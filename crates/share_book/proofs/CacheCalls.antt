@@ -7,7 +7,7 @@ use Rattle.commons.specs.declared.refusal.Refusal.TheVariants.{NoEntries, Conten
 use Rattle.commons.specs.Calls.{spent, Call, GetList, PutList}
 use Rattle.commons.specs.Lists.{Lists, DidGet, DidPut}
 use Rattle.mempool.specs.declared.put.Put.{Put}
-use Rattle.mempool.specs.Caches.{Gets, Nothing, Direct, FromCache, Refill, RefillRefused, NoRefill, Puts, NothingPut, Bypass, BypassPutOff, Flush, FlushPutOff, Keep, Flushes, Empty, Whole, WholePutOff}
+use Rattle.mempool.specs.Caches.{Gets, Nothing, Direct, FromCache, Refill, RefillRefused, NoRefill, Puts, NothingPut, Bypass, BypassPutOff, Flush, FlushPutOff, Keep, WholeBypass, WholeBypassPutOff, WholeFlush, WholeFlushPutOff, WholeKeep, Flushes, Empty, Whole, WholePutOff}
 use Rattle.pool_model.specs.CacheModel.{ask, push, get, put, flush}
 use Rattle.pool_model.specs.CacheLaw.{Meets}
 use Rattle.commons.specs.PlainCalls.{LeadsPlain}
@@ -67,14 +67,23 @@ gets_request l cache n calls answer left (NoRefill p q r m c k) = requests calls
 pub puts_request : (l : Limits) (cache list : List ℕ) (calls : List Call) (answer : Put)
     (left : List ℕ) → Puts l cache list calls answer left → AreRequests calls
 puts_request l cache list calls answer left (NothingPut z c a k) = requests calls [] c tt
-puts_request l cache list calls answer left (Bypass p c a k) = requests calls (PutList list (Ok tt) ∷ []) c tt
-puts_request l cache list calls answer left (BypassPutOff p cause c a k) =
+puts_request l cache list calls answer left (Bypass rule p c a k) = requests calls (PutList list (Ok tt) ∷ []) c tt
+puts_request l cache list calls answer left (BypassPutOff rule p cause c a k) =
     requests calls (PutList list (Err cause) ∷ []) c tt
-puts_request l cache list calls answer left (Flush p q r m c a k) =
+puts_request l cache list calls answer left (Flush rule p q r m c a k) =
     requests calls (PutList (drop l.cache (cache ++ list)) (Ok tt) ∷ []) c tt
-puts_request l cache list calls answer left (FlushPutOff p q r m cause c a k) =
+puts_request l cache list calls answer left (FlushPutOff rule p q r m cause c a k) =
     requests calls (PutList (drop l.cache (cache ++ list)) (Err cause) ∷ []) c tt
-puts_request l cache list calls answer left (Keep p q b c a k) = requests calls [] c tt
+puts_request l cache list calls answer left (Keep rule p q b c a k) = requests calls [] c tt
+puts_request l cache list calls answer left (WholeBypass rule p c a k) =
+    requests calls (PutList list (Ok tt) ∷ []) c tt
+puts_request l cache list calls answer left (WholeBypassPutOff rule p cause c a k) =
+    requests calls (PutList list (Err cause) ∷ []) c tt
+puts_request l cache list calls answer left (WholeFlush rule p q r m c a k) =
+    requests calls (PutList cache (Ok tt) ∷ []) c tt
+puts_request l cache list calls answer left (WholeFlushPutOff rule p q r m cause c a k) =
+    requests calls (PutList cache (Err cause) ∷ []) c tt
+puts_request l cache list calls answer left (WholeKeep rule p q b c a k) = requests calls [] c tt
 
 -- a flush gives the stack the whole cache, or nothing, and makes no other call
 flushes_request : (cache : List ℕ) (calls : List Call) (answer : Put) (left : List ℕ) →

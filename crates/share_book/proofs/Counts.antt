@@ -26,7 +26,8 @@ sums_agree f g (x ∷ xs) (y ∷ ys) c d l h =
 
 -- a worker's row of the lists shows how often its packets hold an element
 row_of : (s : Lists) (k i : ℕ) (m : Member) → IsMember s k m → get_or (get_or s.holds k []) i 0 ≡ held_in m.table i
-row_of s k i m is = let same : k + 1 - 1 ≡ k = omega arith in rw same at (is.own.share.held i)
+row_of s k i m is = let same : k + 1 - 1 ≡ k = omega arith in
+    let held = rw same at (is.own.share.held i) in omega (arith, held)
 
 -- the count of an element is how often the packets of the members and those on desks hold it
 pub counts_are_holds : (s : Lists) (members : List Member) → IsTable s → length members ≡ s.limits.workers →

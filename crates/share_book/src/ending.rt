@@ -5,7 +5,9 @@ ghost use Rattle.std.specs.List.{range_with_len};
 ghost use Rattle.commons.specs.Bounds.{IsPool};
 ghost use Rattle.pool_model.specs.Sound.{ListsOnlyPackets, ListsSoundPackets};
 ghost use Rattle.pool_model.specs.Statements.{ListsEachOnce, PlacesEachOnce, statement_of};
+ghost use Rattle.snapshot.specs.Lost.{AreLost};
 ghost use Rattle.book.specs.Books.{IsFull};
+ghost use Rattle.book.specs.Lost.{AreLostWith, unlisted_of};
 ghost use Rattle.book.specs.Settling.{snapshot_with};
 ghost use Rattle.snapshot.specs.Closing.{snapshot_of};
 ghost use Rattle.snapshot.specs.Snapshots.{IsLawful, statement_in};
@@ -13,6 +15,8 @@ ghost use Rattle.snapshot.specs.Snapshots.{IsLawful, statement_in};
 use crate::site_pool::SitePool;
 use book::book::Book;
 use book::deposits::deposit_all;
+use book::ending::elements_lost;
+use book::laws;
 use book::settling::{Unsettled, settle};
 use book::share::{Share, lose_all};
 use commons::closed::Closed;
@@ -96,4 +100,50 @@ fn settled_book(alloc: Global, closed: Closed, book: Book) -> Result<Statement, 
             }
         }
     }
+}
+
+/// Closes a pool and tells which elements are lost with the workers who are listed as missing, ascending: exactly those
+/// that such a worker has in its cache, or such workers alone hold. The others' shares are put in a book; a listed number
+/// that isn't a worker's is passed over.
+///
+/// Refused `OutOfMemory` where memory was refused. The pool is ended then too, and nothing is left of it.
+pub fn settled_without(alloc: Global, pool: SitePool, missing: &[u32]) -> Result<Vec<u32>, Refusal>
+    ensures lost { IfOk result (λ elems. AreLostWith pool.limits missing.now pool.members pool.shared.desks elems.items) }
+    ensures memory { IfErr result (λ e. e ≡ Refusal.OutOfMemory) }
+{
+    pool.fits_its_limits();
+    match pool.close(alloc) {
+        Ok((limits, closed, shares)) => {
+            settled_parts_without(alloc, &limits, closed, shares, missing)
+        }
+        Err((cause, pool)) => {
+            pool.lose();
+            Err(cause)
+        }
+    }
+}
+
+/// Tells which elements are lost with the workers who are listed as missing, of what a pool within these limits left, when
+/// it was closed, and of the shares of all its workers: those of the listed ones are lost.
+///
+/// Refused `OutOfMemory` where memory was refused. Nothing is left of the pool then either.
+pub fn settled_parts_without(
+    alloc: Global,
+    limits: &Limits,
+    closed: Closed,
+    shares: Vec<Share>,
+    missing: &[u32],
+) -> Result<Vec<u32>, Refusal>
+    requires range { IsPool limits.now }
+    requires workers { map (λ share. share.number) shares.items ≡ range_with_len 1 limits.now.workers }
+    requires lawful { IsLawful (snapshot_of limits.now closed shares.items) }
+    ensures settled { IfOk result (λ elems.
+        AreLost (snapshot_of limits.now closed (unlisted_of missing.now shares.items)) elems.items) }
+    // Above that: it is exactly what the listed workers have and nobody else.
+    ensures lost { IfOk result (λ elems. AreLostWith limits.now missing.now shares.items closed.desks elems.items) }
+    ensures memory { IfErr result (λ e. e ≡ Refusal.OutOfMemory) }
+{
+    laws::what_stands_nowhere_is_lost();
+    laws::all_workers_are_in_order();
+    elements_lost(alloc, limits, closed, shares, missing)
 }

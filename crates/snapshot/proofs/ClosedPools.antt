@@ -17,15 +17,17 @@ use Rattle.commons.proofs.Bags.{length-le}
 use Rattle.commons.proofs.Tables.{all_below}
 use Rattle.mbuf.specs.declared.acts.Act.{Act}
 use Rattle.mbuf.specs.Members.{Member, slots}
+use Rattle.pool_model.specs.declared.guest.Guest.{Guest}
 use Rattle.pool_model.specs.PacketModel.{after_acts}
 use Rattle.pool_model.specs.Pool.{Pool, held_by, held_of, new_pool}
 use Rattle.pool_model.specs.Statements.{statement_of}
+use Rattle.pool_model.proofs.Alone.{statement_alone}
 use Rattle.pool_model.proofs.Balance.{IsBalanced, after_acts-balanced, at_most_one, new_pool-balanced}
 use Rattle.pool_model.proofs.Numbered.{AreNumbered, IsNumbered, acts-numbered}
 use Rattle.pool_model.proofs.PacketsStand.{ArePlaces, HasPackets, IsPlace, acts-packets}
 use Rattle.snapshot.specs.Closing.{share_of, snapshot_in}
 use Rattle.snapshot.specs.declared.snapshot.ShareData.{ShareData}
-use Rattle.snapshot.specs.Snapshots.{elements_of, HasPacket, HasShape, HasSlots, IsLawful, statement_in, times_held, walk, words_met}
+use Rattle.snapshot.specs.Snapshots.{elements_of, HasPacket, HasShape, HasSlots, IsLawful, pool_of, statement_in, times_held, walk, words_met}
 use Rattle.snapshot.proofs.FollowedLinks.{linked, words_linked}
 use Rattle.snapshot.proofs.Walks.{IsBelow, elements_after, words_and, words_of}
 
@@ -83,7 +85,7 @@ held_again l (m ∷ members) i =
     ∙ sym (sum_by-cons (λ (m : Member). held_in m.table i) m members)
 
 held_same : (pool : Pool) (i : ℕ) → times_held (snapshot_in pool) i ≡ held_of pool.members pool.shared.desks i
-held_same pool i = ap (λ (n : ℕ). n + held_in pool.shared.desks i) (held_again pool.limits pool.members i)
+held_same pool i = omega (arith, held_again pool.limits pool.members i)
 
 -- ---- the walk
 
@@ -139,6 +141,8 @@ shaped l pool n = record {
   shares =
       share_numbers 1 pool.members n.numbers
       ∙ ap (range_with_len 1) (n.workers ∙ sym (ap (λ (x : Limits). x.workers) n.limits));
+  guests = All-nil (λ (guest : Guest). (1 ≤ guest.worker) × (guest.worker ≤ pool.limits.workers));
+  few = omega arith;
 }
 
 -- what a share or a desk of the snapshot has stood in a slot or lay on a desk of the pool
@@ -220,7 +224,8 @@ with_list pool common members = record {
 -- walk and shares give common list and members again, and a statement tells of these and the desks
 stated : (pool : Pool) → IsBalanced pool → HasPackets pool → statement_in (snapshot_in pool) ≡ statement_of pool
 stated pool b p =
-    ap (λ (members : List Member). statement_of (with_list pool (walk (snapshot_in pool)) members))
+    statement_alone (pool_of (snapshot_in pool))
+    ∙ ap (λ (members : List Member). statement_of (with_list pool (walk (snapshot_in pool)) members))
     (members_again pool.limits pool.members p.limits)
     ∙ ap (λ (common : List ℕ). statement_of (with_list pool common pool.members)) (walk_is pool b)
 

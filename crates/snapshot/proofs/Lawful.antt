@@ -1,17 +1,19 @@
 -- A snapshot is lawful exactly where it has no fault.
-use Rattle.std.proofs.Common.{ℕ, ◌≡◌, ◌+◌, ◌<◌, ◌≤◌, inl, inr, List, [], ◌∷◌, length, map, get_or, refl, arith}
+use Rattle.std.proofs.Common.{ℕ, ◌≡◌, ◌+◌, ◌*◌, ◌<◌, ◌≤◌, inl, inr, List, [], ◌∷◌, length, map, get_or, refl, arith}
 use Rattle.std.specs.Prelude.{All, min, max, slice_index, ◌↔◌}
 use Rattle.std.specs.List.{range_with_len}
 use Rattle.std.proofs.lemmas.Bool.{cases_eq, cases_lt}
 use Rattle.std.proofs.lemmas.List.Elements.{All-from_get_or, All-get_or, Contains-get_or}
 use Rattle.commons.specs.Packets.{HasItsData, IsPacket, max_segs, no_seg}
 use Rattle.commons.specs.declared.packet.Seg.{Seg}
+use Rattle.pool_model.specs.declared.guest.Guest.{Guest}
 use Rattle.snapshot.specs.declared.fault.Fault.{Fault}
 use Rattle.snapshot.specs.declared.fault.Fault.TheVariants.{BadShape, BadTop, Loop, BadLength, BadPacket, DoubleHeader, Doubled, Lost, BadCount, OutOfMemory}
 use Rattle.snapshot.specs.declared.snapshot.ShareData.{ShareData}
 use Rattle.snapshot.specs.declared.snapshot.Snapshot.{Snapshot}
 use Rattle.snapshot.specs.Faults.{IsFault, IsCleanBelow}
-use Rattle.snapshot.specs.Snapshots.{HasShape, IsLawful, times_free, times_held, times_own, walk, words_met}
+use Rattle.snapshot.specs.Snapshots.{HasShape, IsLawful, most_guests, times_free, times_held, times_own, walk, words_met}
+use Rattle.snapshot.proofs.HostedGuests.{no_guest}
 use Rattle.snapshot.proofs.Clean.{clean_shape, clean_words, clean_ends, clean_length, clean_elements, clean_packets, clean_own, clean_once, clean_counted, known_clean}
 
 -- a lawful snapshot has no fault of any kind
@@ -51,6 +53,15 @@ shape_stable s h = record {
   desks = eq_stable (length s.desks) s.limits.desks (λ no. h (λ is. no is.desks));
   shares = list_stable (map (λ (share : ShareData). share.worker) s.shares) (range_with_len 1 s.limits.workers)
       (λ no. h (λ is. no is.shares));
+  guests = All-from_get_or (λ (guest : Guest). (1 ≤ guest.worker) × (guest.worker ≤ s.limits.workers)) s.guests no_guest
+      (λ i l.
+      let guest = get_or s.guests i no_guest in
+      let of_pool = λ (guest : Guest). (1 ≤ guest.worker) × (guest.worker ≤ s.limits.workers) in (
+        le_stable 1 guest.worker (λ no. h (λ is. no (All-get_or of_pool s.guests i no_guest l is.guests).0)),
+        le_stable guest.worker s.limits.workers
+            (λ no. h (λ is. no (All-get_or of_pool s.guests i no_guest l is.guests).1)),
+      ));
+  few = le_stable (length s.guests) (s.limits.workers * most_guests) (λ no. h (λ is. no is.few));
 }
 
 -- and segments are a packet or not

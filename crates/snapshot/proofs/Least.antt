@@ -1,8 +1,9 @@
 -- The least of what is named, found part by part.
-use Rattle.std.proofs.Common.{ℕ, ◌≡◌, ◌+◌, ◌≤◌, List, length, take, Option, None, Some, inl, inr, ap, arith}
+use Rattle.std.proofs.Common.{ℕ, ◌≡◌, ◌+◌, ◌<◌, ◌≤◌, List, length, get_or, take, Option, None, Some, inl, inr, ap, sym, ◌∙◌, arith}
 use Rattle.std.specs.Prelude.{min, sum_by}
 use Rattle.std.proofs.lemmas.Bool.{cases_lt}
 use Rattle.std.proofs.lemmas.List.{take_all}
+use Rattle.std.proofs.lemmas.List.Sums.{sum_by_more}
 use Rattle.snapshot.specs.inside.Least.{IsLeast, lesser_of}
 
 -- of two parts
@@ -32,3 +33,13 @@ pub least-all : {X : Type 0} (limit : ℕ) (f : X → ℕ → ℕ) (xs : List X)
 least-all limit f xs k o all h =
     least-same limit (λ e. sum_by (λ x. f x e) (take k xs)) (λ e. sum_by (λ x. f x e) xs) o
     (λ e. ap (sum_by (λ x. f x e)) (take_all k xs all)) h
+
+-- and of one element more
+pub least-more : {X : Type 0} (limit : ℕ) (f : X → ℕ → ℕ) (xs : List X) (k : ℕ) (x : X) (least found : Option ℕ) →
+    k < length xs → x ≡ get_or xs k x → IsLeast limit (λ e. sum_by (λ x. f x e) (take k xs)) least →
+    IsLeast limit (f x) found → IsLeast limit (λ e. sum_by (λ x. f x e) (take (k + 1) xs)) (lesser_of least found)
+least-more limit f xs k x least found l is h g =
+    least-same limit (λ e. sum_by (λ x. f x e) (take k xs) + f x e) (λ e. sum_by (λ x. f x e) (take (k + 1) xs))
+    (lesser_of least found)
+    (λ e. ap (λ y. sum_by (λ x. f x e) (take k xs) + f y e) is ∙ sym (sum_by_more (λ x. f x e) xs k x l))
+    (least-joined limit (λ e. sum_by (λ x. f x e) (take k xs)) (f x) least found h g)

@@ -1,5 +1,5 @@
 -- The pool that a lawful snapshot shows has each element in one place, and its workers in order.
-use Rattle.std.proofs.Common.{ℕ, zero, suc, ◌≡◌, ◌+◌, inl, inr, nat_lt, cond, List, [], ◌∷◌, length, map, refl, sym, ◌∙◌, ap, arith}
+use Rattle.std.proofs.Common.{ℕ, zero, suc, ◌≡◌, ◌+◌, inl, inr, nat_lt, cond, List, [], ◌∷◌, length, map, false, refl, sym, subst, ◌∙◌, ap, arith}
 use Rattle.std.specs.Prelude.{All, min, sum_by}
 use Rattle.std.specs.List.{range_with_len}
 use Rattle.std.proofs.lemmas.Bool.{cases_lt, cond-true, cond-false, lt-ltb, le-ltb}
@@ -9,14 +9,16 @@ use Rattle.std.proofs.lemmas.List.FromFn.{length-range_with_len}
 use Rattle.commons.specs.Bag.{bag}
 use Rattle.commons.specs.Packets.{own_in}
 use Rattle.mbuf.specs.Members.{Member, slots}
-use Rattle.pool_model.proofs.Balance.{IsBalanced}
-use Rattle.pool_model.proofs.Listed.{sum_by-map, lists_each_once}
+use Rattle.pool_model.specs.Guests.{AreOfWorkers, ListsEachOnceWith, statement_with}
+use Rattle.pool_model.proofs.GuestsListed.{IsBalancedWith, lists_each_once_with}
+use Rattle.pool_model.proofs.Listed.{sum_by-map}
+use Rattle.pool_model.proofs.LocalPools.{cached-local, length-local, local-available, local-in_use, local-population, local-common, local-in_order, local-limits, own_of-local, statement-local}
 use Rattle.pool_model.proofs.Numbered.{AreInOrder, AreNumbered, IsNumbered}
 use Rattle.pool_model.proofs.Placed.{places_each_once}
-use Rattle.pool_model.specs.Statements.{ListsEachOnce, PlacesEachOnce}
+use Rattle.pool_model.specs.Statements.{PlacesEachOnce}
 use Rattle.snapshot.specs.declared.snapshot.ShareData.{ShareData}
 use Rattle.snapshot.specs.declared.snapshot.Snapshot.{Snapshot}
-use Rattle.snapshot.specs.Snapshots.{HasShape, HasSlots, IsLawful, member_of, pool_of, statement_in, times_free, times_held}
+use Rattle.snapshot.specs.Snapshots.{HasShape, HasSlots, IsLawful, ListsItsElements, member_of, own_pool, pool_of, statement_in, times_free, times_held}
 use Rattle.snapshot.proofs.Clean.{nowhere_past}
 
 -- what all caches have, and what is own in all tables
@@ -42,10 +44,15 @@ placed_shown s h i = elim (cases_lt i s.limits.population) [
 ]
 
 -- a lawful snapshot has each element in one place, and so has the pool that it shows
-pub shows_balanced : (s : Snapshot) → IsLawful s → IsBalanced (pool_of s)
+pub shows_balanced : (s : Snapshot) → IsLawful s → IsBalancedWith s.guests (own_pool s)
 shows_balanced s h = record {
-  placed = λ i. omega (arith, placed_shown s h i, caches_shown s i);
-  own = λ i. omega (arith, h.own_once i, own_shown s i);
+  placed = λ i. rw (local-common s.foreign (pool_of s), local-limits s.foreign (pool_of s)) (omega (
+    arith,
+    placed_shown s h i,
+    caches_shown s i,
+    cached-local s.foreign (pool_of s) i,
+  ));
+  own = λ i. omega (arith, h.own_once i, own_shown s i, own_of-local s.foreign (pool_of s) i);
 }
 
 -- shares with numbers in a row
@@ -81,9 +88,47 @@ shows_numbered s full h = record {
   desks = h.desks;
 }
 
--- so its statement lists each element once
-pub lawful_lists_once : (s : Snapshot) → IsLawful s → ListsEachOnce (statement_in s)
-lawful_lists_once s h = lists_each_once (pool_of s) (shows_balanced s h) (shows_in_order s h.shape)
+-- it has as many members as workers, and guests are of these
+pub shows_guests : (s : Snapshot) → HasShape s → AreOfWorkers (length (own_pool s).members) s.guests
+shows_guests s h =
+    let many : s.limits.workers ≡ length (own_pool s).members =
+    sym (length-local s.foreign (pool_of s) ∙ length-map s.shares (member_of s)
+    ∙ sym (length-map s.shares (λ (share : ShareData). share.worker))
+    ∙ ap length h.shares ∙ length-range_with_len 1 s.limits.workers) in
+    subst (λ (workers : ℕ). AreOfWorkers workers s.guests) many h.guests
 
+-- so its statement lists each element once, as the pool sees itself
+pub lawful_lists_own : (s : Snapshot) → IsLawful s →
+    ListsEachOnceWith s.guests (statement_with false s.guests (own_pool s))
+lawful_lists_own s h =
+    lists_each_once_with s.guests (own_pool s) (shows_balanced s h)
+    (local-in_order s.foreign (pool_of s) (shows_in_order s h.shape)) (shows_guests s h.shape)
+
+pub lawful_lists_once : (s : Snapshot) → IsLawful s → ListsItsElements s (statement_in s)
+lawful_lists_once s h =
+    subst (ListsEachOnceWith s.guests) (sym (statement-local s.foreign s.guests (pool_of s))) (lawful_lists_own s h)
+
+-- what is available and what is in use are the population
+pub lawful_whole : (s : Snapshot) → IsLawful s →
+    (statement_in s).available + (statement_in s).in_use ≡ s.limits.population
+lawful_whole s h =
+    let statement = statement_in s in
+    omega (
+      arith,
+      (lawful_lists_once s h).whole,
+      local-available s.foreign statement,
+      local-in_use s.foreign statement,
+      local-population s.foreign statement,
+    )
+
+-- packets stand where they stand in the pool that is shown
 pub lawful_places_once : (s : Snapshot) → HasSlots s → IsLawful s → PlacesEachOnce s.limits (statement_in s)
-lawful_places_once s full h = places_each_once s.limits (pool_of s) (shows_numbered s full h.shape)
+lawful_places_once s full h =
+    let places = places_each_once s.limits (pool_of s) (shows_numbered s full h.shape) in record {
+      population = places.population;
+      caches = places.caches;
+      packets = places.packets;
+      slots = places.slots;
+      desks = places.desks;
+      on_desks = places.on_desks;
+    }

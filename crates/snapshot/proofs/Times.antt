@@ -1,34 +1,38 @@
 -- How often a snapshot's elements are free, held and named.
-use Rattle.std.proofs.Common.{ℕ, zero, suc, ◌≡◌, ◌+◌, ◌<◌, ◌≤◌, List, [], ◌∷◌, map, nat_lt, inl, inr, refl, arith}
+use Rattle.std.proofs.Common.{ℕ, zero, suc, ◌≡◌, ◌+◌, ◌<◌, ◌≤◌, List, [], ◌∷◌, nat_lt, Option, inl, inr, ap, ◌∙◌, arith}
 use Rattle.std.specs.Prelude.{sum_by}
-use Rattle.std.proofs.lemmas.List.Sums.{sum_by-cons}
 use Rattle.std.proofs.lemmas.Bool.{cases_Bool, cases_lt, ltb-true}
 use Rattle.commons.specs.Bag.{bag}
 use Rattle.commons.specs.Packets.{held_in}
+use Rattle.commons.specs.declared.packet.Seg.{Seg}
 use Rattle.commons.proofs.Bags.{bag-nil, bag-cons}
 use Rattle.commons.proofs.Places.{one-is, zero_or_more}
 use Rattle.mbuf.specs.Members.{Member}
+use Rattle.pool_model.specs.Guests.{guest_holds, local_table}
 use Rattle.pool_model.specs.Pool.{held_by}
-use Rattle.snapshot.specs.declared.snapshot.ShareData.{ShareData}
+use Rattle.pool_model.proofs.LocalPools.{held_by-local, local-desks}
 use Rattle.snapshot.specs.declared.snapshot.Snapshot.{Snapshot}
-use Rattle.snapshot.specs.Snapshots.{elements_of, member_of, times_held, times_named, walk, words_met}
+use Rattle.snapshot.specs.Snapshots.{elements_of, member_of, own_pool, pool_of, times_held, times_named, walk, words_met}
+use Rattle.snapshot.proofs.MappedSums.{sum_by-map}
 
 -- what the members of a snapshot hold is what its shares do
-held-shares : (s : Snapshot) (shares : List ShareData) (e : ℕ) →
-    held_by (map (member_of s) shares) e ≡ sum_by (λ share. held_in share.slots e) shares
-held-shares s [] e = refl
-held-shares s (share ∷ shares) e =
-    omega (
-      arith,
-      held-shares s shares e,
-      sum_by-cons (λ (member : Member). held_in member.table e) (member_of s share) (map (member_of s) shares),
-      sum_by-cons (λ (share : ShareData). held_in share.slots e) share shares,
-    )
+held-shares : (s : Snapshot) (e : ℕ) →
+    held_by (own_pool s).members e ≡ sum_by (λ share. held_in (local_table s.foreign share.slots) e) s.shares
+held-shares s e =
+    held_by-local s.foreign (pool_of s) e
+    ∙ sum_by-map (λ (m : Member). held_in (local_table s.foreign m.table) e) (member_of s) s.shares
 
--- an element is held by the packets of the shares and by those on desks
+-- an element is held for guests, by the packets of the shares and by those on desks
 pub held-is : (s : Snapshot) (e : ℕ) →
-    times_held s e ≡ sum_by (λ share. held_in share.slots e) s.shares + held_in s.desks e
-held-is s e = omega (arith, held-shares s s.shares e)
+    times_held s e
+    ≡ guest_holds s.guests e
+    + (sum_by (λ share. held_in (local_table s.foreign share.slots) e) s.shares
+    + held_in (local_table s.foreign s.desks) e)
+held-is s e = omega (
+  arith,
+  held-shares s e,
+  ap (λ (desks : List (Option (List Seg))). held_in desks e) (local-desks s.foreign (pool_of s)),
+)
 
 -- the elements that words name are of the population
 named-low : (population : ℕ) (words : List ℕ) (e : ℕ) → 0 < bag (elements_of population words) e → e < population

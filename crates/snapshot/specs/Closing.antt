@@ -1,5 +1,5 @@
 -- A closed pool as a snapshot.
-use Rattle.std.specs.Prelude.{List, length, map, max}
+use Rattle.std.specs.Prelude.{List, [], false, length, map, max}
 use Rattle.std.specs.List.{range_with_len}
 use Rattle.commons.specs.Closing.{link_in, top_word}
 use Rattle.commons.specs.declared.closed.Closed.{Closed}
@@ -23,6 +23,8 @@ snapshot_of l closed members = record {
   counts = closed.counts;
   desks = closed.desks;
   shares = map share_of members;
+  guests = [];
+  foreign = false;
 }
 
 -- What a pool's shared part leaves: the top and the length of the common list; for each element its link and its

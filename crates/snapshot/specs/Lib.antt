@@ -1,4 +1,5 @@
 pub mod Closing
 pub mod Faults
+pub mod Lost
 pub mod Snapshots
 pub mod inside

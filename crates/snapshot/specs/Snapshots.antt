@@ -1,12 +1,12 @@
 -- A snapshot read as a pool: what is free in it, and what is held.
-use Rattle.std.specs.Prelude.{ℕ, zero, suc, ◌≡◌, ◌<◌, ◌≤◌, ◌+◌, min, max, nat_lt, if◌then◌else◌, List, [], ◌∷◌, All, Contains, Some, map, length, slice_index, sum_by, ◌⊎◌}
+use Rattle.std.specs.Prelude.{ℕ, zero, suc, ◌≡◌, ◌<◌, ◌≤◌, ◌+◌, ◌*◌, min, max, nat_lt, if◌then◌else◌, List, [], ◌∷◌, All, Contains, Some, map, length, slice_index, sum_by, ◌⊎◌}
 use Rattle.std.specs.List.{range_with_len}
 use Rattle.commons.specs.Bag.{bag}
 use Rattle.commons.specs.Packets.{IsPacket, own_in}
 use Rattle.commons.specs.declared.packet.Seg.{Seg}
 use Rattle.mbuf.specs.Members.{Member, slots}
-use Rattle.pool_model.specs.Pool.{Pool, held_of}
-use Rattle.pool_model.specs.Statements.{statement_of}
+use Rattle.pool_model.specs.Guests.{AreOfWorkers, ListsEachOnceWith, held_with, local_pool, local_statement, statement_with}
+use Rattle.pool_model.specs.Pool.{Pool}
 use Rattle.pool_model.specs.declared.statement.Statement.{Statement}
 use Rattle.snapshot.specs.declared.snapshot.ShareData.{ShareData}
 use Rattle.snapshot.specs.declared.snapshot.Snapshot.{Snapshot}
@@ -52,15 +52,19 @@ pool_of s = record {
 abbrev pub times_free : Snapshot → ℕ → ℕ
 times_free s e = bag (walk s) e + sum_by (λ share. bag share.cache e) s.shares
 
--- how often packets hold it, in slots and on desks, as element or as base
+-- and that pool as it sees itself: without the bases of its packets, where those are foreign
+abbrev pub own_pool : Snapshot → Pool
+own_pool s = local_pool s.foreign (pool_of s)
+
+-- how often it is held: for guests, and by packets, in slots and on desks, as element or as base
 abbrev pub times_held : Snapshot → ℕ → ℕ
-times_held s e = held_of (pool_of s).members s.desks e
+times_held s e = held_with s.guests (own_pool s).members (own_pool s).shared.desks e
 
 -- how often it is the own element of a segment of theirs
 abbrev pub times_own : Snapshot → ℕ → ℕ
 times_own s e = sum_by (λ share. own_in share.slots e) s.shares + own_in s.desks e
 
--- how often caches and packets name it
+-- how often caches, packets and guests name it
 abbrev pub times_named : Snapshot → ℕ → ℕ
 times_named s e = sum_by (λ share. bag share.cache e) s.shares + times_held s e
 
@@ -70,12 +74,19 @@ HasPacket s segs =
     Contains s.desks (Some segs)
     ⊎ ((share : ShareData) × Contains s.shares share × Contains share.slots (Some segs))
 
--- one link and one count for each element, a place for each desk, and a share for each worker in order
+-- the most guests that a worker may have: the segments of as many packets as a table has room for
+abbrev pub most_guests : ℕ
+most_guests = 8192
+
+-- One link and one count for each element, a place for each desk, and a share for each worker in order. Guests are of
+-- these workers, and no more than their packets may have bases.
 pub record HasShape (s : Snapshot) : Type 0 where
   pub links : length s.links ≡ s.limits.population
   pub counts : length s.counts ≡ s.limits.population
   pub desks : length s.desks ≡ s.limits.desks
   pub shares : map (λ share. share.worker) s.shares ≡ range_with_len 1 s.limits.workers
+  pub guests : AreOfWorkers s.limits.workers s.guests
+  pub few : length s.guests ≤ s.limits.workers * most_guests
 
 -- Each element of the pool is in one place, and nothing else is anywhere: it is on the walk or in a cache, once, or
 -- held; its count is the number of its holds, and 1 where nobody holds it. The length word is the walk's length. Each
@@ -91,9 +102,14 @@ pub record IsLawful (s : Snapshot) : Type 0 where
   pub once : (e : ℕ) → e < s.limits.population → times_free s e + min 1 (times_held s e) ≡ 1
   pub counted : (e : ℕ) → e < s.limits.population → slice_index s.counts e ≡ max 1 (times_held s e)
 
--- its statement: that of the pool that it shows
+-- its statement: that of the pool that it shows, with its guests
 abbrev pub statement_in : Snapshot → Statement
-statement_in s = statement_of (pool_of s)
+statement_in s = statement_with s.foreign s.guests (pool_of s)
+
+-- The statement lists each element of the pool exactly once, as the pool sees itself: bases of its packets that are
+-- foreign are no elements of its, and its guests are.
+abbrev pub ListsItsElements : Snapshot → Statement → Type 0
+ListsItsElements s statement = ListsEachOnceWith s.guests (local_statement s.foreign statement)
 
 -- each share has a place for each slot of a worker's table
 abbrev pub HasSlots : Snapshot → Type 0

@@ -2,4 +2,5 @@
 pub mod Adding
 pub mod Checked
 pub mod Least
+pub mod Marks
 pub mod Tallies

@@ -3,9 +3,9 @@
 ghost use Rattle.std.specs.Prelude.{◌≡◌, ◌⊎◌, IfOk, IfErr};
 ghost use Rattle.commons.specs.Bounds.{IsPool};
 ghost use Rattle.pool_model.specs.Sound.{ListsOnlyPackets};
-ghost use Rattle.pool_model.specs.Statements.{ListsEachOnce, PlacesEachOnce};
+ghost use Rattle.pool_model.specs.Statements.{PlacesEachOnce};
 ghost use Rattle.snapshot.specs.Faults.{IsFirstFault};
-ghost use Rattle.snapshot.specs.Snapshots.{HasSlots, IsLawful, statement_in};
+ghost use Rattle.snapshot.specs.Snapshots.{HasSlots, IsLawful, ListsItsElements, statement_in};
 
 use crate::fault::Fault;
 use crate::snapshot::Snapshot;
@@ -21,7 +21,7 @@ pub fn audit(alloc: Global, snapshot: &Snapshot) -> Result<Statement, Fault>
     requires slots { HasSlots snapshot.now }
     ensures lawful { IfOk result (λ _. IsLawful snapshot.now) }
     ensures statement { IfOk result (λ s. s ≡ statement_in snapshot.now) }
-    ensures once { IfOk result (λ s. ListsEachOnce s) }
+    ensures once { IfOk result (λ s. ListsItsElements snapshot.now s) }
     ensures places { IfOk result (λ s. PlacesEachOnce snapshot.now.limits s) }
     ensures sound { IfOk result (λ s. ListsOnlyPackets s) }
     ensures first { IfErr result (λ f. (f ≡ Fault.OutOfMemory) ⊎ IsFirstFault snapshot.now f) }

@@ -3,8 +3,8 @@
 /// What is wrong with a snapshot.
 #[derive(Clone, Copy, PartialEq, Eq, Debug)]
 pub enum Fault {
-    /// Links or counts aren't one for each element, desks aren't as many as the pool has, or shares aren't one for
-    /// each worker in order.
+    /// Links or counts aren't one for each element, desks aren't as many as the pool has, shares aren't one for each
+    /// worker in order, or guests aren't of these workers, or are more than 8,192 for each of them.
     BadShape,
     /// The top, or a link on the walk from it, is above the population.
     BadTop(u32),
@@ -17,7 +17,7 @@ pub enum Fault {
         /// The walk's length.
         found: u64,
     },
-    /// A cache, a segment or a base names an element that the pool doesn't have: the least of them.
+    /// A cache, a segment, a base or a guest names an element that the pool doesn't have: the least of them.
     BadElem(u32),
     /// A packet has no segments or more than 32, or one whose data reaches past its buffer.
     BadPacket,

@@ -6,6 +6,8 @@ pub mod closing;
 mod elements;
 pub mod fault;
 pub mod laws;
+mod local;
+pub mod lost;
 mod packets;
 mod placing;
 mod shape;

@@ -1,18 +1,21 @@
 //! Where each element of a lawful snapshot is.
 
-ghost use Rattle.std.specs.Prelude.{◌≡◌, ◌<◌, ◌≤◌, ◌++◌, [], ℕ, All, IfOk, flat_map, length, map, replicate, sum_by};
+ghost use Rattle.std.specs.Prelude.{◌≡◌, ◌<◌, ◌≤◌, ◌+◌, ◌++◌, [], ℕ, All, IfOk, flat_map, length, map, replicate, sum_by};
 ghost use Rattle.std.specs.List.{range_with_len};
 ghost use Rattle.commons.specs.Bag.{bag, one};
 ghost use Rattle.commons.specs.Bounds.{IsPool};
 ghost use Rattle.commons.specs.Packets.{held_in, hold_of, holds_of_packet, holds_of_seg};
 ghost use Rattle.mbuf.specs.Members.{slots};
-ghost use Rattle.pool_model.specs.Statements.{desks_from, desks_of, held_elements, held_entry, holders_of, packets_from};
-ghost use Rattle.snapshot.specs.Snapshots.{HasSlots, IsLawful, pool_of, statement_in, walk};
-ghost use Rattle.snapshot.specs.inside.Adding.{AreAdded, lists_of, workers_in};
+ghost use Rattle.pool_model.specs.Guests.{AreOfWorkers, local_packet, local_table};
+ghost use Rattle.pool_model.specs.Statements.{desks_from, desks_of, packets_from};
+ghost use Rattle.snapshot.specs.Snapshots.{HasSlots, IsLawful, statement_in, walk};
+ghost use Rattle.snapshot.specs.inside.Adding.{AreAdded, AreByWorker, entry_of, held_of, holders_in, lists_of, share_holds, workers_in};
 
+use crate::local::local;
 use crate::snapshot::{ShareData, Snapshot};
 use commons::packet::Seg;
 use commons::seq::Seq;
+use pool_model::guest::Guest;
 use pool_model::statement::{DeskPacket, Held, Holder, PlacedPacket, Statement};
 use std::alloc::{AllocError, Global};
 
@@ -128,8 +131,7 @@ fn desks(alloc: Global, desks: &[Option<Seq<Seg>>]) -> Result<Seq<DeskPacket>, A
 fn held(alloc: Global, snapshot: &Snapshot) -> Result<Seq<Held>, AllocError>
     requires pool { IsPool snapshot.now.limits }
     requires lawful { IsLawful snapshot.now }
-    ensures { IfOk result (λ s. s ≡
-        map (held_entry (pool_of snapshot.now).members snapshot.now.desks) (held_elements (pool_of snapshot.now))) }
+    ensures { IfOk result (λ s. s ≡ map (entry_of snapshot.now) (held_of snapshot.now)) }
 {
     let mut held = Vec::new(alloc);
     let table = holders(alloc, snapshot)?;
@@ -152,45 +154,96 @@ fn holders(alloc: Global, snapshot: &Snapshot) -> Result<Vec<Vec<Holder>>, Alloc
     requires pool { IsPool snapshot.now.limits }
     requires lawful { IsLawful snapshot.now }
     ensures { IfOk result (λ table. lists_of table.items ≡
-        map (holders_of (pool_of snapshot.now).members snapshot.now.desks) (range_with_len 0 snapshot.now.limits.population)) }
+        map (holders_in snapshot.now) (range_with_len 0 snapshot.now.limits.population)) }
 {
-    let mut table = no_holders(alloc, snapshot.limits.population)?;
-    add_shares(&mut table, snapshot.shares.as_slice())?;
-    add_desks(&mut table, snapshot.desks.as_slice())?;
+    let foreign = snapshot.foreign;
+    let guests = by_worker(alloc, snapshot.guests.as_slice(), snapshot.limits.workers)?;
+    let mut table = empty_lists(alloc, snapshot.limits.population)?;
+    add_shares(
+        &mut table,
+        snapshot.shares.as_slice(),
+        guests.as_slice(),
+        foreign,
+    )?;
+    add_desks(&mut table, snapshot.desks.as_slice(), foreign)?;
     Ok(table)
 }
 
-/// For each element that nobody holds it.
-fn no_holders(alloc: Global, population: u64) -> Result<Vec<Vec<Holder>>, AllocError>
-    ensures { IfOk result (λ table. lists_of table.items ≡ replicate population []) }
+/// So many lists without elements.
+fn empty_lists<T: Drop>(alloc: Global, count: u64) -> Result<Vec<Vec<T>>, AllocError>
+    ensures { IfOk result (λ lists. lists_of lists.items ≡ replicate count []) }
 {
-    let mut table = Vec::new(alloc);
-    for _ in 0..population {
-        table.push(Vec::new(alloc))?;
+    let mut lists = Vec::new(alloc);
+    for _ in 0..count {
+        lists.push(Vec::new(alloc))?;
     }
-    Ok(table)
+    Ok(lists)
 }
 
-/// Notes the workers of these shares, for each hold of their packets.
-fn add_shares(table: &mut Vec<Vec<Holder>>, shares: &[ShareData]) -> Result<(), AllocError>
-    requires { (i : ℕ) → length (lists_of table.old.items) ≤ i → sum_by (λ share. held_in share.slots i) shares.now ≡ 0 }
-    ensures { IfOk result (λ _. AreAdded (workers_in shares.now) (lists_of table.old.items) (lists_of table.new.items)) }
+/// The guests of each worker, by its number, in time linear in them. The first list is nobody's.
+fn by_worker(alloc: Global, guests: &[Guest], workers: u64) -> Result<Vec<Vec<u32>>, AllocError>
+    requires few { workers ≤ 64 }
+    requires guests { AreOfWorkers workers guests.now }
+    ensures { IfOk result (λ lists. AreByWorker workers guests.now (lists_of lists.items)) }
+{
+    let mut lists: Vec<Vec<u32>> = empty_lists(alloc, workers + 1)?;
+    for guest in guests {
+        lists[guest.worker as usize].push(guest.elem)?;
+    }
+    Ok(lists)
+}
+
+/// Notes the workers of these shares, for each hold of their packets and for each of their guests.
+fn add_shares(
+    table: &mut Vec<Vec<Holder>>,
+    shares: &[ShareData],
+    guests: &[Vec<u32>],
+    foreign: bool,
+) -> Result<(), AllocError>
+    requires workers { All (λ share. share.worker < length guests.now) shares.now }
+    requires known { (i : ℕ) → length (lists_of table.old.items) ≤ i →
+        sum_by (λ share. share_holds foreign (lists_of guests.now) share i) shares.now ≡ 0 }
+    ensures { IfOk result (λ _. AreAdded (workers_in foreign (lists_of guests.now) shares.now)
+        (lists_of table.old.items) (lists_of table.new.items)) }
 {
     for share in shares {
-        add_slots(table, share.slots.as_slice(), Holder::Worker(share.worker))?;
+        let guests = guests[share.worker as usize].as_slice();
+        add_share(table, share, guests, foreign)?;
     }
     Ok(())
 }
 
+/// Notes a worker, for each hold of its packets and for each of its guests.
+fn add_share(
+    table: &mut Vec<Vec<Holder>>,
+    share: &ShareData,
+    guests: &[u32],
+    foreign: bool,
+) -> Result<(), AllocError>
+    requires { (i : ℕ) → length (lists_of table.old.items) ≤ i →
+        held_in (local_table foreign share.now.slots) i + bag guests.now i ≡ 0 }
+    ensures { IfOk result (λ _. AreAdded
+        (λ i. replicate (held_in (local_table foreign share.now.slots) i + bag guests.now i) (Holder.Worker share.now.worker))
+        (lists_of table.old.items) (lists_of table.new.items)) }
+{
+    let holder = Holder::Worker(share.worker);
+    add_slots(table, share.slots.as_slice(), holder, foreign)?;
+    add_all(table, guests, holder)
+}
+
 /// Notes these desks, for each hold of their packets.
-fn add_desks(table: &mut Vec<Vec<Holder>>, desks: &[Option<Seq<Seg>>]) -> Result<(), AllocError>
+fn add_desks(
+    table: &mut Vec<Vec<Holder>>,
+    desks: &[Option<Seq<Seg>>],
+    foreign: bool,
+) -> Result<(), AllocError>
     requires few { length desks.now ≤ 64 }
-    requires known { (i : ℕ) → length (lists_of table.old.items) ≤ i → held_in desks.now i ≡ 0 }
-    ensures { IfOk result (λ _. AreAdded (desks_of 0 desks.now) (lists_of table.old.items) (lists_of table.new.items)) }
+    requires known { (i : ℕ) → length (lists_of table.old.items) ≤ i → held_in (local_table foreign desks.now) i ≡ 0 }
+    ensures { IfOk result (λ _. AreAdded (desks_of 0 (local_table foreign desks.now)) (lists_of table.old.items) (lists_of table.new.items)) }
 {
     for (desk, place) in desks.iter().enumerate() {
         if let Some(segs) = place {
-            add_packet(table, segs.as_slice(), Holder::Desk(desk as u32))?;
+            add_packet(table, segs.as_slice(), Holder::Desk(desk as u32), foreign)?;
         }
     }
     Ok(())
@@ -201,27 +254,33 @@ fn add_slots(
     table: &mut Vec<Vec<Holder>>,
     slots: &[Option<Seq<Seg>>],
     holder: Holder,
+    foreign: bool,
 ) -> Result<(), AllocError>
-    requires { (i : ℕ) → length (lists_of table.old.items) ≤ i → held_in slots.now i ≡ 0 }
-    ensures { IfOk result (λ _. AreAdded (λ i. replicate (held_in slots.now i) holder) (lists_of table.old.items)
+    requires { (i : ℕ) → length (lists_of table.old.items) ≤ i → held_in (local_table foreign slots.now) i ≡ 0 }
+    ensures { IfOk result (λ _. AreAdded (λ i. replicate (held_in (local_table foreign slots.now) i) holder) (lists_of table.old.items)
         (lists_of table.new.items)) }
 {
     for slot in slots {
         if let Some(segs) = slot {
-            add_packet(table, segs.as_slice(), holder)?;
+            add_packet(table, segs.as_slice(), holder, foreign)?;
         }
     }
     Ok(())
 }
 
 /// Notes a holder for each hold of a packet.
-fn add_packet(table: &mut Vec<Vec<Holder>>, segs: &[Seg], holder: Holder) -> Result<(), AllocError>
-    requires { (i : ℕ) → length (lists_of table.old.items) ≤ i → bag (holds_of_packet segs.now) i ≡ 0 }
-    ensures { IfOk result (λ _. AreAdded (λ i. replicate (bag (holds_of_packet segs.now) i) holder)
+fn add_packet(
+    table: &mut Vec<Vec<Holder>>,
+    segs: &[Seg],
+    holder: Holder,
+    foreign: bool,
+) -> Result<(), AllocError>
+    requires { (i : ℕ) → length (lists_of table.old.items) ≤ i → bag (holds_of_packet (local_packet foreign segs.now)) i ≡ 0 }
+    ensures { IfOk result (λ _. AreAdded (λ i. replicate (bag (holds_of_packet (local_packet foreign segs.now)) i) holder)
         (lists_of table.old.items) (lists_of table.new.items)) }
 {
     for seg in segs {
-        add_seg(table, *seg, holder)?;
+        add_seg(table, local(*seg, foreign), holder)?;
     }
     Ok(())
 }
@@ -250,6 +309,18 @@ fn add_base(
         Some(base) => add_hold(table, base, holder),
         None => Ok(()),
     }
+}
+
+/// Notes a holder for one hold of each of these elements.
+fn add_all(table: &mut Vec<Vec<Holder>>, elems: &[u32], holder: Holder) -> Result<(), AllocError>
+    requires { (i : ℕ) → length (lists_of table.old.items) ≤ i → bag elems.now i ≡ 0 }
+    ensures { IfOk result (λ _. AreAdded (λ i. replicate (bag elems.now i) holder) (lists_of table.old.items)
+        (lists_of table.new.items)) }
+{
+    for elem in elems {
+        add_hold(table, *elem, holder)?;
+    }
+    Ok(())
 }
 
 /// Notes a holder for one hold of an element.

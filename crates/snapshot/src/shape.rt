@@ -3,14 +3,19 @@
 ghost use Rattle.std.specs.Prelude.{◌≡◌, ◌↔◌, IfErr, IfOk, IsTrue, map};
 ghost use Rattle.std.specs.List.{range_with_len};
 ghost use Rattle.commons.specs.Bounds.{IsPool};
+ghost use Rattle.pool_model.specs.Guests.{AreOfWorkers};
 ghost use Rattle.snapshot.specs.Faults.{IsFirstFault};
 ghost use Rattle.snapshot.specs.Snapshots.{HasShape};
 
 use crate::fault::Fault;
 use crate::snapshot::{ShareData, Snapshot};
+use pool_model::guest::Guest;
+
+/// The most guests that a worker may have: the segments of 256 packets.
+const MOST_GUESTS: u64 = 8192;
 
 /// Tests whether there are one link and one count for each element, a place for each desk, and a share for each worker
-/// in order, else answers `BadShape`.
+/// in order, and whether guests are of these workers and no more than they may have, else answers `BadShape`.
 pub(crate) fn check(snapshot: &Snapshot) -> Result<(), Fault>
     requires pool { IsPool snapshot.now.limits }
     ensures ok { IfOk result (λ _. HasShape snapshot.now) }
@@ -21,7 +26,9 @@ pub(crate) fn check(snapshot: &Snapshot) -> Result<(), Fault>
     let counts = snapshot.counts.len() as u64 == limits.population;
     let desks = snapshot.desks.len() as u64 == limits.desks;
     let shares = are_in_order(snapshot.shares.as_slice(), limits.workers);
-    if links && counts && desks && shares {
+    let few = snapshot.guests.len() as u64 <= limits.workers * MOST_GUESTS;
+    let guests = few && are_of_workers(snapshot.guests.as_slice(), limits.workers);
+    if links && counts && desks && shares && guests {
         Ok(())
     } else {
         Err(Fault::BadShape)
@@ -38,4 +45,11 @@ fn are_in_order(shares: &[ShareData], workers: u64) -> bool
         }
     }
     shares.len() as u64 == workers
+}
+
+/// Tests whether guests are held by workers of the pool.
+fn are_of_workers(guests: &[Guest], workers: u64) -> bool
+    ensures { IsTrue result ↔ AreOfWorkers workers guests.now }
+{
+    guests.iter().all(|guest| guest.worker >= 1 && u64::from(guest.worker) <= workers)
 }

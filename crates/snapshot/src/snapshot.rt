@@ -3,6 +3,7 @@
 use commons::limits::Limits;
 use commons::packet::Seg;
 use commons::seq::Seq;
+use pool_model::guest::Guest;
 
 /// What a worker hands in, as plain data.
 #[derive(Debug, Drop)]
@@ -33,4 +34,8 @@ pub struct Snapshot {
     pub desks: Seq<Option<Seq<Seg>>>,
     /// The shares, by worker.
     pub shares: Seq<ShareData>,
+    /// The elements that workers hold for packets of another pool: the bases of their segments.
+    pub guests: Seq<Guest>,
+    /// Whether the bases of the packets are elements of another pool, and none of this one.
+    pub foreign: bool,
 }

@@ -1,34 +1,44 @@
--- What a seat of every part knows in a pool without desks.
-use Rattle.std.proofs.Common.{◌≡◌, ℕ, ◌+◌, List, [], ◌∷◌, ◌++◌, Option, length, refl, ◌∙◌, subst, arith}
+-- What a seat of every part knows of a word that it reads twice: both times it is the same.
+use Rattle.std.proofs.Common.{◌≡◌, ℕ, List, ◌++◌, Option, Some, None, sym, ap, ◌∙◌, arith}
 use Rattle.std.specs.Prelude.{flat_map}
-use Rattle.commons.specs.Bag.{bag}
-use Rattle.commons.specs.declared.limits.Limits.{Limits}
 use Rattle.commons.specs.declared.packet.Seg.{Seg}
 use Rattle.commons.specs.Packets.{held_in, holds_in_slot}
-use Rattle.step_core.specs.declared.view.View.{View}
-use Rattle.ground.specs.Seats.{held_below, MayLie, KnowsLength, KnowsCount}
+use Rattle.ground.specs.declared.known.Known.{Known}
+use Rattle.ground.specs.Seats.{held_below, KnowsLength, KnowsCount}
 
--- nothing lies there
-none_lies : (l : Limits) (v : View) (desks : List (Option (List Seg))) → MayLie l v desks → l.desks ≡ 0 → desks ≡ []
-none_lies l v desks may bare = empty desks (may.as_many ∙ bare)
-  where
-    empty : (xs : List (Option (List Seg))) → length xs ≡ 0 → xs ≡ []
-    empty [] e = refl
-    empty (x ∷ xs) e = absurd (omega arith)
+-- what lies on the desks
+abbrev Desks : Type 0
+Desks = List (Option (List Seg))
 
-pub length_bare : (l : Limits) (v : View) (n : ℕ) → KnowsLength l v n → v.part ≡ l.workers →
-    l.desks ≡ 0 →
-    n + v.credit + length v.hand + length v.zeros + held_below l.population (v.holds ++ [])
-    ≡ l.population
-length_bare l v n knows whole bare =
+of_some : Desks → Option Desks → Desks
+of_some d None = d
+of_some d (Some x) = x
+
+same_some : (x y : Desks) → ◌≡◌ {A = Option Desks} (Some x) (Some y) → x ≡ y
+unfolding of_some
+same_some x y e = ap (of_some x) e
+
+-- the same desks are known both times
+same_desks : (n : Known) (x y : Desks) → n.lying ≡ Some x → n.lying ≡ Some y → x ≡ y
+same_desks n x y a b = same_some x y (sym a ∙ b)
+
+pub same_length : (n : Known) (v found : ℕ) → KnowsLength n v → KnowsLength n found →
+    n.view.part ≡ n.limits.workers → found ≡ v
+same_length n v found knows again whole =
     let a = knows whole in
-    subst (λ (desks : List (Option (List Seg))). n + v.credit + length v.hand + length v.zeros
-    + held_below l.population (v.holds ++ flat_map holds_in_slot desks) ≡ l.population)
-    (none_lies l v a.0 a.1 bare) a.2
+    let b = again whole in
+    let held = λ (desks : Desks). held_below n.limits.population (n.view.holds ++ flat_map holds_in_slot desks) in
+    let same : held a.0 ≡ held b.0 = ap held (same_desks n a.0 b.0 a.1 b.1) in
+    let first = a.3 in
+    let second = b.3 in
+    omega arith
 
-pub count_bare : (l : Limits) (v : View) (i n : ℕ) → KnowsCount l v i n → v.part ≡ l.workers →
-    l.desks ≡ 0 → n ≡ bag v.holds i + held_in [] i
-count_bare l v i n knows whole bare =
+pub same_count : (n : Known) (i v found : ℕ) → KnowsCount n i v → KnowsCount n i found →
+    n.view.part ≡ n.limits.workers → found ≡ v
+same_count n i v found knows again whole =
     let a = knows whole in
-    subst (λ (desks : List (Option (List Seg))). n ≡ bag v.holds i + held_in desks i)
-    (none_lies l v a.0 a.1 bare) a.2
+    let b = again whole in
+    let same : held_in a.0 i ≡ held_in b.0 i = ap (λ (desks : Desks). held_in desks i) (same_desks n a.0 b.0 a.1 b.1) in
+    let first = a.3 in
+    let second = b.3 in
+    omega arith

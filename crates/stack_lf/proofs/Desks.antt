@@ -129,24 +129,24 @@ pub offer_did : (d : ℕ) (p : List Seg) (r : Result (Unit {0}) Refusal) (s t : 
     Did DidOnWords side_of s (Offer d p r) t
 offer_did d p (Ok m) s t held own g =
     doing s (Offer d p (Ok m)) t (Offered d p ∷ []) (offered_as p s.known.view) (g.0, refl)
-    (offer_effect d p s t held own g) g.1 refl (λ whole c. c) tt
+    (offer_effect d p s t held own g) g.1 refl (λ whole c. c) g.2
 offer_did d p (Err NoSuchDesk) s t held own g =
     doing s (Offer d p (Err NoSuchDesk)) t [] s.known.view (g.0, refl) (ap side_of g.1)
     (g.1 ∙ same_seat s) refl (λ whole c. c) tt
 offer_did d p (Err DeskTaken) s t held own g =
     doing s (Offer d p (Err DeskTaken)) t (Unoffered d g.0 ∷ []) s.known.view (g.0, g.1, g.2, refl)
-    (ap side_of g.3) g.3 refl (λ whole c. c) tt
+    (ap side_of g.3) g.3 refl (λ whole c. c) g.4
 offer_did d p (Err _) s t held own g = absurd g
 
 pub take_did : (d : ℕ) (r : Result (List Seg) Refusal) (s t : Seated) → Takes d r s t →
     Did DidOnWords side_of s (Take d r) t
 take_did d (Ok p) s t g =
     doing s (Take d (Ok p)) t (Fetched d p ∷ []) (taken_as p s.known.view) (g.0, refl)
-    (take_effect d p s t g) g.1 refl (λ whole c. c) tt
+    (take_effect d p s t g) g.1 refl (λ whole c. c) g.2
 take_did d (Err NoSuchDesk) s t g =
     doing s (Take d (Err NoSuchDesk)) t [] s.known.view (g.0, refl) (ap side_of g.1)
     (g.1 ∙ same_seat s) refl (λ whole c. c) tt
 take_did d (Err DeskEmpty) s t g =
     doing s (Take d (Err DeskEmpty)) t (Untaken d g.0 ∷ []) s.known.view (g.0, g.1, g.2, refl)
-    (ap side_of g.3) g.3 refl (λ whole c. c) tt
+    (ap side_of g.3) g.3 refl (λ whole c. c) g.4
 take_did d (Err _) s t g = absurd g

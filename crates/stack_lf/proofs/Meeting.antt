@@ -1,6 +1,6 @@
 -- What each call leaves, in the trait's words.
 use Rattle.std.proofs.Common.{◌≡◌, ◌≢◌, ◌==◌, ℕ, ◌+◌, ◌-◌, ◌<◌, ◌≤◌, Bool, false, Option, filter, append-nil, ⊎_elim, List, [], ◌∷◌, ◌++◌, reverse, refl, sym, ap, ◌∙◌, subst, arith}
-use Rattle.std.specs.Prelude.{Result, Ok, Err, if◌then◌else◌}
+use Rattle.std.specs.Prelude.{Result, Ok, Err, IfOk, if◌then◌else◌}
 use Rattle.std.proofs.lemmas.Bool.{cond_both, cond-false, ne_eqb, cases_eq, true≢false}
 use Rattle.commons.specs.Bag.{bag, one}
 use Rattle.commons.proofs.Bags.{bag-append, bag-reverse, bag-nil, bag-cons, bag-single, one-same}
@@ -21,8 +21,8 @@ use Rattle.ground.specs.Seats.{Grounded, Seated, IsOf, Note, after, Steps, Knows
 use Rattle.ground.specs.Own.{AtRest}
 use Rattle.stack_lf.specs.Sides.{side_of}
 use Rattle.stack_lf.specs.Tries.{Try, Short, Taken, Counted, notes, notes_of, readings_of, IsOfCall, IsContended}
-use Rattle.stack_lf.specs.Tries.{KnowsShort, KnowsSpent, IsTold, DidOnWords}
-use Rattle.stack_lf.specs.Leaves.{IsAlone, IsBare, tried_to, seen_as, put_as, Gets, Puts, Raises, Lowers, lowered_as}
+use Rattle.stack_lf.specs.Tries.{KnowsShort, KnowsEnough, KnowsSpent, KnowsRaised, KnowsLowered, IsTold, lying_after, DidOnWords}
+use Rattle.stack_lf.specs.Leaves.{IsAlone, tried_to, seen_as, put_as, Gets, Puts, Raises, Lowers, lowered_as}
 use Rattle.stack_lf.proofs.Composing.{still_of}
 use Rattle.stack_lf.proofs.Storing.{bag-minus}
 use Rattle.stack_lf.proofs.Reading.{causes}
@@ -38,10 +38,14 @@ went_of g s t w h = still_of g s t w.0 w.1 h w.2
 pub went_rest : (s t : Seated) → Went s t → AtRest s.known.view → AtRest t.known.view
 went_rest s t w r = subst (λ (x : Seated). AtRest x.known.view) (sym w.2) (w.3 r)
 
+-- the seat with what is known to lie on the desks after the call
+abbrev pub lain : Call → Seated → Seated
+lain call s = record s { known = record s.known { lying = lying_after call s.known.lying } }
+
 -- what a call did, from the tries that it made, and their effect
 pub doing : (s : Seated) (call : Call) (t : Seated) (ts : List Try) (v : View) →
     IsOfCall s.known.limits call ts → HasEffect call (side_of s) (side_of t) →
-    t ≡ tried_to s ts v → v.part ≡ s.known.view.part → (IsAlone s → IsContended s.known.limits call → ⊥) →
+    t ≡ lain call (tried_to s ts v) → v.part ≡ s.known.view.part → (IsAlone s → IsContended call → ⊥) →
     IsTold s call → Did DidOnWords side_of s call t
 doing s call t ts v made effect e part alone told = record {
   readings = readings_of ts;
@@ -55,6 +59,7 @@ doing s call t ts v made effect e part alone told = record {
       tries = ts;
       made = made;
       steps = ap (λ (x : Seated). x.known.steps) e;
+      lying = ap (λ (x : Seated). x.known.lying) e;
       read = refl;
       alone = alone;
       told = told;
@@ -102,10 +107,9 @@ get_effect tries n xs (Ok _) s t g = record {
 get_effect tries n xs (Err e) s t g = ap side_of g.4
 
 -- a refusal after as many lost tries as the pool allows is called so
-get_contended : (l : Limits) (n : ℕ) (e : Refusal) → IsContended l (GetList n (Err e)) →
-    (e ≡ Contended) × (l.desks ≡ 0)
-get_contended l n Contended c = (refl, c)
-get_contended l n _ c = absurd c
+get_contended : (n : ℕ) (e : Refusal) → IsContended (GetList n (Err e)) → e ≡ Contended
+get_contended n Contended c = refl
+get_contended n _ c = absurd c
 
 -- what a refused get and a refused raise tell
 get_told : (s : Seated) (n : ℕ) (e : Refusal) →
@@ -120,28 +124,25 @@ raise_told : (s : Seated) (i : ℕ) (e : Refusal) →
 raise_told s i RefSpent told = told refl
 raise_told s i _ told = tt
 
-put_contended : (l : Limits) (xs : List ℕ) (e : Refusal) → IsContended l (PutList xs (Err e)) →
-    e ≡ Contended
-put_contended l xs Contended c = refl
-put_contended l xs _ c = absurd c
+put_contended : (xs : List ℕ) (e : Refusal) → IsContended (PutList xs (Err e)) → e ≡ Contended
+put_contended xs Contended c = refl
+put_contended xs _ c = absurd c
 
-raise_contended : (l : Limits) (i : ℕ) (e : Refusal) → IsContended l (Raise i (Err e)) →
-    (e ≡ Contended) × (l.desks ≡ 0)
-raise_contended l i Contended c = (refl, c)
-raise_contended l i _ c = absurd c
+raise_contended : (i : ℕ) (e : Refusal) → IsContended (Raise i (Err e)) → e ≡ Contended
+raise_contended i Contended c = refl
+raise_contended i _ c = absurd c
 
 pub get_did : (n : ℕ) (xs : List ℕ) (r : Result (Unit {0}) Refusal) (s t : Seated) →
-    Gets s.known.limits.tries n xs r s t → (IsBare s → r ≢ Err Contended) →
-    (r ≡ Err NoEntries → KnowsShort n s) → Did DidOnWords side_of s (GetList n (with_list r xs)) t
-get_did n xs (Ok m) s t g alone told =
+    Gets s.known.limits.tries n xs r s t → (IsAlone s → r ≢ Err Contended) →
+    (r ≡ Err NoEntries → KnowsShort n s) → IfOk r (λ _. KnowsEnough n s) →
+    Did DidOnWords side_of s (GetList n (with_list r xs)) t
+get_did n xs (Ok m) s t g alone told enough =
     doing s (GetList n (Ok xs)) t g.0 _ g.3
-    (get_effect s.known.limits.tries n xs (Ok m) s t g) g.4 refl (λ whole c. c) tt
-get_did n xs (Err e) s t g alone told =
+    (get_effect s.known.limits.tries n xs (Ok m) s t g) g.4 refl (λ whole c. c) enough
+get_did n xs (Err e) s t g alone told enough =
     doing s (GetList n (Err e)) t g.0 _ g.3
     (get_effect s.known.limits.tries n xs (Err e) s t g) g.4 refl
-    (λ whole c.
-    let why = get_contended s.known.limits n e c in
-    alone (whole, why.1) (ap Err why.0)) (get_told s n e told)
+    (λ whole c. alone whole (ap Err (get_contended n e c))) (get_told s n e told)
 
 -- ---- a put
 
@@ -183,7 +184,7 @@ put_did xs (Ok m) s t h g alone =
 put_did xs (Err e) s t h g alone =
     doing s (PutList xs (Err e)) t g.0 _ g.3
     (put_effect s.known.limits.tries xs (Err e) s t h g) g.4 refl
-    (λ whole c. alone whole (ap Err (put_contended s.known.limits xs e c))) tt
+    (λ whole c. alone whole (ap Err (put_contended xs e c))) tt
 
 -- ---- a count
 
@@ -191,7 +192,7 @@ pub length_went : (n : ℕ) (s t : Seated) → Steps LoadLength (Value n) s t �
 length_went n s t g = ((LoadLength, Value n) ∷ [], s.known.view, g, λ r. r)
 
 pub length_did : (n : ℕ) (s t : Seated) → Steps LoadLength (Value n) s t →
-    KnowsLength s.known.limits s.known.view n → Did DidOnWords side_of s (CommonCount n) t
+    KnowsLength s.known n → Did DidOnWords side_of s (CommonCount n) t
 length_did n s t g known =
     doing s (CommonCount n) t (Short n ∷ []) s.known.view refl (ap side_of g) g refl (λ whole c. c) known
 
@@ -271,7 +272,7 @@ count_went e n s t g = ((Sole e false, Value n) ∷ [], s.known.view, g, λ r. r
 
 pub count_did : (e n : ℕ) (s t : Seated) → Steps (Sole e false) (Value n) s t →
     bag s.known.view.holds e ≤ n → n ≤ s.known.limits.ref_limit →
-    KnowsCount s.known.limits s.known.view e n → Did DidOnWords side_of s (CountOf e n) t
+    KnowsCount s.known e n → Did DidOnWords side_of s (CountOf e n) t
 count_did e n s t g low high known =
     doing s (CountOf e n) t (Counted e n ∷ []) s.known.view refl
     (record { same = ap side_of g; own = low; limited = high }) g refl (λ whole c. c) known
@@ -300,17 +301,15 @@ raise_effect l e (Err _) s t held g = ap side_of g.2
 
 pub raise_did : (e : ℕ) (r : Result (Unit {0}) Refusal) (s t : Seated) →
     0 < bag s.known.view.holds e → Raises s.known.limits e r s t →
-    (IsBare s → r ≢ Err Contended) → (r ≡ Err RefSpent → KnowsSpent e s) →
+    (IsAlone s → r ≢ Err Contended) → (r ≡ Err RefSpent → KnowsSpent e s) → IfOk r (λ _. KnowsRaised e s) →
     Did DidOnWords side_of s (Raise e r) t
-raise_did e (Ok m) s t held g alone told =
+raise_did e (Ok m) s t held g alone told below =
     doing s (Raise e (Ok m)) t g.0 _ g.1 (raise_effect s.known.limits e (Ok m) s t held g) g.2 refl
-    (λ whole c. c) tt
-raise_did e (Err cause) s t held g alone told =
+    (λ whole c. c) below
+raise_did e (Err cause) s t held g alone told below =
     doing s (Raise e (Err cause)) t g.0 _ g.1
     (raise_effect s.known.limits e (Err cause) s t held g) g.2 refl
-    (λ whole c.
-    let why = raise_contended s.known.limits e cause c in
-    alone (whole, why.1) (ap Err why.0)) (raise_told s e cause told)
+    (λ whole c. alone whole (ap Err (raise_contended e cause c))) (raise_told s e cause told)
 
 pub lower_went : (e : ℕ) (answer : Answer) (s t : Seated) → Lowers e answer s t → Went s t
 lower_went e Last s t g = (
@@ -368,13 +367,13 @@ part_lowered e Last v = refl
 part_lowered e Still v = refl
 
 pub lower_did : (e : ℕ) (answer : Answer) (s t : Seated) → 0 < bag s.known.view.holds e →
-    Lowers e answer s t → Did DidOnWords side_of s (Lower e answer) t
-lower_did e answer s t held g =
+    Lowers e answer s t → KnowsLowered e answer s → Did DidOnWords side_of s (Lower e answer) t
+lower_did e answer s t held g told =
     doing s (Lower e answer) t (g.0 ∷ []) (lowered_as e answer s.known.view) (g.0, g.1, refl)
     (lower_effect e answer s t held g)
     (g.2 ∙ ap (λ (l : List Note). after s l (lowered_as e answer s.known.view))
     (sym (append-nil (notes g.0))))
-    (part_lowered e answer s.known.view) (λ whole c. c) tt
+    (part_lowered e answer s.known.view) (λ whole c. c) told
 
 -- the seat with no step more
 pub same_seat : (s : Seated) → s ≡ tried_to s [] s.known.view

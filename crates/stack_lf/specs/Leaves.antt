@@ -12,7 +12,8 @@ use Rattle.step_core.specs.declared.view.Chain.{Chain}
 use Rattle.step_core.specs.declared.view.View.{View}
 use Rattle.step_core.specs.Bags.{minus}
 use Rattle.step_core.specs.Sights.{raised, freed, hold_ended, working, opened, seized}
-use Rattle.ground.specs.Seats.{Seated, after}
+use Rattle.ground.specs.DeskSeats.{laid}
+use Rattle.ground.specs.Seats.{Seated, after, KnowsThere, KnowsEmpty, KnowsFull}
 use Rattle.stack_lf.specs.declared.tried.Tried.{Tried}
 use Rattle.stack_lf.specs.declared.tried.Tried.TheVariants as tried
 use Rattle.stack_lf.specs.Tries.{Try, Walk, IsWalk, Short, Reserved, notes, notes_of, elements, link_note, stores, IsMiss, IsLostCut, IsWonCut, IsLostPush, IsWonPush, IsSpent, IsGet, IsPut, Raised, Counted, IsLostRaise, IsRaise, IsLower, Unoffered, Offered, Untaken, Fetched}
@@ -28,10 +29,6 @@ seen_as v look seen = record v { look = look; seen = seen }
 -- the seat has every part of its pool, so that no other takes a step
 abbrev pub IsAlone : Seated → Type 0
 IsAlone s = s.known.view.part ≡ s.known.limits.workers
-
--- and the pool has no desks, so that no packet on one has holds of which the seat doesn't know
-abbrev pub IsBare : Seated → Type 0
-IsBare s = IsAlone s × (s.known.limits.desks ≡ 0)
 
 -- ---- a walk
 
@@ -241,19 +238,21 @@ taken_as p v = working (seized v p) None
 -- an offer, by its answer
 abbrev pub Offers : ℕ → List Seg → Result (Unit {0}) Refusal → Seated → Seated → Type 0
 Offers d p (Ok _) s t =
-    (d < s.known.limits.desks) × (t ≡ after s (notes (Offered d p)) (offered_as p s.known.view))
+    (d < s.known.limits.desks) × (t ≡ laid d (Some p) (after s (notes (Offered d p)) (offered_as p s.known.view)))
+    × KnowsEmpty d s.known
 Offers d p (Err NoSuchDesk) s t = (s.known.limits.desks ≤ d) × (t ≡ s)
 Offers d p (Err DeskTaken) s t =
     (found : ℕ) × (d < s.known.limits.desks) × (found ≢ 0)
-    × (t ≡ after s (notes (Unoffered d found)) s.known.view)
+    × (t ≡ after s (notes (Unoffered d found)) s.known.view) × KnowsFull d s.known
 Offers d p (Err _) s t = ⊥
 
 -- a take, by its answer
 abbrev pub Takes : ℕ → Result (List Seg) Refusal → Seated → Seated → Type 0
 Takes d (Ok p) s t =
-    (d < s.known.limits.desks) × (t ≡ after s (notes (Fetched d p)) (taken_as p s.known.view))
+    (d < s.known.limits.desks) × (t ≡ laid d None (after s (notes (Fetched d p)) (taken_as p s.known.view)))
+    × KnowsThere d p s.known
 Takes d (Err NoSuchDesk) s t = (s.known.limits.desks ≤ d) × (t ≡ s)
 Takes d (Err DeskEmpty) s t =
     (found : ℕ) × (d < s.known.limits.desks) × (found ≢ 2)
-    × (t ≡ after s (notes (Untaken d found)) s.known.view)
+    × (t ≡ after s (notes (Untaken d found)) s.known.view) × KnowsEmpty d s.known
 Takes d (Err _) s t = ⊥

@@ -1,5 +1,5 @@
 -- The tries of a call over words: their steps, and what they read.
-use Rattle.std.specs.Prelude.{◌≡◌, ◌≢◌, ℕ, suc, ◌<◌, ◌≤◌, true, false, List, [], ◌∷◌, ◌++◌, ◌⊎◌, length, map, flat_map, All, Result, Ok, Err}
+use Rattle.std.specs.Prelude.{◌≡◌, ◌≢◌, ℕ, suc, ◌<◌, ◌≤◌, true, false, List, [], ◌∷◌, ◌++◌, ◌⊎◌, length, map, flat_map, All, Option, Some, None, Result, Ok, Err}
 use Rattle.commons.specs.Calls.{Reading, Length, Head as HeadRead, Count, Desk, Lost as LostRead, Call, GetList, PutList, Claim, CountOf, Raise, Lower, Offer, Take, CommonCount, spent}
 use Rattle.commons.specs.declared.limits.Limits.{Limits}
 use Rattle.commons.specs.declared.packet.Seg.{Seg}
@@ -10,7 +10,7 @@ use Rattle.commons.specs.declared.refusal.Lowered.TheVariants.{Last, Still}
 use Rattle.step_core.specs.declared.view.Head.{Head}
 use Rattle.step_core.specs.declared.step.Step.TheVariants.{LoadLength, Reserve, Add, LoadHead, LoadLink, Cut, StoreLink, Push, Claim as ClaimStep, Sole, Raise as RaiseStep, Lower as LowerStep, Reset, Hold, Open, Seize, Clear}
 use Rattle.step_core.specs.declared.step.Outcome.TheVariants.{Value, HeadIs, Won, Got, Lost, LostTo, Done, Found}
-use Rattle.ground.specs.Seats.{Seated, Note, element_of, KnowsLength, KnowsCount}
+use Rattle.ground.specs.Seats.{Seated, Note, element_of, KnowsLength, KnowsCount, laid_on, KnowsThere, KnowsEmpty, KnowsFull}
 
 -- links that were walked, each an element with the value of its link
 abbrev pub Walk : Type 0
@@ -246,38 +246,60 @@ IsOfCall l (Offer d packet answer) ts = IsOffer l d packet answer ts
 IsOfCall l (Take d answer) ts = IsTake l d answer ts
 IsOfCall l (CommonCount n) ts = ts ≡ Short n ∷ []
 
--- The call was refused after as many lost tries as the pool allows, in a pool in which a seat of every part knows what
--- it exchanges: of a put that is the head, and of a get and a raise a length and a count, with desks or without.
-abbrev pub IsContended : Limits → Call → Type 0
-IsContended l (GetList n (Err Contended)) = l.desks ≡ 0
-IsContended l (PutList xs (Err Contended)) = Unit {0}
-IsContended l (Raise i (Err Contended)) = l.desks ≡ 0
-IsContended l _ = ⊥
+-- the call was refused after as many lost tries as the pool allows
+abbrev pub IsContended : Call → Type 0
+IsContended (GetList n (Err Contended)) = Unit {0}
+IsContended (PutList xs (Err Contended)) = Unit {0}
+IsContended (Raise i (Err Contended)) = Unit {0}
+IsContended _ = ⊥
 
 -- a length below n was read, and is what a seat of every part knows of it
 abbrev pub KnowsShort : ℕ → Seated → Type 0
-KnowsShort n s = (found : ℕ) × (found < n) × KnowsLength s.known.limits s.known.view found
+KnowsShort n s = (found : ℕ) × (found < n) × KnowsLength s.known found
+
+-- or one of n at least
+abbrev pub KnowsEnough : ℕ → Seated → Type 0
+KnowsEnough n s = (found : ℕ) × (n ≤ found) × KnowsLength s.known found
 
 -- and a count at the reference limit
 abbrev pub KnowsSpent : ℕ → Seated → Type 0
-KnowsSpent i s = KnowsCount s.known.limits s.known.view i s.known.limits.ref_limit
+KnowsSpent i s = KnowsCount s.known i s.known.limits.ref_limit
 
--- What a call's answer tells its seat of the length and of a count that were read: what a seat of every part knows of
--- either.
+-- or one below it
+abbrev pub KnowsRaised : ℕ → Seated → Type 0
+KnowsRaised i s = (count : ℕ) × (count < s.known.limits.ref_limit) × KnowsCount s.known i count
+
+-- and the count from which a hold ended
+abbrev pub KnowsLowered : ℕ → Answer → Seated → Type 0
+KnowsLowered i Last s = KnowsCount s.known i 1
+KnowsLowered i Still s = (count : ℕ) × (1 < count) × KnowsCount s.known i count
+
+-- What a call's answer tells its seat of the length and of a count that were read, and of what lies on a desk: what a seat
+-- of every part knows of each.
 abbrev pub IsTold : Seated → Call → Type 0
-IsTold s (GetList n (Ok xs)) = Unit {0}
+IsTold s (GetList n (Ok xs)) = KnowsEnough n s
 IsTold s (GetList n (Err NoEntries)) = KnowsShort n s
 IsTold s (GetList n (Err _)) = Unit {0}
 IsTold s (PutList xs answer) = Unit {0}
 IsTold s (Claim i) = Unit {0}
-IsTold s (CountOf i n) = KnowsCount s.known.limits s.known.view i n
-IsTold s (Raise i (Ok _)) = Unit {0}
+IsTold s (CountOf i n) = KnowsCount s.known i n
+IsTold s (Raise i (Ok _)) = KnowsRaised i s
 IsTold s (Raise i (Err RefSpent)) = KnowsSpent i s
 IsTold s (Raise i (Err _)) = Unit {0}
-IsTold s (Lower i answer) = Unit {0}
-IsTold s (Offer d packet answer) = Unit {0}
-IsTold s (Take d answer) = Unit {0}
-IsTold s (CommonCount n) = KnowsLength s.known.limits s.known.view n
+IsTold s (Lower i answer) = KnowsLowered i answer s
+IsTold s (Offer d packet (Ok _)) = KnowsEmpty d s.known
+IsTold s (Offer d packet (Err DeskTaken)) = KnowsFull d s.known
+IsTold s (Offer d packet (Err _)) = Unit {0}
+IsTold s (Take d (Ok packet)) = KnowsThere d packet s.known
+IsTold s (Take d (Err DeskEmpty)) = KnowsEmpty d s.known
+IsTold s (Take d (Err _)) = Unit {0}
+IsTold s (CommonCount n) = KnowsLength s.known n
+
+-- what is known to lie on the desks after a call: an offer and a take that are met change it
+abbrev pub lying_after : Call → Option (List (Option (List Seg))) → Option (List (Option (List Seg)))
+lying_after (Offer d packet (Ok _)) known = laid_on d (Some packet) known
+lying_after (Take d (Ok packet)) known = laid_on d None known
+lying_after _ known = known
 
 -- what a call over words did: it took the steps of these tries, by this seat, and read what they read
 pub record DidOnWords (s : Seated) (call : Call) (rs : List Reading) (t : Seated) : Type 0 where
@@ -289,8 +311,9 @@ pub record DidOnWords (s : Seated) (call : Call) (rs : List Reading) (t : Seated
   pub tries : List Try
   pub made : IsOfCall s.known.limits call tries
   pub steps : t.known.steps ≡ s.known.steps ++ notes_of tries
+  pub lying : t.known.lying ≡ lying_after call s.known.lying
   pub read : rs ≡ readings_of tries
   -- a seat of every part is in nobody's way
-  pub alone : s.known.view.part ≡ s.known.limits.workers → IsContended s.known.limits call → ⊥
-  -- and knows what a length and a count are, but for what lies on desks
+  pub alone : s.known.view.part ≡ s.known.limits.workers → IsContended call → ⊥
+  -- and knows what lies on the desks, and what a length and a count are
   pub told : IsTold s call

@@ -1,13 +1,13 @@
 //! The calls on one count, and the length as it is read.
 
-ghost use Rattle.std.specs.Prelude.{◌≡◌, ◌≢◌, ◌<◌, ◌≤◌, Err, false, []};
+ghost use Rattle.std.specs.Prelude.{◌≡◌, ◌≢◌, ◌<◌, ◌≤◌, Err, IfOk, false, []};
 ghost use Rattle.commons.specs.Bag.{bag};
 ghost use Rattle.step_core.specs.declared.step.Step.TheVariants.{LoadLength, Sole, Claim as ClaimStep};
 ghost use Rattle.step_core.specs.declared.step.Outcome.TheVariants.{Value};
 ghost use Rattle.ground.specs.Seats.{IsOf, Seated, Steps, KnowsLength, KnowsCount};
 ghost use Rattle.ground.specs.Own.{Owned};
-ghost use Rattle.stack_lf.specs.Tries.{IsLostRaise, KnowsSpent};
-ghost use Rattle.stack_lf.specs.Leaves.{AllLost, TriesRaise, Raises, Lowers, IsBare};
+ghost use Rattle.stack_lf.specs.Tries.{IsLostRaise, KnowsSpent, KnowsRaised, KnowsLowered};
+ghost use Rattle.stack_lf.specs.Leaves.{AllLost, TriesRaise, Raises, Lowers, IsAlone};
 
 use crate::tried::Tried;
 use commons::limits::Limits;
@@ -21,7 +21,7 @@ pub(crate) fn length(ground: &Ground, seat: &mut GroundSeat) -> u64
     requires of { IsOf ground.now seat.old }
     ensures step { Steps LoadLength (Value result) seat.old seat.new }
     ensures few { result ≤ seat.old.known.limits.population }
-    ensures known { KnowsLength seat.old.known.limits seat.old.known.view result }
+    ensures known { KnowsLength seat.old.known result }
     ensures own { Owned seat.new.known.limits seat.new.known.view }
 {
     let length = ground.load_length(seat);
@@ -49,7 +49,7 @@ pub(crate) fn count(ground: &Ground, seat: &mut GroundSeat, element: u32) -> u64
     ensures step { Steps (Sole element false) (Value result) seat.old seat.new }
     ensures held { bag seat.old.known.view.holds element ≤ result }
     ensures limited { result ≤ seat.old.known.limits.ref_limit }
-    ensures known { KnowsCount seat.old.known.limits seat.old.known.view element result }
+    ensures known { KnowsCount seat.old.known element result }
     ensures own { Owned seat.new.known.limits seat.new.known.view }
 {
     let count = ground.sole(seat, element, false);
@@ -65,7 +65,8 @@ fn try_raise(ground: &Ground, seat: &mut GroundSeat, element: u32, limits: &Limi
     requires limits { limits.now ≡ ground.now.limits }
     ensures one { TriesRaise limits.now element result seat.old seat.new }
     ensures told { result ≡ Tried.Refused Refusal.RefSpent → KnowsSpent element seat.old }
-    ensures alone { IsBare seat.old → result ≢ Tried.Lost }
+    ensures below { result ≡ Tried.Won → KnowsRaised element seat.old }
+    ensures alone { IsAlone seat.old → result ≢ Tried.Lost }
 {
     let count = ground.sole(seat, element, false);
     if limits.ref_limit <= count {
@@ -86,6 +87,7 @@ fn raise_apart(ground: &Ground, seat: &mut GroundSeat, element: u32) -> Result<(
     ensures raised { (first : Seated) → AllLost (IsLostRaise ground.now.limits element) 1 first seat.old →
         Raises ground.now.limits element result first seat.new }
     ensures told { result ≡ Err Refusal.RefSpent → KnowsSpent element seat.old }
+    ensures below { IfOk result (λ _. KnowsRaised element seat.old) }
 {
     let limits = ground.limits();
     let backoff = Backoff::new();
@@ -108,6 +110,7 @@ fn raise_again(ground: &Ground, seat: &mut GroundSeat, element: u32) -> Result<(
     ensures raised { (first : Seated) → AllLost (IsLostRaise ground.now.limits element) 1 first seat.old →
         Raises ground.now.limits element result first seat.new }
     ensures told { result ≡ Err Refusal.RefSpent → KnowsSpent element seat.old }
+    ensures below { IfOk result (λ _. KnowsRaised element seat.old) }
 {
     match raise_apart(ground, seat, element) {
         Ok(()) => Ok(()),
@@ -129,7 +132,8 @@ fn raise_by_tries(
     requires some { 1 ≤ limits.now.tries }
     ensures raised { Raises limits.now element result seat.old seat.new }
     ensures told { result ≡ Err Refusal.RefSpent → KnowsSpent element seat.old }
-    ensures alone { IsBare seat.old → result ≢ Err Refusal.Contended }
+    ensures below { IfOk result (λ _. KnowsRaised element seat.old) }
+    ensures alone { IsAlone seat.old → result ≢ Err Refusal.Contended }
 {
     match try_raise(ground, seat, element, limits) {
         Tried::Won => Ok(()),
@@ -152,7 +156,8 @@ pub(crate) fn raise(
     requires some { 1 ≤ limits.now.tries }
     ensures raised { Raises limits.now element result seat.old seat.new }
     ensures told { result ≡ Err Refusal.RefSpent → KnowsSpent element seat.old }
-    ensures alone { IsBare seat.old → result ≢ Err Refusal.Contended }
+    ensures below { IfOk result (λ _. KnowsRaised element seat.old) }
+    ensures alone { IsAlone seat.old → result ≢ Err Refusal.Contended }
     ensures own { Owned seat.new.known.limits seat.new.known.view }
 {
     let answer = raise_by_tries(ground, seat, element, limits);
@@ -167,7 +172,8 @@ fn lower_once(ground: &Ground, seat: &mut GroundSeat, element: u32) -> Lowered
     requires of { IsOf ground.now seat.old }
     requires held { 0 < bag seat.old.known.view.holds element }
     requires zeros { seat.old.known.view.zeros ≡ [] }
-    ensures { Lowers element result seat.old seat.new }
+    ensures lowered { Lowers element result seat.old seat.new }
+    ensures told { KnowsLowered element result seat.old }
 {
     if ground.sole(seat, element, true) == 1 {
         return Lowered::Last;
@@ -186,6 +192,7 @@ pub(crate) fn lower(ground: &Ground, seat: &mut GroundSeat, element: u32) -> Low
     requires held { 0 < bag seat.old.known.view.holds element }
     requires zeros { seat.old.known.view.zeros ≡ [] }
     ensures lowered { Lowers element result seat.old seat.new }
+    ensures told { KnowsLowered element result seat.old }
     ensures own { Owned seat.new.known.limits seat.new.known.view }
 {
     let answer = lower_once(ground, seat, element);

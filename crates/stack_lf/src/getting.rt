@@ -1,10 +1,11 @@
 //! The tries of a get: to reserve, and to cut what is reserved.
 
-ghost use Rattle.std.specs.Prelude.{◌≡◌, ◌≢◌, ◌<◌, ◌≤◌, Err, Some, None, length, IfSome, IfNone};
+ghost use Rattle.std.specs.Prelude.{◌≡◌, ◌≢◌, ◌<◌, ◌≤◌, Err, Some, None, length, IfOk, IfSome, IfNone};
+ghost use Rattle.commons.specs.Bounds.{max_population};
 ghost use Rattle.ground.specs.Seats.{IsOf, Seated, KnowsEnd};
 ghost use Rattle.ground.specs.Own.{Owned};
-ghost use Rattle.stack_lf.specs.Tries.{Walk, elements, IsMiss, IsLostCut, KnowsShort};
-ghost use Rattle.stack_lf.specs.Leaves.{AllLost, LostBut, IsAlone, IsBare, start, Walked, TriesReserve, TriesCut, Reserves, Cuts, Gets};
+ghost use Rattle.stack_lf.specs.Tries.{Walk, elements, IsMiss, IsLostCut, KnowsShort, KnowsEnough};
+ghost use Rattle.stack_lf.specs.Leaves.{AllLost, LostBut, IsAlone, start, Walked, TriesReserve, TriesCut, Reserves, Cuts, Gets};
 
 use crate::tried::Tried;
 use commons::limits::SPENT;
@@ -21,7 +22,8 @@ fn try_reserve(ground: &Ground, seat: &mut GroundSeat, n: u64) -> Tried
     requires some { 1 ≤ n }
     ensures one { TriesReserve n result seat.old seat.new }
     ensures told { result ≡ Tried.Refused Refusal.NoEntries → KnowsShort n seat.old }
-    ensures alone { IsBare seat.old → result ≢ Tried.Lost }
+    ensures enough { result ≡ Tried.Won → KnowsEnough n seat.old }
+    ensures alone { IsAlone seat.old → result ≢ Tried.Lost }
 {
     let length = ground.load_length(seat);
     if length < n {
@@ -42,6 +44,7 @@ fn reserve_apart(ground: &Ground, seat: &mut GroundSeat, n: u64) -> Result<(), R
     ensures reserves { (first : Seated) → AllLost (IsMiss n) 1 first seat.old →
         Reserves ground.now.limits.tries n result first seat.new }
     ensures told { result ≡ Err Refusal.NoEntries → KnowsShort n seat.old }
+    ensures enough { IfOk result (λ _. KnowsEnough n seat.old) }
 {
     let limits = ground.limits();
     let backoff = Backoff::new();
@@ -64,6 +67,7 @@ fn reserve_again(ground: &Ground, seat: &mut GroundSeat, n: u64) -> Result<(), R
     ensures reserves { (first : Seated) → AllLost (IsMiss n) 1 first seat.old →
         Reserves ground.now.limits.tries n result first seat.new }
     ensures told { result ≡ Err Refusal.NoEntries → KnowsShort n seat.old }
+    ensures enough { IfOk result (λ _. KnowsEnough n seat.old) }
 {
     match reserve_apart(ground, seat, n) {
         Ok(()) => Ok(()),
@@ -79,7 +83,8 @@ fn reserve(ground: &Ground, seat: &mut GroundSeat, n: u64) -> Result<(), Refusal
     requires tries { 1 ≤ ground.now.limits.tries }
     ensures reserves { Reserves ground.now.limits.tries n result seat.old seat.new }
     ensures told { result ≡ Err Refusal.NoEntries → KnowsShort n seat.old }
-    ensures alone { IsBare seat.old → result ≢ Err Refusal.Contended }
+    ensures enough { IfOk result (λ _. KnowsEnough n seat.old) }
+    ensures alone { IsAlone seat.old → result ≢ Err Refusal.Contended }
 {
     match try_reserve(ground, seat, n) {
         Tried::Won => Ok(()),
@@ -96,7 +101,7 @@ fn walk(ground: &Ground, seat: &mut GroundSeat, head: Head, out: &mut [u32]) -> 
     requires look { seat.old.known.view.look ≡ Some (start head) }
     requires end { KnowsEnd seat.old.known.limits seat.old.known.view }
     requires top { head.top ≤ ground.now.limits.population }
-    requires small { ground.now.limits.population ≤ 65534 }
+    requires small { ground.now.limits.population ≤ max_population }
     ensures some { IfSome result (λ next. (ps : Walk) × Walked head ps next seat.old seat.new × (out.new ≡ elements ps)) }
     ensures none { IfNone result ((ps : Walk) × Walked head ps 0 seat.old seat.new × (length ps < length out.old)) }
     ensures alone { IsAlone seat.old → length out.old ≤ seat.old.known.view.credit → result ≢ None }
@@ -206,7 +211,8 @@ fn get_or_return(ground: &Ground, seat: &mut GroundSeat, out: &mut [u32]) -> Res
     requires tries { 1 ≤ ground.now.limits.tries }
     ensures got { Gets ground.now.limits.tries (length out.old) out.new result seat.old seat.new }
     ensures told { result ≡ Err Refusal.NoEntries → KnowsShort (length out.old) seat.old }
-    ensures alone { IsBare seat.old → result ≢ Err Refusal.Contended }
+    ensures enough { IfOk result (λ _. KnowsEnough (length out.old) seat.old) }
+    ensures alone { IsAlone seat.old → result ≢ Err Refusal.Contended }
     ensures len { length out.new ≡ length out.old }
 {
     let n = out.len() as u64;
@@ -229,7 +235,8 @@ pub(crate) fn get(ground: &Ground, seat: &mut GroundSeat, out: &mut [u32]) -> Re
     requires some { 1 ≤ length out.old }
     ensures got { Gets ground.now.limits.tries (length out.old) out.new result seat.old seat.new }
     ensures told { result ≡ Err Refusal.NoEntries → KnowsShort (length out.old) seat.old }
-    ensures alone { IsBare seat.old → result ≢ Err Refusal.Contended }
+    ensures enough { IfOk result (λ _. KnowsEnough (length out.old) seat.old) }
+    ensures alone { IsAlone seat.old → result ≢ Err Refusal.Contended }
     ensures len { length out.new ≡ length out.old }
     ensures own { Owned seat.new.known.limits seat.new.known.view }
 {

@@ -2,6 +2,7 @@
 
 ghost use Rattle.std.specs.Prelude.{◌≡◌, ◌≢◌, ◌<◌, ◌≤◌, Err, None, length, ℕ};
 ghost use Rattle.commons.specs.Bag.{bag};
+ghost use Rattle.commons.specs.Bounds.{max_population};
 ghost use Rattle.ground.specs.Seats.{IsOf, Seated};
 ghost use Rattle.ground.specs.Own.{Owned};
 ghost use Rattle.stack_lf.specs.Leaves.{LostBut, IsAlone, Stored, TriesPush, Pushes, Puts};
@@ -22,7 +23,7 @@ fn store_links(ground: &Ground, seat: &mut GroundSeat, top: u32, list: &[u32]) -
     requires once { (i : ℕ) → bag list.now i ≤ 1 }
     requires below { (i : ℕ) → 0 < bag list.now i → i < ground.now.limits.population }
     requires top { top ≤ ground.now.limits.population }
-    requires small { ground.now.limits.population ≤ 65534 }
+    requires small { ground.now.limits.population ≤ max_population }
     requires chain { seat.old.known.view.chain ≡ None }
     ensures first { result ≡ last_of top list.now }
     ensures stored { Stored top list.now seat.old seat.new }

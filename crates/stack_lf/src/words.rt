@@ -62,7 +62,7 @@ impl<'a> WordCommons<'a> {
 }
 
 /// Each call takes as many steps at most as is said here, each one atomic operation on one word or slot. A seat of every
-/// part is never refused `Contended` on a put, nor, in a pool without desks, on a get and a raise.
+/// part is never refused `Contended`.
 impl<'a> Commons for WordCommons<'a> {
     ghost side = { λ c. side_of c.seat };
 

@@ -25,7 +25,7 @@ slot_kept desks e d x inside same =
 
 module _ (d : ℕ) where
   -- the slot is empty after the step, or has what was put in last
-  abbrev SlotIs : World → Option Packet → Type 0
+  abbrev pub SlotIs : World → Option Packet → Type 0
   SlotIs u p = ((desk_at u.desks d).slot ≡ None) ⊎ ((desk_at u.desks d).slot ≡ p)
 
   abbrev Puts : World → Step → Play → Type 0
@@ -145,7 +145,7 @@ module _ (d : ℕ) where
       (λ t. inr (sym (cond-true (e == d) (Some q) p t))) (λ t. inl refl)
   put_either _ p = inl refl
 
-  slot_after : (w : World) (worker : ℕ) (s : Step) (o : Outcome) (u : World) (p : Option Packet) →
+  pub slot_after : (w : World) (worker : ℕ) (s : Step) (o : Outcome) (u : World) (p : Option Packet) →
       play w worker s ≡ Some (o, u) → SlotIs w p → SlotIs u (put_by d s p)
   slot_after w worker s o u p e is =
       let q = play_is w worker s o u e in

@@ -1,13 +1,13 @@
 -- A step keeps what the type of a world keeps.
-use Rattle.std.proofs.Common.{◌≡◌, ℕ, suc, ◌<◌, Option, Some, None, Result, Ok, Err, length, refl, sym, ap, subst, ◌∙◌, arith, ⊎_elim}
-use Rattle.std.specs.Prelude.{MatchOption}
-use Rattle.std.proofs.lemmas.Bool.{cases_eq}
+use Rattle.std.proofs.Common.{◌≡◌, ℕ, zero, suc, ◌-◌, ◌<◌, ◌≤◌, Bool, Option, Some, None, Result, Ok, Err, length, refl, sym, ap, subst, ◌∙◌, arith, ⊎_elim}
+use Rattle.std.specs.Prelude.{MatchOption, if◌then◌else◌}
+use Rattle.std.proofs.lemmas.Bool.{cases_eq, lt-ltb}
 use Rattle.std.proofs.lemmas.List.{length-set, length-replicate, get_or-replicate}
 use Rattle.commons.specs.Bounds.{IsPool}
 use Rattle.commons.specs.declared.refusal.Refusal.{Refusal}
 use Rattle.commons.specs.declared.refusal.Refusal.TheVariants.{OutOfMemory, StepRefused}
 use Rattle.step_core.specs.World.{World, Limits, View, view_at, empty_view}
-use Rattle.step_core.specs.Steps.{Step, Outcome, Play, played}
+use Rattle.step_core.specs.Steps.{Step, Outcome, Play, turn, played}
 use Rattle.step_core.specs.Opening.{opening}
 use Rattle.step_core.specs.Changes.{OneWord, Neither, HeadWord, LengthWord, LinkWord, CountWord, DeskWord, Slot, ChangesOne}
 use Rattle.step_core.specs.Kept.{IsWorld, Answers}
@@ -67,6 +67,15 @@ opening_keeps l is = record {
   law = eight_of_four (opening l) (opening_lawful l is.refs_low);
 }
 
+-- the step of a worker is that of the view before its number
+pub played_turn : (w : World) (worker : ℕ) (s : Step) → 0 < worker → worker ≤ length w.views →
+    played w worker s ≡ turn w (worker - 1) s
+played_turn w zero s some all = absurd (omega arith)
+played_turn w (suc k) s some all =
+    let same : suc k - 1 ≡ k = omega arith in
+    ap (λ (b : Bool). if b then turn w k s else None) (lt-ltb k (length w.views) (omega arith))
+    ∙ ap (λ (n : ℕ). turn w n s) (sym same)
+
 -- whatever a step answers
 pub answers_keep : (w u : World) (worker : ℕ) (s : Step) (r : Result Outcome Refusal) → IsWorld w →
     Answers s (played w worker s) w r u → IsWorld u
@@ -77,5 +86,5 @@ answers_keep w u worker s (Ok o) is a = played_keep (played w worker s) refl a
     played_keep None e h = absurd h
     played_keep (Some p) e h = subst IsWorld (sym h.1) (play_keeps w worker s p is e)
 answers_keep w u worker s (Err StepRefused) is a = subst IsWorld (sym a.1) is
-answers_keep w u worker s (Err OutOfMemory) is a = subst IsWorld (sym a.2) is
+answers_keep w u worker s (Err OutOfMemory) is a = subst IsWorld (sym a.1) is
 answers_keep w u worker s (Err _) is a = absurd a

@@ -11,7 +11,7 @@ use Rattle.step_core.specs.Steps.{Outcome, Cut, Got, Play, played, event_of, row
 use Rattle.step_core.specs.Kept.{IsWorld}
 use Rattle.step_core.specs.Schedules.{Schedule}
 use Rattle.step_core.specs.Runs.{Reaches}
-use Rattle.step_core.specs.Headline.{held_below, AllAreThere, LengthIsBounded, FrontThenRest, LostIsLater, ChainIsOfHand, CutGetsAll, after_of, events_along, SchedulesAreRuns, Gets, Puts, NotGivenAgain, StoppedKeepsItsView}
+use Rattle.step_core.specs.Headline.{held_below, AllAreThere, LengthIsBounded, FrontThenRest, LostIsLater, ChainIsOfHand, CutGetsAll, after_of, events_along, SchedulesAreRuns, Gets, Puts, IsHeld, HeldIsLeft, NotGivenAgain, StoppedKeepsItsView}
 use Rattle.step_core.proofs.Rules.{FourLaws}
 use Rattle.step_core.proofs.Regroup.{four_of_eight}
 use Rattle.step_core.proofs.Bags.{times-append, times-from_length, below-le}
@@ -247,6 +247,36 @@ module _ (i : ℕ) (p : Place) (away : p ≢ Common) where
   got_common (Free w j) q b g = g
   got_common (Offer w d xs) q b g = g
   got_common (Take w d xs) q b g = g
+
+-- nothing is done to what is held but to hold it once more, or once less
+module _ (i : ℕ) where
+  got_held : (p q : Place) (e : Event) → IsHeld p → Becomes e i p q → Gets i e → ⊥
+  got_held p q (Get w xs) held b g = subst IsHeld (b.0 g).0 held
+  got_held p q (Put w xs) held b g = g
+  got_held p q (Claim w j) held b g = g
+  got_held p q (Attach w j) held b g = g
+  got_held p q (Free w j) held b g = g
+  got_held p q (Offer w d xs) held b g = g
+  got_held p q (Take w d xs) held b g = g
+
+  put_held : (p q : Place) (e : Event) → IsHeld p → Becomes e i p q → Puts i e → ⊥
+  put_held p q (Get w xs) held b g = g
+  put_held p q (Put w xs) held b g = subst IsHeld (b.0 g).0 held
+  put_held p q (Claim w j) held b g = g
+  put_held p q (Attach w j) held b g = g
+  put_held p q (Free w j) held b g = g
+  put_held p q (Offer w d xs) held b g = g
+  put_held p q (Take w d xs) held b g = g
+
+pub held_is_left : HeldIsLeft
+held_is_left n t u [] i l r = (tt, tt)
+held_is_left n t u (e ∷ es) i l r =
+    let s = r.1.0 in
+    let b = r.1.1.moves.1 i l in
+    let rest = held_is_left n s u es i l r.1.2 in (
+      (got_held i (t i) (s i) e r.0 b, rest.0),
+      (put_held i (t i) (s i) e r.0 b, rest.1),
+    )
 
 pub not_given_again : NotGivenAgain
 not_given_again n t u [] i r l away never = tt

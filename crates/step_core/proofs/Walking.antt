@@ -1,6 +1,6 @@
 -- Every schedule walks.
 use Rattle.std.proofs.Common.{◌≡◌, ℕ, suc, ◌+◌, ◌<◌, List, [], ◌∷◌, ◌++◌, Option, Some, None, Err, length, take, drop, get_or, inl, inr, refl, sym, ap, subst, ◌∙◌, arith}
-use Rattle.std.specs.Prelude.{IsSome}
+use Rattle.std.specs.Prelude.{MatchOption}
 use Rattle.std.proofs.Math.Seq.{take-suc, drop-cons}
 use Rattle.std.proofs.lemmas.List.{take-append-drop}
 use Rattle.commons.specs.declared.refusal.Refusal.{Refusal}
@@ -99,7 +99,7 @@ stops_first w steps is = record {
 -- the step at this index found no memory for the list that it makes longer
 pub stops_without : (w : World) (steps : Schedule) (i : ℕ) (d : ℕ × Step) (os : List Outcome)
     (u : World) → IsWorld w → i < length steps → Reaches w (take i steps) os u
-    → Grows (get_or steps i d).1 × IsSome (play u (get_or steps i d).0 (get_or steps i d).1)
+    → MatchOption (play u (get_or steps i d).0 (get_or steps i d).1) ⊥ (λ q. Grows (get_or steps i d).1 q.0)
     → Stopped w steps OutOfMemory u
 stops_without w steps i d os u is l r a = record {
   front = take i steps;
@@ -118,8 +118,8 @@ pub stops : (w : World) (steps : Schedule) (i : ℕ) (d : ℕ × Step) (os : Lis
 stops w steps i d os u v StepRefused is l r a =
     subst (Stopped w steps StepRefused) (sym a.1) (stops_refused w steps i d os u is l r a.0)
 stops w steps i d os u v OutOfMemory is l r a =
-    subst (Stopped w steps OutOfMemory) (sym a.2)
-    (stops_without w steps i d os u is l r (a.0, a.1))
+    subst (Stopped w steps OutOfMemory) (sym a.1)
+    (stops_without w steps i d os u is l r a.0)
 stops w steps i d os u v _ is l r a = absurd a
 
 -- the same by the step that was read

@@ -1,6 +1,7 @@
 -- Schedules worked out by computation: a stale exchange, a lagging length, a stopped worker, a hand-over.
 use Rattle.std.proofs.Common.{◌≡◌, ℕ, [], ◌∷◌, List, Option, Some, None, map, refl, true, false}
 use Rattle.commons.specs.Bag.{bag}
+use Rattle.commons.specs.declared.limits.PutRule.TheVariants.{Keep}
 use Rattle.step_core.specs.Bags.{without, minus}
 use Rattle.step_core.specs.World.{Head, World, Limits, Packet}
 use Rattle.step_core.specs.Steps.{LoadLength, Reserve, Add, LoadHead, LoadLink, Cut, StoreLink, Push, Claim, Sole, Raise, Lower, Reset, Hold, PutIn, Open, Seize, TakeOut, Clear, Value, HeadIs, Won, Got, Lost, LostTo, Done, Found, Outcome, Play, played}
@@ -31,6 +32,7 @@ limits population workers desks = record {
   ref_limit = 65535;
   tries = 64;
   start_count = 0;
+  put_rule = Keep;
 }
 
 head_of : ℕ → ℕ → Head

@@ -5,7 +5,7 @@ use Rattle.step_core.specs.Bags.{Includes, IsDistinct}
 use Rattle.step_core.specs.Links.{Spells}
 use Rattle.step_core.specs.World.{World, Look, Chain, view_of, link_in, all_holds, credits}
 use Rattle.step_core.specs.Law.{Lawful}
-use Rattle.step_core.specs.Table.{Common, Table, Event, Get, Put, Claim, Attach, Free, Offer, Take, Run}
+use Rattle.step_core.specs.Table.{Place, Common, Hand, Held, Table, Event, Get, Put, Claim, Attach, Free, Offer, Take, Leads, Run}
 use Rattle.step_core.specs.Shows.{Shows}
 use Rattle.step_core.specs.Steps.{Cut, Got, Play, play, played, event_of}
 use Rattle.step_core.specs.Kept.{IsWorld}
@@ -119,6 +119,23 @@ Puts i (Take w d xs) = ⊥
 abbrev pub Never : (Event → Type 0) → List Event → Type 0
 Never P [] = ⊤
 Never P (e ∷ es) = (P e → ⊥) × Never P es
+
+-- a place where somebody holds the element
+abbrev pub IsHeld : Place → Type 0
+IsHeld Common = ⊥
+IsHeld (Hand w) = ⊥
+IsHeld (Held ws ds) = ⊤
+
+-- a run in each of whose tables the element is held
+abbrev pub RunHeld : ℕ → ℕ → Table → List Event → Table → Type 0
+RunHeld n i t [] u = IsHeld (t i) × Run n t [] u
+RunHeld n i t (e ∷ es) u = IsHeld (t i) × ((s : Table) × Leads n e t s × RunHeld n i s es u)
+
+-- no get and no put lists an element as long as it is held
+abbrev pub HeldIsLeft : Type 0
+HeldIsLeft =
+    (n : ℕ) (t u : Table) (events : List Event) (i : ℕ) → i < n → RunHeld n i t events u →
+    Never (Gets i) events × Never (Puts i) events
 
 -- While an element isn't common, and until a put lists it, no get lists it: so from its get on, and as long as
 -- anybody holds it.

@@ -1,5 +1,5 @@
 -- Schedules that are played, and what is so of every world that they pass.
-use Rattle.std.specs.Prelude.{◌≡◌, ◌⊎◌, List, [], ◌∷◌, ◌++◌, Some, None, IsSome}
+use Rattle.std.specs.Prelude.{◌≡◌, ◌⊎◌, List, [], ◌∷◌, ◌++◌, Some, None, MatchOption}
 use Rattle.commons.specs.declared.refusal.Refusal.{Refusal}
 use Rattle.commons.specs.declared.refusal.Refusal.TheVariants.{OutOfMemory, StepRefused}
 use Rattle.step_core.specs.Table.{Table}
@@ -42,10 +42,10 @@ abbrev pub FailsFirst : World → Schedule → Type 0
 FailsFirst u [] = ⊥
 FailsFirst u (p ∷ rest) = play u p.0 p.1 ≡ None
 
--- the first of these steps is played at u, and makes a list longer
+-- the first of these steps would be played at u, with an outcome for which a list gets longer
 abbrev pub GrowsFirst : World → Schedule → Type 0
 GrowsFirst u [] = ⊥
-GrowsFirst u (p ∷ rest) = Grows p.1 × IsSome (play u p.0 p.1)
+GrowsFirst u (p ∷ rest) = MatchOption (play u p.0 p.1) ⊥ (λ q. Grows p.1 q.0)
 
 -- Why a run stops at u, between the steps that it played and the rest: the condition of the rest's
 -- first fails there. Or no memory was had: for the outcomes, before the first step, or for a list

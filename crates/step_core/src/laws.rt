@@ -2,7 +2,7 @@
 
 ghost use Rattle.step_core.specs.Handing.{GivesWhatWasPutIn};
 ghost use Rattle.step_core.specs.Headers.{OpensWithHeaders, KeepsHeaders, SchedulesKeepHeaders};
-ghost use Rattle.step_core.specs.Headline.{AllAreThere, LengthIsBounded, FrontThenRest, LostIsLater, ChainIsOfHand, CutGetsAll, SchedulesAreRuns, NotGivenAgain, StoppedKeepsItsView};
+ghost use Rattle.step_core.specs.Headline.{AllAreThere, LengthIsBounded, FrontThenRest, LostIsLater, ChainIsOfHand, CutGetsAll, SchedulesAreRuns, HeldIsLeft, NotGivenAgain, StoppedKeepsItsView};
 ghost use Rattle.step_core.specs.Runs.{EveryScheduleWalks};
 ghost use Rattle.step_core.specs.Schedules.{OpensLawful, KeepsLaw, MakesItsEvent, ChangesLittle, MakesItsView, LawfulShows};
 
@@ -52,6 +52,12 @@ pub fn schedules_are_runs()
 /// While an element isn't common, no get lists it, until a put does: from its get on, and as long as it is held.
 pub fn nothing_is_given_again()
     ensures { NotGivenAgain }
+{}
+
+/// As long as an element is held, no get and no put lists it: over every run of the table in which it is held in each
+/// table.
+pub fn what_is_held_is_left()
+    ensures { HeldIsLeft }
 {}
 
 /// A cut that won gives its whole front, distinct elements, by one get.

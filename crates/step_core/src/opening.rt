@@ -1,7 +1,7 @@
 //! The fields of a world at the start.
 
 ghost use Rattle.std.specs.Prelude.{◌≡◌, ◌≤◌, replicate, IfOk};
-ghost use Rattle.commons.specs.Bounds.{IsPool};
+ghost use Rattle.commons.specs.Bounds.{IsPool, max_population};
 ghost use Rattle.step_core.specs.Kept.{world_of};
 ghost use Rattle.step_core.specs.Opening.{opening, links_up};
 ghost use Rattle.step_core.specs.World.{no_desk, empty_view};
@@ -37,7 +37,7 @@ pub fn opened(alloc: Global, limits: &Limits) -> Result<Words, AllocError>
 
 /// Links that lead from element 0 through all.
 fn links_up(alloc: Global, count: u32) -> Result<Vec<u32>, AllocError>
-    requires { count ≤ 65534 }
+    requires { count ≤ max_population }
     ensures { IfOk result (λ v. v.items ≡ links_up 0 count) }
 {
     let mut links = Vec::with_capacity(alloc, count as usize)?;

@@ -1,6 +1,7 @@
 //! The eight steps of the stack, by the worker at an index.
 
-ghost use Rattle.std.specs.Prelude.{◌≡◌, ◌<◌, vec_len, Option, option_map};
+ghost use Rattle.std.specs.Prelude.{◌≡◌, ◌<◌, ◌≤◌, vec_len, Option, option_map};
+ghost use Rattle.commons.specs.Bounds.{max_population};
 ghost use Rattle.step_core.specs.Kept.{world_of, IsWorld, Turns};
 ghost use Rattle.step_core.specs.Steps.{turn, same_head};
 ghost use Rattle.step_core.specs.Sights.{LinkOf};
@@ -116,7 +117,7 @@ pub fn cut(words: &mut Words, index: usize) -> Result<Outcome, Refusal>
 
 /// The link value of an element, or of none, if it is of a pool of so many.
 fn link_value(population: u64, next: Option<u64>) -> Option<u32>
-    requires { population < 65536 }
+    requires { population ≤ max_population }
     ensures { LinkOf population next result }
 {
     match next {

@@ -1,6 +1,6 @@
 //! What the words are, and what each worker has seen.
 
-ghost use Rattle.std.specs.Prelude.{◌≡◌, ◌==◌, ◌+◌, ◌^◌, suc, Some, None, ◌<◌, ◌≤◌, All, IfOk, IfSome, OnOk, OnErr, MatchOption, length};
+ghost use Rattle.std.specs.Prelude.{◌≡◌, ◌==◌, ◌+◌, ◌^◌, suc, Some, None, ◌<◌, ◌≤◌, true, All, IfOk, IfErr, IfSome, OnOk, OnErr, MatchOption, length};
 ghost use Rattle.commons.specs.Calls.{spent};
 ghost use Rattle.commons.specs.Bounds.{max_population};
 ghost use Rattle.step_core.specs.Steps.{chain_after, phase_at};
@@ -242,6 +242,7 @@ impl View {
     pub fn end_hold(&mut self, element: u32, last: bool) -> Result<(), AllocError>
         ensures ok { OnOk result (self.new ≡ hold_ended self.old element last) }
         ensures err { OnErr result (self.new ≡ self.old) }
+        ensures last { IfErr result (λ _. last ≡ true) }
     {
         if last {
             self.zeros.push(element)?;

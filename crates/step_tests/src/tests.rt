@@ -19,6 +19,7 @@ mod random;
 mod refusals;
 mod schedules;
 mod shown;
+mod stopped;
 mod texts;
 
 use acts::{Act, Told, is_told, step_of};
@@ -269,6 +270,46 @@ fn each_script_of_steps_prints_its_text(rt: HostRuntime) -> Result<(), Fail> {
     for (name, text, refusal) in texts::FAULTY {
         let cause = printed_by(rt.alloc(), text).err();
         same(&rt, &cause, &Some(*refusal), name);
+    }
+    Ok(())
+}
+
+/// How often an element stands in the common list and in hands of a printed world, and once more where it is held, by
+/// workers or by a packet on a full desk.
+fn places_in(text: &str, element: &str) -> usize {
+    let mut places = 0usize;
+    let mut is_held = false;
+    for line in text.lines() {
+        if let Some((what, elements)) = line.split_once(':') {
+            let times = elements.split(' ').filter(|word| *word == element).count();
+            if what.starts_with("common") || what.starts_with("hand") {
+                places = places.saturating_add(times);
+            } else if what.starts_with("holds") || what.starts_with("desk") {
+                is_held |= times > 0;
+            }
+        }
+    }
+    places.saturating_add(usize::from(is_held))
+}
+
+/// Each of the four elements is in one place.
+fn assert_each_in_one_place<R: Abort>(rt: &R, text: &str, name: &str) {
+    for element in ["0", "1", "2", "3"] {
+        same(
+            rt,
+            &(element, places_in(text, element)),
+            &(element, 1),
+            name,
+        );
+    }
+}
+
+#[test]
+fn wherever_a_worker_stopped_each_element_is_in_one_place(rt: HostRuntime) -> Result<(), Fail> {
+    same(&rt, &stopped::ROWS.len(), &19, "the kinds of step");
+    for row in stopped::ROWS {
+        assert_prints(&rt, row)?;
+        assert_each_in_one_place(&rt, row.2, row.0);
     }
     Ok(())
 }

@@ -1,8 +1,9 @@
 -- What is printed in each form, and for each task.
 use Rattle.std.specs.Prelude.{ℕ, ◌≡◌, List, ◌++◌, codes}
 use Rattle.commons.specs.declared.refusal.Refusal.{Refusal}
-use Rattle.json_text.specs.StatementData.{json_of}
+use Rattle.json_text.specs.StatementData.{json_of, numbers_of}
 use Rattle.pool_model.specs.declared.statement.Statement.{Statement}
+use Rattle.script.specs.Losing.{IsCauseWithout, LosesFrom, lost_text}
 use Rattle.script.specs.Printed.{IsJsonFor, IsPrintedFor}
 use Rattle.script.specs.Running.{RunsTo}
 use Rattle.script.specs.declared.threaded.Grounds.{Grounds}
@@ -13,7 +14,7 @@ use Rattle.step_text.specs.Printed.{IsStepsPrint}
 use Rattle.tasks.specs.declared.task.Form.{Form}
 use Rattle.tasks.specs.declared.task.Form.TheVariants.{Text, Json}
 use Rattle.tasks.specs.declared.task.Task.{Task}
-use Rattle.tasks.specs.declared.task.Task.TheVariants.{Replay, Run, Steps}
+use Rattle.tasks.specs.declared.task.Task.TheVariants.{Replay, Run, RunLost, Steps}
 
 -- the bytes are a script, and this is printed for its replay in this form
 abbrev pub IsPrintedAs : Form → List ℕ → List ℕ → Type 0
@@ -31,14 +32,28 @@ pub record IsRunPrintedAs (grounds : Grounds) (form : Form) (bytes out : List �
   pub runs : RunsTo grounds bytes statement
   pub written : IsStatementAs form statement out
 
+-- these are the lost elements in this form
+abbrev pub AreElementsAs : Form → List ℕ → List ℕ → Type 0
+AreElementsAs Text elems out = out ≡ lost_text elems
+AreElementsAs Json elems out = out ≡ numbers_of elems ++ codes "\n"
+
+-- The bytes are a script, and this is printed in this form for its run in threads on such a ground, at whose end this
+-- worker is lost.
+pub record IsLostPrintedAs (grounds : Grounds) (lose : ℕ) (form : Form) (bytes out : List ℕ) : Type 0 where
+  pub elems : List ℕ
+  pub loses : LosesFrom grounds lose bytes elems
+  pub written : AreElementsAs form elems out
+
 -- the bytes are a script, and this is printed for what is done with it
 abbrev pub IsDoneAs : Task → List ℕ → List ℕ → Type 0
 IsDoneAs (Replay form) = IsPrintedAs form
 IsDoneAs (Run grounds turns form) = IsRunPrintedAs grounds form
+IsDoneAs (RunLost grounds turns lose form) = IsLostPrintedAs grounds lose form
 IsDoneAs Steps = IsStepsPrint
 
 -- why nothing is printed for what is to be done with these bytes
 abbrev pub IsCauseFor : Task → List ℕ → Refusal → Type 0
 IsCauseFor (Replay form) = IsCause
 IsCauseFor (Run grounds turns form) = IsCause
+IsCauseFor (RunLost grounds turns lose form) = IsCauseWithout lose
 IsCauseFor Steps = IsStepCause

@@ -1,8 +1,9 @@
-//! What the program does with a script: its replay, its run in threads, or its steps, printed; or the failure that
-//! came.
+//! What the program does with a script: its replay, its run in threads, what is lost with a worker at its end, or its
+//! steps, printed; or the failure that came.
 #![tactic(auto)]
 
 pub mod failures;
+mod losing;
 pub mod printing;
 mod replay;
 mod running;

@@ -86,7 +86,8 @@ pub fn print_or_tell<R: Threads + Wait + Sync, S: Scripts, O: Write, E: Write>(
 ///
 /// `Unreadable` where the reading failed but for memory, `Fault` with `OutOfMemory` where memory was refused, else
 /// `Fault` where the bytes are no script (`ScriptFault`), where no pool can be made within the script's limits
-/// (`BadPool`), or of a run under the lock where a thread was refused (`OutOfMemory`).
+/// (`BadPool`), where a worker is to be lost that its pool doesn't have (`StrangerShare`), or of a run under the lock where
+/// a thread was refused (`OutOfMemory`).
 pub fn printed<'a, R: Threads + Wait + Sync, S: Scripts>(
     rt: &R,
     alloc: Global,

@@ -1,10 +1,10 @@
-//! What is printed of a script: its replay, what its run comes to, or its steps, in the form that is asked for.
+//! What is printed of a script: its replay, what its run comes to or loses, or its steps, in the form that is asked for.
 ghost use Rattle.std.specs.Prelude.{IfErr, IfOk};
 ghost use Rattle.script_text.specs.Grammar.{IsCause};
 ghost use Rattle.tasks.specs.Forms.{IsCauseFor, IsDoneAs, IsPrintedAs};
 
-use crate::running;
 use crate::task::{Form, Task};
+use crate::{losing, running};
 use commons::refusal::Refusal;
 use script::{run_replay, run_replay_json, run_steps};
 use std::alloc::Global;
@@ -13,8 +13,9 @@ use std::thread::Threads;
 
 /// What is printed of these bytes for a task.
 ///
-/// `ScriptFault` where they are no script, `BadPool` where no pool can be made within the script's limits, and
-/// `OutOfMemory` where memory was refused, or of a run under the lock a thread.
+/// `ScriptFault` where they are no script, `BadPool` where no pool can be made within the script's limits, `StrangerShare`
+/// where a worker is to be lost that its pool doesn't have, and `OutOfMemory` where memory was refused, or of a run under
+/// the lock a thread.
 pub fn done<R: Threads + Wait + Sync>(
     rt: &R,
     alloc: Global,
@@ -27,6 +28,9 @@ pub fn done<R: Threads + Wait + Sync>(
     match task {
         Task::Replay(form) => replayed(alloc, script, form),
         Task::Run(grounds, turns, form) => running::text(rt, alloc, script, grounds, turns, form),
+        Task::RunLost(grounds, turns, lose, form) => {
+            losing::text(rt, alloc, script, grounds, turns, lose, form)
+        }
         Task::Steps => run_steps(alloc, script),
     }
 }

@@ -48,6 +48,8 @@ pub enum Task {
     Replay(Form),
     /// Its run with a thread for each worker, on a pool that rests on this.
     Run(Grounds, Turns, Form),
+    /// Such a run at whose end this worker is lost: what is lost with it.
+    RunLost(Grounds, Turns, u32, Form),
     /// Its steps, each on one word or slot.
     Steps,
 }

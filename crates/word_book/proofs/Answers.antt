@@ -1,7 +1,12 @@
 -- What a settling answers where there is no fault.
-use Rattle.std.proofs.Common.{◌≡◌, ◌≢◌, length, Result, Ok, Err, refl, sym, ap, ◌∙◌, subst}
+use Rattle.std.proofs.Common.{◌≡◌, ◌≢◌, List, length, Result, Ok, Err, refl, sym, ap, ◌∙◌, subst}
 use Rattle.std.specs.Prelude.{IfErr, IfOk}
 use Rattle.commons.specs.declared.closed.Closed.{Closed}
+use Rattle.commons.specs.declared.limits.Limits.{Limits}
+use Rattle.commons.specs.declared.refusal.Refusal.{Refusal}
+use Rattle.ground.specs.Changing.{closed_at_start}
+use Rattle.mbuf.specs.Members.{Member}
+use Rattle.snapshot.specs.Closing.{snapshot_of}
 use Rattle.pool_model.specs.declared.statement.Statement.{Statement}
 use Rattle.pool_model.specs.Sound.{ListsOnlyPackets}
 use Rattle.snapshot.specs.declared.fault.Fault.{Fault}
@@ -12,7 +17,7 @@ use Rattle.book.specs.Books.{AreShares, IsFull, shares_in}
 use Rattle.book.specs.Places.{Places}
 use Rattle.book.specs.Settling.{IsUnsettled, snapshot_with}
 use Rattle.snapshot.specs.Snapshots.{IsLawful, statement_in}
-use Rattle.word_book.specs.Leaving.{IsLeftWith}
+use Rattle.word_book.specs.Leaving.{IsLeftWith, statement_at_start}
 use Rattle.word_book.specs.Listing.{ListsPackets}
 use Rattle.word_book.proofs.Faultless.{faultless}
 use Rattle.word_book.proofs.Listed.{lists_packets}
@@ -58,3 +63,11 @@ module _ (b : Places) (closed : Closed) (left : IsLeftWith b.limits closed (shar
       subst (ListsPackets b.limits) (sym same)
       (lists_packets b.limits closed (shares_in b.places) left law (subst ListsOnlyPackets same only))
   packets_listed (Err e) law same only = tt
+
+-- the statement of what was left of a pool of which nobody has done anything
+pub at_start : (r : Result Statement Refusal) (k l : Limits) (c : Closed) (members : List Member) → k ≡ l →
+    c ≡ closed_at_start l → IfOk r (λ s. s ≡ statement_in (snapshot_of k c members)) →
+    IfOk r (λ s. s ≡ statement_at_start l members)
+at_start r k l c members limits closed same =
+    subst (λ (z : Limits × Closed). IfOk r (λ s. s ≡ statement_in (snapshot_of z.0 z.1 members)))
+    (λ i. (limits i, closed i)) same

@@ -3,7 +3,7 @@ use Rattle.std.proofs.Common.{ℕ, ◌≡◌, ◌≢◌, ◌+◌, ◌<◌, ◌�
 use Rattle.std.specs.Prelude.{All, min, max, slice_index, sum_by}
 use Rattle.std.specs.List.{range_with_len}
 use Rattle.std.proofs.lemmas.List.{append-nil}
-use Rattle.std.proofs.lemmas.List.Elements.{All-contains}
+use Rattle.std.proofs.lemmas.List.Elements.{All-contains, All-nil}
 use lib.ListN.{length-map}
 use Rattle.commons.specs.Bag.{bag}
 use Rattle.commons.specs.Closing.{top_word}
@@ -14,6 +14,7 @@ use Rattle.commons.specs.Packets.{held_in, own_in}
 use Rattle.commons.proofs.Bags.{length-le}
 use Rattle.commons.proofs.Tables.{all_below}
 use Rattle.mbuf.specs.Members.{Member}
+use Rattle.pool_model.specs.declared.guest.Guest.{Guest}
 use Rattle.pool_model.specs.Pool.{held_by}
 use Rattle.pool_model.proofs.Listed.{sum_by-map}
 use Rattle.step_core.specs.Bags.{below}
@@ -154,9 +155,11 @@ module _ (l : Limits) (c : Closed) (members : List Member) (h : IsLeftWith l c m
       let again : ShareData → Member =
       λ share. record { limits = l; number = share.worker; cache = share.cache; table = share.slots } in
       let hold : Member → ℕ = λ m. held_in m.table i in
-      ap (λ (n : ℕ). n + held_in c.desks i)
-      (sum_by-map hold again (map share_of members)
-      ∙ sum_by-map (λ (share : ShareData). hold (again share)) share_of members)
+      omega (
+        arith,
+        sum_by-map hold again (map share_of members),
+        sum_by-map (λ (share : ShareData). hold (again share)) share_of members,
+      )
 
   named_is : (i : ℕ) → times_named s i ≡ cached_by members i + (held_by members i + held_in c.desks i)
   named_is i =
@@ -179,6 +182,8 @@ module _ (l : Limits) (c : Closed) (members : List Member) (h : IsLeftWith l c m
     counts = ap length h.left.counts ∙ (h.left.law.ranges.counts ∙ population_is);
     desks = ap length h.left.desks ∙ (length-map w.desks packet_on ∙ h.left.desk_count);
     shares = workers_again members ∙ numbers;
+    guests = All-nil (λ (guest : Guest). (1 ≤ guest.worker) × (guest.worker ≤ l.workers));
+    few = omega arith;
   }
     where
       workers_again : (ms : List Member) → map (λ share. share.worker) (map share_of ms) ≡ map (λ m. m.number) ms

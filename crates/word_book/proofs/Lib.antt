@@ -3,6 +3,7 @@ mod Desks
 mod Faultless
 mod Joined
 mod Listed
+mod Lost
 mod Sums
 mod Walked
 mod Wholes

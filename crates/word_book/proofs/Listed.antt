@@ -1,11 +1,13 @@
 -- No count in the statement of what a ground left is above the reference limit.
-use Rattle.std.proofs.Common.{ℕ, ◌≡◌, ◌≤◌, inl, inr, List, ap, arith}
-use Rattle.std.specs.Prelude.{max, slice_index}
+use Rattle.std.proofs.Common.{ℕ, ◌≡◌, ◌≤◌, inl, inr, List, sym, subst, ap, arith}
+use Rattle.std.specs.Prelude.{All, max, slice_index}
 use Rattle.std.proofs.lemmas.Bool.{cases_lt}
 use Rattle.commons.specs.declared.closed.Closed.{Closed}
 use Rattle.commons.specs.declared.limits.Limits.{Limits}
 use Rattle.mbuf.specs.Members.{Member}
 use Rattle.pool_model.specs.Sound.{ListsOnlyPackets}
+use Rattle.pool_model.specs.declared.statement.Statement.{Statement}
+use Rattle.pool_model.proofs.Alone.{statement_alone}
 use Rattle.pool_model.proofs.ListedPackets.{listed_counts}
 use Rattle.snapshot.specs.Closing.{snapshot_of}
 use Rattle.snapshot.specs.declared.snapshot.Snapshot.{Snapshot}
@@ -30,4 +32,9 @@ module _ (l : Limits) (c : Closed) (members : List Member) (h : IsLeftWith l c m
 
   -- packets that the statement lists, it lists within the limits
   pub lists_packets : ListsOnlyPackets (statement_in s) → ListsPackets l (statement_in s)
-  lists_packets only = record { packets = only; counts = listed_counts (λ count. count ≤ l.ref_limit) (pool_of s) few }
+  lists_packets only = record {
+    packets = only;
+    counts = subst (λ (statement : Statement). All (λ held. held.count ≤ l.ref_limit) statement.held)
+        (sym (statement_alone (pool_of s)))
+        (listed_counts (λ count. count ≤ l.ref_limit) (pool_of s) (λ i. omega (arith, few i)));
+  }

@@ -2,6 +2,7 @@
 use Rattle.std.specs.Prelude.{◌≡◌, List}
 use Rattle.commons.specs.declared.closed.Closed.{Closed}
 use Rattle.commons.specs.declared.limits.Limits.{Limits}
+use Rattle.ground.specs.Changing.{closed_at_start}
 use Rattle.ground.specs.Closing.{LeftOf}
 use Rattle.ground.specs.Own.{AtRest}
 use Rattle.mbuf.specs.Members.{Member}
@@ -25,3 +26,7 @@ pub record IsStatementOf (l : Limits) (v : View) (members : List Member) (s : St
   pub closed : Closed
   pub left : LeftOf l v closed
   pub same : s ≡ statement_in (snapshot_of l closed members)
+
+-- the statement of a pool of which nobody has done anything, and of these shares
+abbrev pub statement_at_start : Limits → List Member → Statement
+statement_at_start l members = statement_in (snapshot_of l (closed_at_start l) members)

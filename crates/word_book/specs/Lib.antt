@@ -1,3 +1,4 @@
 pub mod Leaving
 pub mod Listing
+pub mod Lost
 pub mod Shares

@@ -1,12 +1,16 @@
 //! Laws of shares and seats. Each is a function that does nothing, and its contract is the law.
 
 ghost use Rattle.std.specs.Prelude.{List, [], ◌∷◌, ◌++◌, ℕ};
+ghost use Rattle.commons.specs.declared.closed.Closed.{Closed};
 ghost use Rattle.commons.specs.declared.limits.Limits.{Limits};
 ghost use Rattle.ground.specs.Parting.{both_views};
 ghost use Rattle.mbuf.specs.Members.{Member};
 ghost use Rattle.mbuf.specs.Own.{Own};
+ghost use Rattle.snapshot.specs.Closing.{snapshot_of};
+ghost use Rattle.snapshot.specs.Lost.{AreLost};
 ghost use Rattle.step_core.specs.World.{empty_view};
 ghost use Rattle.step_core.specs.declared.view.View.{View};
+ghost use Rattle.word_book.specs.Lost.{AreLostBy, IsLeftWithout};
 ghost use Rattle.word_book.specs.Shares.{AreSharesOf, side_in};
 
 /// A worker whose packets are its own, over the view of its seat, has a share of what that view has: all of it. A view
@@ -20,4 +24,11 @@ pub fn own_packets_are_a_share()
 pub fn joined_seats_have_the_shares_of_both()
     ensures { (v u : View) (first second : List Member) → AreSharesOf first v → AreSharesOf second u →
         AreSharesOf (first ++ second) (both_views v u) }
+{}
+
+/// Of what a lawful world left, where some views are lost and the shares are all the others', what stands nowhere is
+/// exactly what is in a lost view's hand or held by lost views alone, wherever their workers stopped.
+pub fn what_stands_nowhere_is_lost()
+    ensures { (l : Limits) (lost : List View) (members : List Member) (c : Closed) (elems : List ℕ) →
+        IsLeftWithout l lost members c → AreLost (snapshot_of l c members) elems → AreLostBy l lost members c elems }
 {}

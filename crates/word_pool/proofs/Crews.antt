@@ -15,7 +15,7 @@ use Rattle.pool_model.specs.Pool.{new_members}
 use Rattle.stack_lf.specs.Sides.{side_of}
 use Rattle.step_core.specs.declared.view.View.{View}
 use Rattle.step_core.specs.World.{empty_view}
-use Rattle.word_pool.specs.Workers.{Manned, IsWorker, AreNew, AreWorkers}
+use Rattle.word_pool.specs.Workers.{Manned, HasNotActed, IsWorker, AreNew, AreWorkers}
 use Rattle.word_pool.specs.inside.Crews.{AreFirst, IsUnused, new_member}
 
 -- new members, and the next one
@@ -50,6 +50,7 @@ none_first g = record {
   members = refl;
   each = All-nil (IsWorker g);
   views = All-nil (λ (m : Manned). m.seat.known.view ≡ empty_view 1);
+  unmoved = All-nil HasNotActed;
 }
 
 -- a worker more, at a seat of one part that names nothing
@@ -69,6 +70,7 @@ one_more g number ms more l s same first before of unused added =
           All-push (IsWorker g) ms m before.each
           (record { of = of; part = ap (λ (v : View). v.part) unused.view });
       views = All-push (λ (x : Manned). x.seat.known.view ≡ empty_view 1) ms m before.views unused.view;
+      unmoved = All-push HasNotActed ms m before.unmoved unused.unmoved;
     } in
     subst (AreFirst g number) (sym is) all
 
@@ -80,7 +82,7 @@ all_workers g ms all = record {
 }
 
 pub all_new : (g : Grounded) (ms : List Manned) → AreFirst g g.limits.workers ms → AreNew g.limits ms
-all_new g ms all = record { members = all.members; views = all.views }
+all_new g ms all = record { members = all.members; views = all.views; unmoved = all.unmoved }
 
 -- a seat from which a part was taken names nothing, as before
 pub rest_unused : (l : Limits) (part : ℕ) (s t : Seated) → t ≡ record s { known = less_part s.known } →
@@ -89,12 +91,16 @@ rest_unused l part s t split unused = record {
   limits = ap (λ (x : Seated). x.known.limits) split ∙ unused.limits;
   view = ap (λ (x : Seated). x.known.view) split ∙ ap less unused.view;
   slots = ap (λ (x : Seated). x.slots) split ∙ unused.slots;
+  unmoved = record {
+    steps = ap (λ (x : Seated). x.known.steps) split ∙ unused.unmoved.steps;
+    joined = ap (λ (x : Seated). x.known.joined) split ∙ unused.unmoved.joined;
+  };
 }
 
 -- nor does the new one
 pub part_unused : (l : Limits) (part : ℕ) (s t : Seated) → t.known ≡ newcomer s.known → t.slots ≡ [] →
     IsUnused l part s → IsUnused l 1 t
-part_unused l part s t known slots unused = rw known (record { limits = unused.limits; view = refl; slots = slots })
+part_unused l part s t known slots unused = rw known (record { limits = unused.limits; view = refl; slots = slots; unmoved = record { steps = refl; joined = refl } })
 
 -- and the packets of a worker that has none are its own there
 pub new_is_own : (l : Limits) (number : ℕ) (s : Seated) (m : Member) → m ≡ new_member l number → IsUnused l 1 s →

@@ -1,4 +1,6 @@
 mod Crews
 mod Joins
 mod Leading
+mod Left
+mod Lost
 mod Staying

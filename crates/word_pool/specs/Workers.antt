@@ -4,6 +4,7 @@ use Rattle.std.specs.List.{range_with_len}
 use Rattle.commons.specs.Calls.{Calls}
 use Rattle.commons.specs.declared.limits.Limits.{Limits}
 use Rattle.commons.specs.Packets.{held_in}
+use Rattle.ground.specs.Changing.{IsUnmoved}
 use Rattle.ground.specs.Own.{AtRest}
 use Rattle.ground.specs.Seats.{Grounded, Seated, IsOf}
 use Rattle.mbuf.specs.declared.acts.Act.{Act}
@@ -68,10 +69,16 @@ pub record AreWorkers (g : Grounded) (ms : List Manned) : Type 0 where
   pub numbers : map (λ member. member.number) (members_of ms) ≡ range_with_len 1 g.limits.workers
   pub each : All (IsWorker g) ms
 
+-- the worker's seat has taken no step, and no seat that has was joined to it
+abbrev pub HasNotActed : Manned → Type 0
+HasNotActed m = IsUnmoved m.seat.known
+
 -- They are the workers of a new pool, who have nothing: their caches and tables are empty, and their views name nothing.
+-- None of them has taken a step.
 pub record AreNew (l : Limits) (ms : List Manned) : Type 0 where
   pub members : members_of ms ≡ new_members l 1 l.workers
   pub views : All (λ m. m.seat.known.view ≡ empty_view 1) ms
+  pub unmoved : All HasNotActed ms
 
 -- The statement of what a ground left, closed by the one seat with every part that all workers' seats were made, and of
 -- these workers' caches and packets, which are what that seat's view has.

@@ -1,16 +1,20 @@
 //! The pool of all workers on words.
 
-ghost use Rattle.std.specs.Prelude.{◌≡◌, ◌+◌, ◌<◌, ◌≤◌, ◌++◌, ◌∷◌, [], List, IfOk, IfErr, vec_len, vec_capacity};
+ghost use Rattle.std.specs.Prelude.{◌≡◌, ◌+◌, ◌<◌, ◌≤◌, ◌++◌, ◌∷◌, [], All, List, IfOk, IfErr, length, vec_len, vec_capacity};
+ghost use Rattle.book.specs.Lost.{IsOf as IsWorkerOf};
 ghost use Rattle.commons.specs.Bounds.{IsPool};
+ghost use Rattle.ground.specs.Changing.{IsUnmoved};
 ghost use Rattle.ground.specs.Opening.{IsGroundCause};
 ghost use Rattle.ground.specs.Own.{AtRest};
 ghost use Rattle.ground.specs.Rule.{first_known};
 ghost use Rattle.ground.specs.Seats.{IsOf};
 ghost use Rattle.pool_model.specs.Statements.{ListsEachOnce, PlacesEachOnce};
+ghost use Rattle.word_book.specs.Leaving.{statement_at_start};
 ghost use Rattle.word_book.specs.Listing.{ListsPackets};
 ghost use Rattle.word_book.specs.Shares.{AreSharesOf};
 ghost use Rattle.word_pool.specs.inside.Crews.{IsUnused, new_member};
-ghost use Rattle.word_pool.specs.Workers.{AreNew, AreWorkers, IsStatementOfWorkers, members_of};
+ghost use Rattle.word_pool.specs.Lost.{AreLeft, AreLostOf, left_of};
+ghost use Rattle.word_pool.specs.Workers.{AreNew, AreWorkers, HasNotActed, IsIdle, IsStatementOfWorkers, IsWorker, members_of};
 
 use crate::worker::WordWorker;
 use book::share::{Share, hand_in};
@@ -24,7 +28,8 @@ use std::alloc::Global;
 use word_book::{ending, laws};
 
 /// Makes a pool on words, and its workers, numbered from 1, each with one part of it. All elements are in the common
-/// list, element 0 on top, and no worker has anything yet.
+/// list, element 0 on top, and no worker has anything yet, nor has acted: settled as it is, the pool's statement is that of
+/// the start (`settled`).
 ///
 /// Refused `BadPool` where the limits are out of range, and `OutOfMemory` where memory was refused.
 pub fn make(alloc: Global, limits: &Limits) -> Result<(Ground, Vec<WordWorker>), Refusal>
@@ -128,7 +133,8 @@ impl FreeSeat {
 /// Ends a pool whose workers act no more, and settles it: their seats become one, their packets are handed in, in the
 /// order of the workers' numbers, and the ground is closed. The statement lists each element exactly once, and each
 /// packet has a place of its own; it is the one of what the ground left and of these workers' caches and packets. Each
-/// packet has 1 to 32 segments, each with its data within its buffer, and no count is above the reference limit.
+/// packet has 1 to 32 segments, each with its data within its buffer, and no count is above the reference limit. Where no
+/// worker has acted, all elements are in the common list, element 0 on top, and no packet is on a desk.
 ///
 /// Refused `OutOfMemory` where memory was refused. The pool is ended then too, and nothing is left of it.
 pub fn settled(
@@ -138,11 +144,13 @@ pub fn settled(
 ) -> Result<Statement, Refusal>
     requires { AreWorkers ground workers.items }
     ensures statement { IfOk result (IsStatementOfWorkers ground workers.items) }
+    ensures fresh { All HasNotActed workers.items → IfOk result (λ s. s ≡ statement_at_start ground.limits (members_of workers.items)) }
     ensures once { IfOk result (λ s. ListsEachOnce s) }
     ensures places { IfOk result (λ s. PlacesEachOnce ground.limits s) }
     ensures sound { IfOk result (λ s. ListsPackets ground.limits s) }
     ensures memory { IfErr result (λ e. e ≡ Refusal.OutOfMemory) }
 {
+    let _ = ground.limits();
     let Ok(shares) = Vec::with_capacity(alloc, workers.len()) else {
         return Err(Refusal::OutOfMemory);
     };
@@ -150,25 +158,65 @@ pub fn settled(
     ending::settled(alloc, ground, seat, shares)
 }
 
-/// Makes one seat of the seats of all workers, from the last to the first, and hands in their packets, in the room that
+/// Ends the worker of this number, as one who died: its seat, its cache and its packets are lost. An only worker stays, since
+/// its seat has to close the ground.
+pub fn lose(ground: &Ground, workers: &mut Vec<WordWorker>, number: u32)
+    requires all { AreWorkers ground.now workers.old.items }
+    requires worker { IsWorkerOf ground.now.limits number }
+    ensures rest { workers.new.items ≡ left_of number workers.old.items }
+    ensures left { AreLeft ground.now (number ∷ []) workers.new.items }
+{
+    let _known = ground;
+    if workers.len() != 1 {
+        let _lost = workers.remove(number as usize - 1);
+    }
+}
+
+/// Ends a pool of which these workers are left, whose others are listed as missing, and tells which elements are lost,
+/// ascending: exactly those in the hand of a listed worker or held by listed workers alone, wherever these stopped, in
+/// mid-call too. The seats of those who are left become one, which closes the ground, and their packets are handed in.
+/// Where a listed worker is among them, as an only one whose seat was kept, its cache and its packets are lost.
+///
+/// Refused `OutOfMemory` where memory was refused. The pool is ended then too, and nothing is left of it.
+pub fn settled_without(
+    alloc: Global,
+    ground: Ground,
+    workers: Vec<WordWorker>,
+    missing: &[u32],
+) -> Result<Vec<u32>, Refusal>
+    requires { AreLeft ground missing.now workers.items }
+    ensures lost { IfOk result (λ elems. AreLostOf ground missing.now workers.items elems.items) }
+    ensures memory { IfErr result (λ e. e ≡ Refusal.OutOfMemory) }
+{
+    laws::what_stands_nowhere_is_lost();
+    let Ok(shares) = Vec::with_capacity(alloc, workers.len()) else {
+        return Err(Refusal::OutOfMemory);
+    };
+    let (seat, shares) = joined(&ground, workers, shares);
+    ending::settled_without(alloc, ground, seat, shares, missing)
+}
+
+/// Makes one seat of the seats of these workers, from the last to the first, and hands in their packets, in the room that
 /// was taken for the shares.
 fn joined(
     ground: &Ground,
     mut workers: Vec<WordWorker>,
     mut shares: Vec<Share>,
 ) -> (GroundSeat, Vec<Share>)
-    requires workers { AreWorkers ground.now workers.items }
+    requires some { 0 < length workers.items }
+    requires each { All (IsWorker ground.now) workers.items }
     requires empty { shares.items ≡ [] }
     requires room { vec_len workers ≤ vec_capacity shares }
     ensures of { IsOf ground.now result.0 }
-    ensures whole { result.0.known.view.part ≡ ground.now.limits.workers }
+    ensures part { result.0.known.view.part ≡ length workers.items }
     ensures rest { AtRest result.0.known.view }
+    ensures idle { All IsIdle workers.items }
     ensures members { result.1.items ≡ members_of workers.items }
     ensures shares { AreSharesOf result.1.items result.0.known.view }
+    ensures unmoved { All HasNotActed workers.items → IsUnmoved result.0.known }
 {
     laws::own_packets_are_a_share();
     laws::joined_seats_have_the_shares_of_both();
-    let _ = ground.limits();
     let Some(last) = workers.pop() else {
         unreachable!()
     };

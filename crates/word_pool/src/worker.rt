@@ -1,6 +1,7 @@
 //! A worker of a pool on words.
 
-ghost use Rattle.std.specs.Prelude.{◌≡◌, [], None, Some};
+ghost use Rattle.std.specs.Prelude.{◌≡◌, [], None, Some, slice_index_or};
+ghost use Rattle.std.specs.Option.{MatchOption};
 ghost use Rattle.ground.specs.Own.{AtRest};
 ghost use Rattle.ground.specs.Seats.{IsOf};
 ghost use Rattle.mbuf.specs.Acts.{HasRoom, as_reply};
@@ -8,6 +9,7 @@ ghost use Rattle.mbuf.specs.Own.{Own};
 ghost use Rattle.stack_lf.specs.Sides.{side_of};
 ghost use Rattle.word_pool.specs.Workers.{Acts, IsIdle};
 
+use commons::packet::Packet;
 use ground::pool::Ground;
 use ground::seat::GroundSeat;
 use mbuf::acts;
@@ -82,6 +84,14 @@ impl WordWorker {
         let _ = &self.seat;
     }
 
+    /// The packet in a slot of the worker's table, if one stands there.
+    pub fn place(&self, slot: u32) -> Option<&Packet>
+        ensures { MatchOption result (slice_index_or self.now.member.table slot None ≡ None)
+            (λ p. slice_index_or self.now.member.table slot None ≡ Some p.now) }
+    {
+        self.packets.place(slot)
+    }
+
     /// Lets the worker do this over the words of its ground, beside others, and answers what came of it. The worker keeps
     /// its number, its part, and its place at the ground.
     ///
@@ -95,6 +105,7 @@ impl WordWorker {
 
     /// Does what `act` does, and answers with room for a bulk of `ROOM` packets: with none the answer is small, and
     /// nothing of a bulk's room is filled.
+    #[inline(always)]
     pub fn act_in<const ROOM: usize>(&mut self, ground: &Ground, act: Act) -> Answer<ROOM>
         requires room { HasRoom ROOM act }
         requires of { IsOf ground.now self.old.seat }
@@ -110,6 +121,7 @@ impl WordWorker {
 }
 
 /// Lets the worker of this seat and these packets do this.
+#[inline(always)]
 fn act_by<const ROOM: usize>(
     ground: &Ground,
     seat: GroundSeat,

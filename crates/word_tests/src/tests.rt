@@ -1,6 +1,6 @@
 //! The functions that walk the tables. A row that fails is named.
 
-use commons::limits::Limits;
+use commons::limits::{Limits, PutRule};
 use commons::packet::Seg;
 use mbuf::acts::Reply;
 use pool_model::statement::Statement;
@@ -35,6 +35,7 @@ const DEFAULTS: Limits = Limits {
     ref_limit: 65_535,
     tries: 64,
     start_count: 0,
+    put_rule: PutRule::Keep,
 };
 
 /// Both are one; else it is told of what, with both.

@@ -117,5 +117,7 @@ pub(super) fn built(
         counts: words(alloc, shown.counts, count, value)?,
         desks: desks(alloc, shown.desks)?,
         shares: shares(alloc, shown.shares)?,
+        guests: seq(alloc, shown.guests)?,
+        foreign: shown.foreign,
     })
 }

@@ -1,7 +1,8 @@
 //! Snapshots and statements as tables can hold them.
 
-use commons::limits::Limits;
+use commons::limits::{Limits, PutRule};
 use commons::packet::Seg;
+use pool_model::guest::Guest;
 use pool_model::statement::Holder;
 
 /// A snapshot as plain data.
@@ -21,6 +22,10 @@ pub(super) struct Shown {
     pub desks: &'static [Option<&'static [Seg]>],
     /// What the workers handed in.
     pub shares: &'static [Handed],
+    /// The elements that workers hold for packets of another pool.
+    pub guests: &'static [Guest],
+    /// Whether the bases of the packets are elements of another pool.
+    pub foreign: bool,
 }
 
 /// What a worker handed in: its number, its cache, and its packets, each with its slot.
@@ -74,4 +79,5 @@ pub(super) const ONE: Limits = Limits {
     ref_limit: 65_535,
     tries: 64,
     start_count: 0,
+    put_rule: PutRule::Keep,
 };

@@ -1,7 +1,7 @@
 //! A small lawful snapshot, and what is wrong once one thing of it is changed.
 
 use super::Row;
-use super::shown::{FRESH, ONE, Places, Shown};
+use super::shown::{FRESH, ONE, Places, Shown, Word};
 use commons::limits::Limits;
 use commons::packet::Seg;
 use pool_model::statement::Holder;
@@ -19,7 +19,21 @@ pub(super) const SMALL: Shown = Shown {
     counts: &[1, 1, 1],
     desks: &[],
     shares: &[(1, &[], &[(0, &[FRESH])])],
+    guests: &[],
+    foreign: false,
 };
+
+/// Its eight words, and the value of each.
+pub(super) const SMALL_WORDS: &[(Word, u32)] = &[
+    (Word::Top, 2),
+    (Word::Length, 2),
+    (Word::Link(0), 2),
+    (Word::Link(1), 3),
+    (Word::Link(2), 0),
+    (Word::Count(0), 1),
+    (Word::Count(1), 1),
+    (Word::Count(2), 1),
+];
 
 pub(super) const SMALL_PLACES: Places = Places {
     population: 3,

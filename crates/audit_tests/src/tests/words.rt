@@ -48,6 +48,8 @@ const CACHED: Shown = Shown {
     counts: &[1, 1],
     desks: &[None],
     shares: &[(1, &[], &[]), (2, &[1], &[])],
+    guests: &[],
+    foreign: false,
 };
 
 const CACHED_PLACES: Places = Places {
@@ -81,6 +83,8 @@ const CLONED: Shown = Shown {
     counts: &[2, 1, 1, 1],
     desks: &[Some(&[FRESH])],
     shares: &[(1, &[], &[]), (2, &[], &[(7, &[CLONE])])],
+    guests: &[],
+    foreign: false,
 };
 
 const CLONED_PLACES: Places = Places {

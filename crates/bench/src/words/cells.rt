@@ -8,7 +8,7 @@ use super::span::Span;
 use super::threads::{Run, Work, four, one, two};
 use crate::failures::Failure;
 use crate::figures::{Nanos, at};
-use commons::limits::Limits;
+use commons::limits::{Limits, PutRule};
 use commons::shared::Commons;
 use ground::pool::Ground;
 use stack_lf::words::WordCommons;
@@ -152,6 +152,7 @@ fn run_once<R: Clock + AllocGlobal + Threads + Sync>(
         ref_limit: 65_535,
         tries: 64,
         start_count: 0,
+        put_rule: PutRule::Keep,
     };
     let (ground, mut seat) = Ground::make(rt.alloc(), &limits)?;
     let first = Carried {

@@ -3,7 +3,7 @@
 use super::acts::Act;
 use super::{close_both, open_both, step_both};
 use crate::pair::Pair;
-use commons::limits::Limits;
+use commons::limits::{Limits, PutRule};
 use commons::refusal::Refusal;
 use std::process::Abort;
 use std::test::Fail;
@@ -85,6 +85,7 @@ fn limits_of(draws: &mut Draws) -> Limits {
         ref_limit: 1 + draws.below(3),
         tries: 1,
         start_count: 0,
+        put_rule: PutRule::Keep,
     }
 }
 

@@ -2,7 +2,7 @@
 
 use super::acts::Act;
 use super::acts::Act::*;
-use commons::limits::Limits;
+use commons::limits::{Limits, PutRule};
 
 /// A name, a pool's limits, and the steps with their workers.
 pub(super) type Row = (&'static str, Limits, &'static [(u32, Act)]);
@@ -17,6 +17,7 @@ pub(super) const TWO: Limits = Limits {
     ref_limit: 65_535,
     tries: 64,
     start_count: 0,
+    put_rule: PutRule::Keep,
 };
 
 /// Elements 0 and 1 are taken, and put back as a list: 0 is put before 1.

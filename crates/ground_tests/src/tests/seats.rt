@@ -28,7 +28,7 @@ const BAD: [Limits; 4] = [
         ..TWO
     },
     Limits {
-        population: 65_535,
+        population: 16_777_215,
         ..TWO
     },
     Limits { workers: 65, ..TWO },
@@ -177,8 +177,8 @@ fn closed_unused(alloc: Global, population: u64) -> Result<Closed, Refusal> {
 }
 
 #[test]
-fn the_least_and_the_greatest_ground_are_made_and_closed(rt: HostRuntime) -> Result<(), Fail> {
-    for population in [1, 65_534] {
+fn the_least_and_a_large_ground_are_made_and_closed(rt: HostRuntime) -> Result<(), Fail> {
+    for population in [1, 70_000] {
         let closed = closed_unused(rt.alloc(), population)?;
         let sizes = (closed.links.len() as u64, closed.counts.len() as u64);
         let given = (closed.top, closed.length, sizes);

@@ -2,7 +2,7 @@
 ghost use Rattle.std.specs.Prelude.{◌≡◌, OnErr, Some};
 ghost use Rattle.commons.specs.Calls.{Calls};
 ghost use Rattle.mempool.specs.Caches.{Flushes};
-ghost use Rattle.mbuf.specs.Own.{Own};
+ghost use Rattle.mbuf.specs.Own.{Own, OwnWithGuests, StaysOwn};
 ghost use Rattle.mbuf.specs.PacketRules.{Frees};
 
 use super::{Packets, Pid};
@@ -24,10 +24,11 @@ impl Packets {
     /// own is our order.
     #[inline(always)]
     pub fn free<C: Commons>(&mut self, c: &mut C, p: Pid) -> Result<Freed, Refusal>
-        requires own { Own self.old (C.side c.old) }
+        requires own { OwnWithGuests self.old (C.side c.old) }
         ensures calls { Calls C.did C.side c.old c.new (λ calls.
             Frees self.old p calls result self.new) }
-        ensures own { Own self.new (C.side c.new) }
+        ensures own { Own self.old (C.side c.old) → Own self.new (C.side c.new) }
+        ensures guests { StaysOwn self.old (C.side c.old) self.new (C.side c.new) }
         ensures refused { OnErr result ((C.side c.new ≡ C.side c.old) × (self.new ≡ self.old)) }
     {
         let Some(slot) = self.slot(p) else {
@@ -43,11 +44,12 @@ impl Packets {
     ///
     /// After rte_mempool.h, `rte_mempool_cache_flush` (DPDK 21.11).
     pub fn flush<C: Commons>(&mut self, c: &mut C) -> Put
-        requires own { Own self.old (C.side c.old) }
+        requires own { OwnWithGuests self.old (C.side c.old) }
         ensures calls { Calls C.did C.side c.old c.new (λ calls.
             Flushes self.old.cache calls result self.new.cache) }
         ensures packets { self.new ≡ record self.old { cache = self.new.cache } }
-        ensures own { Own self.new (C.side c.new) }
+        ensures own { Own self.old (C.side c.old) → Own self.new (C.side c.new) }
+        ensures guests { StaysOwn self.old (C.side c.old) self.new (C.side c.new) }
     {
         self.worker.flush(c)
     }

@@ -4,10 +4,9 @@ ghost use Rattle.std.specs.Prelude.{◌≡◌, ◌<◌, ◌≤◌, ◌+◌, [], 
 ghost use Rattle.commons.specs.Bag.{bag};
 ghost use Rattle.commons.specs.Calls.{Calls, Claim, Did, with_list};
 ghost use Rattle.mbuf.specs.Members.{slots};
-ghost use Rattle.mbuf.specs.Own.{Own};
+ghost use Rattle.mbuf.specs.Own.{Own, OwnWithGuests, StaysOwn};
 ghost use Rattle.mbuf.specs.PacketRules.{Allocs, AllocsBulk, free_slot, free_slots, fresh_seg, stood};
 ghost use Rattle.mbuf.specs.Fresh.{AreFresh, own_in_slots};
-ghost use Rattle.commons.specs.Packets.{held_in};
 
 use super::{Packets, Pid};
 use crate::steps;
@@ -62,13 +61,14 @@ impl Packets {
     /// After rte_mbuf.h, `rte_pktmbuf_alloc` (DPDK 21.11). The table of packets is our own.
     #[inline(always)]
     pub fn alloc<C: Commons>(&mut self, c: &mut C) -> Result<Pid, Refusal>
-        requires own { Own self.old (C.side c.old) }
+        requires own { OwnWithGuests self.old (C.side c.old) }
         ensures calls { Calls C.did C.side c.old c.new (λ calls.
             Allocs self.old calls result self.new) }
         ensures fresh { IfOk result
-            (λ slot. AreFresh self.old.limits.population (held_in self.old.table)
+            (λ slot. AreFresh self.old.limits.population (C.side c.old).holds
             (own_in_slots self.new.table (slot ∷ []))) }
-        ensures own { Own self.new (C.side c.new) }
+        ensures own { Own self.old (C.side c.old) → Own self.new (C.side c.new) }
+        ensures guests { StaysOwn self.old (C.side c.old) self.new (C.side c.new) }
         ensures refused { OnErr result ((C.side c.new ≡ C.side c.old) × (self.new ≡ self.old)) }
     {
         let Some(slot) = self.free.lowest() else {
@@ -90,13 +90,14 @@ impl Packets {
     ///
     /// After rte_mbuf.h, `rte_pktmbuf_alloc_bulk` (DPDK 21.11). The table of packets is our own.
     pub fn alloc_bulk<C: Commons>(&mut self, c: &mut C, out: &mut [Pid]) -> Result<(), Refusal>
-        requires own { Own self.old (C.side c.old) }
+        requires own { OwnWithGuests self.old (C.side c.old) }
         ensures calls { Calls C.did C.side c.old c.new (λ calls.
             AllocsBulk self.old (length out.old) calls (with_list result out.new) self.new) }
         ensures fresh { OnOk result
-            (AreFresh self.old.limits.population (held_in self.old.table)
+            (AreFresh self.old.limits.population (C.side c.old).holds
             (own_in_slots self.new.table out.new)) }
-        ensures own { Own self.new (C.side c.new) }
+        ensures own { Own self.old (C.side c.old) → Own self.new (C.side c.new) }
+        ensures guests { StaysOwn self.old (C.side c.old) self.new (C.side c.new) }
         ensures refused { OnErr result ((C.side c.new ≡ C.side c.old) × (self.new ≡ self.old)) }
     {
         if self.free.count() < out.len() {

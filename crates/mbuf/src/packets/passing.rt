@@ -1,7 +1,7 @@
 //! Packets that pass on: to the end of another packet, and to other workers over desks.
 ghost use Rattle.std.specs.Prelude.{◌≡◌, ◌≢◌, ◌<◌, ◌≤◌, ◌+◌, ◌++◌, [], OnErr, Some, length, slice_index_or, slice_set, take, vec_len};
 ghost use Rattle.commons.specs.Calls.{Calls};
-ghost use Rattle.mbuf.specs.Own.{Own};
+ghost use Rattle.mbuf.specs.Own.{Own, OwnWithGuests, StaysOwn};
 ghost use Rattle.mbuf.specs.PacketRules.{Chains};
 ghost use Rattle.mbuf.specs.inside.Kept.{KeepsHolds};
 ghost use Rattle.mbuf.specs.Desks.{Offers, Takes};
@@ -45,10 +45,11 @@ impl Packets {
     ///
     /// After rte_mbuf.h, `rte_pktmbuf_chain` (DPDK 21.11), whose limit is 65,535.
     pub fn chain<C: Commons>(&mut self, c: &mut C, head: Pid, tail: Pid) -> Result<(), Refusal>
-        requires own { Own self.old (C.side c.old) }
+        requires own { OwnWithGuests self.old (C.side c.old) }
         ensures chained { Chains self.old head tail result self.new }
         ensures no_call { c.new ≡ c.old }
-        ensures own { Own self.new (C.side c.new) }
+        ensures own { Own self.old (C.side c.old) → Own self.new (C.side c.new) }
+        ensures guests { StaysOwn self.old (C.side c.old) self.new (C.side c.new) }
     {
         self.join(head, tail)
     }
@@ -62,10 +63,11 @@ impl Packets {
     ///
     /// Desks are our own; DPDK passes mbufs between lcores over an `rte_ring`.
     pub fn offer<C: Commons>(&mut self, c: &mut C, p: Pid, desk: u32) -> Result<(), Refusal>
-        requires own { Own self.old (C.side c.old) }
+        requires own { OwnWithGuests self.old (C.side c.old) }
         ensures calls { Calls C.did C.side c.old c.new (λ calls.
             Offers self.old p desk calls result self.new) }
-        ensures own { Own self.new (C.side c.new) }
+        ensures own { Own self.old (C.side c.old) → Own self.new (C.side c.new) }
+        ensures guests { StaysOwn self.old (C.side c.old) self.new (C.side c.new) }
         ensures refused { OnErr result ((C.side c.new ≡ C.side c.old) × (self.new ≡ self.old)) }
     {
         let Some(place) = self.slot(p) else {
@@ -93,10 +95,11 @@ impl Packets {
     ///
     /// Desks are our own; DPDK passes mbufs between lcores over an `rte_ring`.
     pub fn take<C: Commons>(&mut self, c: &mut C, desk: u32) -> Result<Pid, Refusal>
-        requires own { Own self.old (C.side c.old) }
+        requires own { OwnWithGuests self.old (C.side c.old) }
         ensures calls { Calls C.did C.side c.old c.new (λ calls.
             Takes self.old desk calls result self.new) }
-        ensures own { Own self.new (C.side c.new) }
+        ensures own { Own self.old (C.side c.old) → Own self.new (C.side c.new) }
+        ensures guests { StaysOwn self.old (C.side c.old) self.new (C.side c.new) }
         ensures refused { OnErr result ((C.side c.new ≡ C.side c.old) × (self.new ≡ self.old)) }
     {
         if u64::from(desk) >= self.worker.limits().desks {

@@ -1,11 +1,11 @@
 //! Packets that share buffers: what is attached, detached and cloned, and how many hold an element.
 ghost use Rattle.std.specs.Prelude.{◌≡◌, [], ◌∷◌, ℕ, IfOk, OnErr, None, Some, slice_index_or};
 ghost use Rattle.commons.specs.Calls.{Calls};
-ghost use Rattle.mbuf.specs.Own.{Own};
+ghost use Rattle.mbuf.specs.Own.{Own, OwnWithGuests, StaysOwn};
 ghost use Rattle.mbuf.specs.Fresh.{AreFresh, own_in_slots};
 ghost use Rattle.mbuf.specs.Sharing.{Attaches, Clones, CountsOf, Detaches, detachable, pair_in};
 ghost use Rattle.mbuf.specs.inside.Cloning.{ArePair, IsIndirect};
-ghost use Rattle.commons.specs.Packets.{HasItsData, held_in};
+ghost use Rattle.commons.specs.Packets.{HasItsData};
 
 use super::{Packets, Pid};
 use crate::freed::Freed;
@@ -54,10 +54,11 @@ impl Packets {
     /// After rte_mbuf.h, `rte_pktmbuf_attach` (DPDK 21.11), which asserts that the packet to attach is
     /// direct and its count is 1, in builds with `RTE_ENABLE_ASSERT` alone, and asks nothing else.
     pub fn attach<C: Commons>(&mut self, c: &mut C, mi: Pid, target: Pid) -> Result<(), Refusal>
-        requires own { Own self.old (C.side c.old) }
+        requires own { OwnWithGuests self.old (C.side c.old) }
         ensures calls { Calls C.did C.side c.old c.new (λ calls.
             Attaches self.old mi target calls result self.new) }
-        ensures own { Own self.new (C.side c.new) }
+        ensures own { Own self.old (C.side c.old) → Own self.new (C.side c.new) }
+        ensures guests { StaysOwn self.old (C.side c.old) self.new (C.side c.new) }
         ensures refused { OnErr result ((C.side c.new ≡ C.side c.old) × (self.new ≡ self.old)) }
     {
         let (elem, seg) = self.pair(mi, target)?;
@@ -92,10 +93,11 @@ impl Packets {
     ///
     /// After rte_mbuf.h, `rte_pktmbuf_detach` (DPDK 21.11).
     pub fn detach<C: Commons>(&mut self, c: &mut C, p: Pid) -> Result<Freed, Refusal>
-        requires own { Own self.old (C.side c.old) }
+        requires own { OwnWithGuests self.old (C.side c.old) }
         ensures calls { Calls C.did C.side c.old c.new (λ calls.
             Detaches self.old p calls result self.new) }
-        ensures own { Own self.new (C.side c.new) }
+        ensures own { Own self.old (C.side c.old) → Own self.new (C.side c.new) }
+        ensures guests { StaysOwn self.old (C.side c.old) self.new (C.side c.new) }
         ensures refused { OnErr result ((C.side c.new ≡ C.side c.old) × (self.new ≡ self.old)) }
     {
         let (elem, base) = self.indirect(p)?;
@@ -117,16 +119,17 @@ impl Packets {
     ///
     /// After rte_mbuf.h, `rte_pktmbuf_clone` (DPDK 21.11).
     pub fn clone_packet<C: Commons>(&mut self, c: &mut C, p: Pid) -> Result<Pid, Refusal>
-        requires own { Own self.old (C.side c.old) }
+        requires own { OwnWithGuests self.old (C.side c.old) }
         ensures calls { Calls C.did C.side c.old c.new (λ calls.
             Clones self.old p calls result self.new) }
         ensures holds_err { OnErr result ((i : ℕ) → (C.side c.new).holds i ≡ (C.side c.old).holds i) }
         ensures headers_err { OnErr result ((i : ℕ) → (C.side c.new).headers i ≡ (C.side c.old).headers i) }
         ensures table_err { OnErr result (self.new.table ≡ self.old.table) }
         ensures fresh { IfOk result
-            (λ slot. AreFresh self.old.limits.population (held_in self.old.table)
+            (λ slot. AreFresh self.old.limits.population (C.side c.old).holds
             (own_in_slots self.new.table (slot ∷ []))) }
-        ensures own { Own self.new (C.side c.new) }
+        ensures own { Own self.old (C.side c.old) → Own self.new (C.side c.new) }
+        ensures guests { StaysOwn self.old (C.side c.old) self.new (C.side c.new) }
     {
         let Some(source) = self.slot(p) else {
             return Err(Refusal::NoSuchPacket);
@@ -150,10 +153,11 @@ impl Packets {
     ///
     /// After rte_mbuf.h, `rte_mbuf_refcnt_read` (DPDK 21.11).
     pub fn count_of<C: Commons>(&self, c: &mut C, p: Pid) -> Result<u32, Refusal>
-        requires own { Own self.now (C.side c.old) }
+        requires own { OwnWithGuests self.now (C.side c.old) }
         ensures calls { Calls C.did C.side c.old c.new (λ calls.
             CountsOf (slice_index_or self.now.table p None) calls result) }
-        ensures own { Own self.now (C.side c.new) }
+        ensures own { Own self.now (C.side c.old) → Own self.now (C.side c.new) }
+        ensures guests { StaysOwn self.now (C.side c.old) self.now (C.side c.new) }
         ensures refused { OnErr result (C.side c.new ≡ C.side c.old) }
     {
         match self.place(p) {

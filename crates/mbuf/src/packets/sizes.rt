@@ -1,6 +1,6 @@
 //! How long packets are, and how their lengths change, which asks nothing of the shared pool.
 ghost use Rattle.std.specs.Prelude.{◌≡◌, MatchResult, None, Some, length, slice_index_or};
-ghost use Rattle.mbuf.specs.Own.{Own};
+ghost use Rattle.mbuf.specs.Own.{Own, OwnWithGuests, StaysOwn};
 ghost use Rattle.mbuf.specs.PacketRules.{Resizes, of_packet};
 ghost use Rattle.mbuf.specs.inside.Changes.{resized, not_resized};
 ghost use Rattle.mbuf.specs.Lengths.{pkt_len as len_of, appended, prepended, adjusted, trimmed};
@@ -16,7 +16,7 @@ use commons::shared::Commons;
 impl Packets {
     /// Changes a packet's lengths.
     #[tactic(auto, using(crate::proofs::PacketCases::nothing))]
-    fn resize(&mut self, p: Pid, change: Change) -> Result<u32, Refusal>
+    pub(crate) fn resize(&mut self, p: Pid, change: Change) -> Result<u32, Refusal>
         ensures resized { Resizes (resized change) (not_resized change) self.old p result self.new }
         ensures kept { KeepsHolds self.old self.new }
     {
@@ -37,10 +37,11 @@ impl Packets {
     ///
     /// After rte_mbuf.h, `rte_pktmbuf_append` (DPDK 21.11).
     pub fn append<C: Commons>(&mut self, c: &mut C, p: Pid, len: u16) -> Result<u32, Refusal>
-        requires own { Own self.old (C.side c.old) }
+        requires own { OwnWithGuests self.old (C.side c.old) }
         ensures resized { Resizes (appended len) Refusal.NoRoom self.old p result self.new }
         ensures no_call { c.new ≡ c.old }
-        ensures own { Own self.new (C.side c.new) }
+        ensures own { Own self.old (C.side c.old) → Own self.new (C.side c.new) }
+        ensures guests { StaysOwn self.old (C.side c.old) self.new (C.side c.new) }
     {
         self.resize(p, Change::Append(len))
     }
@@ -53,10 +54,11 @@ impl Packets {
     ///
     /// After rte_mbuf.h, `rte_pktmbuf_prepend` (DPDK 21.11).
     pub fn prepend<C: Commons>(&mut self, c: &mut C, p: Pid, len: u16) -> Result<u32, Refusal>
-        requires own { Own self.old (C.side c.old) }
+        requires own { OwnWithGuests self.old (C.side c.old) }
         ensures resized { Resizes (prepended len) Refusal.NoRoom self.old p result self.new }
         ensures no_call { c.new ≡ c.old }
-        ensures own { Own self.new (C.side c.new) }
+        ensures own { Own self.old (C.side c.old) → Own self.new (C.side c.new) }
+        ensures guests { StaysOwn self.old (C.side c.old) self.new (C.side c.new) }
     {
         self.resize(p, Change::Prepend(len))
     }
@@ -69,10 +71,11 @@ impl Packets {
     ///
     /// After rte_mbuf.h, `rte_pktmbuf_adj` (DPDK 21.11).
     pub fn adj<C: Commons>(&mut self, c: &mut C, p: Pid, len: u16) -> Result<u32, Refusal>
-        requires own { Own self.old (C.side c.old) }
+        requires own { OwnWithGuests self.old (C.side c.old) }
         ensures resized { Resizes (adjusted len) Refusal.TooShort self.old p result self.new }
         ensures no_call { c.new ≡ c.old }
-        ensures own { Own self.new (C.side c.new) }
+        ensures own { Own self.old (C.side c.old) → Own self.new (C.side c.new) }
+        ensures guests { StaysOwn self.old (C.side c.old) self.new (C.side c.new) }
     {
         self.resize(p, Change::Adj(len))
     }
@@ -85,10 +88,11 @@ impl Packets {
     ///
     /// After rte_mbuf.h, `rte_pktmbuf_trim` (DPDK 21.11).
     pub fn trim<C: Commons>(&mut self, c: &mut C, p: Pid, len: u16) -> Result<u32, Refusal>
-        requires own { Own self.old (C.side c.old) }
+        requires own { OwnWithGuests self.old (C.side c.old) }
         ensures resized { Resizes (trimmed len) Refusal.TooShort self.old p result self.new }
         ensures no_call { c.new ≡ c.old }
-        ensures own { Own self.new (C.side c.new) }
+        ensures own { Own self.old (C.side c.old) → Own self.new (C.side c.new) }
+        ensures guests { StaysOwn self.old (C.side c.old) self.new (C.side c.new) }
     {
         self.resize(p, Change::Trim(len))
     }
@@ -99,7 +103,7 @@ impl Packets {
     ///
     /// After rte_mbuf.h, `rte_pktmbuf_pkt_len` (DPDK 21.11).
     pub fn pkt_len<C: Commons>(&self, c: &mut C, p: Pid) -> Result<u32, Refusal>
-        requires own { Own self.now (C.side c.old) }
+        requires own { OwnWithGuests self.now (C.side c.old) }
         ensures answer { result ≡ of_packet len_of (slice_index_or self.now.table p None) }
         ensures no_call { c.new ≡ c.old }
     {
@@ -115,7 +119,7 @@ impl Packets {
     ///
     /// After rte_mbuf_core.h, `nb_segs` of `struct rte_mbuf` (DPDK 21.11).
     pub fn nb_segs<C: Commons>(&self, c: &mut C, p: Pid) -> Result<u32, Refusal>
-        requires own { Own self.now (C.side c.old) }
+        requires own { OwnWithGuests self.now (C.side c.old) }
         ensures answer { result ≡ of_packet length (slice_index_or self.now.table p None) }
         ensures no_call { c.new ≡ c.old }
     {
@@ -129,7 +133,7 @@ impl Packets {
     ///
     /// Refused `NoSuchPacket` where no packet stands there.
     pub fn segs<C: Commons>(&self, c: &mut C, p: Pid) -> Result<&[Seg], Refusal>
-        requires own { Own self.now (C.side c.old) }
+        requires own { OwnWithGuests self.now (C.side c.old) }
         ensures answer { MatchResult result
             (λ segs. slice_index_or self.now.table p None ≡ Some segs.now)
             (λ cause. (cause ≡ Refusal.NoSuchPacket)

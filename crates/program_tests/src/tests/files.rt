@@ -104,6 +104,35 @@ fn a_run_prints_where_each_element_is_at_the_end(rt: HostRuntime) -> Result<(), 
     Ok(())
 }
 
+static LOST: [(&str, u32, Form, &str); 7] = [
+    (EIGHT, 2, Form::Text, "lost 5: 0 1 2 3 4\n"),
+    (EIGHT, 2, Form::Json, "[0,1,2,3,4]\n"),
+    (EIGHT, 1, Form::Text, "lost 0:\n"),
+    (EIGHT, 1, Form::Json, "[]\n"),
+    (EIGHT, 3, Form::Text, "fault 19 StrangerShare\n"),
+    (EIGHT, 0, Form::Json, "fault 19 StrangerShare\n"),
+    ("pull 3\n", 3, Form::Text, "fault 20 ScriptFault line 1\n"),
+];
+
+const EIGHT: &str = "pool 8 cache 4 workers 2\n2: alloc a\n";
+
+/// What is lost with a worker, whatever its pool rests on; a fault of the script comes before a worker that isn't there.
+#[test]
+fn a_run_prints_what_is_lost_with_a_worker(rt: HostRuntime) -> Result<(), Fail> {
+    let path = path(&rt, "lost")?;
+    let Some(turns) = Turns::new(1) else {
+        return Err(Fail::from("one turn is some"));
+    };
+    for (script, lose, form, text) in LOST {
+        for grounds in [Grounds::Words, Grounds::Locked] {
+            let task = Task::RunLost(grounds, turns, lose, form);
+            let told = outcome_of(&rt, path.as_str(), script, task)?;
+            same(&rt, &told.as_str(), &text, script);
+        }
+    }
+    Ok(())
+}
+
 static STEPPED: [(&str, &str); 4] = [
     (
         "pool 1\nloadlength\ncut\n",

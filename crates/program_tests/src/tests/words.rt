@@ -7,9 +7,9 @@ use std::alloc::{AllocError, Global};
 use std::test::Fail;
 use tasks::task::{Form, Task};
 
-/// What a task is called, a run with what it rests on, in how many turns a line is tried, 0 where none are named, and its
-/// form.
-type Asked = (&'static str, u32, Form);
+/// What a task is called, a run with what it rests on, in how many turns a line is tried, 0 where none are named, the worker
+/// that is to be lost, if one is, and its form.
+type Asked = (&'static str, u32, Option<u32>, Form);
 
 /// Words, the file that they name, and what they ask for.
 type NamedRow = (&'static [&'static str], &'static str, Asked);
@@ -18,42 +18,69 @@ static NAMED: &[NamedRow] = &[
     (
         &["replay", "a.script"],
         "a.script",
-        ("replay", 0, Form::Text),
+        ("replay", 0, None, Form::Text),
     ),
-    (&["replay", "a", "--json"], "a", ("replay", 0, Form::Json)),
-    (&["replay", "--json", "a"], "a", ("replay", 0, Form::Json)),
+    (
+        &["replay", "a", "--json"],
+        "a",
+        ("replay", 0, None, Form::Json),
+    ),
+    (
+        &["replay", "--json", "a"],
+        "a",
+        ("replay", 0, None, Form::Json),
+    ),
     (
         &["replay", "--", "--json"],
         "--json",
-        ("replay", 0, Form::Text),
+        ("replay", 0, None, Form::Text),
     ),
-    (&["run", "a"], "a", ("run on words", 1_000, Form::Text)),
+    (
+        &["run", "a"],
+        "a",
+        ("run on words", 1_000, None, Form::Text),
+    ),
     (
         &["run", "a", "--ground", "words"],
         "a",
-        ("run on words", 1_000, Form::Text),
+        ("run on words", 1_000, None, Form::Text),
     ),
     (
         &["run", "a", "--ground", "locked"],
         "a",
-        ("run under a lock", 1_000, Form::Text),
+        ("run under a lock", 1_000, None, Form::Text),
     ),
     (
         &["run", "a", "--turns", "1", "--json"],
         "a",
-        ("run on words", 1, Form::Json),
+        ("run on words", 1, None, Form::Json),
     ),
     (
         &["run", "--turns", "1000000", "a", "--ground=locked"],
         "a",
-        ("run under a lock", 1_000_000, Form::Text),
+        ("run under a lock", 1_000_000, None, Form::Text),
+    ),
+    (
+        &["run", "a", "--lose", "2"],
+        "a",
+        ("run on words", 1_000, Some(2), Form::Text),
+    ),
+    (
+        &["run", "a", "--lose", "0", "--json"],
+        "a",
+        ("run on words", 1_000, Some(0), Form::Json),
+    ),
+    (
+        &["run", "--ground", "locked", "--lose=4294967295", "a"],
+        "a",
+        ("run under a lock", 1_000, Some(4_294_967_295), Form::Text),
     ),
     (
         &["steps", "aba.script"],
         "aba.script",
-        ("steps", 0, Form::Text),
+        ("steps", 0, None, Form::Text),
     ),
-    (&["steps", "--", "-"], "-", ("steps", 0, Form::Text)),
+    (&["steps", "--", "-"], "-", ("steps", 0, None, Form::Text)),
 ];
 
 static WRONG: &[&[&str]] = &[
@@ -65,6 +92,12 @@ static WRONG: &[&[&str]] = &[
     &["run", "a", "--turns", "1000001"],
     &["run", "a", "--turns", "-1"],
     &["run", "a", "--turns", "many"],
+    &["run", "a", "--lose"],
+    &["run", "a", "--lose", "4294967296"],
+    &["run", "a", "--lose", "-1"],
+    &["run", "a", "--lose", "all"],
+    &["run", "a", "--lose", "1", "--lose", "2"],
+    &["replay", "a", "--lose", "1"],
     &["run", "a", "--ground", "lists"],
     &["run", "a", "--ground", ""],
     &["run", "a", "--ground"],
@@ -100,13 +133,23 @@ fn line(alloc: Global, words: &[&str]) -> Result<Vec<String>, AllocError> {
     Ok(line)
 }
 
-/// What a task is called, with its turns and its form.
+/// What a task is called, with its turns, the worker that is to be lost, and its form.
 fn asked_by(task: Task) -> Asked {
     match task {
-        Task::Replay(form) => ("replay", 0, form),
-        Task::Run(Grounds::Words, turns, form) => ("run on words", turns.count(), form),
-        Task::Run(Grounds::Locked, turns, form) => ("run under a lock", turns.count(), form),
-        Task::Steps => ("steps", 0, Form::Text),
+        Task::Replay(form) => ("replay", 0, None, form),
+        Task::Run(grounds, turns, form) => (name_of(grounds), turns.count(), None, form),
+        Task::RunLost(grounds, turns, lose, form) => {
+            (name_of(grounds), turns.count(), Some(lose), form)
+        }
+        Task::Steps => ("steps", 0, None, Form::Text),
+    }
+}
+
+/// What a run on such a ground is called.
+fn name_of(grounds: Grounds) -> &'static str {
+    match grounds {
+        Grounds::Words => "run on words",
+        Grounds::Locked => "run under a lock",
     }
 }
 

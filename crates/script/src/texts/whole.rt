@@ -1,12 +1,13 @@
 //! The whole text of a statement.
 ghost use Rattle.std.specs.Prelude.{◌≡◌, ◌++◌, IfErr, IfOk, OnOk};
-ghost use Rattle.script.specs.StatementText.{text_of, total_line, totals_text};
+ghost use Rattle.script.specs.StatementText.{second_text, text_of, text_of_settled, total_line, totals_text};
 
 use super::caches::write_caches;
 use super::held::write_held;
 use super::segments::{write_desks, write_packets};
 use commons::refusal::Refusal;
 use element_text::write_elements;
+use pool_model::settled::Settled;
 use pool_model::statement::Statement;
 use std::alloc::Global;
 use std::io;
@@ -25,6 +26,39 @@ pub fn statement_text(alloc: Global, statement: &Statement) -> Result<Vec<u8>, R
         Ok(()) => Ok(out),
         Err(_) => Err(Refusal::OutOfMemory),
     }
+}
+
+/// The text of what a script's pools come to: the first pool's statement and, where there is a second pool, the line
+/// `second` and its statement.
+///
+/// Refused `OutOfMemory` where there is no room for it.
+pub fn settled_text(alloc: Global, settled: &Settled) -> Result<Vec<u8>, Refusal>
+    ensures text { IfOk result (λ v. v.items ≡ text_of_settled settled.now) }
+    ensures memory { IfErr result (λ e. e ≡ Refusal.OutOfMemory) }
+{
+    let mut out = Vec::new(alloc);
+    match write_settled(&mut out, settled) {
+        Ok(()) => Ok(out),
+        Err(_) => Err(Refusal::OutOfMemory),
+    }
+}
+
+fn write_settled(out: &mut Vec<u8>, settled: &Settled) -> io::Result<()>
+    ensures { OnOk result (out.new.items ≡ out.old.items ++ text_of_settled settled.now) }
+{
+    write_statement(out, &settled.first)?;
+    match &settled.second {
+        None => Ok(()),
+        Some(second) => write_second(out, second),
+    }
+}
+
+#[tactic(auto, unfolding(crate::specs::StatementText::second_text))]
+fn write_second(out: &mut Vec<u8>, second: &Statement) -> io::Result<()>
+    ensures { OnOk result (out.new.items ≡ out.old.items ++ second_text second.now) }
+{
+    writeln!(out, "second")?;
+    write_statement(out, second)
 }
 
 #[tactic(auto, unfolding(crate::specs::StatementText::text_of))]

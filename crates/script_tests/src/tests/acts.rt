@@ -185,7 +185,7 @@ const ONE_ON_A_DESK: &str =
 pub(super) const UNMADE: &[UnmadeRow] = &[(
     "a site pool out of range is refused",
     Limits {
-        population: 65_535,
+        population: 16_777_215,
         ..DEFAULTS
     },
     Refusal::BadPool,

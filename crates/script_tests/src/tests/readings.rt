@@ -1,7 +1,7 @@
 //! Texts that are scripts, with the limits and the lines that are read.
 
 use super::{DEFAULTS, ReadRow};
-use commons::limits::Limits;
+use commons::limits::{Limits, PutRule};
 
 const OF_NINE: Limits = Limits {
     population: 9,
@@ -20,7 +20,7 @@ pub(super) const ROWS: &[ReadRow] = &[
     ),
     (
         "a good script is read",
-        "# a pool\n\n  pool 12 tries 7 buf 0100  start 3 workers 2 refs 9 desks 4 cache 08 \n   \n\
+        "# a pool\n\n  pool 12 tries 7 buf 0100  start 3 putrule 01 workers 2 refs 9 desks 4 cache 08 \n   \n\
         alloc a\n  free   b9 \n#x\nalloc b9\n2: free a\n 002:  flush\n1: alloc c\n",
         Limits {
             population: 12,
@@ -31,6 +31,7 @@ pub(super) const ROWS: &[ReadRow] = &[
             ref_limit: 9,
             tries: 7,
             start_count: 3,
+            put_rule: PutRule::Whole,
         },
         "5 1 alloc a; 6 1 free b9; 8 1 alloc b9; 9 2 free a; 10 2 flush; 11 1 alloc c; ",
     ),
@@ -71,6 +72,7 @@ pub(super) const ROWS: &[ReadRow] = &[
             ref_limit: 65_535,
             tries: 64,
             start_count: 0,
+            put_rule: PutRule::Keep,
         },
         "",
     ),

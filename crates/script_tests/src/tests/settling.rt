@@ -57,7 +57,7 @@ type Parts = (Limits, Closed, Vec<Share>);
 type Late = (Option<Unsettled>, Option<Statement>);
 
 /// Lets a worker do all this.
-fn play(pool: &mut SitePool, worker: u32, acts: &[Act]) {
+pub(super) fn play(pool: &mut SitePool, worker: u32, acts: &[Act]) {
     for act in acts {
         let _ = pool.perform(worker, *act);
     }
@@ -110,7 +110,7 @@ fn closed_once(alloc: Global, pool: SitePool) -> Option<Parts> {
 }
 
 /// Closes a pool, and tries once more with what a refusal handed back.
-fn closed_at_last(alloc: Global, pool: SitePool) -> Option<Parts> {
+pub(super) fn closed_at_last(alloc: Global, pool: SitePool) -> Option<Parts> {
     match pool.close(alloc) {
         Ok(parts) => Some(parts),
         Err((_, pool)) => closed_once(alloc, pool),
@@ -165,7 +165,7 @@ fn deposit_one(book: &mut Book, share: Option<Share>) {
 }
 
 /// Ends a share, where there is one.
-fn lose_one(share: Option<Share>) {
+pub(super) fn lose_one(share: Option<Share>) {
     if let Some(share) = share {
         share.lose();
     }

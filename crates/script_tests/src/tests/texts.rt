@@ -212,11 +212,13 @@ pub(super) const ROWS: &[TextsRow] = &[
     (
         "limits past their range are a bad pool",
         &[
-            ("pool 65535\n", Some(BadPool)),
-            ("pool 65534\n", None),
+            ("pool 16777215\n", Some(BadPool)),
+            ("pool 16777214\n", None),
             ("pool 0\nbad\nworse", Some(BadPool)),
             ("pool 3 tries 0\n", Some(BadPool)),
-            ("pool 3 start 281474976710656\n", Some(BadPool)),
+            ("pool 3 start 1099511627776\n", Some(BadPool)),
+            ("pool 3 start 1099511627775\n", None),
+            ("pool 3 start 281474976710654\n", Some(BadPool)),
         ],
     ),
     (
@@ -229,6 +231,21 @@ pub(super) const ROWS: &[TextsRow] = &[
             ("pool 3 refs 1 buf 1 refs 1\n", Some(ScriptFault(1))),
             ("pool 0 refs\n", Some(ScriptFault(1))),
             ("pool 3 ref 1\n", Some(ScriptFault(1))),
+        ],
+    ),
+    (
+        "a put rule is 0 or 1",
+        &[
+            ("pool 3 putrule 0\n", None),
+            ("pool 3 putrule 1\n", None),
+            ("pool 3 putrule 2\n", Some(BadPool)),
+            ("pool 3 putrule 18446744073709551615\n", Some(BadPool)),
+            ("pool 3 putrule 2 cache\n", Some(ScriptFault(1))),
+            ("pool 3 putrule 0 putrule 0\n", Some(ScriptFault(1))),
+            ("pool 3 putrule\n", Some(ScriptFault(1))),
+            ("pool 3 putrules 1\n", Some(ScriptFault(1))),
+            ("pool 3 putrule 2\nbogus\n", Some(BadPool)),
+            ("# 2\npool 3 putrule 1\nbogus\n", Some(ScriptFault(3))),
         ],
     ),
     (
@@ -281,7 +298,8 @@ pub(super) const ROWS: &[TextsRow] = &[
     (
         "limits",
         &[
-            ("pool 65535\n", Some(BadPool)),
+            ("pool 65535\n", None),
+            ("pool 16777215\n", Some(BadPool)),
             ("pool 6 cache 5\n", Some(BadPool)),
             ("pool 1000 cache 513\n", Some(BadPool)),
             ("pool 7 cache 5\n", None),

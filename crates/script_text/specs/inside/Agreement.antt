@@ -1,6 +1,6 @@
 -- How what the crate's own functions return agrees with the functions on lists.
 -- No public clause cites this module.
-use Rattle.std.specs.Prelude.{◌≡◌, ◌≤◌, ℕ, zero, suc, Bool, true, false, ◌&&◌, ◌==◌, nat_eq, List, [], ◌∷◌, Option, Some, None, Result, Ok, Err}
+use Rattle.std.specs.Prelude.{◌≡◌, ◌≤◌, ℕ, zero, suc, Bool, true, false, ◌&&◌, ◌==◌, nat_eq, List, [], ◌∷◌, Option, Some, None, option_map, Result, Ok, Err}
 use Rattle.std.specs.List.{AllByRecursion}
 use Rattle.std.specs.Cmp.Lexicographic.{pointwise}
 use Rattle.std.specs.HashSet.{contains}
@@ -10,10 +10,12 @@ use Rattle.commons.specs.declared.refusal.Refusal.TheVariants as refusals
 use Rattle.script_text.specs.declared.lines.Line.{Line}
 use Rattle.script_text.specs.declared.lines.Script.{Script}
 use Rattle.script_text.specs.declared.made_names.MadeNames.{MadeNames}
+use Rattle.script_text.specs.declared.pool_line.PoolNumbers.{PoolNumbers}
 use Rattle.script_text.specs.declared.reader.Reader.{Reader}
 use Rattle.script_text.specs.declared.reader.Stop.{Stop}
 use Rattle.script_text.specs.declared.reader.Stop.TheVariants.{Fault, BadPool, OutOfMemory}
 use Rattle.script_text.specs.Names.{IsName}
+use Rattle.script_text.specs.PoolLine.{numbers_of}
 use Rattle.script_text.specs.Scripts.{State}
 use Rattle.script_text.specs.inside.Reading.{is_pool}
 use Rattle.script_text.specs.inside.ScriptReading.{Lexicon, is_made, are_ready}
@@ -44,7 +46,7 @@ AreMade lexicon made lines =
 
 -- what the lines so far have told
 abbrev pub state_of : {C : Type 0} → Reader C → State C
-state_of reader = record { limits = reader.limits; lines = reader.lines.items }
+state_of reader = record { numbers = option_map numbers_of reader.limits; lines = reader.lines.items }
 
 -- the worker is one of so many
 abbrev pub IsAmong : ℕ → ℕ → Type 0
@@ -57,14 +59,14 @@ AreWithin (Some limits) lines = AllByRecursion (λ line. IsAmong limits.workers 
 
 -- what each reader keeps
 pub record IsKept {C : Type 0} (lexicon : Lexicon C) (reader : Reader C) : Type 0 where
-  pub ready : are_ready reader.limits ≡ true
+  pub ready : are_ready (option_map numbers_of reader.limits) ≡ true
   pub workers : AreWithin reader.limits reader.lines.items
   pub made : AreMade lexicon reader.made reader.lines.items
 
 -- why a pool line wasn't read
-abbrev pub StopsPool : Stop → Option Limits → Type 0
+abbrev pub StopsPool : Stop → Option PoolNumbers → Type 0
 StopsPool Fault read = read ≡ None
-StopsPool BadPool read = (limits : Limits) × (read ≡ Some limits) × (is_pool limits ≡ false)
+StopsPool BadPool read = (numbers : PoolNumbers) × (read ≡ Some numbers) × (is_pool numbers ≡ false)
 StopsPool OutOfMemory read = ⊥
 
 -- why a command line wasn't read
@@ -94,5 +96,5 @@ Fails refusal read = read ≡ Err refusal
 
 -- what was returned is what the bytes are read as, unless memory was refused
 abbrev pub Gives : {C : Type 0} → Result (Script C) Refusal → Result (State C) Refusal → Type 0
-Gives (Ok script) read = read ≡ Ok (record { limits = Some script.limits; lines = script.lines })
+Gives (Ok script) read = read ≡ Ok (record { numbers = Some (numbers_of script.limits); lines = script.lines })
 Gives (Err refusal) read = Fails refusal read

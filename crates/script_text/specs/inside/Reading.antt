@@ -5,9 +5,9 @@ use Rattle.std.specs.List.{find, list_all}
 use Rattle.std.specs.Str.{bytes_eq}
 use Rattle.commons.specs.Bounds.{max_buf, max_cache, max_desks, max_population, max_refs, max_tries, max_workers}
 use Rattle.commons.specs.Calls.{spent}
-use Rattle.commons.specs.declared.limits.Limits.{Limits}
 use Rattle.script_text.specs.declared.commands.Key.{Key}
-use Rattle.script_text.specs.declared.commands.Key.TheVariants.{Cache, Workers, Desks, Buf, Refs, Tries, Start}
+use Rattle.script_text.specs.declared.commands.Key.TheVariants.{Cache, Workers, Desks, Buf, Refs, Tries, Start, Rule}
+use Rattle.script_text.specs.declared.pool_line.PoolNumbers.{PoolNumbers}
 use Rattle.script_text.specs.declared.pool_line.Settings.{Settings}
 use Rattle.script_text.specs.Numbers.{digits_value}
 use Rattle.script_text.specs.PoolLine.{key_word, same_key}
@@ -126,7 +126,7 @@ is_name_word word =
 
 -- all keys
 abbrev pub keys : List Key
-keys = Cache ∷ Workers ∷ Desks ∷ Buf ∷ Refs ∷ Tries ∷ Start ∷ []
+keys = Cache ∷ Workers ∷ Desks ∷ Buf ∷ Refs ∷ Tries ∷ Start ∷ Rule ∷ []
 
 -- the key that a word spells
 abbrev pub key_at : List ℕ → Option Key
@@ -141,6 +141,7 @@ value_of settings Buf = settings.buf
 value_of settings Refs = settings.refs
 value_of settings Tries = settings.tries
 value_of settings Start = settings.start
+value_of settings Rule = settings.rule
 
 -- the value of one key once another was given this one
 abbrev pub value_with : Settings → Key → ℕ → Key → Option ℕ
@@ -157,6 +158,7 @@ with_value settings key value = record {
   refs = value_with settings key value Refs;
   tries = value_with settings key value Tries;
   start = value_with settings key value Start;
+  rule = value_with settings key value Rule;
 }
 
 -- no key was given a value
@@ -169,6 +171,7 @@ none_given = record {
   refs = None;
   tries = None;
   start = None;
+  rule = None;
 }
 
 -- a new value of a key
@@ -189,9 +192,9 @@ settings_from settings (key ∷ []) = None
 settings_from settings (key ∷ number ∷ words) =
     option_and_then (λ more. settings_from more words) (add_pair settings key number)
 
--- the limits of a pool of so many elements with these settings
-abbrev pub limits_by : ℕ → Settings → Limits
-limits_by population settings = record {
+-- the numbers of a pool line with so many elements and these settings
+abbrev pub numbers_by : ℕ → Settings → PoolNumbers
+numbers_by population settings = record {
   population = population;
   cache = unwrap_or settings.cache 0;
   workers = unwrap_or settings.workers 1;
@@ -200,29 +203,31 @@ limits_by population settings = record {
   ref_limit = unwrap_or settings.refs max_refs;
   tries = unwrap_or settings.tries 64;
   start_count = unwrap_or settings.start 0;
+  put_rule = unwrap_or settings.rule 0;
 }
 
--- the limits, from the words behind `pool`
-abbrev pub pool_with : List (List ℕ) → Option Limits
+-- the numbers, from the words behind `pool`
+abbrev pub pool_with : List (List ℕ) → Option PoolNumbers
 pool_with [] = None
 pool_with (number ∷ words) =
     option_and_then (λ population.
-    option_and_then (λ settings. Some (limits_by population settings))
+    option_and_then (λ settings. Some (numbers_by population settings))
     (settings_from none_given words)) (number_at number)
 
--- the limits that the words of a pool line give
-abbrev pub limits_from : List (List ℕ) → Option Limits
-limits_from [] = None
-limits_from (word ∷ words) = if bytes_eq word (codes "pool") then pool_with words else None
+-- the numbers that the words of a pool line give
+abbrev pub numbers_from : List (List ℕ) → Option PoolNumbers
+numbers_from [] = None
+numbers_from (word ∷ words) = if bytes_eq word (codes "pool") then pool_with words else None
 
--- of each two numbers the first is at most the second in the limits of a pool
-abbrev pub pool_bounds : Limits → List (ℕ × ℕ)
-pool_bounds l =
-    (1, l.population) ∷ (l.population, max_population) ∷ (l.cache, max_cache)
-    ∷ (l.cache * 3 / 2, l.population) ∷ (1, l.workers) ∷ (l.workers, max_workers)
-    ∷ (l.desks, max_desks) ∷ (l.buf, max_buf) ∷ (1, l.ref_limit) ∷ (l.ref_limit, max_refs)
-    ∷ (1, l.tries) ∷ (l.tries, max_tries) ∷ (l.start_count, spent) ∷ []
+-- of each two numbers the first is at most the second where a pool has them
+abbrev pub pool_bounds : PoolNumbers → List (ℕ × ℕ)
+pool_bounds n =
+    (1, n.population) ∷ (n.population, max_population) ∷ (n.cache, max_cache)
+    ∷ (n.cache * 3 / 2, n.population) ∷ (1, n.workers) ∷ (n.workers, max_workers)
+    ∷ (n.desks, max_desks) ∷ (n.buf, max_buf) ∷ (1, n.ref_limit) ∷ (n.ref_limit, max_refs)
+    ∷ (1, n.tries) ∷ (n.tries, max_tries) ∷ (n.start_count, spent)
+    ∷ (n.put_rule, 1) ∷ []
 
--- whether a pool can be made within the limits
-abbrev pub is_pool : Limits → Bool
-is_pool l = list_all (λ bound. nat_le bound.0 bound.1) (pool_bounds l)
+-- whether a pool has the numbers
+abbrev pub is_pool : PoolNumbers → Bool
+is_pool n = list_all (λ bound. nat_le bound.0 bound.1) (pool_bounds n)

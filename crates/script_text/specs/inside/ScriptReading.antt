@@ -2,12 +2,12 @@
 -- No public clause cites this module.
 use Rattle.std.specs.Prelude.{ℕ, ◌+◌, ◌-◌, max, Bool, true, false, ◌&&◌, ◌||◌, if◌then◌else◌, ◌==◌, nat_le, nat_lt, List, [], ◌∷◌, length, Option, Some, None, option_and_then, Result, Ok, Err, take, drop, codes}
 use Rattle.std.specs.Str.{bytes_eq}
-use Rattle.commons.specs.declared.limits.Limits.{Limits}
 use Rattle.commons.specs.declared.refusal.Refusal.{Refusal}
 use Rattle.commons.specs.declared.refusal.Refusal.TheVariants.{BadPool, ScriptFault}
 use Rattle.script_text.specs.declared.lines.Line.{Line}
+use Rattle.script_text.specs.declared.pool_line.PoolNumbers.{PoolNumbers}
 use Rattle.script_text.specs.Scripts.{Language, State, start, with_command}
-use Rattle.script_text.specs.inside.Reading.{parts, is_plain, words_of, is_skipped, number_at, limits_from, is_pool}
+use Rattle.script_text.specs.inside.Reading.{parts, is_plain, words_of, is_skipped, number_at, numbers_from, is_pool}
 
 -- one kind of script, and how the words of its commands are read
 pub record Lexicon (C : Type 0) : Type 1 where
@@ -48,33 +48,33 @@ abbrev pub is_one_of : List (List ℕ) → List ℕ → Bool
 is_one_of [] name = false
 is_one_of (first ∷ names) name = bytes_eq name first || is_one_of names name
 
--- ---- limits and refusals
+-- ---- a pool's numbers and refusals
 
--- whether a pool can be made within the limits, if they are told
-abbrev pub are_ready : Option Limits → Bool
+-- whether a pool has the numbers, if they are told
+abbrev pub are_ready : Option PoolNumbers → Bool
 are_ready None = true
-are_ready (Some limits) = is_pool limits
+are_ready (Some numbers) = is_pool numbers
 
 module _ {C : Type 0} where
-  -- what is told after a pool line with these limits
-  abbrev pub with_limits : State C → Limits → State C
-  with_limits state limits = record { limits = Some limits; lines = state.lines }
+  -- what is told after a pool line with these numbers
+  abbrev pub with_numbers : State C → PoolNumbers → State C
+  with_numbers state numbers = record { numbers = Some numbers; lines = state.lines }
 
-  -- what is told after these words, where no limits are told
+  -- what is told after these words, where no numbers are told
   abbrev pub read_pool : State C → List (List ℕ) → Option (State C)
-  read_pool state words = option_and_then (λ limits. Some (with_limits state limits))
-      (limits_from words)
+  read_pool state words = option_and_then (λ numbers. Some (with_numbers state numbers))
+      (numbers_from words)
 
-  -- a line's reading, where a pool can be made within the limits that it tells, or its refusal
+  -- a line's reading, where a pool has the numbers that it tells, or its refusal
   abbrev pub judged_as : ℕ → Option (State C) → Result (State C) Refusal
   judged_as number None = Err (ScriptFault number)
-  judged_as number (Some next) = if are_ready next.limits then Ok next else Err BadPool
+  judged_as number (Some next) = if are_ready next.numbers then Ok next else Err BadPool
 
   -- what is told once there is no line left
-  abbrev pub finish : Option Limits → State C → ℕ → List ℕ → Result (State C) Refusal
-  finish limits state number (byte ∷ bytes) = Err (ScriptFault number)
+  abbrev pub finish : Option PoolNumbers → State C → ℕ → List ℕ → Result (State C) Refusal
+  finish numbers state number (byte ∷ bytes) = Err (ScriptFault number)
   finish None state number [] = Err (ScriptFault (max 1 (number - 1)))
-  finish (Some limits) state number [] = Ok state
+  finish (Some numbers) state number [] = Ok state
 
   -- what comes of going on with what is told, unless it was refused
   abbrev pub goes_on : Result (State C) Refusal → (State C → Result (State C) Refusal) →
@@ -115,22 +115,22 @@ module _ {C : Type 0} (lexicon : Lexicon C) where
       if repeats (is_made state.lines) order.0 (lexicon.language.names_made order.1) then None
       else Some (with_command state number order.0 order.1)
 
-  -- what is told after these words, where the limits are told and have so many workers
+  -- what is told after these words, where a pool's numbers are told and it has so many workers
   abbrev pub read_command : ℕ → State C → ℕ → List (List ℕ) → Option (State C)
   read_command workers state number words =
       if nat_lt (length state.lines) 10000
       then option_and_then (add_command state number) (order_from workers words) else None
 
-  -- a line that isn't skipped, by whether the limits are told
-  abbrev pub read_words : Option Limits → State C → ℕ → List (List ℕ) → Option (State C)
+  -- a line that isn't skipped, by whether a pool's numbers are told
+  abbrev pub read_words : Option PoolNumbers → State C → ℕ → List (List ℕ) → Option (State C)
   read_words None state number words = read_pool state words
-  read_words (Some limits) state number words = read_command limits.workers state number words
+  read_words (Some numbers) state number words = read_command numbers.workers state number words
 
   -- what is told after a line, if it has a reading
   unfoldable pub read_line : State C → ℕ → List ℕ → Option (State C)
   read_line state number line =
       if is_plain line then (if is_skipped (words_of line) then Some state
-      else read_words state.limits state number (words_of line)) else None
+      else read_words state.numbers state number (words_of line)) else None
 
   -- what is told after a line, or its refusal
   unfoldable pub judged : State C → ℕ → List ℕ → Result (State C) Refusal
@@ -138,7 +138,7 @@ module _ {C : Type 0} (lexicon : Lexicon C) where
 
   -- what is told after the lines and the rest, the first line having this number
   unfoldable pub read_lines : State C → ℕ → List (List ℕ) → List ℕ → Result (State C) Refusal
-  read_lines state number [] rest = finish state.limits state number rest
+  read_lines state number [] rest = finish state.numbers state number rest
   read_lines state number (line ∷ lines) rest =
       goes_on (judged state number line) (λ next. read_lines next (number + 1) lines rest)
 

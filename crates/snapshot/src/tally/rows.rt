@@ -3,9 +3,12 @@
 ghost use Rattle.std.specs.Prelude.{◌≡◌, ◌<◌, ◌≤◌, ℕ, IfOk, length};
 ghost use Rattle.commons.specs.Bag.{bag, one};
 ghost use Rattle.commons.specs.Packets.{hold_of, holds_of_packet, holds_of_seg, own_of_packet};
+ghost use Rattle.pool_model.specs.Guests.{guest_holds, local_packet};
 ghost use Rattle.snapshot.specs.inside.Tallies.{HasMet, IsRow};
 
+use crate::local::local;
 use commons::packet::Seg;
+use pool_model::guest::Guest;
 use std::alloc::{AllocError, Global};
 
 /// A row of so many zeros.
@@ -34,6 +37,16 @@ pub(crate) fn count_all(row: &mut Vec<u32>, elems: &[u32])
     }
 }
 
+/// Counts the element of each guest.
+pub(crate) fn count_guests(row: &mut Vec<u32>, guests: &[Guest])
+    requires { (e : ℕ) → 0 < guest_holds guests.now e → e < length row.old.items }
+    ensures { HasMet (guest_holds guests.now) row.old.items row.new.items }
+{
+    for guest in guests {
+        count(row, guest.elem);
+    }
+}
+
 /// Counts the base, where there is one.
 fn count_base(row: &mut Vec<u32>, base: Option<u32>)
     requires { (e : ℕ) → 0 < bag (hold_of base) e → e < length row.old.items }
@@ -55,14 +68,14 @@ fn count_seg(row: &mut Vec<u32>, seg: Seg)
 }
 
 /// Counts the own elements of segments in the one row, and what they hold in the other.
-pub(crate) fn count_packet(own: &mut Vec<u32>, held: &mut Vec<u32>, segs: &[Seg])
-    requires below { (e : ℕ) → 0 < bag (holds_of_packet segs.now) e → e < length held.old.items }
+pub(crate) fn count_packet(own: &mut Vec<u32>, held: &mut Vec<u32>, segs: &[Seg], foreign: bool)
+    requires below { (e : ℕ) → 0 < bag (holds_of_packet (local_packet foreign segs.now)) e → e < length held.old.items }
     requires same { length own.old.items ≡ length held.old.items }
     ensures own { HasMet (bag (own_of_packet segs.now)) own.old.items own.new.items }
-    ensures held { HasMet (bag (holds_of_packet segs.now)) held.old.items held.new.items }
+    ensures held { HasMet (bag (holds_of_packet (local_packet foreign segs.now))) held.old.items held.new.items }
 {
     for seg in segs {
         count(own, seg.elem);
-        count_seg(held, *seg);
+        count_seg(held, local(*seg, foreign));
     }
 }

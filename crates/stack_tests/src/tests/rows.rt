@@ -1,7 +1,7 @@
 //! The rows of one worker.
 
 use super::{Row, Turn};
-use commons::limits::Limits;
+use commons::limits::{Limits, PutRule};
 use commons::refusal::Refusal;
 
 /// The limits of a pool of three.
@@ -14,6 +14,7 @@ pub(super) const THREE: Limits = Limits {
     ref_limit: 65_535,
     tries: 64,
     start_count: 0,
+    put_rule: PutRule::Keep,
 };
 
 pub(super) const ROWS: &[Row] = &[
@@ -25,7 +26,7 @@ pub(super) const ROWS: &[Row] = &[
     Row {
         name: "count spent on words",
         limits: Limits {
-            start_count: 281_474_976_710_654,
+            start_count: 1_099_511_627_774,
             ..THREE
         },
         turns: &[

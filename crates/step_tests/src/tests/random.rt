@@ -3,7 +3,7 @@
 use super::acts::Act;
 use super::places::assert_counted;
 use super::{answer_of, same};
-use commons::limits::Limits;
+use commons::limits::{Limits, PutRule};
 use commons::refusal::Refusal;
 use std::process::Abort;
 use std::test::Fail;
@@ -93,6 +93,7 @@ fn limits_of(draws: &mut Draws) -> Limits {
         ref_limit: draws.up_to(4),
         tries: 1,
         start_count: 0,
+        put_rule: PutRule::Keep,
     }
 }
 

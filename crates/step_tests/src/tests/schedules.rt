@@ -5,7 +5,7 @@ use super::acts::Act::*;
 use super::acts::Told::*;
 use super::acts::{Act, Told};
 use super::shown::End;
-use commons::limits::Limits;
+use commons::limits::{Limits, PutRule};
 
 /// Two workers and three elements.
 pub(super) const TWO: Limits = Limits {
@@ -17,10 +17,11 @@ pub(super) const TWO: Limits = Limits {
     ref_limit: 65_535,
     tries: 64,
     start_count: 0,
+    put_rule: PutRule::Keep,
 };
 
 /// The count at which a head is spent.
-pub(super) const SPENT: u64 = 281_474_976_710_655;
+pub(super) const SPENT: u64 = 1_099_511_627_775;
 
 /// The head's top is a link value, the element + 1; a link is too.
 pub(super) const STACK: &[Row] = &[

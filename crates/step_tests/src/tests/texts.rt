@@ -216,7 +216,7 @@ pub(super) const ROWS: &[Row] = &[
     ),
     (
         "spent count",
-        "pool 2 start 281474976710655\n\
+        "pool 2 start 1099511627775\n\
             loadlength\n\
             reserve 2 1\n\
             loadhead\n\
@@ -225,11 +225,11 @@ pub(super) const ROWS: &[Row] = &[
             add 1\n",
         "2: value 2\n\
             3: won\n\
-            4: head 0 281474976710655\n\
+            4: head 0 1099511627775\n\
             5: link 1\n\
             6: refused 21 StepRefused\n\
             7: done\n\
-            head 0 281474976710655\n\
+            head 0 1099511627775\n\
             length 2\n\
             common 2: 0 1\n\
             view 1 credit 0\n\

@@ -1,5 +1,6 @@
 use Rattle.std.proofs.Common.{◌≡◌, ◌<◌, inl, inr, arith}
 use Rattle.std.proofs.lemmas.Bool.{cases_lt}
+use Rattle.mbuf.specs.Own.{no_guests}
 use Rattle.mbuf.specs.Sharing.{first_seg}
 use Rattle.mbuf.proofs.SharingLemmas.{in_slot_held, first_held}
 use Rattle.layer_tests.proofs.several.byte_of.Goals as goal
@@ -14,7 +15,7 @@ bounds-buffers-segs g c =
     omega (
       arith,
       first_held segs c.segs.ensures.packet.some,
-      in_slot_held c.args.packets.now side c.args.p segs e c.requires.own c.in-Some.ensures,
+      in_slot_held no_guests c.args.packets.now side c.args.p segs e c.requires.own c.in-Some.ensures,
     )
     in
     let within : e < side.limits.population = elim (cases_lt e side.limits.population) [

@@ -1,5 +1,4 @@
 use Rattle.std.proofs.Common.{ℕ, List, [], ◌∷◌, Ok, Err, refl, sym, ap, subst, ◌∙◌}
-use Rattle.commons.specs.Packets.{held_in}
 use Rattle.mbuf.specs.Fresh.{AreFresh}
 use Rattle.mbuf.proofs.FreshLemmas.{allocated_elements}
 use Rattle.mbuf.specs.declared.acts.Answer.TheVariants.{Allocated}
@@ -21,6 +20,6 @@ pub returns-in-Ok-clause-fresh : goal.returns-in-Ok-clause-fresh
 returns-in-Ok-clause-fresh g c =
     let done = c.in-Ok.ensures.calls in
     let m = c.args.packets.now in
-    subst (λ (es : List ℕ). AreFresh m.limits.population (held_in m.table) es)
+    subst (λ (es : List ℕ). AreFresh m.limits.population (g.C.Commons.side c.args.c.now).holds es)
     (allocated_elements _ _ _ _ done.2 ∙ ap (λ (e : ℕ). e ∷ []) (sym c.elem_in.ensures))
     c.in-Ok.ensures.fresh

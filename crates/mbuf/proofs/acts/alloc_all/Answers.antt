@@ -1,5 +1,4 @@
 use Rattle.std.proofs.Common.{ℕ, List, Ok, Err, map, refl, sym, ap, subst, ◌∙◌, rules, arith}
-use Rattle.commons.specs.Packets.{held_in}
 use Rattle.mbuf.specs.Fresh.{AreFresh}
 use Rattle.mbuf.specs.declared.acts.NewPacket.{NewPacket}
 use Rattle.mbuf.proofs.FreshLemmas.{bulk_elements}
@@ -30,7 +29,7 @@ pub returns-in-Ok-clause-fresh : goal.returns-in-Ok-clause-fresh
 returns-in-Ok-clause-fresh g c =
     let done = c.in-Ok.ensures.calls in
     let m = c.args.packets.now in
-    subst (λ (es : List ℕ). AreFresh m.limits.population (held_in m.table) es)
+    subst (λ (es : List ℕ). AreFresh m.limits.population (g.C.Commons.side c.args.c.now).holds es)
     (bulk_elements _ _ _ _ _ done.2 ∙ ap
     (λ (list : List NewPacket). map (λ (packet : NewPacket). packet.elem) list)
     (sym c.new_packets.ensures)) c.in-Ok.ensures.fresh

@@ -1,5 +1,4 @@
 use Rattle.std.proofs.Common.{ℕ, List, Ok, Err, refl, sym, ap, subst, ◌∙◌}
-use Rattle.commons.specs.Packets.{held_in}
 use Rattle.mbuf.specs.Fresh.{AreFresh}
 use Rattle.mbuf.proofs.FreshLemmas.{slot_elements}
 use Rattle.mbuf.specs.declared.acts.Answer.TheVariants.{Cloned}
@@ -33,7 +32,7 @@ returns-in-Err-clause-calls g c =
 pub returns-in-Ok-clause-fresh : goal.returns-in-Ok-clause-fresh
 returns-in-Ok-clause-fresh g c =
     let m = c.args.packets.now in
-    subst (λ (es : List ℕ). AreFresh m.limits.population (held_in m.table) es)
+    subst (λ (es : List ℕ). AreFresh m.limits.population (g.C.Commons.side c.args.c.now).holds es)
     (slot_elements c.clone_packet.new.self.table c.in-Ok.slot ∙ sym c.elems_in.ensures)
     c.in-Ok.ensures.fresh
 

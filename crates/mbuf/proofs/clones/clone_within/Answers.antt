@@ -1,5 +1,4 @@
-use Rattle.std.proofs.Common.{◌≡◌, ◌≢◌, ◌<◌, ◌≤◌, ◌+◌, ℕ, List, [], ◌∷◌, ◌++◌, length, length-set, map, take, get_or, set, get_or-set_other, get_or-set_same, inl, inr, refl, ap, subst, ◌∙◌, arith}
-use Rattle.std.proofs.lemmas.Bool.{cases_lt}
+use Rattle.std.proofs.Common.{◌≡◌, ◌≢◌, ◌<◌, ◌+◌, ℕ, List, [], ◌∷◌, ◌++◌, length, length-set, map, take, get_or, set, get_or-set_other, get_or-set_same, refl, ap, subst, ◌∙◌, arith}
 use Rattle.std.proofs.lemmas.List.{get_or_default, map-append, take_more}
 use Rattle.commons.specs.Bag.{bag}
 use Rattle.commons.specs.Calls.{Calls}
@@ -9,7 +8,7 @@ use Rattle.commons.proofs.Bags.{bag-nil, bag-append}
 use Rattle.commons.specs.Packets.{no_seg, hold_of, holds_of_packet, holds_of_seg}
 use Rattle.mbuf.specs.PacketRules.{freed_nothing}
 use Rattle.mbuf.specs.Sharing.{buffer_of, ClonesSeg, StopsCloning}
-use Rattle.mbuf.proofs.CloneLemmas.{buffer_held, cloned_more, followed, given_up, laid_there, holds-more, same_headers}
+use Rattle.mbuf.proofs.CloneLemmas.{buffer_held, cloned_more, followed, given_up, laid_there, holds-more, new_only, same_headers}
 use Rattle.mbuf.proofs.EndLemmas.{Ended}
 use Rattle.mbuf.proofs.clones.clone_within.Goals as goal
 
@@ -32,13 +31,6 @@ stands_clone old cur slot lent within so =
       ap (λ (x : List (List Seg)). length x) so,
       length-set old slot (get_or cur slot []),
     ))
-
--- an element that is new now, or was new before, wasn't held at first
-new_only : (a b first later : ℕ) → (0 < a → first ≡ 0) → (0 < b → later ≡ 0) → first ≤ later → 0 < a + b → first ≡ 0
-new_only a b first later before now grows some = elim (cases_lt 0 a) [
-  | inl here ↦ before here
-  | inr none ↦ omega (arith, now (omega (arith, some, none)), grows)
-]
 
 -- the own elements of one segment more
 elems-more : (segs : List Seg) (seg : Seg) (i : ℕ) →

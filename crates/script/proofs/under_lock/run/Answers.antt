@@ -10,6 +10,7 @@ use Rattle.pool_model.specs.Statements.{statement_of}
 use Rattle.pool_model.specs.declared.statement.Statement.{Statement}
 use Rattle.pool_model.proofs.ListedPackets.{sound_packets_are_packets}
 use Rattle.word_book.specs.Listing.{ListsPackets}
+use Rattle.script.proofs.Losses.{all_end_by_acts}
 use Rattle.script.proofs.under_lock.run.Goals as goal
 
 -- what is true of each statement that acts come to is true of this one
@@ -23,12 +24,20 @@ of_acts l P all (Err e) h = tt
 listed : (l : Limits) (s : Statement) → ListsSoundPackets l s → ListsPackets l s
 listed l s sound = record { packets = sound_packets_are_packets l s sound; counts = sound.counts }
 
--- acts of a new pool led to the end, and acts leave packets sound
+-- acts of a new pool led to the end
+pub returns-clause-reached : goal.returns-clause-reached
+returns-clause-reached g c =
+    all_end_by_acts c.args.script.now.limits c.in_ok-limits.limits c.in_ok-limits.closed c.in_ok-limits.shares.items
+    c.settled_parts.result c.in_ok-limits.ensures.limits c.in_ok-limits.ensures.reached c.settled_parts.ensures.statement
+
+-- and acts leave packets sound
 pub returns-clause-sound : goal.returns-clause-sound
 returns-clause-sound g c =
     let l = c.args.script.now.limits in
     of_acts l (ListsSoundPackets l) (λ acts. c.acts_leave_packets_sound.ensures.stated l acts c.args.script.now.pool)
-    c.run_locked.result c.run_locked.ensures.reached
+    c.settled_parts.result
+    (all_end_by_acts c.args.script.now.limits c.in_ok-limits.limits c.in_ok-limits.closed c.in_ok-limits.shares.items
+    c.settled_parts.result c.in_ok-limits.ensures.limits c.in_ok-limits.ensures.reached c.settled_parts.ensures.statement)
 
 -- so what is listed are packets
 pub returns-clause-packets : goal.returns-clause-packets
@@ -37,4 +46,6 @@ returns-clause-packets g c =
     of_acts l (ListsPackets l)
     (λ acts. listed l (statement_of (after_acts acts (new_pool l)))
     (c.acts_leave_packets_sound.ensures.stated l acts c.args.script.now.pool))
-    c.run_locked.result c.run_locked.ensures.reached
+    c.settled_parts.result
+    (all_end_by_acts c.args.script.now.limits c.in_ok-limits.limits c.in_ok-limits.closed c.in_ok-limits.shares.items
+    c.settled_parts.result c.in_ok-limits.ensures.limits c.in_ok-limits.ensures.reached c.settled_parts.ensures.statement)

@@ -2,5 +2,5 @@ use Rattle.std.specs.Prelude.{◌≡◌}
 use Rattle.script.proofs.under_lock.run.Given as goal
 
 -- the pool under the lock is of the script's limits
-abbrev pub ghosts-run_locked : goal.ghosts-run_locked
-ghosts-run_locked g a = record { allows = λ l. l ≡ a.script.now.limits }
+abbrev pub ghosts-played : goal.ghosts-played
+ghosts-played g a = record { allows = λ l. l ≡ a.script.now.limits }

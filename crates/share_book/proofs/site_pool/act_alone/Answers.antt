@@ -25,10 +25,13 @@ returns-clause-own g c =
     let left = leaves_others s e.0 c.perform_in.new.c e.1 in
     let same = left.site in
     let workers = ap (λ (l : Limits). l.workers) left.sides.limits in
+    let before : Own c.args.packets.now (side_of s.site.now s.worker) =
+    rw (c.new-c.ensures.now, c.new-c.ensures.worker) c.requires.own.share in
     let owned : OwnOnLists t s.worker c.perform_in.new.packets = record {
       first = s.positive;
       last = rw workers s.of_pool;
-      share = subst (λ (w : ℕ). Own c.perform_in.new.packets (side_of t w)) left.worker c.perform_in.ensures.own;
+      share = subst (λ (w : ℕ). Own c.perform_in.new.packets (side_of t w)) left.worker
+          (c.perform_in.ensures.own before);
     } in
     search (rules, same, owned, c.new-c.ensures.same, c.new-c.ensures.worker)
 

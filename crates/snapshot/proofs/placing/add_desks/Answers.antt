@@ -10,7 +10,7 @@ loop-desk-init c = record { len = refl; each = λ i. refl }
 -- what one desk's packet holds, the desks hold
 pub add_packet-requires : goal.add_packet-requires
 add_packet-requires c = λ i h.
-    slot_unheld c.args.desks.now c.loop-desk.desk c.index-desks-desk.result c.in-Some.segs
+    slot_unheld c.args.foreign c.args.desks.now c.loop-desk.desk c.index-desks-desk.result c.in-Some.segs
     c.as_slice.result.now i c.loop-desk-test.true c.index-desks-desk.is c.in-Some.is
     c.as_slice.ensures
     (c.requires.known i (omega (arith, c.loop-desk.invariant.len)))
@@ -22,14 +22,15 @@ loop-desk-preserved c =
     let k = c.loop-desk.desk in
     elim c.match-place.branch [
       | in-Some+in_ok-add_packet w ↦
-          rw w.table-is (noted-full desks k c.index-desks-desk.result w.in-Some.segs
+          rw w.table-is (noted-full c.args.foreign desks k c.index-desks-desk.result w.in-Some.segs
           w.as_slice.result.now _ _ _ c.loop-desk-test.true c.index-desks-desk.is w.in-Some.is
           w.as_slice.ensures c.loop-desk.invariant w.in_ok-add_packet.ensures)
       | in_default w ↦
-          rw w.table-is (noted-empty desks k c.index-desks-desk.result _ _ c.loop-desk-test.true
+          rw w.table-is (noted-empty c.args.foreign desks k c.index-desks-desk.result _ _ c.loop-desk-test.true
           c.index-desks-desk.is w.in_default.is c.loop-desk.invariant)
     ]
 
 -- all desks were noted
 pub returns : goal.returns
-returns c = noted-all c.args.desks.now c.loop-desk.desk _ _ c.loop-desk-test.false c.loop-desk.invariant
+returns c =
+    noted-all c.args.foreign c.args.desks.now c.loop-desk.desk _ _ c.loop-desk-test.false c.loop-desk.invariant

@@ -6,7 +6,7 @@ use Rattle.snapshot.proofs.placing.add_slots.Goals.{in-Some+in_ok-add_packet, in
 -- what one slot's packet holds, the slots hold
 pub add_packet-requires : goal.add_packet-requires
 add_packet-requires c = λ i h.
-    slot_unheld c.args.slots.now c.loop-slot.slot-index c.slot-item.result c.in-Some.segs
+    slot_unheld c.args.foreign c.args.slots.now c.loop-slot.slot-index c.slot-item.result c.in-Some.segs
     c.as_slice.result.now i c.loop-slot-test.true c.slot-item.is c.in-Some.is c.as_slice.ensures
     (c.requires i (omega (arith, c.loop-slot.invariant.len)))
 
@@ -17,10 +17,10 @@ loop-slot-preserved c =
     let k = c.loop-slot.slot-index in
     elim c.match-slot.branch [
       | in-Some+in_ok-add_packet w ↦
-          rw w.table-is (added-full c.args.holder slots k c.slot-item.result w.in-Some.segs
+          rw w.table-is (added-full c.args.holder c.args.foreign slots k c.slot-item.result w.in-Some.segs
           w.as_slice.result.now _ _ _ c.loop-slot-test.true c.slot-item.is w.in-Some.is
           w.as_slice.ensures c.loop-slot.invariant w.in_ok-add_packet.ensures)
       | in_default w ↦
-          rw w.table-is (added-empty c.args.holder slots k c.slot-item.result _ _
+          rw w.table-is (added-empty c.args.holder c.args.foreign slots k c.slot-item.result _ _
           c.loop-slot-test.true c.slot-item.is w.in_default.is c.loop-slot.invariant)
     ]

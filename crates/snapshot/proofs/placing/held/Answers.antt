@@ -45,7 +45,7 @@ loop-i-preserved-then-is_empty c =
     omega
     (arith, list.ok, eqb-true (vec_len list) 0 (sym c.is_empty.ensures ∙ c.if-is_empty.true))
     in
-    rw length_push (c.loop-i.invariant ∙ sym (entry_none s k c.in-Some.i list turn none))
+    rw length_push (c.loop-i.invariant ∙ sym (entry_none s k c.in-Some.i list c.requires.lawful turn none))
 
 -- one with holders has an entry with its count
 pub loop-i-preserved : goal.loop-i-preserved

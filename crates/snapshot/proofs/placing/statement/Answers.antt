@@ -1,10 +1,11 @@
 use Rattle.std.proofs.Common.{◌≡◌, ◌+◌, refl, ap, length, map, flat_map, sum_by, List, sym, ◌∙◌, arith}
 use Rattle.std.proofs.lemmas.List.{length-map}
-use Rattle.pool_model.specs.Statements.{desks_from, held_elements, held_entry, packets_from, packets_of}
+use Rattle.pool_model.specs.Statements.{desks_from, packets_from, packets_of}
 use Rattle.mbuf.specs.Members.{Member}
 use Rattle.std.proofs.lemmas.List.Folds.{flat_map-map}
 use Rattle.std.proofs.lemmas.Simd.{map-map}
 use Rattle.snapshot.specs.declared.snapshot.ShareData.{ShareData}
+use Rattle.snapshot.specs.inside.Adding.{entry_of, held_of}
 use Rattle.snapshot.specs.Snapshots.{member_of, pool_of, walk}
 use Rattle.snapshot.proofs.MappedSums.{sum_by-map}
 use Rattle.snapshot.proofs.PlacedShares.{caches_short}
@@ -41,7 +42,7 @@ returns c =
     omega (arith, c.len.ensures, c.args.common.ok, ap length c.requires.walk, cached, sum) in
     let in_use =
     c.len-2.ensures ∙ ap length c.in_ok-held.ensures
-    ∙ length-map (held_elements pool) (held_entry pool.members s.desks) in
+    ∙ length-map (held_of s) (entry_of s) in
     let common = c.new.ensures ∙ c.requires.walk in
     let caches = c.in_ok-caches.ensures ∙ ap (λ (shares : List ShareData). map
     (λ (share : ShareData). share.cache) shares) c.as_slice-shares.ensures

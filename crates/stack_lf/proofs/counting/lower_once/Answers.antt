@@ -3,20 +3,25 @@ use Rattle.commons.specs.Bag.{bag}
 use Rattle.step_core.proofs.Bags.{times-last}
 use Rattle.step_core.specs.declared.step.Step.TheVariants.{Sole}
 use Rattle.step_core.specs.declared.step.Outcome.TheVariants.{Value}
-use Rattle.ground.specs.Seats.{Seated, Steps}
+use Rattle.ground.specs.Seats.{Seated, Steps, KnowsCount}
 use Rattle.stack_lf.specs.Tries.{Freed, Lowered, Lasted}
 use Rattle.stack_lf.proofs.Tallying.{lower_still, lower_last, lower_between, sole_kept}
 use Rattle.stack_lf.proofs.counting.lower_once.Goals as goal
 
 -- the load read 1
-pub returns-then-sole-eq1 : goal.returns-then-sole-eq1
-returns-then-sole-eq1 c =
+pub returns-then-sole-eq1-clause-lowered : goal.returns-then-sole-eq1-clause-lowered
+returns-then-sole-eq1-clause-lowered c =
     let i = c.args.element in (
       Freed i,
       inl refl,
       subst (λ (n : ℕ). Steps (Sole i true) (Value n) c.args.seat.now c.sole.new.seat)
           c.if-sole-eq1.true c.sole.ensures.step,
     )
+
+-- which is what a seat of every part knows
+pub returns-then-sole-eq1-clause-told : goal.returns-then-sole-eq1-clause-told
+returns-then-sole-eq1-clause-told c =
+    subst (KnowsCount c.args.seat.now.known c.args.element) c.if-sole-eq1.true c.sole.ensures.known
 
 -- what was lowered from 1 is 0
 pub reset-requires-clause-zero : goal.reset-requires-clause-zero
@@ -32,8 +37,8 @@ reset-requires-clause-zero c =
     omega (arith, times-last i c.args.seat.now.known.view.zeros)
 
 -- the lower read 1
-pub returns-then-lower-eq1 : goal.returns-then-lower-eq1
-returns-then-lower-eq1 c =
+pub returns-then-lower-eq1-clause-lowered : goal.returns-then-lower-eq1-clause-lowered
+returns-then-lower-eq1-clause-lowered c =
     let i = c.args.element in
     let n = c.sole.result in
     let held = c.requires.held in
@@ -45,9 +50,17 @@ returns-then-lower-eq1 c =
           c.sole.ensures.step c.lower.ensures.step c.reset.ensures.step,
     )
 
+-- the load left the view as it was, so what was known after it was known before
+pub returns-then-lower-eq1-clause-told : goal.returns-then-lower-eq1-clause-told
+returns-then-lower-eq1-clause-told c =
+    let i = c.args.element in
+    subst (λ (t : Seated). KnowsCount t.known i 1)
+    (sole_kept i c.sole.result c.args.seat.now c.sole.new.seat c.if-sole-eq1.false c.sole.ensures.step)
+    (subst (KnowsCount c.sole.new.seat.known i) c.if-lower-eq1.true c.lower.ensures.known)
+
 -- another hold was left
-pub returns : goal.returns
-returns c =
+pub returns-clause-lowered : goal.returns-clause-lowered
+returns-clause-lowered c =
     let i = c.args.element in
     let n = c.sole.result in
     let b = c.lower.result in
@@ -62,3 +75,9 @@ returns c =
       lower_still i n b c.args.seat.now c.sole.new.seat c.lower.new.seat c.if-sole-eq1.false
           c.if-lower-eq1.false c.sole.ensures.step c.lower.ensures.step,
     )
+
+pub returns-clause-told : goal.returns-clause-told
+returns-clause-told c =
+    let held = c.requires.held in
+    let own = c.sole.ensures.own in
+    (c.sole.result, omega arith, c.sole.ensures.known)

@@ -1,18 +1,18 @@
-use Rattle.std.proofs.Common.{◌≡◌, ◌<◌, ℕ, sym, ap, subst, arith}
+use Rattle.std.proofs.Common.{◌≡◌, ◌<◌, ℕ, refl, sym, ap, subst, arith}
 use Rattle.commons.specs.Bag.{bag}
 use Rattle.commons.specs.declared.limits.Limits.{Limits}
 use Rattle.commons.specs.declared.refusal.Refusal.TheVariants.{RefSpent}
 use Rattle.ground.specs.Seats.{Seated}
 use Rattle.stack_lf.specs.Leaves.{AllLost, TriesRaise}
 use Rattle.stack_lf.specs.declared.tried.Tried.TheVariants as tried
-use Rattle.stack_lf.specs.Tries.{IsLostRaise, KnowsSpent, notes}
+use Rattle.stack_lf.specs.Tries.{IsLostRaise, KnowsSpent, KnowsRaised, notes}
 use Rattle.stack_lf.proofs.Composing.{still_of}
 use Rattle.stack_lf.proofs.Tallying.{raise_lost, raise_won, raise_refused, raise_given_up}
 use Rattle.stack_lf.proofs.counting.raise_apart.Goals as goal
 
 -- before the second try
 pub loop-init : goal.loop-init
-loop-init c = record { lost = λ first one. one; known = λ k. k; of = c.requires.of; held = c.requires.held }
+loop-init c = record { lost = λ first one. one; known = λ k. k; below = λ k. k; of = c.requires.of; held = c.requires.held }
 
 -- the seat is one of the ground, and holds the element
 pub try_raise-requires-clause-of : goal.try_raise-requires-clause-of
@@ -43,6 +43,9 @@ returns-in-Refused-clause-told c = λ e.
     let same : c.in-Refused.cause ≡ RefSpent = search e in
     c.loop.invariant.known (c.in-Refused.ensures.told (ap tried.Refused same))
 
+pub returns-in-Won-clause-below : goal.returns-in-Won-clause-below
+returns-in-Won-clause-below c = c.loop.invariant.below (c.in-Won.ensures.below refl)
+
 -- one more try lost
 pub loop-preserved : goal.loop-preserved
 loop-preserved c = record {
@@ -51,6 +54,7 @@ loop-preserved c = record {
       c.try_raise.new.seat (c.loop.invariant.lost first one)
       (rw c.limits-limits.ensures.limits at c.in-Lost.ensures.one);
   known = λ k. c.loop.invariant.known (subst (KnowsSpent c.args.element) c.in-Lost.ensures.one.2 k);
+  below = λ k. c.loop.invariant.below (subst (KnowsRaised c.args.element) c.in-Lost.ensures.one.2 k);
   of =
       still_of c.args.ground.now c.loop.seat c.try_raise.new.seat (notes c.in-Lost.ensures.one.0)
       c.loop.seat.known.view c.loop.invariant.of c.in-Lost.ensures.one.2;

@@ -1,7 +1,9 @@
 use Rattle.std.proofs.Common.{◌≡◌, refl, ap, subst}
+use Rattle.std.specs.Prelude.{IfOk}
 use Rattle.commons.specs.declared.refusal.Refusal.TheVariants.{RefSpent}
+use Rattle.ground.specs.Seats.{Seated}
 use Rattle.stack_lf.specs.declared.tried.Tried.TheVariants as tried
-use Rattle.stack_lf.specs.Tries.{IsLostRaise, KnowsSpent}
+use Rattle.stack_lf.specs.Tries.{IsLostRaise, KnowsSpent, KnowsRaised}
 use Rattle.stack_lf.proofs.Composing.{all_none}
 use Rattle.stack_lf.proofs.Tallying.{raise_lost, raise_won, raise_refused, raise_not_contended}
 use Rattle.stack_lf.proofs.counting.raise_by_tries.Goals as goal
@@ -46,6 +48,11 @@ returns-in-Lost-clause-raised c =
 pub returns-in-Lost-clause-told : goal.returns-in-Lost-clause-told
 returns-in-Lost-clause-told c = λ e.
     subst (KnowsSpent c.args.element) c.in-Lost.ensures.one.2 (c.raise_again.ensures.told e)
+
+pub returns-in-Lost-clause-below : goal.returns-in-Lost-clause-below
+returns-in-Lost-clause-below c =
+    subst (λ (s : Seated). IfOk c.raise_again.result (λ _. KnowsRaised c.args.element s)) c.in-Lost.ensures.one.2
+    c.raise_again.ensures.below
 
 -- no seat of every part loses a try
 pub returns-in-Lost-clause-alone : goal.returns-in-Lost-clause-alone

@@ -4,7 +4,7 @@ use Rattle.ground.specs.Seats.{Seated, KnowsCount}
 use Rattle.step_core.specs.declared.step.Step.TheVariants.{Sole, Raise}
 use Rattle.step_core.specs.declared.step.Outcome.TheVariants.{Value, Won, Lost}
 use Rattle.stack_lf.specs.Tries.{Unraised, Raised}
-use Rattle.stack_lf.proofs.Bare.{count_bare}
+use Rattle.stack_lf.proofs.Bare.{same_count}
 use Rattle.stack_lf.proofs.Composing.{one_more}
 use Rattle.stack_lf.proofs.counting.try_raise.Goals as goal
 
@@ -15,7 +15,7 @@ returns-then-limits-count-clause-told c = λ _.
     let mine = ap (λ (k : Limits). k.ref_limit) c.requires.of.limits in
     let given = ap (λ (k : Limits). k.ref_limit) c.requires.limits in
     let spent : c.sole-count.result ≡ l.ref_limit = omega arith in
-    subst (KnowsCount l c.args.seat.now.known.view c.args.element) spent c.sole-count.ensures.known
+    subst (KnowsCount c.args.seat.now.known c.args.element) spent c.sole-count.ensures.known
 
 -- the count that was read is raised
 pub returns-in-Ok-clause-one : goal.returns-in-Ok-clause-one
@@ -28,6 +28,13 @@ returns-in-Ok-clause-one c =
           ((Sole i false, Value n) ∷ []) c.args.seat.now.known.view (Raise i n) Won
           c.sole-count.ensures.step c.in-Ok.ensures.step,
     )
+
+-- a seat of every part knows that it was below the limit
+pub returns-in-Ok-clause-below : goal.returns-in-Ok-clause-below
+returns-in-Ok-clause-below c = λ _.
+    let mine = ap (λ (k : Limits). k.ref_limit) c.requires.of.limits in
+    let given = ap (λ (k : Limits). k.ref_limit) c.requires.limits in
+    (c.sole-count.result, omega arith, c.sole-count.ensures.known)
 
 -- another count stood there
 pub returns-in-Err-clause-one : goal.returns-in-Err-clause-one
@@ -47,10 +54,5 @@ pub returns-in-Err-clause-alone : goal.returns-in-Err-clause-alone
 returns-in-Err-clause-alone c = λ whole _.
     let n : ℕ = c.sole-count.result in
     let found : ℕ = c.in-Err.field-0 in
-    let l = c.args.seat.now.known.limits in
-    let v = c.args.seat.now.known.view in
-    let a = count_bare l v c.args.element n c.sole-count.ensures.known whole.0 whole.1 in
-    let b = count_bare l v c.args.element found
-    (subst (λ (z : Seated). KnowsCount z.known.limits z.known.view c.args.element found)
-    c.sole-count.ensures.step c.in-Err.ensures.known) whole.0 whole.1 in
-    c.in-Err.ensures.lost (omega arith)
+    c.in-Err.ensures.lost (same_count c.args.seat.now.known c.args.element n found c.sole-count.ensures.known
+    (subst (λ (z : Seated). KnowsCount z.known c.args.element found) c.sole-count.ensures.step c.in-Err.ensures.known) whole)

@@ -25,4 +25,4 @@ returns-in-Err-cut-clause-got c =
 pub returns-in-Err-cut-clause-alone : goal.returns-in-Err-cut-clause-alone
 returns-in-Err-cut-clause-alone c = λ whole.
     c.in-Err-cut.ensures.alone (alone_reserved c.args.ground.now.limits.tries
-    (length c.args.out.now) c.args.seat.now c.reserve.new.seat c.in-Ok.ensures.reserves whole.0)
+    (length c.args.out.now) c.args.seat.now c.reserve.new.seat c.in-Ok.ensures.reserves whole)

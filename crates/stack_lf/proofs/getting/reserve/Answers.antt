@@ -1,7 +1,9 @@
 use Rattle.std.proofs.Common.{◌≡◌, refl, ap, subst}
+use Rattle.std.specs.Prelude.{IfOk}
 use Rattle.commons.specs.declared.refusal.Refusal.TheVariants.{NoEntries}
+use Rattle.ground.specs.Seats.{Seated}
 use Rattle.stack_lf.specs.declared.tried.Tried.TheVariants as tried
-use Rattle.stack_lf.specs.Tries.{IsMiss, KnowsShort}
+use Rattle.stack_lf.specs.Tries.{IsMiss, KnowsShort, KnowsEnough}
 use Rattle.stack_lf.proofs.Composing.{all_none, reserve_lost, reserve_won, reserve_refused, not_contended}
 use Rattle.stack_lf.proofs.getting.reserve.Goals as goal
 
@@ -41,6 +43,11 @@ returns-in-Lost-clause-reserves c =
 pub returns-in-Lost-clause-told : goal.returns-in-Lost-clause-told
 returns-in-Lost-clause-told c = λ e.
     subst (KnowsShort c.args.n) c.in-Lost.ensures.one.2 (c.reserve_again.ensures.told e)
+
+pub returns-in-Lost-clause-enough : goal.returns-in-Lost-clause-enough
+returns-in-Lost-clause-enough c =
+    subst (λ (s : Seated). IfOk c.reserve_again.result (λ _. KnowsEnough c.args.n s)) c.in-Lost.ensures.one.2
+    c.reserve_again.ensures.enough
 
 -- no seat of every part loses a try
 pub returns-in-Lost-clause-alone : goal.returns-in-Lost-clause-alone

@@ -1,15 +1,15 @@
-use Rattle.std.proofs.Common.{◌≡◌, ℕ, ap, subst, arith}
+use Rattle.std.proofs.Common.{◌≡◌, ℕ, refl, ap, subst, arith}
 use Rattle.commons.specs.declared.limits.Limits.{Limits}
 use Rattle.commons.specs.declared.refusal.Refusal.TheVariants.{NoEntries}
 use Rattle.stack_lf.specs.Leaves.{AllLost}
 use Rattle.stack_lf.specs.declared.tried.Tried.TheVariants as tried
-use Rattle.stack_lf.specs.Tries.{IsMiss, KnowsShort, notes}
+use Rattle.stack_lf.specs.Tries.{IsMiss, KnowsShort, KnowsEnough, notes}
 use Rattle.stack_lf.proofs.Composing.{still_of, reserve_lost, reserve_won, reserve_refused, reserve_given_up}
 use Rattle.stack_lf.proofs.getting.reserve_apart.Goals as goal
 
 -- before the second try
 pub loop-init : goal.loop-init
-loop-init c = record { lost = λ first one. one; known = λ k. k; of = c.requires.of }
+loop-init c = record { lost = λ first one. one; known = λ k. k; enough = λ k. k; of = c.requires.of }
 
 -- the seat is one of the ground
 pub try_reserve-requires-clause-of : goal.try_reserve-requires-clause-of
@@ -35,6 +35,9 @@ returns-in-Refused-clause-told c = λ e.
     let same : c.in-Refused.cause ≡ NoEntries = search e in
     c.loop.invariant.known (c.in-Refused.ensures.told (ap tried.Refused same))
 
+pub returns-in-Won-clause-enough : goal.returns-in-Won-clause-enough
+returns-in-Won-clause-enough c = c.loop.invariant.enough (c.in-Won.ensures.enough refl)
+
 -- one more try lost
 pub loop-preserved : goal.loop-preserved
 loop-preserved c = record {
@@ -42,6 +45,7 @@ loop-preserved c = record {
       reserve_lost c.args.n c.loop.counter first c.loop.seat c.try_reserve.new.seat
       (c.loop.invariant.lost first one) c.in-Lost.ensures.one;
   known = λ k. c.loop.invariant.known (subst (KnowsShort c.args.n) c.in-Lost.ensures.one.2 k);
+  enough = λ k. c.loop.invariant.enough (subst (KnowsEnough c.args.n) c.in-Lost.ensures.one.2 k);
   of =
       still_of c.args.ground.now c.loop.seat c.try_reserve.new.seat (notes c.in-Lost.ensures.one.0)
       c.loop.seat.known.view c.loop.invariant.of c.in-Lost.ensures.one.2;

@@ -1,9 +1,9 @@
 use Rattle.ground.specs.Seats.{Seated, KnowsLength}
-use Rattle.std.proofs.Common.{ℕ, subst, arith, refl, [], ◌∷◌}
+use Rattle.std.proofs.Common.{ℕ, subst, refl, [], ◌∷◌}
 use Rattle.step_core.specs.declared.step.Step.TheVariants.{LoadLength, Reserve as ReserveStep}
 use Rattle.step_core.specs.declared.step.Outcome.TheVariants.{Value, Won, Lost}
 use Rattle.stack_lf.specs.Tries.{Short, Missed, Reserved}
-use Rattle.stack_lf.proofs.Bare.{length_bare}
+use Rattle.stack_lf.proofs.Bare.{same_length}
 use Rattle.stack_lf.proofs.Composing.{one_more}
 use Rattle.stack_lf.proofs.getting.try_reserve.Goals as goal
 
@@ -31,6 +31,11 @@ returns-in-Ok-clause-one c =
           c.load_length-length.ensures.step c.in-Ok.ensures.step,
     )
 
+-- a seat of every part knows that it was enough
+pub returns-in-Ok-clause-enough : goal.returns-in-Ok-clause-enough
+returns-in-Ok-clause-enough c = λ _.
+    (c.load_length-length.result, c.if-length-n.false, c.load_length-length.ensures.known)
+
 -- another length stood there
 pub returns-in-Err-clause-one : goal.returns-in-Err-clause-one
 returns-in-Err-clause-one c =
@@ -48,9 +53,5 @@ pub returns-in-Err-clause-alone : goal.returns-in-Err-clause-alone
 returns-in-Err-clause-alone c = λ whole _.
     let v : ℕ = c.load_length-length.result in
     let found : ℕ = c.in-Err.field-0 in
-    let l = c.args.seat.now.known.limits in
-    let v' = c.args.seat.now.known.view in
-    let a = length_bare l v' v c.load_length-length.ensures.known whole.0 whole.1 in
-    let b = length_bare l v' found (subst (λ (z : Seated). KnowsLength z.known.limits z.known.view found)
-    c.load_length-length.ensures.step c.in-Err.ensures.known) whole.0 whole.1 in
-    c.in-Err.ensures.lost (omega arith)
+    c.in-Err.ensures.lost (same_length c.args.seat.now.known v found c.load_length-length.ensures.known
+    (subst (λ (z : Seated). KnowsLength z.known found) c.load_length-length.ensures.step c.in-Err.ensures.known) whole)

@@ -14,3 +14,9 @@ pub returns-in-Steps-clause-printed : goal.returns-in-Steps-clause-printed
 returns-in-Steps-clause-printed g c =
     subst (λ (t : Task). IfOk c.run_steps.result (λ out. IsDoneAs t c.args.script.now out.items))
     (sym c.in-Steps.is) c.run_steps.ensures.printed
+
+-- and for a run at whose end a worker is lost
+pub returns-in-RunLost-clause-printed : goal.returns-in-RunLost-clause-printed
+returns-in-RunLost-clause-printed g c =
+    subst (λ (t : Task). IfOk c.text-in-RunLost.result (λ out. IsDoneAs t c.args.script.now out.items))
+    (sym c.in-RunLost.is) c.text-in-RunLost.ensures.printed

@@ -13,7 +13,7 @@ loop-worker-init c =
       joined =
           last_joined c.own_packets_are_a_share.ensures.one c.args.ground.now c.args.workers.items
           c.pop.new.self.items c.in-Some.last c.into_parts-seat.result.0 c.into_parts-seat.result.1
-          c.add_share.new.shares.items c.requires.workers c.in-Some.ensures.items c.into_parts-seat.ensures.idle
+          c.add_share.new.shares.items c.requires.each c.in-Some.ensures.items c.into_parts-seat.ensures.idle
           c.into_parts-seat.ensures.parts.0 c.into_parts-seat.ensures.parts.1
           (c.add_share.ensures.added
           ∙ ap (λ (ms : List Member). ms ++ c.into_parts-seat.result.1 ∷ []) c.requires.empty);
@@ -56,3 +56,7 @@ loop-worker-preserved c = record {
         c.add_share-in-Some-pop.ensures.room,
       );
 }
+
+-- where no worker has acted, none of the seats that were joined has taken a step
+pub returns-clause-unmoved : goal.returns-clause-unmoved
+returns-clause-unmoved c = λ none. (c.loop-worker.invariant.joined.unmoved none).1

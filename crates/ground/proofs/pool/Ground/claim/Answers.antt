@@ -26,5 +26,5 @@ load-requires c =
     let at = c.count_word.ensures in (
       search rules,
       omega arith,
-      claims _ _ _ _ c.args.element _ (omega arith) (omega arith) has (c.seat.invariant.0.busy, c.seat.invariant.1),
+      claims _ _ _ _ c.args.element _ (omega arith) (omega arith) has (c.seat.invariant.0.busy, c.seat.invariant.1, c.seat.invariant.2),
     )

@@ -26,5 +26,5 @@ store-requires c =
       search rules,
       omega arith,
       clears_desk _ _ _ _ c.args.desk _ stands.0 (omega arith) (omega arith) stands.1 stands.2
-          (c.seat.invariant.0.busy, c.seat.invariant.1),
+          (c.seat.invariant.0.busy, c.seat.invariant.1, c.seat.invariant.2),
     )

@@ -20,5 +20,5 @@ compare_exchange-found-requires c =
       search rules,
       omega arith,
       holds_desk _ _ _ _ c.args.desk _ (omega arith) (omega arith) idle
-          (c.seat.invariant.0.busy, c.seat.invariant.1),
+          (c.seat.invariant.0.busy, c.seat.invariant.1, c.seat.invariant.2),
     )

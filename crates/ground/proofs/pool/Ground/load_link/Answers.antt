@@ -23,5 +23,5 @@ load-requires c =
     let at = c.link_word.ensures in (
       search rules,
       omega arith,
-      loads_link _ _ _ _ c.args.element _ at may (c.seat.invariant.0.busy, c.seat.invariant.1) c.seat.invariant.0,
+      loads_link _ _ _ _ c.args.element _ at may (c.seat.invariant.0.busy, c.seat.invariant.1, c.seat.invariant.2) c.seat.invariant.0,
     )

@@ -25,5 +25,5 @@ fetch_sub-requires c =
     let at = c.count_word-word.ensures in (
       search rules,
       omega arith,
-      lowers _ _ _ _ c.args.element _ (omega arith) (omega arith) has (c.seat.invariant.0.busy, c.seat.invariant.1),
+      lowers _ _ _ _ c.args.element _ (omega arith) (omega arith) has (c.seat.invariant.0.busy, c.seat.invariant.1, c.seat.invariant.2),
     )

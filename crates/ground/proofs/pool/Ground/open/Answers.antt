@@ -22,6 +22,6 @@ store-requires c =
     let below = c.requires.desk in (
       search rules,
       omega arith,
-      opens_desk _ _ _ _ c.args.desk _ may.packet (omega arith) (omega arith) stands.0 stands.1 may.held
-          may.owned (c.seat.invariant.0.busy, c.seat.invariant.1),
+      opens_desk _ _ _ _ c.args.desk _ may.packet (omega arith) (omega arith) stands.0 stands.1 stands.2
+          may.held may.owned (c.seat.invariant.0.busy, c.seat.invariant.1, c.seat.invariant.2),
     )

@@ -13,5 +13,5 @@ compare_exchange-found-requires c =
       search rules,
       search rules,
       pushes _ _ _ _ c.args.head c.args.first _ _ c.word_of-old.ensures c.word_of-new.ensures may
-          (c.seat.invariant.0.busy, c.seat.invariant.1),
+          (c.seat.invariant.0.busy, c.seat.invariant.1, c.seat.invariant.2),
     )

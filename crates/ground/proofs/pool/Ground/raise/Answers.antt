@@ -1,8 +1,10 @@
-use Rattle.std.proofs.Common.{◌≡◌, ◌<◌, sym, ap, subst, rules, arith}
+use Rattle.std.proofs.Common.{◌≡◌, ◌<◌, ℕ, Result, sym, ap, subst, rules, arith}
+use Rattle.std.specs.Prelude.{MatchResult}
 use Rattle.commons.specs.Bag.{bag}
 use Rattle.commons.specs.declared.limits.Limits.{Limits}
-use Rattle.ground.specs.Seats.{Seated, Grounded}
+use Rattle.ground.specs.Seats.{Seated, Grounded, KnowsCount}
 use Rattle.ground.proofs.Tallies.{raises, held_inside}
+use Rattle.ground.proofs.pool.Ground.raise.Goals.{then-found-old, else-found-old}
 use Rattle.ground.proofs.pool.Ground.raise.Goals as goal
 
 -- the word is one of the table, and the operation keeps the rule
@@ -31,5 +33,18 @@ compare_exchange-found-requires c =
       search rules,
       omega arith,
       raises _ _ _ _ c.args.element _ c.args.old _ (omega arith) (omega arith) has (omega arith) (search rules)
-          (c.seat.invariant.0.busy, c.seat.invariant.1),
+          (c.seat.invariant.0.busy, c.seat.invariant.1, c.seat.invariant.2),
     )
+
+-- what was found is known, and where the exchange won it is what was expected
+pub returns-clause-known : goal.returns-clause-known
+returns-clause-known c =
+    let n = c.args.seat.now.known in
+    let i = c.args.element in
+    let known : KnowsCount n i c.compare_exchange-found.result = search rules in
+    let Answers : Result (Unit {0}) ℕ → Type 0 =
+    λ r. MatchResult r (λ _. KnowsCount n i c.args.old) (λ found. KnowsCount n i found) in
+    elim c.if-found-old.branch [
+      | then-found-old w ↦ subst Answers (sym w.result-is) (subst (KnowsCount n i) w.if-found-old.true known)
+      | else-found-old w ↦ subst Answers (sym w.result-is) known
+    ]

@@ -25,5 +25,5 @@ store-requires c =
     let at = c.count_word-word.ensures in (
       search rules,
       omega arith,
-      resets _ _ _ _ c.args.element _ (omega arith) (omega arith) has (c.seat.invariant.0.busy, c.seat.invariant.1),
+      resets _ _ _ _ c.args.element _ (omega arith) (omega arith) has (c.seat.invariant.0.busy, c.seat.invariant.1, c.seat.invariant.2),
     )

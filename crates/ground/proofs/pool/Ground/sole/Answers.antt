@@ -25,7 +25,7 @@ load-requires c =
     let at = c.count_word-word.ensures in (
       search rules,
       omega arith,
-      soles _ _ _ _ true c.args.element _ (omega arith) (omega arith) has (c.seat.invariant.0.busy, c.seat.invariant.1),
+      soles _ _ _ _ true c.args.element _ (omega arith) (omega arith) has (c.seat.invariant.0.busy, c.seat.invariant.1, c.seat.invariant.2),
     )
 
 -- the word is one of the table, and the operation keeps the rule
@@ -48,5 +48,5 @@ load-requires-else-free c =
     let at = c.count_word-word.ensures in (
       search rules,
       omega arith,
-      soles _ _ _ _ false c.args.element _ (omega arith) (omega arith) has (c.seat.invariant.0.busy, c.seat.invariant.1),
+      soles _ _ _ _ false c.args.element _ (omega arith) (omega arith) has (c.seat.invariant.0.busy, c.seat.invariant.1, c.seat.invariant.2),
     )

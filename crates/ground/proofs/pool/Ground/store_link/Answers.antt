@@ -27,6 +27,6 @@ store-requires c =
     let at = c.link_word.ensures in (
       search rules,
       omega arith,
-      stores_link _ _ _ _ c.args.element _ _ at hand (omega arith) (c.seat.invariant.0.busy, c.seat.invariant.1)
+      stores_link _ _ _ _ c.args.element _ _ at hand (omega arith) (c.seat.invariant.0.busy, c.seat.invariant.1, c.seat.invariant.2)
           c.seat.invariant.0,
     )

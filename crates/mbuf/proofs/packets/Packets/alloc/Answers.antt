@@ -6,10 +6,9 @@ use Rattle.commons.proofs.Leading.{calls_of-append, Leads-append, Leads-one, mad
 use Rattle.commons.specs.declared.refusal.Refusal.{Refusal}
 use Rattle.mbuf.specs.inside.Kept.{member_of}
 use Rattle.mbuf.specs.Members.{Member}
-use Rattle.mbuf.specs.Own.{Own}
+use Rattle.mbuf.specs.Own.{OwnWith, no_guests}
 use Rattle.mbuf.specs.PacketRules.{free_slot, free_slots, fresh_seg, stood, Full, NotGot, Fresh}
 use Rattle.mbuf.proofs.FreeLemmas.{taken_first, own_stood}
-use Rattle.commons.specs.Packets.{held_in}
 use Rattle.mbuf.specs.Fresh.{own_in_slots}
 use Rattle.mbuf.proofs.CloneLemmas.{single_is, unheld}
 use Rattle.mbuf.proofs.FreshLemmas.{fresh_headers, own_in_one}
@@ -50,7 +49,7 @@ returns-in-Err-clause-calls g c =
 -- The hand has what the cache has and, beside it, the element that was got.
 pub stand-requires-clause-hand : goal.stand-requires-clause-hand
 stand-requires-clause-hand g c =
-    let own = rw (sym c.self.view_is) at c.requires.own in
+    let own = rw (sym c.self.view_is) at c.requires.own.1 in
     let e = c.in-Ok.elem in
     omega (arith, own.cached e, c.in-Ok.ensures.hand e, one-same e)
 
@@ -86,8 +85,8 @@ returns-in-Ok-clause-calls g c =
     )
 
 -- The new element left the cache for the table, and one hold and one header came with it.
-pub returns-in-Ok-clause-own : goal.returns-in-Ok-clause-own
-returns-in-Ok-clause-own g c =
+pub returns-in-Ok-clause-guests : goal.returns-in-Ok-clause-guests
+returns-in-Ok-clause-guests g c = λ guests owned.
     let table = (member_of c.self.inside).table in
     let slot = c.in-Some.slot in
     let low = lowest c.self.inside slot c.self.invariant c.in-Some.ensures in
@@ -109,15 +108,19 @@ returns-in-Ok-clause-own g c =
     (stood before.limits (e ∷ []) (take 1 (free_slots table)) table) number.limits
     number.number
     (rw rest (ap (λ (l : Limits). set table slot (Some (fresh_seg l e ∷ []))) number.limits)) in
-    let own = rw (sym c.self.view_is) at c.requires.own in
-    subst (λ (m : Member). Own m (side last)) (sym is)
-    (own_stood (member_of c.self.inside) (side first) (side mid) (side last)
+    let own = rw (sym c.self.view_is) at owned in
+    subst (λ (m : Member). OwnWith guests m (side last)) (sym is)
+    (own_stood guests (member_of c.self.inside) (side first) (side mid) (side last)
     w.cache (e ∷ []) own (effect.limits ∙ got.limits)
     (omega (arith, ap (λ (s : List ℕ). length s) rest))
     (λ i. omega (arith, got.hand i, bag-single e i)) got.holds got.headers
     (λ i. omega (arith, effect.hand i, bag-single e i))
     (λ i. omega (arith, effect.holds i, bag-single e i))
     (λ i. omega (arith, effect.headers i, bag-single e i)))
+
+-- And so they do with none.
+pub returns-in-Ok-clause-own : goal.returns-in-Ok-clause-own
+returns-in-Ok-clause-own g c = returns-in-Ok-clause-guests g c no_guests
 
 -- The element was in the hand, and what is in a hand has no holds: so no packet had it.
 pub returns-in-Ok-clause-fresh : goal.returns-in-Ok-clause-fresh
@@ -135,7 +138,7 @@ returns-in-Ok-clause-fresh g c =
     let mid = c.get_one.new.c in
     let last = c.stand.new.c in
     let met = g.met.C.Commons in
-    let own = rw (sym c.self.view_is) at c.requires.own in
+    let own = rw (sym c.self.view_is) at c.requires.own.1 in
     let list : own_in_slots c.stand.new.self.table (slot ∷ []) ≡ e ∷ [] =
     ap (λ (m : Member). own_in_slots m.table (slot ∷ [])) stand.stood
     ∙ own_in_one table slot (fresh_seg w.limits e ∷ []) (free_slot-is table slot low.free).0
@@ -143,11 +146,11 @@ returns-in-Ok-clause-fresh g c =
     let none =
     unheld ((side mid).hand e) ((side mid).holds e) (met.apart mid e)
     (omega (arith, own.cached e, got.hand e, one-same e)) in
-    let nobodys : held_in table e ≡ 0 = omega (arith, none, ap (λ (f : ℕ → ℕ). f e) got.holds, own.held e) in
+    let nobodys : (side c.args.c.now).holds e ≡ 0 = omega (arith, none, ap (λ (f : ℕ → ℕ). f e) got.holds) in
     let same : (side last).limits.population ≡ l.population =
     ap (λ (x : Limits). x.population) (effect.limits ∙ got.limits ∙ sym own.limits) in
     rw (sym c.self.view_is, stand.slot, list)
-    (fresh_headers (side mid) (side last) l.population (held_in table) (e ∷ [])
+    (fresh_headers (side mid) (side last) l.population (side c.args.c.now).holds (e ∷ [])
     (met.header_once last) (met.header_held last)
     (λ i b. met.holds_below last i (omega (arith, same, b)))
     (λ i. omega (arith, effect.headers i, bag-single e i)) (λ i some. rw (single_is e i some) nobodys))

@@ -5,9 +5,8 @@ use Rattle.commons.specs.declared.refusal.Refusal.{Refusal}
 use Rattle.commons.proofs.Leading.{calls_of-append, Leads-append}
 use Rattle.mbuf.specs.inside.Kept.{member_of, shown}
 use Rattle.mbuf.specs.Members.{Member}
-use Rattle.mbuf.specs.Own.{Own}
+use Rattle.mbuf.specs.Own.{OwnWith, no_guests}
 use Rattle.mbuf.specs.PacketRules.{free_slots, stood, TooFull, BulkNotGot, FreshBulk}
-use Rattle.commons.specs.Packets.{held_in}
 use Rattle.mbuf.specs.Fresh.{own_in_slots}
 use Rattle.mbuf.proofs.CloneLemmas.{unheld}
 use Rattle.mbuf.proofs.FreeLemmas.{length-free, own_stood}
@@ -56,7 +55,7 @@ returns-in-Err-clause-calls g c =
 -- The hand has what the cache has and, beside it, the elements that were got.
 pub stand_all-requires-clause-hand : goal.stand_all-requires-clause-hand
 stand_all-requires-clause-hand g c = λ i.
-    let own = rw (sym c.self.view_is) at c.requires.own in
+    let own = rw (sym c.self.view_is) at c.requires.own.1 in
     omega (arith, own.cached i, c.in-Ok.ensures.hand i)
 
 -- The count of the free slots is no less than what was asked for, and as many were got.
@@ -116,8 +115,8 @@ returns-in-Ok-clause-calls g c =
     )
 
 -- The new elements left the cache for the table, each with one hold and one header.
-pub returns-in-Ok-clause-own : goal.returns-in-Ok-clause-own
-returns-in-Ok-clause-own g c =
+pub returns-in-Ok-clause-guests : goal.returns-in-Ok-clause-guests
+returns-in-Ok-clause-guests g c = λ guests owned.
     let inv = c.self.invariant in
     let table = shown c.self.inside.free c.self.inside.packets.items in
     let es = c.get_bulk.new.out in
@@ -143,9 +142,9 @@ returns-in-Ok-clause-own g c =
     (stood w.limits es slots table) (stood before.limits es slots table) number.limits
     number.number
     (ap (λ (l : Limits). stood l es slots table) number.limits) in
-    let own = rw (sym c.self.view_is) at c.requires.own in
-    subst (λ (m : Member). Own m (side last)) (sym is)
-    (own_stood (member_of c.self.inside) (side first) (side mid) (side last)
+    let own = rw (sym c.self.view_is) at owned in
+    subst (λ (m : Member). OwnWith guests m (side last)) (sym is)
+    (own_stood guests (member_of c.self.inside) (side first) (side mid) (side last)
     w.cache es own (stand.limits ∙ got.limits)
     (omega (
       arith,
@@ -156,6 +155,10 @@ returns-in-Ok-clause-own g c =
       c.get_bulk.auto.out,
     ))
     got.hand got.holds got.headers stand.hand stand.holds stand.headers)
+
+-- And so they do with none.
+pub returns-in-Ok-clause-own : goal.returns-in-Ok-clause-own
+returns-in-Ok-clause-own g c = returns-in-Ok-clause-guests g c no_guests
 
 -- The elements were in the hand, and what is in a hand has no holds: so no packet had them.
 pub returns-in-Ok-clause-fresh : goal.returns-in-Ok-clause-fresh
@@ -184,7 +187,7 @@ returns-in-Ok-clause-fresh g c =
     (stood w.limits es slots table) (stood before.limits es slots table) number.limits
     number.number
     (ap (λ (l : Limits). stood l es slots table) number.limits) in
-    let own = rw (sym c.self.view_is) at c.requires.own in
+    let own = rw (sym c.self.view_is) at c.requires.own.1 in
     let met = g.met.C.Commons in
     let l = before.limits in
     let room : length es ≤ length (free_slots table) =
@@ -203,11 +206,11 @@ returns-in-Ok-clause-fresh g c =
     let same : (side last).limits.population ≡ l.population =
     ap (λ (x : Limits). x.population) (stand.limits ∙ got.limits ∙ sym own.limits) in
     rw (sym c.self.view_is, list)
-    (fresh_headers (side mid) (side last) l.population (held_in table) es (met.header_once last)
+    (fresh_headers (side mid) (side last) l.population (side c.args.c.now).holds es (met.header_once last)
     (met.header_held last) (λ i b. met.holds_below last i (omega (arith, same, b)))
     stand.headers
     (λ i some.
     let none =
     unheld ((side mid).hand i) ((side mid).holds i) (met.apart mid i)
     (omega (arith, own.cached i, got.hand i, some)) in
-    omega (arith, none, ap (λ (f : ℕ → ℕ). f i) got.holds, own.held i)))
+    omega (arith, none, ap (λ (f : ℕ → ℕ). f i) got.holds)))

@@ -3,7 +3,7 @@ use Rattle.std.proofs.lemmas.Result.{err_from_is_err_and}
 use Rattle.commons.specs.declared.packet.Seg.{Seg}
 use Rattle.mbuf.specs.inside.Kept.{member_of}
 use Rattle.mbuf.specs.Members.{Member}
-use Rattle.mbuf.specs.Own.{Own}
+use Rattle.mbuf.specs.Own.{OwnWith, no_guests}
 use Rattle.mbuf.specs.Sharing.{NotAttachable, HeldElsewhere, NotRaised, WasAttached}
 use Rattle.mbuf.proofs.PlaceLemmas.{changed}
 use Rattle.mbuf.proofs.SharingLemmas.{pair_held, own_attached}
@@ -23,15 +23,15 @@ returns-in_err-elem-clause-calls g c =
 pub attach-requires-clause-own : goal.attach-requires-clause-own
 attach-requires-clause-own g c =
     let now = c.args.c.now in
-    (pair_held c.args.self.now (g.C.Commons.side now) c.args.mi c.args.target
-    (c.in_ok-elem.elem, c.in_ok-elem.seg) c.requires.own c.in_ok-elem.ensures.are).0
+    (pair_held c.requires.own.0 c.args.self.now (g.C.Commons.side now) c.args.mi c.args.target
+    (c.in_ok-elem.elem, c.in_ok-elem.seg) c.requires.own.1 c.in_ok-elem.ensures.are).0
 
 -- The packet in the other slot holds the buffer, and so does its worker.
 pub attach-requires-clause-held : goal.attach-requires-clause-held
 attach-requires-clause-held g c =
     let now = c.args.c.now in
-    (pair_held c.args.self.now (g.C.Commons.side now) c.args.mi c.args.target
-    (c.in_ok-elem.elem, c.in_ok-elem.seg) c.requires.own c.in_ok-elem.ensures.are).1
+    (pair_held c.requires.own.0 c.args.self.now (g.C.Commons.side now) c.args.mi c.args.target
+    (c.in_ok-elem.elem, c.in_ok-elem.seg) c.requires.own.1 c.in_ok-elem.ensures.are).1
 
 -- Either another count than 1 was read of the element, or the raise was refused.
 pub returns-in_err-attached-clause-calls : goal.returns-in_err-attached-clause-calls
@@ -74,8 +74,8 @@ returns-clause-calls g c =
     rw (sym c.self.view_is) (did.0, did.1, WasAttached e seg (sym pair) did.2.0 refl (is ∙ same))
 
 -- The table has one hold of the buffer more, and so has the worker; its headers are the same.
-pub returns-clause-own : goal.returns-clause-own
-returns-clause-own g c =
+pub returns-clause-guests : goal.returns-clause-guests
+returns-clause-guests g c = λ guests owned.
     let p = c.self.inside in
     let mi = c.args.mi in
     let e = c.in_ok-elem.elem in
@@ -87,12 +87,16 @@ returns-clause-own g c =
     changed p p.worker (set p.packets.items mi c.restart.new.self) mi (are.own ∷ []) (new ∷ [])
     c.self.invariant are.within are.here (record { limits = refl; number = refl })
     (ap (set p.packets.items mi) c.restart.ensures) in
-    let own = rw (sym c.self.view_is) at c.requires.own in
+    let own = rw (sym c.self.view_is) at owned in
     let side = g.C.Commons.side in
     let first = c.args.c.now in
     let last = c.attach.new.c in
     let done = c.in_ok-attached.ensures in
-    subst (λ (m : Member). Own m (side last)) (sym is)
-    (own_attached (member_of p) (side first) (side last) mi c.args.target (e, seg) new
+    subst (λ (m : Member). OwnWith guests m (side last)) (sym is)
+    (own_attached guests (member_of p) (side first) (side last) mi c.args.target (e, seg) new
     own done.ok.limits are did.2.1
     done.ok.hand done.ok.holds done.ok.headers)
+
+-- And so they do with none.
+pub returns-clause-own : goal.returns-clause-own
+returns-clause-own g c = returns-clause-guests g c no_guests

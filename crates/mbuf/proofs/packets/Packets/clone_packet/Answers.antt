@@ -2,11 +2,11 @@ use Rattle.std.proofs.Common.{◌≡◌, ℕ, [], ◌∷◌, List, get_or, Optio
 use Rattle.commons.specs.declared.limits.Limits.{Limits}
 use Rattle.commons.specs.declared.packet.Seg.{Seg}
 use Rattle.commons.specs.declared.refusal.Refusal.TheVariants.{NoSuchPacket, PacketsFull}
-use Rattle.commons.specs.Packets.{held_in, own_of_packet}
+use Rattle.commons.specs.Packets.{own_of_packet}
 use Rattle.mbuf.specs.inside.Kept.{member_of}
 use Rattle.mbuf.specs.Fresh.{own_in_slots}
 use Rattle.mbuf.specs.Members.{Member}
-use Rattle.mbuf.specs.Own.{Own}
+use Rattle.mbuf.specs.Own.{OwnWith, no_guests}
 use Rattle.mbuf.specs.PacketRules.{free_slot}
 use Rattle.mbuf.specs.Sharing.{clonable, NotClonable, WasGivenUp, WasCloned}
 use Rattle.mbuf.proofs.FreshLemmas.{fresh_headers, own_in_one}
@@ -63,8 +63,8 @@ clone_segs-requires-clause-held g c = λ i.
     let source = c.in-Some.source in
     let at = rw (sym c.self.view_is) at c.in-Some.ensures in
     let src = standing p source c.args.p c.self.invariant at in
-    let own = rw (sym c.self.view_is) at c.requires.own in
-    in_slot_held (member_of p) (g.C.Commons.side c.args.c.now) source
+    let own = rw (sym c.self.view_is) at c.requires.own.1 in
+    in_slot_held c.requires.own.0 (member_of p) (g.C.Commons.side c.args.c.now) source
     (get_or p.packets.items source []) i own src.there
 
 -- The lowest free slot is free.
@@ -95,8 +95,8 @@ returns-in-Ok-clause-calls g c =
     )
 
 -- The clone's holds and headers are those that came to the worker, and its cache is its hand.
-pub returns-in-Ok-clause-own : goal.returns-in-Ok-clause-own
-returns-in-Ok-clause-own g c =
+pub returns-in-Ok-clause-guests : goal.returns-in-Ok-clause-guests
+returns-in-Ok-clause-guests g c = λ guests owned.
     let p = c.self.inside in
     let slot = c.in-Some-lowest.lowest in
     let low = lowest p slot c.self.invariant c.in-Some-lowest.ensures in
@@ -105,12 +105,16 @@ returns-in-Ok-clause-own g c =
     let is =
     filled p done.worker c.take.new.self done.packets.items slot new c.self.invariant low
     c.clone_segs.ensures.number c.take.ensures c.clone_segs.ensures.packets in
-    let own = rw (sym c.self.view_is) at c.requires.own in
+    let own = rw (sym c.self.view_is) at owned in
     let side = g.C.Commons.side in
     let did = c.in-Ok.ensures in
-    subst (λ (m : Member). Own m (side done.c)) (sym is)
-    (own_cloned (member_of p) (side c.args.c.now) (side done.c) done.worker.cache slot new own
+    subst (λ (m : Member). OwnWith guests m (side done.c)) (sym is)
+    (own_cloned guests (member_of p) (side c.args.c.now) (side done.c) done.worker.cache slot new own
     did.limits low.free did.hand did.holds did.headers)
+
+-- And so they do with none.
+pub returns-in-Ok-clause-own : goal.returns-in-Ok-clause-own
+returns-in-Ok-clause-own g c = returns-in-Ok-clause-guests g c no_guests
 
 -- The clone's own elements are new headers, and nobody held them before.
 pub returns-in-Ok-clause-fresh : goal.returns-in-Ok-clause-fresh
@@ -123,7 +127,7 @@ returns-in-Ok-clause-fresh g c =
     let is =
     filled p done.worker c.take.new.self done.packets.items slot new c.self.invariant low
     c.clone_segs.ensures.number c.take.ensures c.clone_segs.ensures.packets in
-    let own = rw (sym c.self.view_is) at c.requires.own in
+    let own = rw (sym c.self.view_is) at c.requires.own.1 in
     let side = g.C.Commons.side in
     let first = c.args.c.now in
     let last = done.c in
@@ -136,10 +140,10 @@ returns-in-Ok-clause-fresh g c =
     let same : (side last).limits.population ≡ l.population =
     ap (λ (x : Limits). x.population) (did.limits ∙ sym own.limits) in
     rw (sym c.self.view_is, list)
-    (fresh_headers (side first) (side last) l.population (held_in (member_of p).table)
+    (fresh_headers (side first) (side last) l.population (side first).holds
     (own_of_packet new) (met.header_once last) (met.header_held last)
     (λ i b. met.holds_below last i (omega (arith, same, b))) did.headers
-    (λ i some. sym (own.held i) ∙ did.unheld i some))
+    did.unheld)
 
 -- The clones so far lie in a slot that is free still, where the table shows nothing.
 pub returns-in-Err-clause-table_err : goal.returns-in-Err-clause-table_err
@@ -176,8 +180,8 @@ returns-in-Err-clause-calls g c =
     )
 
 -- What was given up left holds and headers as before, and the table too.
-pub returns-in-Err-clause-own : goal.returns-in-Err-clause-own
-returns-in-Err-clause-own g c =
+pub returns-in-Err-clause-guests : goal.returns-in-Err-clause-guests
+returns-in-Err-clause-guests g c = λ guests owned.
     let p = c.self.inside in
     let slot = c.in-Some-lowest.lowest in
     let low = lowest p slot c.self.invariant c.in-Some-lowest.ensures in
@@ -185,9 +189,13 @@ returns-in-Err-clause-own g c =
     let is =
     hidden p done.worker done.packets.items slot (get_or done.packets.items slot []) low
     c.clone_segs.ensures.number c.clone_segs.ensures.packets in
-    let own = rw (sym c.self.view_is) at c.requires.own in
+    let own = rw (sym c.self.view_is) at owned in
     let side = g.C.Commons.side in
     let did = c.in-Err.ensures in
-    subst (λ (m : Member). Own m (side done.c)) (sym is)
-    (own_given_up (member_of p) (side c.args.c.now) (side done.c) done.worker.cache own did.limits
+    subst (λ (m : Member). OwnWith guests m (side done.c)) (sym is)
+    (own_given_up guests (member_of p) (side c.args.c.now) (side done.c) done.worker.cache own did.limits
     did.hand did.holds_err did.headers_err)
+
+-- And so they do with none.
+pub returns-in-Err-clause-own : goal.returns-in-Err-clause-own
+returns-in-Err-clause-own g c = returns-in-Err-clause-guests g c no_guests

@@ -13,7 +13,7 @@ count-requires g c =
     (omega (
       arith,
       first_held segs c.segs.ensures.packet.some,
-      in_slot_held c.args.self.now (g.C.Commons.side now) c.args.p segs e c.requires.own
+      in_slot_held c.requires.own.0 c.args.self.now (g.C.Commons.side now) c.args.p segs e c.requires.own.1
           c.in-Some.ensures,
     ))
 

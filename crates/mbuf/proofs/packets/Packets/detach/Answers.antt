@@ -6,7 +6,7 @@ use Rattle.commons.specs.declared.limits.Limits.{Limits}
 use Rattle.commons.specs.declared.packet.Seg.{Seg}
 use Rattle.mbuf.specs.inside.Kept.{member_of}
 use Rattle.mbuf.specs.Members.{Member}
-use Rattle.mbuf.specs.Own.{Own}
+use Rattle.mbuf.specs.Own.{OwnWith, no_guests}
 use Rattle.mbuf.specs.PacketRules.{fresh_seg}
 use Rattle.mbuf.specs.Sharing.{NotDetachable, WasDetached}
 use Rattle.mbuf.proofs.PlaceLemmas.{changed}
@@ -27,8 +27,8 @@ returns-in_err-elem-clause-calls g c =
 pub end_hold-freed-requires-clause-held : goal.end_hold-freed-requires-clause-held
 end_hold-freed-requires-clause-held g c =
     let now = c.args.c.now in
-    base_held c.args.self.now (g.C.Commons.side now) c.args.p (c.in_ok-elem.elem, c.in_ok-elem.base)
-    c.requires.own c.in_ok-elem.ensures.is
+    base_held c.requires.own.0 c.args.self.now (g.C.Commons.side now) c.args.p (c.in_ok-elem.elem, c.in_ok-elem.base)
+    c.requires.own.1 c.in_ok-elem.ensures.is
 
 -- The base's hold ended by its rule, and the packet's element is a fresh segment of its own.
 pub returns-clause-calls : goal.returns-clause-calls
@@ -57,8 +57,8 @@ returns-clause-calls g c =
     )
 
 -- The table has one hold of the base less, as the worker has; what it holds keeps its header.
-pub returns-clause-own : goal.returns-clause-own
-returns-clause-own g c =
+pub returns-clause-guests : goal.returns-clause-guests
+returns-clause-guests g c = λ guests owned.
     let p = c.self.inside in
     let slot = c.args.p in
     let e = c.in_ok-elem.elem in
@@ -73,14 +73,18 @@ returns-clause-own g c =
     changed p later (set p.packets.items slot c.restart.new.self) slot (there.own ∷ [])
     (fresh_seg l e ∷ []) c.self.invariant there.within there.here number
     (ap (set p.packets.items slot) fresh) in
-    let own = rw (sym c.self.view_is) at c.requires.own in
+    let own = rw (sym c.self.view_is) at owned in
     let side = g.C.Commons.side in
     let first = c.args.c.now in
     let last = c.end_hold-freed.new.c in
     let done = c.end_hold-freed.ensures in
-    subst (λ (m : Member). Own m (side last)) (sym is)
-    (own_detached (member_of p) (side first) (side last) later.cache slot
+    subst (λ (m : Member). OwnWith guests m (side last)) (sym is)
+    (own_detached guests (member_of p) (side first) (side last) later.cache slot
     (e, c.in_ok-elem.base) own done.limits there
     done.hand done.holds (λ i some. done.headers i
     ∙ cond-true (nat_lt 0 ((side last).holds i)) ((side first).headers i) 0
     (lt-ltb 0 ((side last).holds i) some)))
+
+-- And so they do with none.
+pub returns-clause-own : goal.returns-clause-own
+returns-clause-own g c = returns-clause-guests g c no_guests

@@ -2,7 +2,7 @@ use Rattle.std.proofs.Common.{[], get_or, refl, sym, subst, arith}
 use Rattle.std.proofs.lemmas.List.{set-get_or}
 use Rattle.mbuf.specs.inside.Kept.{member_of}
 use Rattle.mbuf.specs.Members.{Member}
-use Rattle.mbuf.specs.Own.{Own}
+use Rattle.mbuf.specs.Own.{OwnWith, no_guests}
 use Rattle.mbuf.specs.PacketRules.{WasFreed}
 use Rattle.mbuf.proofs.OwnLemmas.{own_free}
 use Rattle.mbuf.proofs.PlaceLemmas.{alike, emptied, lent, standing}
@@ -16,12 +16,12 @@ end_segs-freed-requires-clause-held g c = λ i.
     let p = c.self.inside in
     let slot = c.in-Some.slot in
     let segs = c.segs.result.now in
-    let own = rw (sym c.self.view_is) at c.requires.own in
+    let own = rw (sym c.self.view_is) at c.requires.own.1 in
     let at = rw (sym c.self.view_is) at c.in-Some.ensures in
     let stood =
     lent p slot c.args.p segs c.index.result.now c.self.invariant at c.segs.ensures.segs
     c.index.ensures in
-    in_slot_held (member_of p) (g.C.Commons.side c.args.c.now) slot segs i own stood.there
+    in_slot_held c.requires.own.0 (member_of p) (g.C.Commons.side c.args.c.now) slot segs i own stood.there
 
 -- A packet stands in the slot, so the slot isn't free.
 pub give-requires-clause-taken : goal.give-requires-clause-taken
@@ -55,13 +55,13 @@ returns-clause-calls g c =
     )
 
 -- The table lost the packet's holds, which are those that the worker lost.
-pub returns-clause-own : goal.returns-clause-own
-returns-clause-own g c =
+pub returns-clause-guests : goal.returns-clause-guests
+returns-clause-guests g c = λ guests owned.
     let p = c.self.inside in
     let slot = c.in-Some.slot in
     let segs = c.segs.result.now in
     let w = c.end_segs-freed.new.worker in
-    let own = rw (sym c.self.view_is) at c.requires.own in
+    let own = rw (sym c.self.view_is) at owned in
     let at = rw (sym c.self.view_is) at c.in-Some.ensures in
     let stood =
     lent p slot c.args.p segs c.index.result.now c.self.invariant at c.segs.ensures.segs
@@ -73,6 +73,10 @@ returns-clause-own g c =
     let side = g.C.Commons.side in
     let after = c.end_segs-freed.new.c in
     let long = length-shown p.free p.packets.items (alike p c.self.invariant) in
-    subst (λ (m : Member). Own m (side after)) (sym is)
-    (own_free (member_of p) (side c.args.c.now) (side after) w.cache slot segs own done.limits
+    subst (λ (m : Member). OwnWith guests m (side after)) (sym is)
+    (own_free guests (member_of p) (side c.args.c.now) (side after) w.cache slot segs own done.limits
     (omega (arith, stood.within, long)) stood.there done.hand done.holds done.headers)
+
+-- And so they do with none.
+pub returns-clause-own : goal.returns-clause-own
+returns-clause-own g c = returns-clause-guests g c no_guests

@@ -8,7 +8,7 @@ use Rattle.commons.proofs.PacketBags.{own_in-slot}
 use Rattle.mbuf.specs.Desks.{NotOffered, WasOffered}
 use Rattle.mbuf.specs.inside.Kept.{member_of}
 use Rattle.mbuf.specs.Members.{Member}
-use Rattle.mbuf.specs.Own.{Own}
+use Rattle.mbuf.specs.Own.{OwnWith, no_guests}
 use Rattle.mbuf.proofs.DeskLemmas.{own_offered}
 use Rattle.mbuf.proofs.PlaceLemmas.{alike, emptied, lent, returned, standing}
 use Rattle.mbuf.proofs.SharingLemmas.{in_slot_held}
@@ -25,8 +25,8 @@ offer-requires-clause-held g c = λ i.
     let stood =
     lent p slot c.args.p segs c.index_mut.result.now c.self.invariant at
     c.take-packet.ensures.out c.index_mut.ensures.value in
-    let own = rw (sym c.self.view_is) at c.requires.own in
-    in_slot_held (member_of p) (g.C.Commons.side c.args.c.now) slot segs i own stood.there
+    let own = rw (sym c.self.view_is) at c.requires.own.1 in
+    in_slot_held c.requires.own.0 (member_of p) (g.C.Commons.side c.args.c.now) slot segs i own stood.there
 
 -- The packet's own elements are among those of the table, which are headers of the worker.
 pub offer-requires-clause-own : goal.offer-requires-clause-own
@@ -38,7 +38,7 @@ offer-requires-clause-own g c = λ i.
     let stood =
     lent p slot c.args.p segs c.index_mut.result.now c.self.invariant at
     c.take-packet.ensures.out c.index_mut.ensures.value in
-    let own = rw (sym c.self.view_is) at c.requires.own in
+    let own = rw (sym c.self.view_is) at c.requires.own.1 in
     let long = length-shown p.free p.packets.items (alike p c.self.invariant) in
     omega (
       arith,
@@ -79,8 +79,8 @@ returns-in-Ok-clause-calls g c =
     )
 
 -- The packet left the table, and its holds and headers left the worker.
-pub returns-in-Ok-clause-own : goal.returns-in-Ok-clause-own
-returns-in-Ok-clause-own g c =
+pub returns-in-Ok-clause-guests : goal.returns-in-Ok-clause-guests
+returns-in-Ok-clause-guests g c = λ guests owned.
     let p = c.self.inside in
     let slot = c.in-Some.place in
     let segs = c.take-packet.result in
@@ -95,11 +95,15 @@ returns-in-Ok-clause-own g c =
     let did = c.in-Ok.ensures in
     let side = g.C.Commons.side in
     let last = c.offer.new.self in
-    let own = rw (sym c.self.view_is) at c.requires.own in
+    let own = rw (sym c.self.view_is) at owned in
     let long = length-shown p.free p.packets.items (alike p c.self.invariant) in
-    subst (λ (m : Member). Own m (side last)) (sym is)
-    (own_offered (member_of p) (side c.args.c.now) (side last) slot segs own
+    subst (λ (m : Member). OwnWith guests m (side last)) (sym is)
+    (own_offered guests (member_of p) (side c.args.c.now) (side last) slot segs own
     (omega (arith, stood.within, long)) stood.there did.did.step.effect)
+
+-- And so they do with none.
+pub returns-in-Ok-clause-own : goal.returns-in-Ok-clause-own
+returns-in-Ok-clause-own g c = returns-in-Ok-clause-guests g c no_guests
 
 -- The packet that came back is the one that was taken out, and it lies in its slot again.
 pub returns-in-Err-clause-refused : goal.returns-in-Err-clause-refused
@@ -136,8 +140,8 @@ returns-in-Err-clause-calls g c =
     )
 
 -- The table shows what it did, and the refused call left the worker's side as it was.
-pub returns-in-Err-clause-own : goal.returns-in-Err-clause-own
-returns-in-Err-clause-own g c =
+pub returns-in-Err-clause-guests : goal.returns-in-Err-clause-guests
+returns-in-Err-clause-guests g c = λ guests owned.
     let p = c.self.inside in
     let slot = c.in-Some.place in
     let segs = c.take-packet.result in
@@ -148,6 +152,10 @@ returns-in-Err-clause-own g c =
     let is =
     returned p slot segs c.take-packet.new.self c.in-Err.packet stood c.in-Err.ensures.kept in
     let side = g.C.Commons.side in
-    let own = rw (sym c.self.view_is) at c.requires.own in
-    subst (λ (m : Member). Own m (side c.offer.new.self)) (sym is)
-    (subst (λ (s : Side). Own (member_of p) s) (sym c.in-Err.ensures.did.step.effect) own)
+    let own = rw (sym c.self.view_is) at owned in
+    subst (λ (m : Member). OwnWith guests m (side c.offer.new.self)) (sym is)
+    (subst (λ (s : Side). OwnWith guests (member_of p) s) (sym c.in-Err.ensures.did.step.effect) own)
+
+-- And so they do with none.
+pub returns-in-Err-clause-own : goal.returns-in-Err-clause-own
+returns-in-Err-clause-own g c = returns-in-Err-clause-guests g c no_guests

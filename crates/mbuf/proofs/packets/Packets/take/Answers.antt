@@ -5,7 +5,7 @@ use Rattle.commons.proofs.Leading.{Leads-one, made_by}
 use Rattle.mbuf.specs.Desks.{NoSlot, NotTaken, WasTaken}
 use Rattle.mbuf.specs.inside.Kept.{member_of}
 use Rattle.mbuf.specs.Members.{Member}
-use Rattle.mbuf.specs.Own.{Own}
+use Rattle.mbuf.specs.Own.{OwnWith, no_guests}
 use Rattle.mbuf.specs.PacketRules.{free_slot}
 use Rattle.mbuf.proofs.DeskLemmas.{own_taken}
 use Rattle.mbuf.proofs.OwnLemmas.{free_slot-is}
@@ -59,8 +59,8 @@ returns-in-Ok-clause-calls g c =
     )
 
 -- The packet came into the table, and its holds and headers came to the worker.
-pub returns-in-Ok-clause-own : goal.returns-in-Ok-clause-own
-returns-in-Ok-clause-own g c =
+pub returns-in-Ok-clause-guests : goal.returns-in-Ok-clause-guests
+returns-in-Ok-clause-guests g c = λ guests owned.
     let p = c.self.inside in
     let slot = c.in-Some.place in
     let segs = c.in-Ok.packet in
@@ -72,11 +72,15 @@ returns-in-Ok-clause-own g c =
     let side = g.C.Commons.side in
     let first = c.args.c.now in
     let last = c.take.new.self in
-    let own = rw (sym c.self.view_is) at c.requires.own in
+    let own = rw (sym c.self.view_is) at owned in
     let empty = free_slot-is (member_of p).table slot low.free in
-    subst (λ (m : Member). Own m (side last)) (sym is)
-    (own_taken (member_of p) (side first) (side last) slot segs own did.did.step.effect.limits
+    subst (λ (m : Member). OwnWith guests m (side last)) (sym is)
+    (own_taken guests (member_of p) (side first) (side last) slot segs own did.did.step.effect.limits
     empty.0 empty.1 did.did.step.effect.hand did.did.step.effect.holds did.did.step.effect.headers)
+
+-- And so they do with none.
+pub returns-in-Ok-clause-own : goal.returns-in-Ok-clause-own
+returns-in-Ok-clause-own g c = returns-in-Ok-clause-guests g c no_guests
 
 -- The desk is one of the pool's and a slot is free, but the one call was refused.
 pub returns-in-Err-clause-calls : goal.returns-in-Err-clause-calls

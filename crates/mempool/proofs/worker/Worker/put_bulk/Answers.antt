@@ -16,7 +16,7 @@ returns-then-len-eq0-clause-calls g c =
     rw (sym c.self.view_is) (put_kept_none g.C.Commons.did g.C.Commons.side c.self.inside.limits
     c.self.inside.cache.items c.args.list.now
     c.args.c.now c.put_past-then-len-eq0.new.c c.put_past-then-len-eq0.result
-    c.put_past-then-len-eq0.new.cache.items (omega arith) (omega (arith, ok)) (omega arith)
+    c.put_past-then-len-eq0.new.cache.items c.in-Keep.is (omega arith) (omega (arith, ok)) (omega arith)
     (omega arith) c.put_past-then-len-eq0.ensures.calls)
 
 -- Cache and list together reach the threshold, so all beyond the size was pushed.
@@ -26,5 +26,7 @@ returns-clause-calls g c =
     rw (sym c.self.view_is) (put_over g.C.Commons.did g.C.Commons.side c.self.inside.limits
     c.self.inside.cache.items c.args.list.now c.append-2.new.cache.items c.args.c.now
     c.flush_beyond.new.c c.flush_beyond.result c.flush_beyond.new.cache.items
-    c.append-2.ensures.items (omega arith) (omega arith) (omega (arith, ok)) (omega (arith, ok))
+    c.in-Keep.is c.append-2.ensures.items (omega arith) (omega arith)
+    (omega (arith, ok, c.self.invariant.flush.threshold c.in-Keep.is))
+    (omega (arith, ok, c.self.invariant.flush.more c.in-Keep.is))
     c.flush_beyond.ensures.calls)

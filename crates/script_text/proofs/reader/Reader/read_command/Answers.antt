@@ -7,7 +7,7 @@ use Rattle.script_text.specs.Scripts.{with_command}
 use Rattle.script_text.specs.inside.Reading.{words_of}
 use Rattle.script_text.specs.inside.ScriptReading.{repeats, is_one_of, is_made, order_from, add_command}
 use Rattle.script_text.specs.inside.Agreement.{state_of, has_made, AreMade, AreWithin}
-use Rattle.script_text.proofs.PoolLemmas.{pool_from}
+use Rattle.script_text.proofs.PoolLemmas.{pool_of_limits}
 use Rattle.script_text.proofs.KeptLemmas.{workers-push, made-push}
 use Rattle.script_text.proofs.NameRuns.{not_so}
 use Rattle.script_text.proofs.MakingLemmas.{repeats-alike}
@@ -17,7 +17,7 @@ use Rattle.script_text.proofs.reader.Reader.read_command.Goals as goal
 -- limits that are told are a pool's, which has a number of workers in range
 pub order_of-requires : goal.order_of-requires
 order_of-requires g c =
-    let pool = pool_from c.args.limits.now (rw c.requires.told at c.requires.kept.ready) in pool.workers
+    let pool = pool_of_limits c.args.limits.now (rw c.requires.told at c.requires.kept.ready) in pool.workers
 
 pub claim-requires : goal.claim-requires
 claim-requires g c = let named = rw c.in-Some.is at c.in_ok-worker.ensures.named in rw c.names_made.ensures named
@@ -80,7 +80,7 @@ returns-clause-kept g c =
     let command = c.in-Some.command in
     let line : Line _ = record { number = c.args.number; worker = worker; command = command } in
     let lines = c.args.self.now.lines.items in
-    let pool = pool_from limits (rw c.requires.told at c.requires.kept.ready) in
+    let pool = pool_of_limits limits (rw c.requires.told at c.requires.kept.ready) in
     let among =
     order_among lexicon limits.workers (words_of c.args.line.now) (worker, command)
     pool.workers_low (sym c.in_ok-worker.ensures.read ∙ c.in-Some.is) in

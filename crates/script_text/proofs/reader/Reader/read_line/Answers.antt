@@ -1,7 +1,9 @@
-use Rattle.std.proofs.Common.{ap, ◌∙◌, sym, Some, None}
-use Rattle.std.specs.Prelude.{option_and_then}
+use Rattle.std.proofs.Common.{ap, ◌∙◌, sym, Option, Some, None}
+use Rattle.std.specs.Prelude.{option_and_then, option_map}
 use Rattle.std.proofs.lemmas.Result.{err_from_is_err_and, MatchResult-weaker}
-use Rattle.script_text.specs.inside.ScriptReading.{with_limits, are_ready}
+use Rattle.script_text.specs.inside.ScriptReading.{with_numbers, are_ready}
+use Rattle.commons.specs.declared.limits.Limits.{Limits}
+use Rattle.script_text.specs.PoolLine.{numbers_of}
 use Rattle.script_text.specs.inside.Agreement.{state_of}
 use Rattle.script_text.proofs.JudgedLemmas.{read_not_plain, read_skipped, read_as, judged_ok, judged_fault, stops_command, stops_pool}
 use Rattle.script_text.proofs.reader.Reader.read_line.Goals as goal
@@ -29,7 +31,7 @@ returns-in_err-pool_of-in-None-clause-read g c =
     let read =
     read_as g.C.Spelled.lexicon s c.args.number c.args.line.now None
     (sym c.is_plain.ensures ∙ c.if-not-is_plain.false)
-    (sym c.is_skipped.ensures ∙ c.if-is_skipped.false) c.in-None.is in
+    (sym c.is_skipped.ensures ∙ c.if-is_skipped.false) (ap (option_map numbers_of) c.in-None.is) in
     rw (p.1, p.2) (stops_pool g.C.Spelled.lexicon c.in_err-pool_of-in-None.field-0.0 s c.args.number c.args.line.now
     read c.in_err-pool_of-in-None.ensures)
 
@@ -41,9 +43,9 @@ returns-in_ok-pool_of-in-None-clause-read g c =
     let read =
     read_as g.C.Spelled.lexicon s c.args.number c.args.line.now None
     (sym c.is_plain.ensures ∙ c.if-not-is_plain.false)
-    (sym c.is_skipped.ensures ∙ c.if-is_skipped.false) c.in-None.is in
-    judged_ok g.C.Spelled.lexicon s (with_limits s limits) c.args.number c.args.line.now (read
-    ∙ ap (option_and_then (λ l. Some (with_limits s l))) c.in_ok-pool_of-in-None.ensures.0)
+    (sym c.is_skipped.ensures ∙ c.if-is_skipped.false) (ap (option_map numbers_of) c.in-None.is) in
+    judged_ok g.C.Spelled.lexicon s (with_numbers s (numbers_of limits)) c.args.number c.args.line.now (read
+    ∙ ap (option_and_then (λ n. Some (with_numbers s n))) c.in_ok-pool_of-in-None.ensures.0)
     c.in_ok-pool_of-in-None.ensures.1
 
 -- behind the pool line the line is a command, or what stops that stops it
@@ -54,8 +56,8 @@ returns-in-Some-clause-read g c =
     let n = c.args.number in
     let line = c.args.line.now in
     let read =
-    read_as g.C.Spelled.lexicon s n line (Some c.in-Some.limits) (sym c.is_plain.ensures ∙ c.if-not-is_plain.false)
-    (sym c.is_skipped.ensures ∙ c.if-is_skipped.false) c.in-Some.is in
+    read_as g.C.Spelled.lexicon s n line (Some (numbers_of c.in-Some.limits)) (sym c.is_plain.ensures ∙ c.if-not-is_plain.false)
+    (sym c.is_skipped.ensures ∙ c.if-is_skipped.false) (ap (option_map numbers_of) c.in-Some.is) in
     MatchResult-weaker c.read_command.result c.read_command.ensures.read
-    (λ x h. judged_ok g.C.Spelled.lexicon s next n line (read ∙ h) (ap are_ready c.read_command.ensures.limits ∙ c.requires.ready))
+    (λ x h. judged_ok g.C.Spelled.lexicon s next n line (read ∙ h) (ap (λ (o : Option Limits). are_ready (option_map numbers_of o)) c.read_command.ensures.limits ∙ c.requires.ready))
     (λ stop h. stops_command g.C.Spelled.lexicon stop s n line _ read h)

@@ -2,7 +2,8 @@ use Rattle.std.proofs.Common.{◌+◌, [], take, get_or, arith}
 use Rattle.commons.specs.Bag.{bag, one}
 use Rattle.commons.specs.Packets.{no_seg, holds_of_packet, holds_of_seg, own_of_packet}
 use Rattle.commons.proofs.Bags.{bag-nil, one-same}
-use Rattle.commons.proofs.PacketBags.{bag-seg, bag-holds_suc, holds_so_far}
+use Rattle.pool_model.specs.Guests.{local_packet, local_seg}
+use Rattle.snapshot.proofs.LocalHolds.{packet-more, packet-so_far, seg-local}
 use Rattle.snapshot.proofs.Meetings.{met-none, met-then, own-suc}
 use Rattle.snapshot.proofs.tally.rows.count_packet.Goals as goal
 
@@ -20,8 +21,15 @@ count-requires c =
     let k = c.loop-seg.seg-index in
     let seg = get_or segs k no_seg in
     let e = seg.elem in
-    let more = bag-holds_suc segs k e no_seg c.loop-seg-test.true in
-    let below = c.requires.below e (omega (arith, more, holds_so_far segs (k + 1) e, bag-seg seg e, one-same e)) in
+    let foreign = c.args.foreign in
+    let below =
+    c.requires.below e (omega (
+      arith,
+      packet-more foreign segs k e no_seg c.loop-seg-test.true,
+      packet-so_far foreign segs (k + 1) e,
+      seg-local foreign seg e,
+      one-same e,
+    )) in
     omega (arith, below, c.requires.same, c.loop-seg.invariant.own.len)
 
 -- what a segment holds, the packet holds
@@ -29,12 +37,14 @@ pub count_seg-requires : goal.count_seg-requires
 count_seg-requires c = λ e h.
     let segs = c.args.segs.now in
     let k = c.loop-seg.seg-index in
+    let foreign = c.args.foreign in
+    let counted = rw c.local.ensures at h in
     let below =
     c.requires.below e (omega (
       arith,
-      h,
-      bag-holds_suc segs k e no_seg c.loop-seg-test.true,
-      holds_so_far segs (k + 1) e,
+      counted,
+      packet-more foreign segs k e no_seg c.loop-seg-test.true,
+      packet-so_far foreign segs (k + 1) e,
     )) in
     omega (arith, below, c.loop-seg.invariant.held.len)
 
@@ -43,11 +53,15 @@ pub loop-seg-preserved : goal.loop-seg-preserved
 loop-seg-preserved c =
     let segs = c.args.segs.now in
     let k = c.loop-seg.seg-index in
-    let seg = get_or segs k no_seg in record {
+    let foreign = c.args.foreign in
+    let seg = get_or segs k no_seg in
+    let counted = rw c.local.ensures at c.count_seg.ensures in
+    record {
       own = met-then (bag (own_of_packet (take k segs))) (one seg.elem)
           (bag (own_of_packet (take (k + 1) segs))) _ _ _ c.loop-seg.invariant.own c.count.ensures
           (λ i. own-suc segs k i no_seg c.loop-seg-test.true);
-      held = met-then (bag (holds_of_packet (take k segs))) (bag (holds_of_seg seg))
-          (bag (holds_of_packet (take (k + 1) segs))) _ _ _ c.loop-seg.invariant.held c.count_seg.ensures
-          (λ i. bag-holds_suc segs k i no_seg c.loop-seg-test.true);
+      held = met-then (bag (holds_of_packet (local_packet foreign (take k segs))))
+          (bag (holds_of_seg (local_seg foreign seg)))
+          (bag (holds_of_packet (local_packet foreign (take (k + 1) segs)))) _ _ _ c.loop-seg.invariant.held counted
+          (λ i. packet-more foreign segs k i no_seg c.loop-seg-test.true);
     }

@@ -12,7 +12,8 @@ returns c =
     let got =
     subst (λ (l : Limits). Gets l.tries n c.get.new.out c.get.result me.seat c.get.new.seat)
     (sym me.of.limits) c.get.ensures.got in
-    let d = get_did n c.get.new.out c.get.result me.seat c.get.new.seat got (search rules) c.get.ensures.told in
+    let d = get_did n c.get.new.out c.get.result me.seat c.get.new.seat got (search rules) c.get.ensures.told
+    c.get.ensures.enough in
     record {
       did = record {
         readings = d.readings;

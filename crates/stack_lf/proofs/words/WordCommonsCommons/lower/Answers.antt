@@ -5,7 +5,7 @@ use Rattle.stack_lf.proofs.words.WordCommonsCommons.lower.Goals as goal
 pub returns : goal.returns
 returns c =
     let d = lower_did c.args.element c.lower.result c.args.self.now.seat c.lower.new.seat c.requires
-    c.lower.ensures.lowered in
+    c.lower.ensures.lowered c.lower.ensures.told in
     record {
       did = record {
         readings = d.readings;

@@ -14,7 +14,7 @@ returns c =
     subst (λ (l : Limits). Raises l c.args.element c.raise.result me.seat c.raise.new.seat)
     same c.raise.ensures.raised in
     let d = raise_did c.args.element c.raise.result me.seat c.raise.new.seat c.requires got
-    (search rules) c.raise.ensures.told in
+    (search rules) c.raise.ensures.told c.raise.ensures.below in
     record {
       did = record {
         readings = d.readings;

@@ -1,0 +1,14 @@
+use Rattle.book.proofs.Shares.{all_slots}
+use Rattle.book.proofs.twin_settling.first_statement.Goals as goal
+
+-- a book keeps shares with all their slots
+pub audit-requires-clause-slots : goal.audit-requires-clause-slots
+audit-requires-clause-slots c =
+    let each = rw c.first.ensures at c.fits_its_limits.ensures.each in
+    rw (c.in-Ok.ensures.same, c.first-2.ensures) (all_slots c.args.book.now.first.places (λ n m e. (each n m e).slots))
+
+-- the first fault of the copy is the pool's
+pub returns-clause-first : goal.returns-clause-first
+returns-clause-first c =
+    rw (c.in-Ok.ensures.same, c.first-2.ensures, c.in-Ok-guests.ensures, c.places.ensures, c.second.ensures) at
+    c.audit.ensures.first

@@ -1,0 +1,11 @@
+use Rattle.book.proofs.Causes.{twin_memory_alone}
+use Rattle.book.specs.TwinSettling.{first_with, second_with}
+use Rattle.book.proofs.twin_settling.settle_twin.Goals as goal
+
+-- lawful snapshots have no fault that could be named
+pub returns-in-Err-clause-memory : goal.returns-in-Err-clause-memory
+returns-in-Err-clause-memory c = λ full one two.
+    let faultless = c.a_lawful_snapshot_has_no_fault.ensures.lawful in
+    twin_memory_alone c.args.book c.args.first c.args.second c.in-Err.cause full
+    ((faultless (first_with c.args.book c.args.first)).0 one)
+    ((faultless (second_with c.args.book c.args.second)).0 two) c.in-Err.ensures.unsettled

@@ -1,0 +1,102 @@
+-- How the words of a pool came to be: by steps of the machine, each by one seat, by seats that were split and seats that
+-- were joined. Seats are numbered from 0, and the machine's workers from 1.
+use Rattle.std.specs.Prelude.{◌≡◌, ◌≢◌, ℕ, suc, ◌<◌, ◌≤◌, List, [], ◌∷◌, ◌++◌, Option, Some, None, map, slice_set, ⊤}
+use mathlib.Core.Option.{some}
+use lib.ListN.{get_elem?}
+use Rattle.commons.specs.declared.limits.Limits.{Limits}
+use Rattle.step_core.specs.declared.step.Step.{Step}
+use Rattle.step_core.specs.declared.step.Step.TheVariants.{PutIn, Open, Seize, TakeOut}
+use Rattle.step_core.specs.declared.step.Outcome.{Outcome}
+use Rattle.step_core.specs.declared.step.Outcome.TheVariants.{Won, Found}
+use Rattle.step_core.specs.Law.{Lawful}
+use Rattle.step_core.specs.Schedules.{slot_at}
+use Rattle.step_core.specs.Shows.{Shows, Happens}
+use Rattle.step_core.specs.Steps.{play, event_of}
+use Rattle.step_core.specs.Table.{Table}
+use Rattle.step_core.specs.Handing.{put_by}
+use Rattle.step_core.specs.World.{World, Packet, desk_at, view_at, empty_view}
+use Rattle.ground.specs.declared.known.Known.{Known}
+use Rattle.ground.specs.Opening.{opening_alone}
+use Rattle.ground.specs.Own.{AtRest}
+use Rattle.ground.specs.Parting.{less, both_views}
+
+-- the steps that a seat noted, and those of the seats that were joined to it
+abbrev pub Log : Type 0
+Log = List (Step × Outcome) × List (Step × Outcome)
+
+abbrev pub log_of : Known → Log
+log_of n = (n.steps, n.joined)
+
+abbrev pub logs_of : List Known → List Log
+logs_of ns = map log_of ns
+
+-- What a seat notes of a step of the machine, by what was in the slot of its desk: the step with its outcome, but of an
+-- Open and a won Seize the packet that moved, and of what is done to a slot alone nothing.
+abbrev pub notes_of : Step → Outcome → Option Packet → List (Step × Outcome)
+notes_of (PutIn d p) outcome slot = []
+notes_of (TakeOut d) outcome slot = []
+notes_of (Open d) outcome (Some p) = (Open d, Found p) ∷ []
+notes_of (Seize d) Won (Some p) = (Seize d, Found p) ∷ []
+notes_of step outcome slot = (step, outcome) ∷ []
+
+-- one thing that was done: a step of the machine, by a seat; a part of a seat that went to a new one; two seats made one
+pub data Move : Type 0 where
+  Stepped : (seat : ℕ) (step : Step) (outcome : Outcome) → Move
+  Split : (seat : ℕ) → Move
+  Joined : (seat other : ℕ) → Move
+
+-- from the world w, of which these are the logs, the move leads to the world u and its logs
+abbrev pub Leads : Move → World → List Log → World → List Log → Type 0
+Leads (Stepped id step outcome) w logs u after =
+    (0 < (view_at w.views id).part) × (play w (suc id) step ≡ Some (outcome, u))
+    × ((log : Log) × (get_elem? logs id ≡ some log)
+    × (after ≡ slice_set logs id (log.0 ++ notes_of step outcome (slot_at w.desks step), log.1)))
+Leads (Split id) w logs u after =
+    (2 ≤ (view_at w.views id).part)
+    × (u ≡ record w { views = slice_set w.views id (less (view_at w.views id)) ++ empty_view 1 ∷ [] })
+    × (after ≡ logs ++ ([], []) ∷ [])
+Leads (Joined id other) w logs u after =
+    (other ≢ id) × AtRest (view_at w.views id) × AtRest (view_at w.views other)
+    × (u ≡ record w {
+      views =
+          slice_set (slice_set w.views id (both_views (view_at w.views id) (view_at w.views other))) other
+          (empty_view 0);
+    })
+    × ((log taken : Log) × (get_elem? logs id ≡ some log) × (get_elem? logs other ≡ some taken)
+    × (after ≡ slice_set (slice_set logs id (log.0, log.1 ++ (taken.0 ++ taken.1))) other ([], [])))
+
+-- These moves, the last first, lead from the world at the start, with one seat of every part that has noted nothing, to
+-- this world and these logs; each world on the way is lawful.
+abbrev pub Led : Limits → List Move → World → List Log → Type 0
+Led l [] w logs = (w ≡ opening_alone l) × (logs ≡ ([], []) ∷ [])
+Led l (m ∷ ms) w logs =
+    (v : World) × (before : List Log) × Lawful v × Led l ms v before × Leads m v before w logs
+
+-- Each step of a history is its one event of the table, by its seat's worker, or none, whichever tables the worlds before
+-- and after it are read as.
+abbrev pub AreEvents : (l : Limits) (ms : List Move) (w : World) (logs : List Log) → Led l ms w logs → Type 0
+AreEvents l [] w logs led = ⊤
+AreEvents l (Stepped id step outcome ∷ ms) w logs led =
+    ((t r : Table) → Shows led.0 t → Shows w r →
+    Happens led.0.limits.population (suc id) (event_of led.0 (suc id) step) t r)
+    × AreEvents l ms led.0 led.1 led.3
+AreEvents l (Split id ∷ ms) w logs led = AreEvents l ms led.0 led.1 led.3
+AreEvents l (Joined id other ∷ ms) w logs led = AreEvents l ms led.0 led.1 led.3
+
+-- the packet that was put into desk d last, by these moves, the last first
+abbrev pub put_in_last : ℕ → List Move → Option Packet
+put_in_last d [] = None
+put_in_last d (Stepped id step outcome ∷ ms) = put_by d step (put_in_last d ms)
+put_in_last d (Split id ∷ ms) = put_in_last d ms
+put_in_last d (Joined id other ∷ ms) = put_in_last d ms
+
+-- where a packet is in a desk's slot, it is the one that was put in last, by whichever seat
+abbrev pub DesksHaveWhatWasPutIn : Type 0
+DesksHaveWhatWasPutIn =
+    (l : Limits) (ms : List Move) (w : World) (logs : List Log) → Led l ms w logs → (d : ℕ) (p : Packet) →
+    (desk_at w.desks d).slot ≡ Some p → put_in_last d ms ≡ Some p
+
+abbrev pub HistoriesAreEvents : Type 0
+HistoriesAreEvents =
+    (l : Limits) (ms : List Move) (w : World) (logs : List Log) (led : Led l ms w logs) →
+    AreEvents l ms w logs led

@@ -1,0 +1,36 @@
+use Rattle.std.proofs.Common.{◌++◌, subst}
+use Rattle.commons.specs.Calls.{calls_of}
+use Rattle.commons.specs.declared.limits.Limits.{Limits}
+use Rattle.commons.proofs.Leading.{calls_of-append, Leads-append}
+use Rattle.commons.specs.Packets.{hold_of}
+use Rattle.mbuf.specs.PacketRules.{EndsHolds}
+use Rattle.mbuf.proofs.clones.foreign.give_up.Goals as goal
+
+-- The clones' holds ended on both sides, and then that of the element that is left over, in the second pool.
+pub returns-clause-calls : goal.returns-clause-calls
+returns-clause-calls g c =
+    let first = c.end_segs-freed in
+    let last = c.end_if-freed in
+    let ends = first.ensures.calls in
+    let over = last.ensures.calls in
+    let did = g.D.Commons.did in
+    let side = g.D.Commons.side in (
+      ends.0,
+      ends.1,
+      (
+        ends.2.0 ++ over.0,
+        Leads-append did side ends.2.0 over.0 c.args.d.now first.new.d last.new.c ends.2.1 over.1,
+        record {
+          second_end = calls_of ends.2.0;
+          over_end = calls_of over.0;
+          called = calls_of-append ends.2.0 over.0;
+          between = first.new.second.cache;
+          freed = first.result;
+          ended = ends.2.2;
+          done = last.result;
+          over_ended =
+              subst (λ (l : Limits). EndsHolds l (hold_of c.args.over) first.new.second.cache first.result
+              (calls_of over.0) last.new.worker.cache last.result) first.ensures.second_number.limits over.2;
+        },
+      ),
+    )

@@ -1,0 +1,137 @@
+use Rattle.std.proofs.Common.{◌+◌, ◌++◌, [], List, take, get_or, refl, sym, ap, ◌∙◌, subst, arith}
+use Rattle.commons.specs.Bag.{bag}
+use Rattle.commons.specs.declared.limits.Limits.{Limits}
+use Rattle.commons.specs.declared.packet.Seg.{Seg}
+use Rattle.commons.proofs.Bags.{bag-nil, one-same}
+use Rattle.commons.specs.Packets.{no_seg, own_of_packet}
+use Rattle.mbuf.specs.Foreign.{BothCalls, EndsForeign, EndsForeignSeg, bases_of_packet}
+use Rattle.mbuf.specs.PacketRules.{freed_nothing}
+use Rattle.mbuf.proofs.ForeignLemmas.{EndsForeign-more, bases-more, bases_so_far, both_calls, next_seg, own-more, own_so_far}
+use Rattle.mbuf.proofs.steps.foreign.end_segs.Goals as goal
+
+-- At first no segment has ended.
+pub loop-seg-init : goal.loop-seg-init
+loop-seg-init g c = record {
+  ended = ([], refl, ([], refl, (refl, refl, refl, refl, refl)));
+  first_hand = c.requires.first_hand;
+  first_holds = λ i. omega (arith, bag-nil i);
+  first_headers = λ i some. refl;
+  first_limits = refl;
+  first_number = record { limits = refl; number = refl };
+  second_hand = c.requires.second_hand;
+  second_holds = λ i. omega (arith, bag-nil i);
+  second_headers = λ i some. refl;
+  second_limits = refl;
+  second_number = record { limits = refl; number = refl };
+  back = omega arith;
+  flushed = omega arith;
+}
+
+-- The next segment's base is among those whose holds haven't ended yet.
+pub end_seg-freed-requires-clause-first_held : goal.end_seg-freed-requires-clause-first_held
+end_seg-freed-requires-clause-first_held g c = λ i.
+    let k = c.loop-seg.seg-index in
+    let segs = c.args.segs.now in
+    let next = ap (λ (s : List Seg). bag (bases_of_packet s) i) (next_seg segs k no_seg c.loop-seg-test.true) in
+    omega (
+      arith,
+      c.requires.first_held i,
+      c.loop-seg.invariant.first_holds i,
+      next,
+      bases-more (take k segs) (get_or segs k no_seg) i,
+      bases_so_far segs (k + 1) i,
+    )
+
+-- And so is its own element in the second pool.
+pub end_seg-freed-requires-clause-second_held : goal.end_seg-freed-requires-clause-second_held
+end_seg-freed-requires-clause-second_held g c =
+    let k = c.loop-seg.seg-index in
+    let segs = c.args.segs.now in
+    let e = (get_or segs k no_seg).elem in
+    let next = ap (λ (s : List Seg). bag (own_of_packet s) e) (next_seg segs k no_seg c.loop-seg-test.true) in
+    omega (
+      arith,
+      c.requires.second_held e,
+      c.loop-seg.invariant.second_holds e,
+      next,
+      own-more (take k segs) (get_or segs k no_seg) e,
+      own_so_far segs (k + 1) e,
+      one-same e,
+    )
+
+-- The segments so far and then the next one have ended, in this order.
+pub loop-seg-preserved : goal.loop-seg-preserved
+loop-seg-preserved g c =
+    let k = c.loop-seg.seg-index in
+    let segs = c.args.segs.now in
+    let seg = get_or segs k no_seg in
+    let so_far = c.loop-seg in
+    let e = c.end_seg-freed in
+    let first = c.args.first.now in
+    let second = c.args.second.now in
+    let next = next_seg segs k no_seg c.loop-seg-test.true in
+    let now =
+    subst (λ (l : Limits). BothCalls g.C.Commons.did g.C.Commons.side so_far.c e.new.c g.D.Commons.did
+    g.D.Commons.side so_far.d e.new.d (λ firsts seconds. EndsForeignSeg first.limits l seg so_far.first.cache
+    so_far.second.cache so_far.freed firsts seconds e.new.first.cache e.new.second.cache e.result))
+    so_far.invariant.second_number.limits
+    (subst (λ (l : Limits). BothCalls g.C.Commons.did g.C.Commons.side so_far.c e.new.c g.D.Commons.did
+    g.D.Commons.side so_far.d e.new.d (λ firsts seconds. EndsForeignSeg l so_far.second.limits seg so_far.first.cache
+    so_far.second.cache so_far.freed firsts seconds e.new.first.cache e.new.second.cache e.result))
+    so_far.invariant.first_number.limits e.ensures.calls) in
+    record {
+      ended =
+          both_calls g.C.Commons.did g.C.Commons.side c.args.c.now so_far.c e.new.c g.D.Commons.did
+          g.D.Commons.side c.args.d.now so_far.d e.new.d
+          (λ firsts seconds. EndsForeign first.limits second.limits (take k segs) first.cache second.cache
+          freed_nothing firsts seconds so_far.first.cache so_far.second.cache so_far.freed)
+          (λ firsts seconds. EndsForeignSeg first.limits second.limits seg so_far.first.cache
+          so_far.second.cache so_far.freed firsts seconds e.new.first.cache e.new.second.cache e.result)
+          (λ firsts seconds. EndsForeign first.limits second.limits (take (k + 1) segs) first.cache second.cache
+          freed_nothing firsts seconds e.new.first.cache e.new.second.cache e.result)
+          (λ a b x y before one.
+          subst (λ (s : List Seg). EndsForeign first.limits second.limits s first.cache second.cache
+          freed_nothing (a ++ x) (b ++ y) e.new.first.cache e.new.second.cache e.result) (sym next)
+          (EndsForeign-more first.limits second.limits (take k segs) seg first.cache second.cache freed_nothing a b
+          so_far.first.cache so_far.second.cache so_far.freed x y e.new.first.cache e.new.second.cache e.result
+          before one))
+          so_far.invariant.ended now;
+      first_hand = e.ensures.first_hand;
+      first_holds =
+          λ i.
+          omega (
+            arith,
+            so_far.invariant.first_holds i,
+            e.ensures.first_holds i,
+            ap (λ (s : List Seg). bag (bases_of_packet s) i) next,
+            bases-more (take k segs) seg i,
+          );
+      first_headers =
+          λ i some. e.ensures.first_headers i some
+          ∙ so_far.invariant.first_headers i (omega (arith, some, e.ensures.first_holds i));
+      first_limits = e.ensures.first_limits ∙ so_far.invariant.first_limits;
+      first_number = record {
+        limits = e.ensures.first_number.limits ∙ so_far.invariant.first_number.limits;
+        number = e.ensures.first_number.number ∙ so_far.invariant.first_number.number;
+      };
+      second_hand = e.ensures.second_hand;
+      second_holds =
+          λ i.
+          omega (
+            arith,
+            so_far.invariant.second_holds i,
+            e.ensures.second_holds i,
+            ap (λ (s : List Seg). bag (own_of_packet s) i) next,
+            own-more (take k segs) seg i,
+          );
+      second_headers =
+          λ i some. e.ensures.second_headers i some
+          ∙ so_far.invariant.second_headers i (omega (arith, some, e.ensures.second_holds i));
+      second_limits = e.ensures.second_limits ∙ so_far.invariant.second_limits;
+      second_number = record {
+        limits = e.ensures.second_number.limits ∙ so_far.invariant.second_number.limits;
+        number = e.ensures.second_number.number ∙ so_far.invariant.second_number.number;
+      };
+      back = omega (arith, so_far.invariant.back, e.ensures.back);
+      flushed = e.ensures.flushed;
+    }

@@ -1,0 +1,125 @@
+//! Foreign clones that are freed, a segment at a time: their bases are of one pool, and their own elements of another.
+
+ghost use Rattle.std.specs.Prelude.{◌≡◌, ◌<◌, ◌≤◌, ◌+◌, ◌*◌, ℕ, length};
+ghost use Rattle.commons.specs.Bag.{bag, one};
+ghost use Rattle.commons.specs.Bounds.{max_population};
+ghost use Rattle.commons.specs.Packets.{hold_of, own_of_packet, max_segs};
+ghost use Rattle.mempool.specs.WorkerCache.{KeepsNumber};
+ghost use Rattle.mbuf.specs.PacketRules.{EndsHolds, freed_nothing};
+ghost use Rattle.mbuf.specs.Foreign.{BothCalls, EndsForeign, EndsForeignSeg, bases_of_packet};
+ghost use Rattle.commons.specs.Calls.{Calls};
+
+use super::{NOTHING_FREED, end_hold};
+use crate::freed::Freed;
+use commons::packet::Seg;
+use commons::shared::Commons;
+use mempool::worker::Worker;
+
+/// Ends the hold of an element, if there is one.
+#[inline(always)]
+#[tactic(auto, using(commons::proofs::Bags::bags))]
+pub fn end_if<C: Commons>(worker: &mut Worker, c: &mut C, elem: Option<u32>, freed: Freed) -> Freed
+    requires limits { (C.side c.old).limits ≡ worker.old.limits }
+    requires hand { (i : ℕ) → (C.side c.old).hand i ≡ bag worker.old.cache i }
+    requires held { (i : ℕ) → bag (hold_of elem) i ≤ (C.side c.old).holds i }
+    requires back { freed.back < 2 * max_segs }
+    requires flushed { freed.flushed ≤ max_population * freed.back }
+    ensures calls { Calls C.did C.side c.old c.new (λ calls.
+        EndsHolds worker.old.limits (hold_of elem) worker.old.cache freed calls worker.new.cache result) }
+    ensures hand { (i : ℕ) → (C.side c.new).hand i ≡ bag worker.new.cache i }
+    ensures holds { (i : ℕ) → (C.side c.old).holds i ≡ (C.side c.new).holds i + bag (hold_of elem) i }
+    ensures headers { (i : ℕ) → 0 < (C.side c.new).holds i →
+        (C.side c.new).headers i ≡ (C.side c.old).headers i }
+    ensures limits { (C.side c.new).limits ≡ (C.side c.old).limits }
+    ensures number { KeepsNumber worker.old worker.new }
+    ensures back { result.back ≤ freed.back + 1 }
+    ensures flushed { result.flushed ≤ max_population * result.back }
+{
+    match elem {
+        None => freed,
+        Some(elem) => end_hold(worker, c, elem, freed),
+    }
+}
+
+/// Ends the holds of one segment: that of its base in the first pool, and then its own in the second.
+#[tactic(auto, using(commons::proofs::Bags::bags))]
+fn end_seg<C: Commons, D: Commons>(
+    first: &mut Worker,
+    second: &mut Worker,
+    c: &mut C,
+    d: &mut D,
+    seg: Seg,
+    freed: Freed,
+) -> Freed
+    requires first_limits { (C.side c.old).limits ≡ first.old.limits }
+    requires first_hand { (i : ℕ) → (C.side c.old).hand i ≡ bag first.old.cache i }
+    requires first_held { (i : ℕ) → bag (hold_of seg.base) i ≤ (C.side c.old).holds i }
+    requires second_limits { (D.side d.old).limits ≡ second.old.limits }
+    requires second_hand { (i : ℕ) → (D.side d.old).hand i ≡ bag second.old.cache i }
+    requires second_held { 0 < (D.side d.old).holds seg.elem }
+    requires back { freed.back + 1 < 2 * max_segs }
+    requires flushed { freed.flushed ≤ max_population * freed.back }
+    ensures calls { BothCalls C.did C.side c.old c.new D.did D.side d.old d.new (λ firsts seconds.
+        EndsForeignSeg first.old.limits second.old.limits seg first.old.cache second.old.cache
+        freed firsts seconds first.new.cache second.new.cache result) }
+    ensures first_hand { (i : ℕ) → (C.side c.new).hand i ≡ bag first.new.cache i }
+    ensures first_holds { (i : ℕ) → (C.side c.old).holds i
+        ≡ (C.side c.new).holds i + bag (hold_of seg.base) i }
+    ensures first_headers { (i : ℕ) → 0 < (C.side c.new).holds i →
+        (C.side c.new).headers i ≡ (C.side c.old).headers i }
+    ensures first_limits { (C.side c.new).limits ≡ (C.side c.old).limits }
+    ensures first_number { KeepsNumber first.old first.new }
+    ensures second_hand { (i : ℕ) → (D.side d.new).hand i ≡ bag second.new.cache i }
+    ensures second_holds { (i : ℕ) → (D.side d.old).holds i ≡ (D.side d.new).holds i + one seg.elem i }
+    ensures second_headers { (i : ℕ) → 0 < (D.side d.new).holds i →
+        (D.side d.new).headers i ≡ (D.side d.old).headers i }
+    ensures second_limits { (D.side d.new).limits ≡ (D.side d.old).limits }
+    ensures second_number { KeepsNumber second.old second.new }
+    ensures back { result.back ≤ freed.back + 2 }
+    ensures flushed { result.flushed ≤ max_population * result.back }
+{
+    let so_far = end_if(first, c, seg.base, freed);
+    end_hold(second, d, seg.elem, so_far)
+}
+
+/// Ends the holds of a foreign clone's segments in order.
+pub fn end_segs<C: Commons, D: Commons>(
+    first: &mut Worker,
+    second: &mut Worker,
+    c: &mut C,
+    d: &mut D,
+    segs: &[Seg],
+) -> Freed
+    requires first_limits { (C.side c.old).limits ≡ first.old.limits }
+    requires first_hand { (i : ℕ) → (C.side c.old).hand i ≡ bag first.old.cache i }
+    requires first_held { (i : ℕ) → bag (bases_of_packet segs.now) i ≤ (C.side c.old).holds i }
+    requires second_limits { (D.side d.old).limits ≡ second.old.limits }
+    requires second_hand { (i : ℕ) → (D.side d.old).hand i ≡ bag second.old.cache i }
+    requires second_held { (i : ℕ) → bag (own_of_packet segs.now) i ≤ (D.side d.old).holds i }
+    requires few { length segs.now ≤ max_segs }
+    ensures calls { BothCalls C.did C.side c.old c.new D.did D.side d.old d.new (λ firsts seconds.
+        EndsForeign first.old.limits second.old.limits segs.now first.old.cache second.old.cache
+        freed_nothing firsts seconds first.new.cache second.new.cache result) }
+    ensures first_hand { (i : ℕ) → (C.side c.new).hand i ≡ bag first.new.cache i }
+    ensures first_holds { (i : ℕ) → (C.side c.old).holds i
+        ≡ (C.side c.new).holds i + bag (bases_of_packet segs.now) i }
+    ensures first_headers { (i : ℕ) → 0 < (C.side c.new).holds i →
+        (C.side c.new).headers i ≡ (C.side c.old).headers i }
+    ensures first_limits { (C.side c.new).limits ≡ (C.side c.old).limits }
+    ensures first_number { KeepsNumber first.old first.new }
+    ensures second_hand { (i : ℕ) → (D.side d.new).hand i ≡ bag second.new.cache i }
+    ensures second_holds { (i : ℕ) → (D.side d.old).holds i
+        ≡ (D.side d.new).holds i + bag (own_of_packet segs.now) i }
+    ensures second_headers { (i : ℕ) → 0 < (D.side d.new).holds i →
+        (D.side d.new).headers i ≡ (D.side d.old).headers i }
+    ensures second_limits { (D.side d.new).limits ≡ (D.side d.old).limits }
+    ensures second_number { KeepsNumber second.old second.new }
+    ensures back { result.back ≤ 2 * length segs.now }
+    ensures flushed { result.flushed ≤ max_population * result.back }
+{
+    let mut freed = NOTHING_FREED;
+    for seg in segs {
+        freed = end_seg(first, second, c, d, *seg, freed);
+    }
+    freed
+}

@@ -1,0 +1,6 @@
+mod CheckedHandles
+mod Handles
+mod MarkLemmas
+mod SeatHandles
+mod Values
+mod WorkerHandles

@@ -1,0 +1,6 @@
+pub mod Kept
+pub mod Owned
+pub mod Stacks
+pub mod Statuses
+pub mod Segments
+pub mod Marks

@@ -1,0 +1,114 @@
+-- What C is answered.
+use Rattle.std.specs.Prelude.{◌≡◌, ◌<◌, ℕ, ⊤, List, length, Option, Some, None, slice_index_or}
+use Rattle.commons.specs.declared.refusal.Refusal.TheVariants.{StrangerShare}
+use Rattle.commons.specs.Refusals.{number_of}
+use Rattle.mbuf.specs.declared.acts.Act.{Act}
+use Rattle.mbuf.specs.declared.acts.Answer.{Answer}
+use Rattle.mbuf.specs.declared.acts.Answer.TheVariants as reply
+use Rattle.mbuf.specs.declared.acts.NewPacket.{NewPacket as Made}
+use Rattle.mbuf.specs.Acts.{Reply, as_reply}
+use Rattle.word_pool.specs.Workers.{Manned, Acts}
+use Rattle.mbufpool_c.specs.declared.packets.NewPacket.{NewPacket}
+
+-- an answer, where there is one, as one with room for any bulk
+abbrev pub replied : {room : ℕ} → Option (Answer room) → Option Reply
+replied None = None
+replied (Some a) = Some (as_reply a)
+
+-- 0, or the number of the refusal
+abbrev pub status_of_reply : Reply → ℕ
+status_of_reply (reply.Refused cause) = number_of cause
+status_of_reply (reply.Allocated _ _) = 0
+status_of_reply (reply.Bulk _) = 0
+status_of_reply (reply.Freed _) = 0
+status_of_reply reply.Attached = 0
+status_of_reply (reply.Cloned _ _) = 0
+status_of_reply reply.Offered = 0
+status_of_reply (reply.Taken _ _ _) = 0
+status_of_reply (reply.Count _) = 0
+status_of_reply (reply.Len _) = 0
+status_of_reply (reply.Segs _) = 0
+status_of_reply (reply.Chained _ _) = 0
+status_of_reply (reply.Put _) = 0
+
+-- where there is no worker, the number of a stranger
+abbrev pub status_of : Option Reply → ℕ
+status_of None = number_of StrangerShare
+status_of (Some r) = status_of_reply r
+
+-- the number that an answer tells of: a length, a number of segments, a count, or a slot; else what was there stays
+abbrev pub number_in : Reply → ℕ → ℕ
+number_in (reply.Len len) old = len
+number_in (reply.Segs segs) old = segs
+number_in (reply.Count count) old = count
+number_in (reply.Taken slot _ _) old = slot
+number_in (reply.Refused _) old = old
+number_in (reply.Allocated _ _) old = old
+number_in (reply.Bulk _) old = old
+number_in (reply.Freed _) old = old
+number_in reply.Attached old = old
+number_in (reply.Cloned _ _) old = old
+number_in reply.Offered old = old
+number_in (reply.Chained _ _) old = old
+number_in (reply.Put _) old = old
+
+abbrev pub number_told : Option Reply → ℕ → ℕ
+number_told None old = old
+number_told (Some r) old = number_in r old
+
+-- the new packet that an answer tells of, with its first element
+abbrev pub new_in : Reply → NewPacket → NewPacket
+new_in (reply.Allocated slot element) old = record { slot = slot; element = element }
+new_in (reply.Cloned slot elements) old = record { slot = slot; element = slice_index_or elements.items 0 0 }
+new_in (reply.Len _) old = old
+new_in (reply.Segs _) old = old
+new_in (reply.Count _) old = old
+new_in (reply.Taken _ _ _) old = old
+new_in (reply.Refused _) old = old
+new_in (reply.Bulk _) old = old
+new_in (reply.Freed _) old = old
+new_in reply.Attached old = old
+new_in reply.Offered old = old
+new_in (reply.Chained _ _) old = old
+new_in (reply.Put _) old = old
+
+abbrev pub new_told : Option Reply → NewPacket → NewPacket
+new_told None old = old
+new_told (Some r) old = new_in r old
+
+-- The worker of a handle did this and was answered so; where there is none, nothing was done.
+abbrev pub ActsIn : Act → Option Manned → Option Reply → Option Manned → Type 0
+ActsIn act None None new = new ≡ None
+ActsIn act None (Some r) new = ⊥
+ActsIn act (Some m) None new = ⊥
+ActsIn act (Some m) (Some r) new = (n : Manned) × Acts act m r n × (new ≡ Some n)
+
+-- and C has the status of the answer
+abbrev pub ActsAs : Act → Option Manned → ℕ → Option Manned → Type 0
+ActsAs act old status new = (answer : Option Reply) × ActsIn act old answer new × (status ≡ status_of answer)
+
+-- and its number
+abbrev pub TellsNumber : Act → Option Manned → ℕ → ℕ → ℕ → Option Manned → Type 0
+TellsNumber act old status was out new =
+    (answer : Option Reply) × ActsIn act old answer new × (status ≡ status_of answer) × (out ≡ number_told answer was)
+
+-- and its new packet
+abbrev pub TellsNew : Act → Option Manned → ℕ → NewPacket → NewPacket → Option Manned → Type 0
+TellsNew act old status was out new =
+    (answer : Option Reply) × ActsIn act old answer new × (status ≡ status_of answer) × (out ≡ new_told answer was)
+
+-- C has each of these packets in its place, as far as there are places
+abbrev pub AreTold : List Made → List NewPacket → Type 0
+AreTold made out =
+    (k : ℕ) (d : Made) (e : NewPacket) → k < length made → k < length out →
+    slice_index_or out k e
+    ≡ record { slot = (slice_index_or made k d).slot; element = (slice_index_or made k d).elem }
+
+-- and of a bulk each packet
+abbrev pub BulkTold : Option Reply → List NewPacket → Type 0
+BulkTold (Some (reply.Bulk made)) out = AreTold made.items out
+BulkTold _ out = ⊤
+
+abbrev pub TellsBulk : Act → Option Manned → ℕ → List NewPacket → Option Manned → Type 0
+TellsBulk act old status out new =
+    (answer : Option Reply) × ActsIn act old answer new × (status ≡ status_of answer) × BulkTold answer out

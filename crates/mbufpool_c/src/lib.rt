@@ -1,0 +1,16 @@
+//! The pool on words as a library for C: each export is one call by a seat or by a worker, behind a handle that C has.
+//! `include/mbufpool.h` declares them.
+#![tactic(auto)]
+
+pub mod checked;
+pub mod checked_handle;
+pub mod checked_stack;
+mod loose;
+mod marks;
+pub mod packets;
+pub mod seat_handle;
+pub mod seats;
+pub mod sent;
+pub mod stack;
+pub mod worker_handle;
+pub mod workers;

@@ -1,0 +1,506 @@
+//! Packets for C: each export is one act of a worker.
+
+ghost use Rattle.std.specs.Prelude.{◌≡◌, All, None, length, slice_index_or};
+ghost use Rattle.ground.specs.Seats.{IsOf};
+ghost use Rattle.mbuf.specs.Acts.{HasRoom};
+ghost use Rattle.word_pool.specs.Workers.{IsWorker};
+ghost use Rattle.mbufpool_c.specs.Segments.{ShowsSegment, segment_of as segment_in};
+ghost use Rattle.mbufpool_c.specs.Statuses.{ActsIn, ActsAs, AreTold, TellsBulk, TellsNumber, TellsNew, status_of as status_in, replied};
+
+use crate::worker_handle::WorkerHandle;
+use crate::workers::OwnWorker;
+use commons::limits::{Limits, PutRule};
+use commons::packet::Seg;
+use commons::refusal::Refusal;
+use ground::pool::Ground;
+use mbuf::acts;
+use mbuf::acts::{Act, Answer, Reply};
+use std::alloc::Global;
+use std::sync::Arc;
+use word_pool::pool;
+use word_pool::worker::WordWorker;
+
+/// What a pool is made of.
+#[repr(C)]
+#[derive(Clone, Copy)]
+pub struct PoolLimits {
+    pub population: u32,
+    pub cache: u32,
+    pub workers: u32,
+    pub desks: u32,
+    pub buf: u32,
+    pub ref_limit: u32,
+    pub tries: u32,
+}
+
+/// A new packet: its slot, and the element of its first segment.
+#[repr(C)]
+#[derive(Clone, Copy)]
+pub struct NewPacket {
+    pub slot: u32,
+    pub element: u32,
+}
+
+/// A segment of a packet: its own element, the one whose buffer has its data, which is another where the segment is a
+/// clone's, and in bytes where the data begins there, how long it is, and how long the buffer is.
+#[repr(C)]
+#[derive(Clone, Copy)]
+pub struct Segment {
+    pub element: u32,
+    pub buffer: u32,
+    pub off: u16,
+    pub len: u16,
+    pub buf: u16,
+}
+
+/// The status of an answer: 0, or the number of a refusal, which where there is no worker is that of `StrangerShare`.
+#[inline(always)]
+fn status_of(answer: &Option<Answer<0>>) -> u32
+    ensures { result ≡ status_in (replied answer.now) }
+{
+    match answer {
+        None => Refusal::StrangerShare.number(),
+        Some(Answer::Refused(cause)) => cause.number(),
+        Some(_) => 0,
+    }
+}
+
+/// Lets the worker of a handle do this. Answers nothing where there is none.
+#[inline(always)]
+fn act(alloc: Global, worker: &mut WorkerHandle, act: Act) -> Option<Answer<0>>
+    requires { HasRoom 0 act }
+    ensures { ActsIn act worker.old.value (replied result) worker.new.value }
+{
+    match worker.take(alloc) {
+        None => None,
+        Some(mut own) => {
+            let answer = own.act(act);
+            worker.put(own);
+            Some(answer)
+        }
+    }
+}
+
+/// Lets the worker of a handle do this, and tells of the number that is answered.
+#[inline(always)]
+fn tell(alloc: Global, worker: &mut WorkerHandle, what: Act, out: &mut u32) -> u32
+    requires { HasRoom 0 what }
+    ensures { TellsNumber what worker.old.value result out.old out.new worker.new.value }
+{
+    let answer = act(alloc, worker, what);
+    match answer {
+        Some(Answer::Len(number)) => *out = number,
+        Some(Answer::Segs(number)) => *out = number,
+        Some(Answer::Count(number)) => *out = number,
+        Some(Answer::Taken(slot, _, _)) => *out = slot,
+        _ => {}
+    }
+    status_of(&answer)
+}
+
+/// The first of these elements.
+fn first_of(elements: &[u32]) -> u32
+    ensures { result ≡ slice_index_or elements.now 0 0 }
+{
+    if elements.len() == 0 {
+        return 0;
+    }
+    elements[0]
+}
+
+/// Lets the worker of a handle do this, and tells of the new packet that is answered.
+#[inline(always)]
+fn tell_new(alloc: Global, worker: &mut WorkerHandle, what: Act, out: &mut NewPacket) -> u32
+    requires { HasRoom 0 what }
+    ensures { TellsNew what worker.old.value result out.old out.new worker.new.value }
+{
+    let answer = act(alloc, worker, what);
+    match &answer {
+        Some(Answer::Allocated(slot, element)) => {
+            *out = NewPacket {
+                slot: *slot,
+                element: *element,
+            }
+        }
+        Some(Answer::Cloned(slot, elements)) => {
+            *out = NewPacket {
+                slot: *slot,
+                element: first_of(elements),
+            }
+        }
+        _ => {}
+    }
+    status_of(&answer)
+}
+
+/// Makes a pool, and puts its workers into the handles, of which there is one for each.
+fn open(alloc: Global, limits: &Limits, out: &mut [WorkerHandle]) -> Result<(), Refusal> {
+    if out.len() as u64 != limits.workers {
+        return Err(Refusal::BadPool);
+    }
+    let (ground, mut workers) = pool::make(alloc, limits)?;
+    let Ok(ground) = Arc::new(alloc, ground) else {
+        return Err(Refusal::OutOfMemory);
+    };
+    fill(alloc, &ground, workers, out)
+}
+
+/// Puts these workers into the handles, the last into the last.
+fn fill(
+    alloc: Global,
+    ground: &Arc<Ground>,
+    mut workers: Vec<WordWorker>,
+    out: &mut [WorkerHandle],
+) -> Result<(), Refusal>
+    requires { All (IsWorker ground.now.value) workers.items }
+{
+    let count = out.len();
+    for k in 0..count {
+        let Some(worker) = workers.pop() else {
+            return Ok(());
+        };
+        out[count - 1 - k].put(owned(alloc, ground, worker)?);
+    }
+    Ok(())
+}
+
+/// A worker with its words, on the heap.
+fn owned(alloc: Global, ground: &Arc<Ground>, worker: WordWorker) -> Result<Box<OwnWorker>, Refusal>
+    requires { IsOf ground.now.value worker.seat }
+{
+    let Ok(ground) = Arc::try_clone(ground) else {
+        return Err(Refusal::OutOfMemory);
+    };
+    match Box::new(alloc, OwnWorker::new(ground, worker)) {
+        Ok(own) => Ok(own),
+        Err(_) => Err(Refusal::OutOfMemory),
+    }
+}
+
+/// Makes a pool, and puts its workers into the handles, of which there is one for each. Where it is refused, the handles
+/// have no workers.
+#[unsafe(no_mangle)]
+pub extern "C" fn mbufpool_open(
+    alloc: Global,
+    limits: &PoolLimits,
+    out: &mut [WorkerHandle],
+) -> u32 {
+    let limits = Limits {
+        population: limits.population as u64,
+        cache: limits.cache as u64,
+        workers: limits.workers as u64,
+        desks: limits.desks as u64,
+        buf: limits.buf as u64,
+        ref_limit: limits.ref_limit as u64,
+        tries: limits.tries as u64,
+        start_count: 0,
+        put_rule: PutRule::Keep,
+    };
+    match open(alloc, &limits, out) {
+        Ok(()) => 0,
+        Err(cause) => {
+            for k in 0..out.len() {
+                drop(out[k].take(alloc));
+            }
+            cause.number()
+        }
+    }
+}
+
+/// Makes a packet of one element.
+#[unsafe(no_mangle)]
+pub extern "C" fn mbufpool_alloc(
+    alloc: Global,
+    worker: &mut WorkerHandle,
+    out: &mut NewPacket,
+) -> u32
+    ensures { TellsNew Act.Alloc worker.old.value result out.old out.new worker.new.value }
+{
+    tell_new(alloc, worker, Act::Alloc, out)
+}
+
+/// Lets the worker of a handle make so many packets, all or none. Answers nothing where there is none.
+fn act_bulk(alloc: Global, worker: &mut WorkerHandle, count: usize) -> Option<Reply>
+    ensures { ActsIn (Act.AllocBulk count) worker.old.value (replied result) worker.new.value }
+{
+    match worker.take(alloc) {
+        None => None,
+        Some(mut own) => {
+            let answer = own.act(Act::AllocBulk(count));
+            worker.put(own);
+            Some(answer)
+        }
+    }
+}
+
+/// Tells of the packets of a bulk, each in its place.
+fn tell_each(made: &[acts::NewPacket], out: &mut [NewPacket])
+    ensures { AreTold made.now out.new }
+{
+    for k in 0..out.len() {
+        if k < made.len() {
+            out[k] = NewPacket {
+                slot: made[k].slot,
+                element: made[k].elem,
+            };
+        }
+    }
+}
+
+/// Makes as many packets of one element as `out` has places, all or none, and tells of each.
+#[unsafe(no_mangle)]
+pub extern "C" fn mbufpool_alloc_bulk(
+    alloc: Global,
+    worker: &mut WorkerHandle,
+    out: &mut [NewPacket],
+) -> u32
+    ensures { TellsBulk (Act.AllocBulk (length out.old)) worker.old.value result out.new worker.new.value }
+{
+    let answer = act_bulk(alloc, worker, out.len());
+    match &answer {
+        None => Refusal::StrangerShare.number(),
+        Some(Answer::Refused(cause)) => cause.number(),
+        Some(Answer::Bulk(made)) => {
+            tell_each(made.as_slice(), out);
+            0
+        }
+        Some(_) => 0,
+    }
+}
+
+/// Frees a packet.
+#[unsafe(no_mangle)]
+pub extern "C" fn mbufpool_free(alloc: Global, worker: &mut WorkerHandle, slot: u32) -> u32
+    ensures { ActsAs (Act.Free slot) worker.old.value result worker.new.value }
+{
+    status_of(&act(alloc, worker, Act::Free(slot)))
+}
+
+/// Adds so many bytes behind a packet's data, and tells its length.
+#[unsafe(no_mangle)]
+pub extern "C" fn mbufpool_append(
+    alloc: Global,
+    worker: &mut WorkerHandle,
+    slot: u32,
+    len: u16,
+    out: &mut u32,
+) -> u32
+    ensures { TellsNumber (Act.Append slot len) worker.old.value result out.old out.new worker.new.value }
+{
+    tell(alloc, worker, Act::Append(slot, len), out)
+}
+
+/// Adds so many bytes in front of a packet's data, and tells its length.
+#[unsafe(no_mangle)]
+pub extern "C" fn mbufpool_prepend(
+    alloc: Global,
+    worker: &mut WorkerHandle,
+    slot: u32,
+    len: u16,
+    out: &mut u32,
+) -> u32
+    ensures { TellsNumber (Act.Prepend slot len) worker.old.value result out.old out.new worker.new.value }
+{
+    tell(alloc, worker, Act::Prepend(slot, len), out)
+}
+
+/// Takes so many bytes off the front of a packet's data, and tells its length.
+#[unsafe(no_mangle)]
+pub extern "C" fn mbufpool_adj(
+    alloc: Global,
+    worker: &mut WorkerHandle,
+    slot: u32,
+    len: u16,
+    out: &mut u32,
+) -> u32
+    ensures { TellsNumber (Act.Adj slot len) worker.old.value result out.old out.new worker.new.value }
+{
+    tell(alloc, worker, Act::Adj(slot, len), out)
+}
+
+/// Takes so many bytes off the end of a packet's data, and tells its length.
+#[unsafe(no_mangle)]
+pub extern "C" fn mbufpool_trim(
+    alloc: Global,
+    worker: &mut WorkerHandle,
+    slot: u32,
+    len: u16,
+    out: &mut u32,
+) -> u32
+    ensures { TellsNumber (Act.Trim slot len) worker.old.value result out.old out.new worker.new.value }
+{
+    tell(alloc, worker, Act::Trim(slot, len), out)
+}
+
+/// Puts the segments of a packet behind those of another.
+#[unsafe(no_mangle)]
+pub extern "C" fn mbufpool_chain(
+    alloc: Global,
+    worker: &mut WorkerHandle,
+    head: u32,
+    tail: u32,
+) -> u32
+    ensures { ActsAs (Act.Chain head tail) worker.old.value result worker.new.value }
+{
+    status_of(&act(alloc, worker, Act::Chain(head, tail)))
+}
+
+/// Lets a packet use the buffer of another.
+#[unsafe(no_mangle)]
+pub extern "C" fn mbufpool_attach(
+    alloc: Global,
+    worker: &mut WorkerHandle,
+    slot: u32,
+    target: u32,
+) -> u32
+    ensures { ActsAs (Act.Attach slot target) worker.old.value result worker.new.value }
+{
+    status_of(&act(alloc, worker, Act::Attach(slot, target)))
+}
+
+/// Gives a packet its own buffer back.
+#[unsafe(no_mangle)]
+pub extern "C" fn mbufpool_detach(alloc: Global, worker: &mut WorkerHandle, slot: u32) -> u32
+    ensures { ActsAs (Act.Detach slot) worker.old.value result worker.new.value }
+{
+    status_of(&act(alloc, worker, Act::Detach(slot)))
+}
+
+/// Makes a clone of a packet.
+#[unsafe(no_mangle)]
+pub extern "C" fn mbufpool_clone(
+    alloc: Global,
+    worker: &mut WorkerHandle,
+    slot: u32,
+    out: &mut NewPacket,
+) -> u32
+    ensures { TellsNew (Act.ClonePacket slot) worker.old.value result out.old out.new worker.new.value }
+{
+    tell_new(alloc, worker, Act::ClonePacket(slot), out)
+}
+
+/// Leaves a packet on a desk.
+#[unsafe(no_mangle)]
+pub extern "C" fn mbufpool_offer(
+    alloc: Global,
+    worker: &mut WorkerHandle,
+    slot: u32,
+    desk: u32,
+) -> u32
+    ensures { ActsAs (Act.Offer slot desk) worker.old.value result worker.new.value }
+{
+    status_of(&act(alloc, worker, Act::Offer(slot, desk)))
+}
+
+/// Takes the packet off a desk, and tells its slot.
+#[unsafe(no_mangle)]
+pub extern "C" fn mbufpool_take(
+    alloc: Global,
+    worker: &mut WorkerHandle,
+    desk: u32,
+    out: &mut u32,
+) -> u32
+    ensures { TellsNumber (Act.Take desk) worker.old.value result out.old out.new worker.new.value }
+{
+    tell(alloc, worker, Act::Take(desk), out)
+}
+
+/// Tells the reference count of a packet's first segment's element.
+#[unsafe(no_mangle)]
+pub extern "C" fn mbufpool_count(
+    alloc: Global,
+    worker: &mut WorkerHandle,
+    slot: u32,
+    out: &mut u32,
+) -> u32
+    ensures { TellsNumber (Act.CountOf slot) worker.old.value result out.old out.new worker.new.value }
+{
+    tell(alloc, worker, Act::CountOf(slot), out)
+}
+
+/// Tells how many bytes of data a packet has.
+#[unsafe(no_mangle)]
+pub extern "C" fn mbufpool_pkt_len(
+    alloc: Global,
+    worker: &mut WorkerHandle,
+    slot: u32,
+    out: &mut u32,
+) -> u32
+    ensures { TellsNumber (Act.PktLen slot) worker.old.value result out.old out.new worker.new.value }
+{
+    tell(alloc, worker, Act::PktLen(slot), out)
+}
+
+/// Tells how many segments a packet has.
+#[unsafe(no_mangle)]
+pub extern "C" fn mbufpool_nb_segs(
+    alloc: Global,
+    worker: &mut WorkerHandle,
+    slot: u32,
+    out: &mut u32,
+) -> u32
+    ensures { TellsNumber (Act.NbSegs slot) worker.old.value result out.old out.new worker.new.value }
+{
+    tell(alloc, worker, Act::NbSegs(slot), out)
+}
+
+/// Puts the worker's whole cache onto the common stack.
+#[unsafe(no_mangle)]
+pub extern "C" fn mbufpool_flush(alloc: Global, worker: &mut WorkerHandle) -> u32
+    ensures { ActsAs Act.Flush worker.old.value result worker.new.value }
+{
+    status_of(&act(alloc, worker, Act::Flush))
+}
+
+/// Ends a worker: the handle has none then. The pool is freed with its last worker.
+#[unsafe(no_mangle)]
+pub extern "C" fn mbufpool_end(alloc: Global, worker: &mut WorkerHandle)
+    ensures { worker.new.value ≡ None }
+{
+    drop(worker.take(alloc));
+}
+
+/// A segment as C sees it.
+fn segment_of(seg: Seg) -> Segment
+    ensures { result ≡ segment_in seg }
+{
+    let buffer = match seg.base {
+        None => seg.elem,
+        Some(base) => base,
+    };
+    Segment {
+        element: seg.elem,
+        buffer,
+        off: seg.data_off,
+        len: seg.data_len,
+        buf: seg.buf_len,
+    }
+}
+
+/// Tells of the segment at this place of a packet.
+#[unsafe(no_mangle)]
+pub extern "C" fn mbufpool_segment(
+    alloc: Global,
+    worker: &mut WorkerHandle,
+    slot: u32,
+    index: u32,
+    out: &mut Segment,
+) -> u32
+    ensures kept { worker.new.value ≡ worker.old.value }
+    ensures told { ShowsSegment worker.old.value slot index result out.old out.new }
+{
+    match worker.take(alloc) {
+        None => Refusal::StrangerShare.number(),
+        Some(own) => {
+            let answer = own.seg(slot, index);
+            worker.put(own);
+            match answer {
+                Ok(seg) => {
+                    *out = segment_of(seg);
+                    0
+                }
+                Err(cause) => cause.number(),
+            }
+        }
+    }
+}

@@ -1,0 +1,15 @@
+//! What handles lead to may go to another thread.
+
+use crate::checked::CheckedSeat;
+use crate::seats::OwnSeat;
+use crate::workers::OwnWorker;
+
+/// A value of this type may go to another thread. It does nothing.
+fn may_be_sent<T: Send>() {}
+
+/// So may all that handles own. It does nothing.
+pub fn handles_may_be_sent() {
+    may_be_sent::<OwnSeat>();
+    may_be_sent::<CheckedSeat>();
+    may_be_sent::<OwnWorker>();
+}

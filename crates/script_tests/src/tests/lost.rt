@@ -1,0 +1,234 @@
+//! What is lost with a worker at the end of a run, and with one whose share is missing in a book.
+
+use super::same;
+use super::threads::GROUNDS;
+use commons::refusal::Refusal;
+use mbuf::acts::Act;
+use script::{Gate, Grounds, OpenGate, lost_text, numbers_json, run_lost};
+use script_text::parse;
+use share_book::site_pool::SitePool;
+use share_book::{Book, Unsettled, settle_without};
+use std::alloc::Global;
+use std::process::Abort;
+use std::sync::Wait;
+use std::sync::atomic::{AtomicU32, Ordering};
+use std::test::Fail;
+use std::thread::Threads;
+
+/// A name, a script, the worker that is lost, and what is printed: as text and as JSON.
+type Row = (&'static str, &'static str, u32, &'static str, &'static str);
+
+static ROWS: &[Row] = &[
+    (
+        "a packet and a cache",
+        "pool 8 cache 4 workers 2\n2: alloc a\n",
+        2,
+        "lost 5: 0 1 2 3 4\n",
+        "[0,1,2,3,4]\n",
+    ),
+    (
+        "a worker who has nothing",
+        "pool 8 cache 4 workers 2\n2: alloc a\n",
+        1,
+        "lost 0:\n",
+        "[]\n",
+    ),
+    (
+        "an only worker",
+        "pool 4 cache 2\nalloc a\nalloc b\nfree a\n",
+        1,
+        "lost 3: 0 1 2\n",
+        "[0,1,2]\n",
+    ),
+    (
+        "the last of many",
+        "pool 8 workers 64\n64: alloc a\n",
+        64,
+        "lost 1: 0\n",
+        "[0]\n",
+    ),
+    (
+        "what lies on a desk is nobody's",
+        "pool 4 workers 2 desks 1\n2: alloc a\n2: clone a b\n2: offer b 0\n2: free a\n2: alloc c\n",
+        2,
+        "lost 1: 2\n",
+        "[2]\n",
+    ),
+];
+
+/// What is lost with a worker at the end of a run.
+fn lost_by<G: Gate, R: Threads + Wait + Sync + AllocGlobal>(
+    rt: &R,
+    text: &str,
+    grounds: Grounds,
+    lose: u32,
+    gate: &G,
+) -> Result<Result<Vec<u32>, Refusal>, Fail> {
+    let script = parse(rt.alloc(), text.as_bytes())?;
+    Ok(run_lost(rt, rt.alloc(), &script, grounds, 1, lose, gate))
+}
+
+/// A run of a row prints what is lost.
+fn assert_lost<R: Threads + Wait + Sync + Abort + AllocGlobal>(
+    rt: &R,
+    (name, script, lose, text, json): &Row,
+    grounds: Grounds,
+) -> Result<(), Fail> {
+    let lost = lost_by(rt, script, grounds, *lose, &OpenGate)??;
+    let printed = String::from_utf8(lost_text(rt.alloc(), lost.as_slice())?)?;
+    same(rt, &printed.as_str(), text, name);
+    let printed = String::from_utf8(numbers_json(rt.alloc(), lost.as_slice())?)?;
+    same(rt, &printed.as_str(), json, name);
+    Ok(())
+}
+
+#[test]
+fn what_a_lost_worker_alone_has_is_lost(rt: HostRuntime) -> Result<(), Fail> {
+    for grounds in GROUNDS {
+        for row in ROWS {
+            assert_lost(&rt, row, grounds)?;
+        }
+    }
+    Ok(())
+}
+
+#[test]
+fn a_worker_whom_the_pool_doesnt_have_is_a_stranger(rt: HostRuntime) -> Result<(), Fail> {
+    let text = "pool 8 cache 4 workers 2\n2: alloc a\n";
+    for grounds in GROUNDS {
+        for lose in [0, 3, u32::MAX] {
+            let lost = lost_by(&rt, text, grounds, lose, &OpenGate)?;
+            same(
+                &rt,
+                &lost.err(),
+                &Some(Refusal::StrangerShare),
+                "a stranger",
+            );
+        }
+    }
+    Ok(())
+}
+
+/// Counts the lines that are done.
+#[derive(Drop)]
+struct Counting {
+    done: AtomicU32,
+}
+
+impl Gate for Counting {
+    fn before(&self, _worker: u32, _nth: u32) {}
+
+    fn after(&self, _worker: u32, _nth: u32) {
+        self.done.fetch_add(1, Ordering::SeqCst);
+    }
+}
+
+#[test]
+fn the_gate_is_called_around_the_lines_of_a_lost_worker_too(rt: HostRuntime) -> Result<(), Fail> {
+    for grounds in GROUNDS {
+        let gate = Counting {
+            done: AtomicU32::new(0),
+        };
+        let lost = lost_by(
+            &rt,
+            "pool 4 workers 2\nalloc a\n2: alloc b\n2: free b\n",
+            grounds,
+            2,
+            &gate,
+        )??;
+        let given = (lost.len(), gate.done.load(Ordering::SeqCst));
+        same(&rt, &given, &(0, 3), "three lines");
+    }
+    Ok(())
+}
+
+/// What is lost of a pool of eight elements in which both workers have filled their caches, by a book without the share of
+/// worker 2, and with these workers listed.
+fn lost_without_second(alloc: Global, listed: &[u32]) -> Result<Result<Vec<u32>, Unsettled>, Fail> {
+    let script = parse(alloc, "pool 8 cache 4 workers 2\n".as_bytes())?;
+    let mut pool = SitePool::make(alloc, &script.limits)?;
+    let _ = pool.perform(1, Act::Alloc);
+    let _ = pool.perform(2, Act::Alloc);
+    let (limits, closed, mut shares) = match pool.close(alloc) {
+        Ok(parts) => parts,
+        Err((cause, pool)) => {
+            pool.lose();
+            return Err(Fail::from(cause));
+        }
+    };
+    if let Some(share) = shares.pop() {
+        share.lose();
+    }
+    let mut book = match Book::make(alloc, &limits) {
+        Ok(book) => book,
+        Err(cause) => {
+            share_book::lose_all(shares);
+            return Err(Fail::from(cause));
+        }
+    };
+    while let Some(share) = shares.pop() {
+        if let Err((_, share)) = book.deposit(share) {
+            share.lose();
+        }
+    }
+    shares.destroy_empty();
+    match settle_without(alloc, closed, book, listed) {
+        Ok(elems) => Ok(Ok(elems)),
+        Err((cause, _, book)) => {
+            book.lose();
+            Ok(Err(cause))
+        }
+    }
+}
+
+/// The row "settle without".
+#[test]
+fn a_missing_share_is_passed_over_where_its_worker_is_listed(rt: HostRuntime) -> Result<(), Fail> {
+    let told = lost_without_second(rt.alloc(), &[])?;
+    same(
+        &rt,
+        &told.err(),
+        &Some(Unsettled::MissingShare(2)),
+        "nobody is listed",
+    );
+    let told = lost_without_second(rt.alloc(), &[1, 3, 0])?;
+    same(
+        &rt,
+        &told.err(),
+        &Some(Unsettled::MissingShare(2)),
+        "others are listed",
+    );
+    for listed in [[2].as_slice(), [9, 2, 2].as_slice()] {
+        match lost_without_second(rt.alloc(), listed)? {
+            Ok(elems) => same(
+                &rt,
+                &elems.as_slice(),
+                &[5].as_slice(),
+                "worker 2 is listed",
+            ),
+            Err(cause) => same(&rt, &Some(cause), &None, "worker 2 is listed"),
+        }
+    }
+    Ok(())
+}
+
+/// Whichever request for memory is refused, what is lost is the same or `OutOfMemory`.
+#[test]
+fn refused_memory_changes_nothing_that_is_lost(rt: HostRuntime) {
+    let text = "pool 4 cache 2\nalloc a\nalloc b\nfree a\n";
+    for grounds in GROUNDS {
+        let lost = match parse(rt.alloc(), text.as_bytes()) {
+            Ok(script) => run_lost(&rt, rt.alloc(), &script, grounds, 1, 1, &OpenGate),
+            Err(cause) => Err(cause),
+        };
+        match lost {
+            Ok(lost) => same(
+                &rt,
+                &lost.as_slice(),
+                &[0, 1, 2].as_slice(),
+                "an only worker",
+            ),
+            Err(cause) => same(&rt, &cause, &Refusal::OutOfMemory, "an only worker"),
+        }
+    }
+}

@@ -1,0 +1,202 @@
+//! How two pools are settled with the shares of their workers, and what is refused.
+
+use super::settling::{closed_at_last, lose_one, play};
+use super::{DEFAULTS, assert_given, same};
+use commons::closed::Closed;
+use commons::limits::Limits;
+use mbuf::acts::Act;
+use pool_model::settled::Settled;
+use script::settled_text;
+use share_book::site_pool::SitePool;
+use share_book::{Fault, Share, TwinBook, TwinShare, TwinUnsettled, lose_all, settle_twin};
+use std::alloc::Global;
+use std::process::Abort;
+
+/// The first pool.
+const FIRST: Limits = Limits {
+    population: 3,
+    workers: 2,
+    ..DEFAULTS
+};
+
+/// The second.
+const SECOND: Limits = Limits {
+    population: 2,
+    workers: 2,
+    buf: 0,
+    ..DEFAULTS
+};
+
+/// What a pool left, and its shares.
+type Left = (Closed, Vec<Share>);
+
+/// A worker's shares of both pools.
+type Pair = (Option<Share>, Option<Share>);
+
+/// Why two pools weren't settled, one time after another, and what they came to.
+type Ended = (Vec<TwinUnsettled>, Option<Settled>);
+
+/// What a pool left in which worker 1 did this.
+fn left(alloc: Global, limits: &Limits, acts: &[Act]) -> Option<Left> {
+    match SitePool::make(alloc, limits) {
+        Ok(mut pool) => {
+            play(&mut pool, 1, acts);
+            let (_, closed, shares) = closed_at_last(alloc, pool)?;
+            Some((closed, shares))
+        }
+        Err(_) => None,
+    }
+}
+
+/// Puts a worker's shares in a book, where there are both.
+fn deposit_pair(book: &mut TwinBook, pair: Pair) {
+    let (first, second) = pair;
+    let Some(first) = first else {
+        lose_one(second);
+        return;
+    };
+    let Some(second) = second else {
+        first.lose();
+        return;
+    };
+    if first.worker() != second.worker() {
+        first.lose();
+        second.lose();
+        return;
+    }
+    if let Err((_, share)) = book.deposit(TwinShare::of(first, second)) {
+        share.lose();
+    }
+}
+
+/// Ends a worker's shares.
+fn lose_pair(pair: Pair) {
+    let (first, second) = pair;
+    lose_one(first);
+    lose_one(second);
+}
+
+/// Settles two pools, and notes why not; what is handed back is settled later.
+fn tried(
+    alloc: Global,
+    first: Closed,
+    second: Closed,
+    book: TwinBook,
+    causes: &mut Vec<TwinUnsettled>,
+) -> Result<Settled, (Closed, Closed, TwinBook)> {
+    match settle_twin(alloc, first, second, book) {
+        Ok((first, second)) => Ok(Settled {
+            first,
+            second: Some(second),
+        }),
+        Err((cause, first, second, book)) => {
+            let _ = causes.push(cause);
+            Err((first, second, book))
+        }
+    }
+}
+
+/// Settles two pools once more with these tops.
+fn again(
+    alloc: Global,
+    before: Result<Settled, (Closed, Closed, TwinBook)>,
+    tops: (u32, u32),
+    causes: &mut Vec<TwinUnsettled>,
+) -> Result<Settled, (Closed, Closed, TwinBook)> {
+    let (first, second, book) = match before {
+        Ok(settled) => return Ok(settled),
+        Err(back) => back,
+    };
+    let first = Closed {
+        top: tops.0,
+        ..first
+    };
+    let second = Closed {
+        top: tops.1,
+        ..second
+    };
+    tried(alloc, first, second, book, causes)
+}
+
+/// Settles two pools without the first worker's shares; then with them, but with a wrong top in both; then in the second
+/// alone; and then in none.
+fn settled_in_turn(
+    alloc: Global,
+    first: Closed,
+    second: Closed,
+    book: TwinBook,
+    pair: Pair,
+) -> Ended {
+    let mut causes = Vec::new(alloc);
+    let tops = (first.top, second.top);
+    let mut back = match tried(alloc, first, second, book, &mut causes) {
+        Ok(settled) => {
+            lose_pair(pair);
+            return (causes, Some(settled));
+        }
+        Err(back) => back,
+    };
+    deposit_pair(&mut back.2, pair);
+    let wrong = again(alloc, Err(back), (9, 9), &mut causes);
+    let second_wrong = again(alloc, wrong, (tops.0, 9), &mut causes);
+    match again(alloc, second_wrong, tops, &mut causes) {
+        Ok(settled) => (causes, Some(settled)),
+        Err((_, _, book)) => {
+            book.lose();
+            (causes, None)
+        }
+    }
+}
+
+/// Puts the second worker's shares in a book, and settles in turn.
+fn ended(alloc: Global, first: Left, second: Left) -> Option<Ended> {
+    let (one, mut firsts) = first;
+    let (two, mut seconds) = second;
+    let later = (firsts.pop(), seconds.pop());
+    let pair = (firsts.pop(), seconds.pop());
+    lose_all(firsts);
+    lose_all(seconds);
+    match TwinBook::make(alloc, &FIRST, &SECOND) {
+        Ok(mut book) => {
+            deposit_pair(&mut book, later);
+            Some(settled_in_turn(alloc, one, two, book, pair))
+        }
+        Err(_) => {
+            lose_pair(later);
+            lose_pair(pair);
+            None
+        }
+    }
+}
+
+/// Ends two pools, in whose first worker 1 made a packet.
+fn two_pools(alloc: Global) -> Option<Ended> {
+    let first = left(alloc, &FIRST, &[Act::Alloc])?;
+    match left(alloc, &SECOND, &[]) {
+        Some(second) => ended(alloc, first, second),
+        None => {
+            lose_all(first.1);
+            None
+        }
+    }
+}
+
+const TEXT: &str = "population 3\navailable 2\nin use 1\ncommon 2: 1 2\ncache 1 0:\ncache 2 0:\n\
+    packet 1 0 segs 1 len 0: 0@128+0/2048\nheld 0 count 1: 1\n\
+    second\npopulation 2\navailable 2\nin use 0\ncommon 2: 0 1\ncache 1 0:\ncache 2 0:\n";
+
+#[test]
+fn two_pools_are_settled_once_nothing_is_wrong_with_either(rt: HostRuntime) {
+    let Some((causes, Some(settled))) = two_pools(rt.alloc()) else {
+        assert!(&rt; false, "what was handed back doesn't settle");
+        return;
+    };
+    let wanted = [
+        TwinUnsettled::MissingShare(1),
+        TwinUnsettled::First(Fault::BadTop(9)),
+        TwinUnsettled::Second(Fault::BadTop(9)),
+    ];
+    same(&rt, &causes.as_slice(), &wanted.as_slice(), "the causes");
+    let text = settled_text(rt.alloc(), &settled);
+    assert_given(&rt, text, TEXT, "both statements");
+}

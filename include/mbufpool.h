@@ -1,0 +1,155 @@
+/* mbufpool.h - the packet-buffer pool as a C library (libmbufpool_c.a).
+ *
+ * Three faces, each behind handles that the caller keeps:
+ *
+ *   struct mbufpool_seat     the bare stack of elements, 0 to population - 1, which up to 64 threads use at once without a
+ *                            lock, each by a seat of its own: what stands below a mempool
+ *   struct mbufpool_checked  the same by one seat, which takes back only what it gave
+ *   struct mbufpool_worker   packets over such a pool: a worker has a cache and a table of 256 packets, with lengths,
+ *                            chains, reference counts, clones, and desks over which a packet passes to another worker
+ *
+ * Every call answers 0, or the number of a refusal (enum mbufpool_refusal); after a refusal nothing has changed but for
+ * what its line says.
+ *
+ * What the caller owes, and nothing checks:
+ *
+ *   handles    A handle begins as zeros (MBUFPOOL_NONE), and is then changed by the calls below alone. It is not copied:
+ *              two structs with one pointer are two owners of one seat. One thread at a time uses it; it passes to another
+ *              thread by a lock, a thread's start or join, or a sequentially consistent atomic. A handle with zeros is
+ *              safe in every call, which answers MBUFPOOL_STRANGER.
+ *   memory     `out` has room for n of its kind and `list` has n numbers, n > 0 or not. What the pointers of one call lead to
+ *              doesn't overlap (two handles are two structs), and is the call's alone while it runs.
+ *   elements   (seats alone) what is put was got by this seat and not put since, each element once in a list. See
+ *              mbufpool_seat_put.
+ *   process    malloc, realloc and free are of one allocator and give blocks aligned as C asks; no call is made from a
+ *              signal handler, or in a forked child of a process with threads.
+ *
+ * Whatever numbers a caller passes to a worker's calls (slots that are free, freed packets, desks that there are not, lengths
+ * too great), they are refused by name.
+ */
+#ifndef MBUFPOOL_H
+#define MBUFPOOL_H
+#include <stddef.h>
+#include <stdint.h>
+
+#ifdef __cplusplus
+extern "C" {
+#endif
+
+enum mbufpool_refusal {
+	MBUFPOOL_BAD_POOL = 1,		/* limits out of range */
+	MBUFPOOL_NO_MEMORY = 2,
+	MBUFPOOL_NO_ENTRIES = 3,	/* fewer elements than were asked for were counted */
+	MBUFPOOL_CONTENDED = 4,		/* as many tries were lost to other threads as the pool allows: try again */
+	MBUFPOOL_HEAD_SPENT = 5,	/* 2^48 - 1 changes of the stack were made: the pool is at its end */
+	MBUFPOOL_REF_SPENT = 6,		/* the reference count is at its limit */
+	MBUFPOOL_TOO_MANY_SEGS = 7,
+	MBUFPOOL_NO_ROOM = 8,
+	MBUFPOOL_TOO_SHORT = 9,
+	MBUFPOOL_NOT_DIRECT = 10,
+	MBUFPOOL_NOT_INDIRECT = 11,
+	MBUFPOOL_IN_USE = 12,
+	MBUFPOOL_NO_SUCH_PACKET = 13,	/* no packet stands in that slot: it was freed, say */
+	MBUFPOOL_PACKETS_FULL = 14,	/* all 256 slots of the worker have packets */
+	MBUFPOOL_DESK_TAKEN = 15,
+	MBUFPOOL_DESK_EMPTY = 16,
+	MBUFPOOL_NO_SUCH_DESK = 17,
+	MBUFPOOL_STRANGER = 19,		/* the handle has no seat or worker, or the pool has no more of them */
+	MBUFPOOL_SAME_PACKET = 23,
+	MBUFPOOL_NOT_IN_HAND = 24,	/* (checked seats alone) the list names what the seat hasn't got, or something twice */
+};
+
+#define MBUFPOOL_NONE { 0 }
+
+/* ---- the bare stack ---- */
+
+/* A seat, or none where the pointer is null. The pointer is the library's. */
+struct mbufpool_seat { void *at; };
+
+/* Makes a pool of 1 to 65,534 elements, all on the stack, for 1 to 64 seats, and its first seat. `tries`, 1 to 1,000,000, is
+ * how many lost tries a call makes before it is refused. A seat that was in `out` is ended. */
+uint32_t mbufpool_seat_open(uint32_t population, uint32_t seats, uint32_t tries, struct mbufpool_seat *out);
+
+/* Makes one more seat of the pool, by its first seat. */
+uint32_t mbufpool_seat_split(struct mbufpool_seat *seat, struct mbufpool_seat *out);
+
+/* Gets n elements: all of them, or none. */
+uint32_t mbufpool_seat_get(struct mbufpool_seat *seat, uint32_t *out, size_t n);
+
+/* Puts n elements back: all of them, or none.
+ * Each was got by this seat, was not put since, and stands in the list once. */
+uint32_t mbufpool_seat_put(struct mbufpool_seat *seat, const uint32_t *list, size_t n);
+
+/* How many elements the stack's length word counts. While other threads are within calls it may lag behind. */
+uint32_t mbufpool_seat_count(struct mbufpool_seat *seat);
+
+/* Ends a seat; the handle has zeros then. What the seat has got and not put is lost to the pool, so put it first. The pool's
+ * memory is freed with its last seat. */
+void mbufpool_seat_free(struct mbufpool_seat *seat);
+
+/* ---- the bare stack, checked ---- */
+
+/* One seat of a pool, which keeps a mark for each element that it has got. A list that isn't all in its hand is refused by
+ * MBUFPOOL_NOT_IN_HAND, and nothing changes: a double free, an element that was never got, a number out of range. So the
+ * caller owes nothing of elements, whoever puts what was got; several threads use it in turn, under a lock of theirs. */
+struct mbufpool_checked { void *at; };
+
+uint32_t mbufpool_checked_open(uint32_t population, uint32_t tries, struct mbufpool_checked *out);
+uint32_t mbufpool_checked_get(struct mbufpool_checked *seat, uint32_t *out, size_t n);
+uint32_t mbufpool_checked_put(struct mbufpool_checked *seat, const uint32_t *list, size_t n);
+uint32_t mbufpool_checked_count(struct mbufpool_checked *seat);
+void mbufpool_checked_free(struct mbufpool_checked *seat);
+
+/* ---- packets ---- */
+
+/* A worker, or none where the pointer is null. The pointer is the library's. */
+struct mbufpool_worker { void *at; };
+
+struct mbufpool_limits {
+	uint32_t population;	/* elements, 1 to 65,534 */
+	uint32_t cache;		/* elements that a worker's cache keeps, 0 to 512, three halves of it at most the population */
+	uint32_t workers;	/* 1 to 64 */
+	uint32_t desks;		/* 0 to 64 */
+	uint32_t buf;		/* bytes in an element's buffer, 0 to 65,535 */
+	uint32_t ref_limit;	/* the greatest reference count, 1 to 65,535 */
+	uint32_t tries;		/* lost tries before MBUFPOOL_CONTENDED, 1 to 1,000,000 */
+};
+
+/* A new packet: its slot in its worker's table, 0 to 255, and its first segment's element. */
+struct mbufpool_packet { uint32_t slot, element; };
+
+/* A segment of a packet: its own element, the one whose buffer has its data (another one where the segment is a clone's), and
+ * in bytes where the data begins there, how long it is, and how long the buffer is. The buffers are the caller's. */
+struct mbufpool_segment { uint32_t element, buffer; uint16_t off, len, buf; };
+
+/* Makes a pool, and puts its workers into the n handles: n is limits->workers. Where it is refused, no handle has a worker. */
+uint32_t mbufpool_open(const struct mbufpool_limits *limits, struct mbufpool_worker *out, size_t n);
+
+/* Ends a worker; the handle has zeros then. What it has is lost to the pool, so free its packets and flush it first. The
+ * pool's memory is freed with its last worker. */
+void mbufpool_end(struct mbufpool_worker *worker);
+
+/* Each of these is one act of the worker. A packet is named by its slot; `out` is written where the answer is 0. */
+uint32_t mbufpool_alloc(struct mbufpool_worker *worker, struct mbufpool_packet *out);
+uint32_t mbufpool_alloc_bulk(struct mbufpool_worker *worker, struct mbufpool_packet *out, size_t n);	/* n packets, or none */
+uint32_t mbufpool_free(struct mbufpool_worker *worker, uint32_t slot);
+uint32_t mbufpool_append(struct mbufpool_worker *worker, uint32_t slot, uint16_t len, uint32_t *pkt_len);
+uint32_t mbufpool_prepend(struct mbufpool_worker *worker, uint32_t slot, uint16_t len, uint32_t *pkt_len);
+uint32_t mbufpool_adj(struct mbufpool_worker *worker, uint32_t slot, uint16_t len, uint32_t *pkt_len);
+uint32_t mbufpool_trim(struct mbufpool_worker *worker, uint32_t slot, uint16_t len, uint32_t *pkt_len);
+uint32_t mbufpool_chain(struct mbufpool_worker *worker, uint32_t head, uint32_t tail);	/* tail's slot is free then */
+uint32_t mbufpool_attach(struct mbufpool_worker *worker, uint32_t slot, uint32_t target);
+uint32_t mbufpool_detach(struct mbufpool_worker *worker, uint32_t slot);
+uint32_t mbufpool_clone(struct mbufpool_worker *worker, uint32_t slot, struct mbufpool_packet *out);
+uint32_t mbufpool_offer(struct mbufpool_worker *worker, uint32_t slot, uint32_t desk);	/* slot is free then */
+uint32_t mbufpool_take(struct mbufpool_worker *worker, uint32_t desk, uint32_t *slot);
+uint32_t mbufpool_count(struct mbufpool_worker *worker, uint32_t slot, uint32_t *references);
+uint32_t mbufpool_pkt_len(struct mbufpool_worker *worker, uint32_t slot, uint32_t *pkt_len);
+uint32_t mbufpool_nb_segs(struct mbufpool_worker *worker, uint32_t slot, uint32_t *segments);
+uint32_t mbufpool_segment(struct mbufpool_worker *worker, uint32_t slot, uint32_t index, struct mbufpool_segment *out);
+uint32_t mbufpool_flush(struct mbufpool_worker *worker);	/* the cache's elements go to the common stack */
+
+#ifdef __cplusplus
+}
+#endif
+#endif
