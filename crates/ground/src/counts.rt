@@ -55,8 +55,8 @@ impl Ground {
         }
     }
 
-    /// Makes one more hold of a held element: raises its count by 1, where it is `old`. Else answers what it is, and
-    /// nothing has changed (rte_mbuf.h, rte_mbuf_refcnt_update).
+    /// Makes one more hold of a held element: raises its count by 1, where it is `old`, which is below the reference
+    /// limit. Else answers what it is, and nothing has changed (rte_mbuf.h, rte_mbuf_refcnt_update).
     pub fn raise(&self, seat: &mut GroundSeat, element: u32, old: u64) -> Result<(), u64>
         requires of { IsOf self.now seat.old }
         requires held { 0 < bag seat.old.known.view.holds element }

@@ -1,5 +1,5 @@
 //! The words of a running pool on one atomic table, a seat for each worker, and the steps of the machine as calls: each
-//! one atomic operation on one word, by one seat.
+//! one atomic operation on one word, or one exchange of what is in a desk's slot, by one seat.
 #![tactic(auto)]
 
 mod counts;

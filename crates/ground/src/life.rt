@@ -58,8 +58,8 @@ impl Ground {
         Ok((ground, GroundSeat { seat }))
     }
 
-    /// Makes one more worker's seat, of one part of those that this seat has. This seat keeps all that it names, and
-    /// the new one names nothing and has taken no step.
+    /// Makes one more worker's seat, of one part of those that this seat has, which are two at least. This seat keeps
+    /// all that it names, and the new one names nothing and has taken no step.
     pub fn split(&self, seat: &mut GroundSeat) -> GroundSeat
         requires of { IsOf self.now seat.old }
         requires part { 2 ≤ seat.old.known.view.part }

@@ -133,7 +133,8 @@ pub fn asked<'a>(names: &Names<'a>, line: &'a Line) -> Option<Act>
     }
 }
 
-/// Keeps which packets a worker's names stand for, once its line has this reply.
+/// Keeps which packets a worker's names stand for, once its line has this reply. Refused where memory was refused;
+/// nothing is said of the names then.
 pub fn note<'a, const ROOM: usize>(
     names: &mut Names<'a>,
     line: &'a Line,

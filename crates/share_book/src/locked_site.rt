@@ -83,7 +83,7 @@ pub struct LockedPool<K: OfLimits> {
 pub type LockedSite = LockedPool<AnyLimits>;
 
 impl<K: OfLimits> LockedPool<K> {
-    /// A new pool, under a lock that is free.
+    /// A new pool of limits that `K` allows, under a lock that is free.
     ///
     /// Refused `BadPool` where the limits are out of range, and `OutOfMemory` where memory was
     /// refused.
@@ -108,8 +108,8 @@ impl<K: OfLimits> LockedPool<K> {
         self.act_in(rt, worker, act)
     }
 
-    /// Does what `act` does, and answers with room for a bulk of `ROOM` packets: with none the answer is small, and
-    /// nothing of a bulk's room is filled.
+    /// Does what `act` does, and answers with room for a bulk of `ROOM` packets, no fewer than a bulk asks for where it
+    /// asks for 256 at most: with none the answer is small, and nothing of a bulk's room is filled.
     pub fn act_in<const ROOM: usize, R: Wait>(&self, rt: &R, worker: u32, act: Act) -> Answer<ROOM>
         requires room { HasRoom ROOM act }
     {
@@ -120,7 +120,8 @@ impl<K: OfLimits> LockedPool<K> {
     /// and the share of each worker, from the first to the last. They are a lawful snapshot, and are what some acts
     /// leave of a new pool of these limits.
     ///
-    /// Refused `OutOfMemory` where memory was refused. The pool comes back then.
+    /// Refused `OutOfMemory` where memory was refused. A pool of limits that `K` allows comes back then; that it is the
+    /// same is seen by reading.
     pub fn close(self, alloc: Global) -> Result<(Limits, Closed, Vec<Share>), (Refusal, SitePool)>
         ensures allowed { IfOk result (λ parts. K.allows parts.0) }
         ensures range { IfOk result (λ parts. IsPool parts.0) }

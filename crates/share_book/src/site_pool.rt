@@ -136,8 +136,8 @@ impl SitePool {
         self.perform_in(worker, act)
     }
 
-    /// Does what `perform` does, and answers with room for a bulk of `ROOM` packets: with none the answer
-    /// is small.
+    /// Does what `perform` does, and answers with room for a bulk of `ROOM` packets, no fewer than a bulk
+    /// asks for where it asks for 256 at most: with none the answer is small.
     pub fn perform_in<const ROOM: usize>(&mut self, worker: u32, act: Act) -> Answer<ROOM>
         requires room { HasRoom ROOM act }
         ensures done { (as_reply result, self.new) ≡ perform self.old worker act }

@@ -17,7 +17,7 @@ use ground::seat::GroundSeat;
 /// What one worker shares with others on the words of a ground, by a seat of its own, which is at rest between the
 /// calls: nothing is reserved then, and nothing linked. Any number of workers call at once, each by its own. No call
 /// takes memory or a lock, nor waits for another worker: a try whose exchange of a word finds another value than was
-/// read is lost, and made again, at most as often as the pool's `tries`.
+/// read is lost, as is one whose walk ends early; each loop makes as many tries as the pool's `tries` says at most.
 ///
 /// What each call does is told by `Did`, as of any `Commons`, over `DidOnWords`: the tries that it made, the steps that
 /// its seat took, each one operation on one word, and what they read.
@@ -61,8 +61,9 @@ impl<'a> WordCommons<'a> {
     }
 }
 
-/// Each call takes as many steps at most as is said here, each one atomic operation on one word or slot. A seat of every
-/// part is never refused `Contended` on a put, nor, in a pool without desks, on a get and a raise.
+/// Each call takes as many steps at most as is said here, each one atomic operation on one word; an offer and a take that
+/// are met exchange besides what is in the desk's slot. The length of a list is `n`. A seat of every part is never
+/// refused `Contended` on a put, nor, in a pool without desks, on a get and a raise.
 impl<'a> Commons for WordCommons<'a> {
     ghost side = { λ c. side_of c.seat };
 

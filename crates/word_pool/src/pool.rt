@@ -23,8 +23,9 @@ use pool_model::statement::Statement;
 use std::alloc::Global;
 use word_book::{ending, laws};
 
-/// Makes a pool on words, and its workers, numbered from 1, each with one part of it. All elements are in the common
-/// list, element 0 on top, and no worker has anything yet.
+/// Makes a pool on words, and its workers, numbered from 1, each with one part of it, and none of whom has
+/// anything yet. The words are those of a new ground (`Ground::make`): all elements are in the common list, element 0 on
+/// top.
 ///
 /// Refused `BadPool` where the limits are out of range, and `OutOfMemory` where memory was refused.
 pub fn make(alloc: Global, limits: &Limits) -> Result<(Ground, Vec<WordWorker>), Refusal>

@@ -85,7 +85,8 @@ impl WordWorker {
     /// Lets the worker do this over the words of its ground, beside others, and answers what came of it. The worker keeps
     /// its number, its part, and its place at the ground.
     ///
-    /// Refused as the act is by `mbuf::acts::perform`.
+    /// Refused as the act is by `mbuf::acts::perform`: all that is the worker's is then as before, but for the free
+    /// elements after a clone.
     pub fn act(&mut self, ground: &Ground, act: Act) -> Reply
         requires of { IsOf ground.now self.old.seat }
         ensures { Acts act self.old result self.new }
@@ -93,8 +94,8 @@ impl WordWorker {
         self.act_in(ground, act)
     }
 
-    /// Does what `act` does, and answers with room for a bulk of `ROOM` packets: with none the answer is small, and
-    /// nothing of a bulk's room is filled.
+    /// Does what `act` does, and answers with room for a bulk of `ROOM` packets, no fewer than a bulk asks for where it
+    /// asks for 256 at most: with none the answer is small, and nothing of a bulk's room is filled.
     pub fn act_in<const ROOM: usize>(&mut self, ground: &Ground, act: Act) -> Answer<ROOM>
         requires room { HasRoom ROOM act }
         requires of { IsOf ground.now self.old.seat }
