@@ -25,7 +25,7 @@ use words::{Answer, Pool};
 /// A name, a snapshot, and what its audit answers.
 type Row = (&'static str, Shown, Result<Places, Fault>);
 
-/// Both are one; else it is told of what, with both.
+/// Asserts that both are equal, and else says of what, with both.
 fn same<T: PartialEq + Debug>(rt: &impl Abort, given: &T, wanted: &T, what: &str) {
     assert!(rt; *given == *wanted, "{what}: {given:?}, not {wanted:?}");
 }
@@ -116,7 +116,7 @@ fn assert_places(rt: &impl Abort, statement: &Statement, places: &Places, name: 
     assert_lists(rt, &statement.held, places.held, name);
 }
 
-/// Whether an audit's answer is the one that is wanted.
+/// Whether an audit's answer is the expected one.
 fn assert_answer(
     rt: &impl Abort,
     answer: Result<Statement, Fault>,

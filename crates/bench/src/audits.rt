@@ -34,7 +34,7 @@ pub fn measure<R: Runtime + AllocGlobal>(
     print_each(rt, name.as_str(), nanos, elements)
 }
 
-/// The least of so many runs of the audit.
+/// The least of this many runs of the audit.
 fn audit_runs<R: Clock + AllocGlobal>(
     rt: &R,
     snapshot: &Snapshot,
@@ -57,7 +57,7 @@ fn audit_runs<R: Clock + AllocGlobal>(
     Ok(least)
 }
 
-/// The least of so many runs of the plain pass, and the sum of all its words.
+/// The least of this many runs of the plain pass, and the sum of all its words.
 fn pass_runs<R: Clock>(
     rt: &R,
     snapshot: &Snapshot,

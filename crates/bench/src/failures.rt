@@ -20,7 +20,7 @@ pub enum Failure {
     Unsettled(Unsettled),
     /// A name or a number of a list isn't one that can be measured.
     NotInList,
-    /// So many elements aren't back in the common list at the end.
+    /// This many elements aren't back in the common list at the end.
     Missing(u64),
     /// A packet wasn't handed over, or didn't come back.
     NotHanded,

@@ -134,7 +134,7 @@ pub fn deposit<R: Wait>(rt: &R, book: &Mutex<Book>, share: Share) -> Result<(), 
     book.lock(rt).deposit(share)
 }
 
-/// So many empty places.
+/// This many empty places.
 fn no_shares(alloc: Global, workers: usize) -> Result<Vec<Option<Share>>, AllocError>
     ensures { IfOk result (λ v. v.items ≡ replicate workers None) }
 {

@@ -154,9 +154,10 @@ IsTakeCause l d NoSuchDesk rs = l.desks ≤ d
 IsTakeCause l d DeskEmpty rs = (d < l.desks) × IsOther desk_full (last_desk d rs)
 IsTakeCause l d _ rs = ⊥
 
--- What was read is a cause of the call's answer: always the last that was read of its kind, which is what an exchange
--- sees. Where the answer is that the call was met, the head wasn't spent, nor was the count, and the desk was as it had
--- to be; a get that was met gives as many as were asked for.
+-- What was read is a cause of the call's answer: always the last that was read of its kind, which
+-- is what an exchange sees. Where the answer is that the call succeeded, the head wasn't spent,
+-- nor was the count, and the desk was as it had to be; a get that succeeded gives as many as were
+-- asked for.
 abbrev pub HasCause : Limits → Call → List Reading → Type 0
 HasCause l (GetList n (Ok xs)) rs = (length xs ≡ n) × IsBelow spent (last_head rs)
 HasCause l (GetList n (Err e)) rs = IsGetCause l n e rs

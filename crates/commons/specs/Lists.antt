@@ -48,7 +48,7 @@ held_count Common = 0
 held_count (Hand v) = 0
 held_count (Held n) = n
 
--- 0 only for a place that an element of a pool of so many workers can't have
+-- 0 only for a place that an element of a pool of this many workers can't have
 abbrev pub weight : ℕ → Place → ℕ
 weight workers Common = 1
 weight workers (Hand zero) = 0
@@ -145,7 +145,7 @@ abbrev pub disowned : ℕ → Option ℕ → Option ℕ
 disowned w None = None
 disowned w (Some v) = if v == w then None else Some v
 
--- the header's owner once a worker has so many holds left
+-- the header's owner once a worker has this many holds left
 abbrev pub owner_left : ℕ → ℕ → Option ℕ → Option ℕ
 owner_left w zero owner = disowned w owner
 owner_left w (suc left) owner = owner

@@ -10,7 +10,7 @@ ghost use Rattle.commons.specs.inside.Site.{HasEnded};
 use crate::packet::Seg;
 use crate::seq::Seq;
 
-/// A header's owner once a worker has so many holds of it left.
+/// A header's owner once a worker has this many holds of it left.
 pub(crate) fn owner_left(owner: Option<u32>, worker: u32, left: u32) -> Option<u32>
     ensures { result ≡ owner_left worker left owner }
 {

@@ -359,7 +359,7 @@ fn downwards(alloc: Global, count: u32) -> Result<Vec<u32>, AllocError>
     Ok(numbers)
 }
 
-/// So many times the same value.
+/// This many times the same value.
 pub(crate) fn copies<T: Copy + Drop>(
     alloc: Global,
     value: T,
@@ -385,7 +385,7 @@ fn no_holds(alloc: Global, workers: usize, population: usize) -> Result<Vec<Seq<
     Ok(rows)
 }
 
-/// So many desks with no packet.
+/// This many desks with no packet.
 fn no_packets(alloc: Global, desks: usize) -> Result<Vec<Option<Packet>>, AllocError>
     ensures { IfOk result (λ packets. packets.items ≡ replicate desks None) }
 {

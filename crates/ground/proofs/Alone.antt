@@ -144,7 +144,7 @@ module _ (w : World) (law : Lawful w) (k : ℕ) where
       omega (arith, below-past w.limits.population i past))
       (cases_lt i w.limits.population)
 
-  -- a desk in work isn't full
+  -- a busy desk isn't full
   in_work : (o : Option Work) → beside.work ≡ o →
       IfSome o (λ x. slice_index_or (lying w.desks) x.desk None ≡ None)
   in_work None e = tt

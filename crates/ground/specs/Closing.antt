@@ -23,7 +23,7 @@ pub record Nothing (v : View) : Type 0 where
   pub chain : v.chain ≡ None
   pub work : v.work ≡ None
 
--- the packet of a full desk: one in work is its worker's
+-- the packet of a full desk: that of a busy one is its worker's
 abbrev pub kept_on : ℕ → Option (List Seg) → Option (List Seg)
 kept_on word slot = if word == desk_full then slot else None
 

@@ -35,13 +35,13 @@ IsSince (Filled p) slot = ⊥
 IsSince (Seized p) slot = IfSome slot (λ q. q ≡ p)
 IsSince TakenOut slot = ⊥
 
--- the slot of a desk in work is out with the seat that has the work, and no other is
+-- the slot of a busy desk is out with the seat that works at it, and no other is
 abbrev pub AtDesk : Option Work → List (ℕ × Option (List Seg)) → Type 0
 AtDesk None slots = slots ≡ []
 AtDesk (Some x) slots =
     (slot : Option (List Seg)) × (slots ≡ (x.desk, slot) ∷ []) × IsSince x.phase slot
 
--- between calls: nothing is reserved, nothing chained, no element has count 0, and no desk is in work
+-- between calls: nothing is reserved, nothing chained, no element has count 0, and no desk is busy
 pub record AtRest (v : View) : Type 0 where
   pub zeros : v.zeros ≡ []
   pub credit : v.credit ≡ 0

@@ -98,10 +98,10 @@ abbrev pub held_below : ℕ → List ℕ → ℕ
 held_below zero xs = 0
 held_below (suc n) xs = held_below n xs + min 1 (bag xs n)
 
--- What may lie on the desks beside a view: on each desk of the pool a packet, or nothing. The packets hold elements of
--- the pool alone, and none that is in the hand; with the view's own holds no element is held more often than the
--- reference limit says; none is an own one of two segments, or of one and a header of the view; and the desk that the
--- view has in work isn't full.
+-- What may lie on the desks beside a view: on each desk of the pool a packet, or nothing. The
+-- packets hold elements of the pool alone, and none that is in the hand; with the view's own holds
+-- no element is held more often than the reference limit says; none is an own one of two segments,
+-- or of one and a header of the view; and the desk that the view works at isn't full.
 pub record MayLie (l : Limits) (v : View) (desks : List (Option (List Seg))) : Type 0 where
   pub as_many : length desks ≡ l.desks
   pub below : (i : ℕ) → l.population ≤ i → held_in desks i ≡ 0

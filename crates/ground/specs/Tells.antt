@@ -48,7 +48,7 @@ abbrev pub IsLater : Bool → Known → ℕ → Type 0
 IsLater true n found = Unit {0}
 IsLater false n found = (found % 65536 < 65535) × (count_of n.view.look < (unpack found).count)
 
--- and the seat hasn't every part
+-- and the seat doesn't have every part
 abbrev pub IsShared : Bool → Known → Type 0
 IsShared true n = Unit {0}
 IsShared false n = n.view.part ≢ n.limits.workers

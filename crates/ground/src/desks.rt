@@ -1,6 +1,7 @@
-//! The six steps of the desks. Each is one atomic operation on one desk's word, or an exchange of what is in its slot, by
-//! one seat, whose view changes as the machine's step says, whatever the other seats do. The slot of a desk is with the
-//! seat that has the desk in work, and so nobody else reads or writes it then.
+//! The six steps of the desks. Each is one atomic operation on one desk's word, or an exchange of
+//! what is in its slot, by one seat, whose view changes as the machine's step says, whatever the
+//! other seats do. The slot of a desk is with the seat that works at the desk, and so nobody else
+//! reads or writes it then.
 
 ghost use Rattle.std.specs.Prelude.{◌≡◌, ◌≢◌, ◌<◌, [], ◌∷◌, ℕ, List, Some, None, IfOk, IfErr};
 ghost use Rattle.commons.specs.Bag.{bag};

@@ -134,8 +134,8 @@ impl Ground {
     }
 }
 
-/// Makes one seat of two, and then reads a word, whatever it is: a view changes at a step alone, and the step tells
-/// what the rule says of the seat that came of both.
+/// Makes one seat of two, and then reads a word, whatever it is: a view changes only at a step,
+/// and the step tells what the rule says of the seat that came of both.
 fn merge(
     shared: &Shared<Option<Packet>, Known, Limits, PoolRule>,
     seat: &mut Seat<Option<Packet>, Known>,

@@ -19,14 +19,14 @@ use step_core::view::Head;
 /// How many words a cache line of 64 bytes has.
 pub(crate) const LINE_WORDS: usize = 8;
 
-/// Where the words stand: the head and the length each on a line, then the links.
+/// Where the words stand: the head and the length each on a cache line, then the links.
 pub(crate) const HEAD: usize = 0;
 
 pub(crate) const LENGTH: usize = LINE_WORDS;
 
 pub(crate) const LINKS: usize = 2 * LINE_WORDS;
 
-/// Where the link of an element stands: behind the lines.
+/// Where the link of an element stands: after these cache lines.
 fn link_word(element: u32) -> usize
     ensures { result ≡ link_word element }
 {

@@ -330,7 +330,8 @@ impl Player {
         sees_all(&self.sees)
     }
 
-    /// Whether the player is between calls: nothing is reserved, nothing chained, and no desk in work.
+    /// Whether the player is between calls: nothing is reserved, nothing chained, and no busy
+    /// desk.
     pub fn is_at_rest(&self) -> bool {
         is_between_calls(&self.view, &self.sees)
     }

@@ -8,10 +8,11 @@ use mbuf::acts::Act;
 pub enum Step {
     /// It does this, and its reply is told.
     Act(Act),
-    /// It makes so many packets one at a time, and it is told how many stood in the slots from 0 on.
+    /// It makes this many packets one at a time, and it is told how many stood in the slots from 0
+    /// on.
     Makes(u32),
-    /// It chains the packets in the slots from 0 on, so many, to the one in slot 0, and it is told
-    /// how many were chained.
+    /// It chains the packets in the slots from 0 on, this many, to the one in slot 0, and it is
+    /// told how many were chained.
     Chains(u32),
     /// The segments of the packet in this slot are told.
     Segs(u32),

@@ -39,7 +39,8 @@ as_reply (reply.Chained segs len) = reply.Chained segs len
 as_reply (reply.Put put) = reply.Put put
 as_reply (reply.Refused cause) = reply.Refused cause
 
--- an answer with this room can tell of the act: where it is a bulk that may be met, of all its packets
+-- an answer with this room can tell of the act: where it is a bulk that may succeed, of all its
+-- packets
 abbrev pub HasRoom : ℕ → Act → Type 0
 HasRoom room (act.AllocBulk n) = n ≤ slots → n ≤ room
 HasRoom room _ = Unit {0}

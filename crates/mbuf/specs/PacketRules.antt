@@ -178,8 +178,8 @@ abbrev pub resize_in : Option (List Seg) → (List Seg → Option (List Seg)) �
 resize_in None change cause slot m = (Err NoSuchPacket, m)
 resize_in (Some segs) change cause slot m = resize_to (change segs) cause slot m
 
--- a change of the lengths of the packet in a slot, which is refused for this cause where the packet hasn't the room
--- or the data
+-- a change of the lengths of the packet in a slot, which is refused for this cause where the
+-- packet doesn't have the room or the data
 abbrev pub resize : (List Seg → Option (List Seg)) → Refusal → ℕ → Member → Result ℕ Refusal × Member
 resize change cause slot m = resize_in (slice_index_or m.table slot None) change cause slot m
 

@@ -67,7 +67,7 @@ pub data Gets (l : Limits) (cache : List ℕ) (n : ℕ) (calls : List Call)
       calls ≡ GetList (n + l.cache - length cache) (Err cause) ∷ GetList n answer ∷ [] →
       left ≡ cache →
       Gets l cache n calls answer left
-  -- no refill can be met, and the stack is asked for n
+  -- no refill can succeed, and the stack is asked for n
   NoRefill :
       0 < n →
       n < l.cache →

@@ -61,7 +61,7 @@ fresh_packet l e = of_one (fresh_seg l e) (omega arith)
 
 -- ---- making packets
 
--- an alloc that is met writes a fresh packet of one segment into its slot, and no desk
+-- an alloc that succeeds writes a fresh packet of one segment into its slot, and no desk
 fill_slot-stand : (slot : ℕ) (m : Member) (s : Shared)
     (r : Result (List ℕ) Refusal × List ℕ × Shared) → r.2.desks ≡ s.desks → ArePlaces m.table →
     ArePlaces s.desks → Stand m.limits (fill_slot slot m r)
@@ -91,7 +91,7 @@ stood-places l (e ∷ es) (slot ∷ free) table a =
     stood-places l es free (set table slot (Some (fresh_seg l e ∷ [])))
     (All-set IsPlace table slot (Some (fresh_seg l e ∷ [])) (fresh_packet l e) a)
 
--- a bulk that is met writes fresh packets into slots, and no desk
+-- a bulk that succeeds writes fresh packets into slots, and no desk
 fill_slots-stand : (free : List ℕ) (m : Member) (s : Shared)
     (r : Result (List ℕ) Refusal × List ℕ × Shared) → r.2.desks ≡ s.desks → ArePlaces m.table →
     ArePlaces s.desks → Stand m.limits (fill_slots free m r)

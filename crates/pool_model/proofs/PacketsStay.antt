@@ -123,7 +123,7 @@ stood-packets l (e ∷ es) (slot ∷ slots) table all =
     let new = Some (fresh_seg l e ∷ []) in
     stood-packets l es slots (set table slot new) (set-packets l.buf table slot new (fresh-packet l e) all)
 
--- a bulk that is met writes fresh packets into slots, and its get writes no desk
+-- a bulk that succeeds writes fresh packets into slots, and its get writes no desk
 fill_slots-stay : (n : ℕ) (slots : List ℕ) (m : Member) (s : Shared) (r : Result (List ℕ) Refusal × List ℕ × Shared) →
     IsGot n m.cache s r → Stay m s (fill_slots slots m r)
 fill_slots-stay n slots m s (Ok es, cache, t) got all =

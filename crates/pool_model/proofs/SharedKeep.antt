@@ -158,8 +158,8 @@ record Follows (from s : Shared) : Type 0 where
 follows_on : (from s t : Shared) → t.desks ≡ s.desks → s.changes ≤ t.changes → Follows from s → Follows from t
 follows_on from s t same more f = record { desks = same ∙ f.desks; changes = omega (arith, more, f.changes) }
 
--- Where each element is that was in so many places, with what was cloned or given up. The desks are as in the state that
--- this began with, and no change of the stack is taken back. The own
+-- Where each element is that was in this many places, with what was cloned or given up. The desks
+-- are as in the state that this began with, and no change of the stack is taken back. The own
 -- elements of what was cloned were in the cache or the common list, where each was so often.
 abbrev NearTo : ℕ → (ℕ → ℕ) → (ℕ → ℕ) → (ℕ → ℕ) → Shared → Cloned → Type 0
 NearTo limit held places had from (Ok new, cache, t) =

@@ -18,8 +18,8 @@ use Rattle.pool_model.specs.CacheModel.{get, flush}
 use Rattle.pool_model.specs.HoldModel.{end_holds}
 use Rattle.pool_model.specs.SharingModel.{attach, clone, count, detach}
 
--- A get of one element fills the slot. (A get that is met gives as many elements as were asked for, so its list
--- isn't empty.)
+-- A get of one element fills the slot. (A get that succeeds gives as many elements as were asked
+-- for, so its list isn't empty.)
 abbrev pub fill_slot : ℕ → Member → Result (List ℕ) Refusal × List ℕ × Shared → Reply × Member × Shared
 fill_slot slot m (Ok [], cache, s) = (reply.Refused NoEntries, m, s)
 fill_slot slot m (Ok (e ∷ _), cache, s) =
@@ -33,13 +33,13 @@ alloc_in (Some slot) m s = fill_slot slot m (get m.limits 1 m.cache s)
 abbrev pub alloc : Member → Shared → Reply × Member × Shared
 alloc m s = alloc_in (free_slot m.table) m s
 
--- a get of several elements fills so many slots
+-- a get of several elements fills this many slots
 abbrev pub fill_slots : List ℕ → Member → Result (List ℕ) Refusal × List ℕ × Shared → Reply × Member × Shared
 fill_slots slots m (Ok es, cache, s) =
     (allocated_bulk (Ok slots) (stood m.limits es slots m.table), record m { cache = cache; table = stood m.limits es slots m.table }, s)
 fill_slots slots m (Err cause, cache, s) = (reply.Refused cause, record m { cache = cache }, s)
 
--- the lowest free slots are filled in the order of the get, where there are so many
+-- the lowest free slots are filled in the order of the get, where there are that many
 abbrev pub alloc_bulk : ℕ → Member → Shared → Reply × Member × Shared
 alloc_bulk n m s =
     if nat_lt (length (free_slots m.table)) n then (reply.Refused PacketsFull, m, s)

@@ -46,7 +46,7 @@ Cloned = Result (List Seg) Refusal × List ℕ × Shared
 abbrev pub give_up : Limits → (ℕ → ℕ) → List ℕ → Refusal → List ℕ → Shared → Cloned
 give_up l held holds cause cache s = let done = end_holds l held holds (freed_nothing, cache, s) in (Err cause, done.1, done.2)
 
--- what follows a get of one element (which gives one, where it is met)
+-- what follows a get of one element (which gives one, where it succeeds)
 abbrev pub with_element : Result (List ℕ) Refusal × List ℕ × Shared → (ℕ → List ℕ → Shared → Cloned) → (Refusal → List ℕ → Shared → Cloned) → Cloned
 with_element (Ok [], cache, s) met refused = refused NoEntries cache s
 with_element (Ok (e ∷ _), cache, s) met refused = met e cache s

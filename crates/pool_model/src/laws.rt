@@ -34,12 +34,13 @@ pub fn the_model_keeps_the_cache_rules()
         Flushes cache calls answer left → Meets s calls t → (answer, left, t) ≡ cache_flush cache s }
 {}
 
-/// A desk gives what was left on it. An offer of a packet on an empty desk of the pool is met. Where an offer is met,
-/// the packet that stood in the slot lies on the desk, and the slot is free. After any acts of any workers that take
-/// nothing off the desk it still lies there. A take off the desk, by whatever worker of the pool, is then met where the
-/// worker has a free slot: it gives the very segments that were offered, into the lowest free slot. Right after the
-/// offer it leaves the stack and all desks as they were before it. To a worker that has no free slot it is refused
-/// `PacketsFull`, and nothing changes.
+/// A desk gives what was left on it. An offer of a packet on an empty desk of the pool succeeds.
+/// Where an offer succeeds, the packet that stood in the slot lies on the desk, and the slot is
+/// free. After any acts of any workers that take nothing off the desk it still lies there. A take
+/// off the desk, by any worker of the pool, then succeeds where the worker has a free slot: it
+/// gives the very segments that were offered, into the lowest free slot. Right after the offer it
+/// leaves the stack and all desks as they were before it. To a worker that has no free slot it is
+/// refused `PacketsFull`, and nothing changes.
 pub fn a_desk_gives_what_was_left_on_it()
     ensures met { (pool : Pool) (worker slot desk : ℕ) (packet : List Seg) → IsInSlot pool worker slot packet →
         desk < length pool.shared.desks → slice_index_or pool.shared.desks desk None ≡ None → (perform pool worker (Offer slot desk)).0 ≡ Offered }

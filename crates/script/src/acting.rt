@@ -87,7 +87,7 @@ fn perform_line<'a, P, A: Actor<P, 0> + Actor<P, SLOTS>, G: Gate>(
     }
 }
 
-/// Does so with room for a bulk of `ROOM` packets in the answer, which is small with none.
+/// Performs a line with room for a bulk of `ROOM` packets in the answer, which is small with none.
 fn perform_line_in<'a, P, A: Actor<P, ROOM>, G: Gate, const ROOM: usize>(
     pool: &P,
     actor: &mut A,

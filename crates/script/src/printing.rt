@@ -112,7 +112,7 @@ fn answer<'a>(
     }
 }
 
-/// Does so with room for a bulk in the answer.
+/// Performs one line with room for a bulk in the answer, and appends the line that answers it.
 fn answer_any<'a>(
     out: &mut Vec<u8>,
     pool: &mut SitePool,
@@ -129,7 +129,8 @@ fn answer_any<'a>(
     }
 }
 
-/// Does so with no room for a bulk in the answer, which is small then.
+/// Performs one line with no room for a bulk in the answer, which is small then, and appends the
+/// line that answers it.
 fn answer_small<'a>(
     out: &mut Vec<u8>,
     pool: &mut SitePool,

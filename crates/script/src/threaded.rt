@@ -29,10 +29,11 @@ pub enum Grounds {
 /// `DeskEmpty` is tried again, up to `turns` tries in all, with a growing pause between; then the refusal stands. The
 /// gate is called around each line, outside any lock.
 ///
-/// Whatever the threads' order was, the statement is, under the lock, that of the reference model after some acts, one
-/// after another, on a new pool of the script's limits; on words, where no act waits for another, it is what a ground of
-/// these limits left, closed by the seats of all its workers, and their caches and packets. That the acts are the
-/// script's lines is shown by tests alone.
+/// Whatever the threads' order was, the statement is, under the lock, that of the reference model
+/// after some acts, one after another, on a new pool of the script's limits; on words, where no
+/// act waits for another, it is what a ground of these limits left, closed by the seats of all its
+/// workers, and their caches and packets. That the acts are the script's lines is shown only by
+/// tests.
 ///
 /// Refused `OutOfMemory` where memory was refused, or under the lock a thread, and for no other cause; the other threads
 /// have ended then. On words the lines of a thread that can't be started are played by the one that would have started

@@ -64,7 +64,7 @@ pub(crate) fn run<G: Gate, R: Threads + Wait + Sync>(
     run_locked::<Brand, G, R>(rt, alloc, script, turns, gate)
 }
 
-/// Does so under a lock whose type knows the script's limits.
+/// Runs the script under a lock whose type knows the script's limits.
 fn run_locked<K: OfLimits + Send + Sync, G: Gate, R: Threads + Wait + Sync>(
     rt: &R,
     alloc: Global,

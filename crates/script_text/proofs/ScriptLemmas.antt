@@ -423,12 +423,12 @@ module _ {C : Type 0} (lexicon : Lexicon C) (right : IsRight lexicon) where
       reached_line bytes h.state h.number h.line h.left h.rest refusals.BadPool h.short h.reached
       (bad_judged h.state h.next h.number h.line h.limits h.reads h.limits_are h.bad)
 
-  -- a refusal for want of memory needs no cause, and each other one is the text's
+  -- a refusal for lack of memory needs no cause, and each other one is the text's
   cause_of : (refusal : Refusal) (bytes : List ℕ) → Fails refusal (read_text lexicon bytes) → IsCause lexicon.language bytes refusal
   cause_of refusals.OutOfMemory bytes h = tt
   cause_of refusal bytes h = cause_from bytes refusal h
 
-  -- a text that can be read is refused for want of memory alone
+  -- a text that can be read is refused for lack of memory alone
   fails_ok : (refusal : Refusal) (state : State C) → Fails refusal (Ok state) → refusal ≡ refusals.OutOfMemory
   fails_ok refusals.OutOfMemory state h = refl
   fails_ok refusal state h = absurd cc
@@ -439,7 +439,7 @@ module _ {C : Type 0} (lexicon : Lexicon C) (right : IsRight lexicon) where
   is_read (Ok script) bytes h = script_from bytes script.limits script.lines h
   is_read (Err refusal) bytes h = tt
 
-  -- a refusal that is given is the one that the text has, or for want of memory
+  -- a refusal that is given is the one that the text has, or for lack of memory
   pub is_caused : (result : Result (Script C) Refusal) (bytes : List ℕ) → Gives result (read_text lexicon bytes) →
       IfErr result (λ refusal. IsCause lexicon.language bytes refusal)
   is_caused (Ok script) bytes h = tt

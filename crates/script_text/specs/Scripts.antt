@@ -78,7 +78,7 @@ module _ {C : Type 0} where
     pub after_is : after ≡ record { limits = Some limits; lines = before.lines }
 
 module _ {C : Type 0} (language : Language C) where
-  -- the words are a line of this worker, in a pool of so many, with this command
+  -- the words are a line of this worker, in a pool of this many workers, with this command
   pub data IsCommandLine (workers : ℕ) (words : List (List ℕ)) (worker : ℕ)
       (command : C) : Type 0 where
     -- a line that names no worker is of the first
@@ -195,7 +195,7 @@ module _ {C : Type 0} (language : Language C) where
     pub limits_are : next.limits ≡ Some limits
     pub bad : IsPool limits → ⊥
 
-  -- why the bytes are refused; of a refusal for want of memory nothing is said, and no other is
+  -- why the bytes are refused; of a refusal for lack of memory nothing is said, and no other is
   -- given
   abbrev pub IsCause : List ℕ → Refusal → Type 0
   IsCause bytes BadPool = HasBadPool bytes

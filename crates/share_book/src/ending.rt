@@ -44,9 +44,9 @@ pub fn settled(alloc: Global, pool: SitePool) -> Result<Statement, Refusal>
     }
 }
 
-/// Settles what a pool within these limits left, when it was closed, with the shares of all its workers. The statement is
-/// the one of the snapshot that they are. Each packet that it lists has 1 to 32 segments, each with its data within its
-/// buffer.
+/// Settles what a pool within these limits left, when it was closed, with the shares of all its
+/// workers. The statement is that of the snapshot that they make. Each packet that it lists has 1
+/// to 32 segments, each with its data within its buffer.
 ///
 /// Refused `OutOfMemory` where memory was refused. Nothing is left of the pool then either.
 pub fn settled_parts(

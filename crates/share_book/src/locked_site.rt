@@ -102,8 +102,9 @@ impl<K: OfLimits> LockedPool<K> {
         }
     }
 
-    /// Takes the lock, lets a worker, numbered from 1, do this as `SitePool::perform` does, and lets the lock go.
-    /// Refused as it is there. What other threads did before isn't known here, so no clause says what was done.
+    /// Takes the lock, lets a worker, numbered from 1, do this as `SitePool::perform` does, and
+    /// releases the lock. Refused as it is there. What other threads did before isn't known here,
+    /// so no clause says what was done.
     pub fn act<R: Wait>(&self, rt: &R, worker: u32, act: Act) -> Reply {
         self.act_in(rt, worker, act)
     }

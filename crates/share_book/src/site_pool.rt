@@ -114,13 +114,13 @@ impl SitePool {
     /// cache's get is: `NoEntries` or `HeadSpent`. An act on a slot that is empty or above 255 is
     /// refused `NoSuchPacket`; else a change of lengths is refused `NoRoom` or `TooShort`, a chain
     /// `SamePacket` or `TooManySegs`, an attach these or `NotDirect`, `InUse` or `RefSpent`, a
-    /// detach `TooManySegs` or `NotIndirect`, a clone as a new packet is or `RefSpent`, and an offer
-    /// `NoSuchDesk` or `DeskTaken`. A take is refused `NoSuchDesk`, `PacketsFull` or `DeskEmpty`.
-    /// Nothing changes then, but that after a refused clone the free elements may stand in another
-    /// order, or be shared out otherwise between cache and stack, and the modification count may be
-    /// higher. A push that the stack refuses is no refusal of a free, a
-    /// detach or a flush: `put_off` and `PutOff` tell of it, and the elements stay in the cache. A
-    /// flush is never refused.
+    /// detach `TooManySegs` or `NotIndirect`, a clone as a new packet is or `RefSpent`, and an
+    /// offer `NoSuchDesk` or `DeskTaken`. A take is refused `NoSuchDesk`, `PacketsFull` or
+    /// `DeskEmpty`. Nothing changes then, but that after a refused clone the free elements may
+    /// stand in another order, or be shared out differently between cache and stack, and the
+    /// modification count may be higher. A push that the stack refuses is not a refusal of a free,
+    /// a detach or a flush: `put_off` and `PutOff` tell of it, and the elements stay in the cache.
+    /// A flush is never refused.
     ///
     /// After rte_mbuf.h, `rte_pktmbuf_alloc`, `rte_pktmbuf_alloc_bulk`, `rte_pktmbuf_free`,
     /// `rte_pktmbuf_append`, `rte_pktmbuf_prepend`, `rte_pktmbuf_adj`, `rte_pktmbuf_trim`,

@@ -11,8 +11,9 @@ use Rattle.pool_model.specs.declared.statement.Statement.{Statement}
 use Rattle.snapshot.specs.declared.snapshot.ShareData.{ShareData}
 use Rattle.snapshot.specs.declared.snapshot.Snapshot.{Snapshot}
 
--- The words that are met from a word on, along these links, so many behind it at most. A word names an element by one
--- more, and none by 0. The way ends at 0, and at a word above the population.
+-- The words that are met from a word on, along these links, this many behind it at most. A word
+-- names an element by one more, and none by 0. The way ends at 0, and at a word above the
+-- population.
 abbrev pub words_from : ℕ → ℕ → List ℕ → ℕ → List ℕ
 words_from most population links zero = zero ∷ []
 words_from zero population links (suc e) = suc e ∷ []

@@ -41,7 +41,8 @@ pub(crate) fn check(alloc: Global, snapshot: &Snapshot, walked: &[u32]) -> Resul
     }
 }
 
-/// The same by the snapshot's tally, whose numbers of holds are exact: packets hold an element fewer than 2^32 times.
+/// Tests the same by the snapshot's tally, whose numbers of holds are exact: packets hold an
+/// element fewer than 2^32 times.
 fn judge(snapshot: &Snapshot, tally: &Tally) -> Result<(), Fault>
     requires pool { IsPool snapshot.now.limits }
     requires counts { length snapshot.now.counts ≡ snapshot.now.limits.population }

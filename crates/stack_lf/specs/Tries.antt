@@ -162,8 +162,8 @@ IsWonPush xs x = (h : Head) × (h.count < spent) × (x ≡ Pushed h xs)
 abbrev pub IsSpent : Try → Type 0
 IsSpent x = (h : Head) × (h.count ≡ spent) × (x ≡ Stopped h)
 
--- The tries of a get of n elements, of at most so many lost ones in each loop, by its answer. What was reserved is
--- added again before each refusal that comes after it.
+-- The tries of a get of n elements, of at most this many lost ones in each loop, by its answer.
+-- What was reserved is added again before each refusal that comes after it.
 abbrev pub IsGet : ℕ → ℕ → Result (List ℕ) Refusal → List Try → Type 0
 IsGet tries n (Ok xs) ts =
     (misses cuts : List Try) × (v : ℕ) × (x : Try)

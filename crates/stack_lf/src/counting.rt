@@ -100,7 +100,8 @@ fn raise_apart(ground: &Ground, seat: &mut GroundSeat, element: u32) -> Result<(
     Err(Refusal::Contended)
 }
 
-/// The same, with a place of its own for the answer, which is filled where a first try was lost alone.
+/// Makes one more hold after a lost try, with a place of its own for the answer, which is filled
+/// only where a first try was lost.
 #[inline(always)]
 fn raise_again(ground: &Ground, seat: &mut GroundSeat, element: u32) -> Result<(), Refusal>
     requires of { IsOf ground.now seat.old }
@@ -138,7 +139,7 @@ fn raise_by_tries(
     }
 }
 
-/// The same, with what the seat's type keeps.
+/// Makes one more hold as `raise_by_tries` does, with what the seat's type keeps.
 #[inline(always)]
 pub(crate) fn raise(
     ground: &Ground,
@@ -179,7 +180,7 @@ fn lower_once(ground: &Ground, seat: &mut GroundSeat, element: u32) -> Lowered
     Lowered::Still
 }
 
-/// The same, with what the seat's type keeps.
+/// Ends one hold as `lower_once` does, with what the seat's type keeps.
 #[inline(always)]
 pub(crate) fn lower(ground: &Ground, seat: &mut GroundSeat, element: u32) -> Lowered
     requires of { IsOf ground.now seat.old }

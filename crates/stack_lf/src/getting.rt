@@ -56,7 +56,8 @@ fn reserve_apart(ground: &Ground, seat: &mut GroundSeat, n: u64) -> Result<(), R
     Err(Refusal::Contended)
 }
 
-/// The same, with a place of its own for the answer, which is filled where a first try was lost alone.
+/// Takes `n` off the length after a lost try, with a place of its own for the answer, which is
+/// filled only where a first try was lost.
 #[inline(always)]
 fn reserve_again(ground: &Ground, seat: &mut GroundSeat, n: u64) -> Result<(), Refusal>
     requires of { IsOf ground.now seat.old }
@@ -163,7 +164,8 @@ fn cut_apart(ground: &Ground, seat: &mut GroundSeat, out: &mut [u32]) -> Result<
     Err(Refusal::Contended)
 }
 
-/// The same, with a place of its own for the answer, which is filled where a first try was lost alone.
+/// Takes elements after a lost try, with a place of its own for the answer, which is filled only
+/// where a first try was lost.
 #[inline(always)]
 fn cut_again(ground: &Ground, seat: &mut GroundSeat, out: &mut [u32]) -> Result<(), Refusal>
     requires of { IsOf ground.now seat.old }
@@ -222,7 +224,7 @@ fn get_or_return(ground: &Ground, seat: &mut GroundSeat, out: &mut [u32]) -> Res
     }
 }
 
-/// The same, with what the seat's type keeps.
+/// Gets a list as `get_or_return` does, with what the seat's type keeps.
 #[inline(always)]
 pub(crate) fn get(ground: &Ground, seat: &mut GroundSeat, out: &mut [u32]) -> Result<(), Refusal>
     requires of { IsOf ground.now seat.old }

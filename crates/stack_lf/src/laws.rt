@@ -16,13 +16,14 @@ pub fn what_was_read_last()
     ensures { AreCauses }
 {}
 
-/// A get that is met has one cut that won, of its whole list; one that is refused has none. What a get has reserved it
-/// has cut, or given back.
+/// A get that succeeds has one cut that won, of its whole list; one that is refused has none. What
+/// a get has reserved it has cut, or given back.
 pub fn one_cut()
     ensures { GetsCutOnce }
 {}
 
-/// A put that is met has one push that won, and raises the length by its list; one that is refused does neither.
+/// A put that succeeds has one push that won, and raises the length by its list; one that is
+/// refused does neither.
 pub fn one_push()
     ensures { PutsPushOnce }
 {}

@@ -82,7 +82,8 @@ fn push_apart(ground: &Ground, seat: &mut GroundSeat, list: &[u32]) -> Result<()
     Err(Refusal::Contended)
 }
 
-/// The same, with a place of its own for the answer, which is filled where a first try was lost alone.
+/// Puts a list onto the stack after a lost try, with a place of its own for the answer, which is
+/// filled only where a first try was lost.
 #[inline(always)]
 fn push_again(ground: &Ground, seat: &mut GroundSeat, list: &[u32]) -> Result<(), Refusal>
     requires of { IsOf ground.now seat.old }
@@ -136,7 +137,7 @@ fn push_and_add(ground: &Ground, seat: &mut GroundSeat, list: &[u32]) -> Result<
     }
 }
 
-/// The same, with what the seat's type keeps.
+/// Puts a list as `push_and_add` does, with what the seat's type keeps.
 #[inline(always)]
 pub(crate) fn put(ground: &Ground, seat: &mut GroundSeat, list: &[u32]) -> Result<(), Refusal>
     requires of { IsOf ground.now seat.old }

@@ -61,9 +61,10 @@ impl<'a> WordCommons<'a> {
     }
 }
 
-/// Each call takes as many steps at most as is said here, each one atomic operation on one word; an offer and a take that
-/// are met exchange besides what is in the desk's slot. The length of a list is `n`. A seat of every part is never
-/// refused `Contended` on a put, nor, in a pool without desks, on a get and a raise.
+/// Each call takes as many steps at most as is said here, each one atomic operation on one word;
+/// an offer and a take that succeed also exchange what is in the desk's slot. The length of a list
+/// is `n`. A seat of every part is never refused `Contended` on a put, nor, in a pool without
+/// desks, on a get and a raise.
 impl<'a> Commons for WordCommons<'a> {
     ghost side = { λ c. side_of c.seat };
 

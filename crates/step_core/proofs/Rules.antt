@@ -72,7 +72,7 @@ pub record BoardLaw (w : World) : Type 0 where
   pub full : (d : ℕ) → (desk_at w.desks d).word ≡ 2 → (p : Packet) × ((desk_at w.desks d).slot ≡ Some p)
   pub views : (k : ℕ) → (view_at w.views k).part ≡ 0 → (view_at w.views k).work ≡ None
 
--- the slot of a desk in work is as its worker left it
+-- the slot of a busy desk is as its worker left it
 pub record SlotLaw (w : World) : Type 0 where
   pub slots : (k : ℕ) → IfSome (view_at w.views k).work (λ x. (desk_at w.desks x.desk).slot ≡ left_in x.phase)
 

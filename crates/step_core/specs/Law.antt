@@ -52,7 +52,7 @@ is_filling (Filled p) = true
 is_filling (Seized p) = false
 is_filling TakenOut = false
 
--- what the slot of a desk in work has
+-- what the slot of a busy desk has
 abbrev pub left_in : Phase → Option Packet
 left_in ToFill = None
 left_in (Filled p) = Some p

@@ -105,7 +105,7 @@ push_view v c count = record v {
 abbrev pub lost_push : View → ℕ → View
 lost_push v count = record v { look = None; seen = count; chain = None }
 
--- the link value of an element, or of none, where that is of a pool of so many
+-- the link value of an element, or of none, where that is of a pool of this many elements
 abbrev pub LinkOf : ℕ → Option ℕ → Option ℕ → Type 0
 LinkOf population next None = population < link_value next
 LinkOf population next (Some link) = (link ≡ link_value next) × (link ≤ population)
@@ -155,7 +155,7 @@ was_reset v i = record v { hand = v.hand ++ i ∷ []; zeros = without i v.zeros 
 abbrev pub at_desk : ℕ → Phase → Option Work
 at_desk d phase = Some (record { desk = d; phase = phase })
 
--- how far the worker is with desk d, if that is its work
+-- how far the worker is with desk d, if it works at that
 abbrev pub phase_at : ℕ → Option Work → Option Phase
 phase_at d None = None
 phase_at d (Some x) = if x.desk == d then Some x.phase else None

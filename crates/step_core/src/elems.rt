@@ -147,7 +147,7 @@ impl Elems {
         times
     }
 
-    /// Drops all elements but so many at the front.
+    /// Drops all elements but this many at the front.
     pub fn truncate(&mut self, count: usize)
         ensures { self.new ≡ take count self.old }
     {

@@ -37,9 +37,9 @@ pub fn a_lawful_world_shows_a_table()
     ensures { LawfulShows }
 {}
 
-/// Every schedule that is played from a world of a pool, by whichever workers and however long: at each step the world
-/// is lawful and shows a table, and the next table follows by the step's one event, by the worker that steps, or is the
-/// same.
+/// Every schedule that is played from a world of a pool, by any workers and however long: at each
+/// step the world is lawful and shows a table, and the next table follows by the step's one event,
+/// by the worker that steps, or is the same.
 pub fn every_schedule_walks()
     ensures { EveryScheduleWalks }
 {}
@@ -84,8 +84,8 @@ pub fn headers_are_kept()
     ensures schedules { SchedulesKeepHeaders }
 {}
 
-/// Over every schedule, by whichever workers and however long, a `TakeOut` gives the packet that
-/// the last `PutIn` brought to its desk; where there was none, the one that was in the slot before.
+/// Over every schedule, by any workers and however long, a `TakeOut` gives the packet that the
+/// last `PutIn` brought to its desk; where there was none, the one that was in the slot before.
 pub fn a_desk_gives_what_was_put_in()
     ensures { GivesWhatWasPutIn }
 {}

@@ -1,4 +1,4 @@
-//! What the words are, and what each worker has seen.
+//! What the words are, and each worker's view: what it has and knows of them.
 
 ghost use Rattle.std.specs.Prelude.{◌≡◌, ◌==◌, ◌+◌, ◌^◌, suc, Some, None, ◌<◌, ◌≤◌, All, IfOk, IfSome, OnOk, OnErr, MatchOption, length};
 ghost use Rattle.commons.specs.Calls.{spent};
@@ -48,7 +48,7 @@ pub enum Phase {
     TakenOut,
 }
 
-/// The desk that a worker has in work.
+/// The desk that a worker works at.
 #[derive(Debug, Drop)]
 pub struct Work {
     pub desk: u32,
@@ -188,7 +188,7 @@ impl View {
         Ok(front)
     }
 
-    /// How far the worker is with this desk, if that is its work.
+    /// How far the worker is with this desk, if it works at that.
     pub fn phase_at(&self, desk: u32) -> Option<&Phase>
         ensures { MatchOption result (phase_at desk self.now.work ≡ None) (λ phase. phase_at desk self.now.work ≡ Some phase.now) }
     {
@@ -251,8 +251,8 @@ impl View {
         Ok(())
     }
 
-    /// Gives away the holds of a packet. Its own elements are headers no more, and neither is what
-    /// is held no more.
+    /// Gives away the holds of a packet. Its own elements are no longer headers, nor is what is no
+    /// longer held.
     pub fn open(&mut self, packet: &Packet)
         ensures { self.new ≡ opened self.old packet.now }
     {

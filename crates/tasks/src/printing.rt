@@ -84,9 +84,10 @@ pub fn print_or_tell<R: Threads + Wait + Sync, S: Scripts, O: Write, E: Write>(
 
 /// What is printed of the script that a request names.
 ///
-/// `Unreadable` where the reading failed but for memory, `Fault` with `OutOfMemory` where memory was refused, else
-/// `Fault` where the bytes are no script (`ScriptFault`), where no pool can be made within the script's limits
-/// (`BadPool`), or of a run under the lock where a thread was refused (`OutOfMemory`).
+/// `Unreadable` where the reading failed but for memory, `Fault` with `OutOfMemory` where memory
+/// was refused, else `Fault` where the bytes aren't a script (`ScriptFault`), where no pool can be
+/// made within the script's limits (`BadPool`), or of a run under the lock where a thread was
+/// refused (`OutOfMemory`).
 pub fn printed<'a, R: Threads + Wait + Sync, S: Scripts>(
     rt: &R,
     alloc: Global,

@@ -13,8 +13,9 @@ use std::thread::Threads;
 
 /// What is printed of these bytes for a task.
 ///
-/// `ScriptFault` where they are no script, `BadPool` where no pool can be made within the script's limits, and
-/// `OutOfMemory` where memory was refused, or of a run under the lock a thread.
+/// `ScriptFault` where they aren't a script, `BadPool` where no pool can be made within the
+/// script's limits, and `OutOfMemory` where memory was refused, or of a run under the lock a
+/// thread.
 pub fn done<R: Threads + Wait + Sync>(
     rt: &R,
     alloc: Global,

@@ -21,7 +21,7 @@ pub struct Turns {
 }
 
 impl Turns {
-    /// So many turns, if they are any.
+    /// This many turns, if they are any.
     pub fn new(count: u32) -> Option<Turns>
         ensures { MatchOption result (count ≡ 0) (λ turns. turns.count ≡ count) }
     {

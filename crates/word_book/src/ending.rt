@@ -62,9 +62,9 @@ pub fn settled(
     }
 }
 
-/// Settles what a ground of these limits left with the shares of all its workers. The statement is the one of the
-/// snapshot that they are. Each packet that it lists has 1 to 32 segments, each with its data within its buffer, and no
-/// count is above the reference limit.
+/// Settles what a ground of these limits left with the shares of all its workers. The statement is
+/// that of the snapshot that they make. Each packet that it lists has 1 to 32 segments, each with
+/// its data within its buffer, and no count is above the reference limit.
 ///
 /// Refused `OutOfMemory` where memory was refused. Nothing is left of the pool then either.
 pub fn settled_parts(

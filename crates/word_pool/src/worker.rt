@@ -19,7 +19,7 @@ use std::marker::Model;
 /// A worker of a pool on words: its seat, its cache and its packets, which are its own. It can be sent to a thread. One
 /// that is dropped has died: what it has is lost to the pool.
 pub struct WordWorker {
-    /// There is none within an act alone.
+    /// It is missing only within an act.
     seat: Option<GroundSeat>,
     packets: Packets,
 }

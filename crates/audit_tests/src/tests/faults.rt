@@ -247,7 +247,7 @@ pub(super) const WALKS: &[Row] = &[
     ),
 ];
 
-/// Elements that the pool doesn't have, and what is no packet.
+/// Elements that the pool doesn't have, and what isn't a packet.
 pub(super) const PACKETS: &[Row] = &[
     (
         "a stranger in the last cache",

@@ -104,7 +104,10 @@ pub fn serve<R: Clock, H: Hands>(rt: &R, hands: &mut H, span: &Span) -> Result<T
     whole(tally, ended && freed)
 }
 
-/// The same by one worker alone, on one desk.
+/// What a worker does alone, on one desk: it makes the packet, and offers and takes it for so
+/// long.
+///
+/// `NotHanded` where the packet was refused, or didn't come back.
 pub fn alone<R: Clock, H: Hands>(rt: &R, hands: &mut H, span: &Span) -> Result<Tally, Failure> {
     if !hands.make_packet() {
         return Err(Failure::NotHanded);

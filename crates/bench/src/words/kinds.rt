@@ -24,7 +24,7 @@ pub enum Kind {
     Bulk,
     /// 240 allocs, and then the frees, the oldest packet first.
     Kept,
-    /// A clone of a packet of so many segments, and its free.
+    /// A clone of a packet of this many segments, and its free.
     Clone(u32),
 }
 

@@ -10,7 +10,7 @@ const READY: u64 = 20_000_000;
 
 /// Rounds that a thread does again and again.
 pub trait Rounds {
-    /// Does so many rounds, and answers how many elements were refused.
+    /// Does this many rounds, and answers how many elements were refused.
     fn rounds(&mut self, count: u64) -> u64;
 }
 

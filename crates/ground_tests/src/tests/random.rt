@@ -163,7 +163,7 @@ fn raise_of(world: &World, view: &View, draws: &mut Draws) -> Option<Act> {
     Some(Act::Raise(u64::from(element), u64::from(*count) + draws.below(2)))
 }
 
-/// A packet of a header, and of another element that is held or of none, for the desk in work.
+/// A packet of a header, and of another element that is held or of none, for the busy desk.
 fn put_in_of(view: &View, draws: &mut Draws) -> Option<Act> {
     let work = view.work.as_ref()?;
     let element = draws.pick(&view.headers)?;
@@ -171,7 +171,7 @@ fn put_in_of(view: &View, draws: &mut Draws) -> Option<Act> {
     Some(Act::PutIn(work.desk, element, base))
 }
 
-/// The next step of a worker on the desk in work, once it is begun.
+/// The next step of a worker on the busy desk, once it is begun.
 fn desk_of(kind: Act, work: &Work) -> Option<Act> {
     match (kind, &work.phase) {
         (Act::Open(_), Phase::Filled(_)) => Some(Act::Open(work.desk)),
@@ -246,7 +246,8 @@ fn drawn_kind(world: &World, draws: &mut Draws) -> (usize, u32, Act) {
     (kind, worker, any_act(KINDS[kind], draws))
 }
 
-/// The same, but that a worker which has seized a desk takes the packet out, since a player does nothing else then.
+/// Draws a worker and an act so, but that a worker which has seized a desk takes the packet out,
+/// since a player does nothing else then.
 fn drawn_act(world: &World, draws: &mut Draws) -> (usize, u32, Act) {
     let (kind, worker, act) = drawn_kind(world, draws);
     match view_of(world, worker).and_then(seized_desk) {

@@ -51,8 +51,9 @@ impl Packets {
     /// is indirect, `InUse` where a count other than 1 was read of its element, and `RefSpent` or
     /// `Contended` as the raise of the buffer's count is. Nothing changes then.
     ///
-    /// After rte_mbuf.h, `rte_pktmbuf_attach` (DPDK 21.11), which asserts that the packet to attach is
-    /// direct and its count is 1, in builds with `RTE_ENABLE_ASSERT` alone, and asks nothing else.
+    /// After rte_mbuf.h, `rte_pktmbuf_attach` (DPDK 21.11), which asserts that the packet to
+    /// attach is direct and its count is 1, only in builds with `RTE_ENABLE_ASSERT`, and asks
+    /// nothing else.
     pub fn attach<C: Commons>(&mut self, c: &mut C, mi: Pid, target: Pid) -> Result<(), Refusal>
         requires own { Own self.old (C.side c.old) }
         ensures calls { Calls C.did C.side c.old c.new (λ calls.
@@ -112,8 +113,8 @@ impl Packets {
     /// Refused `NoSuchPacket` where no packet stands there, `PacketsFull` where no slot is free,
     /// else as the first get or raise is that is refused: `NoEntries`, `Contended`, `HeadSpent` or
     /// `RefSpent`. The clones so far are then freed in order, then an element that was got and not
-    /// attached is put back; packets, holds and headers are as before, and so are the free elements,
-    /// though cache and stack may share them out otherwise.
+    /// attached is put back; packets, holds and headers are as before, and so are the free
+    /// elements, though cache and stack may share them out differently.
     ///
     /// After rte_mbuf.h, `rte_pktmbuf_clone` (DPDK 21.11).
     pub fn clone_packet<C: Commons>(&mut self, c: &mut C, p: Pid) -> Result<Pid, Refusal>

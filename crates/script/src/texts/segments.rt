@@ -57,7 +57,7 @@ fn write_segments(out: &mut Vec<u8>, segs: &[Seg]) -> io::Result<()>
     writeln!(out)
 }
 
-/// How long the data of these segments is. A sum of so many lengths fits 128 bits.
+/// How long the data of these segments is. A sum of this many lengths fits 128 bits.
 fn data_len(segs: &[Seg]) -> u128
     ensures { result ≡ pkt_len segs.now }
 {

@@ -189,7 +189,7 @@ settings_from settings (key ∷ []) = None
 settings_from settings (key ∷ number ∷ words) =
     option_and_then (λ more. settings_from more words) (add_pair settings key number)
 
--- the limits of a pool of so many elements with these settings
+-- the limits of a pool of this many elements with these settings
 abbrev pub limits_by : ℕ → Settings → Limits
 limits_by population settings = record {
   population = population;

@@ -9,8 +9,9 @@ use commons::shared::Commons;
 use crossbeam_utils::Backoff;
 use stack_lf::words::WordCommons;
 
-/// How often a worker tries to leave a packet on a desk, or to take one off, while another is in its way: for longer than a
-/// test may run, since beside other work the other's thread may begin late.
+/// How often a worker tries to leave a packet on a desk, or to take one off, while another is in
+/// its way: for longer than a test may run, since on a loaded machine the other's thread may begin
+/// late.
 const TRIES: u32 = 100_000_000;
 
 /// The most bytes of data in a buffer of 2,048 behind a headroom of 128.
@@ -24,8 +25,9 @@ pub(super) fn nothing(c: &WordCommons) -> Option<Packet>
     None
 }
 
-/// Makes a packet of one element, with so many bytes of data, and carries it instead of what was carried. Refused
-/// `NoRoom` where the buffer has no room for so many, and as the get is; the worker carries on what it had then.
+/// Makes a packet of one element, with this many bytes of data, and carries it instead of what was
+/// carried. Refused `NoRoom` where the buffer has no room for that many, and as the get is; the
+/// worker carries on what it had then.
 pub(super) fn make(
     c: &mut WordCommons,
     carried: &mut Option<Packet>,

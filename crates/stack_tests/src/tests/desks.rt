@@ -200,7 +200,7 @@ fn follow_all<R: Abort>(
     (carried, others)
 }
 
-/// The first elements of these packets besides.
+/// Adds the first elements of these packets.
 fn add_elements(elements: &mut Vec<u32>, packets: &[Option<Packet>]) -> Result<(), AllocError> {
     for packet in packets {
         if let Some(seg) = first_seg(packet) {

@@ -36,7 +36,7 @@ pub(super) fn assert_end<R: Abort>(rt: &R, world: &World, end: &End, name: &str)
     }
 }
 
-/// Whether the head and the length word are so, and there are so many views and desks.
+/// Whether the head and the length word are so, and there are this many views and desks.
 fn assert_words<R: Abort>(rt: &R, world: &World, end: &End, name: &str) {
     let head = world.head();
     let sizes = (world.views().len(), world.desks().len());

@@ -127,7 +127,7 @@ pub(super) fn free(ground: &Ground, worker: &mut WordWorker, tally: &mut Tally, 
     }
 }
 
-/// The same, where there is such a slot.
+/// Lets a worker free the packet in a slot, where there is such a slot.
 pub(super) fn free_any(
     ground: &Ground,
     worker: &mut WordWorker,

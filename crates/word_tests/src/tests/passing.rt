@@ -136,7 +136,7 @@ fn pass(ground: &Ground, worker: &mut WordWorker, tally: &mut Tally, own: Pid, a
     }
 }
 
-/// Passes packets, unless so many calls are made already.
+/// Passes packets, unless this many calls are made already.
 fn pass_if(ground: &Ground, worker: &mut WordWorker, tally: &mut Tally, own: Pid, at: u64)
     requires of { IsOf ground.now worker.old.seat }
     ensures of { IsOf ground.now worker.new.seat }
@@ -147,7 +147,7 @@ fn pass_if(ground: &Ground, worker: &mut WordWorker, tally: &mut Tally, own: Pid
     }
 }
 
-/// Passes packets until so many calls are made.
+/// Passes packets until this many calls are made.
 fn pass_on(ground: &Ground, worker: &mut WordWorker, tally: &mut Tally, own: Pid, number: usize)
     requires of { IsOf ground.now worker.old.seat }
     ensures of { IsOf ground.now worker.new.seat }

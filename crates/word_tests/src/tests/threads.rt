@@ -66,7 +66,7 @@ fn round(ground: &Ground, worker: &mut WordWorker, tally: &mut Tally)
     }
 }
 
-/// So many rounds of one worker.
+/// This many rounds of one worker.
 fn rounds(ground: &Ground, worker: &mut WordWorker, tallies: &Tallies, times: u32)
     requires of { IsOf ground.now worker.old.seat }
     ensures stays { Stays worker.old worker.new }
@@ -114,7 +114,7 @@ fn ended<R: Threads + Sync>(
     pool::settled(alloc, ground, workers)
 }
 
-/// No call was refused for another cause, and at least so many packets were made.
+/// No call was refused for another cause, and at least this many packets were made.
 fn assert_told<R: Abort>(rt: &R, told: &Tally, times: u32, name: &str) {
     let enough = told.made >= u64::from(times);
     let wanted = ("wrong, made", 0, told.made, true);
