@@ -30,7 +30,8 @@ fn same<T: PartialEq + Debug>(rt: &impl Abort, given: &T, wanted: &T, what: &str
     assert!(rt; *given == *wanted, "{what}: {given:?}, not {wanted:?}");
 }
 
-/// What the audit answers for a row's snapshot, where one word may be another; `BadShape` where no pool has its limits.
+/// What the audit answers for a row's snapshot, where one word may be another; `BadShape` where no
+/// pool has its limits.
 fn audited(alloc: Global, shown: &Shown, other: Option<(Word, u32)>) -> Result<Statement, Fault> {
     if shown.limits.check().is_err() {
         return Err(Fault::BadShape);

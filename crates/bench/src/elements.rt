@@ -1,4 +1,5 @@
-//! A get of n elements and the put of the same list: by a worker's cache, and by the stack calls alone.
+//! A get of n elements and the put of the same list: by a worker's cache, and by the stack calls
+//! alone.
 ghost use Rattle.std.specs.Prelude.{◌≡◌, ◌≤◌, ℕ};
 ghost use Rattle.commons.specs.Bag.{bag};
 

@@ -1,4 +1,5 @@
-//! The end of a large pool: it is closed, the shares of its workers are put in a book, and the book is settled.
+//! The end of a large pool: it is closed, the shares of its workers are put in a book, and the
+//! book is settled.
 
 ghost use Rattle.std.specs.Prelude.{◌≡◌, map};
 ghost use Rattle.std.specs.List.{range_with_len};

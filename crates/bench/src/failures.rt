@@ -44,7 +44,8 @@ impl From<AllocError> for Failure {
     }
 }
 
-/// Tells of a failure, and gives its status: 2 for a list that names what can't be measured, else 1.
+/// Tells of a failure, and gives its status: 2 for a list that names what can't be measured,
+/// else 1.
 pub fn tell<R: Eprint>(rt: &R, failure: &Failure) -> u8 {
     let (told, status) = match failure {
         Failure::System(error) => (rt.eprintln(format_args!("bench: {error}")), 1),

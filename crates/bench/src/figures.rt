@@ -1,4 +1,4 @@
-//! How a run is timed, and how a figure is told.
+//! How a run is timed, and how a figure is printed.
 
 use crate::failures::Failure;
 use std::fmt;

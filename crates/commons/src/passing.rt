@@ -68,7 +68,7 @@ fn add_hold(row: &mut Seq<u32>, element: usize)
 }
 
 /// Ends one hold by a worker of each element that a packet holds, in the worker's row; what the
-/// worker then doesn't hold is its header no more.
+/// worker then doesn't hold is no longer its header.
 pub(crate) fn end_holds(
     row: &mut Seq<u32>,
     headers: &mut Vec<Option<u32>>,

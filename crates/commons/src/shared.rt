@@ -15,8 +15,9 @@ use crate::refusal::{Lowered, Refusal};
 /// headers are elements that it holds, each a packet's own mbuf: those that it claimed, or that
 /// came as own elements of a packet, until it offers their packet or its last hold of them ends.
 ///
-/// Each answer has its cause in the last that the call read of the kind. Where a call changes a word
-/// by an exchange, that is the value which the exchange saw, so that it costs nothing to know.
+/// Each answer has its cause in the last that the call read of the kind. Where a call changes a
+/// word by an exchange, that is the value which the exchange saw, so that it costs nothing to
+/// know.
 pub trait Commons {
     /// What the worker has of the pool: its limits, and the worker's hand, holds and headers.
     ghost side: { Self → Side };
@@ -59,9 +60,9 @@ pub trait Commons {
         requires { 0 < (side self.old).hand element }
         ensures did { Did did side self.old (Claim element) self.new };
 
-    /// The reference count of an element that this worker holds, as read at one moment of the call:
-    /// the number of holds of all holders, at least the worker's own and at most the pool's reference
-    /// limit. 1 says that there is no other hold.
+    /// The reference count of an element that this worker holds, as read at one moment of the
+    /// call: the number of holds of all holders, at least the worker's own and at most the pool's
+    /// reference limit. 1 says that there is no other hold.
     ///
     /// After rte_mbuf.h, `rte_mbuf_refcnt_read` (DPDK 21.11).
     fn count(&mut self, element: u32) -> u32
@@ -74,8 +75,8 @@ pub trait Commons {
     /// reference limit, and `Contended` after `tries` lost tries. Hand, holds and headers are then
     /// as before. Where the raise succeeds, the last count read is below the limit.
     ///
-    /// After rte_mbuf.h, `rte_mbuf_refcnt_update` (DPDK 21.11), which knows no limit. `RefSpent` and
-    /// `Contended` are our own.
+    /// After rte_mbuf.h, `rte_mbuf_refcnt_update` (DPDK 21.11), which knows no limit. `RefSpent`
+    /// and `Contended` are our own.
     fn raise(&mut self, element: u32) -> Result<(), Refusal>
         requires { 0 < (side self.old).holds element }
         ensures did { Did did side self.old (Raise element result) self.new };
@@ -120,8 +121,9 @@ pub trait Commons {
     fn take(&mut self, desk: u32) -> Result<Packet, Refusal>
         ensures did { Did did side self.old (Take desk result) self.new };
 
-    /// The length word of the common stack, as read at one moment of the call. While another worker is
-    /// within a call it may lag behind the stack itself; on the lists it is the list's length.
+    /// The length word of the common stack, as read at one moment of the call. While another
+    /// worker is within a call it may lag behind the stack itself; on the lists it is the list's
+    /// length.
     ///
     /// After rte_stack_lf_generic.h, `__rte_stack_lf_count` (DPDK 21.11).
     fn common_count(&mut self) -> u32

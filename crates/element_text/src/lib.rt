@@ -19,7 +19,7 @@ pub fn write_elements(out: &mut Vec<u8>, elements: &[u32]) -> io::Result<()>
     writeln!(out)
 }
 
-/// Appends each element behind a space.
+/// Appends each element after a space.
 ///
 /// Answers an error where there is no room for it; part of it may then be written.
 pub fn write_joined(out: &mut Vec<u8>, elements: &[u32]) -> io::Result<()>

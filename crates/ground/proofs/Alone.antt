@@ -1,4 +1,5 @@
--- Where one seat has every part, no other view names anything, and so the seat knows the length of the common list.
+-- Where one seat has every part, no other view names anything, and so the seat knows the length of
+-- the common list.
 use Rattle.std.proofs.Common.{◌≡◌, ◌≢◌, ℕ, zero, suc, ◌+◌, ◌<◌, ◌≤◌, Bool, true, false, List, [], ◌∷◌, ◌++◌, Option, Some, None}
 use Rattle.std.proofs.Common.{length, set, refl, sym, ap, ◌∙◌, subst, ⊎_elim, arith, length-append, eq-eqb, ne_eqb}
 use Rattle.std.specs.Prelude.{sum_by, IfSome, flat_map, map, not, slice_index_or, ◌&&◌, ◌==◌, if◌then◌else◌}

@@ -36,8 +36,8 @@ IsKept words slots kept =
 abbrev pub packet_on : Desk → Option (List Seg)
 packet_on x = kept_on x.word x.slot
 
--- What is left is of a lawful world of these limits, in which this view is a worker's. Where it has every part, no
--- other view names anything.
+-- What is left is of a lawful world of these limits, in which this view is a worker's. Where it
+-- has every part, no other view names anything.
 pub record LeftOf (l : Limits) (v : View) (c : Closed) : Type 0 where
   pub world : World
   pub id : ℕ

@@ -13,7 +13,8 @@ use Rattle.step_core.specs.Links.{first_value}
 pub record Owned (l : Limits) (v : View) : Type 0 where
   pub pool : IsPool l
   pub busy : 0 < v.part
-  -- an element of the pool is in the hand, or of count 0 for the moment, at most once, and no other element is
+  -- an element of the pool is in the hand, or of count 0 for the moment, at most once, and no
+  -- other element is
   pub hand_once : (i : ℕ) → bag v.hand i + bag v.zeros i ≤ 1
   pub hand_below : (i : ℕ) → l.population ≤ i → bag v.hand i + bag v.zeros i ≡ 0
   -- an element that is held is one of the pool's, and isn't in the hand
@@ -27,8 +28,8 @@ pub record Owned (l : Limits) (v : View) : Type 0 where
   pub chain :
       IfSome v.chain (λ c. (c.end ≤ l.population) × (first_value c.items ≤ l.population))
 
--- What a word step leaves of a work, and what its slot may hold since: it is to be filled, with whatever, or was seized
--- with a packet, and has that one or none.
+-- What a word step leaves of a work, and what its slot may hold since: it is to be filled, with
+-- whatever, or was seized with a packet, and has that one or none.
 abbrev pub IsSince : Phase → Option (List Seg) → Type 0
 IsSince ToFill slot = ⊤
 IsSince (Filled p) slot = ⊥

@@ -24,7 +24,8 @@ noted st o m = (
   m.1,
 )
 
--- a step tells what it made of the seat, what is true of the new view by itself, and where the slots are
+-- a step tells what it made of the seat, what is true of the new view by itself, and where the
+-- slots are
 abbrev pub Tells : Step → Outcome → Sat → Sat → Type 0
 Tells st o m m' =
     (m' ≡ noted st o m) × Owned m.0.limits (view_after None st o m.0.view)

@@ -22,7 +22,7 @@ use crate::stack::LINKS;
 use commons::packet::Packet;
 
 impl Ground {
-    /// Where the word of a desk stands: behind the counts.
+    /// Where the word of a desk stands: after the counts.
     fn desk_word(&self, desk: u32) -> usize
         requires { desk < self.now.limits.desks }
         ensures { result ≡ desk_word self.now.limits.population desk }
@@ -30,7 +30,8 @@ impl Ground {
         LINKS + 2 * self.limits.population as usize + desk as usize
     }
 
-    /// Begins to fill a desk, where its word is 0. Else answers what it is, and nothing has changed.
+    /// Begins to fill a desk, where its word is 0. Else answers what it is, and nothing has
+    /// changed.
     pub fn hold(&self, seat: &mut GroundSeat, desk: u32) -> Result<(), u64>
         requires of { IsOf self.now seat.old }
         requires desk { desk < self.now.limits.desks }
@@ -61,7 +62,8 @@ impl Ground {
         drop(before);
     }
 
-    /// Makes the desk that the seat has filled full: stores 2 in its word. The packet's holds and headers go with it.
+    /// Makes the desk that the seat has filled full: stores 2 in its word. The packet's holds and
+    /// headers go with it.
     pub fn open(&self, seat: &mut GroundSeat, desk: u32)
         requires of { IsOf self.now seat.old }
         requires desk { desk < self.now.limits.desks }
@@ -75,8 +77,8 @@ impl Ground {
             .store::<OpensDesk>(&mut seat.seat, word, 2);
     }
 
-    /// Begins to empty a desk, where its word is 2: its packet's holds and headers are the seat's. Else answers what it
-    /// is, and nothing has changed.
+    /// Begins to empty a desk, where its word is 2: its packet's holds and headers are the seat's.
+    /// Else answers what it is, and nothing has changed.
     pub fn seize(&self, seat: &mut GroundSeat, desk: u32) -> Result<(), u64>
         requires of { IsOf self.now seat.old }
         requires desk { desk < self.now.limits.desks }

@@ -40,7 +40,8 @@ impl GroundSeat {
         let _ = &self.seat;
     }
 
-    /// Ends the seat of a worker that has died, and gives nothing back: what it has stays where it is.
+    /// Ends the seat of a worker that has died, and gives nothing back: what it has stays where it
+    /// is.
     pub fn lose(self) {
         let GroundSeat { seat } = self;
         drop(seat);

@@ -246,8 +246,8 @@ pub(crate) fn take_out(
     Ok(Outcome::Found(packet))
 }
 
-/// Takes what was taken out into the view, or changes nothing where memory is refused. Answers the desk that the player
-/// has seized and not emptied, if there is one.
+/// Takes what was taken out into the view, or changes nothing where memory is refused. Answers the
+/// desk that the player has seized and not emptied, if there is one.
 pub(crate) fn see(
     view: &mut View,
     slot: &mut Option<Packet>,

@@ -54,7 +54,7 @@ fn repeated(packets: &mut Packets, c: &mut PlainCommons, count: u32, chains: boo
     done
 }
 
-// A reply as text. Of a bulk of more than 8 packets the number alone is told.
+// A reply as text. Of a bulk of more than 8 packets only the number is reported.
 fn told(alloc: Global, reply: Reply) -> Result<String, Fail> {
     match &reply {
         Reply::Bulk(list) if list.len() > 8 => Ok(format!(in alloc; "{} packets", list.len())?),
@@ -126,7 +126,7 @@ fn differs(
     Ok(None)
 }
 
-// Whether these elements are held so often in turn, 0 for one in the common list, and all behind
+// Whether these elements are held so often in turn, 0 for one in the common list, and all after
 // them are in the common list.
 fn are_held(site: &PlainSite, counts: &[u32]) -> bool {
     let mut same = true;

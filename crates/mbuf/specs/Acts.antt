@@ -114,8 +114,8 @@ abbrev pub told_count : Result ℕ Refusal → Reply
 told_count (Ok count) = reply.Count count
 told_count (Err cause) = reply.Refused cause
 
--- what an act does: the calls that are made on the shared pool with their answers, the reply, and what the worker
--- has afterwards
+-- what an act does: the calls that are made on the shared pool with their answers, the reply, and
+-- what the worker has afterwards
 abbrev pub Performs : Act → Member → List Call → Reply → Member → Type 0
 Performs act.Alloc m calls r after =
     (answer : Result ℕ Refusal) × Allocs m calls answer after × (r ≡ allocated answer after.table)

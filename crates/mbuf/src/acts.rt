@@ -27,7 +27,7 @@ pub enum Act {
     AllocBulk(usize),
     /// Frees the packet in this slot.
     Free(Pid),
-    /// Adds this many bytes behind the data of a packet's last segment.
+    /// Adds this many bytes after the data of a packet's last segment.
     Append(Pid, u16),
     /// Adds this many bytes in front of the data of a packet's first segment.
     Prepend(Pid, u16),
@@ -35,9 +35,10 @@ pub enum Act {
     Adj(Pid, u16),
     /// Takes this many bytes off the end of a packet's last segment.
     Trim(Pid, u16),
-    /// Puts the segments of the second packet behind those of the first.
+    /// Puts the segments of the second packet after those of the first.
     Chain(Pid, Pid),
-    /// Attaches the first packet, of one direct segment, to the buffer of the second's first segment.
+    /// Attaches the first packet, of one direct segment, to the buffer of the second's first
+    /// segment.
     Attach(Pid, Pid),
     /// Gives a packet of one indirect segment its own buffer back.
     Detach(Pid),
@@ -305,8 +306,8 @@ pub fn perform<C: Commons>(packets: &mut Packets, c: &mut C, act: Act) -> Reply
     perform_in(packets, c, act)
 }
 
-/// Does what `perform` does, and answers with room for a bulk of `ROOM` packets: with none the answer is
-/// small.
+/// Does what `perform` does, and answers with room for a bulk of `ROOM` packets: with none the
+/// answer is small.
 pub fn perform_in<C: Commons, const ROOM: usize>(
     packets: &mut Packets,
     c: &mut C,

@@ -124,7 +124,7 @@ fn give_up<C: Commons>(worker: &mut Worker, c: &mut C, segs: &[Seg], over: Optio
     }
 }
 
-/// Puts a segment behind the first `count` of a packet, in the place of the next one.
+/// Puts a segment after the first `count` of a packet, in the place of the next one.
 #[inline(always)]
 fn follow(packet: &mut Packet, count: usize, seg: Seg)
     requires there { count < length packet.old }

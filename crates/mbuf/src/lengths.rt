@@ -20,7 +20,7 @@ pub(crate) fn pkt_len(packet: &Packet) -> u32
     len
 }
 
-/// The segment with this many bytes more behind its data, if its tailroom has them.
+/// The segment with this many bytes more after its data, if its tailroom has them.
 fn grow_behind(seg: Seg, len: u16) -> Option<Seg>
     requires { HasItsData seg }
     ensures seg { result ≡ grown_behind len seg }
@@ -102,7 +102,7 @@ fn replace(packet: &mut Packet, index: usize, seg: Option<Seg>) -> bool
     }
 }
 
-/// Appends this many bytes behind the last segment's data, if its tailroom has them, and says so.
+/// Appends this many bytes after the last segment's data, if its tailroom has them, and says so.
 fn append(packet: &mut Packet, len: u16) -> bool
     ensures resized { cond result (Some packet.new) None ≡ appended len packet.old }
     ensures same { result ≡ false → packet.new ≡ packet.old }

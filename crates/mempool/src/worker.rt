@@ -369,7 +369,8 @@ impl Worker {
     }
 }
 
-/// The least length from which a cache of this size is flushed: the threshold, where that is more than the size.
+/// The least length from which a cache of this size is flushed: the threshold, where that is more
+/// than the size.
 fn flush_length(size: usize) -> usize
     requires { size ≤ max_cache }
     ensures { IsFlushLength size result }

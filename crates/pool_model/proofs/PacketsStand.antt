@@ -457,7 +457,8 @@ act_stand (PktLen slot) held elsewhere m s table desks = (table, desks, refl)
 act_stand (NbSegs slot) held elsewhere m s table desks = (table, desks, refl)
 act_stand Flush held elsewhere m s table desks = (table, rw (flush-IsPut m.cache s).desks desks, refl)
 
--- what stands in all workers' slots and lies on desks is a packet, and each worker has the pool's limits
+-- what stands in all workers' slots and lies on desks is a packet, and each worker has the pool's
+-- limits
 pub record HasPackets (pool : Pool) : Type 0 where
   pub limits : All (λ m. m.limits ≡ pool.limits) pool.members
   pub in_slots : All (λ m. ArePlaces m.table) pool.members

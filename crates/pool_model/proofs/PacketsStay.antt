@@ -1,4 +1,5 @@
--- Each act leaves packets where packets were: of 1 to 32 segments, each with its data within a buffer of the pool.
+-- Each act leaves packets where packets were: of 1 to 32 segments, each with its data within a
+-- buffer of the pool.
 use Rattle.std.proofs.Common.{ℕ, suc, ◌≡◌, ◌+◌, ◌-◌, ◌≤◌, ◌==◌, inl, inr, nat_lt, nat_le, Bool, true, false, cond, All, List, [], ◌∷◌, ◌++◌, length, length-append, length-set, get_or, get_or-set_other, get_or-set_same, set, take, Option, Some, None, Result, Ok, Err, refl, subst, arith}
 use Rattle.std.specs.Prelude.{if◌then◌else◌}
 use Rattle.std.proofs.lemmas.Bool.{cases_Bool, cases_lt, leb-true, ltb-false}

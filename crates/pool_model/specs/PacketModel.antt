@@ -111,8 +111,9 @@ without_packet slot m = record m { table = slice_set m.table slot None }
 abbrev pub held_elsewhere : Pool → ℕ → ℕ → ℕ → ℕ
 held_elsewhere pool n slot i = held_of (slice_set pool.members n (without_packet slot (member_at pool n))) pool.shared.desks i
 
--- What a worker does. Of all packets of the pool, held is how often they hold each element, and others slot how often
--- those hold it that stay where the one in this slot is freed; most acts ask for neither.
+-- What a worker does. Of all packets of the pool, held is how often they hold each element, and
+-- others slot how often those hold it that stay where the one in this slot is freed; most acts ask
+-- for neither.
 abbrev pub member_act : Act → (ℕ → ℕ) → (ℕ → ℕ → ℕ) → Member → Shared → Reply × Member × Shared
 member_act Alloc held others m s = alloc m s
 member_act (AllocBulk n) held others m s = alloc_bulk n m s
@@ -135,7 +136,8 @@ member_act Flush held others m s = flush_member m s
 abbrev pub act_on : Pool → ℕ → Act → Reply × Member × Shared
 act_on pool n act = member_act act (held_of pool.members pool.shared.desks) (held_elsewhere pool n) (member_at pool n) pool.shared
 
--- the reply to what a worker is asked to do, and the pool afterwards; a worker outside the pool does nothing
+-- the reply to what a worker is asked to do, and the pool afterwards; a worker outside the pool
+-- does nothing
 abbrev pub perform : Pool → ℕ → Act → Reply × Pool
 perform pool w act =
     if nat_le 1 w && nat_le w (length pool.members)

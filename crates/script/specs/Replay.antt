@@ -77,7 +77,8 @@ abbrev pub stands_after_take : ℕ → List ℕ → Reply → (ℕ → List ℕ 
 stands_after_take worker name (Taken slot segs len) stands = named worker name (Some slot) stands
 stands_after_take worker name _ stands = stands
 
--- what each name stands for once a worker's command has this reply; the other commands leave each as it stands
+-- what each name stands for once a worker's command has this reply; the other commands leave each
+-- as it stands
 abbrev pub stands_after : ℕ → Command → Reply → (ℕ → List ℕ → Option ℕ) → ℕ → List ℕ → Option ℕ
 stands_after worker (command.Alloc name) reply stands = stands_after_alloc worker name reply stands
 stands_after worker (command.Bulk names) reply stands = stands_after_bulk worker names reply stands
@@ -117,7 +118,8 @@ abbrev pub CommandHasRoom : ℕ → Command → Type 0
 CommandHasRoom room (command.Bulk names) = HasRoom room (AllocBulk (length names))
 CommandHasRoom room _ = Unit {0}
 
--- a worker's act, and what each name stands for by its reply; a command that asks for none is refused
+-- a worker's act, and what each name stands for by its reply; a command that asks for none is
+-- refused
 abbrev pub done_for : Option Act → ℕ → Command → Run → Reply × Run
 done_for None worker command run = (Refused NoSuchPacket, run)
 done_for (Some act) worker command run =

@@ -4,7 +4,8 @@ use std::alloc::Global;
 use std::fmt;
 use std::fmt::Write;
 
-/// A text, and behind it a number that is the second for the first line and then grows by the third.
+/// A text, and after it a number that is the second for the first line and then grows by the
+/// third.
 pub struct Field(pub &'static str, pub i32, pub i32);
 
 /// A part of a text.

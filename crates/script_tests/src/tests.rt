@@ -90,7 +90,8 @@ struct Places {
 /// A name, a statement, and its text.
 type StatementRow = (&'static str, Places, &'static str);
 
-/// A name, a script, the JSON of the statement of its end without its line end, and the population in it.
+/// A name, a script, the JSON of the statement of its end without its line end, and the population
+/// in it.
 type JsonRow = (&'static str, &'static str, &'static str, u64);
 
 /// The limits of a pool line that says no more than one element.
@@ -460,7 +461,7 @@ fn no_site_pool_is_made_out_of_range(rt: HostRuntime) {
     make_no_pools(&rt, acts::UNMADE);
 }
 
-/// Each line is put behind those before it.
+/// Each line is put after those before it.
 fn print_replies<R: Abort + AllocGlobal>(rt: &R, rows: &[ReplyRow]) -> Result<(), Fail> {
     let mut printed = Vec::new(rt.alloc());
     let mut text = String::new(rt.alloc());

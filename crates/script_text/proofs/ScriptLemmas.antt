@@ -1,4 +1,5 @@
--- What the bytes are read as is a script of the grammar, or its first fault, and no script of the grammar is read otherwise.
+-- What the bytes are read as is a script of the grammar, or its first fault, and no script of the
+-- grammar is read otherwise.
 use Rattle.std.proofs.Common.{◌≡◌, ◌≢◌, ℕ, ◌+◌, ◌-◌, max, true, false, List, [], ◌∷◌, ◌++◌, length, Option, Some, None, Result, Ok, Err, refl, sym, ap, ◌∙◌, subst, append_assoc, arith, inl, inr}
 use Rattle.std.specs.Prelude.{◌⊎◌, IfOk, IfErr, MatchResult}
 use Rattle.std.proofs.lemmas.Bool.{cases_Bool, cases_lt, both_ways, false_from_ne_true, cond-true, cond-false}
@@ -316,7 +317,8 @@ module _ {C : Type 0} (lexicon : Lexicon C) (right : IsRight lexicon) where
       ∙ lines_is h.texts start (record { limits = Some limits; lines = lines }) 1 limits h.read
       refl
 
-  -- a text that is too long has the fault 0, and else the first refused line or the end is the cause
+  -- a text that is too long has the fault 0, and else the first refused line or the end is the
+  -- cause
   pub cause_from : (bytes : List ℕ) (refusal : Refusal) → read_text lexicon bytes ≡ Err refusal → IsCause lexicon.language bytes refusal
   unfolding read_from
   cause_from bytes refusal e =

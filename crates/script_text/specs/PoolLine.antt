@@ -21,7 +21,7 @@ key_word Start = codes "start"
 abbrev pub same_key : Key → Key → Bool
 same_key key other = bytes_eq (key_word key) (key_word other)
 
--- the words are these keys, each with its number behind it
+-- the words are these keys, each with its number after it
 abbrev pub ArePairs : List (List ℕ) → List (Key × ℕ) → Type 0
 ArePairs words [] = words ≡ []
 ArePairs words (pair ∷ pairs) =

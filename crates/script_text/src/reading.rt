@@ -4,10 +4,10 @@
 //! most 8,192 bytes before its end, each a space or a printed ASCII character. Lines of spaces
 //! only and lines whose first word begins with `#` are skipped. The first other line is the pool
 //! line, `pool` with the number of elements and then, in any order, keys with their numbers:
-//! `cache`, `workers`, `desks`, `buf`, `refs`, `tries` and `start`, each at most once. Behind it
+//! `cache`, `workers`, `desks`, `buf`, `refs`, `tries` and `start`, each at most once. After it
 //! come at most 10,000 lines with a command each, or with a step each. A line is the first
-//! worker's, or that of the one whose number stands in front with a colon behind it, as
-//! `2: flush`. A number is 1 to 20 digits with a value below 2^64.
+//! worker's, or that of the one whose number stands in front with a colon after it, as `2: flush`.
+//! A number is 1 to 20 digits with a value below 2^64.
 //!
 //! In a script of commands the lines are:
 //!

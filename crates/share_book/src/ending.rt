@@ -21,11 +21,13 @@ use commons::refusal::Refusal;
 use pool_model::statement::Statement;
 use std::alloc::Global;
 
-/// Closes a pool and settles it with the shares of all its workers. The statement is the one of the
-/// pool as it was: each element is listed exactly once, and each packet has a place of its own, 1 to 32 segments and their
-/// data within its buffers; no count is above the reference limit, and bases are direct.
+/// Closes a pool and settles it with the shares of all its workers. The statement is that of the
+/// pool as it was: each element is listed exactly once, and each packet has a place of its own, 1
+/// to 32 segments and their data within its buffers; no count is above the reference limit, and
+/// bases are direct.
 ///
-/// Refused `OutOfMemory` where memory was refused. The pool is ended then too, and nothing is left of it.
+/// Refused `OutOfMemory` where memory was refused. The pool is ended then too, and nothing is left
+/// of it.
 pub fn settled(alloc: Global, pool: SitePool) -> Result<Statement, Refusal>
     ensures statement { IfOk result (λ s. s ≡ statement_of pool) }
     ensures once { IfOk result (λ s. ListsEachOnce s) }

@@ -51,7 +51,8 @@ subject (Lost e) = e
 subject (BadCount e word holds) = e
 subject OutOfMemory = 0
 
--- the one is looked for before the other: its kind is, or they are of one kind, and it names the lesser
+-- the one is looked for before the other: its kind is, or they are of one kind, and it names the
+-- lesser
 abbrev pub IsBefore : Fault → Fault → Type 0
 IsBefore f g = (rank f < rank g) ⊎ ((rank f ≡ rank g) × (subject f < subject g))
 

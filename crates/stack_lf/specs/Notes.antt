@@ -74,8 +74,8 @@ PutsPushOnce =
     (tries : ℕ) (xs : List ℕ) (answer : Result (Unit {0}) Refusal) (ts : List Try) →
     IsPut tries xs answer ts → GivesOnce xs answer ts
 
--- An exchange that lost found another value than the try had read: another length, or a later head, so that the stack was
--- changed after the look.
+-- An exchange that lost found another value than the try had read: another length, or a later
+-- head, so that the stack was changed after the look.
 abbrev pub LostToAnother : Try → Type 0
 LostToAnother (Missed n read found) = found ≢ read
 LostToAnother (Beaten read walk found) = read.count < found.count

@@ -77,8 +77,8 @@ fn try_raise(ground: &Ground, seat: &mut GroundSeat, element: u32, limits: &Limi
     }
 }
 
-/// Makes one more hold of an element after a first try that was lost, by at most as many lost tries in all as the
-/// limits allow. It stands apart, so that what inlines a raise stays small.
+/// Makes one more hold of an element after a first try that was lost, by at most as many lost
+/// tries in all as the limits allow. It stands apart, so that what inlines a raise stays small.
 #[inline(never)]
 fn raise_apart(ground: &Ground, seat: &mut GroundSeat, element: u32) -> Result<(), Refusal>
     requires of { IsOf ground.now seat.old }
@@ -161,8 +161,8 @@ pub(crate) fn raise(
     answer
 }
 
-/// Ends one hold of an element: where its count is 1, by the load that read it; else by lowering it, and where that
-/// read 1, by setting it to 1 again.
+/// Ends one hold of an element: where its count is 1, by the load that read it; else by lowering
+/// it, and where that read 1, by setting it to 1 again.
 #[inline(always)]
 fn lower_once(ground: &Ground, seat: &mut GroundSeat, element: u32) -> Lowered
     requires of { IsOf ground.now seat.old }

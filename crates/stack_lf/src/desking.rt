@@ -14,8 +14,8 @@ use commons::refusal::Refusal;
 use ground::pool::Ground;
 use ground::seat::GroundSeat;
 
-/// Leaves a packet on a desk that is empty: holds the desk, puts the packet in, and makes the desk full. The packet comes
-/// back where there is no such desk, or it isn't empty.
+/// Leaves a packet on a desk that is empty: holds the desk, puts the packet in, and makes the desk
+/// full. The packet comes back where there is no such desk, or it isn't empty.
 fn fill(
     ground: &Ground,
     seat: &mut GroundSeat,
@@ -64,7 +64,8 @@ pub(crate) fn offer(
     answer
 }
 
-/// Takes the packet off a desk that is full: seizes the desk, takes the packet out, and makes the desk empty.
+/// Takes the packet off a desk that is full: seizes the desk, takes the packet out, and makes the
+/// desk empty.
 fn empty(ground: &Ground, seat: &mut GroundSeat, desk: u32) -> Result<Packet, Refusal>
     requires of { IsOf ground.now seat.old }
     requires idle { seat.old.known.view.work ≡ None }

@@ -33,8 +33,8 @@ fn try_reserve(ground: &Ground, seat: &mut GroundSeat, n: u64) -> Tried
     }
 }
 
-/// Takes `n` off the length after a first try that was lost, by at most as many lost tries in all as the limits allow. It
-/// stands apart, so that what inlines a get stays small.
+/// Takes `n` off the length after a first try that was lost, by at most as many lost tries in all
+/// as the limits allow. It stands apart, so that what inlines a get stays small.
 #[inline(never)]
 fn reserve_apart(ground: &Ground, seat: &mut GroundSeat, n: u64) -> Result<(), Refusal>
     requires of { IsOf ground.now seat.old }
@@ -89,8 +89,9 @@ fn reserve(ground: &Ground, seat: &mut GroundSeat, n: u64) -> Result<(), Refusal
     }
 }
 
-/// Walks one link for each place of `out`, and lists the elements there. Answers what is next, or nothing where the
-/// list ends before, as it does for no seat of every part that has reserved as many.
+/// Walks one link for each place of `out`, and lists the elements there. Answers what is next, or
+/// nothing where the list ends before, as it does for no seat of every part that has reserved as
+/// many.
 #[inline(always)]
 fn walk(ground: &Ground, seat: &mut GroundSeat, head: Head, out: &mut [u32]) -> Option<u32>
     requires of { IsOf ground.now seat.old }
@@ -115,8 +116,8 @@ fn walk(ground: &Ground, seat: &mut GroundSeat, head: Head, out: &mut [u32]) -> 
     Some(next)
 }
 
-/// Loads the head, walks as many links as `out` has places, and swings the head past them, if it is still what was
-/// read.
+/// Loads the head, walks as many links as `out` has places, and swings the head past them, if it
+/// is still what was read.
 #[inline(always)]
 fn try_cut(ground: &Ground, seat: &mut GroundSeat, out: &mut [u32]) -> Tried
     requires of { IsOf ground.now seat.old }
@@ -140,8 +141,8 @@ fn try_cut(ground: &Ground, seat: &mut GroundSeat, out: &mut [u32]) -> Tried
     }
 }
 
-/// Takes as many elements as `out` has places after a first try that was lost, by at most as many lost tries in all as the
-/// limits allow. It stands apart, so that what inlines a get stays small.
+/// Takes as many elements as `out` has places after a first try that was lost, by at most as many
+/// lost tries in all as the limits allow. It stands apart, so that what inlines a get stays small.
 #[inline(never)]
 fn cut_apart(ground: &Ground, seat: &mut GroundSeat, out: &mut [u32]) -> Result<(), Refusal>
     requires of { IsOf ground.now seat.old }
@@ -181,8 +182,8 @@ fn cut_again(ground: &Ground, seat: &mut GroundSeat, out: &mut [u32]) -> Result<
     }
 }
 
-/// Takes as many elements as `out` has places from the top of the stack, by at most as many lost tries as the limits
-/// allow.
+/// Takes as many elements as `out` has places from the top of the stack, by at most as many lost
+/// tries as the limits allow.
 #[inline(always)]
 fn cut(ground: &Ground, seat: &mut GroundSeat, out: &mut [u32]) -> Result<(), Refusal>
     requires of { IsOf ground.now seat.old }

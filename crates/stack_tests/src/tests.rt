@@ -31,7 +31,7 @@ struct Row {
     turns: &'static [Turn],
 }
 
-/// What a worker does, and what is told of it.
+/// What a worker does, and what is reported of it.
 enum Turn {
     /// Gets these and puts them back, and the put is answered so.
     Back(&'static [u32], Result<(), Refusal>),

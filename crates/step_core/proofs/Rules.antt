@@ -1,4 +1,5 @@
--- The laws as steps keep them: in four parts, of which a step opens those alone that read what it changes.
+-- The laws as steps keep them: in four parts, of which a step opens those alone that read what it
+-- changes.
 use Rattle.std.proofs.Common.{◌≡◌, ℕ, ◌+◌, ◌<◌, ◌≤◌, min, max, List, Some, None, length}
 use Rattle.std.specs.Prelude.{sum_by, IfSome, slice_index, ◌==◌}
 use Rattle.commons.specs.Bag.{bag}

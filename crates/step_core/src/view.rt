@@ -12,15 +12,16 @@ use commons::limits::SPENT;
 use commons::packet::Packet;
 use std::alloc::{AllocError, Global};
 
-/// The head of the common stack: its top as a link value, 0 for none and else the element + 1, and the number of
-/// changes so far.
+/// The head of the common stack: its top as a link value, 0 for none and else the element + 1, and
+/// the number of changes so far.
 #[derive(Clone, Copy, Debug, PartialEq, Eq)]
 pub struct Head {
     pub top: u32,
     pub count: u64,
 }
 
-/// What a worker saw of the common list: the head, the elements walked from its top, and the link value behind them.
+/// What a worker saw of the common list: the head, the elements walked from its top, and the link
+/// value after them.
 #[derive(Debug, Drop)]
 pub struct Look {
     pub head: Head,
@@ -28,7 +29,8 @@ pub struct Look {
     pub next: u32,
 }
 
-/// Elements of a worker's hand whose links lead each to the next, and the last to the end, a link value.
+/// Elements of a worker's hand whose links lead each to the next, and the last to the end, a link
+/// value.
 #[derive(Debug, Drop)]
 pub struct Chain {
     pub items: Elems,
@@ -138,7 +140,7 @@ impl View {
         }
     }
 
-    /// Puts an element behind the walk, which goes on at this link value; or changes nothing.
+    /// Puts an element after the walk, which goes on at this link value; or changes nothing.
     pub fn walk_on(&mut self, element: u32, link: u32) -> Result<(), AllocError>
         ensures ok { OnOk result (self.new ≡ record self.old { look = walked_on self.old.look element link }) }
         ensures err { OnErr result (self.new ≡ self.old) }
@@ -238,7 +240,8 @@ impl View {
         Ok(())
     }
 
-    /// Ends a hold of an element, which is in the hand with count 0 where that was the last; or changes nothing.
+    /// Ends a hold of an element, which is in the hand with count 0 where that was the last; or
+    /// changes nothing.
     pub fn end_hold(&mut self, element: u32, last: bool) -> Result<(), AllocError>
         ensures ok { OnOk result (self.new ≡ hold_ended self.old element last) }
         ensures err { OnErr result (self.new ≡ self.old) }
@@ -350,7 +353,8 @@ impl View {
     }
 }
 
-/// A desk: its word is 0 where it is empty, 1 while it is filled, 2 where it is full and 3 while it is emptied; and its slot.
+/// A desk: its word is 0 where it is empty, 1 while it is filled, 2 where it is full and 3 while
+/// it is emptied; and its slot.
 #[derive(Debug, Drop)]
 pub struct Desk {
     pub word: u64,

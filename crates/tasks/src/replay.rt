@@ -1,4 +1,5 @@
-//! What is printed of a script: its replay, what its run comes to, or its steps, in the form that is asked for.
+//! What is printed of a script: its replay, what its run comes to, or its steps, in the form that
+//! is asked for.
 ghost use Rattle.std.specs.Prelude.{IfErr, IfOk};
 ghost use Rattle.script_text.specs.Grammar.{IsCause};
 ghost use Rattle.tasks.specs.Forms.{IsCauseFor, IsDoneAs, IsPrintedAs};

@@ -105,7 +105,8 @@ fn add_held(
     add_bases(elements, own.as_slice(), bases_of(alloc, segs.as_slice())?)
 }
 
-/// The elements of all places, ascending: of the common list, of the caches, and those that packets hold.
+/// The elements of all places, ascending: of the common list, of the caches, and those that
+/// packets hold.
 fn elements_of(alloc: Global, statement: &Statement) -> Result<Vec<u32>, AllocError> {
     let mut elements = statement.common.as_slice().to_vec(alloc)?;
     for cache in statement.caches.as_slice() {
@@ -116,8 +117,8 @@ fn elements_of(alloc: Global, statement: &Statement) -> Result<Vec<u32>, AllocEr
     Ok(elements)
 }
 
-/// Each element is in one place: in the common list, in a cache, or held by packets, of the workers or on desks. Of these
-/// each is one segment's own, or none's.
+/// Each element is in one place: in the common list, in a cache, or held by packets, of the
+/// workers or on desks. Of these each is one segment's own, or none's.
 fn assert_each_once<R: Abort>(
     rt: &R,
     alloc: Global,
@@ -158,7 +159,8 @@ fn told_holds(alloc: Global, statement: &Statement) -> Result<Vec<u32>, AllocErr
     Ok(told)
 }
 
-/// The elements that a statement tells of as held are those that its packets hold, each as often as they do.
+/// The elements that a statement tells of as held are those that its packets hold, each as often
+/// as they do.
 fn assert_holds<R: Abort>(
     rt: &R,
     alloc: Global,
@@ -233,8 +235,8 @@ fn assert_end<R: Abort>(
     assert_holds(rt, alloc, statement, name)
 }
 
-/// Plays a script on the words of a pool, which have to reply as its replay does, and to end in the same statement.
-/// Both are answered.
+/// Plays a script on the words of a pool, which have to reply as its replay does, and to end in
+/// the same statement. Both are answered.
 fn assert_same<R: Abort>(
     rt: &R,
     alloc: Global,

@@ -1,4 +1,5 @@
-//! Every snapshot that differs from a lawful one in one word: the top, the length, a link or a count.
+//! Every snapshot that differs from a lawful one in one word: the top, the length, a link or a
+//! count.
 
 use self::Answer::{BadTop, Doubled, Holds, Lawful, Loop, Walked};
 use super::shown::{FRESH, ONE, Places, Shown, Word};
@@ -25,7 +26,8 @@ pub(super) enum Answer {
     Holds(u64),
 }
 
-/// A lawful snapshot with its places, the values that each word takes in turn, and for each word the answers.
+/// A lawful snapshot with its places, the values that each word takes in turn, and for each word
+/// the answers.
 pub(super) struct Pool {
     pub name: &'static str,
     pub shown: Shown,

@@ -1,6 +1,7 @@
 //! What is done again and again.
 
-/// How long a list is: a constant of the code, as in a program that knows how many packets it takes at once.
+/// How long a list is: a constant of the code, as in a program that knows how many packets it
+/// takes at once.
 #[derive(Clone, Copy, PartialEq, Eq, Debug)]
 pub enum Width {
     One = 1,

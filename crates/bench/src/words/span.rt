@@ -36,8 +36,8 @@ pub struct Tally {
     pub refused: u64,
 }
 
-/// Does a quarter of a batch first, so that all memory has been touched; waits until the run begins; and does batch
-/// after batch until its time has passed, one at least.
+/// Does a quarter of a batch first, so that all memory has been touched; waits until the run
+/// begins; and does batch after batch until its time has passed, one at least.
 pub fn timed<R: Clock, W: Rounds>(rt: &R, work: &mut W, span: &Span) -> Result<Tally, Failure> {
     let _warm = work.rounds(span.batch / 4 + 1);
     wait(rt, span.made)?;

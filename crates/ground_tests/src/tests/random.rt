@@ -20,7 +20,8 @@ const SCHEDULES: u64 = 1_000;
 /// Steps of a schedule, the refused ones too.
 const STEPS: u64 = 60;
 
-/// An act of each kind of step, from those that are drawn seldom to those drawn often. Their numbers say nothing.
+/// An act of each kind of step, from those that are drawn seldom to those drawn often. Their
+/// numbers say nothing.
 const KINDS: [Act; 20] = [
     Act::LoadLength,
     Act::LoadHead,
@@ -93,8 +94,8 @@ fn element_of(link: u32) -> Option<u64> {
     link.checked_sub(1).map(u64::from)
 }
 
-/// An act of this kind with any numbers, some of them of no pool. What is put in is of no pool, so that nothing is opened
-/// but what is a header of its worker.
+/// An act of this kind with any numbers, some of them of no pool. What is put in is of no pool, so
+/// that nothing is opened but what is a header of its worker.
 fn any_act(kind: Act, draws: &mut Draws) -> Act {
     let element = draws.below(8);
     let number = draws.below(8);
@@ -228,8 +229,8 @@ fn fit_act(kind: Act, world: &World, worker: u32, draws: &mut Draws) -> Option<A
 /// Where the kind that takes a packet out stands in the table.
 const TAKE_OUT: usize = 18;
 
-/// A kind by its place in the table, a worker and an act: four times in five an act that the worker can play, if one is
-/// soon found, and else any, by workers that aren't there too.
+/// A kind by its place in the table, a worker and an act: four times in five an act that the
+/// worker can play, if one is soon found, and else any, by workers that aren't there too.
 fn drawn_kind(world: &World, draws: &mut Draws) -> (usize, u32, Act) {
     if draws.below(5) > 0 {
         for _ in 0..32 {
@@ -273,7 +274,8 @@ fn step_random<R: Abort>(
     }
 }
 
-/// Plays a schedule by both, and compares each answer and the words at the end. Notes which kinds were played.
+/// Plays a schedule by both, and compares each answer and the words at the end. Notes which kinds
+/// were played.
 fn play_schedule<R: Abort + AllocGlobal>(
     rt: &R,
     draws: &mut Draws,

@@ -230,8 +230,8 @@ fn assert_whole<R: Abort>(rt: &R, closed: &Closed) {
     same(rt, &is_empty, &true, "the desk is empty");
 }
 
-/// Whichever request for memory is refused, no ground with a desk is made, or it is closed with all its words: what a
-/// refused close hands back closes the next time.
+/// Whichever request for memory is refused, no ground with a desk is made, or it is closed with
+/// all its words: what a refused close hands back closes the next time.
 #[test]
 fn refused_memory_loses_no_word(rt: HostRuntime) {
     let limits = Limits { desks: 1, ..TWO };

@@ -15,8 +15,8 @@ use commons::refusal::Refusal;
 use commons::shared::Commons;
 
 impl Packets {
-    /// Claims an element of the hand, and lets its fresh packet stand in the lowest free slot, whose
-    /// number it answers.
+    /// Claims an element of the hand, and lets its fresh packet stand in the lowest free slot,
+    /// whose number it answers.
     #[inline(always)]
     fn stand<C: Commons>(&mut self, c: &mut C, elem: u32, slot: usize) -> Pid
         requires hand { 0 < (C.side c.old).hand elem }

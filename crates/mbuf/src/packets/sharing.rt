@@ -15,8 +15,8 @@ use commons::refusal::Refusal;
 use commons::shared::Commons;
 
 impl Packets {
-    /// The element of the packet in one slot, which has one direct segment, and the first segment of
-    /// the packet in another.
+    /// The element of the packet in one slot, which has one direct segment, and the first segment
+    /// of the packet in another.
     fn pair(&self, mi: Pid, target: Pid) -> Result<(u32, Seg), Refusal>
         ensures pair { result ≡ pair_in self.now mi target }
         ensures are { IfOk result (ArePair self.now.table mi target) }
@@ -42,9 +42,9 @@ impl Packets {
         }
     }
 
-    /// Attaches the packet in the slot `mi`, which has one direct segment that nothing else holds, to
-    /// the buffer of the first segment of the packet in the slot `target`, with its lengths. The
-    /// direct element whose buffer that is, the segment's base or itself, has one hold more.
+    /// Attaches the packet in the slot `mi`, which has one direct segment that nothing else holds,
+    /// to the buffer of the first segment of the packet in the slot `target`, with its lengths.
+    /// The direct element whose buffer that is, the segment's base or itself, has one hold more.
     ///
     /// Refused `NoSuchPacket` where no packet stands in one of the slots, `SamePacket` where they
     /// are one, `TooManySegs` where the packet to attach has several segments, `NotDirect` where it
@@ -107,8 +107,8 @@ impl Packets {
     }
 
     /// Clones a packet: for each of its segments in order an element is got through the cache,
-    /// claimed and attached to the segment's buffer. The clone stands in the lowest free slot, which
-    /// is the answer.
+    /// claimed and attached to the segment's buffer. The clone stands in the lowest free slot,
+    /// which is the answer.
     ///
     /// Refused `NoSuchPacket` where no packet stands there, `PacketsFull` where no slot is free,
     /// else as the first get or raise is that is refused: `NoEntries`, `Contended`, `HeadSpent` or

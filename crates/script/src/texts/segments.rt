@@ -64,7 +64,7 @@ fn data_len(segs: &[Seg]) -> u128
     segs.iter().map(|seg| u128::from(seg.data_len)).sum()
 }
 
-/// Each segment behind a space.
+/// Each segment after a space.
 fn write_joined(out: &mut Vec<u8>, segs: &[Seg]) -> io::Result<()>
     ensures { OnOk result (out.new.items ≡ out.old.items ++ joined segment_text segs.now) }
 {

@@ -1,4 +1,5 @@
-//! Workers in threads of their own, on words and under a lock, and a book that threads put shares in.
+//! Workers in threads of their own, on words and under a lock, and a book that threads put shares
+//! in.
 
 ghost use Rattle.std.specs.Prelude.{◌≤◌};
 

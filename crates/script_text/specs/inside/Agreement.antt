@@ -20,7 +20,7 @@ use Rattle.script_text.specs.inside.ScriptReading.{Lexicon, is_made, are_ready}
 
 -- ---- names that were made
 
--- a name with zeros behind it
+-- a name with zeros after it
 unfoldable pub padded_to : ℕ → List ℕ → List ℕ
 padded_to zero name = []
 padded_to (suc n) [] = 0 ∷ padded_to n []

@@ -37,7 +37,7 @@ worker_at workers number = option_and_then (of_workers workers) (number_at numbe
 abbrev pub with_name : (ℕ → List ℕ → Bool) → ℕ → List ℕ → ℕ → List ℕ → Bool
 with_name made worker name w other = (w == worker && bytes_eq other name) || made w other
 
--- whether one of the names was made before, or stands behind itself
+-- whether one of the names was made before, or stands after itself
 abbrev pub repeats : (ℕ → List ℕ → Bool) → ℕ → List (List ℕ) → Bool
 repeats made worker [] = false
 repeats made worker (name ∷ names) = made worker name

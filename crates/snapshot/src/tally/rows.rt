@@ -1,4 +1,5 @@
-//! Rows that count, for each element, how often it was met. Each number stops at the greatest `u32`.
+//! Rows that count, for each element, how often it was met. Each number stops at the greatest
+//! `u32`.
 
 ghost use Rattle.std.specs.Prelude.{◌≡◌, ◌<◌, ◌≤◌, ℕ, IfOk, length};
 ghost use Rattle.commons.specs.Bag.{bag, one};

@@ -14,7 +14,7 @@ use stack_lf::words::WordCommons;
 /// late.
 const TRIES: u32 = 100_000_000;
 
-/// The most bytes of data in a buffer of 2,048 behind a headroom of 128.
+/// The most bytes of data in a buffer of 2,048 after a headroom of 128.
 const MOST_DATA: u16 = 1_920;
 
 /// A worker who carries nothing.
@@ -75,8 +75,8 @@ pub(super) fn offer(
     }
 }
 
-/// Takes the packet off a desk, and carries it instead of what was carried; where that is refused, the worker carries on
-/// what it had.
+/// Takes the packet off a desk, and carries it instead of what was carried; where that is refused,
+/// the worker carries on what it had.
 pub(super) fn take(
     c: &mut WordCommons,
     carried: &mut Option<Packet>,

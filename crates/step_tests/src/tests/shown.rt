@@ -72,7 +72,7 @@ fn assert_view<R: Abort>(rt: &R, view: &View, end: &End, place: usize, name: &st
     }
 }
 
-/// The count of an element of which these are told: 1 where it isn't among them.
+/// The count of an element, of those that are given: 1 where it isn't among them.
 fn count_told(counts: &[(usize, u32)], element: usize) -> u32 {
     for (other, count) in counts {
         if *other == element {

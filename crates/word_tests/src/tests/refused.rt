@@ -34,7 +34,8 @@ fn refusals(replies: &[(u32, Reply)], cause: Refusal) -> (u32, u32) {
     (all, such)
 }
 
-/// Plays a script in which a clone is refused for this cause, and nothing else is, and all packets are freed.
+/// Plays a script in which a clone is refused for this cause, and nothing else is, and all packets
+/// are freed.
 fn assert_refused<R: Abort>(
     rt: &R,
     alloc: Global,

@@ -23,7 +23,8 @@ use word_pool::worker::WordWorker;
 /// How often each worker makes three packets and frees them, in the pool that is worked on longest.
 const ROUNDS: u32 = 100_000;
 
-/// Attaches a worker's packet to another, which can't be refused, where there is a slot of the first.
+/// Attaches a worker's packet to another, which can't be refused, where there is a slot of the
+/// first.
 fn attach(ground: &Ground, worker: &mut WordWorker, tally: &mut Tally, slot: Option<Pid>, to: Pid)
     requires of { IsOf ground.now worker.old.seat }
     ensures of { IsOf ground.now worker.new.seat }
