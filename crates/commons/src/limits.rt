@@ -32,8 +32,8 @@ pub const SPENT: u64 = 281_474_976_710_655;
 pub struct Limits {
     /// Elements in the pool, 1 to 65,534.
     pub population: u64,
-    /// Elements that a worker's cache keeps, 0 to 512; one and a half times as many, rounded down, are at most
-    /// the population.
+    /// Elements that a worker's cache keeps, 0 to 512; one and a half times as many, rounded down,
+    /// are at most the population.
     pub cache: u64,
     /// Workers, 1 to 64, numbered from 1.
     pub workers: u64,

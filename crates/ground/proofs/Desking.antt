@@ -1,4 +1,5 @@
--- What the rule says of one desk, and that it stands once a step on the desk's word leaves a lawful world.
+-- What the rule says of one desk, and that it stands once a step on the desk's word leaves a
+-- lawful world.
 use Rattle.std.proofs.Common.{◌≡◌, ℕ, zero, suc, ◌+◌, ◌-◌, ◌*◌, ◌<◌, List, [], ◌∷◌, ◌++◌, length, set, refl, sym, ap, ◌∙◌, subst, arith, get_or-set_same}
 use Rattle.std.specs.Prelude.{slice_index, map}
 use Rattle.std.proofs.lemmas.List.{length-set, get_or-append_right, set-append_right, set-get_or}
@@ -124,7 +125,8 @@ module _ (l : Limits) (s : St) (r : Ruled l s) (id : ℕ) (me : Sat) (at : get_e
       ∙ at_map home_of r.world.desks d (desk_at r.world.desks d)
       (desk_there r.world.desks d desk_inside)
 
-  -- the rule stands, once a step on the desk's word leaves a lawful world with this desk and this view
+  -- the rule stands, once a step on the desk's word leaves a lawful world with this desk and this
+  -- view
   pub ruled : (st : Step) (o : Outcome) (x : Desk) (v : View) (slots : List (ℕ × Slot)) (a : Act Slot) →
       Lawful (desked r.world id d x v) → HeaderLaw (desked r.world id d x v) →
       homes_after s.homes me.1 a ≡ set s.homes d (home_of x) → carried_after me.1 a ≡ slots →

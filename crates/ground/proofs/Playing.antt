@@ -32,7 +32,7 @@ use Rattle.ground.specs.Tells.{noted, Tells}
 use Rattle.ground.proofs.Rules.{lawful_of, stack_of, counts_of, desks_of}
 use Rattle.ground.proofs.Owning.{owned_of}
 
--- a seat that has a part, and the slot of the desk that it has in work
+-- a seat that has a part, and the slot of the desk that it works at
 abbrev pub Sits : Sat → Type 0
 Sits m = (0 < m.0.view.part) × AtDesk m.0.view.work m.1
 

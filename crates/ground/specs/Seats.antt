@@ -48,8 +48,8 @@ work_by None slots = None
 work_by (Some x) [] = Some x
 work_by (Some x) (slot ∷ slots) = Some (record { desk = x.desk; phase = phase_by x.phase slot.1 })
 
--- The view of a seat, read off what it knows and its slots together: what it knows changes at steps on words alone, and
--- a packet goes into a slot and out of it between them.
+-- The view of a seat, read off what it knows and its slots together: what it knows changes at
+-- steps on words alone, and a packet goes into a slot and out of it between them.
 abbrev pub sight : Seated → View
 sight s = record s.known.view { work = work_by s.known.view.work s.slots }
 
@@ -57,7 +57,7 @@ sight s = record s.known.view { work = work_by s.known.view.work s.slots }
 abbrev pub Note : Type 0
 Note = Step × Outcome
 
--- the seat with this view, and with these steps taken besides
+-- the seat with this view, and with these steps taken in addition
 abbrev pub after : Seated → List Note → View → Seated
 after s notes v = record s {
   known = record s.known { view = v; steps = s.known.steps ++ notes };
@@ -67,7 +67,8 @@ after s notes v = record s {
 abbrev pub Steps : Step → Outcome → Seated → Seated → Type 0
 Steps st o s t = t ≡ after s ((st, o) ∷ []) (view_after None st o s.known.view)
 
--- the outcome of an exchange by its answer: of a count or the length, of a cut with this front, of a push
+-- the outcome of an exchange by its answer: of a count or the length, of a cut with this front, of
+-- a push
 abbrev pub outcome_of : Result (Unit {0}) ℕ → Outcome
 outcome_of (Ok _) = Won
 outcome_of (Err found) = Lost found
@@ -98,10 +99,10 @@ abbrev pub held_below : ℕ → List ℕ → ℕ
 held_below zero xs = 0
 held_below (suc n) xs = held_below n xs + min 1 (bag xs n)
 
--- What may lie on the desks beside a view: on each desk of the pool a packet, or nothing. The packets hold elements of
--- the pool alone, and none that is in the hand; with the view's own holds no element is held more often than the
--- reference limit says; none is an own one of two segments, or of one and a header of the view; and the desk that the
--- view has in work isn't full.
+-- What may lie on the desks beside a view: on each desk of the pool a packet, or nothing. The
+-- packets hold elements of the pool alone, and none that is in the hand; with the view's own holds
+-- no element is held more often than the reference limit says; none is an own one of two segments,
+-- or of one and a header of the view; and the desk that the view works at isn't full.
 pub record MayLie (l : Limits) (v : View) (desks : List (Option (List Seg))) : Type 0 where
   pub as_many : length desks ≡ l.desks
   pub below : (i : ℕ) → l.population ≤ i → held_in desks i ≡ 0
@@ -110,9 +111,9 @@ pub record MayLie (l : Limits) (v : View) (desks : List (Option (List Seg))) : T
   pub own_once : (i : ℕ) → bag v.headers i + own_in desks i ≤ 1
   pub work : IfSome v.work (λ x. slice_index_or desks x.desk None ≡ None)
 
--- A seat of every part knows the length word, but for what lies on full desks: it is the population without the hand,
--- the credit, and the elements that are held, each once, by the seat or by a packet on a desk. In a pool without desks
--- nothing lies there.
+-- A seat of every part knows the length word, but for what lies on full desks: it is the
+-- population without the hand, the credit, and the elements that are held, each once, by the seat
+-- or by a packet on a desk. In a pool without desks nothing lies there.
 abbrev pub KnowsLength : Limits → View → ℕ → Type 0
 KnowsLength l v found =
     v.part ≡ l.workers →
@@ -124,7 +125,8 @@ KnowsLength l v found =
 abbrev pub KnowsEnd : Limits → View → Type 0
 KnowsEnd l v = v.part ≡ l.workers → IfSome v.look (λ k. k.next ≡ 0 → v.credit ≤ length k.front)
 
--- and the count of each element that it holds, which is how often it and the packets on full desks do
+-- and the count of each element that it holds, which is how often it and the packets on full desks
+-- do
 abbrev pub KnowsCount : Limits → View → ℕ → ℕ → Type 0
 KnowsCount l v i count =
     v.part ≡ l.workers →

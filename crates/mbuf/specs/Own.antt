@@ -5,8 +5,8 @@ use Rattle.commons.specs.Calls.{Side}
 use Rattle.commons.specs.Packets.{held_in, own_in}
 use Rattle.mbuf.specs.Members.{Member}
 
--- Both are of one pool; the cache is the worker's hand; the packets hold what the worker holds; and the own
--- elements of their segments are headers of the worker, which are distinct.
+-- Both are of one pool; the cache is the worker's hand; the packets hold what the worker holds;
+-- and the own elements of their segments are headers of the worker, which are distinct.
 pub record Own (m : Member) (s : Side) : Type 0 where
   pub limits : m.limits ≡ s.limits
   pub cached : (i : ℕ) → s.hand i ≡ bag m.cache i

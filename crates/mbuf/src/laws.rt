@@ -20,9 +20,10 @@ pub fn packets_stay_own()
     ensures { (m : Member) (before after : Side) → Own m before → SameSide before after → Own m after }
 {}
 
-/// An act leaves the slots that it doesn't name, over any shared pool: a free, a change of lengths, a chain, an attach,
-/// a detach and an offer write the slots that they name, and an alloc, a bulk, a clone and a take fill those that
-/// the reply tells. All other slots have what they had, and a slot that was filled was free.
+/// An act leaves the slots that it doesn't name, over any shared pool: a free, a change of
+/// lengths, a chain, an attach, a detach and an offer write the slots that they name, and an
+/// alloc, a bulk, a clone and a take fill those that the reply tells. All other slots have what
+/// they had, and a slot that was filled was free.
 pub fn an_act_leaves_the_slots_it_does_not_name()
     ensures { (act : Act) (before after : Member) (calls : List Call) (reply : Reply) →
         Performs act before calls reply after → LeavesOtherSlots act reply before after }

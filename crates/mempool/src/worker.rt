@@ -113,8 +113,8 @@ impl Worker {
     /// Refused as the last request to the stack was: `NoEntries`, `Contended` or `HeadSpent`.
     /// Cache and hand are then as before, and nothing is said of `out`.
     ///
-    /// After rte_mempool.h, `rte_mempool_do_generic_get` (DPDK 21.11), which doesn't test whether a
-    /// refill can be met at all.
+    /// After rte_mempool.h, `rte_mempool_do_generic_get` (DPDK 21.11), which doesn't test whether
+    /// a refill can succeed at all.
     #[inline(always)]
     pub fn get_bulk<C: Commons>(&mut self, c: &mut C, out: &mut [u32]) -> Result<(), Refusal>
         requires limits { (C.side c.old).limits ≡ self.old.limits }
@@ -147,8 +147,8 @@ impl Worker {
     }
 
     /// Gets more elements than the cache has, and fewer than it keeps: from the cache once it is
-    /// refilled, else from the common stack. The answer has a place of its own here, which is filled
-    /// where the cache has too few alone.
+    /// refilled, else from the common stack. The answer has a place of its own here, which is
+    /// filled only where the cache has too few.
     #[inline(always)]
     fn get_refilled<C: Commons>(&mut self, c: &mut C, out: &mut [u32]) -> Result<(), Refusal>
         requires limits { (C.side c.old).limits ≡ self.old.limits }
@@ -172,7 +172,8 @@ impl Worker {
         }
     }
 
-    /// The same, in a function of its own, so that what a get from the cache inlines stays small.
+    /// Gets more elements than the cache has, in a function of its own, so that what a get from
+    /// the cache inlines stays small.
     #[inline(never)]
     fn refilled_apart<C: Commons>(&mut self, c: &mut C, out: &mut [u32]) -> Result<(), Refusal>
         requires limits { (C.side c.old).limits ≡ self.old.limits }
@@ -368,7 +369,8 @@ impl Worker {
     }
 }
 
-/// The least length from which a cache of this size is flushed: the threshold, where that is more than the size.
+/// The least length from which a cache of this size is flushed: the threshold, where that is more
+/// than the size.
 fn flush_length(size: usize) -> usize
     requires { size ≤ max_cache }
     ensures { IsFlushLength size result }

@@ -41,10 +41,11 @@ impl<K: OfLimits, R: Wait, const ROOM: usize> Actor<LockedPool<K>, ROOM> for Loc
     }
 }
 
-/// Plays a script with a thread for each worker, on lists under one lock: the acts come one after another. Closes the pool
-/// once all have ended, and settles it with the shares of all workers.
+/// Plays a script with a thread for each worker, on lists under one lock: the acts come one after
+/// another. Closes the pool once all have ended, and settles it with the shares of all workers.
 ///
-/// Refused `OutOfMemory` where memory was refused or a thread couldn't be started, and for no other cause.
+/// Refused `OutOfMemory` where memory was refused or a thread couldn't be started, and for no
+/// other cause.
 pub(crate) fn run<G: Gate, R: Threads + Wait + Sync>(
     rt: &R,
     alloc: Global,
@@ -64,7 +65,7 @@ pub(crate) fn run<G: Gate, R: Threads + Wait + Sync>(
     run_locked::<Brand, G, R>(rt, alloc, script, turns, gate)
 }
 
-/// Does so under a lock whose type knows the script's limits.
+/// Runs the script under a lock whose type knows the script's limits.
 fn run_locked<K: OfLimits + Send + Sync, G: Gate, R: Threads + Wait + Sync>(
     rt: &R,
     alloc: Global,

@@ -45,8 +45,8 @@ pub const ROWS: &[Row] = &[
         population 8\navailable 7\nin use 1\ncommon 3: 5 6 7\ncache 1 4: 0 1 2 3\n\
         packet 1 0 segs 1 len 0: 4@128+0/2048\nheld 4 count 1: 1\n",
     ),
-    // No worker frees another's packet, though both have given it the same name, and a flush is of the
-    // worker's own cache.
+    // No worker frees another's packet, though both have given it the same name, and a flush is of
+    // the worker's own cache.
     (
         "names and caches are each workers own",
         "pool 16 workers 3 cache 4\n3: alloc x\n1: free x\n03: flush\n 2:  flush \n\

@@ -21,7 +21,7 @@ key_word Start = codes "start"
 abbrev pub same_key : Key → Key → Bool
 same_key key other = bytes_eq (key_word key) (key_word other)
 
--- the words are these keys, each with its number behind it
+-- the words are these keys, each with its number after it
 abbrev pub ArePairs : List (List ℕ) → List (Key × ℕ) → Type 0
 ArePairs words [] = words ≡ []
 ArePairs words (pair ∷ pairs) =
@@ -39,7 +39,7 @@ abbrev pub AreOnce : List (Key × ℕ) → Type 0
 AreOnce [] = Unit {0}
 AreOnce (pair ∷ pairs) = (first_number pair.0 pairs ≡ None) × AreOnce pairs
 
--- the limits of a pool of so many elements; each key that doesn't stand there has its default
+-- the limits of a pool of this many elements; each key that doesn't stand there has its default
 abbrev pub limits_with : ℕ → List (Key × ℕ) → Limits
 limits_with population pairs = record {
   population = population;

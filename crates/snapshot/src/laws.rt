@@ -13,8 +13,8 @@ pub fn a_lawful_snapshot_has_no_fault()
     ensures lawful { (s : Snapshot) → IsLawful s ↔ ((f : Fault) → ¬ (IsFault s f)) }
 {}
 
-/// The statement of a lawful snapshot lists each element exactly once, and each packet has a place of its own, 1 to 32
-/// segments, and the data of each within its buffer.
+/// The statement of a lawful snapshot lists each element exactly once, and each packet has a place
+/// of its own, 1 to 32 segments, and the data of each within its buffer.
 pub fn a_lawful_snapshot_lists_each_element_once()
     ensures once { (s : Snapshot) → IsLawful s → ListsEachOnce (statement_in s) }
     ensures places { (s : Snapshot) → HasSlots s → IsLawful s → PlacesEachOnce s.limits (statement_in s) }

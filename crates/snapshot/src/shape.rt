@@ -9,8 +9,8 @@ ghost use Rattle.snapshot.specs.Snapshots.{HasShape};
 use crate::fault::Fault;
 use crate::snapshot::{ShareData, Snapshot};
 
-/// Tests whether there are one link and one count for each element, a place for each desk, and a share for each worker
-/// in order, else answers `BadShape`.
+/// Tests whether there are one link and one count for each element, a place for each desk, and a
+/// share for each worker in order, else answers `BadShape`.
 pub(crate) fn check(snapshot: &Snapshot) -> Result<(), Fault>
     requires pool { IsPool snapshot.now.limits }
     ensures ok { IfOk result (λ _. HasShape snapshot.now) }

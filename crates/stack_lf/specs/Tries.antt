@@ -37,7 +37,8 @@ pub data Try : Type 0 where
   Reserved : (n length : ℕ) → Try
   -- a head was read, and no more
   Stopped : (head : Head) → Try
-  -- a head was read, links were walked, and the walk ended early, or the exchange of the head lost, or won
+  -- a head was read, links were walked, and the walk ended early, or the exchange of the head
+  -- lost, or won
   Ended : (head : Head) (walk : Walk) → Try
   Beaten : (head : Head) (walk : Walk) (found : Head) → Try
   Cutoff : (head : Head) (walk : Walk) → Try
@@ -67,7 +68,8 @@ pub data Try : Type 0 where
 abbrev pub link_note : ℕ × ℕ → Note
 link_note p = (LoadLink p.0, Value p.1)
 
--- the steps that store the links of a list, its first element's to this value and each other's to the one before
+-- the steps that store the links of a list, its first element's to this value and each other's to
+-- the one before
 abbrev pub stores : ℕ → List ℕ → List Note
 stores v [] = []
 stores v (x ∷ xs) = (StoreLink x (element_of v), Done) ∷ stores (suc x) xs
@@ -162,8 +164,8 @@ IsWonPush xs x = (h : Head) × (h.count < spent) × (x ≡ Pushed h xs)
 abbrev pub IsSpent : Try → Type 0
 IsSpent x = (h : Head) × (h.count ≡ spent) × (x ≡ Stopped h)
 
--- The tries of a get of n elements, of at most so many lost ones in each loop, by its answer. What was reserved is
--- added again before each refusal that comes after it.
+-- The tries of a get of n elements, of at most this many lost ones in each loop, by its answer.
+-- What was reserved is added again before each refusal that comes after it.
 abbrev pub IsGet : ℕ → ℕ → Result (List ℕ) Refusal → List Try → Type 0
 IsGet tries n (Ok xs) ts =
     (misses cuts : List Try) × (v : ℕ) × (x : Try)
@@ -218,7 +220,8 @@ abbrev pub IsLower : ℕ → Answer → Try → Type 0
 IsLower i Last x = (x ≡ Freed i) ⊎ ((c : ℕ) × (1 < c) × (x ≡ Lasted i c))
 IsLower i Still x = (c before : ℕ) × (1 < c) × (1 < before) × (x ≡ Lowered i c before)
 
--- The one try of an offer, by its answer, which is noted with the packet that was left; none where there is no such desk.
+-- The one try of an offer, by its answer, which is noted with the packet that was left; none where
+-- there is no such desk.
 abbrev pub IsOffer : Limits → ℕ → List Seg → Result (Unit {0}) Refusal → List Try → Type 0
 IsOffer l d p (Ok _) ts = (d < l.desks) × (ts ≡ Offered d p ∷ [])
 IsOffer l d p (Err NoSuchDesk) ts = (l.desks ≤ d) × (ts ≡ [])
@@ -246,8 +249,9 @@ IsOfCall l (Offer d packet answer) ts = IsOffer l d packet answer ts
 IsOfCall l (Take d answer) ts = IsTake l d answer ts
 IsOfCall l (CommonCount n) ts = ts ≡ Short n ∷ []
 
--- The call was refused after as many lost tries as the pool allows, in a pool in which a seat of every part knows what
--- it exchanges: of a put that is the head, and of a get and a raise a length and a count, with desks or without.
+-- The call was refused after as many lost tries as the pool allows, in a pool in which a seat of
+-- every part knows what it exchanges: of a put that is the head, and of a get and a raise a length
+-- and a count, with desks or without.
 abbrev pub IsContended : Limits → Call → Type 0
 IsContended l (GetList n (Err Contended)) = l.desks ≡ 0
 IsContended l (PutList xs (Err Contended)) = Unit {0}
@@ -262,8 +266,8 @@ KnowsShort n s = (found : ℕ) × (found < n) × KnowsLength s.known.limits s.kn
 abbrev pub KnowsSpent : ℕ → Seated → Type 0
 KnowsSpent i s = KnowsCount s.known.limits s.known.view i s.known.limits.ref_limit
 
--- What a call's answer tells its seat of the length and of a count that were read: what a seat of every part knows of
--- either.
+-- What a call's answer tells its seat of the length and of a count that were read: what a seat of
+-- every part knows of either.
 abbrev pub IsTold : Seated → Call → Type 0
 IsTold s (GetList n (Ok xs)) = Unit {0}
 IsTold s (GetList n (Err NoEntries)) = KnowsShort n s
@@ -279,7 +283,8 @@ IsTold s (Offer d packet answer) = Unit {0}
 IsTold s (Take d answer) = Unit {0}
 IsTold s (CommonCount n) = KnowsLength s.known.limits s.known.view n
 
--- what a call over words did: it took the steps of these tries, by this seat, and read what they read
+-- what a call over words did: it took the steps of these tries, by this seat, and read what they
+-- read
 pub record DidOnWords (s : Seated) (call : Call) (rs : List Reading) (t : Seated) : Type 0 where
   pub table : t.table ≡ s.table
   pub seat : t.id ≡ s.id

@@ -23,8 +23,9 @@ use pool_model::statement::Statement;
 use std::alloc::Global;
 use word_book::{ending, laws};
 
-/// Makes a pool on words, and its workers, numbered from 1, each with one part of it. All elements are in the common
-/// list, element 0 on top, and no worker has anything yet.
+/// Makes a pool on words, and its workers, numbered from 1, each with one part of it, and none of
+/// whom has anything yet. The words are those of a new ground (`Ground::make`): all elements are
+/// in the common list, element 0 on top.
 ///
 /// Refused `BadPool` where the limits are out of range, and `OutOfMemory` where memory was refused.
 pub fn make(alloc: Global, limits: &Limits) -> Result<(Ground, Vec<WordWorker>), Refusal>
@@ -125,12 +126,14 @@ impl FreeSeat {
     }
 }
 
-/// Ends a pool whose workers act no more, and settles it: their seats become one, their packets are handed in, in the
-/// order of the workers' numbers, and the ground is closed. The statement lists each element exactly once, and each
-/// packet has a place of its own; it is the one of what the ground left and of these workers' caches and packets. Each
-/// packet has 1 to 32 segments, each with its data within its buffer, and no count is above the reference limit.
+/// Ends a pool whose workers no longer act, and settles it: their seats become one, their packets
+/// are handed in, in the order of the workers' numbers, and the ground is closed. The statement
+/// lists each element exactly once, and each packet has a place of its own; it is that of what the
+/// ground left and of these workers' caches and packets. Each packet has 1 to 32 segments, each
+/// with its data within its buffer, and no count is above the reference limit.
 ///
-/// Refused `OutOfMemory` where memory was refused. The pool is ended then too, and nothing is left of it.
+/// Refused `OutOfMemory` where memory was refused. The pool is ended then too, and nothing is left
+/// of it.
 pub fn settled(
     alloc: Global,
     ground: Ground,
@@ -150,8 +153,8 @@ pub fn settled(
     ending::settled(alloc, ground, seat, shares)
 }
 
-/// Makes one seat of the seats of all workers, from the last to the first, and hands in their packets, in the room that
-/// was taken for the shares.
+/// Makes one seat of the seats of all workers, from the last to the first, and hands in their
+/// packets, in the room that was taken for the shares.
 fn joined(
     ground: &Ground,
     mut workers: Vec<WordWorker>,
