@@ -26,12 +26,13 @@ use words::{Answer, Pool};
 /// A name, a snapshot, and what its audit answers.
 type Row = (&'static str, Shown, Result<Places, Fault>);
 
-/// Both are one; else it is told of what, with both.
+/// Asserts that both are equal, and else says of what, with both.
 fn same<T: PartialEq + Debug>(rt: &impl Abort, given: &T, wanted: &T, what: &str) {
     assert!(rt; *given == *wanted, "{what}: {given:?}, not {wanted:?}");
 }
 
-/// What the audit answers for a row's snapshot, where one word may be another; `BadShape` where no pool has its limits.
+/// What the audit answers for a row's snapshot, where one word may be another; `BadShape` where no
+/// pool has its limits.
 fn audited(alloc: Global, shown: &Shown, other: Option<(Word, u32)>) -> Result<Statement, Fault> {
     if shown.limits.check().is_err() {
         return Err(Fault::BadShape);
@@ -117,7 +118,7 @@ fn assert_places(rt: &impl Abort, statement: &Statement, places: &Places, name: 
     assert_lists(rt, &statement.held, places.held, name);
 }
 
-/// Whether an audit's answer is the one that is wanted.
+/// Whether an audit's answer is the expected one.
 fn assert_answer(
     rt: &impl Abort,
     answer: Result<Statement, Fault>,

@@ -34,7 +34,7 @@ pub fn measure<R: Runtime + AllocGlobal>(
     print_each(rt, name.as_str(), nanos, elements)
 }
 
-/// The least of so many runs of the audit.
+/// The least of this many runs of the audit.
 fn audit_runs<R: Clock + AllocGlobal>(
     rt: &R,
     snapshot: &Snapshot,
@@ -57,7 +57,7 @@ fn audit_runs<R: Clock + AllocGlobal>(
     Ok(least)
 }
 
-/// The least of so many runs of the plain pass, and the sum of all its words.
+/// The least of this many runs of the plain pass, and the sum of all its words.
 fn pass_runs<R: Clock>(
     rt: &R,
     snapshot: &Snapshot,
@@ -115,7 +115,8 @@ fn with_packets(table: &[Option<Seq<Seg>>], sum: u64) -> u64 {
     sum
 }
 
-/// The snapshot that is audited: each worker has 255 packets and a full cache, and each desk one packet.
+/// The snapshot that is audited: each worker has 255 packets and a full cache, and each desk one
+/// packet.
 fn large(alloc: Global, limits: &Limits) -> Result<Snapshot, AllocError>
     ensures limits { IfOk result (λ s. s.limits ≡ limits.now) }
     ensures slots { IfOk result (λ s. HasSlots s) }
@@ -198,7 +199,8 @@ fn table(alloc: Global, index: u32) -> Result<Seq<Option<Seq<Seg>>>, AllocError>
     Ok(Seq::new(table))
 }
 
-/// The packet of a worker's slot: its element, which uses the buffer of the one before where it is odd.
+/// The packet of a worker's slot: its element, which uses the buffer of the one before where it is
+/// odd.
 fn packet(alloc: Global, index: u32, slot: u32) -> Result<Seq<Seg>, AllocError>
     requires worker { index < 64 }
     requires slot { slot < 256 }

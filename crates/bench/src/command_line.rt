@@ -77,7 +77,7 @@ pub struct Asked<'a> {
     pub workload: Option<Workload>,
     /// How many rounds a run has, where the words say so.
     pub rounds: Option<u64>,
-    /// Of how many runs the least is told.
+    /// Over how many runs the least is taken.
     pub runs: u64,
     /// What is measured of the words of a pool.
     pub cells: Cells<'a>,
@@ -112,7 +112,8 @@ pub fn read<'a>(alloc: Global, words: &'a [String]) -> Result<Asked<'a>, Error> 
     })
 }
 
-/// Says why nothing is asked for, and gives the status of the program: 0 for help, else 2, and 1 where it can't be said.
+/// Says why nothing is asked for, and gives the status of the program: 0 for help, else 2, and 1
+/// where it can't be said.
 pub fn tell<R: Print + Eprint>(rt: &R, error: &Error) -> u8 {
     let status = match error.kind() {
         ErrorKind::DisplayHelp | ErrorKind::DisplayVersion => 0,
@@ -149,8 +150,8 @@ fn number(word: Option<&str>) -> Option<u64> {
     word.and_then(|word| word.parse::<u64>().ok())
 }
 
-/// `bench [WORKLOAD] [--rounds N] [--runs R]`, and for the words of a pool `[--workload NAMES] [--threads LIST]
-/// [--cache LIST] [--population N] [--ms N]`.
+/// `bench [WORKLOAD] [--rounds N] [--runs R]`, and for the words of a pool
+/// `[--workload NAMES] [--threads LIST] [--cache LIST] [--population N] [--ms N]`.
 fn command<'a>(alloc: Global) -> Result<Command<'a>, Error> {
     let workload = Arg::new(alloc, "WORKLOAD").help(
         "What is measured; none: the list of workloads",

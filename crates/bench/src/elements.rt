@@ -1,4 +1,5 @@
-//! A get of n elements and the put of the same list: by a worker's cache, and by the stack calls alone.
+//! A get of n elements and the put of the same list: by a worker's cache, and by the stack calls
+//! alone.
 ghost use Rattle.std.specs.Prelude.{◌≡◌, ◌≤◌, ℕ};
 ghost use Rattle.commons.specs.Bag.{bag};
 
@@ -38,7 +39,7 @@ pub fn measure<R: Runtime + AllocGlobal>(
     Ok(())
 }
 
-/// The least of so many runs, by a worker with a cache.
+/// The least of this many runs, by a worker with a cache.
 fn by_cache<R: Clock + AllocGlobal>(
     rt: &R,
     population: u64,
@@ -79,7 +80,7 @@ fn worker_runs<R: Clock, C: Commons>(
     Ok(least)
 }
 
-/// Gets a list and puts it back, and answers whether the get was met.
+/// Gets a list and puts it back, and answers whether the get succeeded.
 #[inline(always)]
 pub fn there_and_back<C: Commons>(worker: &mut Worker, c: &mut C, list: &mut [u32]) -> bool
     requires limits { (C.side c.old).limits ≡ worker.old.limits }
@@ -94,7 +95,7 @@ pub fn there_and_back<C: Commons>(worker: &mut Worker, c: &mut C, list: &mut [u3
     true
 }
 
-/// The least of so many runs, by the stack calls alone.
+/// The least of this many runs, by the stack calls alone.
 fn by_stack<R: Clock + AllocGlobal>(
     rt: &R,
     count: usize,

@@ -1,4 +1,5 @@
-//! The end of a large pool: it is closed, the shares of its workers are put in a book, and the book is settled.
+//! The end of a large pool: it is closed, the shares of its workers are put in a book, and the
+//! book is settled.
 
 ghost use Rattle.std.specs.Prelude.{◌≡◌, map};
 ghost use Rattle.std.specs.List.{range_with_len};
@@ -51,7 +52,7 @@ pub fn measure<R: Runtime + AllocGlobal>(
     print_each(rt, name.as_str(), least.settle, elements)
 }
 
-/// The least of so many runs, step by step.
+/// The least of this many runs, step by step.
 fn least_of<R: Clock + AllocGlobal>(rt: &R, rounds: u64, runs: u64) -> Result<Times, Failure> {
     let mut least = Times {
         close: u64::MAX,
@@ -71,7 +72,7 @@ fn least_of<R: Clock + AllocGlobal>(rt: &R, rounds: u64, runs: u64) -> Result<Ti
     Ok(least)
 }
 
-/// The sum of so many ends, each of a pool of its own.
+/// The sum of this many ends, each of a pool of its own.
 fn sum_of<R: Clock + AllocGlobal>(rt: &R, rounds: u64) -> Result<Times, Failure> {
     let mut sum = Times {
         close: 0,

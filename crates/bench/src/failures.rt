@@ -20,7 +20,7 @@ pub enum Failure {
     Unsettled(Unsettled),
     /// A name or a number of a list isn't one that can be measured.
     NotInList,
-    /// So many elements aren't back in the common list at the end.
+    /// This many elements aren't back in the common list at the end.
     Missing(u64),
     /// A packet wasn't handed over, or didn't come back.
     NotHanded,
@@ -44,7 +44,8 @@ impl From<AllocError> for Failure {
     }
 }
 
-/// Tells of a failure, and gives its status: 2 for a list that names what can't be measured, else 1.
+/// Tells of a failure, and gives its status: 2 for a list that names what can't be measured,
+/// else 1.
 pub fn tell<R: Eprint>(rt: &R, failure: &Failure) -> u8 {
     let (told, status) = match failure {
         Failure::System(error) => (rt.eprintln(format_args!("bench: {error}")), 1),

@@ -1,4 +1,4 @@
-//! How a run is timed, and how a figure is told.
+//! How a run is timed, and how a figure is printed.
 
 use crate::failures::Failure;
 use std::fmt;
@@ -12,14 +12,14 @@ pub fn since<R: Clock>(rt: &R, start: Instant) -> Result<u64, Failure> {
     Ok(u64::try_from(nanos).unwrap_or(u64::MAX))
 }
 
-/// Prints what a round takes, in nanoseconds with one decimal, where all of them take so many.
+/// Prints what a round takes, in nanoseconds with one decimal, where all of them take this many.
 pub fn print_each<R: Print>(rt: &R, name: &str, nanos: u64, rounds: u64) -> Result<(), Failure> {
     let tenths = u128::from(nanos) * 10 / u128::from(rounds.max(1));
     let (whole, tenth) = (tenths / 10, tenths % 10);
     Ok(rt.println(format_args!("{name:<52} {whole:>8}.{tenth} ns"))?)
 }
 
-/// Prints how many of them are done in a second, where all take so many nanoseconds.
+/// Prints how many of them are done in a second, where all take this many nanoseconds.
 pub fn print_rate<R: Print>(rt: &R, name: &str, nanos: u64, count: u64) -> Result<(), Failure> {
     let rate = u128::from(count) * 1_000_000_000 / u128::from(nanos.max(1));
     Ok(rt.println(format_args!("{name:<52} {rate:>10} commands/s"))?)

@@ -59,8 +59,9 @@ const WAYS: [(Way, &str, u64); 4] = [
     (Way::ActsAlone, "act", 1),
 ];
 
-/// Prints what one hand-over takes in each way, from the offer to the take, in nanoseconds: the least, the median and the
-/// greatest of so many runs of so many milliseconds, or of so many hand-overs where `rounds` says so.
+/// Prints what one hand-over takes in each way, from the offer to the take, in nanoseconds: the
+/// least, the median and the greatest of this many runs of this many milliseconds, or of this many
+/// hand-overs where `rounds` says so.
 pub fn measure<R: Clock + Print + AllocGlobal + Threads + Sync>(
     rt: &R,
     millis: u64,

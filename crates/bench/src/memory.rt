@@ -9,9 +9,9 @@ use std::io::Print;
 use std::rt::Runtime;
 use word_pool::pool;
 
-/// Prints how much of the process is in memory, of a large pool with each of these caches: before there is anything,
-/// with a ground alone, and with a second ground that has its workers. A line has how much it is, and how much more than
-/// in the line before.
+/// Prints how much of the process is in memory, of a large pool with each of these caches: before
+/// there is anything, with a ground alone, and with a second ground that has its workers. A line
+/// has how much it is, and how much more than in the line before.
 pub fn measure<R: Runtime + AllocGlobal>(rt: &R, caches: &str) -> Result<(), Failure> {
     let caches = numbers_of(rt.alloc(), caches)?;
     rt.println(format_args!("cache  made                               resident    more"))?;

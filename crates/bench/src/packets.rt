@@ -63,7 +63,8 @@ fn print_named<R: Print + AllocGlobal>(
     print_each(rt, name.as_str(), nanos, rounds)
 }
 
-/// The least that the rounds of a run take in a new pool, with a first packet of so many segments.
+/// The least that the rounds of a run take in a new pool, with a first packet of this many
+/// segments.
 fn in_pool<R: Clock + AllocGlobal>(
     rt: &R,
     population: u64,
@@ -84,7 +85,7 @@ fn in_pool<R: Clock + AllocGlobal>(
     least
 }
 
-/// Makes a first packet of so many segments.
+/// Makes a first packet of this many segments.
 fn make_first<C: Commons>(packets: &mut Packets, c: &mut C, segs: u32)
     requires own { Own packets.old (C.side c.old) }
     ensures own { Own packets.new (C.side c.new) }
@@ -99,7 +100,7 @@ fn make_first<C: Commons>(packets: &mut Packets, c: &mut C, segs: u32)
     }
 }
 
-/// The least of so many runs, in nanoseconds.
+/// The least of this many runs, in nanoseconds.
 fn least_of<R: Clock, C: Commons>(
     rt: &R,
     packets: &mut Packets,

@@ -32,8 +32,8 @@ const SCRIPTS: [(Commands, &str); 5] = [
     (Commands::Pass, "offer and take between two workers"),
 ];
 
-/// Prints how many commands of each script are replayed in a second: the least of so many runs, each
-/// of so many replays.
+/// Prints how many commands of each script are replayed in a second: the least of this many runs,
+/// each of this many replays.
 pub fn measure<R: Runtime + AllocGlobal>(
     rt: &R,
     rounds: Option<u64>,

@@ -14,8 +14,9 @@ pub use kinds::NAMES;
 use std::rt::Runtime;
 use std::thread::Threads;
 
-/// Prints what an element that is got and put back takes in each cell, in nanoseconds of one thread: the least, the
-/// median and the greatest of so many runs, and how many of 1,000 elements were refused.
+/// Prints what an element that is got and put back takes in each cell, in nanoseconds of one
+/// thread: the least, the median and the greatest of this many runs, and how many of 1,000
+/// elements were refused.
 pub fn measure<R: Runtime + AllocGlobal + Threads + Sync>(
     rt: &R,
     asked: &Cells,

@@ -22,7 +22,7 @@ unsettled_is b closed f full (inl e) = subst (λ g. IsUnsettled b closed (cause_
 unsettled_is b closed OutOfMemory full (inr first) = absurd first.0
 unsettled_is b closed f full (inr first) = (full, first)
 
--- memory alone was wanting where no share is missing and there is no fault
+-- only memory was missing where no share is missing and there is no fault
 pub memory_alone : (b : Places) (closed : Closed) (cause : Unsettled) → IsFull b → ((f : Fault) → ¬ (IsFault (snapshot_with b closed) f)) →
     IsUnsettled b closed cause → cause ≡ NoMemory
 memory_alone b closed (MissingShare w) full sound is = absurd (full w is.missing)

@@ -4,7 +4,8 @@ use Rattle.commons.specs.declared.limits.Limits.{Limits}
 use Rattle.mbuf.specs.Members.{Member, slots}
 use Rattle.book.specs.Places.{Places}
 
--- a share that may stand in the place at n: it is of the worker of that place, and its table has all its slots
+-- a share that may stand in the place at n: it is of the worker of that place, and its table has
+-- all its slots
 pub record IsShare (n : ℕ) (m : Member) : Type 0 where
   pub number : m.number ≡ n + 1
   pub slots : length m.table ≡ slots

@@ -12,8 +12,8 @@ use Rattle.book.specs.Places.{Places}
 abbrev pub snapshot_with : Places → Closed → Snapshot
 snapshot_with b closed = snapshot_of b.limits closed (shares_in b.places)
 
--- The worker that is named is the least one whose share isn't in the book. Only where no share is missing, memory was
--- refused, or the pool has the fault that is named, and none before it.
+-- The worker that is named is the least one whose share isn't in the book. Only where no share is
+-- missing, memory was refused, or the pool has the fault that is named, and none before it.
 abbrev pub IsUnsettled : Places → Closed → Unsettled → Type 0
 IsUnsettled b closed (MissingShare w) = IsLeastMissing b w
 IsUnsettled b closed OutOfMemory = IsFull b

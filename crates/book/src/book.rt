@@ -36,7 +36,8 @@ impl Model for Book {
 impl Book {
     /// A book without shares.
     ///
-    /// Refused `BadPool` where the limits are out of range, and `OutOfMemory` where memory was refused.
+    /// Refused `BadPool` where the limits are out of range, and `OutOfMemory` where memory was
+    /// refused.
     pub fn make(alloc: Global, limits: &Limits) -> Result<Book, Refusal>
         ensures ok { IfOk result (λ b. b ≡ new_book limits.now) }
         ensures cause { IfErr result (IsMakeCause limits.now) }
@@ -51,8 +52,8 @@ impl Book {
         }
     }
 
-    /// A law of each book: its limits are in range, it has a place for each worker, and a share stands in the
-    /// place of its worker and has 256 slots. It does nothing.
+    /// A law of each book: its limits are in range, it has a place for each worker, and a share
+    /// stands in the place of its worker and has 256 slots. It does nothing.
     pub fn fits_its_limits(&self)
         ensures range { IsPool self.now.limits }
         ensures workers { length self.now.places ≡ self.now.limits.workers }
@@ -89,8 +90,8 @@ impl Book {
 
     /// Puts a share in the place of its worker.
     ///
-    /// Refused `StrangerShare` where the pool has no such worker, or its place is filled. The book is then as
-    /// before, and the share is handed back.
+    /// Refused `StrangerShare` where the pool has no such worker, or its place is filled. The book
+    /// is then as before, and the share is handed back.
     pub fn deposit(&mut self, share: Share) -> Result<(), (Refusal, Share)>
         ensures room { IsOk result ↔ IsMissing self.old share.number }
         ensures filled { OnOk result (self.new ≡ with_share self.old share) }
@@ -149,7 +150,7 @@ pub fn deposit<R: Wait>(rt: &R, book: &Mutex<Book>, share: Share) -> Result<(), 
     book.lock(rt).deposit(share)
 }
 
-/// So many empty places.
+/// This many empty places.
 fn no_shares(alloc: Global, workers: usize) -> Result<Vec<Option<Share>>, AllocError>
     ensures { IfOk result (λ v. v.items ≡ replicate workers None) }
 {

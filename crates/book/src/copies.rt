@@ -15,7 +15,8 @@ use mbuf::packets::{Packets, SLOTS};
 use snapshot::snapshot::{ShareData, Snapshot};
 use std::alloc::{AllocError, Global};
 
-/// The snapshot of a closed pool and the shares in its book. What stands in a slot or lies on a desk is a packet.
+/// The snapshot of a closed pool and the shares in its book. What stands in a slot or lies on a
+/// desk is a packet.
 pub(crate) fn snapshot(alloc: Global, closed: &Closed, book: &Book) -> Result<Snapshot, AllocError>
     ensures same { IfOk result (λ s. s ≡ snapshot_with book.now closed.now) }
     ensures on_desks { IfOk result (λ s. HasPackets s.desks) }

@@ -28,13 +28,13 @@ pub enum Unsettled {
     Fault(Fault),
 }
 
-/// The statement of a closed pool and the shares in its book, which ends both. It lists each element
-/// exactly once; what is available and what is in use are the population. Each packet that it lists has
-/// 1 to 32 segments, each with its data within its buffer.
+/// The statement of a closed pool and the shares in its book, which ends both. It lists each
+/// element exactly once; what is available and what is in use are the population. Each packet that
+/// it lists has 1 to 32 segments, each with its data within its buffer.
 ///
-/// Refused `MissingShare` of the least worker whose share isn't in the book, else `OutOfMemory` where
-/// memory was refused, else the first fault of the pool. The closed pool and the book are then handed
-/// back as they were.
+/// Refused `MissingShare` of the least worker whose share isn't in the book, else `OutOfMemory`
+/// where memory was refused, else the first fault of the pool. The closed pool and the book are
+/// then handed back as they were.
 pub fn settle(
     alloc: Global,
     closed: Closed,

@@ -6,8 +6,8 @@ ghost use Rattle.mbuf.specs.Members.{slots};
 use mbuf::packets::Packets;
 use std::marker::Model;
 
-/// What a worker has when its pool ends: its number, its cache and its packets. It can't be dropped: `lose`
-/// ends it.
+/// What a worker has when its pool ends: its number, its cache and its packets. It can't be
+/// dropped: `lose` ends it.
 pub struct Share {
     packets: Packets,
 }

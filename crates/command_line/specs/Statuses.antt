@@ -1,4 +1,5 @@
--- The status that the program ends with where the words of its command line ask for nothing that can be done.
+-- The status that the program ends with where the words of its command line ask for nothing that
+-- can be done.
 use Rattle.std.specs.Prelude.{ℕ}
 use Rattle.clap.specs.Values.{kind_of}
 use Rattle.clap.specs.declared.error.Error.{Error}

@@ -9,7 +9,7 @@ use std::env::Env;
 use std::{env, io};
 use tasks::task::{Form, Request, Task, Turns};
 
-/// What `--version` tells behind the program's name.
+/// What `--version` tells after the program's name.
 const VERSION: &str = "0.1.0";
 
 /// The most tries of a line that `--turns` may name.
@@ -31,7 +31,8 @@ pub fn words<R: Env + AllocGlobal>(rt: &R) -> Result<Vec<String>, Unasked> {
 
 /// The file that the words name, and what is to be done with its script.
 ///
-/// `Said` where the words are wrong, or ask for help or the version, and `Memory` where memory was refused.
+/// `Said` where the words are wrong, or ask for help or the version, and `Memory` where memory was
+/// refused.
 pub fn request_of<'a>(alloc: Global, words: &'a [String]) -> Result<Request<'a>, Unasked> {
     match requested(alloc, words)? {
         Some(request) => Ok(request),
@@ -106,8 +107,8 @@ fn wrong_words(alloc: Global, message: &str) -> Result<Error, Error> {
     Ok(command(alloc)?.error(ErrorKind::InvalidValue, message)?)
 }
 
-/// `mbufpool replay FILE [--json]`, `mbufpool run FILE [--ground words|locked] [--turns T] [--lose W] [--json]`
-/// and `mbufpool steps FILE`.
+/// `mbufpool replay FILE [--json]`, `mbufpool run FILE [--ground words|locked] [--turns T] [--lose
+/// W] [--json]` and `mbufpool steps FILE`.
 fn command<'a>(alloc: Global) -> Result<Command<'a>, Error> {
     let replay = Command::new(alloc, "replay")
         .about("Replays a script, and prints each reply and where each element is at the end")

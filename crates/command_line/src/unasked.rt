@@ -19,8 +19,8 @@ pub enum Unasked {
 }
 
 impl Unasked {
-    /// The status of the program: 0 where help or the version was asked for, 2 where the words are wrong, and 1 where
-    /// memory was refused.
+    /// The status of the program: 0 where help or the version was asked for, 2 where the words are
+    /// wrong, and 1 where memory was refused.
     pub fn status(&self) -> u8
         ensures { result ≡ status_of self.now }
     {
@@ -45,8 +45,9 @@ impl From<Error> for Unasked {
     }
 }
 
-/// Says why nothing was asked for, and gives the status of the program; where the text can't be written, 1 in place of 0.
-/// No clause says what is written, since `clap` says nothing of the text of its errors.
+/// Says why nothing was asked for, and gives the status of the program; where the text can't be
+/// written, 1 in place of 0. No clause says what is written, since `clap` says nothing of the text
+/// of its errors.
 pub fn tell<O: Write, E: Write>(screen: &mut O, errors: &mut E, unasked: &Unasked) -> u8
     ensures failed { 0 < status_of unasked.now → result ≡ status_of unasked.now }
     ensures help { status_of unasked.now ≡ 0 → result ≤ 1 }

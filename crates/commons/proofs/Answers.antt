@@ -1,4 +1,4 @@
--- What the calls' answers say: why each was refused, and what one that was met moved.
+-- What the calls' answers say: why each was refused, and what one that succeeded moved.
 use Rattle.std.proofs.Common.{length-take, add-one, ◌≡◌, ◌≢◌, Option, Some, None, ℕ, ◌+◌, ◌-◌, ◌<◌, List, [], ◌∷◌, ◌++◌, reverse, Result, Ok, Err, ◌==◌, true, refl, sym, ap, ◌∙◌, arith}
 use Rattle.std.specs.List.{range_with_len}
 use Rattle.std.proofs.lemmas.List.{reverse-append}
@@ -88,7 +88,7 @@ empty_word : (x : Option (List Seg)) → x ≡ None → desk_word x ≢ 2
 empty_word None h = λ e. absurd (omega (arith, e))
 empty_word (Some packet) h = absurd (none-some packet (sym h))
 
--- the desk's word that a take read is that of a full desk where it is met, and else refuses it
+-- the desk's word that a take read is that of a full desk where it succeeds, and else refuses it
 pub cause_take : (s : Lists) (w d : ℕ) (r : Result (List Seg) Refusal) (t : Lists) →
     DidTake w s d r t → HasCause s.limits (Take d r) (read_by s (Take d r))
 cause_take s w d (Ok packet) t h = (

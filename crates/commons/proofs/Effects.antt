@@ -15,7 +15,7 @@ use Rattle.commons.proofs.Raising.{hold_le_count, hand_raise, holds_raise}
 same : (s t : Lists) (w : ℕ) → t ≡ s → side_of t w ≡ side_of s w
 same s t w e = ap (λ (x : Lists). side_of x w) e
 
--- a get that is met moves the elements listed into the hand; a refused one leaves the same lists
+-- a get that succeeds moves the elements listed into the hand; a refused one leaves the same lists
 pub effect_get : (s : Lists) (w n : ℕ) (r : Result (Unit {0}) Refusal) (xs : List ℕ) (t : Lists) →
     IsTable s → DidGet w s n (with_list r xs) t →
     HasEffect (GetList n (with_list r xs)) (side_of s w) (side_of t w)
@@ -29,7 +29,8 @@ effect_get s w n (Err NoEntries) xs t table d = same s t w d.1
 effect_get s w n (Err HeadSpent) xs t table d = same s t w d.2
 effect_get s w n (Err _) xs t table d = absurd d
 
--- a put that is met takes the elements listed out of the hand; a refused one leaves the same lists
+-- a put that succeeds takes the elements listed out of the hand; a refused one leaves the same
+-- lists
 pub effect_put : (s : Lists) (w : ℕ) (xs : List ℕ) (r : Result (Unit {0}) Refusal) (t : Lists) →
     ((i : ℕ) → bag xs i ≤ hand_of s w i) → DidPut s xs r t →
     HasEffect (PutList xs r) (side_of s w) (side_of t w)
@@ -62,7 +63,7 @@ effect_count s w i n table l b is = record {
   limited = omega (arith, is, table.limited i);
 }
 
--- a raise that is met adds one hold of the element; a refused one leaves the same lists
+-- a raise that succeeds adds one hold of the element; a refused one leaves the same lists
 pub effect_raise : (s : Lists) (w i : ℕ) (r : Result (Unit {0}) Refusal) (t : Lists) → IsTable s →
     1 ≤ w → w ≤ s.limits.workers → 0 < holds_of s w i → DidRaise w s i r t →
     HasEffect (Raise i r) (side_of s w) (side_of t w)
@@ -87,7 +88,7 @@ effect_lower s w i answer t table l b h d = record {
   headers = λ j. rw d.2 (headers_lower s w i d.0 answer table l b h d.1 j);
 }
 
--- an offer that is met takes the packet's holds and headers; a refused one leaves the same lists
+-- an offer that succeeds takes the packet's holds and headers; a refused one leaves the same lists
 pub effect_offer : (s : Lists) (w d : ℕ) (packet : List Seg) (r : Result (Unit {0}) Refusal)
     (t : Lists) → DidOffer w s d packet r t →
     HasEffect (Offer d packet r) (side_of s w) (side_of t w)
@@ -103,7 +104,7 @@ effect_offer s w d packet (Err NoSuchDesk) t h = same s t w h.1
 effect_offer s w d packet (Err DeskTaken) t h = same s t w h.2
 effect_offer s w d packet (Err _) t h = absurd h
 
--- a take that is met brings the packet's holds and headers; a refused one leaves the same lists
+-- a take that succeeds brings the packet's holds and headers; a refused one leaves the same lists
 pub effect_take : (s : Lists) (w d : ℕ) (r : Result (List Seg) Refusal) (t : Lists) →
     DidTake w s d r t → HasEffect (Take d r) (side_of s w) (side_of t w)
 effect_take s w d (Ok packet) t h = record {

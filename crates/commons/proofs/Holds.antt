@@ -102,7 +102,7 @@ owner_left-le w (suc left) owner = omega arith
 pub owner_is : (v w : ℕ) → 0 < is_owner v (Some w) → w ≡ v
 owner_is v w h = grind (arith, nat_tests)
 
--- who owns a header is a worker of a pool of so many
+-- who owns a header is a worker of a pool of this many workers
 abbrev pub IsWorker : ℕ → Option ℕ → Type 0
 IsWorker workers None = Unit {0}
 IsWorker workers (Some v) = (1 ≤ v) × (v ≤ workers)

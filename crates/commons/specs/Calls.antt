@@ -11,8 +11,8 @@ use Rattle.commons.specs.declared.refusal.Refusal.TheVariants.{NoEntries, Conten
 use Rattle.commons.specs.declared.refusal.Lowered.{Lowered}
 use Rattle.commons.specs.declared.refusal.Lowered.TheVariants.{Last, Still}
 
--- one value that a call read: the length of the common list, the head's modification count, an element's
--- reference count, a desk's word; or one lost try
+-- one value that a call read: the length of the common list, the head's modification count, an
+-- element's reference count, a desk's word; or one lost try
 pub data Reading : Type 0 where
   Length : (value : ℕ) → Reading
   Head : (count : ℕ) → Reading
@@ -42,8 +42,8 @@ abbrev pub without_packet : Result (Unit {0}) (Refusal × List Seg) → Result (
 without_packet (Ok met) = Ok met
 without_packet (Err e) = Err e.0
 
--- what a reading tells, by its kind: the length of the common list, the head's count, the count of this element, or the
--- word of this desk
+-- what a reading tells, by its kind: the length of the common list, the head's count, the count of
+-- this element, or the word of this desk
 abbrev pub length_in : Reading → Option ℕ
 length_in (Length value) = Some value
 length_in (Head _) = None
@@ -152,9 +152,10 @@ IsTakeCause l d NoSuchDesk rs = l.desks ≤ d
 IsTakeCause l d DeskEmpty rs = (d < l.desks) × IsOther desk_full (last_desk d rs)
 IsTakeCause l d _ rs = ⊥
 
--- What was read is a cause of the call's answer: always the last that was read of its kind, which is what an exchange
--- sees. Where the answer is that the call was met, the head wasn't spent, nor was the count, and the desk was as it had
--- to be; a get that was met gives as many as were asked for.
+-- What was read is a cause of the call's answer: always the last that was read of its kind, which
+-- is what an exchange sees. Where the answer is that the call succeeded, the head wasn't spent,
+-- nor was the count, and the desk was as it had to be; a get that succeeded gives as many as were
+-- asked for.
 abbrev pub HasCause : Limits → Call → List Reading → Type 0
 HasCause l (GetList n (Ok xs)) rs = (length xs ≡ n) × IsBelow spent (last_head rs)
 HasCause l (GetList n (Err e)) rs = IsGetCause l n e rs
@@ -180,8 +181,9 @@ pub record Side : Type 0 where
   pub hand : ℕ → ℕ
   -- how often the worker holds each element
   pub holds : ℕ → ℕ
-  -- which of the elements that the worker holds are its headers, once or never: those that it claimed or that came as
-  -- own elements of a packet, until it offers their packet or its last hold of them ends
+  -- which of the elements that the worker holds are its headers, once or never: those that it
+  -- claimed or that came as own elements of a packet, until it offers their packet or its last
+  -- hold of them ends
   pub headers : ℕ → ℕ
 
 -- the two have the same limits, and the same of each element
@@ -231,16 +233,16 @@ abbrev pub back : Lowered → ℕ → ℕ → ℕ
 back Last i j = one i j
 back Still i j = 0
 
--- An element is held once less, and is in the hand where that was the last hold of all. A header is one until the
--- worker's last hold of it ends.
+-- An element is held once less, and is in the hand where that was the last hold of all. A header
+-- is one until the worker's last hold of it ends.
 pub record IsLower (e : ℕ) (answer : Lowered) (before after : Side) : Type 0 where
   pub limits : after.limits ≡ before.limits
   pub hand : (i : ℕ) → after.hand i ≡ before.hand i + back answer e i
   pub holds : (i : ℕ) → before.holds i ≡ after.holds i + one e i
   pub headers : (i : ℕ) → after.headers i ≡ (if nat_lt 0 (after.holds i) then before.headers i else 0)
 
--- A packet goes with its holds. Its own elements were headers, and are so no more; nor is what the worker then doesn't
--- hold.
+-- A packet goes with its holds. Its own elements were headers, and no longer are; nor is what the
+-- worker then doesn't hold.
 pub record IsOffer (packet : List Seg) (before after : Side) : Type 0 where
   pub limits : after.limits ≡ before.limits
   pub hand : after.hand ≡ before.hand
@@ -256,7 +258,8 @@ pub record IsTake (packet : List Seg) (before after : Side) : Type 0 where
   pub holds : (i : ℕ) → after.holds i ≡ before.holds i + bag (holds_of_packet packet) i
   pub headers : (i : ℕ) → after.headers i ≡ before.headers i + bag (own_of_packet packet) i
 
--- What the call does to the worker's side, by its answer; a call that is refused, or only reads, does nothing to it.
+-- What the call does to the worker's side, by its answer; a call that is refused, or only reads,
+-- does nothing to it.
 abbrev pub HasEffect : Call → Side → Side → Type 0
 HasEffect (GetList n (Ok xs)) before after = IsGet xs before after
 HasEffect (GetList n (Err e)) before after = after ≡ before
@@ -273,8 +276,8 @@ HasEffect (Take d (Ok p)) before after = IsTake p before after
 HasEffect (Take d (Err e)) before after = after ≡ before
 HasEffect (CommonCount n) before after = after ≡ before
 
--- One step: the call was made, read this, and led from the first state to the second; what it read is a cause of its
--- answer, and the worker's side has its effect.
+-- One step: the call was made, read this, and led from the first state to the second; what it read
+-- is a cause of its answer, and the worker's side has its effect.
 pub record Step {S : Type 0} (did : S → Call → List Reading → S → Type 0) (side : S → Side)
     (before : S) (call : Call) (readings : List Reading) (after : S) : Type 0 where
   pub led : did before call readings after

@@ -9,13 +9,14 @@ abbrev pub top_word : List ℕ → ℕ
 top_word [] = 0
 top_word (x ∷ xs) = x + 1
 
--- the word of what follows an element in a common list: 0 for the last, and for one that isn't there
+-- the word of what follows an element in a common list: 0 for the last, and for one that isn't
+-- there
 abbrev pub link_in : List ℕ → ℕ → ℕ
 link_in [] e = 0
 link_in (x ∷ xs) e = if x == e then top_word xs else link_in xs e
 
--- the top and the length of the common list; for each element its link and its count, 1 where nobody holds it; and
--- what is on the desks
+-- the top and the length of the common list; for each element its link and its count, 1 where
+-- nobody holds it; and what is on the desks
 abbrev pub closed_of : Lists → Closed
 closed_of s = record {
   top = top_word s.common;

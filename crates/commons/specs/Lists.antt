@@ -14,8 +14,9 @@ use Rattle.commons.specs.Bounds.{IsPool}
 use Rattle.commons.specs.Calls.{Reading, Length, Head, Count, Desk, Call, GetList, PutList, CommonCount, Claim, CountOf, Raise, Lower, Offer, Take, Side, spent, desk_empty, desk_full}
 use Rattle.commons.specs.Packets.{held_in, own_in, holds_of_packet, own_of_packet}
 
--- the common list from the top; the place of each element; for each worker how often it holds each element;
--- for each element the worker whose header it is; what is on each desk; the number of changes of the stack
+-- the common list from the top; the place of each element; for each worker how often it holds each
+-- element; for each element the worker whose header it is; what is on each desk; the number of
+-- changes of the stack
 pub record Lists : Type 0 where
   pub limits : Limits
   pub common : List ℕ
@@ -32,7 +33,8 @@ nowhere = Held 0
 abbrev pub place_of : Lists → ℕ → Place
 place_of s i = slice_index_or s.places i nowhere
 
--- how often an element with this place is in the common list, how often in a worker's hand, and its count
+-- how often an element with this place is in the common list, how often in a worker's hand, and
+-- its count
 abbrev pub in_common : Place → ℕ
 in_common Common = 1
 in_common (Hand v) = 0
@@ -48,7 +50,7 @@ held_count Common = 0
 held_count (Hand v) = 0
 held_count (Held n) = n
 
--- 0 only for a place that an element of a pool of so many workers can't have
+-- 0 only for a place that an element of a pool of this many workers can't have
 abbrev pub weight : ℕ → Place → ℕ
 weight workers Common = 1
 weight workers (Hand zero) = 0
@@ -93,10 +95,11 @@ owners (Some v) = 1
 abbrev pub desk_of : Lists → ℕ → Option (List Seg)
 desk_of s d = slice_index_or s.desks d None
 
--- Each element has one place, and the lists show it: it stands in the common list once where that is its place
--- and else not at all, it is in the hand that its place names, and its count is the number of its holds, by the
--- workers and by the packets on desks, at most the reference limit. What is a header is a worker's of the pool who holds
--- it, nobody else's header, and no own element of a packet on a desk; those are distinct.
+-- Each element has one place, and the lists show it: it stands in the common list once where that
+-- is its place and else not at all, it is in the hand that its place names, and its count is the
+-- number of its holds, by the workers and by the packets on desks, at most the reference limit.
+-- What is a header is a worker's of the pool who holds it, nobody else's header, and no own
+-- element of a packet on a desk; those are distinct.
 pub record IsTable (s : Lists) : Type 0 where
   pub pool : IsPool s.limits
   pub elements : length s.places ≡ s.limits.population
@@ -145,7 +148,7 @@ abbrev pub disowned : ℕ → Option ℕ → Option ℕ
 disowned w None = None
 disowned w (Some v) = if v == w then None else Some v
 
--- the header's owner once a worker has so many holds left
+-- the header's owner once a worker has this many holds left
 abbrev pub owner_left : ℕ → ℕ → Option ℕ → Option ℕ
 owner_left w zero owner = disowned w owner
 owner_left w (suc left) owner = owner
@@ -193,7 +196,7 @@ after_lower w i place s =
       headers = headers_left w i (holds_of s w i - 1) s.headers;
     }
 
--- where an element with this place is once a hold of it has ended, and what is told
+-- where an element with this place is once a hold of it has ended, and what is answered
 abbrev pub WasLowered : ℕ → Place → Place → Lowered → Type 0
 WasLowered w p q Last = (p ≡ Held 1) × (q ≡ Hand w)
 WasLowered w p q Still = (1 < held_count p) × (q ≡ Held (held_count p - 1))
@@ -226,8 +229,8 @@ pub record HasMore (w : ℕ) (packet : List Seg) (s t : Lists) : Type 0 where
   pub holds : (i : ℕ) → holds_of t w i ≡ holds_of s w i + bag (holds_of_packet packet) i
   pub headers : (i : ℕ) → header_of t w i ≡ header_of s w i + bag (own_of_packet packet) i
 
--- Worker w has a packet less in the second lists: its holds are gone, and its own elements, which were headers, are so
--- no more; nor is what the worker then doesn't hold.
+-- Worker w has a packet less in the second lists: its holds are gone, and its own elements, which
+-- were headers, no longer are; nor is what the worker then doesn't hold.
 pub record HasLess (w : ℕ) (packet : List Seg) (s t : Lists) : Type 0 where
   pub holds : (i : ℕ) → holds_of s w i ≡ holds_of t w i + bag (holds_of_packet packet) i
   pub own : (i : ℕ) → bag (own_of_packet packet) i ≤ header_of s w i

@@ -3,7 +3,8 @@ use Rattle.std.specs.Prelude.{ℕ, ◌≡◌, List, [], ◌∷◌}
 use Rattle.commons.specs.Calls.{Call}
 use Rattle.commons.specs.Lists.{Lists, IsTable, DidPlain}
 
--- the calls lead a worker's lists, which are a table before and after each, from one state to the other
+-- the calls lead a worker's lists, which are a table before and after each, from one state to the
+-- other
 abbrev pub LeadsPlain : ℕ → Lists → List Call → Lists → Type 0
 LeadsPlain w before [] after = before ≡ after
 LeadsPlain w before (call ∷ calls) after =

@@ -29,7 +29,7 @@ number_of StepRefused = 21
 number_of Foreign = 22
 number_of SamePacket = 23
 
--- the name that stands behind a refusal's number
+-- the name that stands after a refusal's number
 abbrev pub name_of : Refusal → List ℕ
 name_of BadPool = codes "BadPool"
 name_of OutOfMemory = codes "OutOfMemory"

@@ -1,3 +1,3 @@
--- What serves proofs and the inside of types alone. No public clause cites these modules.
+-- For proofs and the inside of types only. No public clause cites these modules.
 pub mod ListLaws
 pub mod Site

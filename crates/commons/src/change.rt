@@ -1,6 +1,6 @@
 //! The four changes of a packet's lengths, as a value that a script names and a packet carries out.
 
-/// A change of a packet's lengths, by so many bytes.
+/// A change of a packet's lengths, by this many bytes.
 #[derive(Clone, Copy, PartialEq, Eq, Debug)]
 pub enum Change {
     /// More at the end of the last segment's data.

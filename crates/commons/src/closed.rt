@@ -12,7 +12,8 @@ use crate::seq::Seq;
 use crate::site::{copies, count_in};
 use std::alloc::{AllocError, Global};
 
-/// What a pool's shared part leaves as plain data. A word names an element by one more, and none by 0.
+/// What a pool's shared part leaves as plain data. A word names an element by one more, and none
+/// by 0.
 #[derive(Debug, Drop)]
 pub struct Closed {
     /// The top of the common list.
@@ -27,7 +28,8 @@ pub struct Closed {
     pub desks: Seq<Option<Packet>>,
 }
 
-/// The top and the links of a common list, its top last, and the counts of elements with these places.
+/// The top and the links of a common list, its top last, and the counts of elements with these
+/// places.
 pub(crate) fn words(
     alloc: Global,
     common: &[u32],

@@ -41,8 +41,8 @@ pub enum PutRule {
 pub struct Limits {
     /// Elements in the pool, 1 to 16,777,214.
     pub population: u64,
-    /// Elements that a worker's cache keeps, 0 to 512; one and a half times as many, rounded down, are at most
-    /// the population.
+    /// Elements that a worker's cache keeps, 0 to 512; one and a half times as many, rounded down,
+    /// are at most the population.
     pub cache: u64,
     /// Workers, 1 to 64, numbered from 1.
     pub workers: u64,

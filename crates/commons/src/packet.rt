@@ -74,7 +74,7 @@ impl Packet {
         Packet { segs }
     }
 
-    /// Puts a segment behind the last. The packet has fewer than 32.
+    /// Puts a segment after the last. The packet has fewer than 32.
     pub fn push(&mut self, seg: Seg)
         requires room { length self.old < max_segs }
         requires data { HasItsData seg }

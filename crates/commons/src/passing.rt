@@ -10,7 +10,7 @@ ghost use Rattle.commons.specs.inside.Site.{HasEnded};
 use crate::packet::Seg;
 use crate::seq::Seq;
 
-/// A header's owner once a worker has so many holds of it left.
+/// A header's owner once a worker has this many holds of it left.
 pub(crate) fn owner_left(owner: Option<u32>, worker: u32, left: u32) -> Option<u32>
     ensures { result ≡ owner_left worker left owner }
 {
@@ -68,7 +68,7 @@ fn add_hold(row: &mut Seq<u32>, element: usize)
 }
 
 /// Ends one hold by a worker of each element that a packet holds, in the worker's row; what the
-/// worker then doesn't hold is its header no more.
+/// worker then doesn't hold is no longer its header.
 pub(crate) fn end_holds(
     row: &mut Seq<u32>,
     headers: &mut Vec<Option<u32>>,

@@ -1,4 +1,4 @@
-//! One worker's view of the shared part that is kept as lists: it names its worker in each call.
+//! One worker's side of the shared part that is kept as lists: it names its worker in each call.
 
 ghost use Rattle.std.specs.Prelude.{◌≡◌, ◌<◌, ◌≤◌, ◌+◌, ℕ, List, length};
 ghost use Rattle.commons.specs.Bag.{bag, one};

@@ -41,8 +41,8 @@ pub enum Refusal {
     /// The segment isn't indirect.
     #[error("NotIndirect")]
     NotIndirect,
-    /// A reference count other than 1 was read of the element: there was another hold of it then, perhaps
-    /// this worker's own, which may be gone by now.
+    /// A reference count other than 1 was read of the element: there was another hold of it then,
+    /// perhaps this worker's own, which may be gone by now.
     #[error("InUse")]
     InUse,
     /// There is no such packet.
@@ -60,8 +60,8 @@ pub enum Refusal {
     /// There is no such desk.
     #[error("NoSuchDesk")]
     NoSuchDesk,
-    /// The least worker whose part, what it has of the pool, wasn't handed in at the end. No call of
-    /// `PlainSite`, `Packets` or `SitePool` answers it.
+    /// The least worker whose part, what it has of the pool, wasn't handed in at the end. No call
+    /// of `PlainSite`, `Packets` or `SitePool` answers it.
     #[error("MissingShare worker {0}")]
     MissingShare(u32),
     /// The worker isn't of this pool, or its part was handed in already.
@@ -70,8 +70,8 @@ pub enum Refusal {
     /// The script's first faulty line.
     #[error("ScriptFault line {0}")]
     ScriptFault(u32),
-    /// A step of a call was named whose condition doesn't hold. No call of `PlainSite`, `Packets` or
-    /// `SitePool` answers it.
+    /// A step of a call was named whose condition doesn't hold. No call of `PlainSite`, `Packets`
+    /// or `SitePool` answers it.
     #[error("StepRefused")]
     StepRefused,
     /// The packet is of two pools. No call of `PlainSite`, `Packets` or `SitePool` answers it.

@@ -9,13 +9,15 @@ use crate::packet::Packet;
 use crate::refusal::{Lowered, Refusal};
 
 /// What a worker of a packet pool shares with others, the common stack, with its own side of it.
-/// The worker's hand is the free elements that it took off the stack and has neither claimed nor put
-/// back. Its holds are the references that it has to elements, each as often as it has one. Its headers
-/// are elements that it holds: those that it claimed, or that came as own elements of a packet, until
-/// it offers their packet or its last hold of them ends.
+/// The worker's hand is the free elements that it took off the stack and has neither claimed nor
+/// put back: those of its lcore cache, and those on the way. Its holds are the references that it
+/// has to elements, each as often as it has one: each is one count of an mbuf's `refcnt`. Its
+/// headers are elements that it holds, each a packet's own mbuf: those that it claimed, or that
+/// came as own elements of a packet, until it offers their packet or its last hold of them ends.
 ///
-/// Each answer has its cause in the last that the call read of the kind. Where a call changes a word
-/// by an exchange, that is the value which the exchange saw, so that it costs nothing to know.
+/// Each answer has its cause in the last that the call read of the kind. Where a call changes a
+/// word by an exchange, that is the value which the exchange saw, so that it costs nothing to
+/// know.
 pub trait Commons {
     /// What the worker has of the pool: its limits, and the worker's hand, holds and headers.
     ghost side: { Self → Side };
@@ -28,8 +30,8 @@ pub trait Commons {
     ///
     /// Refused `NoEntries` where a length below `out.len()` was read, `HeadSpent` where the spent
     /// modification count was read, and `Contended` after `tries` lost tries. Hand, holds and
-    /// headers are then as before, and nothing is said of `out`. A get that is met read a
-    /// modification count below the spent one, as the last.
+    /// headers are then as before, and nothing is said of `out`. Of a get that succeeds, the last
+    /// modification count that was read is below the spent one.
     ///
     /// After rte_stack_lf_generic.h, `__rte_stack_lf_pop_elems` (DPDK 21.11). `Contended` and
     /// `HeadSpent` are our own.
@@ -41,8 +43,8 @@ pub trait Commons {
     /// them, or none. On the lists the last one is on top then.
     ///
     /// Refused `HeadSpent` where the spent modification count was read, and `Contended` after
-    /// `tries` lost tries. Hand, holds and headers are then as before. A put that is met read a
-    /// modification count below the spent one, as the last.
+    /// `tries` lost tries. Hand, holds and headers are then as before. Of a put that succeeds, the
+    /// last modification count that was read is below the spent one.
     ///
     /// After rte_stack_lf_generic.h, `__rte_stack_lf_push_elems` (DPDK 21.11), which can't be
     /// refused.
@@ -58,9 +60,9 @@ pub trait Commons {
         requires { 0 < (side self.old).hand element }
         ensures did { Did did side self.old (Claim element) self.new };
 
-    /// The reference count of an element that this worker holds, as read at one moment of the call:
-    /// the number of holds of all holders, at least the worker's own and at most the pool's reference
-    /// limit. 1 says that there is no other hold.
+    /// The reference count of an element that this worker holds, as read at one moment of the
+    /// call: the number of holds of all holders, at least the worker's own and at most the pool's
+    /// reference limit. 1 says that there is no other hold.
     ///
     /// After rte_mbuf.h, `rte_mbuf_refcnt_read` (DPDK 21.11).
     fn count(&mut self, element: u32) -> u32
@@ -69,12 +71,12 @@ pub trait Commons {
 
     /// Makes one more hold by this worker of an element that it holds.
     ///
-    /// Refused `RefSpent` where the last count of the element that was read is the pool's reference
-    /// limit, and `Contended` after `tries` lost tries. Hand, holds and headers are then as before.
-    /// Of a raise that is met it is below the limit.
+    /// Refused `RefSpent` where the last count of the element that was read is the pool's
+    /// reference limit, and `Contended` after `tries` lost tries. Hand, holds and headers are then
+    /// as before. Where the raise succeeds, the last count read is below the limit.
     ///
-    /// After rte_mbuf.h, `rte_mbuf_refcnt_update` (DPDK 21.11), which knows no limit. `RefSpent` and
-    /// `Contended` are our own.
+    /// After rte_mbuf.h, `rte_mbuf_refcnt_update` (DPDK 21.11), which knows no limit. `RefSpent`
+    /// and `Contended` are our own.
     fn raise(&mut self, element: u32) -> Result<(), Refusal>
         requires { 0 < (side self.old).holds element }
         ensures did { Did did side self.old (Raise element result) self.new };
@@ -96,8 +98,8 @@ pub trait Commons {
     ///
     /// Refused `NoSuchDesk` exactly where the pool has no such desk, and `DeskTaken` where a desk
     /// word other than 0, that of an empty desk, was read. The packet comes back then, and hand,
-    /// holds and headers are as before. Of an offer that is met the last word of the desk that was
-    /// read is that of an empty one.
+    /// holds and headers are as before. Where the offer succeeds, the last word of the desk that
+    /// was read is that of an empty one.
     ///
     /// Desks are our own; DPDK passes mbufs between lcores over an `rte_ring`.
     fn offer(&mut self, desk: u32, packet: Packet) -> Result<(), (Refusal, Packet)>
@@ -111,26 +113,28 @@ pub trait Commons {
     /// headers of the worker, are headers of it.
     ///
     /// Refused `NoSuchDesk` exactly where the pool has no such desk, and `DeskEmpty` where a desk
-    /// word other than 2, that of a full desk, was read. Hand, holds and headers are then as before.
-    /// Of a take that is met the last word of the desk that was read is that of a full one.
+    /// word other than 2, that of a full desk, was read. Hand, holds and headers are then as
+    /// before. Where the take succeeds, the last word of the desk that was read is that of a full
+    /// one.
     ///
     /// Desks are our own; DPDK passes mbufs between lcores over an `rte_ring`.
     fn take(&mut self, desk: u32) -> Result<Packet, Refusal>
         ensures did { Did did side self.old (Take desk result) self.new };
 
-    /// The length word of the common stack, as read at one moment of the call. While another worker is
-    /// within a call it may lag behind the stack itself; on the lists it is the list's length.
+    /// The length word of the common stack, as read at one moment of the call. While another
+    /// worker is within a call it may lag behind the stack itself; on the lists it is the list's
+    /// length.
     ///
     /// After rte_stack_lf_generic.h, `__rte_stack_lf_count` (DPDK 21.11).
     fn common_count(&mut self) -> u32
         ensures did { Did did side self.old (CommonCount result) self.new };
 
-    /// An element is in a hand at most once, and none from the population on is.
+    /// An element is in a hand at most once, and none at or above the population is.
     ghost hand_once: { (c : Self) (i : ℕ) → (side c).hand i ≤ 1 };
 
     ghost hand_below: { (c : Self) (i : ℕ) → (side c).limits.population ≤ i → (side c).hand i ≡ 0 };
 
-    /// None from the population on is held.
+    /// No element at or above the population is held.
     ghost holds_below: { (c : Self) (i : ℕ) → (side c).limits.population ≤ i → (side c).holds i ≡ 0 };
 
     /// What the worker holds isn't in its hand.

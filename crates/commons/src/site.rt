@@ -236,8 +236,8 @@ impl PlainSite {
 
     /// Leaves a worker's packet on a desk, with all its holds.
     ///
-    /// Refused `NoSuchDesk` where the pool has no such desk, else `DeskTaken` where a packet is there.
-    /// Nothing changes then, and the packet comes back.
+    /// Refused `NoSuchDesk` where the pool has no such desk, else `DeskTaken` where a packet is
+    /// there. Nothing changes then, and the packet comes back.
     pub(crate) fn offer(
         &mut self,
         worker: u32,
@@ -270,8 +270,8 @@ impl PlainSite {
 
     /// Takes the packet off a desk, with all its holds.
     ///
-    /// Refused `NoSuchDesk` where the pool has no such desk, else `DeskEmpty` where no packet is there.
-    /// Nothing changes then.
+    /// Refused `NoSuchDesk` where the pool has no such desk, else `DeskEmpty` where no packet is
+    /// there. Nothing changes then.
     pub(crate) fn take(&mut self, worker: u32, desk: u32) -> Result<Packet, Refusal>
         requires low { 1 ≤ worker }
         requires high { worker ≤ self.old.limits.workers }
@@ -359,7 +359,7 @@ fn downwards(alloc: Global, count: u32) -> Result<Vec<u32>, AllocError>
     Ok(numbers)
 }
 
-/// So many times the same value.
+/// This many times the same value.
 pub(crate) fn copies<T: Copy + Drop>(
     alloc: Global,
     value: T,
@@ -385,7 +385,7 @@ fn no_holds(alloc: Global, workers: usize, population: usize) -> Result<Vec<Seq<
     Ok(rows)
 }
 
-/// So many desks with no packet.
+/// This many desks with no packet.
 fn no_packets(alloc: Global, desks: usize) -> Result<Vec<Option<Packet>>, AllocError>
     ensures { IfOk result (λ packets. packets.items ≡ replicate desks None) }
 {
@@ -450,7 +450,7 @@ pub(crate) fn count_in(place: Place) -> u32
     }
 }
 
-/// The place of an element once a hold of it has ended, and what the one who ended it is told.
+/// The place of an element once a hold of it has ended, and what the one who ended it is answered.
 fn lowered(place: Place, worker: u32) -> (Place, Lowered)
     requires { 0 < held_count place }
     ensures { WasLowered worker place result.0 result.1 }

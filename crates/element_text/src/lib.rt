@@ -9,7 +9,7 @@ use std::io::Write;
 
 /// Appends how many elements these are, and which, to the end of the line.
 ///
-/// An error is answered where there is no room for it: it may then stand in part.
+/// Answers an error where there is no room for it; part of it may then be written.
 #[tactic(auto, unfolding(crate::specs::Elements::elements_text))]
 pub fn write_elements(out: &mut Vec<u8>, elements: &[u32]) -> io::Result<()>
     ensures { OnOk result (out.new.items ≡ out.old.items ++ elements_text elements.now) }
@@ -19,9 +19,9 @@ pub fn write_elements(out: &mut Vec<u8>, elements: &[u32]) -> io::Result<()>
     writeln!(out)
 }
 
-/// Appends each element behind a space.
+/// Appends each element after a space.
 ///
-/// An error is answered where there is no room for it: it may then stand in part.
+/// Answers an error where there is no room for it; part of it may then be written.
 pub fn write_joined(out: &mut Vec<u8>, elements: &[u32]) -> io::Result<()>
     ensures { OnOk result (out.new.items ≡ out.old.items ++ joined decimal elements.now) }
 {
@@ -33,7 +33,7 @@ pub fn write_joined(out: &mut Vec<u8>, elements: &[u32]) -> io::Result<()>
 
 /// Appends the element whose buffer an indirect segment uses, and nothing at a direct one.
 ///
-/// An error is answered where there is no room for it: it may then stand in part.
+/// Answers an error where there is no room for it; part of it may then be written.
 pub fn write_base(out: &mut Vec<u8>, base: Option<u32>) -> io::Result<()>
     ensures { OnOk result (out.new.items ≡ out.old.items ++ base_text base) }
 {

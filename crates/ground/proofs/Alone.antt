@@ -1,4 +1,5 @@
--- Where one seat has every part, no other view names anything, and so the seat knows the length of the common list.
+-- Where one seat has every part, no other view names anything, and so the seat knows the length of
+-- the common list.
 use Rattle.std.proofs.Common.{◌≡◌, ◌≢◌, ℕ, zero, suc, ◌+◌, ◌<◌, ◌≤◌, Bool, true, false, List, [], ◌∷◌, ◌++◌, Option, Some, None}
 use Rattle.std.proofs.Common.{length, set, refl, sym, ap, ◌∙◌, subst, ⊎_elim, arith, length-append, eq-eqb, ne_eqb}
 use Rattle.std.specs.Prelude.{sum_by, IfSome, IsSome, flat_map, not, slice_index_or, ◌&&◌, ◌==◌, if◌then◌else◌}
@@ -157,7 +158,7 @@ module _ (w : World) (law : Lawful w) (k : ℕ) where
       omega (arith, below-past w.limits.population i past))
       (cases_lt i w.limits.population)
 
-  -- a desk in work isn't full
+  -- a busy desk isn't full
   in_work : (o : Option Work) → beside.work ≡ o →
       IfSome o (λ x. slice_index_or (lying_on w.desks) x.desk None ≡ None)
   in_work None e = tt

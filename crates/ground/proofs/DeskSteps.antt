@@ -1,5 +1,6 @@
--- Each of the four steps on a desk's word keeps the rule, and tells its seat what its contract says. What the seat put into
--- the slot, or took out of it, since it has the slot is a step of the machine before the one on the word.
+-- Each of the four steps on a desk's word keeps the rule, and tells its seat what its contract
+-- says. What the seat put into the slot, or took out of it, since it has the slot is a step of the
+-- machine before the one on the word.
 use Rattle.std.proofs.Common.{◌≡◌, ◌≢◌, ◌==◌, ℕ, zero, suc, ◌<◌, ◌≤◌, Bool, true, eqb, List, [], ◌∷◌, ◌++◌, Option, Some, None, length, set, refl, sym, ap, ◌∙◌, subst, arith, eq-eqb, ne_eqb, get_or-set_same}
 use Rattle.std.specs.Prelude.{slice_index, ◌&&◌, nat_lt, nat_le, is_none, IfSome, if◌then◌else◌}
 use Rattle.std.proofs.lemmas.Bool.{lt-ltb, le-leb, and_from}

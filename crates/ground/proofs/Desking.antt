@@ -1,4 +1,5 @@
--- What the rule says of one desk, and that it stands once a step on the desk's word leaves a lawful world.
+-- What the rule says of one desk, and that it stands once a step on the desk's word leaves a lawful
+-- world.
 use Rattle.std.proofs.Common.{◌≡◌, ℕ, zero, suc, ◌+◌, ◌-◌, ◌*◌, ◌<◌, ◌≢◌, List, [], ◌∷◌, ◌++◌, length, set, refl, sym, ap, ◌∙◌, subst, ⊎_elim, arith, get_or-set_same, get_or-set_other}
 use Rattle.std.specs.Prelude.{slice_index, map, Option, Some, None, IfSome, IsSome}
 use Rattle.std.proofs.lemmas.List.{length-set, get_or-append_right, set-append_right, set-get_or}
@@ -189,7 +190,8 @@ module _ (l : Limits) (s : St) (r : Ruled l s) (id : ℕ) (me : Sat) (at : get_e
       let some = busy.0 in
       omega arith))
 
-  -- the rule stands, once a step on the desk's word leaves a lawful world with this desk and this view
+  -- the rule stands, once a step on the desk's word leaves a lawful world with this desk and this
+  -- view
   pub ruled : (st : Step) (o : Outcome) (x : Desk) (v : View) (lying : Option (List Slot))
       (slots : List (ℕ × Slot)) (a : Act Slot) →
       Lawful (desked r.world id d x v) → HeaderLaw (desked r.world id d x v) →

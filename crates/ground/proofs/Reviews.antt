@@ -1,5 +1,5 @@
--- Other views that sum up to the same keep a world's laws: a view that is cut in two, two views that are made one, and
--- one view of every part in the place of one for each worker.
+-- Other views that sum up to the same keep a world's laws: a view that is cut in two, two views
+-- that are made one, and one view of every part in the place of one for each worker.
 use Rattle.std.proofs.Common.{◌≡◌, ℕ, zero, suc, ◌+◌, ◌*◌, ◌<◌, ◌≤◌, ◌≢◌, List, [], ◌∷◌, ◌++◌, None, length, replicate, set, refl, ap, ◌∙◌, arith, ⊎_elim, get_or-set_other}
 use Rattle.std.specs.Prelude.{sum_by, IfSome}
 use Rattle.std.proofs.lemmas.Bool.{cases_lt}

@@ -1,4 +1,5 @@
--- The three rules are the machine's law, with the law of headers, of a world with as many desks as its limits say.
+-- The three rules are the machine's law, with the law of headers, of a world with as many desks as
+-- its limits say.
 use Rattle.std.proofs.Common.{◌≡◌, length}
 use Rattle.step_core.specs.World.{World}
 use Rattle.step_core.specs.Law.{Lawful}

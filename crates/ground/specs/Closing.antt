@@ -23,7 +23,7 @@ pub record Nothing (v : View) : Type 0 where
   pub chain : v.chain ≡ None
   pub work : v.work ≡ None
 
--- the packet of a full desk: one in work is its worker's
+-- the packet of a full desk: that of a busy one is its worker's
 abbrev pub kept_on : ℕ → Option (List Seg) → Option (List Seg)
 kept_on word slot = if word == desk_full then slot else None
 
@@ -40,8 +40,8 @@ packet_on x = kept_on x.word x.slot
 abbrev pub lying_on : List Desk → List (Option (List Seg))
 lying_on desks = map packet_on desks
 
--- What is left is of a lawful world of these limits, in which this view is a worker's. Where it has every part, no
--- other view names anything.
+-- What is left is of a lawful world of these limits, in which this view is a worker's. Where it has
+-- every part, no other view names anything.
 pub record LeftOf (l : Limits) (v : View) (c : Closed) : Type 0 where
   pub world : World
   pub id : ℕ

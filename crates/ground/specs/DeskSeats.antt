@@ -1,4 +1,5 @@
--- What the six steps of the desks make of a seat. An Open and a Seize that won are noted with the packet that moved.
+-- What the six steps of the desks make of a seat. An Open and a Seize that won are noted with the
+-- packet that moved.
 use Rattle.std.specs.Prelude.{◌≡◌, ℕ, List, [], ◌∷◌, Option, Some, None}
 use Rattle.commons.specs.Packets.{holds_of_packet}
 use Rattle.commons.specs.declared.packet.Seg.{Seg}
@@ -19,14 +20,16 @@ with_slots s slots = record s { slots = slots }
 abbrev pub laid : ℕ → Option (List Seg) → Seated → Seated
 laid d slot s = record s { known = record s.known { lying = laid_on d slot s.known.lying } }
 
--- what is in the slot may be given away: the worker holds it, and its own elements are distinct headers of the worker
+-- what is in the slot may be given away: the worker holds it, and its own elements are distinct
+-- headers of the worker
 pub record MayOpen (d : ℕ) (v : View) : Type 0 where
   pub packet : List Seg
   pub phase : phase_at d v.work ≡ Some (Filled packet)
   pub held : Includes v.holds (holds_of_packet packet)
   pub owned : OwnsHeaders v packet
 
--- each says what the seat is then, and that its view, read off seat and slot, is as the step leaves it
+-- each says what the seat is then, and that its view, read off seat and slot, is as the step
+-- leaves it
 abbrev pub Holds : ℕ → Seated → Seated → Type 0
 Holds d s t =
     (t ≡ with_slots

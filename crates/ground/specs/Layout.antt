@@ -1,6 +1,7 @@
--- Where each word of a pool stands. Every get and put of every worker exchanges the head and the length. So each of the
--- two has a cache line for itself, and the links and counts begin behind both: an exchange of the one takes away
--- neither the other nor an element's words from a worker that reads them.
+-- Where each word of a pool stands. Every get and put of every worker exchanges the head and the
+-- length. So each of the two has a cache line for itself, and the links and counts begin after
+-- both: an exchange of the one takes away neither the other nor an element's words from a worker
+-- that reads them.
 use Rattle.std.specs.Prelude.{ℕ, ◌+◌, ◌-◌, ◌*◌, List, ◌∷◌, ◌++◌, map, replicate}
 use Rattle.head_word.specs.Heads.{low_in, count_in, word_with}
 use Rattle.step_core.specs.declared.view.Head.{Head}
@@ -25,11 +26,11 @@ length_word = line_words
 abbrev pub links_at : ℕ
 links_at = 2 * line_words
 
--- a word with a line for itself
+-- a word with a cache line for itself
 abbrev pub line_of : ℕ → List ℕ
 line_of word = word ∷ replicate (line_words - 1) 0
 
--- the words before the links: the head's line and the length's
+-- the words before the links: the cache line of the head and that of the length
 abbrev pub lines : ℕ → ℕ → List ℕ
 lines head length = line_of head ++ line_of length
 
@@ -40,7 +41,7 @@ words_with head length links counts desks = lines head length ++ (links ++ (coun
 abbrev pub word_on : Desk → ℕ
 word_on x = x.word
 
--- the words behind the lines
+-- the words after these cache lines
 abbrev pub rows_of : World → List ℕ
 rows_of w = w.links ++ (w.counts ++ map word_on w.desks)
 
@@ -57,7 +58,8 @@ count_word population i = links_at + population + i
 abbrev pub desk_word : ℕ → ℕ → ℕ
 desk_word population d = links_at + 2 * population + d
 
--- the element whose link the word at this index is, the one whose count it is, and the desk whose word it is
+-- the element whose link the word at this index is, the one whose count it is, and the desk whose
+-- word it is
 abbrev pub element_linked_at : ℕ → ℕ
 element_linked_at word = word - links_at
 

@@ -16,7 +16,8 @@ pub record Owned (l : Limits) (v : View) : Type 0 where
   pub pool : IsPool l
   pub busy : 0 < v.part
   pub within : v.part ≤ l.workers
-  -- an element of the pool is in the hand, or of count 0 for the moment, at most once, and no other element is
+  -- an element of the pool is in the hand, or of count 0 for the moment, at most once, and no other
+  -- element is
   pub hand_once : (i : ℕ) → bag v.hand i + bag v.zeros i ≤ 1
   pub hand_below : (i : ℕ) → l.population ≤ i → bag v.hand i + bag v.zeros i ≡ 0
   -- an element that is held is one of the pool's, and isn't in the hand
@@ -30,15 +31,15 @@ pub record Owned (l : Limits) (v : View) : Type 0 where
   pub chain :
       IfSome v.chain (λ c. (c.end ≤ l.population) × (first_value c.items ≤ l.population))
 
--- What a word step leaves of a work, and what its slot may hold since: it is to be filled, with whatever packet, or was
--- seized with a packet, and has that one or none.
+-- What a word step leaves of a work, and what its slot may hold since: it is to be filled, with
+-- whatever packet, or was seized with a packet, and has that one or none.
 abbrev pub IsSince : Phase → Option (List Seg) → Type 0
 IsSince ToFill slot = IfSome slot IsPacket
 IsSince (Filled p) slot = ⊥
 IsSince (Seized p) slot = IsPacket p × IfSome slot (λ q. q ≡ p)
 IsSince TakenOut slot = ⊥
 
--- the slot of a desk in work is out with the seat that has the work, and no other is
+-- the slot of a busy desk is out with the seat that works at it, and no other is
 abbrev pub AtDesk : Option Work → List (ℕ × Option (List Seg)) → Type 0
 AtDesk None slots = slots ≡ []
 AtDesk (Some x) slots =
@@ -48,7 +49,7 @@ AtDesk (Some x) slots =
 abbrev pub KnowsDesks : Known → Type 0
 KnowsDesks n = n.view.part ≡ n.limits.workers → IsSome n.lying
 
--- between calls: nothing is reserved, nothing chained, no element has count 0, and no desk is in work
+-- between calls: nothing is reserved, nothing chained, no element has count 0, and no desk is busy
 pub record AtRest (v : View) : Type 0 where
   pub zeros : v.zeros ≡ []
   pub credit : v.credit ≡ 0

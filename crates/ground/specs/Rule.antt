@@ -21,7 +21,8 @@ use Rattle.ground.specs.StackRule.{StackRule}
 use Rattle.ground.specs.CountRule.{CountRule}
 use Rattle.ground.specs.DeskRule.{DeskRule}
 
--- what a slot of the table holds, and what a seat has: what it knows, and the slots that are out with it
+-- what a slot of the table holds, and what a seat has: what it knows, and the slots that are out
+-- with it
 abbrev pub Slot : Type 0
 Slot = Option (List Seg)
 
@@ -31,7 +32,8 @@ Sat = Me Slot Known
 abbrev pub view_in : Known → View
 view_in n = n.view
 
--- A desk's slot as the table has it: at home, but where a worker fills or empties the desk, and has the slot.
+-- A desk's slot as the table has it: at home, but where a worker fills or empties the desk, and
+-- has the slot.
 abbrev pub home_by : ℕ → Slot → maybe.Option Slot
 home_by word slot = if word == 1 then none else if word == 3 then none else some slot
 

@@ -48,8 +48,8 @@ work_by None slots = None
 work_by (Some x) [] = Some x
 work_by (Some x) (slot ∷ slots) = Some (record { desk = x.desk; phase = phase_by x.phase slot.1 })
 
--- The view of a seat, read off what it knows and its slots together: what it knows changes at steps on words alone, and
--- a packet goes into a slot and out of it between them.
+-- The view of a seat, read off what it knows and its slots together: what it knows changes at
+-- steps on words alone, and a packet goes into a slot and out of it between them.
 abbrev pub sight : Seated → View
 sight s = record s.known.view { work = work_by s.known.view.work s.slots }
 
@@ -57,7 +57,7 @@ sight s = record s.known.view { work = work_by s.known.view.work s.slots }
 abbrev pub Note : Type 0
 Note = Step × Outcome
 
--- the seat with this view, and with these steps taken besides
+-- the seat with this view, and with these steps taken in addition
 abbrev pub after : Seated → List Note → View → Seated
 after s notes v = record s {
   known = record s.known { view = v; steps = s.known.steps ++ notes };
@@ -67,7 +67,8 @@ after s notes v = record s {
 abbrev pub Steps : Step → Outcome → Seated → Seated → Type 0
 Steps st o s t = t ≡ after s ((st, o) ∷ []) (view_after None st o s.known.view)
 
--- the outcome of an exchange by its answer: of a count or the length, of a cut with this front, of a push
+-- the outcome of an exchange by its answer: of a count or the length, of a cut with this front, of
+-- a push
 abbrev pub outcome_of : Result (Unit {0}) ℕ → Outcome
 outcome_of (Ok _) = Won
 outcome_of (Err found) = Lost found
@@ -102,10 +103,11 @@ held_below (suc n) xs = held_below n xs + min 1 (bag xs n)
 abbrev pub on_desk : List (Option (List Seg)) → ℕ → Option (List Seg)
 on_desk desks d = slice_index_or desks d None
 
--- What may lie on the desks beside a view: on each desk of the pool a packet, or nothing. A packet has 1 to 32 segments,
--- each with its data within its buffer. The packets hold elements of the pool alone, and none that is in the hand; with
--- the view's own holds no element is held more often than the reference limit says; none is an own one of two segments,
--- or of one and a header of the view; and the desk that the view has in work isn't full.
+-- What may lie on the desks beside a view: on each desk of the pool a packet, or nothing. A packet
+-- has 1 to 32 segments, each with its data within its buffer. The packets hold elements of the pool
+-- alone, and none that is in the hand; with the view's own holds no element is held more often than
+-- the reference limit says; none is an own one of two segments, or of one and a header of the view;
+-- and the desk that the view works at isn't full.
 pub record MayLie (l : Limits) (v : View) (desks : List (Option (List Seg))) : Type 0 where
   pub as_many : length desks ≡ l.desks
   pub packets : (d : ℕ) → IfSome (on_desk desks d) IsPacket
@@ -115,8 +117,9 @@ pub record MayLie (l : Limits) (v : View) (desks : List (Option (List Seg))) : T
   pub own_once : (i : ℕ) → bag v.headers i + own_in desks i ≤ 1
   pub work : IfSome v.work (λ x. on_desk desks x.desk ≡ None)
 
--- A seat of every part knows what lies on the desks, and so the length word: it is the population without the hand, the
--- credit, and the elements that are held, each once, by the seat or by a packet on a desk.
+-- A seat of every part knows what lies on the desks, and so the length word: it is the population
+-- without the hand, the credit, and the elements that are held, each once, by the seat or by a
+-- packet on a desk.
 abbrev pub KnowsLength : Known → ℕ → Type 0
 KnowsLength n found =
     n.view.part ≡ n.limits.workers →
@@ -140,7 +143,8 @@ abbrev pub laid_on : ℕ → Option (List Seg) → Option (List (Option (List Se
     Option (List (Option (List Seg)))
 laid_on d slot known = option_map (λ desks. slice_set desks d slot) known
 
--- a seat that knows what lies on the desks knows that this lies on desk d, that nothing does, or that a packet does
+-- a seat that knows what lies on the desks knows that this lies on desk d, that nothing does, or
+-- that a packet does
 abbrev pub KnowsThere : ℕ → List Seg → Known → Type 0
 KnowsThere d p n = IfSome n.lying (λ desks. on_desk desks d ≡ Some p)
 

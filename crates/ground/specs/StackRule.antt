@@ -1,4 +1,5 @@
--- The stack's part of the rule: where each element is, what is reserved, and what each worker has seen and chained.
+-- The stack's part of the rule: where each element is, what is reserved, and what each worker has
+-- seen and chained.
 use Rattle.std.specs.Prelude.{◌≡◌, ℕ, ◌≤◌, List, None, IfSome, length}
 use Rattle.step_core.specs.World.{World, view_at, link_in, parts}
 use Rattle.step_core.specs.Law.{PlaceLaw, LengthLaw, LookLaw, ChainLaw}

@@ -29,8 +29,8 @@ noted st o m = (
   m.1,
 )
 
--- a step tells what it made of the seat, what is true of the new view by itself, where the slots are, and that a seat of
--- every part knows the desks
+-- a step tells what it made of the seat, what is true of the new view by itself, where the slots
+-- are, and that a seat of every part knows the desks
 abbrev pub Tells : Step → Outcome → Sat → Sat → Type 0
 Tells st o m m' =
     (m' ≡ noted st o m) × Owned m.0.limits (view_after None st o m.0.view)
@@ -54,7 +54,7 @@ abbrev pub IsLater : Bool → Known → ℕ → Type 0
 IsLater true n found = Unit {0}
 IsLater false n found = (low_in found < no_low) × (count_of n.view.look < (unpack found).count)
 
--- and the seat hasn't every part
+-- and the seat doesn't have every part
 abbrev pub IsShared : Bool → Known → Type 0
 IsShared true n = Unit {0}
 IsShared false n = n.view.part ≢ n.limits.workers

@@ -1,5 +1,5 @@
-//! The five steps of the counts. Each is one atomic operation on one element's count, by one seat, whose view changes as
-//! the machine's step says, whatever the other seats do.
+//! The five steps of the counts. Each is one atomic operation on one element's count, by one seat,
+//! whose view changes as the machine's step says, whatever the other seats do.
 
 ghost use Rattle.std.specs.Prelude.{◌≡◌, ◌≢◌, ◌+◌, ◌<◌, ◌≤◌, IfErr, MatchResult};
 ghost use Rattle.commons.specs.Bag.{bag};
@@ -14,7 +14,7 @@ use crate::seat::GroundSeat;
 use crate::stack::LINKS;
 
 impl Ground {
-    /// Where the count of an element stands: behind the links.
+    /// Where the count of an element stands: after the links.
     fn count_word(&self, element: u32) -> usize
         requires { element < self.now.limits.population }
         ensures { result ≡ count_word self.now.limits.population element }
@@ -22,8 +22,8 @@ impl Ground {
         LINKS + self.limits.population as usize + element as usize
     }
 
-    /// Makes an element of the hand a held one, and a header: reads its count, which is 1 (rte_mbuf.h,
-    /// rte_mbuf_raw_alloc).
+    /// Makes an element of the hand a held one, and a header: reads its count, which is 1
+    /// (rte_mbuf.h, rte_mbuf_raw_alloc).
     pub fn claim(&self, seat: &mut GroundSeat, element: u32)
         requires of { IsOf self.now seat.old }
         requires hand { 0 < bag seat.old.known.view.hand element }
@@ -35,9 +35,9 @@ impl Ground {
             .load::<Claims>(&mut seat.seat, self.count_word(element));
     }
 
-    /// Reads the count of a held element. Where it is 1 and `free`, the hold ends, and the element is in the hand
-    /// (rte_mbuf.h, rte_pktmbuf_prefree_seg). A seat of every part learns that it and the packets on full desks have all
-    /// holds there are.
+    /// Reads the count of a held element. Where it is 1 and `free`, the hold ends, and the element
+    /// is in the hand (rte_mbuf.h, rte_pktmbuf_prefree_seg). A seat of every part learns that it
+    /// and the packets on full desks have all holds there are.
     pub fn sole(&self, seat: &mut GroundSeat, element: u32, free: bool) -> u64
         requires of { IsOf self.now seat.old }
         requires held { 0 < bag seat.old.known.view.holds element }
@@ -55,8 +55,9 @@ impl Ground {
         }
     }
 
-    /// Makes one more hold of a held element: raises its count by 1, where it is `old`. Else answers what it is, and
-    /// nothing has changed (rte_mbuf.h, rte_mbuf_refcnt_update).
+    /// Makes one more hold of a held element: raises its count by 1, where it is `old`, which is
+    /// below the reference limit. Else answers what it is, and nothing has changed (rte_mbuf.h,
+    /// rte_mbuf_refcnt_update).
     pub fn raise(&self, seat: &mut GroundSeat, element: u32, old: u64) -> Result<(), u64>
         requires of { IsOf self.now seat.old }
         requires held { 0 < bag seat.old.known.view.holds element }
@@ -74,8 +75,8 @@ impl Ground {
         if found == old { Ok(()) } else { Err(found) }
     }
 
-    /// Ends one hold of an element: lowers its count by 1, and answers what it was. Where that was 1, the element is in
-    /// the hand, with count 0 (rte_mbuf.h, rte_pktmbuf_prefree_seg).
+    /// Ends one hold of an element: lowers its count by 1, and answers what it was. Where that was
+    /// 1, the element is in the hand, with count 0 (rte_mbuf.h, rte_pktmbuf_prefree_seg).
     pub fn lower(&self, seat: &mut GroundSeat, element: u32) -> u64
         requires of { IsOf self.now seat.old }
         requires held { 0 < bag seat.old.known.view.holds element }
@@ -91,7 +92,8 @@ impl Ground {
             .fetch_sub::<Lowers>(&mut seat.seat, word, 1)
     }
 
-    /// Sets the count of an element of the hand to 1, where it is 0 (rte_mbuf.h, rte_mbuf_refcnt_set).
+    /// Sets the count of an element of the hand to 1, where it is 0 (rte_mbuf.h,
+    /// rte_mbuf_refcnt_set).
     pub fn reset(&self, seat: &mut GroundSeat, element: u32)
         requires of { IsOf self.now seat.old }
         requires zero { 0 < bag seat.old.known.view.zeros element }

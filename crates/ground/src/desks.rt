@@ -1,6 +1,7 @@
-//! The six steps of the desks. Each is one atomic operation on one desk's word, or an exchange of what is in its slot, by
-//! one seat, whose view changes as the machine's step says, whatever the other seats do. The slot of a desk is with the
-//! seat that has the desk in work, and so nobody else reads or writes it then.
+//! The six steps of the desks. Each is one atomic operation on one desk's word, or an exchange of
+//! what is in its slot, by one seat, whose view changes as the machine's step says, whatever the
+//! other seats do. The slot of a desk is with the seat that works at the desk, and so nobody else
+//! reads or writes it then.
 
 ghost use Rattle.std.specs.Prelude.{◌≡◌, ◌≢◌, ◌<◌, [], ◌∷◌, ℕ, List, Some, None, IfOk, IfErr, MatchResult};
 ghost use Rattle.commons.specs.Bag.{bag};
@@ -21,7 +22,7 @@ use crate::stack::LINKS;
 use commons::packet::Packet;
 
 impl Ground {
-    /// Where the word of a desk stands: behind the counts.
+    /// Where the word of a desk stands: after the counts.
     fn desk_word(&self, desk: u32) -> usize
         requires { desk < self.now.limits.desks }
         ensures { result ≡ desk_word self.now.limits.population desk }
@@ -29,8 +30,8 @@ impl Ground {
         LINKS + 2 * self.limits.population as usize + desk as usize
     }
 
-    /// Begins to fill a desk, where its word is 0. Else answers what it is, and nothing has changed. A seat that knows
-    /// what lies on the desks knew this before.
+    /// Begins to fill a desk, where its word is 0. Else answers what it is, and nothing has
+    /// changed. A seat that knows what lies on the desks knew this before.
     pub fn hold(&self, seat: &mut GroundSeat, desk: u32) -> Result<(), u64>
         requires of { IsOf self.now seat.old }
         requires desk { desk < self.now.limits.desks }
@@ -64,7 +65,8 @@ impl Ground {
         drop(before);
     }
 
-    /// Makes the desk that the seat has filled full: stores 2 in its word. The packet's holds and headers go with it.
+    /// Makes the desk that the seat has filled full: stores 2 in its word. The packet's holds and
+    /// headers go with it.
     pub fn open(&self, seat: &mut GroundSeat, desk: u32)
         requires of { IsOf self.now seat.old }
         requires desk { desk < self.now.limits.desks }
@@ -78,8 +80,9 @@ impl Ground {
             .store::<OpensDesk>(&mut seat.seat, word, 2);
     }
 
-    /// Begins to empty a desk, where its word is 2: its packet's holds and headers are the seat's. Else answers what it
-    /// is, and nothing has changed. A seat that knows what lies on the desks knew this before, and the packet.
+    /// Begins to empty a desk, where its word is 2: its packet's holds and headers are the seat's.
+    /// Else answers what it is, and nothing has changed. A seat that knows what lies on the desks
+    /// knew this before, and the packet.
     pub fn seize(&self, seat: &mut GroundSeat, desk: u32) -> Result<(), u64>
         requires of { IsOf self.now seat.old }
         requires desk { desk < self.now.limits.desks }

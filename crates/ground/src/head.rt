@@ -20,7 +20,7 @@ pub(crate) fn word_of(head: Head) -> u64
     head_word::pack(top, head.count)
 }
 
-/// The head that a word is, which has low bits of a head.
+/// The head that a word is. Its low bits are those of a head.
 pub(crate) fn head_of(word: u64) -> Head
     requires { low_in word < no_low }
     ensures head { result ≡ unpack word }

@@ -6,8 +6,8 @@ use std::collections::LinkedList;
 use step_core::step::{Outcome, Step};
 use step_core::view::View;
 
-/// What a seat knows, for contracts alone: its worker's view, the steps that it took, each with its outcome, and the
-/// limits of its pool. No value of it is made.
+/// What a seat knows, for contracts alone: its worker's view, the steps that it took, each with
+/// its outcome, and the limits of its pool. No value of it is made.
 pub struct Known {
     pub view: View,
     pub steps: LinkedList<(Step, Outcome)>,

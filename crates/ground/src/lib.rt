@@ -1,5 +1,6 @@
-//! The words of a running pool on one atomic table, a seat for each worker, and the steps of the machine as calls: each
-//! one atomic operation on one word, by one seat.
+//! The words of a running pool on one atomic table, a seat for each worker, its handle on them,
+//! and the steps of the machine as calls: each one atomic operation on one word, or one exchange
+//! of what is in a desk's slot, by one seat.
 #![tactic(auto)]
 
 mod counts;

@@ -1,4 +1,5 @@
-//! The life of a ground: it is made with one seat, seats are split and joined, and it is closed with one.
+//! The life of a ground: it is made with one seat, seats are split and joined, and it is closed
+//! with one.
 
 ghost use Rattle.std.specs.Prelude.{◌≡◌, ◌<◌, ◌≤◌, [], IfOk, IfErr, IfSome};
 ghost use Rattle.commons.specs.Bounds.{IsPool};
@@ -27,10 +28,11 @@ use commons::seq::Seq;
 use std::alloc::Global;
 
 impl Ground {
-    /// Makes the words of a pool, and the one seat, which has every part. All elements are in the common list, element
-    /// 0 on top, each desk is empty, and the seat names none of them.
+    /// Makes the words of a pool, and the one seat, which has every part. All elements are in the
+    /// common list, element 0 on top, each desk is empty, and the seat names none of them.
     ///
-    /// Refused `BadPool` where the limits are out of range, and `OutOfMemory` where memory was refused.
+    /// Refused `BadPool` where the limits are out of range, and `OutOfMemory` where memory was
+    /// refused.
     pub fn make(alloc: Global, limits: &Limits) -> Result<(Ground, GroundSeat), Refusal>
         ensures limits { IfOk result (λ made. made.0.limits ≡ limits.now) }
         ensures of { IfOk result (λ made. IsOf made.0 made.1) }
@@ -59,8 +61,9 @@ impl Ground {
         Ok((ground, GroundSeat { seat }))
     }
 
-    /// Makes one more worker's seat, of one part of those that this seat has. This seat keeps all that it names, and
-    /// the new one names nothing and has taken no step.
+    /// Makes one more worker's seat, of one part of those that this seat has, which are two at
+    /// least. This seat keeps all that it names, and the new one names nothing and has taken no
+    /// step.
     pub fn split(&self, seat: &mut GroundSeat) -> GroundSeat
         requires of { IsOf self.now seat.old }
         requires part { 2 ≤ seat.old.known.view.part }
@@ -73,9 +76,10 @@ impl Ground {
         GroundSeat { seat }
     }
 
-    /// Makes one seat of two that are between calls: it has the elements, holds, headers and parts of both, the later
-    /// of the two counts that they saw of the head, and its own steps. What it had read of the common list is
-    /// forgotten. Where it has every part now, it knows what lies on the desks.
+    /// Makes one seat of two that are between calls: it has the elements, holds, headers and parts
+    /// of both, the later of the two counts that they saw of the head, and its own steps. What it
+    /// had read of the common list is forgotten. Where it has every part now, it knows what lies on
+    /// the desks.
     pub fn join(&self, seat: &mut GroundSeat, other: GroundSeat)
         requires of { IsOf self.now seat.old }
         requires other_of { IsOf self.now other }
@@ -90,13 +94,15 @@ impl Ground {
         merge(&self.table.shared, &mut seat.seat, other);
     }
 
-    /// Ends the pool, and leaves its words as plain data: the top and the length of the common list, and each element's
-    /// link and count, and the packets of the full desks. They are those of a lawful world in which this seat's view is
-    /// a worker's. Where the seat has every part, all that is neither in the common list nor on a full desk is what
-    /// this seat names, and the packets are those that it knows to lie there. Where nobody has done anything, it is what
-    /// the ground was made with.
+    /// Ends the pool, and leaves its words as plain data: the top and the length of the common
+    /// list, and each element's link and count, and the packets of the full desks. They are those
+    /// of a lawful world in which this seat's view is a worker's. Where the seat has every part,
+    /// all that is neither in the common list nor on a full desk is what this seat names, and the
+    /// packets are those that it knows to lie there. Where nobody has done anything, it is what the
+    /// ground was made with.
     ///
-    /// Refused `OutOfMemory` where memory was refused. Ground and seat come back then, as they were.
+    /// Refused `OutOfMemory` where memory was refused. Ground and seat come back then, as they
+    /// were.
     pub fn close(self, seat: GroundSeat) -> Result<Closed, (Refusal, Ground, GroundSeat)>
         requires { IsOf self seat }
         ensures closed { IfOk result (LeftOf self.limits seat.known.view) }
@@ -138,8 +144,8 @@ impl Ground {
     }
 }
 
-/// Makes one seat of two, and then reads a word, whatever it is: a view changes at a step alone, and the step tells
-/// what the rule says of the seat that came of both.
+/// Makes one seat of two, and then reads a word, whatever it is: a view changes only at a step,
+/// and the step tells what the rule says of the seat that came of both.
 fn merge(
     shared: &Shared<Option<Packet>, Known, Limits, PoolRule>,
     seat: &mut Seat<Option<Packet>, Known>,

@@ -8,7 +8,8 @@ use commons::packet::Packet;
 use std::alloc::Global;
 use std::marker::Model;
 
-/// The words of a pool on one table, which any number of workers use at once, each by a seat of its own.
+/// The words of a pool on one table, which any number of workers use at once, each by a seat of
+/// its own.
 #[derive(Drop)]
 pub struct Ground {
     pub(crate) table: Table<Option<Packet>, Known, Limits, PoolRule, Global>,

@@ -16,8 +16,8 @@ use commons::packet::Packet;
 use std::alloc::{AllocError, Global};
 use step_core::view::Head;
 
-/// The words at the start: the head and the length on a line each, then a link for each element, to the next, and a
-/// count of 1, and a word of 0 for each desk.
+/// The words at the start: the head and the length on a cache line each, then a link for each
+/// element, to the next, and a count of 1, and a word of 0 for each desk.
 pub(crate) fn opening_words(alloc: Global, limits: &Limits) -> Result<Vec<u64>, AllocError>
     requires { IsPool limits.now }
     ensures { IfOk result (λ v. v.items ≡ opening_words limits.now) }
@@ -39,7 +39,7 @@ pub(crate) fn opening_words(alloc: Global, limits: &Limits) -> Result<Vec<u64>, 
     Ok(words)
 }
 
-/// Pushes the same word so many times.
+/// Pushes the same word this many times.
 fn push_many(words: &mut Vec<u64>, word: u64, count: u64) -> Result<(), AllocError>
     ensures { IfOk result (λ _. words.new.items ≡ words.old.items ++ replicate count word) }
 {
@@ -96,8 +96,8 @@ fn kept_on(word: u64, slot: Option<Packet>) -> Option<Packet>
     if word == 2 { slot } else { None }
 }
 
-/// Takes out what is in the slots, and lists it where the desk's word is 2: what is in another's slot is in a worker's
-/// work, or nothing.
+/// Takes out what is in the slots, and lists it where the desk's word is 2: what is in another's
+/// slot belongs to a worker who is busy there, or is nothing.
 pub(crate) fn read_desks(
     left: &mut Left<Option<Packet>, Global>,
     from: usize,

@@ -5,7 +5,8 @@ use atomic_table::TableRule;
 use commons::limits::Limits;
 use commons::packet::Packet;
 
-/// What holds between any two steps, of the words and of what all seats know: they are a lawful world of the machine.
+/// What holds between any two steps, of the words and of what all seats know: they are a lawful
+/// world of the machine.
 pub struct PoolRule;
 
 impl TableRule<Option<Packet>, Known, Limits> for PoolRule {

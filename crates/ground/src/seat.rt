@@ -1,12 +1,13 @@
-//! A worker's seat.
+//! A worker's seat: its handle on the words of a pool.
 
 use crate::known::Known;
 use atomic_table::Seat;
 use commons::packet::Packet;
 use std::marker::Model;
 
-/// A worker's seat at the table of a pool: what the worker knows, of no bytes at run time. It can't be dropped, since
-/// what it names would be lost unseen: it ends by `Ground::join`, by `Ground::close` or by `lose`.
+/// A worker's seat at the table of a pool: what the worker knows, which has no bytes at run time.
+/// It can't be dropped, since what it names would be lost unseen: it ends by `Ground::join`, by
+/// `Ground::close` or by `lose`.
 pub struct GroundSeat {
     pub(crate) seat: Seat<Option<Packet>, Known>,
 }
@@ -33,7 +34,7 @@ impl GroundSeat {
         let _ = &self.seat;
     }
 
-    /// The slot of the desk that the seat has in work is out with it, and no other is.
+    /// The slot of the desk that the seat works at is out with it, and no other is.
     pub fn at_desk(&self)
         ensures { AtDesk self.now.known.view.work self.now.slots }
     {
@@ -47,7 +48,8 @@ impl GroundSeat {
         let _ = &self.seat;
     }
 
-    /// Ends the seat of a worker that has died, and gives nothing back: what it has stays where it is.
+    /// Ends the seat of a worker that has died, and gives nothing back: what it has stays where it
+    /// is.
     pub fn lose(self) {
         let GroundSeat { seat } = self;
         drop(seat);

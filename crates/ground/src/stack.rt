@@ -1,5 +1,5 @@
-//! The eight steps of the stack. Each is one atomic operation on one word, by one seat, whose view changes as the
-//! machine's step says, whatever the other seats do.
+//! The eight steps of the stack. Each is one atomic operation on one word, by one seat, whose view
+//! changes as the machine's step says, whatever the other seats do.
 
 ghost use Rattle.std.specs.Prelude.{◌≡◌, ◌≢◌, ◌<◌, ◌≤◌, true, IfErr, MatchResult};
 ghost use Rattle.commons.specs.Bag.{bag};
@@ -20,14 +20,14 @@ use step_core::view::Head;
 /// How many words a cache line of 64 bytes has.
 pub(crate) const LINE_WORDS: usize = 8;
 
-/// Where the words stand: the head and the length each on a line, then the links.
+/// Where the words stand: the head and the length each on a cache line, then the links.
 pub(crate) const HEAD: usize = 0;
 
 pub(crate) const LENGTH: usize = LINE_WORDS;
 
 pub(crate) const LINKS: usize = 2 * LINE_WORDS;
 
-/// Where the link of an element stands: behind the lines.
+/// Where the link of an element stands: after these cache lines.
 fn link_word(element: u32) -> usize
     ensures { result ≡ link_word element }
 {
@@ -35,8 +35,8 @@ fn link_word(element: u32) -> usize
 }
 
 impl Ground {
-    /// Reads the length word: how many elements of the common list nobody has reserved. A seat of every part learns
-    /// just how many those are (rte_stack_lf.h, __rte_stack_lf_count).
+    /// Reads the length word: how many elements of the common list nobody has reserved. A seat of
+    /// every part learns just how many those are (rte_stack_lf_generic.h, __rte_stack_lf_count).
     pub fn load_length(&self, seat: &mut GroundSeat) -> u64
         requires of { IsOf self.now seat.old }
         ensures step { Steps LoadLength (Value result) seat.old seat.new }
@@ -48,8 +48,9 @@ impl Ground {
             .load::<LoadsLength>(&mut seat.seat, LENGTH)
     }
 
-    /// Reserves `n` elements of the common list: lowers the length word by `n`, where it is `old`. Else answers what
-    /// it is, and nothing has changed (rte_stack_lf_generic.h, __rte_stack_lf_pop_elems).
+    /// Reserves `n` elements of the common list, 1 to `old`: lowers the length word by `n`, where
+    /// it is `old`. Else answers what it is, and nothing has changed (rte_stack_lf_generic.h,
+    /// __rte_stack_lf_pop_elems).
     pub fn reserve(&self, seat: &mut GroundSeat, old: u64, n: u64) -> Result<(), u64>
         requires of { IsOf self.now seat.old }
         requires some { 1 ≤ n }
@@ -65,7 +66,9 @@ impl Ground {
         if found == old { Ok(()) } else { Err(found) }
     }
 
-    /// Raises the length word by `n` of the seat's credit: gives back what was reserved, or was pushed.
+    /// Raises the length word by `n` of the seat's credit: tells of what was pushed
+    /// (rte_stack_lf_generic.h, __rte_stack_lf_push_elems), or gives back what was reserved, which
+    /// is our own.
     pub fn add(&self, seat: &mut GroundSeat, n: u64)
         requires of { IsOf self.now seat.old }
         requires some { 1 ≤ n }
@@ -77,9 +80,10 @@ impl Ground {
             .fetch_add::<Adds>(&mut seat.seat, LENGTH, n);
     }
 
-    /// Reads the head. Its count is never below one that the seat has seen, nor below the start and the changes of the
-    /// stack by this seat and those joined to it; to a seat of every part it is just that. Where nobody has done anything
-    /// it is the head at the start.
+    /// Reads the head (rte_stack_lf_generic.h, __rte_stack_lf_pop_elems). Its count is never below
+    /// one that the seat has seen, nor below the start and the changes of the stack by this seat
+    /// and those joined to it; to a seat of every part it is just that. Where nobody has done
+    /// anything it is the head at the start.
     pub fn load_head(&self, seat: &mut GroundSeat) -> Head
         requires of { IsOf self.now seat.old }
         ensures step { Steps LoadHead (HeadIs result) seat.old seat.new }
@@ -93,9 +97,10 @@ impl Ground {
         head_of(self.table.shared.load::<LoadsHead>(&mut seat.seat, HEAD))
     }
 
-    /// Reads the link of the element to which the seat's walk goes on: 0 for the end of the list, and else the next
-    /// element + 1. Where another seat has changed the stack since the head was read, the link may lead anywhere; the
-    /// cut then loses.
+    /// Reads the link of the element to which the seat's walk goes on: 0 for the end of the list,
+    /// and else the next element + 1. Where another seat has changed the stack since the head was
+    /// read, the link may lead anywhere; the cut then loses (rte_stack_lf_generic.h,
+    /// __rte_stack_lf_pop_elems).
     pub fn load_link(&self, seat: &mut GroundSeat, element: u32) -> u32
         requires of { IsOf self.now seat.old }
         requires next { walks_to seat.old.known.view.look element ≡ true }
@@ -109,9 +114,10 @@ impl Ground {
             .load::<LoadsLink>(&mut seat.seat, link_word(element)) as u32
     }
 
-    /// Takes the elements that the seat has walked and reserved: swings the head from the one that was read to what
-    /// follows the walk. Else answers what the head is, which has changed since: its count is greater. A seat of every
-    /// part never loses.
+    /// Takes the elements that the seat has walked and reserved: swings the head from the one that
+    /// was read to what follows the walk. Else answers what the head is, which has changed since:
+    /// its count is greater. A seat of every part never loses (rte_stack_lf_generic.h,
+    /// __rte_stack_lf_pop_elems).
     pub fn cut(&self, seat: &mut GroundSeat, head: Head, next: u32) -> Result<(), Head>
         requires of { IsOf self.now seat.old }
         requires look { MayCut seat.old.known.view head next }
@@ -136,7 +142,8 @@ impl Ground {
         }
     }
 
-    /// Writes the link of an element of the seat's hand: 0 for the end of a list, and else the next element + 1.
+    /// Writes the link of an element of the seat's hand: 0 for the end of a list, and else the
+    /// next element + 1 (rte_stack_lf_generic.h, __rte_stack_lf_push_elems).
     pub fn store_link(&self, seat: &mut GroundSeat, element: u32, link: u32)
         requires of { IsOf self.now seat.old }
         requires hand { 0 < bag seat.old.known.view.hand element }
@@ -149,9 +156,10 @@ impl Ground {
             .store::<StoresLink>(&mut seat.seat, link_word(element), u64::from(link));
     }
 
-    /// Puts the chain that the seat has linked: swings the head from the one that was read to the chain's first
-    /// element, `first` - 1. Else answers what the head is, which has changed since: its count is greater. A seat of
-    /// every part never loses.
+    /// Puts the chain that the seat has linked: swings the head from the one that was read to the
+    /// chain's first element, `first` - 1. Else answers what the head is, which has changed since:
+    /// its count is greater. A seat of every part never loses (rte_stack_lf_generic.h,
+    /// __rte_stack_lf_push_elems).
     pub fn push(&self, seat: &mut GroundSeat, head: Head, first: u32) -> Result<(), Head>
         requires of { IsOf self.now seat.old }
         requires look { MayPush seat.old.known.view head first }

@@ -1,4 +1,4 @@
--- What a player sees of the desk that its seat has in work.
+-- What a player sees of the desk that its seat works at.
 use Rattle.std.proofs.Common.{◌≡◌, ◌==◌, ℕ, Option, Some, None, List, [], ◌∷◌, refl, sym, ap, ◌∙◌, subst}
 use Rattle.std.proofs.lemmas.Bool.{cond-true, eq-eqb}
 use Rattle.commons.specs.declared.packet.Seg.{Seg}

@@ -20,7 +20,8 @@ use Rattle.ground_tests.specs.declared.desks.Sees.TheVariants as sees
 abbrev pub IsInPool : View → Type 0
 IsInPool v = IfSome v.chain (λ c. All (λ x. x < max_population) c.items)
 
--- the seat took the step with its outcome: one of the desks with its slot, each other on a word alone
+-- the seat took the step with its outcome: one of the desks with its slot, each other on a word
+-- alone
 abbrev pub Took : Step → Outcome → Seated → Seated → Type 0
 Took (Hold d) Won s t = Holds d s t
 Took (PutIn d p) Done s t = Fills d p s t

@@ -1,5 +1,5 @@
-//! Each step of the stack as a player takes it: it asks its own view whether the step's condition holds, calls the
-//! ground, and moves the view as the step says.
+//! Each step of the stack as a player takes it: it asks its own view whether the step's condition
+//! holds, calls the ground, and moves the view as the step says.
 
 ghost use Rattle.std.specs.Prelude.{◌≡◌, ◌≤◌, ◌<◌, IfSome, length};
 ghost use Rattle.commons.specs.Bounds.{max_population};
@@ -30,8 +30,8 @@ pub(crate) fn load_length(
     Ok(Outcome::Value(ground.load_length(seat)))
 }
 
-/// Lowers the length word from `old` by `n`, if it is `old`. Refused too where the credit would pass 64 bits, which it
-/// never does, since it is at most the population.
+/// Lowers the length word from `old` by `n`, if it is `old`. Refused too where the credit would
+/// pass 64 bits, which it never does, since it is at most the population.
 pub(crate) fn reserve(
     ground: &Ground,
     seat: &mut GroundSeat,
@@ -161,7 +161,7 @@ pub(crate) fn cut(
     }
 }
 
-/// The link value of an element, or of none, if it is of a pool of so many.
+/// The link value of an element, or of none, if it is of a pool of this many elements.
 fn link_value(population: u64, next: Option<u64>) -> Option<u32>
     requires { population ≤ max_population }
     ensures { LinkOf population next result }
@@ -215,8 +215,8 @@ fn chained(view: &View) -> u64
     }
 }
 
-/// Swings the head from the look's head to the chain's first element. Refused too where the credit would pass 64 bits,
-/// which it never does.
+/// Swings the head from the look's head to the chain's first element. Refused too where the credit
+/// would pass 64 bits, which it never does.
 pub(crate) fn push(
     ground: &Ground,
     seat: &mut GroundSeat,

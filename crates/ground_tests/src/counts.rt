@@ -1,5 +1,5 @@
-//! Each step of the counts as a player takes it: it asks its own view whether the step's condition holds, makes room for
-//! what may come, calls the ground, and moves the view as the step says.
+//! Each step of the counts as a player takes it: it asks its own view whether the step's condition
+//! holds, makes room for what may come, calls the ground, and moves the view as the step says.
 
 ghost use Rattle.std.specs.Prelude.{◌≡◌};
 ghost use Rattle.step_core.specs.declared.step.Step.TheVariants.{Claim, Sole, Raise, Lower, Reset};
@@ -34,7 +34,8 @@ pub(crate) fn claim(
     Ok(Outcome::Value(1))
 }
 
-/// Reads the count of an element held; where `free` and it is 1, the element goes back into the hand.
+/// Reads the count of an element held; where `free` and it is 1, the element goes back into the
+/// hand.
 pub(crate) fn sole(
     ground: &Ground,
     seat: &mut GroundSeat,

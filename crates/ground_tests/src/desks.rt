@@ -1,5 +1,6 @@
-//! Each step of the desks as a player takes it. The player has at run time what its seat knows, and a copy of what is in
-//! the slot of the desk in work; of a desk that it has seized it learns the packet only when that is out.
+//! Each step of the desks as a player takes it. The player has at run time what its seat knows,
+//! and a copy of what is in the slot of the busy desk; of a desk that it has seized it learns the
+//! packet only when that is out.
 
 ghost use Rattle.std.specs.Prelude.{◌≡◌, ◌<◌, ℕ, List, [], ◌∷◌, Some, IfOk, IfSome, IsTrue, MatchOption};
 ghost use Rattle.commons.specs.Bag.{bag};
@@ -72,7 +73,7 @@ fn only_seg(packet: &Packet) -> Option<Seg>
     }
 }
 
-/// Whether what a segment holds is of a pool of so many.
+/// Whether what a segment holds is of a pool of this many elements.
 fn is_below(seg: Seg, population: u64) -> bool
     ensures { IsTrue result → (i : ℕ) → 0 < bag (holds_of_packet (seg ∷ [])) i → i < population }
 {
@@ -95,7 +96,7 @@ fn is_filling(view: &View, desk: u32) -> bool
     }
 }
 
-/// Puts a packet of one segment into the slot of the desk in work. Refused too where it has more.
+/// Puts a packet of one segment into the slot of the busy desk. Refused too where it has more.
 pub(crate) fn put_in(
     ground: &Ground,
     seat: &mut GroundSeat,
@@ -155,7 +156,8 @@ fn seg_in(slot: &Option<Packet>) -> Option<Seg>
     }
 }
 
-/// Makes the desk in work full, with what is in its slot. Refused too where its own element is no header of the player's.
+/// Makes the busy desk full, with what is in its slot. Refused too where its own element is no
+/// header of the player's.
 pub(crate) fn open(
     ground: &Ground,
     seat: &mut GroundSeat,
@@ -212,7 +214,7 @@ pub(crate) fn seize(
     }
 }
 
-/// The same packet once more.
+/// A copy of a packet.
 fn copy_of(packet: &Packet) -> Packet
     ensures { result ≡ packet.now }
 {
@@ -244,8 +246,8 @@ pub(crate) fn take_out(
     Ok(Outcome::Found(packet))
 }
 
-/// Takes what was taken out into the view, or changes nothing where memory is refused. Answers the desk that the player
-/// has seized and not emptied, if there is one.
+/// Takes what was taken out into the view, or changes nothing where memory is refused. Answers the
+/// desk that the player has seized and not emptied, if there is one.
 pub(crate) fn see(
     view: &mut View,
     slot: &mut Option<Packet>,
@@ -289,7 +291,7 @@ fn is_emptying(view: &View, desk: u32) -> bool
     }
 }
 
-/// Makes the desk in work empty.
+/// Makes the busy desk empty.
 pub(crate) fn clear(
     ground: &Ground,
     seat: &mut GroundSeat,

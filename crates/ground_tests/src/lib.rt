@@ -1,4 +1,5 @@
-//! Tests of the words of a running pool: players of steps on a ground, and scripts that they play beside the machine.
+//! Tests of the words of a running pool: players of steps on a ground, and scripts that they play
+//! beside the machine.
 #![tactic(auto)]
 
 pub mod arms;

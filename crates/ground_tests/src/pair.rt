@@ -67,7 +67,8 @@ impl Pair {
         self.first.is_at_rest() && self.second.is_at_rest()
     }
 
-    /// Ends the ground with the first player, once the second has joined it, or is lost where it can't.
+    /// Ends the ground with the first player, once the second has joined it, or is lost where it
+    /// can't.
     pub fn close(self) -> Result<Closed, Refusal> {
         let Pair {
             pool,

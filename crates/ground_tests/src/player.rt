@@ -21,8 +21,8 @@ use step_core::elems::Elems;
 use step_core::step::{Outcome, Step};
 use step_core::view::View;
 
-/// A seat with its view at run time, which is what the seat knows, and a copy of the packet in its slot. While it has
-/// seized a desk, the view is that before the seizure. It can't be dropped.
+/// A seat with its view at run time, which is what the seat knows, and a copy of the packet in its
+/// slot. While it has seized a desk, the view is that before the seizure. It can't be dropped.
 pub struct Player {
     pub(crate) seat: GroundSeat,
     pub(crate) view: View,
@@ -51,8 +51,8 @@ fn empty_view(alloc: Global, part: u64) -> View
     }
 }
 
-/// Plays a step on a word of the stack or of the counts where the view says that its condition holds. Every other is
-/// refused.
+/// Plays a step on a word of the stack or of the counts where the view says that its condition
+/// holds. Every other is refused.
 fn play_word(
     ground: &Ground,
     seat: &mut GroundSeat,
@@ -195,7 +195,8 @@ fn is_between_calls(view: &View, sees: &Sees) -> bool
         && view.work.is_none()
 }
 
-/// Makes the first view that of both, or changes nothing where memory is refused or the parts would pass 64 bits.
+/// Makes the first view that of both, or changes nothing where memory is refused or the parts
+/// would pass 64 bits.
 fn add_view(view: &mut View, other: &View) -> Result<(), AllocError>
     ensures ok { OnOk result (view.new ≡ both_views view.old other.now) }
     ensures err { OnErr result (view.new ≡ view.old) }
@@ -275,8 +276,8 @@ impl Player {
         Ok((ground, player))
     }
 
-    /// Makes the player of one more seat, of one part of this one's, or none where this one has but one, or has seized a
-    /// desk.
+    /// Makes the player of one more seat, of one part of this one's, or none where this one has
+    /// but one, or has seized a desk.
     pub fn split(&mut self, ground: &Ground) -> Option<Player>
         requires of { IsOf ground.now self.old.seat }
         ensures of { IsOf ground.now self.new.seat }
@@ -296,10 +297,11 @@ impl Player {
         })
     }
 
-    /// Plays a step. Refused `StepRefused` exactly where the view says that its condition fails, but for a desk: a packet
-    /// that is put in has one segment, whose own element is a header of the player's where the desk is opened, and
-    /// between a seizure and the step that takes the packet out every other is refused. Refused `OutOfMemory` where the
-    /// player's own view couldn't grow. The ground isn't touched then.
+    /// Plays a step. Refused `StepRefused` exactly where the view says that its condition fails,
+    /// but for a desk: a packet that is put in has one segment, whose own element is a header of
+    /// the player's where the desk is opened, and between a seizure and the step that takes the
+    /// packet out every other is refused. Refused `OutOfMemory` where the player's own view
+    /// couldn't grow. The ground isn't touched then.
     pub fn step(&mut self, ground: &Ground, step: &Step) -> Result<Outcome, Refusal>
         requires { IsOf ground.now self.old.seat }
         ensures { Plays step.now result self.old.seat self.new.seat }
@@ -330,13 +332,14 @@ impl Player {
         sees_all(&self.sees)
     }
 
-    /// Whether the player is between calls: nothing is reserved, nothing chained, and no desk in work.
+    /// Whether the player is between calls: nothing is reserved, nothing chained, and no busy
+    /// desk.
     pub fn is_at_rest(&self) -> bool {
         is_between_calls(&self.view, &self.sees)
     }
 
-    /// Takes over what another player has, or gives the other back: where one of both is not between calls, or memory
-    /// for their hands was refused.
+    /// Takes over what another player has, or gives the other back: where one of both is not
+    /// between calls, or memory for their hands was refused.
     pub fn join(&mut self, ground: &Ground, other: Player) -> Option<Player>
         requires of { IsOf ground.now self.old.seat }
         requires other_of { IsOf ground.now other.seat }

@@ -20,7 +20,7 @@ mod seats;
 
 use acts::{Act, is_same, step_of};
 
-/// Both are one; else it is told of what, with both.
+/// Asserts that both are equal, and else says of what, with both.
 fn same<R: Abort, T: PartialEq + Debug>(rt: &R, given: &T, wanted: &T, what: &str) {
     assert!(rt; *given == *wanted, "{what}: {given:?}, not {wanted:?}");
 }
@@ -50,7 +50,8 @@ fn assert_same_answer<R: Abort>(
     );
 }
 
-/// One step of a worker by the machine and by a player, who have to answer the same. Whether it was played.
+/// One step of a worker by the machine and by a player, who have to answer the same. Whether it
+/// was played.
 fn step_both<R: Abort>(
     rt: &R,
     world: &mut World,
@@ -80,8 +81,8 @@ fn assert_view<R: Abort>(rt: &R, view: &View, told: &View, worker: u32, name: &s
     }
 }
 
-/// Whether the views of both players are those of both workers, as far as they name elements. A player that hasn't seen
-/// yet what it seized is left out.
+/// Whether the views of both players are those of both workers, as far as they name elements. A
+/// player that hasn't seen yet what it seized is left out.
 fn assert_views<R: Abort>(rt: &R, world: &World, pair: &Pair, name: &str) {
     for (worker, told) in (1u32..=2).zip(world.views()) {
         if pair.sees_all(worker) {
@@ -147,7 +148,8 @@ fn step_all<R: Abort>(
     }
 }
 
-/// Plays these steps by the machine and by two players, and compares each answer and the words at the end.
+/// Plays these steps by the machine and by two players, and compares each answer and the words at
+/// the end.
 fn play_both<R: Abort + AllocGlobal>(
     rt: &R,
     name: &str,

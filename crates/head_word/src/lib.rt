@@ -61,8 +61,8 @@ pub fn next_count(count: u64) -> Option<u64>
     }
 }
 
-/// A head has one word, and a word is of one head: what is packed unpacks to itself, and a word that unpacks
-/// packs to itself.
+/// A head has one word, and a word is of one head: what is packed unpacks to itself, and a word
+/// that unpacks packs to itself.
 pub fn word_and_head_are_one()
     ensures word { OneWord }
     ensures head { OneHead }

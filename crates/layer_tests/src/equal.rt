@@ -3,7 +3,7 @@
 use std::fmt::Debug;
 use std::process::Abort;
 
-/// Both are one; else it is told of what, with both.
+/// Asserts that both are equal, and else says of what, with both.
 pub(crate) fn same<T: PartialEq + Debug>(rt: &impl Abort, given: &T, wanted: &T, what: &str) {
     assert!(rt; *given == *wanted, "{what}: {given:?}, not {wanted:?}");
 }

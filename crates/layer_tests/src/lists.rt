@@ -95,7 +95,7 @@ fn a_new_site_has_all_elements_in_the_common_list(rt: HostRuntime) -> Result<(),
     Ok(())
 }
 
-// Each refusal with its number and its name, and what is displayed behind the name.
+// Each refusal with its number and its name, and what is displayed after the name.
 static REFUSALS: [(Refusal, u32, &str, &str); 23] = [
     (Refusal::BadPool, 1, "BadPool", ""),
     (Refusal::OutOfMemory, 2, "OutOfMemory", ""),

@@ -55,7 +55,7 @@ fn free_made(alloc: Global) -> Result<bool, Refusal> {
     Ok(is_free)
 }
 
-// What was made is as wanted, or memory was refused.
+// What was made is as expected, or memory was refused.
 fn assert_made<R: Abort + AllocGlobal, T: PartialEq + Debug>(
     rt: &R,
     made: &Result<T, Refusal>,

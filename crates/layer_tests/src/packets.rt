@@ -54,7 +54,7 @@ fn repeated(packets: &mut Packets, c: &mut PlainCommons, count: u32, chains: boo
     done
 }
 
-// A reply as text. Of a bulk of more than 8 packets the number alone is told.
+// A reply as text. Of a bulk of more than 8 packets only the number is reported.
 fn told(alloc: Global, reply: Reply) -> Result<String, Fail> {
     match &reply {
         Reply::Bulk(list) if list.len() > 8 => Ok(format!(in alloc; "{} packets", list.len())?),
@@ -106,7 +106,8 @@ fn bases(packets: &Packets, slot: u32) -> u32 {
     count
 }
 
-// Lets a worker take its steps, and tells of the first of which something else came than is wanted.
+// Lets a worker take its steps, and tells of the first of which something else came than is
+// expected.
 fn differs(
     alloc: Global,
     packets: &mut Packets,
@@ -125,7 +126,7 @@ fn differs(
     Ok(None)
 }
 
-// Whether these elements are held so often in turn, 0 for one in the common list, and all behind
+// Whether these elements are held so often in turn, 0 for one in the common list, and all after
 // them are in the common list.
 fn are_held(site: &PlainSite, counts: &[u32]) -> bool {
     let mut same = true;
@@ -139,7 +140,8 @@ fn are_held(site: &PlainSite, counts: &[u32]) -> bool {
     same
 }
 
-// Lets a worker, who has nothing yet, take its steps, and tells of the first that isn't as wanted.
+// Lets a worker, who has nothing yet, take its steps, and tells of the first that isn't as
+// expected.
 #[tactic(auto, using(crate::proofs::BesideLemmas::beside))]
 fn turn(
     alloc: Global,
@@ -158,8 +160,8 @@ fn turn(
     differs
 }
 
-// Lets the workers of a new pool, two at most, take their steps, one worker after another, and tells
-// of the first thing that isn't as wanted.
+// Lets the workers of a new pool, two at most, take their steps, one worker after another, and
+// tells of the first thing that isn't as expected.
 fn played(
     alloc: Global,
     limits: &Limits,
@@ -195,7 +197,7 @@ fn each_row_goes_as_it_says(rt: HostRuntime) -> Result<(), Fail> {
     Ok(())
 }
 
-// A clone of 32 segments is refused where so many elements are left, and leaves all as before.
+// A clone of 32 segments is refused where this many elements are left, and leaves all as before.
 #[test]
 fn a_clone_refused_at_each_of_its_gets_leaves_all_as_before(rt: HostRuntime) -> Result<(), Fail> {
     for left in 0..32u64 {

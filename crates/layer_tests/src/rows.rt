@@ -6,16 +6,17 @@ use mbuf::acts::Act;
 /// What a worker does at one step of a row.
 #[derive(Clone, Copy)]
 pub enum Step {
-    /// It does this, and its reply is told.
+    /// It does this, and its reply is reported.
     Act(Act),
-    /// It makes so many packets one at a time, and it is told how many stood in the slots from 0 on.
+    /// It makes this many packets one at a time, and it reports how many stood in the slots from 0
+    /// on.
     Makes(u32),
-    /// It chains the packets in the slots from 0 on, so many, to the one in slot 0, and it is told
-    /// how many were chained.
+    /// It chains the packets in the slots from 0 on, this many, to the one in slot 0, and it
+    /// reports how many were chained.
     Chains(u32),
-    /// The segments of the packet in this slot are told.
+    /// The segments of the packet in this slot are reported.
     Segs(u32),
-    /// This is told.
+    /// This is reported.
     Shows(Show),
 }
 
@@ -37,7 +38,7 @@ pub enum Show {
 pub enum Left<'a> {
     /// This is the common list, top last.
     Common(&'a [u32]),
-    /// So often is each element held. 0 is one of the common list, as all behind them are.
+    /// Each element is held this often. 0 is one of the common list, as all after them are.
     Held(&'a [u32]),
     /// The row doesn't say it.
     Unsaid,
@@ -50,7 +51,7 @@ pub struct Row {
     pub name: &'static str,
     /// The pool's limits.
     pub limits: Limits,
-    /// The steps of worker 1, and then those of worker 2, with what is told of each.
+    /// The steps of worker 1, and then those of worker 2, with what is reported of each.
     pub workers: &'static [&'static [(Step, &'static str)]],
     /// What is left.
     pub left: Left<'static>,

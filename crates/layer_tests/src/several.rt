@@ -52,8 +52,8 @@ fn made_at(site: &mut PlainSite, worker: u32, packets: &mut Packets) -> Result<P
     made(packets, &mut c)
 }
 
-// Lets one worker make a packet, and then another, whose packets were its own before the first one's
-// call and are so still. The first one's stay its own too.
+// Lets one worker make a packet, and then another, whose packets were its own before the first
+// one's call and are so still. The first one's stay its own too.
 fn both_made(
     site: &mut PlainSite,
     first: &mut Packets,

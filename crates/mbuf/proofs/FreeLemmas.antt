@@ -159,7 +159,8 @@ own_stood guests m s0 s1 s2 cache es own same free got_hand got_holds got_header
       );
 }
 
--- the packets of the first k elements stand, their slots are listed in their places, and the other slots are still free
+-- the packets of the first k elements stand, their slots are listed in their places, and the other
+-- slots are still free
 pub record StoodSo (es : List ℕ) (m : Member) (k : ℕ) (out : List ℕ) (after : Member) : Type 0 where
   pub slots : take k out ≡ take k (free_slots m.table)
   pub left : drop k out ≡ drop k es

@@ -26,7 +26,8 @@ fresh_none population held = record {
   unheld = λ i h. absurd (omega (arith, h, bag-nil i));
 }
 
--- new headers, of which none was held before: a header is one once, and is held, as nothing past the population is
+-- new headers, of which none was held before: a header is one once, and is held, as nothing past
+-- the population is
 pub fresh_headers : (s t : Side) (population : ℕ) (held : ℕ → ℕ) (es : List ℕ) →
     ((i : ℕ) → t.headers i ≤ 1) → ((i : ℕ) → 0 < t.headers i → 0 < t.holds i) →
     ((i : ℕ) → population ≤ i → t.holds i ≡ 0) → ((i : ℕ) → t.headers i ≡ s.headers i + bag es i) →

@@ -189,7 +189,7 @@ act_keeps (act.PktLen p) m calls r after h = same m after h.0
 act_keeps (act.NbSegs p) m calls r after h = same m after h.0
 act_keeps act.Flush m calls r after h = other m after after.cache m.table refl h.2
 
--- whatever a worker of so many slots does, it stays the same one
+-- whatever a worker of this many slots does, it stays the same one
 pub performs_keeps : (a : Act) (m : Member) (calls : List Call) (r : Reply) (after : Member) →
     Performs a m calls r after → length m.table ≡ slots → KeepsMember m after
 performs_keeps a m calls r after h wide =

@@ -15,7 +15,7 @@ pub nothing_there : (change : List Seg → Option (List Seg)) (cause : Refusal) 
     Resizes change cause m slot (Err NoSuchPacket) m
 nothing_there change cause m slot f = sym (ap (λ (o : Option (List Seg)). resize_in o change cause slot m) f)
 
--- the packet hasn't the room or the data
+-- the packet doesn't have the room or the data
 pub not_resized_is : (change : List Seg → Option (List Seg)) (cause : Refusal) (m after : Member)
     (slot : ℕ) (answer : Result ℕ Refusal) (segs : List Seg) →
     get_or m.table slot None ≡ Some segs → change segs ≡ None → answer ≡ Err cause → after ≡ m →

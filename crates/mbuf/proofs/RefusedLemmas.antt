@@ -12,8 +12,8 @@ use Rattle.mbuf.specs.PacketRules.{Chains, Resizes, chain_in, resize_in, resize_
 use Rattle.mbuf.specs.Refused.{IfRefused}
 use Rattle.mbuf.specs.Sharing.{Clones, NotClonable, WasGivenUp, WasCloned}
 
--- what a call answers, and what the worker has afterwards, beside two of its sides: where it is told of as refused, all
--- is as before
+-- what a call answers, and what the worker has afterwards, beside two of its sides: where it is
+-- told of as refused, all is as before
 abbrev ResizedSame : Side → Side → Member → Result ℕ Refusal × Member → Type 0
 ResizedSame s t m done = IfRefused (told_len done.0) ((t ≡ s) × (done.1 ≡ m))
 

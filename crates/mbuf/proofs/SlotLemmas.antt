@@ -22,7 +22,8 @@ use Rattle.mbuf.specs.Slots.{IsNoneOf, LeavesOtherSlots, filled_slots, named_slo
 use Rattle.mbuf.proofs.ActLemmas.{clonable_free}
 use Rattle.mbuf.proofs.OwnLemmas.{free_slot-is}
 
--- A worker's slots but these and those that the reply says were filled are as before, and those were free.
+-- A worker's slots but these and those that the reply says were filled are as before, and those
+-- were free.
 pub record Writes (named : List ℕ) (m : Member) (reply : Reply) (after : Member) : Type 0 where
   pub others : (slot : ℕ) → IsNoneOf named slot → IsNoneOf (filled_slots reply) slot →
       get_or after.table slot None ≡ get_or m.table slot None
@@ -120,7 +121,7 @@ bulk_slots table (slot ∷ slots) = ap (λ (xs : List ℕ). slot ∷ xs) (bulk_s
 
 -- ---- replies that fill none
 
--- what is told of a packet fills no slot
+-- what is reported of a packet fills no slot
 pub told_both-fills : (slot : Option (List Seg)) → filled_slots (told_both slot) ≡ []
 told_both-fills None = refl
 told_both-fills (Some segs) = refl

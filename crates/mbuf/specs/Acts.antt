@@ -39,7 +39,8 @@ as_reply (reply.Chained segs len) = reply.Chained segs len
 as_reply (reply.Put put) = reply.Put put
 as_reply (reply.Refused cause) = reply.Refused cause
 
--- an answer with this room can tell of the act: where it is a bulk that may be met, of all its packets
+-- an answer with this room can tell of the act: where it is a bulk that may succeed, of all its
+-- packets
 abbrev pub HasRoom : ℕ → Act → Type 0
 HasRoom room (act.AllocBulk n) = n ≤ slots → n ≤ room
 HasRoom room _ = Unit {0}
@@ -113,8 +114,8 @@ abbrev pub told_count : Result ℕ Refusal → Reply
 told_count (Ok count) = reply.Count count
 told_count (Err cause) = reply.Refused cause
 
--- what an act does: the calls that are made on the shared pool with their answers, the reply, and what the worker
--- has afterwards
+-- what an act does: the calls that are made on the shared pool with their answers, the reply, and
+-- what the worker has afterwards
 abbrev pub Performs : Act → Member → List Call → Reply → Member → Type 0
 Performs act.Alloc m calls r after =
     (answer : Result ℕ Refusal) × Allocs m calls answer after × (r ≡ allocated answer after.table)

@@ -1,5 +1,5 @@
--- What a worker's calls do that pass a packet over a desk: for each case the calls that are made on the shared pool
--- with their answers, the answer, and what the worker has afterwards.
+-- What a worker's calls do that pass a packet over a desk: for each case the calls that are made
+-- on the shared pool with their answers, the answer, and what the worker has afterwards.
 use Rattle.std.specs.Prelude.{ℕ, ◌≡◌, ◌<◌, ◌≤◌, List, [], ◌∷◌, slice_index_or, slice_set, Some, None, Result, Ok, Err}
 use Rattle.commons.specs.declared.packet.Seg.{Seg}
 use Rattle.commons.specs.declared.refusal.Refusal.{Refusal}

@@ -14,14 +14,14 @@ grown_behind n seg =
     then Some (record seg { data_len = seg.data_len + n })
     else None
 
--- n bytes more in front of its data, where there are so many
+-- n bytes more in front of its data, where there are that many
 abbrev pub grown_in_front : ℕ → Seg → Option Seg
 grown_in_front n seg =
     if nat_le n seg.data_off
     then Some (record seg { data_off = seg.data_off - n; data_len = seg.data_len + n })
     else None
 
--- n bytes fewer at the front of its data, where it has so many
+-- n bytes fewer at the front of its data, where it has that many
 abbrev pub cut_in_front : ℕ → Seg → Option Seg
 cut_in_front n seg =
     if nat_le n seg.data_len

@@ -3,8 +3,8 @@ use Rattle.std.specs.Prelude.{ℕ, ◌≡◌, length, List, Option}
 use Rattle.commons.specs.declared.limits.Limits.{Limits}
 use Rattle.commons.specs.declared.packet.Seg.{Seg}
 
--- a worker of a pool: the pool's limits, its number from 1, its cache from the first element to the last,
--- and the packet in each slot of its table
+-- a worker of a pool: the pool's limits, its number from 1, its cache from the first element to
+-- the last, and the packet in each slot of its table
 pub record Member : Type 0 where
   pub limits : Limits
   pub number : ℕ

@@ -5,9 +5,10 @@ use Rattle.commons.specs.Calls.{Side}
 use Rattle.commons.specs.Packets.{held_in, own_in}
 use Rattle.mbuf.specs.Members.{Member}
 
--- Both are of one pool; the cache is the worker's hand; the packets, and beside them these guests, are what the worker
--- holds; and the own elements of the packets' segments are headers of the worker, which are distinct. A guest is an
--- element that the worker holds for something else than its packets: a packet of another pool that uses its buffer.
+-- Both are of one pool; the cache is the worker's hand; the packets, and beside them these guests,
+-- are what the worker holds; and the own elements of the packets' segments are headers of the
+-- worker, which are distinct. A guest is an element that the worker holds for something else than
+-- its packets: a packet of another pool that uses its buffer.
 pub record OwnWith (guests : ℕ → ℕ) (m : Member) (s : Side) : Type 0 where
   pub limits : m.limits ≡ s.limits
   pub cached : (i : ℕ) → s.hand i ≡ bag m.cache i

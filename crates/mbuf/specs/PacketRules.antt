@@ -1,5 +1,5 @@
--- What a worker's calls do with its packets: for each case the calls that are made on the shared pool with
--- their answers, the answer, and what the worker has afterwards.
+-- What a worker's calls do with its packets: for each case the calls that are made on the shared
+-- pool with their answers, the answer, and what the worker has afterwards.
 use Rattle.std.specs.Prelude.{ℕ, ◌≡◌, ◌+◌, ◌<◌, ◌≤◌, ◌==◌, nat_lt, if◌then◌else◌, min, length, is_none, map, position, take, List, [], ◌∷◌, ◌++◌, slice_index_or, slice_set, Option, Some, None, Result, Ok, Err}
 use Rattle.commons.specs.declared.limits.Limits.{Limits}
 use Rattle.commons.specs.declared.packet.Seg.{Seg}
@@ -90,8 +90,8 @@ pub data AllocsBulk (m : Member) (n : ℕ) (calls : List Call) (answer : Result 
       answer ≡ Err cause →
       after ≡ m →
       AllocsBulk m n calls answer after
-  -- the elements are claimed in the order in which they were got, and their packets stand, in that order, in the
-  -- lowest free slots
+  -- the elements are claimed in the order in which they were got, and their packets stand, in that
+  -- order, in the lowest free slots
   FreshBulk :
       (es : List ℕ) →
       length es ≡ n →
@@ -116,7 +116,8 @@ counted freed Kept = record freed { back = freed.back + 1 }
 counted freed (Flushed k) = record freed { back = freed.back + 1; flushed = freed.flushed + k }
 counted freed (PutOff k e) = record freed { back = freed.back + 1; put_off = Some (k, e) }
 
--- what the end of one hold of an element does, by the cache and what was freed before and afterwards
+-- what the end of one hold of an element does, by the cache and what was freed before and
+-- afterwards
 pub data EndsHold (l : Limits) (e : ℕ) (cache : List ℕ) (freed : Freed) (calls : List Call)
     (left : List ℕ) (done : Freed) : Type 0 where
   -- another hold is left
@@ -160,14 +161,15 @@ pub data Frees (m : Member) (slot : ℕ) (calls : List Call) (answer : Result Fr
       after ≡ record m { cache = left; table = slice_set m.table slot None } →
       Frees m slot calls answer after
 
--- what is told of the packet in a slot
+-- what is answered of the packet in a slot
 abbrev pub of_packet : (List Seg → ℕ) → Option (List Seg) → Result ℕ Refusal
 of_packet tell None = Err NoSuchPacket
 of_packet tell (Some segs) = Ok (tell segs)
 
 -- ---- what asks nothing of the shared pool: an answer, and what the worker has afterwards
 
--- a packet takes the place of the one in the slot, if it could be made, and its length is the answer
+-- a packet takes the place of the one in the slot, if it could be made, and its length is the
+-- answer
 abbrev pub resize_to : Option (List Seg) → Refusal → ℕ → Member → Result ℕ Refusal × Member
 resize_to None cause slot m = (Err cause, m)
 resize_to (Some segs) cause slot m =
@@ -178,8 +180,8 @@ abbrev pub resize_in : Option (List Seg) → (List Seg → Option (List Seg)) �
 resize_in None change cause slot m = (Err NoSuchPacket, m)
 resize_in (Some segs) change cause slot m = resize_to (change segs) cause slot m
 
--- a change of the lengths of the packet in a slot, which is refused for this cause where the packet hasn't the room
--- or the data
+-- a change of the lengths of the packet in a slot, which is refused for this cause where the
+-- packet doesn't have the room or the data
 abbrev pub resize : (List Seg → Option (List Seg)) → Refusal → ℕ → Member → Result ℕ Refusal × Member
 resize change cause slot m = resize_in (slice_index_or m.table slot None) change cause slot m
 
@@ -188,8 +190,8 @@ abbrev pub Resizes : (List Seg → Option (List Seg)) → Refusal → Member →
 Resizes change cause m slot answer after =
     ◌≡◌ {A = Result ℕ Refusal × Member} (answer, after) (resize change cause slot m)
 
--- Two packets become one, in the first one's slot, by what is in the two slots: the tail's segments stand behind the
--- head's, and its slot is free.
+-- Two packets become one, in the first one's slot, by what is in the two slots: the tail's
+-- segments stand after the head's, and its slot is free.
 abbrev pub chain_in : Option (List Seg) → Option (List Seg) → ℕ → ℕ → Member →
     Result (Unit {0}) Refusal × Member
 chain_in None second head tail m = (Err NoSuchPacket, m)

@@ -18,8 +18,8 @@ pub record PacketsAsBefore (m : Member) (s : Side) (after : Member) (t : Side) :
   pub holds : (i : ℕ) → t.holds i ≡ s.holds i
   pub headers : (i : ℕ) → t.headers i ≡ s.headers i
 
--- What a refused act leaves: all that the worker has is as before; but a clone that is given up may share out the free
--- elements otherwise between cache and stack.
+-- What a refused act leaves: all that the worker has is as before; but a clone that is given up
+-- may share out the free elements differently between cache and stack.
 abbrev pub AsBefore : Act → Member → Side → Member → Side → Type 0
 AsBefore (ClonePacket source) m s after t = PacketsAsBefore m s after t
 AsBefore _ m s after t = (t ≡ s) × (after ≡ m)

@@ -1,6 +1,6 @@
--- What the calls on shared buffers do: a packet that attaches to another's buffer, one that gets its own back, one
--- that is cloned, and one whose count is told. For each case the calls that are made on the shared pool with their
--- answers, the answer, and what the worker has afterwards.
+-- What the calls on shared buffers do: a packet that attaches to another's buffer, one that gets
+-- its own back, one that is cloned, and one whose count is read. For each case the calls that are
+-- made on the shared pool with their answers, the answer, and what the worker has afterwards.
 use Rattle.std.specs.Prelude.{ℕ, ◌≡◌, ◌≢◌, ◌==◌, Bool, if◌then◌else◌, List, [], ◌∷◌, ◌++◌, slice_index_or, slice_set, Option, Some, None, Result, Ok, Err, unwrap_or}
 use Rattle.commons.specs.declared.limits.Limits.{Limits}
 use Rattle.commons.specs.declared.packet.Seg.{Seg}
@@ -37,8 +37,9 @@ if_alone (seg ∷ []) (target ∷ others) = if_direct seg.base seg.elem target
 if_alone (seg ∷ (other ∷ segs)) targets = Err TooManySegs
 if_alone _ _ = Err NoSuchPacket
 
--- What is to be attached to what, by what is in the two slots and whether they are one: the element of a packet of
--- one direct segment, and another packet's first segment. Else the first cause why not.
+-- What is to be attached to what, by what is in the two slots and whether they are one: the
+-- element of a packet of one direct segment, and another packet's first segment. Else the first
+-- cause why not.
 abbrev pub attachable : Option (List Seg) → Option (List Seg) → Bool → Result (ℕ × Seg) Refusal
 attachable None target same = Err NoSuchPacket
 attachable (Some segs) None same = Err NoSuchPacket
@@ -93,8 +94,8 @@ abbrev pub if_indirect : Option ℕ → ℕ → Result (ℕ × ℕ) Refusal
 if_indirect None e = Err NotIndirect
 if_indirect (Some base) e = Ok (e, base)
 
--- What is to be detached from what, by what is in the slot: the element of a packet of one indirect segment, and its
--- base. Else the first cause why not. (A packet isn't empty.)
+-- What is to be detached from what, by what is in the slot: the element of a packet of one
+-- indirect segment, and its base. Else the first cause why not. (A packet isn't empty.)
 abbrev pub detachable : Option (List Seg) → Result (ℕ × ℕ) Refusal
 detachable (Some (seg ∷ [])) = if_indirect seg.base seg.elem
 detachable (Some (seg ∷ (other ∷ segs))) = Err TooManySegs
@@ -135,7 +136,8 @@ pub record ClonesSeg (l : Limits) (seg : Seg) (cache : List ℕ) (calls : List C
   pub called : calls ≡ get ++ Claim elem ∷ Raise (buffer_of seg) (Ok tt) ∷ []
   pub is : new ≡ attached elem seg
 
--- a segment isn't cloned, for this cause, and perhaps an element is left over that was claimed for it
+-- a segment isn't cloned, for this cause, and perhaps an element is left over that was claimed for
+-- it
 pub data StopsCloning (l : Limits) (seg : Seg) (cache : List ℕ) (calls : List Call)
     (cause : Refusal) (over : Option ℕ) (left : List ℕ) : Type 0 where
   -- the get is refused
@@ -160,7 +162,8 @@ ClonesSegs l (seg ∷ segs) cache calls new left =
     × (more : List Seg) × (calls ≡ first ++ others) × (new ≡ one ∷ more)
     × ClonesSeg l seg cache first one between × ClonesSegs l segs between others more left
 
--- A segment isn't cloned: the holds of the clones so far end in order, and then that of an element that is left over.
+-- A segment isn't cloned: the holds of the clones so far end in order, and then that of an element
+-- that is left over.
 pub record GivesUp (l : Limits) (segs : List Seg) (cache : List ℕ) (calls : List Call)
     (cause : Refusal) (left : List ℕ) : Type 0 where
   pub cloned : List Seg
@@ -180,7 +183,8 @@ pub record GivesUp (l : Limits) (segs : List Seg) (cache : List ℕ) (calls : Li
   pub done : Freed
   pub ended : EndsHolds l (holds_of_packet new ++ hold_of over) stopped freed_nothing ends left done
 
--- The segments to be cloned and the slot of their clone, by what is in the packet's slot and the lowest free one.
+-- The segments to be cloned and the slot of their clone, by what is in the packet's slot and the
+-- lowest free one.
 abbrev pub clonable : Option (List Seg) → Option ℕ → Result (List Seg × ℕ) Refusal
 clonable None slot = Err NoSuchPacket
 clonable (Some segs) None = Err PacketsFull
@@ -218,7 +222,8 @@ pub data Clones (m : Member) (source : ℕ) (calls : List Call) (answer : Result
 
 -- ---- counting
 
--- what is told of the count of the packet in a slot: what was read of its first segment's element
+-- what is answered of the count of the packet in a slot: what was read of its first segment's
+-- element
 abbrev pub CountsOf : Option (List Seg) → List Call → Result ℕ Refusal → Type 0
 CountsOf None calls answer = (calls ≡ []) × (answer ≡ Err NoSuchPacket)
 CountsOf (Some segs) calls answer =

@@ -6,8 +6,9 @@ use Rattle.mbuf.specs.declared.acts.Answer.TheVariants.{Allocated, Bulk, Cloned,
 use Rattle.mbuf.specs.Acts.{Reply}
 use Rattle.mbuf.specs.Members.{Member}
 
--- The slots that an act names as those of packets that it changes, moves or ends. What an act only reads it doesn't
--- change: the packet that is cloned, the one to whose buffer another attaches, and one of which something is told.
+-- The slots that an act names as those of packets that it changes, moves or ends. What an act only
+-- reads it doesn't change: the packet that is cloned, the one to whose buffer another attaches,
+-- and one of which something is told.
 abbrev pub named_slots : Act → List ℕ
 named_slots Alloc = []
 named_slots (AllocBulk n) = []
@@ -39,8 +40,8 @@ filled_slots _ = []
 abbrev pub IsNoneOf : List ℕ → ℕ → Type 0
 IsNoneOf slots slot = All (λ other. slot ≢ other) slots
 
--- All slots of a worker's table but those that the act names and those that the reply says were filled have what they
--- had, and what was filled was free.
+-- All slots of a worker's table but those that the act names and those that the reply says were
+-- filled have what they had, and what was filled was free.
 pub record LeavesOtherSlots (act : Act) (reply : Reply) (before after : Member) : Type 0 where
   pub others : (slot : ℕ) → IsNoneOf (named_slots act) slot → IsNoneOf (filled_slots reply) slot →
       slice_index_or after.table slot None ≡ slice_index_or before.table slot None

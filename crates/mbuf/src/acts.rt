@@ -23,21 +23,22 @@ use mempool::put::Put;
 pub enum Act {
     /// Makes a packet of one element, in the lowest free slot.
     Alloc,
-    /// Makes so many packets of one element each, all or none, in the lowest free slots.
+    /// Makes this many packets of one element each, all or none, in the lowest free slots.
     AllocBulk(usize),
     /// Frees the packet in this slot.
     Free(Pid),
-    /// Adds so many bytes behind the data of a packet's last segment.
+    /// Adds this many bytes after the data of a packet's last segment.
     Append(Pid, u16),
-    /// Adds so many bytes in front of the data of a packet's first segment.
+    /// Adds this many bytes in front of the data of a packet's first segment.
     Prepend(Pid, u16),
-    /// Takes so many bytes off the front of a packet's first segment.
+    /// Takes this many bytes off the front of a packet's first segment.
     Adj(Pid, u16),
-    /// Takes so many bytes off the end of a packet's last segment.
+    /// Takes this many bytes off the end of a packet's last segment.
     Trim(Pid, u16),
-    /// Puts the segments of the second packet behind those of the first.
+    /// Puts the segments of the second packet after those of the first.
     Chain(Pid, Pid),
-    /// Attaches the first packet, of one direct segment, to the buffer of the second's first segment.
+    /// Attaches the first packet, of one direct segment, to the buffer of the second's first
+    /// segment.
     Attach(Pid, Pid),
     /// Gives a packet of one indirect segment its own buffer back.
     Detach(Pid),
@@ -81,7 +82,7 @@ pub enum Answer<const ROOM: usize> {
     Cloned(Pid, ArrayVec<u32, MAX_SEGS>),
     /// The packet is on the desk.
     Offered,
-    /// The packet stands in this slot; it has so many segments, and so many bytes of data.
+    /// The packet stands in this slot; it has this many segments, and this many bytes of data.
     Taken(Pid, u32, u32),
     /// The reference count that was read.
     Count(u32),
@@ -89,7 +90,7 @@ pub enum Answer<const ROOM: usize> {
     Len(u32),
     /// How many segments the packet has.
     Segs(u32),
-    /// The first packet has so many segments now, and so many bytes of data.
+    /// The first packet has this many segments now, and this many bytes of data.
     Chained(u32, u32),
     /// What a flush did with the cache.
     Put(Put),
@@ -180,7 +181,7 @@ fn alloc_all<C: Commons, const ROOM: usize>(
     }
 }
 
-/// Makes so many packets, and tells of them.
+/// Makes this many packets, and tells of them.
 #[tactic(auto, using(crate::proofs::FreshLemmas::fresh_none))]
 fn alloc_bulk<C: Commons, const ROOM: usize>(
     packets: &mut Packets,
@@ -296,9 +297,9 @@ fn take<C: Commons, const ROOM: usize>(packets: &mut Packets, c: &mut C, desk: u
 /// Lets a worker do this with its packets, and answers what came of it.
 ///
 /// Each act is the call of `Packets` of that name, with its refusals. A count of `AllocBulk` above
-/// 256 is refused `PacketsFull`. After a refusal packets, cache, hand, holds and headers are as before,
-/// but that a refused clone may share out the free elements otherwise between cache and stack. The
-/// worker keeps its number, its limits and its 256 slots.
+/// 256 is refused `PacketsFull`. After a refusal packets, cache, hand, holds and headers are as
+/// before, but that a refused clone may share out the free elements differently between cache and
+/// stack. The worker keeps its number, its limits and its 256 slots.
 pub fn perform<C: Commons>(packets: &mut Packets, c: &mut C, act: Act) -> Reply
     requires own { OwnWithGuests packets.old (C.side c.old) }
     ensures calls { Calls C.did C.side c.old c.new (λ calls.
@@ -312,8 +313,8 @@ pub fn perform<C: Commons>(packets: &mut Packets, c: &mut C, act: Act) -> Reply
     perform_in(packets, c, act)
 }
 
-/// Does what `perform` does, and answers with room for a bulk of `ROOM` packets: with none the answer is
-/// small.
+/// Does what `perform` does, and answers with room for a bulk of `ROOM` packets: with none the
+/// answer is small.
 #[inline(always)]
 pub fn perform_in<C: Commons, const ROOM: usize>(
     packets: &mut Packets,

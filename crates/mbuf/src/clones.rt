@@ -126,7 +126,7 @@ fn give_up<C: Commons>(worker: &mut Worker, c: &mut C, segs: &[Seg], over: Optio
     }
 }
 
-/// Puts a segment behind the first `count` of a packet, in the place of the next one.
+/// Puts a segment after the first `count` of a packet, in the place of the next one.
 #[inline(always)]
 fn follow(packet: &mut Packet, count: usize, seg: Seg)
     requires there { count < length packet.old }
@@ -137,7 +137,7 @@ fn follow(packet: &mut Packet, count: usize, seg: Seg)
     packet.set(count, seg);
 }
 
-/// Lets a packet have so many segments, whatever they are.
+/// Lets a packet have this many segments, whatever they are.
 #[inline(always)]
 fn fit(packet: &mut Packet, count: usize)
     requires some { 1 ≤ count }
@@ -149,7 +149,8 @@ fn fit(packet: &mut Packet, count: usize)
     }
 }
 
-/// Makes a packet of so many segments without data. It stands apart, since a slot mostly has had as many.
+/// Makes a packet of this many segments without data. It stands apart, since a slot mostly has had
+/// as many.
 #[inline(never)]
 fn refit(packet: &mut Packet, count: usize)
     requires some { 1 ≤ count }
@@ -201,7 +202,8 @@ pub fn clone_segs<C: Commons>(
     clone_within(worker, c, packets.as_mut_slice(), source, slot)
 }
 
-/// The same of a worker's packets as a slice, whose place in memory no atomic operation can change.
+/// Clones, all or none, the segments of one of these packets into another, where they are a slice:
+/// no atomic operation can change its place in memory.
 #[inline(always)]
 fn clone_within<C: Commons>(
     worker: &mut Worker,

@@ -37,9 +37,10 @@ pub fn twins_stay_own()
         SameSide t t_after → OwnTwin twin s_after t_after }
 {}
 
-/// An act leaves the slots that it doesn't name, over any shared pool: a free, a change of lengths, a chain, an attach,
-/// a detach and an offer write the slots that they name, and an alloc, a bulk, a clone and a take fill those that
-/// the reply tells. All other slots have what they had, and a slot that was filled was free.
+/// An act leaves the slots that it doesn't name, over any shared pool: a free, a change of
+/// lengths, a chain, an attach, a detach and an offer write the slots that they name, and an
+/// alloc, a bulk, a clone and a take fill those that the reply tells. All other slots have what
+/// they had, and a slot that was filled was free.
 pub fn an_act_leaves_the_slots_it_does_not_name()
     ensures { (act : Act) (before after : Member) (calls : List Call) (reply : Reply) →
         Performs act before calls reply after → LeavesOtherSlots act reply before after }

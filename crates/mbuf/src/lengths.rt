@@ -20,7 +20,7 @@ pub(crate) fn pkt_len(packet: &Packet) -> u32
     len
 }
 
-/// The segment with so many bytes more behind its data, if its tailroom has them.
+/// The segment with this many bytes more after its data, if its tailroom has them.
 fn grow_behind(seg: Seg, len: u16) -> Option<Seg>
     requires { HasItsData seg }
     ensures seg { result ≡ grown_behind len seg }
@@ -36,7 +36,7 @@ fn grow_behind(seg: Seg, len: u16) -> Option<Seg>
     }
 }
 
-/// The segment with so many bytes more in front of its data, if there are so many.
+/// The segment with this many bytes more in front of its data, if there are that many.
 fn grow_in_front(seg: Seg, len: u16) -> Option<Seg>
     requires { HasItsData seg }
     ensures seg { result ≡ grown_in_front len seg }
@@ -53,7 +53,7 @@ fn grow_in_front(seg: Seg, len: u16) -> Option<Seg>
     }
 }
 
-/// The segment with so many bytes fewer at the front of its data, if it has so many.
+/// The segment with this many bytes fewer at the front of its data, if it has that many.
 fn cut_front(seg: Seg, len: u16) -> Option<Seg>
     requires { HasItsData seg }
     ensures seg { result ≡ cut_in_front len seg }
@@ -70,7 +70,7 @@ fn cut_front(seg: Seg, len: u16) -> Option<Seg>
     }
 }
 
-/// The segment with so many bytes fewer at the end of its data, if it has so many.
+/// The segment with this many bytes fewer at the end of its data, if it has that many.
 fn cut_end(seg: Seg, len: u16) -> Option<Seg>
     requires { HasItsData seg }
     ensures seg { result ≡ cut_behind len seg }
@@ -102,7 +102,7 @@ fn replace(packet: &mut Packet, index: usize, seg: Option<Seg>) -> bool
     }
 }
 
-/// Appends so many bytes behind the last segment's data, if its tailroom has them, and says so.
+/// Appends this many bytes after the last segment's data, if its tailroom has them, and says so.
 fn append(packet: &mut Packet, len: u16) -> bool
     ensures resized { cond result (Some packet.new) None ≡ appended len packet.old }
     ensures same { result ≡ false → packet.new ≡ packet.old }
@@ -112,7 +112,7 @@ fn append(packet: &mut Packet, len: u16) -> bool
     replace(packet, last, grow_behind(seg, len))
 }
 
-/// Puts so many bytes in front of the first segment's data, if there are so many, and says so.
+/// Puts this many bytes in front of the first segment's data, if there are that many, and says so.
 fn prepend(packet: &mut Packet, len: u16) -> bool
     ensures resized { cond result (Some packet.new) None ≡ prepended len packet.old }
     ensures same { result ≡ false → packet.new ≡ packet.old }
@@ -121,7 +121,8 @@ fn prepend(packet: &mut Packet, len: u16) -> bool
     replace(packet, 0, grow_in_front(seg, len))
 }
 
-/// Cuts so many bytes off the front of the first segment's data, if it has so many, and says so.
+/// Cuts this many bytes off the front of the first segment's data, if it has that many, and says
+/// so.
 fn adj(packet: &mut Packet, len: u16) -> bool
     ensures resized { cond result (Some packet.new) None ≡ adjusted len packet.old }
     ensures same { result ≡ false → packet.new ≡ packet.old }
@@ -130,7 +131,7 @@ fn adj(packet: &mut Packet, len: u16) -> bool
     replace(packet, 0, cut_front(seg, len))
 }
 
-/// Cuts so many bytes off the end of the last segment's data, if it has so many, and says so.
+/// Cuts this many bytes off the end of the last segment's data, if it has that many, and says so.
 fn trim(packet: &mut Packet, len: u16) -> bool
     ensures resized { cond result (Some packet.new) None ≡ trimmed len packet.old }
     ensures same { result ≡ false → packet.new ≡ packet.old }

@@ -148,8 +148,8 @@ pub fn end_segs<C: Commons>(worker: &mut Worker, c: &mut C, segs: &[Seg]) -> Fre
     end_several(worker, c, segs)
 }
 
-/// Ends the holds of several segments in order. What that has done has a place of its own here, which is filled for
-/// several alone.
+/// Ends the holds of several segments in order. What that has done has a place of its own here,
+/// which is filled only for several.
 #[inline(always)]
 fn end_several<C: Commons>(worker: &mut Worker, c: &mut C, segs: &[Seg]) -> Freed
     requires limits { (C.side c.old).limits ≡ worker.old.limits }
@@ -181,7 +181,8 @@ fn end_several<C: Commons>(worker: &mut Worker, c: &mut C, segs: &[Seg]) -> Free
     }
 }
 
-/// The same, in a function of its own, so that what inlines a free stays small.
+/// Ends the holds of several segments, in a function of its own, so that what inlines a free stays
+/// small.
 #[inline(never)]
 fn end_each<C: Commons>(worker: &mut Worker, c: &mut C, segs: &[Seg]) -> Freed
     requires limits { (C.side c.old).limits ≡ worker.old.limits }

@@ -1,5 +1,5 @@
--- What a worker's cache does with a request: for each case the calls that are made with their answers, the
--- reply and the cache that is left.
+-- What a worker's cache does with a request: for each case the calls that are made with their
+-- answers, the reply and the cache that is left.
 use Rattle.std.specs.Prelude.{ℕ, ◌≡◌, ◌+◌, ◌-◌, ◌*◌, ◌/◌, ◌<◌, ◌≤◌, ◌⊎◌, List, [], ◌∷◌, ◌++◌, Result, Ok, Err, length, take, drop, reverse}
 use Rattle.commons.specs.declared.limits.Limits.{Limits}
 use Rattle.commons.specs.declared.limits.PutRule.TheVariants as rules
@@ -26,7 +26,8 @@ abbrev pub as_list : Result ℕ Refusal → Result (List ℕ) Refusal
 as_list (Ok e) = Ok (e ∷ [])
 as_list (Err cause) = Err cause
 
--- what a get of n does with a cache, by the calls that it makes, its answer and the cache that it leaves
+-- what a get of n does with a cache, by the calls that it makes, its answer and the cache that it
+-- leaves
 pub data Gets (l : Limits) (cache : List ℕ) (n : ℕ) (calls : List Call)
     (answer : Result (List ℕ) Refusal) (left : List ℕ) : Type 0 where
   -- nothing is asked for
@@ -68,7 +69,7 @@ pub data Gets (l : Limits) (cache : List ℕ) (n : ℕ) (calls : List Call)
       calls ≡ GetList (n + l.cache - length cache) (Err cause) ∷ GetList n answer ∷ [] →
       left ≡ cache →
       Gets l cache n calls answer left
-  -- no refill can be met, and the stack is asked for n
+  -- no refill can succeed, and the stack is asked for n
   NoRefill :
       0 < n →
       n < l.cache →

@@ -5,7 +5,8 @@ use Rattle.commons.specs.declared.limits.Limits.{Limits}
 use Rattle.commons.specs.declared.refusal.Refusal.{Refusal}
 use Rattle.commons.specs.declared.refusal.Refusal.TheVariants.{BadPool, OutOfMemory}
 
--- the limits of the worker's pool, the worker's number, and its cache, from its first element to its last
+-- the limits of the worker's pool, the worker's number, and its cache, from its first element to
+-- its last
 pub record WorkerCache : Type 0 where
   pub limits : Limits
   pub number : ℕ

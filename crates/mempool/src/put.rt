@@ -7,8 +7,8 @@ use commons::refusal::Refusal;
 pub enum Put {
     /// Nothing was to go to the common stack.
     Kept,
-    /// So many elements went to the common stack.
+    /// This many elements went to the common stack.
     Flushed(u32),
-    /// So many elements were to go there, and stay in the cache, since the stack refused them.
+    /// This many elements were to go there, and stay in the cache, since the stack refused them.
     PutOff(u32, Refusal),
 }

@@ -114,8 +114,8 @@ impl Worker {
     /// Refused as the last request to the stack was: `NoEntries`, `Contended` or `HeadSpent`.
     /// Cache and hand are then as before, and nothing is said of `out`.
     ///
-    /// After rte_mempool.h, `rte_mempool_do_generic_get` (DPDK 21.11), which doesn't test whether a
-    /// refill can be met at all.
+    /// After rte_mempool.h, `rte_mempool_do_generic_get` (DPDK 21.11), which doesn't test whether
+    /// a refill can succeed at all.
     #[inline(always)]
     pub fn get_bulk<C: Commons>(&mut self, c: &mut C, out: &mut [u32]) -> Result<(), Refusal>
         requires limits { (C.side c.old).limits ≡ self.old.limits }
@@ -148,8 +148,8 @@ impl Worker {
     }
 
     /// Gets more elements than the cache has, and fewer than it keeps: from the cache once it is
-    /// refilled, else from the common stack. The answer has a place of its own here, which is filled
-    /// where the cache has too few alone.
+    /// refilled, else from the common stack. The answer has a place of its own here, which is
+    /// filled only where the cache has too few.
     #[inline(always)]
     fn get_refilled<C: Commons>(&mut self, c: &mut C, out: &mut [u32]) -> Result<(), Refusal>
         requires limits { (C.side c.old).limits ≡ self.old.limits }
@@ -173,7 +173,8 @@ impl Worker {
         }
     }
 
-    /// The same, in a function of its own, so that what a get from the cache inlines stays small.
+    /// Gets more elements than the cache has, in a function of its own, so that what a get from
+    /// the cache inlines stays small.
     #[inline(never)]
     fn refilled_apart<C: Commons>(&mut self, c: &mut C, out: &mut [u32]) -> Result<(), Refusal>
         requires limits { (C.side c.old).limits ≡ self.old.limits }
@@ -410,8 +411,8 @@ impl Worker {
     }
 }
 
-/// The least length from which a cache of this size is flushed: where it keeps its size the threshold, if that is more
-/// than the size, and where it goes whole the first past the threshold.
+/// The least length from which a cache of this size is flushed: where it keeps its size the
+/// threshold, if that is more than the size, and where it goes whole the first past the threshold.
 fn flush_length(rule: PutRule, size: usize) -> usize
     requires { size ≤ max_cache }
     ensures { IsFlushLength rule size result }

@@ -24,13 +24,14 @@ use Rattle.pool_model.proofs.Leaves.{Leaves, leaves_kept, nothing_keeps}
 use Rattle.pool_model.proofs.PacketsKeep.{alloc_bulk-keeps, alloc_in-keeps, chain_in-keeps, flush_member-keeps, free_in-keeps, resize_in-keeps}
 use Rattle.pool_model.proofs.SharedKeep.{attach_to-keeps, clone_at-keeps, detach_from-keeps}
 
--- held is how often all packets hold each element, and elsewhere how often without the one in a slot
+-- held is how often all packets hold each element, and elsewhere how often without the one in a
+-- slot
 pub record AreHolds (others held : ℕ → ℕ) (elsewhere : ℕ → ℕ → ℕ) (m : Member) (s : Shared) : Type 0 where
   pub all : (i : ℕ) → held i ≡ others i + held_in s.desks i + held_in m.table i
   pub rest : (slot i : ℕ) → slot < length m.table →
       elsewhere slot i ≡ others i + held_in s.desks i + held_in (set m.table slot None) i
 
--- what is told of a packet, or counted, is of no new element
+-- what is reported of a packet, or counted, is of no new element
 new-told_len : (r : Result ℕ Refusal) → new_elements (told_len r) ≡ []
 new-told_len (Ok len) = refl
 new-told_len (Err cause) = refl
@@ -126,8 +127,8 @@ are_holds pool n h = record {
       );
 }
 
--- What holds where a stranger is refused, and of each reply and pool in which a worker of this number and what all share
--- are as an act leaves them, holds of the act.
+-- What holds where a stranger is refused, and of each reply and pool in which a worker of this
+-- number and what all share are as an act leaves them, holds of the act.
 pub of_act : (P : Reply × Pool → Type 0) (pool : Pool) (w : ℕ) (act : Act) → P (Refused StrangerShare, pool) →
     ((n : ℕ) (done : Reply × Member × Shared) → w ≡ n + 1 → n < length pool.members →
     done ≡ act_on pool n act →
@@ -144,7 +145,8 @@ of_act P pool w act stranger after = elim (cases_Bool (nat_le 1 w && nat_le w (l
   | inr e ↦ rw e stranger
 ]
 
--- What holds of a pool, and of each in which a worker and what all share are as an act leaves them, holds after the act.
+-- What holds of a pool, and of each in which a worker and what all share are as an act leaves
+-- them, holds after the act.
 pub after_act : (P : Pool → Type 0) (pool : Pool) (w : ℕ) (act : Act) → P pool →
     ((n : ℕ) (done : Reply × Member × Shared) → n < length pool.members →
     Leaves act (by_others pool n) (member_at pool n) pool.shared done →

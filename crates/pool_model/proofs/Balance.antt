@@ -26,8 +26,8 @@ use Rattle.pool_model.proofs.Leaves.{Leaves, near_desks}
 abbrev cached_by : List Member → ℕ → ℕ
 cached_by members i = sum_by (λ member. bag member.cache i) members
 
--- Each element of the pool is in one place, and nothing else is anywhere; and each is the own element of at most one
--- segment of all packets.
+-- Each element of the pool is in one place, and nothing else is anywhere; and each is the own
+-- element of at most one segment of all packets.
 pub record IsBalanced (pool : Pool) : Type 0 where
   pub placed : (i : ℕ) → bag pool.shared.common i + cached_by pool.members i
       + min 1 (held_of pool.members pool.shared.desks i)

@@ -18,7 +18,8 @@ use Rattle.pool_model.proofs.Balance.{IsBalanced, near_once, new_pool-balanced, 
 use Rattle.pool_model.proofs.Leaves.{Leaves}
 use Rattle.pool_model.proofs.Links.{based_by_seg, based_in, based_in-empty, based_slot, held_split, indirect_by_seg, indirect_in, indirect_in-own, indirect_slot, links_stay}
 
--- how often all members' packets have an element as a base, and as the own one of an indirect segment
+-- how often all members' packets have an element as a base, and as the own one of an indirect
+-- segment
 abbrev based_by : List Member → ℕ → ℕ
 based_by members i = sum_by (λ member. based_in member.table i) members
 

@@ -1,5 +1,5 @@
--- What a get and a put do with elements: none comes to be, and none is lost. Both leave the desks, and neither takes back
--- a change of the stack.
+-- What a get and a put do with elements: none comes to be, and none is lost. Both leave the desks,
+-- and neither takes back a change of the stack.
 use Rattle.std.proofs.Common.{ℕ, ◌≡◌, ◌+◌, ◌-◌, ◌≤◌, ◌==◌, nat_lt, nat_le, inl, inr, List, [], ◌++◌, length, length-append, drop, reverse, Result, Ok, Err, refl, sym, arith}
 use Rattle.std.proofs.lemmas.List.{length-take, length-drop, length-reverse}
 use Rattle.std.proofs.lemmas.Bool.{cases_Bool, leb-true, ltb-false, eqb-true}
@@ -26,7 +26,8 @@ abbrev pub HasLength : ℕ → Result (List ℕ) Refusal → Type 0
 HasLength n (Ok xs) = length xs ≡ n
 HasLength n (Err e) = Unit {0}
 
--- what the stack gives leaves the common list, and is as long as it was asked for; a request that is refused changes nothing
+-- what the stack gives leaves the common list, and is as long as it was asked for; a request that
+-- is refused changes nothing
 pub record IsAsked (n : ℕ) (s : Shared) (r : Result (List ℕ) Refusal × Shared) : Type 0 where
   pub given : (i : ℕ) → in_answer r.0 i + bag r.1.common i ≡ bag s.common i
   pub long : HasLength n r.0
@@ -77,8 +78,8 @@ last-bag n xs i = omega (arith, bag-last xs (length xs - n) i)
 last-length : (n : ℕ) (xs : List ℕ) → n ≤ length xs → length (last n xs) ≡ n
 last-length n xs h = omega (arith, length-reverse (drop (length xs - n) xs), length-drop (length xs - n) xs)
 
--- what was in the cache and the common list is there or in the answer, which has the length asked for; a get that is
--- refused changes nothing
+-- what was in the cache and the common list is there or in the answer, which has the length asked
+-- for; a get that is refused changes nothing
 pub record IsGot (n : ℕ) (cache : List ℕ) (s : Shared) (r : Result (List ℕ) Refusal × List ℕ × Shared) : Type 0 where
   pub moved : (i : ℕ) → in_answer r.0 i + (bag r.1 i + bag r.2.common i) ≡ bag cache i + bag s.common i
   pub long : HasLength n r.0

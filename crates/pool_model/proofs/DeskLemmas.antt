@@ -1,4 +1,4 @@
--- What an offer that is met leaves, and what the next take gives.
+-- What an offer that succeeds leaves, and what the next take gives.
 use Rattle.std.proofs.Common.{ℕ, ◌≡◌, ◌<◌, nat_le, inl, inr, List, length, get_or, set, get_or-set_same, Option, Some, None, refl, sym, ◌∙◌, ap}
 use Rattle.std.proofs.lemmas.Bool.{cases_Bool, leb-false, lt-leb}
 use Rattle.std.proofs.lemmas.List.{set-set, set-get_or}
@@ -20,7 +20,8 @@ pub record WentOnto (packet : List Seg) (slot desk : ℕ) (m after : Member) (s 
   pub freed : after ≡ without_packet slot m
   pub there : t ≡ record s { desks = set s.desks desk (Some packet) }
 
--- an offer on a taken desk is refused, so one that is met found the desk empty and left the packet
+-- an offer on a taken desk is refused, so one that succeeds found the desk empty and left the
+-- packet
 offer_onto-met : (place : Option (List Seg)) (packet : List Seg) (slot desk : ℕ) (m after : Member)
     (s t : Shared) → get_or s.desks desk None ≡ place → desk < length s.desks →
     offer_onto place packet slot desk m s ≡ (Offered, after, t) → WentOnto packet slot desk m after s t
@@ -33,7 +34,7 @@ offer_onto-met None packet slot desk m after s t e here met = record {
   there = sym (ap (λ (r : Reply × Member × Shared). r.2) met);
 }
 
--- an offer that is met found a packet in the slot and a desk of this number
+-- an offer that succeeds found a packet in the slot and a desk of this number
 offer_in-met : (content : Option (List Seg)) (slot desk : ℕ) (m after : Member) (s t : Shared) →
     offer_in content slot desk m s ≡ (Offered, after, t) →
     (packet : List Seg) × (content ≡ Some packet) × WentOnto packet slot desk m after s t
@@ -97,7 +98,7 @@ desk_emptied packet slot desk m after s t went =
     ∙ set-get_or s.desks desk None in
     rw (went.there, set-set s.desks desk (Some packet) None, same) refl
 
--- what an offer that is met leaves
+-- what an offer that succeeds leaves
 pub left_on_desk : (slot desk : ℕ) (m after : Member) (s t : Shared) → offer slot desk m s ≡ (Offered, after, t) →
     (packet : List Seg) × (get_or m.table slot None ≡ Some packet)
     × (get_or after.table slot None ≡ None) × (get_or t.desks desk None ≡ Some packet)

@@ -60,7 +60,7 @@ offering_worker pool worker slot desk =
     (λ told. absurd cc) (λ n done number within is left told.
     (omega (arith, number), omega (arith, number, within)))
 
--- what an offer leaves that is met
+-- what an offer that succeeds leaves
 pub left_by_offer : (pool : Pool) (worker slot desk : ℕ) → let done =
     perform pool worker (Offer slot desk) in done.0 ≡ Offered →
     (packet : List Seg) × IsInSlot pool worker slot packet × IsOnDesk done.1 desk packet

@@ -32,8 +32,8 @@ next_hold l others e es so_far =
     if bag es e + others e == 0 then put_back so_far.0 (put l (e ∷ []) so_far.1 so_far.2)
     else so_far
 
--- Once holds have ended, each element that was held, cached or in the common list is so still, the desks are as before,
--- and no change of the stack is taken back.
+-- Once holds have ended, each element that was held, cached or in the common list is so still, the
+-- desks are as before, and no change of the stack is taken back.
 pub record IsEnded (others : ℕ → ℕ) (es : List ℕ) (so_far r : Freed × List ℕ × Shared) : Type 0 where
   pub moved : (i : ℕ) → bag r.1 i + bag r.2.common i + min 1 (others i)
       ≡ bag so_far.1 i + bag so_far.2.common i + min 1 (others i + bag es i)

@@ -16,7 +16,8 @@ use Rattle.mbuf.specs.Members.{Member}
 use Rattle.pool_model.specs.Pool.{Shared}
 use Rattle.pool_model.proofs.Links.{LinksAfter, Fewer, based_in, based_in-set, based_slot, indirect_in, indirect_in-own, indirect_in-set, indirect_slot, links_beside}
 
--- how often an element is in a member's cache, in the common list, and held there or by this many others
+-- how often an element is in a member's cache, in the common list, and held there or by this many
+-- others
 abbrev pub near : ℕ → Member → Shared → ℕ → ℕ
 near others m s i = bag m.cache i + bag s.common i + min 1 (others + held_in m.table i)
 
@@ -24,11 +25,13 @@ near others m s i = bag m.cache i + bag s.common i + min 1 (others + held_in m.t
 abbrev pub StaysWithin : ℕ → ℕ → ℕ → Type 0
 StaysWithin limit before after = 1 ≤ limit → before ≤ limit → after ≤ limit
 
--- What leaves the desks: the worker keeps its limits, its number and as many slots, no change of the stack is taken
--- back, no count passes the reference limit, and each element stays in one place, where
--- outside is how often the packets of others and those on desks hold each. The elements that the worker is told of as
--- new were in its cache or the common list; they are own elements of its packets then, which have no others but what they
--- had. No element becomes a base and an indirect segment's at once.
+-- What leaves the desks: the worker keeps its limits, its number and as many slots, no change of
+-- the stack is taken back, no count passes the reference limit, and each element stays in one
+-- place, where
+-- outside is how often the packets of others and those on desks hold each. The elements that the
+-- worker is told of as new were in its cache or the common list; they are own elements of its
+-- packets then, which have no others but what they had. No element becomes a base and an indirect
+-- segment's at once.
 pub record Keeps (outside : ℕ → ℕ) (m : Member) (s : Shared) (done : Reply × Member × Shared) : Type 0 where
   pub limits : done.1.limits ≡ m.limits
   pub number : done.1.number ≡ m.number
@@ -153,7 +156,8 @@ set_keeps outside m s t reply slot old new cache there within desks changes plac
           (rw there at (indirect_in-set m.table slot new i within));
     }
 
--- what becomes of the desks: they stay, or an offer puts a packet onto its own, which is empty, or a take empties its own
+-- what becomes of the desks: they stay, or an offer puts a packet onto its own, which is empty, or
+-- a take empties its own
 pub data DesksAfter (act : Act) (before after : List (Option (List Seg))) : Type 0 where
   Same : after ≡ before → DesksAfter act before after
   Onto : (slot desk : ℕ) (packet : List Seg) → act ≡ Offer slot desk →
@@ -165,11 +169,12 @@ pub data DesksAfter (act : Act) (before after : List (Option (List Seg))) : Type
 abbrev pub near_desks : ℕ → Member → Shared → ℕ → ℕ
 near_desks others m s i = near (others + held_in s.desks i) m s i
 
--- What any act leaves: the worker keeps its limits, its number and as many slots, no change of the stack is taken back,
--- no count passes the reference limit, and each element stays in one place, where
--- others is how often the packets of others hold each. The elements that the worker is told of as new were in its cache
--- or the common list; these and what the packets had, and no others, are own elements of its packets and of those on
--- desks.
+-- What any act leaves: the worker keeps its limits, its number and as many slots, no change of the
+-- stack is taken back, no count passes the reference limit, and each element stays in one place,
+-- where
+-- others is how often the packets of others hold each. The elements that the worker is told of as
+-- new were in its cache or the common list; these and what the packets had, and no others, are own
+-- elements of its packets and of those on desks.
 -- No element becomes a base and an indirect segment's at once.
 pub record Leaves (act : Act) (others : ℕ → ℕ) (m : Member) (s : Shared) (done : Reply × Member × Shared) : Type 0 where
   pub limits : done.1.limits ≡ m.limits

@@ -1,4 +1,5 @@
--- How often packets have an element as a base, and how often as the own element of a segment that has a base.
+-- How often packets have an element as a base, and how often as the own element of a segment that
+-- has a base.
 use Rattle.std.proofs.Common.{ℕ, zero, suc, ◌≡◌, ◌+◌, ◌-◌, ◌<◌, ◌≤◌, inl, inr, Bool, true, false, cond, nat_le, List, [], ◌∷◌, ◌++◌, length, get_or, set, take, replicate, Option, Some, None, refl, sym, ap, ◌∙◌, arith}
 use Rattle.std.specs.Prelude.{is_none, sum_by}
 use Rattle.std.specs.List.{Contains, position_or_len}
@@ -336,9 +337,10 @@ based-more segs e seg i =
       bag-single (buffer_of seg) i,
     )
 
--- What becomes of an element that packets have as a base so often, and so often as the own one of a segment with a
--- base: neither is more often so; or more often the first, of a buffer that a segment used already; or the second, of
--- one that is no base. Held is how often all packets hold it, and own how often it is an own element of these.
+-- What becomes of an element that packets have as a base so often, and so often as the own one of
+-- a segment with a base: neither is more often so; or more often the first, of a buffer that a
+-- segment used already; or the second, of one that is no base. Held is how often all packets hold
+-- it, and own how often it is an own element of these.
 pub data LinksAfter (held own based indirect more_based more_indirect : ℕ) : Type 0 where
   Fewer : more_based ≤ based → more_indirect ≤ indirect → LinksAfter held own based indirect more_based more_indirect
   NewBase : indirect < based + own → more_indirect ≤ indirect →
@@ -361,7 +363,8 @@ links_beside held own based indirect more_based more_indirect own_stays based_st
     few (NewIndirect p q) =
     NewIndirect (omega (arith, p)) (omega (arith, q))
 
--- where an own element is in at most one segment of all packets, and a base is no indirect segment's, so it is then
+-- where an own element is in at most one segment of all packets, and a base is no indirect
+-- segment's, so it is then
 pub links_stay :
     (own_others based_others indirect_others held own based indirect more_based more_indirect : ℕ)
     → held ≡ based_others + based + (own_others + own) → own_others + own ≤ 1 →

@@ -74,7 +74,8 @@ bag-filter_no p (x ∷ xs) i h = elim (cases_Bool (p x)) [
   | inr e ↦ rw e (bag-filter_no p xs i h)
 ]
 
--- where an element is placed once, one that is held is among the population's as often as it is held at all
+-- where an element is placed once, one that is held is among the population's as often as it is
+-- held at all
 pub held_once : (b h i n others : ℕ) → 0 < h → b ≡ cond (nat_lt i n) 1 0 →
     others + min 1 h ≡ cond (nat_lt i n) 1 0 → b ≡ min 1 h
 held_once b h i n others p q r = omega (arith, at_most_one i n)

@@ -145,7 +145,8 @@ alloc_bulk-keeps outside n m s = elim (cases_Bool (nat_lt (length (free_slots m.
       (ltb-false (length (free_slots m.table)) n e) (get-IsGot m.limits n m.cache s))
 ]
 
--- freeing a packet moves its elements to the cache or the common list, but those that are held elsewhere
+-- freeing a packet moves its elements to the cache or the common list, but those that are held
+-- elsewhere
 pub free_in-keeps : (outside : ℕ → ℕ) (content : Option (List Seg)) (elsewhere : ℕ → ℕ) (slot : ℕ)
     (m : Member) (s : Shared) → get_or m.table slot None ≡ content →
     ((i : ℕ) → slot < length m.table → elsewhere i ≡ outside i + held_in (set m.table slot None) i)
@@ -197,7 +198,7 @@ resize_in-keeps outside (Some segs) change cause slot m s e same links =
     resize_to-keeps outside (change segs) segs cause slot m s e (λ new f. same segs new f)
     (λ new f. links segs new f)
 
--- what is told of a length and of segments is of no new element
+-- what is reported of a length and of segments is of no new element
 new-told_both : (slot : Option (List Seg)) → new_elements (told_both slot) ≡ []
 new-told_both None = refl
 new-told_both (Some segs) = refl

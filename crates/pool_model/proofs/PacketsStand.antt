@@ -61,7 +61,7 @@ fresh_packet l e = of_one (fresh_seg l e) (omega arith)
 
 -- ---- making packets
 
--- an alloc that is met writes a fresh packet of one segment into its slot, and no desk
+-- an alloc that succeeds writes a fresh packet of one segment into its slot, and no desk
 fill_slot-stand : (slot : ℕ) (m : Member) (s : Shared)
     (r : Result (List ℕ) Refusal × List ℕ × Shared) → r.2.desks ≡ s.desks → ArePlaces m.table →
     ArePlaces s.desks → Stand m.limits (fill_slot slot m r)
@@ -91,7 +91,7 @@ stood-places l (e ∷ es) (slot ∷ free) table a =
     stood-places l es free (set table slot (Some (fresh_seg l e ∷ [])))
     (All-set IsPlace table slot (Some (fresh_seg l e ∷ [])) (fresh_packet l e) a)
 
--- a bulk that is met writes fresh packets into slots, and no desk
+-- a bulk that succeeds writes fresh packets into slots, and no desk
 fill_slots-stand : (free : List ℕ) (m : Member) (s : Shared)
     (r : Result (List ℕ) Refusal × List ℕ × Shared) → r.2.desks ≡ s.desks → ArePlaces m.table →
     ArePlaces s.desks → Stand m.limits (fill_slots free m r)
@@ -457,7 +457,8 @@ act_stand (PktLen slot) held elsewhere m s table desks = (table, desks, refl)
 act_stand (NbSegs slot) held elsewhere m s table desks = (table, desks, refl)
 act_stand Flush held elsewhere m s table desks = (table, rw (flush-IsPut m.cache s).desks desks, refl)
 
--- what stands in all workers' slots and lies on desks is a packet, and each worker has the pool's limits
+-- what stands in all workers' slots and lies on desks is a packet, and each worker has the pool's
+-- limits
 pub record HasPackets (pool : Pool) : Type 0 where
   pub limits : All (λ m. m.limits ≡ pool.limits) pool.members
   pub in_slots : All (λ m. ArePlaces m.table) pool.members

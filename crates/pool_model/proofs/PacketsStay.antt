@@ -1,4 +1,5 @@
--- Each act leaves packets where packets were: of 1 to 32 segments, each with its data within a buffer of the pool.
+-- Each act leaves packets where packets were: of 1 to 32 segments, each with its data within a
+-- buffer of the pool.
 use Rattle.std.proofs.Common.{ℕ, suc, ◌≡◌, ◌+◌, ◌-◌, ◌≤◌, ◌==◌, inl, inr, nat_lt, nat_le, Bool, true, false, cond, All, List, [], ◌∷◌, ◌++◌, length, length-append, length-set, get_or, get_or-set_other, get_or-set_same, set, take, Option, Some, None, Result, Ok, Err, refl, subst, arith}
 use Rattle.std.specs.Prelude.{if◌then◌else◌}
 use Rattle.std.proofs.lemmas.Bool.{cases_Bool, cases_lt, leb-true, ltb-false}
@@ -123,7 +124,7 @@ stood-packets l (e ∷ es) (slot ∷ slots) table all =
     let new = Some (fresh_seg l e ∷ []) in
     stood-packets l es slots (set table slot new) (set-packets l.buf table slot new (fresh-packet l e) all)
 
--- a bulk that is met writes fresh packets into slots, and its get writes no desk
+-- a bulk that succeeds writes fresh packets into slots, and its get writes no desk
 fill_slots-stay : (n : ℕ) (slots : List ℕ) (m : Member) (s : Shared) (r : Result (List ℕ) Refusal × List ℕ × Shared) →
     IsGot n m.cache s r → Stay m s (fill_slots slots m r)
 fill_slots-stay n slots m s (Ok es, cache, t) got all =

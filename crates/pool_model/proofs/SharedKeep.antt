@@ -1,4 +1,5 @@
--- Packets that attach to buffers, get their own back and are cloned keep each element in one place, and leave the desks.
+-- Packets that attach to buffers, get their own back and are cloned keep each element in one
+-- place, and leave the desks.
 use Rattle.std.proofs.Common.{ℕ, ◌≡◌, ◌≢◌, ◌+◌, ◌-◌, ◌<◌, ◌≤◌, ◌==◌, inl, inr, List, [], ◌∷◌, ◌++◌, get_or, set, Option, Some, None, Result, Ok, Err, refl, ap, ◌∙◌, arith}
 use Rattle.std.specs.Prelude.{min, if◌then◌else◌}
 use Rattle.std.proofs.lemmas.Bool.{cases_Bool, cases_lt, eqb-false, eqb-true}
@@ -149,7 +150,8 @@ detach_from-keeps outside (Ok (e, base)) held slot m s f all =
     fresh_links m.limits e i in Fewer (omega (arith, based, fresh.0))
     (omega (arith, indirect, fresh.1)))
 
--- what all share, with the desks as in a state before and with as many changes of the stack, or more
+-- what all share, with the desks as in a state before and with as many changes of the stack, or
+-- more
 record Follows (from s : Shared) : Type 0 where
   desks : s.desks ≡ from.desks
   changes : from.changes ≤ s.changes
@@ -158,8 +160,8 @@ record Follows (from s : Shared) : Type 0 where
 follows_on : (from s t : Shared) → t.desks ≡ s.desks → s.changes ≤ t.changes → Follows from s → Follows from t
 follows_on from s t same more f = record { desks = same ∙ f.desks; changes = omega (arith, more, f.changes) }
 
--- Where each element is that was in so many places, with what was cloned or given up. The desks are as in the state that
--- this began with, and no change of the stack is taken back. The own
+-- Where each element is that was in this many places, with what was cloned or given up. The desks
+-- are as in the state that this began with, and no change of the stack is taken back. The own
 -- elements of what was cloned were in the cache or the common list, where each was so often.
 abbrev NearTo : ℕ → (ℕ → ℕ) → (ℕ → ℕ) → (ℕ → ℕ) → Shared → Cloned → Type 0
 NearTo limit held places had from (Ok new, cache, t) =

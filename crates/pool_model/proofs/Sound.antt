@@ -1,4 +1,5 @@
--- In a pool that acts made of a new one each packet is one, no count passes the reference limit, and bases are direct.
+-- In a pool that acts made of a new one each packet is one, no count passes the reference limit,
+-- and bases are direct.
 use Rattle.std.proofs.Common.{ℕ, ◌≡◌, ◌+◌, ◌-◌, ◌<◌, ◌≤◌, inl, inr, List, length, get_or, get_or-set_other, get_or-set_same, replicate, Option, Some, None, refl, subst, ◌∙◌, ap, arith}
 use Rattle.std.proofs.lemmas.Bool.{cases_lt}
 use Rattle.std.proofs.lemmas.List.{get_or_past, get_or-replicate, length-replicate}
@@ -21,8 +22,8 @@ use Rattle.pool_model.proofs.Leaves.{Leaves}
 use Rattle.pool_model.proofs.NewMembers.{get_or-new_members, length-new_members, newcomer}
 use Rattle.pool_model.proofs.PacketsStay.{ArePackets, AreSlotsOf, act_stays}
 
--- what acts keep: with bases direct, each worker has the pool's limits, whose reference limit is not 0, its packets and
--- those on desks are packets, and no count passes that limit
+-- what acts keep: with bases direct, each worker has the pool's limits, whose reference limit is
+-- not 0, its packets and those on desks are packets, and no count passes that limit
 record IsKeptSound (pool : Pool) : Type 0 where
   direct : HasDirectBases pool
   limits : (n : ℕ) → (member_at pool n).limits ≡ pool.limits

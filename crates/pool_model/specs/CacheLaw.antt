@@ -1,4 +1,5 @@
--- What joins the cache rules and the reference model: the stack's answers to the calls that the rules make.
+-- What joins the cache rules and the reference model: the stack's answers to the calls that the
+-- rules make.
 use Rattle.std.specs.Prelude.{◌≡◌, List, [], ◌∷◌}
 use Rattle.commons.specs.Calls.{Call, GetList, PutList}
 use Rattle.pool_model.specs.Pool.{Shared}

@@ -11,7 +11,7 @@ use Rattle.mempool.specs.declared.put.Put.TheVariants.{Kept, Flushed, PutOff}
 use Rattle.mempool.specs.Caches.{last, without_last, threshold}
 use Rattle.pool_model.specs.Pool.{Shared}
 
--- a request of n elements is met from the front of the common list
+-- a request of n elements is served from the front of the common list
 abbrev pub ask : ℕ → Shared → Result (List ℕ) Refusal × Shared
 ask n s =
     if nat_lt (length s.common) n then (Err NoEntries, s)
@@ -27,7 +27,7 @@ push xs s =
 abbrev pub get_direct : List ℕ → Result (List ℕ) Refusal × Shared → Result (List ℕ) Refusal × List ℕ × Shared
 get_direct cache r = (r.0, cache, r.1)
 
--- a refill that was met is appended; after one that was refused the stack is asked for n
+-- a refill that succeeded is appended; after one that was refused the stack is asked for n
 abbrev pub get_refilled : List ℕ → ℕ → Result (List ℕ) Refusal × Shared →
     Result (List ℕ) Refusal × List ℕ × Shared
 get_refilled cache n (Ok more, s) = (Ok (last n (cache ++ more)), without_last n (cache ++ more), s)

@@ -1,4 +1,5 @@
--- The reference model of holds that end, with no counts: an element goes back where nothing holds it any more.
+-- The reference model of holds that end, with no counts: an element goes back where nothing holds
+-- it any more.
 use Rattle.std.specs.Prelude.{ℕ, ◌+◌, ◌==◌, if◌then◌else◌, List, [], ◌∷◌}
 use Rattle.commons.specs.Bag.{bag}
 use Rattle.commons.specs.declared.limits.Limits.{Limits}
@@ -12,8 +13,8 @@ use Rattle.pool_model.specs.CacheModel.{put}
 abbrev pub put_back : Freed → Put × List ℕ × Shared → Freed × List ℕ × Shared
 put_back freed (answer, cache, s) = (counted freed answer, cache, s)
 
--- The holds end in order. After each, the element goes back into the cache where nothing holds it any more:
--- none of the holds that are still to end, and no other packet.
+-- The holds end in order. After each, the element goes back into the cache where nothing holds it
+-- any more: none of the holds that are still to end, and no other packet.
 abbrev pub end_holds : Limits → (ℕ → ℕ) → List ℕ → Freed × List ℕ × Shared → Freed × List ℕ × Shared
 end_holds l others [] so_far = so_far
 end_holds l others (e ∷ es) so_far =

@@ -18,8 +18,8 @@ use Rattle.pool_model.specs.CacheModel.{get, flush}
 use Rattle.pool_model.specs.HoldModel.{end_holds}
 use Rattle.pool_model.specs.SharingModel.{attach, clone, count, detach}
 
--- A get of one element fills the slot. (A get that is met gives as many elements as were asked for, so its list
--- isn't empty.)
+-- A get of one element fills the slot. (A get that succeeds gives as many elements as were asked
+-- for, so its list isn't empty.)
 abbrev pub fill_slot : ℕ → Member → Result (List ℕ) Refusal × List ℕ × Shared → Reply × Member × Shared
 fill_slot slot m (Ok [], cache, s) = (reply.Refused NoEntries, m, s)
 fill_slot slot m (Ok (e ∷ _), cache, s) =
@@ -33,13 +33,13 @@ alloc_in (Some slot) m s = fill_slot slot m (get m.limits 1 m.cache s)
 abbrev pub alloc : Member → Shared → Reply × Member × Shared
 alloc m s = alloc_in (free_slot m.table) m s
 
--- a get of several elements fills so many slots
+-- a get of several elements fills this many slots
 abbrev pub fill_slots : List ℕ → Member → Result (List ℕ) Refusal × List ℕ × Shared → Reply × Member × Shared
 fill_slots slots m (Ok es, cache, s) =
     (allocated_bulk (Ok slots) (stood m.limits es slots m.table), record m { cache = cache; table = stood m.limits es slots m.table }, s)
 fill_slots slots m (Err cause, cache, s) = (reply.Refused cause, record m { cache = cache }, s)
 
--- the lowest free slots are filled in the order of the get, where there are so many
+-- the lowest free slots are filled in the order of the get, where there are that many
 abbrev pub alloc_bulk : ℕ → Member → Shared → Reply × Member × Shared
 alloc_bulk n m s =
     if nat_lt (length (free_slots m.table)) n then (reply.Refused PacketsFull, m, s)
@@ -111,8 +111,9 @@ without_packet slot m = record m { table = slice_set m.table slot None }
 abbrev pub held_elsewhere : Pool → ℕ → ℕ → ℕ → ℕ
 held_elsewhere pool n slot i = held_of (slice_set pool.members n (without_packet slot (member_at pool n))) pool.shared.desks i
 
--- What a worker does. Of all packets of the pool, held is how often they hold each element, and others slot how often
--- those hold it that stay where the one in this slot is freed; most acts ask for neither.
+-- What a worker does. Of all packets of the pool, held is how often they hold each element, and
+-- others slot how often those hold it that stay where the one in this slot is freed; most acts ask
+-- for neither.
 abbrev pub member_act : Act → (ℕ → ℕ) → (ℕ → ℕ → ℕ) → Member → Shared → Reply × Member × Shared
 member_act Alloc held others m s = alloc m s
 member_act (AllocBulk n) held others m s = alloc_bulk n m s
@@ -135,7 +136,8 @@ member_act Flush held others m s = flush_member m s
 abbrev pub act_on : Pool → ℕ → Act → Reply × Member × Shared
 act_on pool n act = member_act act (held_of pool.members pool.shared.desks) (held_elsewhere pool n) (member_at pool n) pool.shared
 
--- the reply to what a worker is asked to do, and the pool afterwards; a worker outside the pool does nothing
+-- the reply to what a worker is asked to do, and the pool afterwards; a worker outside the pool
+-- does nothing
 abbrev pub perform : Pool → ℕ → Act → Reply × Pool
 perform pool w act =
     if nat_le 1 w && nat_le w (length pool.members)

@@ -6,7 +6,8 @@ use Rattle.commons.specs.declared.packet.Seg.{Seg}
 use Rattle.commons.specs.Packets.{held_in, own_in}
 use Rattle.mbuf.specs.Members.{Member, slots}
 
--- what all workers share: the common list from the top, the number of changes of the stack, and what is on each desk
+-- what all workers share: the common list from the top, the number of changes of the stack, and
+-- what is on each desk
 pub record Shared : Type 0 where
   pub common : List ℕ
   pub changes : ℕ

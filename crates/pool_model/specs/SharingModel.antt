@@ -1,5 +1,5 @@
--- The reference model of packets that share buffers. It has no counts: held is how often all packets of the pool hold
--- each element.
+-- The reference model of packets that share buffers. It has no counts: held is how often all
+-- packets of the pool hold each element.
 use Rattle.std.specs.Prelude.{ℕ, ◌+◌, ◌-◌, ◌==◌, if◌then◌else◌, map, List, [], ◌∷◌, ◌++◌, slice_index_or, slice_set, Some, None, Result, Ok, Err}
 use Rattle.commons.specs.Bag.{bag, one}
 use Rattle.commons.specs.declared.limits.Limits.{Limits}
@@ -38,7 +38,8 @@ detach_from (Ok (e, base)) held slot m s =
 abbrev pub detach : (ℕ → ℕ) → ℕ → Member → Shared → Reply × Member × Shared
 detach held slot m s = detach_from (detachable (slice_index_or m.table slot None)) held slot m s
 
--- What segments become that are cloned: their clones, or a refusal; and the cache and the stack that are left.
+-- What segments become that are cloned: their clones, or a refusal; and the cache and the stack
+-- that are left.
 abbrev pub Cloned : Type 0
 Cloned = Result (List Seg) Refusal × List ℕ × Shared
 
@@ -46,14 +47,14 @@ Cloned = Result (List Seg) Refusal × List ℕ × Shared
 abbrev pub give_up : Limits → (ℕ → ℕ) → List ℕ → Refusal → List ℕ → Shared → Cloned
 give_up l held holds cause cache s = let done = end_holds l held holds (freed_nothing, cache, s) in (Err cause, done.1, done.2)
 
--- what follows a get of one element (which gives one, where it is met)
+-- what follows a get of one element (which gives one, where it succeeds)
 abbrev pub with_element : Result (List ℕ) Refusal × List ℕ × Shared → (ℕ → List ℕ → Shared → Cloned) → (Refusal → List ℕ → Shared → Cloned) → Cloned
 with_element (Ok [], cache, s) met refused = refused NoEntries cache s
 with_element (Ok (e ∷ _), cache, s) met refused = met e cache s
 with_element (Err cause, cache, s) met refused = refused cause cache s
 
--- The segments are cloned in order; new is what was cloned so far. Each clone is a new element that holds the
--- segment's buffer, where that may have one hold more.
+-- The segments are cloned in order; new is what was cloned so far. Each clone is a new element
+-- that holds the segment's buffer, where that may have one hold more.
 abbrev pub clone_segs : Limits → (ℕ → ℕ) → List Seg → List Seg → List ℕ → Shared → Cloned
 clone_segs l held [] new cache s = (Ok new, cache, s)
 clone_segs l held (seg ∷ segs) new cache s =

@@ -34,8 +34,8 @@ pub data IsOfAPacket (pool : Pool) (seg : Seg) : Type 0 where
   OnADesk : (desk : ℕ) (packet : List Seg) → IsOnDesk pool desk packet → Contains packet seg →
       IsOfAPacket pool seg
 
--- A packet that lay on a desk was given to a worker of the pool, into this slot, and the desk is empty. The worker keeps
--- all else that it has, and so do the stack and the other desks.
+-- A packet that lay on a desk was given to a worker of the pool, into this slot, and the desk is
+-- empty. The worker keeps all else that it has, and so do the stack and the other desks.
 pub record WasGiven (taker desk slot : ℕ) (packet : List Seg) (before : Pool) (done : Reply × Pool)
     : Type 0 where
   pub reply : done.0 ≡ Taken slot (length packet) (pkt_len packet)
@@ -45,16 +45,16 @@ pub record WasGiven (taker desk slot : ℕ) (packet : List Seg) (before : Pool) 
       { table = slice_set (worker_of before taker).table slot (Some packet) }
   pub shared : done.1.shared ≡ record before.shared { desks = slice_set before.shared.desks desk None }
 
--- These elements, and no others, have become own elements of packets: each of them is one, of a packet in a slot or on
--- a desk, and any other is one no more often than before.
+-- These elements, and no others, have become own elements of packets: each of them is one, of a
+-- packet in a slot or on a desk, and any other is one no more often than before.
 pub record GaveOnly (new : List ℕ) (before after : Pool) : Type 0 where
   pub stands : (i : ℕ) → bag new i ≤ own_of after.members after.shared.desks i
   pub no_others : (i : ℕ) → own_of after.members after.shared.desks i
       ≤ own_of before.members before.shared.desks i + bag new i
 
--- A clone was given up: the limits, the desks and all of every worker but this one's cache are as before, and its
--- cache and the common list have each element as often as before, taken together. The stack has been changed as often
--- as before, or more often.
+-- A clone was given up: the limits, the desks and all of every worker but this one's cache are as
+-- before, and its cache and the common list have each element as often as before, taken together.
+-- The stack has been changed as often as before, or more often.
 pub record IsGivenUp (worker : ℕ) (before after : Pool) : Type 0 where
   pub limits : after.limits ≡ before.limits
   pub workers : length after.members ≡ length before.members

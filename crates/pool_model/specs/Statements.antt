@@ -102,18 +102,19 @@ abbrev pub is_desk : ℕ → Holder → Bool
 is_desk d (Worker v) = false
 is_desk d (Desk e) = e == d
 
--- a holder that may stand before another: workers ascend, and behind them desks
+-- a holder that may stand before another: workers ascend, and after them desks
 abbrev pub IsNotAfter : Holder → Holder → Type 0
 IsNotAfter (Worker v) (Worker w) = v ≤ w
 IsNotAfter (Worker v) (Desk d) = Unit {0}
 IsNotAfter (Desk d) (Worker w) = ⊥
 IsNotAfter (Desk d) (Desk e) = d ≤ e
 
--- Each element of the pool is listed exactly once, and nothing else is; what is available and what is in use
--- are the population; the count of a held element is the number of its holders, which is that of the holds of
--- all packets, and each holder stands there as often as its own packets hold the element, workers before desks and
--- both ascending; no packet holds an element that isn't listed as held; and each element is the own one of at most
--- one segment of all packets, those on desks among them.
+-- Each element of the pool is listed exactly once, and nothing else is; what is available and what
+-- is in use are the population; the count of a held element is the number of its holders, which is
+-- that of the holds of all packets, and each holder stands there as often as its own packets hold
+-- the element, workers before desks and both ascending; no packet holds an element that isn't
+-- listed as held; and each element is the own one of at most one segment of all packets, those on
+-- desks among them.
 pub record ListsEachOnce (s : Statement) : Type 0 where
   pub once : (i : ℕ) → i < s.population → times_listed s i ≡ 1
   pub none_else : (i : ℕ) → s.population ≤ i → times_listed s i ≡ 0
@@ -131,13 +132,14 @@ pub record ListsEachOnce (s : Statement) : Type 0 where
   pub unheld : (i : ℕ) → bag (map (λ held. held.elem) s.held) i ≡ 0 → packet_holds s i ≡ 0
   pub own_once : (i : ℕ) → packet_owns s i ≤ 1
 
--- one packet is before another: its worker has the lower number, or it stands in a lower slot of the same one
+-- one packet is before another: its worker has the lower number, or it stands in a lower slot of
+-- the same one
 abbrev pub StandsBefore : PlacedPacket → PlacedPacket → Type 0
 StandsBefore one other = (one.worker < other.worker) ⊎ ((one.worker ≡ other.worker) × (one.slot < other.slot))
 
--- The statement of a pool within these limits has as many elements as they say, and a cache for each worker. Its
--- packets ascend by worker and slot, and those on desks by desk, so that no two stand in one slot or on one desk;
--- and each of these slots and desks is one of the pool's.
+-- The statement of a pool within these limits has as many elements as they say, and a cache for
+-- each worker. Its packets ascend by worker and slot, and those on desks by desk, so that no two
+-- stand in one slot or on one desk; and each of these slots and desks is one of the pool's.
 pub record PlacesEachOnce (l : Limits) (s : Statement) : Type 0 where
   pub population : s.population ≡ l.population
   pub caches : length s.caches ≡ l.workers

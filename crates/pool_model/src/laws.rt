@@ -34,12 +34,13 @@ pub fn the_model_keeps_the_cache_rules()
         Flushes cache calls answer left → Meets s calls t → (answer, left, t) ≡ cache_flush cache s }
 {}
 
-/// A desk gives what was left on it. An offer of a packet on an empty desk of the pool is met. Where an offer is met,
-/// the packet that stood in the slot lies on the desk, and the slot is free. After any acts of any workers that take
-/// nothing off the desk it still lies there. A take off the desk, by whatever worker of the pool, is then met where the
-/// worker has a free slot: it gives the very segments that were offered, into the lowest free slot. Right after the
-/// offer it leaves the stack and all desks as they were before it. To a worker that has no free slot it is refused
-/// `PacketsFull`, and nothing changes.
+/// A desk gives what was left on it. An offer of a packet on an empty desk of the pool succeeds.
+/// Where an offer succeeds, the packet that stood in the slot lies on the desk, and the slot is
+/// free. After any acts of any workers that take nothing off the desk it still lies there. A take
+/// off the desk, by any worker of the pool, then succeeds where the worker has a free slot: it
+/// gives the very segments that were offered, into the lowest free slot. Right after the offer it
+/// leaves the stack and all desks as they were before it. To a worker that has no free slot it is
+/// refused `PacketsFull`, and nothing changes.
 pub fn a_desk_gives_what_was_left_on_it()
     ensures met { (pool : Pool) (worker slot desk : ℕ) (packet : List Seg) → IsInSlot pool worker slot packet →
         desk < length pool.shared.desks → slice_index_or pool.shared.desks desk None ≡ None → (perform pool worker (Offer slot desk)).0 ≡ Offered }
@@ -60,10 +61,11 @@ pub fn a_desk_gives_what_was_left_on_it()
         perform later taker (Take desk) ≡ (Refused PacketsFull, later) }
 {}
 
-/// A packet stays on its desk, with the segments that it has, whatever any worker does, until it is taken off. An
-/// offer of another packet on this desk is refused `DeskTaken`, and nothing changes. A take off it, by a worker that
-/// has a free slot, gives the packet, into the lowest free slot, and empties the desk; the stack and the other desks
-/// stay as they are, and all else that the worker has.
+/// A packet stays on its desk, with the segments that it has, whatever any worker does, until it
+/// is taken off. An offer of another packet on this desk is refused `DeskTaken`, and nothing
+/// changes. A take off it, by a worker that has a free slot, gives the packet, into the lowest
+/// free slot, and empties the desk; the stack and the other desks stay as they are, and all else
+/// that the worker has.
 pub fn a_packet_stays_on_its_desk()
     ensures stays { (pool : Pool) (worker desk : ℕ) (act : Act) (packet : List Seg) → act ≢ Take desk →
         IsOnDesk pool desk packet → IsOnDesk (perform pool worker act).1 desk packet }
@@ -73,10 +75,11 @@ pub fn a_packet_stays_on_its_desk()
         free_slot (worker_of pool taker).table ≡ Some free → WasGiven taker desk free packet pool (perform pool taker (Take desk)) }
 {}
 
-/// An act that is refused changes nothing, unless it is a clone: the pool is as before. A clone that is refused, in a
-/// pool that acts made of a new one, leaves the limits, all packets, numbers and desks, and the caches of all other
-/// workers; its worker's cache and the common list have each element as often as before, taken together, and the number of
-/// changes of the stack doesn't go back.
+/// An act that is refused changes nothing, unless it is a clone: the pool is as before. A clone
+/// that is refused, in a pool that acts made of a new one, leaves the limits, all packets, numbers
+/// and desks, and the caches of all other workers; its worker's cache and the common list have
+/// each element as often as before, taken together, and the number of changes of the stack doesn't
+/// go back.
 pub fn a_refused_act_changes_nothing()
     ensures same { (pool : Pool) (worker : ℕ) (act : Act) (cause : Refusal) → ((source : ℕ) → act ≢ ClonePacket source) →
         (perform pool worker act).0 ≡ Refused cause → (perform pool worker act).1 ≡ pool }
@@ -84,9 +87,10 @@ pub fn a_refused_act_changes_nothing()
         (perform pool worker (ClonePacket source)).0 ≡ Refused cause → IsGivenUp worker pool (perform pool worker (ClonePacket source)).1 }
 {}
 
-/// An act of one worker leaves all that the others have: cache and packets of every worker of another number, and the
-/// packet on every desk but the one that the act names, where it is an offer or a take. The limits stay, and the
-/// number of workers. The number of changes of the stack never goes back.
+/// An act of one worker leaves all that the others have: cache and packets of every worker of
+/// another number, and the packet on every desk but the one that the act names, where it is an
+/// offer or a take. The limits stay, and the number of workers. The number of changes of the stack
+/// never goes back.
 pub fn others_keep_what_they_have()
     ensures members { (pool : Pool) (worker n : ℕ) (act : Act) → worker ≢ n + 1 → member_at (perform pool worker act).1 n ≡ member_at pool n }
     ensures desks { (pool : Pool) (worker desk : ℕ) (act : Act) → ((slot : ℕ) → act ≢ Offer slot desk) → act ≢ Take desk →
@@ -96,40 +100,43 @@ pub fn others_keep_what_they_have()
     ensures changes { (pool : Pool) (worker : ℕ) (act : Act) → pool.shared.changes ≤ (perform pool worker act).1.shared.changes }
 {}
 
-/// An act leaves the slots of its own worker that it doesn't name: those of the packets that a free, a change of
-/// lengths, a chain, an attach, a detach or an offer is about, and those that its reply says were filled, by an alloc,
-/// a bulk, a clone or a take. All other slots have what they had, and a slot that was filled was free.
+/// An act leaves the slots of its own worker that it doesn't name: those of the packets that a
+/// free, a change of lengths, a chain, an attach, a detach or an offer is about, and those that
+/// its reply says were filled, by an alloc, a bulk, a clone or a take. All other slots have what
+/// they had, and a slot that was filled was free.
 pub fn an_act_leaves_the_slots_it_does_not_name()
     ensures { (pool : Pool) (worker : ℕ) (act : Act) → let done = perform pool worker act in LeavesOtherSlots act done.0 (worker_of pool worker) (worker_of done.1 worker) }
 {}
 
-/// A base is always direct: in every pool that acts made of a new one, a segment whose own element is the base of
-/// a segment, of whatever packets in slots or on desks, has no base itself.
+/// A base is always direct: in every pool that acts made of a new one, a segment whose own element
+/// is the base of a segment, of whatever packets in slots or on desks, has no base itself.
 pub fn a_base_is_always_direct()
     ensures { (l : Limits) (acts : List (ℕ × Act)) (seg other : Seg) → let pool = after_acts acts (new_pool l) in
         IsOfAPacket pool seg → IsOfAPacket pool other → seg.base ≡ Some other.elem → other.base ≡ None }
 {}
 
-/// In every pool that acts made of a new one all packets are sound: each, in a slot or on a desk, has 1 to 32 segments,
-/// each with its data within a buffer of the pool; no element is held more often than the reference limit says; and a
-/// base is direct. The pool's statement says the same of what it lists.
+/// In every pool that acts made of a new one all packets are sound: each, in a slot or on a desk,
+/// has 1 to 32 segments, each with its data within a buffer of the pool; no element is held more
+/// often than the reference limit says; and a base is direct. The pool's statement says the same
+/// of what it lists.
 pub fn acts_leave_packets_sound()
     ensures sound { (l : Limits) (acts : List (ℕ × Act)) → IsPool l → IsSound (after_acts acts (new_pool l)) }
     ensures stated { (l : Limits) (acts : List (ℕ × Act)) → IsPool l → ListsSoundPackets l (statement_of (after_acts acts (new_pool l))) }
 {}
 
-/// For whoever lets workers act on a `SitePool` without a script: after any acts, by workers of any numbers, a
-/// new pool's statement lists each element exactly once, each is the own element of at most one segment, and each
-/// packet has a place of its own.
+/// For whoever lets workers act on a `SitePool` without a script: after any acts, by workers of
+/// any numbers, a new pool's statement lists each element exactly once, each is the own element of
+/// at most one segment, and each packet has a place of its own.
 pub fn acts_leave_each_element_in_one_place()
     ensures once { (l : Limits) (acts : List (ℕ × Act)) → IsPool l → ListsEachOnce (statement_of (after_acts acts (new_pool l))) }
     ensures places { (l : Limits) (acts : List (ℕ × Act)) → PlacesEachOnce l (statement_of (after_acts acts (new_pool l))) }
 {}
 
-/// No element is given again while anything holds it: in every pool that acts made of a new one, the elements that a
-/// worker is told of as new, by an alloc, a bulk or a clone, are elements of the pool, each once, and no packet in a
-/// slot or on a desk held one of them. After any act, of any pool, they are own elements of segments of its packets, and
-/// no other element has become one, or one more often than before.
+/// No element is given again while anything holds it: in every pool that acts made of a new one,
+/// the elements that a worker is told of as new, by an alloc, a bulk or a clone, are elements of
+/// the pool, each once, and no packet in a slot or on a desk held one of them. After any act, of
+/// any pool, they are own elements of segments of its packets, and no other element has become
+/// one, or one more often than before.
 pub fn no_element_is_given_while_it_is_held()
     ensures fresh { (l : Limits) (acts : List (ℕ × Act)) (worker : ℕ) (act : Act) → let pool = after_acts acts (new_pool l) in
         AreFresh pool.limits.population (held_of pool.members pool.shared.desks) (new_elements (perform pool worker act).0) }

@@ -1,4 +1,5 @@
-//! What is told of a pool at its end: where each of its elements is, and who holds it how often.
+//! What is reported of a pool at its end: where each of its elements is, and who holds it how
+//! often.
 
 use commons::packet::Seg;
 use commons::seq::Seq;

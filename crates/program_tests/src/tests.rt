@@ -7,7 +7,7 @@ mod files;
 mod screen;
 mod words;
 
-/// Both are one; else it is told of what, with both.
+/// Asserts that both are equal, and else says of what, with both.
 fn same<R: Abort, T: PartialEq + Debug>(rt: &R, given: &T, wanted: &T, what: &str) {
     assert!(rt; *given == *wanted, "{what}: {given:?}, not {wanted:?}");
 }

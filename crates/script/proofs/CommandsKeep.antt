@@ -1,4 +1,5 @@
--- What each act of a worker keeps of a pool, each command keeps; so what commands make of it, acts make of it.
+-- What each act of a worker keeps of a pool, each command keeps; so what commands make of it, acts
+-- make of it.
 use Rattle.std.proofs.Common.{ℕ, ◌≡◌, List, [], ◌∷◌, ◌++◌, length, Option, Some, None, refl, sym, ap, ◌∙◌, inl, inr, ◌&&◌, nat_le}
 use Rattle.std.proofs.lemmas.Bool.{cases_Bool}
 use Rattle.mbuf.specs.declared.acts.Act.{Act}

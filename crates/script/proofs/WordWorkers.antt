@@ -1,4 +1,5 @@
--- The workers of a run on words: how many they are, that they are all after it, and what settles them.
+-- The workers of a run on words: how many they are, that they are all after it, and what settles
+-- them.
 use Rattle.std.proofs.Common.{ℕ, ◌≡◌, ◌++◌, List, take, drop, length, Result, Ok, Err, IfOk, sym, ap, ◌∙◌, subst}
 use Rattle.std.proofs.lemmas.List.{length-map, take_at}
 use Rattle.std.proofs.lemmas.List.FromFn.{length-range_with_len}

@@ -29,7 +29,7 @@ new_run l = record { pool = new_pool l; stands = λ worker name. None }
 abbrev pub named : ℕ → List ℕ → Option ℕ → (ℕ → List ℕ → Option ℕ) → ℕ → List ℕ → Option ℕ
 named worker name slot stands other_worker other_name = if other_worker == worker && bytes_eq other_name name then slot else stands other_worker other_name
 
--- an alloc that is met gives its name the new packet's slot
+-- an alloc that succeeds gives its name the new packet's slot
 abbrev pub stands_after_alloc : ℕ → List ℕ → Reply → (ℕ → List ℕ → Option ℕ) → ℕ → List ℕ → Option ℕ
 stands_after_alloc worker name (Allocated slot elem) stands = named worker name (Some slot) stands
 stands_after_alloc worker name _ stands = stands
@@ -40,12 +40,12 @@ all_named worker [] packets stands = stands
 all_named worker (name ∷ names) [] stands = stands
 all_named worker (name ∷ names) (packet ∷ packets) stands = all_named worker names packets (named worker name (Some packet.slot) stands)
 
--- a bulk that is met gives its names the new packets' slots
+-- a bulk that succeeds gives its names the new packets' slots
 abbrev pub stands_after_bulk : ℕ → List (List ℕ) → Reply → (ℕ → List ℕ → Option ℕ) → ℕ → List ℕ → Option ℕ
 stands_after_bulk worker names (WasBulk packets) stands = all_named worker names packets.items stands
 stands_after_bulk worker names _ stands = stands
 
--- and a free that is met takes it away
+-- and a free that succeeds takes it away
 abbrev pub stands_after_free : ℕ → List ℕ → Reply → (ℕ → List ℕ → Option ℕ) → ℕ → List ℕ → Option ℕ
 stands_after_free worker name (WasFreed freed) stands = named worker name None stands
 stands_after_free worker name _ stands = stands
@@ -57,27 +57,28 @@ act_of slot (change.Prepend n) = Prepend slot n
 act_of slot (change.Adj n) = Adj slot n
 act_of slot (change.Trim n) = Trim slot n
 
--- a chain that is met takes the second packet's name away
+-- a chain that succeeds takes the second packet's name away
 abbrev pub stands_after_chain : ℕ → List ℕ → Reply → (ℕ → List ℕ → Option ℕ) → ℕ → List ℕ → Option ℕ
 stands_after_chain worker name (Chained segs len) stands = named worker name None stands
 stands_after_chain worker name _ stands = stands
 
--- a clone that is met gives its name the clone's slot
+-- a clone that succeeds gives its name the clone's slot
 abbrev pub stands_after_clone : ℕ → List ℕ → Reply → (ℕ → List ℕ → Option ℕ) → ℕ → List ℕ → Option ℕ
 stands_after_clone worker name (Cloned slot elems) stands = named worker name (Some slot) stands
 stands_after_clone worker name _ stands = stands
 
--- an offer that is met takes its name away
+-- an offer that succeeds takes its name away
 abbrev pub stands_after_offer : ℕ → List ℕ → Reply → (ℕ → List ℕ → Option ℕ) → ℕ → List ℕ → Option ℕ
 stands_after_offer worker name Offered stands = named worker name None stands
 stands_after_offer worker name _ stands = stands
 
--- and a take that is met gives its name the packet's slot
+-- and a take that succeeds gives its name the packet's slot
 abbrev pub stands_after_take : ℕ → List ℕ → Reply → (ℕ → List ℕ → Option ℕ) → ℕ → List ℕ → Option ℕ
 stands_after_take worker name (Taken slot segs len) stands = named worker name (Some slot) stands
 stands_after_take worker name _ stands = stands
 
--- what each name stands for once a worker's command has this reply; the other commands leave each as it stands
+-- what each name stands for once a worker's command has this reply; the other commands leave each
+-- as it stands
 abbrev pub stands_after : ℕ → Command → Reply → (ℕ → List ℕ → Option ℕ) → ℕ → List ℕ → Option ℕ
 stands_after worker (command.Alloc name) reply stands = stands_after_alloc worker name reply stands
 stands_after worker (command.Bulk names) reply stands = stands_after_bulk worker names reply stands
@@ -117,7 +118,8 @@ abbrev pub CommandHasRoom : ℕ → Command → Type 0
 CommandHasRoom room (command.Bulk names) = HasRoom room (AllocBulk (length names))
 CommandHasRoom room _ = Unit {0}
 
--- a worker's act, and what each name stands for by its reply; a command that asks for none is refused
+-- a worker's act, and what each name stands for by its reply; a command that asks for none is
+-- refused
 abbrev pub done_for : Option Act → ℕ → Command → Run → Reply × Run
 done_for None worker command run = (Refused NoSuchPacket, run)
 done_for (Some act) worker command run =

@@ -31,8 +31,9 @@ put_text (puts.PutOff count refusal) = codes "ok putoff " ++ decimal count ++ co
 abbrev pub new_elements_text : List NewPacket → List ℕ
 new_elements_text packets = flat_map (λ packet. codes " " ++ decimal packet.elem) packets
 
--- A reply: the elements of the new packets or of a clone, what freeing or a flush did, a count, a length in bytes, a
--- number of segments, of a chain and of a packet that was taken both, or the refusal's number and name.
+-- A reply: the elements of the new packets or of a clone, what freeing or a flush did, a count, a
+-- length in bytes, a number of segments, of a chain and of a packet that was taken both, or the
+-- refusal's number and name.
 unfoldable pub reply_text : Reply → List ℕ
 reply_text (replies.Allocated slot elem) = codes "ok " ++ decimal elem
 reply_text (replies.Bulk packets) = codes "ok" ++ new_elements_text packets.items

@@ -13,13 +13,13 @@ use Rattle.script_text.specs.Commands.{Line}
 use Rattle.script_text.specs.Grammar.{IsScript}
 use Rattle.word_pool.specs.Workers.{Manned, AreWorkers, IsStatementOfWorkers}
 
--- Under the lock: the statement of a new pool of these limits after some acts of its workers, one after another. Which
--- acts these are isn't said.
+-- Under the lock: the statement of a new pool of these limits after some acts of its workers, one
+-- after another. Which acts these are isn't said.
 abbrev pub EndsByActs : Limits → Statement → Type 0
 EndsByActs l s = (acts : List (ℕ × Act)) × (s ≡ statement_of (after_acts acts (new_pool l)))
 
--- On words: the statement of what a ground of these limits left, closed with all its workers, and of their caches and
--- packets.
+-- On words: the statement of what a ground of these limits left, closed with all its workers, and
+-- of their caches and packets.
 pub record EndsOnWords (l : Limits) (s : Statement) : Type 0 where
   pub shared : Grounded
   pub workers : List Manned
@@ -27,8 +27,8 @@ pub record EndsOnWords (l : Limits) (s : Statement) : Type 0 where
   pub all : AreWorkers shared workers
   pub statement : IsStatementOfWorkers shared workers s
 
--- The bytes are a script, and this is the statement at the end of a run on such a ground. That the acts are the script's
--- isn't said.
+-- The bytes are a script, and this is the statement at the end of a run on such a ground. That the
+-- acts are the script's isn't said.
 pub record RunsTo (grounds : Grounds) (bytes : List ℕ) (s : Statement) : Type 0 where
   pub limits : Limits
   pub lines : List Line

@@ -12,13 +12,14 @@ use Rattle.pool_model.specs.declared.statement.DeskPacket.{DeskPacket}
 use Rattle.pool_model.specs.declared.settled.Settled.{Settled}
 use Rattle.pool_model.specs.declared.statement.Statement.{Statement}
 
--- a segment: its element and base, where its data begins, how long it is, and how long the buffer is
+-- a segment: its element and base, where its data begins, how long it is, and how long the buffer
+-- is
 unfoldable pub segment_text : Seg → List ℕ
 segment_text seg =
     decimal seg.elem ++ base_text seg.base ++ codes "@" ++ decimal seg.data_off
     ++ codes "+" ++ decimal seg.data_len ++ codes "/" ++ decimal seg.buf_len
 
--- the segments of a packet, behind how many they are and the length of their data
+-- the segments of a packet, after how many they are and the length of their data
 unfoldable pub segments_text : List Seg → List ℕ
 segments_text segs =
     codes " segs " ++ decimal (length segs)

@@ -34,8 +34,8 @@ pub(crate) trait Actor<P, const ROOM: usize>: Worker<P> {
         ensures stays { (first : Self) → Self.stays first self.old → Self.stays first self.new };
 }
 
-/// Performs the lines of the worker of this number in order, and calls the gate before and after each. False where
-/// memory was refused.
+/// Performs the lines of the worker of this number in order, and calls the gate before and after
+/// each. False where memory was refused.
 pub(crate) fn perform_lines<P, A: Actor<P, 0> + Actor<P, SLOTS>, G: Gate>(
     alloc: Global,
     pool: &P,
@@ -63,8 +63,8 @@ pub(crate) fn perform_lines<P, A: Actor<P, 0> + Actor<P, SLOTS>, G: Gate>(
     true
 }
 
-/// Performs a line, which is its worker's `nth`, and keeps which packets its names stand for. The gate is called before
-/// its first try and after its last.
+/// Performs a line, which is its worker's `nth`, and keeps which packets its names stand for. The
+/// gate is called before its first try and after its last.
 fn perform_line<'a, P, A: Actor<P, 0> + Actor<P, SLOTS>, G: Gate>(
     pool: &P,
     actor: &mut A,
@@ -87,7 +87,7 @@ fn perform_line<'a, P, A: Actor<P, 0> + Actor<P, SLOTS>, G: Gate>(
     }
 }
 
-/// Does so with room for a bulk of `ROOM` packets in the answer, which is small with none.
+/// Performs a line with room for a bulk of `ROOM` packets in the answer, which is small with none.
 fn perform_line_in<'a, P, A: Actor<P, ROOM>, G: Gate, const ROOM: usize>(
     pool: &P,
     actor: &mut A,
@@ -130,8 +130,8 @@ fn try_line<'a, P, A: Actor<P, ROOM>, const ROOM: usize>(
     }
 }
 
-/// Lets a worker do this, and tries again where others were in the way, up to `turns` tries in all, with a growing pause
-/// between.
+/// Lets a worker do this, and tries again where others were in the way, up to `turns` tries in
+/// all, with a growing pause between.
 fn try_act<P, A: Actor<P, ROOM>, const ROOM: usize>(
     pool: &P,
     actor: &mut A,

@@ -1,6 +1,7 @@
 //! What is called around the lines of workers in threads.
 
-/// What is called around each line of a worker, outside any lock. `nth` counts that worker's lines from 1.
+/// What is called around each line of a worker, outside any lock. `nth` counts that worker's lines
+/// from 1.
 pub trait Gate: Sync {
     /// Ahead of the line's first try.
     fn before(&self, worker: u32, nth: u32);

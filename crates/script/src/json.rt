@@ -17,7 +17,8 @@ use std::alloc::Global;
 ///
 /// Refused as `run_replay` is.
 pub fn run_replay_json(alloc: Global, bytes: &[u8]) -> Result<Vec<u8>, Refusal>
-    // What is printed is the JSON of the reference model's statement, for the script that the bytes are.
+    // What is printed is the JSON of the reference model's statement, for the script that the
+    // bytes are.
     ensures printed { IfOk result (λ out. IsJsonFor bytes.now out.items) }
 
     // Why nothing is printed.

@@ -9,16 +9,17 @@ ghost use Rattle.script_text.specs.Commands.{Line};
 
 use pool_model::laws;
 
-/// After any commands a new pool's statement lists each element exactly once, and what is available and what
-/// is in use are the population.
+/// After any commands a new pool's statement lists each element exactly once, and what is
+/// available and what is in use are the population.
 pub fn each_element_is_listed_once()
     ensures { (l : Limits) (lines : List Line) → IsPool l → ListsEachOnce (statement_of (end_of lines (new_run l)).pool) }
 {
     laws::acts_leave_each_element_in_one_place();
 }
 
-/// After any commands the packets in a new pool's statement ascend by worker and slot, and those on desks by desk:
-/// no two stand in one slot or on one desk, and each stands in a slot or on a desk of the pool.
+/// After any commands the packets in a new pool's statement ascend by worker and slot, and those
+/// on desks by desk: no two stand in one slot or on one desk, and each stands in a slot or on a
+/// desk of the pool.
 pub fn each_packet_has_a_place_of_its_own()
     ensures { (l : Limits) (lines : List Line) → PlacesEachOnce l (statement_of (end_of lines (new_run l)).pool) }
 {

@@ -32,7 +32,8 @@ impl<'a> Names<'a> {
         self.slots.get(&(worker, name)).copied()
     }
 
-    /// Lets a worker's name stand for the packet in a slot.
+    /// Lets a worker's name stand for the packet in a slot. Refused where memory was refused;
+    /// nothing is said of the names then.
     pub fn set(&mut self, worker: u32, name: &'a [u8], slot: Pid) -> Result<(), AllocError>
         ensures { OnOk result ((w : ℕ) (other : List ℕ) → stands_in self.new w other ≡ named worker name.now (Some slot) (stands_in self.old) w other) }
     {

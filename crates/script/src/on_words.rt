@@ -36,11 +36,11 @@ impl<const ROOM: usize> Actor<Ground, ROOM> for WordWorker {
     }
 }
 
-/// Plays a script with a thread for each worker, on the words of a ground: no act waits for another. Ends the pool once all
-/// have ended, and settles it.
+/// Plays a script with a thread for each worker, on the words of a ground: no act waits for
+/// another. Ends the pool once all have ended, and settles it.
 ///
-/// Refused `OutOfMemory` where memory was refused, and for no other cause. The lines of a thread that can't be started
-/// are played by the one that would have started it.
+/// Refused `OutOfMemory` where memory was refused, and for no other cause. The lines of a thread
+/// that can't be started are played by the one that would have started it.
 pub(crate) fn run<G: Gate, R: Threads + Sync>(
     rt: &R,
     alloc: Global,
@@ -110,8 +110,8 @@ fn played<G: Gate, R: Threads + Sync>(
     Ok((ground, workers))
 }
 
-/// Lets each worker perform its lines, in a thread of its own where one can be started, and returns once each has. False
-/// where memory was refused.
+/// Lets each worker perform its lines, in a thread of its own where one can be started, and
+/// returns once each has. False where memory was refused.
 fn play<G: Gate, R: Threads + Sync>(
     rt: &R,
     alloc: Global,

@@ -26,7 +26,8 @@ use std::alloc::{AllocError, Global};
 pub fn replay(alloc: Global, script: &Script) -> Result<(Vec<(u32, Reply)>, Statement), Refusal>
     ensures replies { IfOk result (λ r. r.0.items ≡ replies_to script.now.lines (new_run script.now.limits)) }
     ensures statement { IfOk result (λ r. r.1 ≡ statement_of (end_of script.now.lines (new_run script.now.limits)).pool) }
-    // Above the model: no element is missing, and none is anywhere twice; no two packets stand in one place; and each is sound.
+    // Above the model: no element is missing, and none is anywhere twice; no two packets stand in
+    // one place; and each is sound.
     ensures once { IfOk result (λ r. ListsEachOnce r.1) }
     ensures places { IfOk result (λ r. PlacesEachOnce script.now.limits r.1) }
     ensures sound { IfOk result (λ r. ListsSoundPackets script.now.limits r.1) }
@@ -102,7 +103,8 @@ fn act_of(slot: Pid, change: Change) -> Act
     }
 }
 
-/// The act that a line asks for, by what its worker's names stand for; none where one of them stands for no packet.
+/// The act that a line asks for, by what its worker's names stand for; none where one of them
+/// stands for no packet.
 pub fn asked<'a>(names: &Names<'a>, line: &'a Line) -> Option<Act>
     ensures { result ≡ asked_by (stands_in names.now line.now.worker) line.now.command }
 {
@@ -133,7 +135,8 @@ pub fn asked<'a>(names: &Names<'a>, line: &'a Line) -> Option<Act>
     }
 }
 
-/// Keeps which packets a worker's names stand for, once its line has this reply.
+/// Keeps which packets a worker's names stand for, once its line has this reply. Refused where
+/// memory was refused; nothing is said of the names then.
 pub fn note<'a, const ROOM: usize>(
     names: &mut Names<'a>,
     line: &'a Line,

@@ -25,9 +25,8 @@ use std::alloc::Global;
 /// statement that places every element.
 ///
 /// Refused as reading the script is: `BadPool` where no pool can be made within the limits of its
-/// pool line, and `ScriptFault` with the number of the first faulty line, or 0 where the bytes are more
-/// than a script has. `OutOfMemory` comes only
-/// where memory was refused.
+/// pool line, and `ScriptFault` with the number of the first faulty line, or 0 where the bytes are
+/// more than a script has. `OutOfMemory` comes only where memory was refused.
 pub fn run_replay(alloc: Global, bytes: &[u8]) -> Result<Vec<u8>, Refusal>
     // What is printed is what the reference model prints for the script that the bytes are.
     ensures printed { IfOk result (λ out. IsPrintedFor bytes.now out.items) }
@@ -68,7 +67,7 @@ fn printed_on(alloc: Global, mut pool: SitePool, lines: &[Line]) -> Result<Vec<u
     }
 }
 
-/// What was printed so far, and behind it the statement of a pool, which it ends.
+/// What was printed so far, and after it the statement of a pool, which it ends.
 fn printed_end(alloc: Global, pool: SitePool, mut out: Vec<u8>) -> Result<Vec<u8>, Refusal>
     ensures text { IfOk result (λ all. all.items ≡ out.items ++ text_of (statement_of pool)) }
     ensures memory { IfErr result (λ refusal. refusal ≡ Refusal.OutOfMemory) }
@@ -112,7 +111,7 @@ fn answer<'a>(
     }
 }
 
-/// Does so with room for a bulk in the answer.
+/// Performs one line with room for a bulk in the answer, and appends the line that answers it.
 fn answer_any<'a>(
     out: &mut Vec<u8>,
     pool: &mut SitePool,
@@ -129,7 +128,8 @@ fn answer_any<'a>(
     }
 }
 
-/// Does so with no room for a bulk in the answer, which is small then.
+/// Performs one line with no room for a bulk in the answer, which is small then, and appends the
+/// line that answers it.
 fn answer_small<'a>(
     out: &mut Vec<u8>,
     pool: &mut SitePool,

@@ -19,12 +19,13 @@ use std::alloc::Global;
 use std::sync::Wait;
 use std::thread::Threads;
 
-/// The statement at the end of a run of the script that the bytes are, with a thread for each worker. A line that finds
-/// others in its way is tried up to `turns` times in all.
+/// The statement at the end of a run of the script that the bytes are, with a thread for each
+/// worker. A line that finds others in its way is tried up to `turns` times in all.
 ///
-/// Refused as reading the script is: `BadPool` where no pool can be made within the limits of its pool line, and
-/// `ScriptFault` with the number of the first faulty line, or 0 where the bytes are more than a script has.
-/// `OutOfMemory` comes only where memory was refused, or under the lock a thread.
+/// Refused as reading the script is: `BadPool` where no pool can be made within the limits of its
+/// pool line, and `ScriptFault` with the number of the first faulty line, or 0 where the bytes are
+/// more than a script has. `OutOfMemory` comes only where memory was refused, or under the lock a
+/// thread.
 pub fn run_script<R: Threads + Wait + Sync>(
     rt: &R,
     alloc: Global,
@@ -33,11 +34,13 @@ pub fn run_script<R: Threads + Wait + Sync>(
     turns: u32,
 ) -> Result<Statement, Refusal>
     requires turns { 1 ≤ turns }
-    // Under the lock, some order of acts on a new pool of the script's limits leads to the same statement; on words, it is
-    // that of what such a ground left, and of its workers' caches and packets.
+    // Under the lock, some order of acts on a new pool of the script's limits leads to the same
+    // statement; on words, it is that of what such a ground left, and of its workers' caches and
+    // packets.
     ensures ran { IfOk result (RunsTo grounds bytes.now) }
-    // Above both: no element is missing, and none is anywhere twice; no two packets stand in one place; and each has 1 to
-    // 32 segments, each with its data within its buffer, by the limits of the script that the bytes are.
+    // Above both: no element is missing, and none is anywhere twice; no two packets stand in one
+    // place; and each has 1 to 32 segments, each with its data within its buffer, by the limits of
+    // the script that the bytes are.
     ensures once { IfOk result (λ s. ListsEachOnce s) }
     ensures places { (limits : Limits) (lines : List Line) → IsScript bytes.now limits lines →
         IfOk result (λ s. PlacesEachOnce limits s) }

@@ -25,19 +25,21 @@ pub enum Grounds {
     Locked,
 }
 
-/// Plays a script with a thread for each worker, which performs that worker's lines in order; closes the pool once all
-/// have ended, and settles it with the shares of all workers. A line that is refused `Contended`, `DeskTaken` or
-/// `DeskEmpty` is tried again, up to `turns` tries in all, with a growing pause between; then the refusal stands. The
-/// gate is called around each line, outside any lock.
+/// Plays a script with a thread for each worker, which performs that worker's lines in order;
+/// closes the pool once all have ended, and settles it with the shares of all workers. A line that
+/// is refused `Contended`, `DeskTaken` or `DeskEmpty` is tried again, up to `turns` tries in all,
+/// with a growing pause between; then the refusal stands. The gate is called around each line,
+/// outside any lock.
 ///
-/// Whatever the threads' order was, the statement is, under the lock, that of the reference model after some acts, one
-/// after another, on a new pool of the script's limits; on words, where no act waits for another, it is what a ground of
-/// these limits left, closed by the seats of all its workers, and their caches and packets. That the acts are the
-/// script's lines is shown by tests alone.
+/// Whatever the threads' order was, the statement is, under the lock, that of the reference model
+/// after some acts, one after another, on a new pool of the script's limits; on words, where no
+/// act waits for another, it is what a ground of these limits left, closed by the seats of all its
+/// workers, and their caches and packets. That the acts are the script's lines is shown only by
+/// tests.
 ///
-/// Refused `OutOfMemory` where memory was refused, or under the lock a thread, and for no other cause; the other threads
-/// have ended then. On words the lines of a thread that can't be started are played by the one that would have started
-/// it.
+/// Refused `OutOfMemory` where memory was refused, or under the lock a thread, and for no other
+/// cause; the other threads have ended then. On words the lines of a thread that can't be started
+/// are played by the one that would have started it.
 pub fn run_threads<G: Gate, R: Threads + Wait + Sync>(
     rt: &R,
     alloc: Global,
@@ -49,8 +51,8 @@ pub fn run_threads<G: Gate, R: Threads + Wait + Sync>(
     requires turns { 1 ≤ turns }
     ensures reached { grounds ≡ Grounds.Locked → IfOk result (EndsByActs script.now.limits) }
     ensures ended { grounds ≡ Grounds.Words → IfOk result (EndsOnWords script.now.limits) }
-    // Above both: no element is missing, and none is anywhere twice; no two packets stand in one place; and each packet has
-    // 1 to 32 segments, each with its data within its buffer.
+    // Above both: no element is missing, and none is anywhere twice; no two packets stand in one
+    // place; and each packet has 1 to 32 segments, each with its data within its buffer.
     ensures once { IfOk result (λ s. ListsEachOnce s) }
     ensures places { IfOk result (λ s. PlacesEachOnce script.now.limits s) }
     ensures packets { IfOk result (λ s. ListsPackets script.now.limits s) }

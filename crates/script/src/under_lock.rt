@@ -51,10 +51,11 @@ impl<K: OfLimits, R: Wait, const ROOM: usize> Actor<LockedPool<K>, ROOM> for Loc
     }
 }
 
-/// Plays a script with a thread for each worker, on lists under one lock: the acts come one after another. Closes the pool
-/// once all have ended, and settles it with the shares of all workers.
+/// Plays a script with a thread for each worker, on lists under one lock: the acts come one after
+/// another. Closes the pool once all have ended, and settles it with the shares of all workers.
 ///
-/// Refused `OutOfMemory` where memory was refused or a thread couldn't be started, and for no other cause.
+/// Refused `OutOfMemory` where memory was refused or a thread couldn't be started, and for no
+/// other cause.
 pub(crate) fn run<G: Gate, R: Threads + Wait + Sync>(
     rt: &R,
     alloc: Global,
@@ -75,7 +76,8 @@ pub(crate) fn run<G: Gate, R: Threads + Wait + Sync>(
     settled_parts(alloc, &limits, closed, shares)
 }
 
-/// Plays a script so, and loses the share of a worker then, as of one who died. Answers which elements are lost.
+/// Plays a script as `run` does, and then loses the share of a worker, as of one who died. Answers
+/// which elements are lost.
 ///
 /// Refused as `run` is.
 pub(crate) fn run_lost<G: Gate, R: Threads + Wait + Sync>(

@@ -15,7 +15,7 @@ const SLOT_AND_ELEMENT: &[Field] = &[Field("packet 1 ", 0, 1), Field(" segs 1 le
 /// The end of the line of a fresh packet.
 const FRESH: &str = "@128+0/2048\n";
 
-/// 32 names behind a bulk.
+/// 32 names after a bulk.
 const NAMES_OF_32: Part = Part::Each(32, &[Field(" p", 0, 1)], "");
 
 pub const ROWS: &[BuiltRow] = &[
@@ -163,8 +163,8 @@ pub const ROWS: &[BuiltRow] = &[
             Part::Each(256, &[Field("held ", 1, 1)], " count 1: 1\n"),
         ],
     ),
-    // A packet of 32 segments and its clone. The clone goes from each worker over the desk below its
-    // number to the next, and from worker 64 to worker 1; then the same way back.
+    // A packet of 32 segments and its clone. The clone goes from each worker over the desk below
+    // its number to the next, and from worker 64 to worker 1; then the same way back.
     (
         "a packet of 32 segments goes over all desks and back",
         &[

@@ -73,8 +73,8 @@ pub const ROWS: &[Row] = &[
         population 3\navailable 2\nin use 1\ncommon 2: 0 2\ncache 1 0:\n\
         packet 1 1 segs 1 len 0: 1@128+0/2048\nheld 1 count 1: 1\n",
     ),
-    // No worker frees another's packet, though both have given it the same name, and a flush is of the
-    // worker's own cache.
+    // No worker frees another's packet, though both have given it the same name, and a flush is of
+    // the worker's own cache.
     (
         "names and caches are each workers own",
         "pool 16 workers 3 cache 4\n3: alloc x\n1: free x\n03: flush\n 2:  flush \n\

@@ -22,7 +22,8 @@ pub const ROWS: &[Row] = &[
         packet 1 1 segs 1 len 0: 1@128+0/2048\npacket 2 0 segs 1 len 0: 0@128+0/2048\n\
         held 0 count 1: 2\nheld 1 count 1: 1\n",
     ),
-    // The name of one worker goes with the packet that it offers. Another makes the same name of its own.
+    // The name of one worker goes with the packet that it offers. Another makes the same name of
+    // its own.
     (
         "a name that is offered and taken is each workers own",
         "pool 4 workers 2 desks 1\nalloc a\noffer a 0\n2: take 0 a\nappend a 5\n\
@@ -32,8 +33,8 @@ pub const ROWS: &[Row] = &[
         population 4\navailable 3\nin use 1\ncommon 3: 1 2 3\ncache 1 0:\ncache 2 0:\n\
         packet 1 0 segs 1 len 9: 0@128+9/2048\nheld 0 count 1: 1\n",
     ),
-    // A take that is refused leaves its name without a packet, and an offer that is refused leaves the
-    // name with its own.
+    // A take that is refused leaves its name without a packet, and an offer that is refused leaves
+    // the name with its own.
     (
         "a refusal at a desk leaves the names",
         "pool 2 desks 1\ntake 0 x\nfree x\nalloc a\noffer a 1\nappend a 3\n",

@@ -1,4 +1,5 @@
-//! Worked scripts with what their replays print, as rows of tables for the crates of tests that play them.
+//! Worked scripts with what their replays print, as rows of tables for the crates of tests that
+//! play them.
 #![tactic(auto)]
 
 pub mod built;

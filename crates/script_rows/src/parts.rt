@@ -4,18 +4,19 @@ use std::alloc::Global;
 use std::fmt;
 use std::fmt::Write;
 
-/// A text, and behind it a number that is the second for the first line and then grows by the third.
+/// A text, and after it a number that is the second for the first line and then grows by the
+/// third.
 pub struct Field(pub &'static str, pub i32, pub i32);
 
 /// A part of a text.
 pub enum Part {
     /// Itself.
     Text(&'static str),
-    /// So many times these fields, each time with this end.
+    /// This many times these fields, each time with this end.
     Each(i32, &'static [Field], &'static str),
 }
 
-/// Adds so many times the fields and the end.
+/// Adds this many times the fields and the end.
 fn add_each(text: &mut String, count: i32, fields: &[Field], end: &str) -> fmt::Result {
     for index in 0..count {
         for Field(front, first, step) in fields {

@@ -65,8 +65,8 @@ pub const ROWS: &[Row] = &[
         7: ok back 4 flushed 4\n\
         population 6\navailable 6\nin use 0\ncommon 6: 3 1 2 0 4 5\ncache 1 0:\n",
     ),
-    // A packet of several segments is neither attached nor detached, and a name that stands for none is
-    // refused.
+    // A packet of several segments is neither attached nor detached, and a name that stands for
+    // none is refused.
     (
         "what has no buffer to share",
         "pool 4\nalloc a\nalloc b\nchain a b\nalloc c\nattach a c\nattach c b\nattach b c\n\

@@ -63,7 +63,7 @@ type UnmadeRow = (&'static str, Limits, Refusal);
 enum Step {
     /// A worker's act has this reply.
     Act(u32, Act, Told),
-    /// A worker makes so many packets at once.
+    /// A worker makes this many packets at once.
     Bulk(u32, usize),
     /// Each of these workers is refused so for each of these acts.
     Refused(&'static [u32], &'static [Act], Refusal),
@@ -92,7 +92,8 @@ struct Places {
 /// A name, a statement, and its text.
 type StatementRow = (&'static str, Places, &'static str);
 
-/// A name, a script, the JSON of the statement of its end without its line end, and the population in it.
+/// A name, a script, the JSON of the statement of its end without its line end, and the population
+/// in it.
 type JsonRow = (&'static str, &'static str, &'static str, u64);
 
 /// The limits of a pool line that says no more than one element.
@@ -108,12 +109,12 @@ const DEFAULTS: Limits = Limits {
     put_rule: PutRule::Keep,
 };
 
-/// Both are one; else it is told of what, with both.
+/// Asserts that both are equal, and else says of what, with both.
 fn same<R: Abort, T: PartialEq + Debug>(rt: &R, given: &T, wanted: &T, what: &str) {
     assert!(rt; *given == *wanted, "{what}: {given:?}, not {wanted:?}");
 }
 
-/// These bytes are given, or memory was wanting.
+/// These bytes are given, or memory was refused.
 fn assert_given<R: Abort>(rt: &R, given: Result<Vec<u8>, Refusal>, wanted: &str, what: &str) {
     match given {
         Ok(bytes) => same(rt, &bytes.as_slice(), &wanted.as_bytes(), what),
@@ -339,7 +340,7 @@ fn assert_reply<R: Abort>(
     same(rt, &(worker, act, &given), &(worker, act, wanted), name);
 }
 
-/// A worker makes so many packets at once.
+/// A worker makes this many packets at once.
 fn assert_bulk<R: Abort>(rt: &R, pool: &mut SitePool, worker: u32, count: usize, name: &str) {
     let made = match pool.perform(worker, Act::AllocBulk(count)) {
         Reply::Bulk(packets) => Some(packets.len()),
@@ -463,7 +464,7 @@ fn no_site_pool_is_made_out_of_range(rt: HostRuntime) {
     make_no_pools(&rt, acts::UNMADE);
 }
 
-/// Each line is put behind those before it.
+/// Each line is put after those before it.
 fn print_replies<R: Abort + AllocGlobal>(rt: &R, rows: &[ReplyRow]) -> Result<(), Fail> {
     let mut printed = Vec::new(rt.alloc());
     let mut text = String::new(rt.alloc());

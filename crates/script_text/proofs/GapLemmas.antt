@@ -11,16 +11,16 @@ use Rattle.script_text.proofs.ScriptLemmas.{some_script, cause_from}
 use Rattle.script_text.proofs.Right.{IsRight}
 
 module _ {C : Type 0} (lexicon : Lexicon C) (right : IsRight lexicon) where
-  -- a refusal for want of memory
+  -- a refusal for lack of memory
   abbrev wants_memory : Result (State C) Refusal
   wants_memory = Err refusals.OutOfMemory
 
-  -- something was read, or was refused, but not for want of memory
+  -- something was read, or was refused, but not for lack of memory
   abbrev IsAnswer : Result (State C) Refusal → Type 0
   IsAnswer (Ok state) = Unit {0}
   IsAnswer (Err refusal) = refusal ≢ refusals.OutOfMemory
 
-  -- a faulty line is no want of memory
+  -- a faulty line is no lack of memory
   fault_answers : (number : ℕ) → refusals.ScriptFault number ≢ refusals.OutOfMemory
   fault_answers number e = cc
 
@@ -29,7 +29,7 @@ module _ {C : Type 0} (lexicon : Lexicon C) (right : IsRight lexicon) where
   ready_answers true next e = cc
   ready_answers false next e = cc
 
-  -- a line goes on, is a fault or finds a bad pool, and never wants memory
+  -- a line goes on, is a fault or finds a bad pool, and never lacks memory
   judged_answers : (o : Option (State C)) (number : ℕ) → judged_as number o ≢ wants_memory
   judged_answers None number e = cc
   judged_answers (Some next) number e = ready_answers (are_ready next.numbers) next e
@@ -42,7 +42,7 @@ module _ {C : Type 0} (lexicon : Lexicon C) (right : IsRight lexicon) where
   finish_answers None state number (byte ∷ rest) = fault_answers number
   finish_answers (Some numbers) state number (byte ∷ rest) = fault_answers number
 
-  -- where no line wants memory, what comes of going on doesn't
+  -- where no line lacks memory, what comes of going on doesn't
   goes_answers : (r : Result (State C) Refusal) (f : State C → Result (State C) Refusal) → r ≢ wants_memory →
       ((next : State C) → IsAnswer (f next)) → IsAnswer (goes_on r f)
   goes_answers (Ok next) f h k = k next
@@ -71,7 +71,7 @@ module _ {C : Type 0} (lexicon : Lexicon C) (right : IsRight lexicon) where
       short_answers (ltb 1048576 (length bytes)) (read_from lexicon start 1 bytes)
       (lines_answer (parts bytes).lines start 1 (parts bytes).rest)
 
-  -- a cause other than want of memory is a faulty line or a bad pool
+  -- a cause other than lack of memory is a faulty line or a bad pool
   fault_or_pool : (refusal : Refusal) (bytes : List ℕ) → refusal ≢ refusals.OutOfMemory →
       IsCause lexicon.language bytes refusal → HasSomeFault lexicon.language bytes ⊎ HasBadPool lexicon.language bytes
   fault_or_pool refusals.BadPool bytes h cause = inr cause

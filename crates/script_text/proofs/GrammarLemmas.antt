@@ -1,4 +1,5 @@
--- A line's reading in the grammar is what the reading function gives, and so are the lines' one after another.
+-- A line's reading in the grammar is what the reading function gives, and so are the lines' one
+-- after another.
 use Rattle.std.proofs.Common.{◌≡◌, ℕ, true, false, cond, ltb, leb, List, length, Option, Some, None, refl, sym, ap, ◌∙◌, inl, inr}
 use Rattle.std.specs.Prelude.{option_and_then}
 use Rattle.std.specs.List.{list_all}

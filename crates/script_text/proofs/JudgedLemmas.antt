@@ -67,7 +67,7 @@ module _ {C : Type 0} (lexicon : Lexicon C) where
   unfolding judged
   judged_bad s next n line e f = ap (judged_as n) e ∙ cond-false (are_ready next.numbers) (Ok next) (Err refusals.BadPool) f
 
-  -- a command that stops a reader stops the line, as a fault or for want of memory
+  -- a command that stops a reader stops the line, as a fault or for lack of memory
   pub stops_command : (stop : Stop) (s : State C) (n : ℕ) (line : List ℕ) (read : Option (State C)) →
       read_line lexicon s n line ≡ read → StopsCommand stop read → StopsLine stop n (judged lexicon s n line)
   stops_command Fault s n line read e h = judged_fault s n line (e ∙ h)

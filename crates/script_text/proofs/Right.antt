@@ -17,7 +17,8 @@ pub begins : (words : List (List ℕ)) (word : List ℕ) (rest : List (List ℕ)
 begins words word rest e no_colon unmarked = record
     { word = word; rest = rest; words_are = e; no_colon = no_colon; unmarked = unmarked }
 
--- exactly the words of a command are read as it, and its first word is neither a worker's number nor marked
+-- exactly the words of a command are read as it, and its first word is neither a worker's number
+-- nor marked
 pub record IsRight {C : Type 0} (lexicon : Lexicon C) : Type 0 where
   pub comes : (words : List (List ℕ)) (command : C) → lexicon.command_from words ≡ Some command → lexicon.language.IsCommand words command
   pub is : (words : List (List ℕ)) (command : C) → lexicon.language.IsCommand words command → lexicon.command_from words ≡ Some command

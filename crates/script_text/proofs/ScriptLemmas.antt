@@ -1,4 +1,5 @@
--- What the bytes are read as is a script of the grammar, or its first fault, and no script of the grammar is read otherwise.
+-- What the bytes are read as is a script of the grammar, or its first fault, and no script of the
+-- grammar is read otherwise.
 use Rattle.std.proofs.Common.{◌≡◌, ◌≢◌, ℕ, ◌+◌, ◌-◌, max, true, false, List, [], ◌∷◌, ◌++◌, length, Option, Some, None, Result, Ok, Err, refl, sym, ap, ◌∙◌, subst, append_assoc, arith, inl, inr}
 use Rattle.std.specs.Prelude.{◌⊎◌, IfSome, IfOk, IfErr, MatchResult}
 use Rattle.std.proofs.lemmas.Bool.{cases_Bool, cases_lt, both_ways, false_from_ne_true, cond-true, cond-false}
@@ -348,7 +349,8 @@ module _ {C : Type 0} (lexicon : Lexicon C) (right : IsRight lexicon) where
       ∙ lines_is h.texts start (record { numbers = Some (numbers_of limits); lines = lines }) 1 (numbers_of limits) h.read
       refl
 
-  -- a text that is too long has the fault 0, and else the first refused line or the end is the cause
+  -- a text that is too long has the fault 0, and else the first refused line or the end is the
+  -- cause
   pub cause_from : (bytes : List ℕ) (refusal : Refusal) → read_text lexicon bytes ≡ Err refusal → IsCause lexicon.language bytes refusal
   unfolding read_from
   cause_from bytes refusal e =
@@ -455,12 +457,12 @@ module _ {C : Type 0} (lexicon : Lexicon C) (right : IsRight lexicon) where
       reached_line bytes h.state h.number h.line h.left h.rest refusals.BadPool h.short h.reached
       (bad_judged h.state h.next h.number h.line h.numbers h.reads h.numbers_are h.bad)
 
-  -- a refusal for want of memory needs no cause, and each other one is the text's
+  -- a refusal for lack of memory needs no cause, and each other one is the text's
   cause_of : (refusal : Refusal) (bytes : List ℕ) → Fails refusal (read_text lexicon bytes) → IsCause lexicon.language bytes refusal
   cause_of refusals.OutOfMemory bytes h = tt
   cause_of refusal bytes h = cause_from bytes refusal h
 
-  -- a text that can be read is refused for want of memory alone
+  -- a text that can be read is refused for lack of memory alone
   fails_ok : (refusal : Refusal) (state : State C) → Fails refusal (Ok state) → refusal ≡ refusals.OutOfMemory
   fails_ok refusals.OutOfMemory state h = refl
   fails_ok refusal state h = absurd cc
@@ -471,7 +473,7 @@ module _ {C : Type 0} (lexicon : Lexicon C) (right : IsRight lexicon) where
   is_read (Ok script) bytes h = script_from bytes script.limits script.lines h
   is_read (Err refusal) bytes h = tt
 
-  -- a refusal that is given is the one that the text has, or for want of memory
+  -- a refusal that is given is the one that the text has, or for lack of memory
   pub is_caused : (result : Result (Script C) Refusal) (bytes : List ℕ) → Gives result (read_text lexicon bytes) →
       IfErr result (λ refusal. IsCause lexicon.language bytes refusal)
   is_caused (Ok script) bytes h = tt

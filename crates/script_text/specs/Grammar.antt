@@ -25,7 +25,8 @@ IsFirstFault bytes number = scripts.IsFirstFault commands bytes number
 abbrev pub HasBadPool : List ℕ → Type 0
 HasBadPool bytes = scripts.HasBadPool commands bytes
 
--- why the bytes are refused; of a refusal for want of memory nothing is said, and no other is given
+-- why the bytes are refused; of a refusal for lack of memory nothing is said, and no other is
+-- given
 abbrev pub IsCause : List ℕ → Refusal → Type 0
 IsCause bytes refusal = scripts.IsCause commands bytes refusal
 

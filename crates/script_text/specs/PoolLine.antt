@@ -25,7 +25,7 @@ key_word Rule = codes "putrule"
 abbrev pub same_key : Key → Key → Bool
 same_key key other = bytes_eq (key_word key) (key_word other)
 
--- the words are these keys, each with its number behind it
+-- the words are these keys, each with its number after it
 abbrev pub ArePairs : List (List ℕ) → List (Key × ℕ) → Type 0
 ArePairs words [] = words ≡ []
 ArePairs words (pair ∷ pairs) =
@@ -43,7 +43,8 @@ abbrev pub AreOnce : List (Key × ℕ) → Type 0
 AreOnce [] = Unit {0}
 AreOnce (pair ∷ pairs) = (first_number pair.0 pairs ≡ None) × AreOnce pairs
 
--- the numbers of a pool line with so many elements; each key that doesn't stand there has its default
+-- the numbers of a pool line with this many elements; each key that doesn't stand there has its
+-- default
 abbrev pub numbers_with : ℕ → List (Key × ℕ) → PoolNumbers
 numbers_with population pairs = record {
   population = population;

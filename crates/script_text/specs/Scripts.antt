@@ -10,7 +10,7 @@ use Rattle.script_text.specs.Numbers.{IsNumber}
 use Rattle.script_text.specs.Text.{AreLines, IsPlain, Spells, IsSkipped}
 use Rattle.script_text.specs.PoolLine.{IsPoolLine, IsSomePool, numbers_of}
 
--- what the lines of one kind of script say, behind the pool line and a worker's number
+-- what the lines of one kind of script say, after the pool line and a worker's number
 pub record Language (C : Type 0) : Type 1 where
   -- the words are this command
   pub IsCommand : List (List ℕ) → C → Type 0
@@ -23,7 +23,7 @@ AreOfPool workers lines = All (λ line. (1 ≤ line.worker) × (line.worker ≤ 
 
 -- ---- a command line
 
--- the word is a worker's number, from 1 to that of the last, with a colon behind it
+-- the word is a worker's number, from 1 to that of the last, with a colon after it
 pub record IsPrefix (word : List ℕ) (workers worker : ℕ) : Type 0 where
   pub number : List ℕ
   pub whole : word ≡ number ++ codes ":"
@@ -78,7 +78,7 @@ module _ {C : Type 0} where
     pub after_is : after ≡ record { numbers = Some numbers; lines = before.lines }
 
 module _ {C : Type 0} (language : Language C) where
-  -- the words are a line of this worker, in a pool of so many, with this command
+  -- the words are a line of this worker, in a pool of this many workers, with this command
   pub data IsCommandLine (workers : ℕ) (words : List (List ℕ)) (worker : ℕ)
       (command : C) : Type 0 where
     -- a line that names no worker is of the first
@@ -195,7 +195,7 @@ module _ {C : Type 0} (language : Language C) where
     pub numbers_are : next.numbers ≡ Some numbers
     pub bad : IsSomePool numbers → ⊥
 
-  -- why the bytes are refused; of a refusal for want of memory nothing is said, and no other is
+  -- why the bytes are refused; of a refusal for lack of memory nothing is said, and no other is
   -- given
   abbrev pub IsCause : List ℕ → Refusal → Type 0
   IsCause bytes BadPool = HasBadPool bytes

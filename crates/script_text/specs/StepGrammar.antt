@@ -24,7 +24,8 @@ IsFirstStepFault bytes number = scripts.IsFirstFault steps bytes number
 abbrev pub HasBadStepPool : List ℕ → Type 0
 HasBadStepPool bytes = scripts.HasBadPool steps bytes
 
--- why the bytes are refused; of a refusal for want of memory nothing is said, and no other is given
+-- why the bytes are refused; of a refusal for lack of memory nothing is said, and no other is
+-- given
 abbrev pub IsStepCause : List ℕ → Refusal → Type 0
 IsStepCause bytes refusal = scripts.IsCause steps bytes refusal
 

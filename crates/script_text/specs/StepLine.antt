@@ -23,7 +23,7 @@ IsElementOrEnd word None = word ≡ codes "-"
 abbrev pub IsDesk : List ℕ → ℕ → Type 0
 IsDesk word desk = IsNumber word desk × (desk ≤ 65535)
 
--- the word is an element's number, and behind it a `>` and that of the base, where there is one
+-- the word is an element's number, and after it a `>` and that of the base, where there is one
 abbrev pub IsSegment : List ℕ → ℕ → Option ℕ → Type 0
 IsSegment word element None = IsNumber word element
 IsSegment word element (Some base) = (own : List ℕ) × (other : List ℕ)

@@ -1,4 +1,4 @@
--- Lines and words: how the bytes of a script are parted.
+-- Lines and words: how the bytes of a script are split.
 use Rattle.std.specs.Prelude.{◌≡◌, ◌≢◌, ℕ, ◌≤◌, ◌⊎◌, List, [], ◌∷◌, ◌++◌, length}
 use Rattle.std.specs.List.{AllByRecursion, flat_map}
 
@@ -39,7 +39,7 @@ abbrev pub EndsWord : List ℕ → Type 0
 EndsWord [] = Unit {0}
 EndsWord (byte ∷ bytes) = byte ≡ 32
 
--- behind spaces the line has this word, and then the rest
+-- after spaces the line has this word, and then the rest
 pub record BeginsWith (line word rest : List ℕ) : Type 0 where
   pub gap : List ℕ
   pub spaces : AreSpaces gap
@@ -52,7 +52,7 @@ abbrev pub Spells : List ℕ → List (List ℕ) → Type 0
 Spells line [] = AreSpaces line
 Spells line (word ∷ words) = (rest : List ℕ) × BeginsWith line word rest × Spells rest words
 
--- spaces alone, or a `#` behind spaces
+-- only spaces, or a `#` after spaces
 abbrev pub IsSkipped : List ℕ → Type 0
 IsSkipped line =
     AreSpaces line ⊎ ((gap : List ℕ) × (rest : List ℕ) × AreSpaces gap × (line ≡ gap ++ 35 ∷ rest))

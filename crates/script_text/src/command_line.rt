@@ -150,7 +150,7 @@ fn numbered_name(
     }
 }
 
-/// The name and the number behind it that are the only words of a rest of a line.
+/// The name and the number after it that are the only words of a rest of a line.
 fn name_and_number(alloc: Global, rest: &[u8]) -> Result<Option<(Name, u16)>, AllocError>
     ensures { IfOk result (λ found. found ≡ name_and_number_of (words_of rest.now)) }
 {
@@ -186,7 +186,7 @@ fn two_names(alloc: Global, rest: &[u8]) -> Result<Option<(Name, Name)>, AllocEr
     }
 }
 
-/// The command of a verb and the words behind it, or `None` where they are none.
+/// The command of a verb and the words after it, or `None` where they are none.
 fn command_with(alloc: Global, verb: Verb, rest: &[u8]) -> Result<Option<Command>, AllocError>
     ensures { IfOk result (λ command. command ≡ command_by verb (words_of rest.now)) }
 {

@@ -19,7 +19,7 @@ pub enum Command {
     Free(Name),
     /// Changes a packet's lengths.
     Resize(Name, Change),
-    /// Puts the second packet's segments behind those of the first.
+    /// Puts the second packet's segments after those of the first.
     Chain(Name, Name),
     /// Lets the first packet, of one segment, use the buffer of the second's first segment.
     Attach(Name, Name),

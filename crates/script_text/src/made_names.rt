@@ -16,7 +16,7 @@ pub(crate) struct MadeNames {
     keys: HashSet<(u32, [u8; MAX_NAME])>,
 }
 
-/// The name with zeros behind it.
+/// The name with zeros after it.
 fn padded_name(name: &[u8]) -> [u8; MAX_NAME]
     requires { length name.now ≤ 16 }
     ensures sized { length result ≡ 16 }

@@ -21,7 +21,7 @@ fn prefix_of(word: &[u8]) -> Option<&[u8]>
     word.strip_suffix(b":".as_slice())
 }
 
-/// The worker whose number a word spells, in a pool of so many.
+/// The worker whose number a word spells, in a pool of this many workers.
 fn worker_of(workers: u64, number: &[u8]) -> Option<u32>
     requires { workers ≤ max_workers }
     ensures { result ≡ worker_at workers number.now }
@@ -34,8 +34,8 @@ fn worker_of(workers: u64, number: &[u8]) -> Option<u32>
     }
 }
 
-/// The worker and the command that a line spells in a pool of so many workers, or `None` where it
-/// spells none. A line that names no worker is of the first.
+/// The worker and the command that a line spells in a pool of this many workers, or `None` where
+/// it spells none. A line that names no worker is of the first.
 pub(crate) fn order_of<C: Spelled>(
     alloc: Global,
     workers: u64,

@@ -66,7 +66,7 @@ fn segments_of(alloc: Global, rest: &[u8]) -> Result<Option<Seq<StepSegment>>, A
     }
 }
 
-/// The step that puts a packet into a slot, from the words behind its verb, or `None` where they
+/// The step that puts a packet into a slot, from the words after its verb, or `None` where they
 /// are none.
 pub(crate) fn put_in_of(alloc: Global, rest: &[u8]) -> Result<Option<Step>, AllocError>
     ensures { IfOk result (λ step. step ≡ put_in_from (words_of rest.now)) }

@@ -2,12 +2,12 @@
 //!
 //! A script has at most 1,048,576 bytes, in lines that each end with a line feed. A line has at
 //! most 8,192 bytes before its end, each a space or a printed ASCII character. Lines of spaces
-//! alone and lines whose first word begins with `#` are skipped. The first other line is the pool
+//! only and lines whose first word begins with `#` are skipped. The first other line is the pool
 //! line, `pool` with the number of elements and then, in any order, keys with their numbers:
 //! `cache`, `workers`, `desks`, `buf`, `refs`, `tries`, `start` and `putrule`, each at most once.
-//! Behind it come at most 10,000 lines with a command each, or with a step each. A line is the first
-//! worker's, or that of the one whose number stands in front with a colon behind it, as
-//! `2: flush`. A number is 1 to 20 digits with a value below 2^64.
+//! After it come at most 10,000 lines with a command each, or with a step each. A line is the first
+//! worker's, or that of the one whose number stands in front with a colon after it, as `2: flush`.
+//! A number is 1 to 20 digits with a value below 2^64.
 //!
 //! In a script of commands the lines are:
 //!
@@ -118,7 +118,7 @@ pub fn parse(alloc: Global, bytes: &[u8]) -> Result<Script, Refusal>
 /// Refused as `parse` is: `BadPool` where no pool can be made within the limits of the pool line,
 /// `ScriptFault` with the number of the first faulty line, or 0 where there are more than
 /// `MAX_BYTES` bytes, and `OutOfMemory` only where memory was refused. An element or a desk that
-/// the pool hasn't is no fault of its line.
+/// the pool doesn't have is not a fault of its line.
 pub fn parse_steps(alloc: Global, bytes: &[u8]) -> Result<StepScript, Refusal>
     // What is read is in the grammar.
     ensures read { IfOk result (λ script. IsStepScript bytes.now script.limits script.lines) }

@@ -9,7 +9,7 @@ ghost use Rattle.script_text.specs.inside.ScriptReading.{Lexicon};
 use crate::commands::Name;
 use std::alloc::{AllocError, Global};
 
-/// A command that words spell, as one kind of script has them in its lines, behind the pool line
+/// A command that words spell, as one kind of script has them in its lines, after the pool line
 /// and a worker's number.
 pub(crate) trait Spelled: Drop {
     /// Which words are which command, and which names it makes.

@@ -168,7 +168,7 @@ fn alone(step: Step, rest: &[u8]) -> Option<Step>
     }
 }
 
-/// The step of a verb and the words behind it, or `None` where they are none.
+/// The step of a verb and the words after it, or `None` where they are none.
 fn step_with(verb: StepVerb, rest: &[u8]) -> Option<Step>
     ensures { result ≡ step_by verb (words_of rest.now) }
 {

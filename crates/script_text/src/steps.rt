@@ -16,8 +16,8 @@ pub struct StepSegment {
     pub base: Option<u64>,
 }
 
-/// What a line asks a worker to do in one step. Elements and desks that the pool hasn't, and the
-/// end in the place of an element, are read too: such a step is refused when it is played.
+/// What a line asks a worker to do in one step. Elements and desks that the pool doesn't have, and
+/// the end in the place of an element, are read too: such a step is refused when it is played.
 #[derive(Debug, Drop)]
 pub enum Step {
     /// Loads the length word.
@@ -69,7 +69,7 @@ pub enum Step {
     Reset {
         element: ElementOrEnd,
     },
-    /// Takes an empty desk into work.
+    /// Begins to fill an empty desk.
     Hold {
         desk: u16,
     },
@@ -82,7 +82,7 @@ pub enum Step {
     Open {
         desk: u16,
     },
-    /// Takes a full desk into work.
+    /// Begins to empty a full desk.
     Seize {
         desk: u16,
     },

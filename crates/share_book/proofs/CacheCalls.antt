@@ -14,7 +14,7 @@ use Rattle.commons.specs.PlainCalls.{LeadsPlain}
 use Rattle.share_book.specs.inside.Own.{shared_of}
 use Rattle.pool_model.proofs.CacheRules.{flushed_by, got_by, put_by}
 
--- a request that was met or refused is the model's
+-- a request that succeeded or was refused is the model's
 asked : (w : ℕ) (s : Lists) (n : ℕ) (a : Result (List ℕ) Refusal) (t : Lists) → DidGet w s n a t →
     (a, shared_of t) ≡ ask n (shared_of s)
 asked w s n (Ok xs) t d =

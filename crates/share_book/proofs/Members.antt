@@ -67,7 +67,8 @@ members_after s t members n w m e l len each a numbers own k b =
       ];
     }
 
--- how often the packets that stay hold an element, where one of them goes: its count without the packet's holds
+-- how often the packets that stay hold an element, where one of them goes: its count without the
+-- packet's holds
 elsewhere : (s : Lists) (members : List Member) (n : ℕ) → IsTable s →
     length members ≡ s.limits.workers → AreMembers s members → n < length members →
     Elsewhere s (get_or members n (nobody s.limits)) (λ slot i.

@@ -10,7 +10,8 @@ use Rattle.pool_model.specs.Statements.{statement_of}
 use Rattle.snapshot.specs.Closing.{closed_pool, snapshot_of}
 use Rattle.snapshot.specs.Snapshots.{statement_in}
 
--- What these acts, one after another, leave of a new pool of these limits: what its shared part leaves, the share of each worker, and so its statement.
+-- What these acts, one after another, leave of a new pool of these limits: what its shared part
+-- leaves, the share of each worker, and so its statement.
 pub record AreLeftBy (acts : List (ℕ × Act)) (l : Limits) (left : Closed) (handed : List Member) : Type 0 where
   pub closed : left ≡ closed_pool (after_acts acts (new_pool l))
   pub shares : handed ≡ (after_acts acts (new_pool l)).members

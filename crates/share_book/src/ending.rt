@@ -25,11 +25,13 @@ use commons::refusal::Refusal;
 use pool_model::statement::Statement;
 use std::alloc::Global;
 
-/// Closes a pool and settles it with the shares of all its workers. The statement is the one of the
-/// pool as it was: each element is listed exactly once, and each packet has a place of its own, 1 to 32 segments and their
-/// data within its buffers; no count is above the reference limit, and bases are direct.
+/// Closes a pool and settles it with the shares of all its workers. The statement is that of the
+/// pool as it was: each element is listed exactly once, and each packet has a place of its own, 1
+/// to 32 segments and their data within its buffers; no count is above the reference limit, and
+/// bases are direct.
 ///
-/// Refused `OutOfMemory` where memory was refused. The pool is ended then too, and nothing is left of it.
+/// Refused `OutOfMemory` where memory was refused. The pool is ended then too, and nothing is left
+/// of it.
 pub fn settled(alloc: Global, pool: SitePool) -> Result<Statement, Refusal>
     ensures statement { IfOk result (λ s. s ≡ statement_of pool) }
     ensures once { IfOk result (λ s. ListsEachOnce s) }
@@ -48,9 +50,9 @@ pub fn settled(alloc: Global, pool: SitePool) -> Result<Statement, Refusal>
     }
 }
 
-/// Settles what a pool within these limits left, when it was closed, with the shares of all its workers. The statement is
-/// the one of the snapshot that they are. Each packet that it lists has 1 to 32 segments, each with its data within its
-/// buffer.
+/// Settles what a pool within these limits left, when it was closed, with the shares of all its
+/// workers. The statement is that of the snapshot that they make. Each packet that it lists has 1
+/// to 32 segments, each with its data within its buffer.
 ///
 /// Refused `OutOfMemory` where memory was refused. Nothing is left of the pool then either.
 pub fn settled_parts(

@@ -23,7 +23,8 @@ use std::alloc::Global;
 use std::marker::{Brand, Model, PhantomData};
 use std::sync::{Mutex, Wait};
 
-/// What is known of the limits of a pool under a lock: a lock hands on what its type says, and nothing else.
+/// What is known of the limits of a pool under a lock: a lock hands on what its type says, and
+/// nothing else.
 pub trait OfLimits {
     ghost allows: { Limits → Type 0 };
 }
@@ -72,9 +73,9 @@ impl<K: OfLimits> KeptPool<K> {
     }
 }
 
-/// A pool as lists under a lock, for threads, each of which lets its worker act. Whenever the lock is free, some acts,
-/// one after another, made the pool of a new one of its limits; so each law of acts is true of it. It can't be
-/// dropped: `close` or `lose` ends it.
+/// A pool as lists under a lock, for threads, each of which lets its worker act. Whenever the lock
+/// is free, some acts, one after another, made the pool of a new one of its limits; so each law of
+/// acts is true of it. It can't be dropped: `close` or `lose` ends it.
 pub struct LockedPool<K: OfLimits> {
     site: Mutex<KeptPool<K>>,
 }
@@ -83,7 +84,7 @@ pub struct LockedPool<K: OfLimits> {
 pub type LockedSite = LockedPool<AnyLimits>;
 
 impl<K: OfLimits> LockedPool<K> {
-    /// A new pool, under a lock that is free.
+    /// A new pool of limits that `K` allows, under a lock that is free.
     ///
     /// Refused `BadPool` where the limits are out of range, and `OutOfMemory` where memory was
     /// refused.
@@ -102,25 +103,28 @@ impl<K: OfLimits> LockedPool<K> {
         }
     }
 
-    /// Takes the lock, lets a worker, numbered from 1, do this as `SitePool::perform` does, and lets the lock go.
-    /// Refused as it is there. What other threads did before isn't known here, so no clause says what was done.
+    /// Takes the lock, lets a worker, numbered from 1, do this as `SitePool::perform` does, and
+    /// releases the lock. Refused as it is there. What other threads did before isn't known here,
+    /// so no clause says what was done.
     pub fn act<R: Wait>(&self, rt: &R, worker: u32, act: Act) -> Reply {
         self.act_in(rt, worker, act)
     }
 
-    /// Does what `act` does, and answers with room for a bulk of `ROOM` packets: with none the answer is small, and
-    /// nothing of a bulk's room is filled.
+    /// Does what `act` does, and answers with room for a bulk of `ROOM` packets, no fewer than a
+    /// bulk asks for where it asks for 256 at most: with none the answer is small, and nothing of
+    /// a bulk's room is filled.
     pub fn act_in<const ROOM: usize, R: Wait>(&self, rt: &R, worker: u32, act: Act) -> Answer<ROOM>
         requires room { HasRoom ROOM act }
     {
         self.site.lock(rt).perform_in(worker, act)
     }
 
-    /// Takes the pool out of the lock and closes it, as `SitePool::close` does: its limits, what its shared part leaves,
-    /// and the share of each worker, from the first to the last. They are a lawful snapshot, and are what some acts
-    /// leave of a new pool of these limits.
+    /// Takes the pool out of the lock and closes it, as `SitePool::close` does: its limits, what
+    /// its shared part leaves, and the share of each worker, from the first to the last. They are
+    /// a lawful snapshot, and are what some acts leave of a new pool of these limits.
     ///
-    /// Refused `OutOfMemory` where memory was refused. The pool comes back then.
+    /// Refused `OutOfMemory` where memory was refused. A pool of limits that `K` allows comes back
+    /// then; that it is the same is seen by reading.
     pub fn close(self, alloc: Global) -> Result<(Limits, Closed, Vec<Share>), (Refusal, SitePool)>
         ensures allowed { IfOk result (λ parts. K.allows parts.0) }
         ensures range { IfOk result (λ parts. IsPool parts.0) }

@@ -59,7 +59,8 @@ impl SitePool {
     ghost use Rattle.snapshot.specs.Closing.{closed_pool, snapshot_of};
     ghost use Rattle.snapshot.specs.Snapshots.{HasSlots, IsLawful, statement_in};
 
-    /// A new pool: all elements in the common list; its workers have nothing, and its desks are empty.
+    /// A new pool: all elements in the common list; its workers have nothing, and its desks are
+    /// empty.
     ///
     /// Refused `BadPool` where the limits are out of range, and `OutOfMemory` where memory was
     /// refused.
@@ -72,8 +73,8 @@ impl SitePool {
         Ok(SitePool { site, members })
     }
 
-    /// A law of each pool: its limits are in range, it has as many workers and as many desks as they
-    /// say, and the workers are numbered from 1. It does nothing.
+    /// A law of each pool: its limits are in range, it has as many workers and as many desks as
+    /// they say, and the workers are numbered from 1. It does nothing.
     pub fn fits_its_limits(&self)
         ensures range { IsPool self.now.limits }
         ensures workers { length self.now.members ≡ self.now.limits.workers }
@@ -90,8 +91,9 @@ impl SitePool {
         let _known = &self.members;
     }
 
-    /// A law of each pool: each packet that its statement lists has 1 to 32 segments, each with its data within its
-    /// buffer, no count is above the reference limit, and a base is direct. It does nothing.
+    /// A law of each pool: each packet that its statement lists has 1 to 32 segments, each with
+    /// its data within its buffer, no count is above the reference limit, and a base is direct. It
+    /// does nothing.
     pub fn lists_sound_packets(&self)
         ensures { ListsSoundPackets self.now.limits (statement_of self.now) }
     {
@@ -106,21 +108,21 @@ impl SitePool {
     }
 
     /// Lets a worker, numbered from 1, do this with its packets and its cache, and answers what
-    /// came of it. The elements that the answer tells of as new were held by no packet; they, and no others, have become
-    /// own elements of packets.
+    /// came of it. The elements that the answer tells of as new were held by no packet; they, and
+    /// no others, have become own elements of packets.
     ///
     /// Refused `StrangerShare` for a worker outside the pool, else as the worker's packets are. A
     /// new packet is refused `PacketsFull` where the worker has too few free slots, else as its
     /// cache's get is: `NoEntries` or `HeadSpent`. An act on a slot that is empty or above 255 is
     /// refused `NoSuchPacket`; else a change of lengths is refused `NoRoom` or `TooShort`, a chain
     /// `SamePacket` or `TooManySegs`, an attach these or `NotDirect`, `InUse` or `RefSpent`, a
-    /// detach `TooManySegs` or `NotIndirect`, a clone as a new packet is or `RefSpent`, and an offer
-    /// `NoSuchDesk` or `DeskTaken`. A take is refused `NoSuchDesk`, `PacketsFull` or `DeskEmpty`.
-    /// Nothing changes then, but that after a refused clone the free elements may stand in another
-    /// order, or be shared out otherwise between cache and stack, and the modification count may be
-    /// higher. A push that the stack refuses is no refusal of a free, a
-    /// detach or a flush: `put_off` and `PutOff` tell of it, and the elements stay in the cache. A
-    /// flush is never refused.
+    /// detach `TooManySegs` or `NotIndirect`, a clone as a new packet is or `RefSpent`, and an
+    /// offer `NoSuchDesk` or `DeskTaken`. A take is refused `NoSuchDesk`, `PacketsFull` or
+    /// `DeskEmpty`. Nothing changes then, but that after a refused clone the free elements may
+    /// stand in another order, or be shared out differently between cache and stack, and the
+    /// modification count may be higher. A push that the stack refuses is not a refusal of a free,
+    /// a detach or a flush: `put_off` and `PutOff` tell of it, and the elements stay in the cache.
+    /// A flush is never refused.
     ///
     /// After rte_mbuf.h, `rte_pktmbuf_alloc`, `rte_pktmbuf_alloc_bulk`, `rte_pktmbuf_free`,
     /// `rte_pktmbuf_append`, `rte_pktmbuf_prepend`, `rte_pktmbuf_adj`, `rte_pktmbuf_trim`,
@@ -136,8 +138,8 @@ impl SitePool {
         self.perform_in(worker, act)
     }
 
-    /// Does what `perform` does, and answers with room for a bulk of `ROOM` packets: with none the answer
-    /// is small.
+    /// Does what `perform` does, and answers with room for a bulk of `ROOM` packets, no fewer than
+    /// a bulk asks for where it asks for 256 at most: with none the answer is small.
     pub fn perform_in<const ROOM: usize>(&mut self, worker: u32, act: Act) -> Answer<ROOM>
         requires room { HasRoom ROOM act }
         ensures done { (as_reply result, self.new) ≡ perform self.old worker act }
@@ -154,8 +156,9 @@ impl SitePool {
         act_alone(&mut self.site, packets, worker, act)
     }
 
-    /// Ends the pool, and gives its limits, what its shared part leaves, and the share of each worker, from the first
-    /// to the last. Together they are a lawful snapshot, with the statement that the pool had.
+    /// Ends the pool, and gives its limits, what its shared part leaves, and the share of each
+    /// worker, from the first to the last. Together they are a lawful snapshot, with the statement
+    /// that the pool had.
     ///
     /// Refused `OutOfMemory` where memory was refused. The pool comes back then, as it was.
     pub fn close(self, alloc: Global) -> Result<(Limits, Closed, Vec<Share>), (Refusal, SitePool)>

@@ -78,7 +78,7 @@ added-none more table none = record {
   each = λ i. sym (append-nil (get_or table i [])) ∙ ap (λ (xs : List Holder). get_or table i [] ++ xs) (sym (none i));
 }
 
--- the same holders, otherwise said
+-- the same holders, put differently
 pub added-same : (f g : ℕ → List Holder) (a b : List (List Holder)) → AreAdded f a b →
     ((i : ℕ) → f i ≡ g i) → AreAdded g a b
 added-same f g a b added same = record {
@@ -216,7 +216,8 @@ added-share foreign guests shares k share own a b c l e same f g =
 
 -- ---- desks
 
--- the first of these desks, so many, are noted: each element's list, with the desks that follow, is as long as it will be
+-- the first of these desks, this many, are noted: each element's list, with the desks that follow,
+-- is as long as it will be
 pub record AreNoted (foreign : Bool) (desks : List (Option (List Seg))) (k : ℕ) (old new : List (List Holder))
     : Type 0 where
   pub len : length new ≡ length old

@@ -8,7 +8,8 @@ use Rattle.snapshot.specs.declared.snapshot.Snapshot.{Snapshot}
 use Rattle.snapshot.specs.Faults.{IsFault, IsFirstFault, IsCleanBelow, rank, subject}
 use Rattle.snapshot.specs.Snapshots.{HasShape, words_met}
 
--- a fault is the first where those of earlier kinds aren't there, and those of its kind name no less
+-- a fault is the first where those of earlier kinds aren't there, and those of its kind name no
+-- less
 pub first_of_kind : (s : Snapshot) (f : Fault) → IsFault s f → IsCleanBelow (rank f) s →
     ((g : Fault) → IsFault s g → rank g ≡ rank f → subject f ≤ subject g) → IsFirstFault s f
 first_of_kind s f is clean least = (

@@ -16,7 +16,7 @@ use Rattle.snapshot.specs.inside.Adding.{entry_of, held_of, holders_in, lists_of
 use Rattle.snapshot.specs.Snapshots.{IsLawful, pool_of, times_held}
 use Rattle.snapshot.proofs.PlacedShares.{length-holders}
 
--- the entries of the held elements among the first so many
+-- the entries of the held elements among the first this many
 abbrev pub entries_to : Snapshot → ℕ → List Held
 entries_to s k = map (entry_of s)
     (filter (λ e. nat_lt 0 (times_held s e)) (take k (range_with_len 0 s.limits.population)))

@@ -27,7 +27,7 @@ in_order_all f xs k n is len h =
     let same : k ≡ n = omega arith in
     rw (all, same) at h
 
--- there are so many
+-- there are that many
 pub in_order_length : {X : Type 0} (f : X → ℕ) (xs : List X) (n : ℕ) → map f xs ≡ range_with_len 1 n → length xs ≡ n
 in_order_length f xs n h = sym (length-map xs f) ∙ ap length h ∙ length-range_with_len 1 n
 

@@ -27,8 +27,9 @@ snapshot_of l closed members = record {
   foreign = false;
 }
 
--- What a pool's shared part leaves: the top and the length of the common list; for each element its link and its
--- count, which is how often packets hold it, and 1 where none does; and what is on the desks.
+-- What a pool's shared part leaves: the top and the length of the common list; for each element
+-- its link and its count, which is how often packets hold it, and 1 where none does; and what is
+-- on the desks.
 abbrev pub closed_pool : Pool → Closed
 closed_pool pool = record {
   top = top_word pool.shared.common;

@@ -51,7 +51,8 @@ subject (Lost e) = e
 subject (BadCount e word holds) = e
 subject OutOfMemory = 0
 
--- the one is looked for before the other: its kind is, or they are of one kind, and it names the lesser
+-- the one is looked for before the other: its kind is, or they are of one kind, and it names the
+-- lesser
 abbrev pub IsBefore : Fault → Fault → Type 0
 IsBefore f g = (rank f < rank g) ⊎ ((rank f ≡ rank g) × (subject f < subject g))
 
@@ -59,6 +60,6 @@ IsBefore f g = (rank f < rank g) ⊎ ((rank f ≡ rank g) × (subject f < subjec
 abbrev pub IsFirstFault : Snapshot → Fault → Type 0
 IsFirstFault s f = IsFault s f × ((g : Fault) → IsFault s g → ¬ (IsBefore g f))
 
--- the snapshot has no fault of the first kinds, so many
+-- the snapshot has no fault of the first kinds, this many
 abbrev pub IsCleanBelow : ℕ → Snapshot → Type 0
 IsCleanBelow n s = (g : Fault) → IsFault s g → n ≤ rank g

@@ -11,8 +11,9 @@ use Rattle.pool_model.specs.declared.statement.Statement.{Statement}
 use Rattle.snapshot.specs.declared.snapshot.ShareData.{ShareData}
 use Rattle.snapshot.specs.declared.snapshot.Snapshot.{Snapshot}
 
--- The words that are met from a word on, along these links, so many behind it at most. A word names an element by one
--- more, and none by 0. The way ends at 0, and at a word above the population.
+-- The words that are met from a word on, along these links, this many after it at most. A word
+-- names an element by one more, and none by 0. The way ends at 0, and at a word above the
+-- population.
 abbrev pub words_from : ℕ → ℕ → List ℕ → ℕ → List ℕ
 words_from most population links zero = zero ∷ []
 words_from zero population links (suc e) = suc e ∷ []
@@ -27,7 +28,7 @@ elements_of population (zero ∷ words) = elements_of population words
 elements_of population (suc e ∷ words) =
     if nat_lt e population then e ∷ elements_of population words else elements_of population words
 
--- the words that are met from the top on, as many as there are elements behind it
+-- the words that are met from the top on, as many as there are elements after it
 abbrev pub words_met : Snapshot → List ℕ
 words_met s = words_from s.limits.population s.limits.population s.links s.top
 
@@ -78,8 +79,8 @@ HasPacket s segs =
 abbrev pub most_guests : ℕ
 most_guests = 8192
 
--- One link and one count for each element, a place for each desk, and a share for each worker in order. Guests are of
--- these workers, and no more than their packets may have bases.
+-- One link and one count for each element, a place for each desk, and a share for each worker in
+-- order. Guests are of these workers, and no more than their packets may have bases.
 pub record HasShape (s : Snapshot) : Type 0 where
   pub links : length s.links ≡ s.limits.population
   pub counts : length s.counts ≡ s.limits.population
@@ -88,9 +89,10 @@ pub record HasShape (s : Snapshot) : Type 0 where
   pub guests : AreOfWorkers s.limits.workers s.guests
   pub few : length s.guests ≤ s.limits.workers * most_guests
 
--- Each element of the pool is in one place, and nothing else is anywhere: it is on the walk or in a cache, once, or
--- held; its count is the number of its holds, and 1 where nobody holds it. The length word is the walk's length. Each
--- packet is one, and each element is the own one of at most one segment.
+-- Each element of the pool is in one place, and nothing else is anywhere: it is on the walk or in
+-- a cache, once, or held; its count is the number of its holds, and 1 where nobody holds it. The
+-- length word is the walk's length. Each packet is one, and each element is the own one of at most
+-- one segment.
 pub record IsLawful (s : Snapshot) : Type 0 where
   pub shape : HasShape s
   pub words : All (λ word. word ≤ s.limits.population) (words_met s)

@@ -1,4 +1,4 @@
--- What serves proofs alone. No public clause cites these modules.
+-- For proofs only. No public clause cites these modules.
 pub mod Adding
 pub mod Checked
 pub mod Least

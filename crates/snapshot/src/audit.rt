@@ -13,9 +13,9 @@ use crate::{elements, laws, packets, placing, shape, tally, walking};
 use pool_model::statement::Statement;
 use std::alloc::Global;
 
-/// The statement of a lawful snapshot, else the first of its faults, or `OutOfMemory` where memory was refused. Each
-/// packet that is listed has 1 to 32 segments, each with its data within its buffer. Of the reference limit nothing is
-/// said.
+/// The statement of a lawful snapshot, else the first of its faults, or `OutOfMemory` where memory
+/// was refused. Each packet that is listed has 1 to 32 segments, each with its data within its
+/// buffer. Of the reference limit nothing is said.
 pub fn audit(alloc: Global, snapshot: &Snapshot) -> Result<Statement, Fault>
     requires pool { IsPool snapshot.now.limits }
     requires slots { HasSlots snapshot.now }

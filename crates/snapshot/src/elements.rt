@@ -1,4 +1,5 @@
-//! Whether the pool has the elements that caches, packets and guests name: it has those below its population.
+//! Whether the pool has the elements that caches, packets and guests name: it has those below its
+//! population.
 
 ghost use Rattle.std.specs.Prelude.{◌≡◌, ◌+◌, ◌≤◌, ℕ, IfErr, IfOk, sum_by};
 ghost use Rattle.commons.specs.Bag.{bag, one};

@@ -3,8 +3,9 @@
 /// What is wrong with a snapshot.
 #[derive(Clone, Copy, PartialEq, Eq, Debug)]
 pub enum Fault {
-    /// Links or counts aren't one for each element, desks aren't as many as the pool has, shares aren't one for each
-    /// worker in order, or guests aren't of these workers, or are more than 8,192 for each of them.
+    /// Links or counts aren't one for each element, desks aren't as many as the pool has, shares
+    /// aren't one for each worker in order, or guests aren't of these workers, or are more than
+    /// 8,192 for each of them.
     BadShape,
     /// The top, or a link on the walk from it, is above the population.
     BadTop(u32),
@@ -27,7 +28,8 @@ pub enum Fault {
     Doubled(u32),
     /// The least element that is neither free nor held.
     Lost(u32),
-    /// The least element whose count isn't the number of its holds, or isn't 1 where nobody holds it.
+    /// The least element whose count isn't the number of its holds, or isn't 1 where nobody holds
+    /// it.
     BadCount {
         /// The element.
         elem: u32,

@@ -15,8 +15,9 @@ pub fn a_lawful_snapshot_has_no_fault()
     ensures lawful { (s : Snapshot) → IsLawful s ↔ ((f : Fault) → ¬ (IsFault s f)) }
 {}
 
-/// The statement of a lawful snapshot lists each element of its pool exactly once, what is available and what is in use
-/// are the population, and each packet has a place of its own, 1 to 32 segments, and the data of each within its buffer.
+/// The statement of a lawful snapshot lists each element of its pool exactly once, what is
+/// available and what is in use are the population, and each packet has a place of its own, 1 to 32
+/// segments, and the data of each within its buffer.
 pub fn a_lawful_snapshot_lists_each_element_once()
     ensures once { (s : Snapshot) → IsLawful s → ListsItsElements s (statement_in s) }
     ensures whole { (s : Snapshot) → IsLawful s → (statement_in s).available + (statement_in s).in_use ≡ s.limits.population }

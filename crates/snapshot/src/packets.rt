@@ -12,7 +12,7 @@ use crate::snapshot::{ShareData, Snapshot};
 use commons::packet::{MAX_SEGS, Seg};
 use commons::seq::Seq;
 
-/// Finds whether something in a slot or on a desk is no packet.
+/// Finds whether something in a slot or on a desk isn't a packet.
 pub(crate) fn check(snapshot: &Snapshot) -> Result<(), Fault>
     requires clean { IsCleanBelow 5 snapshot.now }
     ensures ok { IfOk result (λ _. (segs : List Seg) → HasPacket snapshot.now segs → IsPacket segs) }

@@ -14,8 +14,9 @@ use pool_model::guest::Guest;
 /// The most guests that a worker may have: the segments of 256 packets.
 const MOST_GUESTS: u64 = 8192;
 
-/// Tests whether there are one link and one count for each element, a place for each desk, and a share for each worker
-/// in order, and whether guests are of these workers and no more than they may have, else answers `BadShape`.
+/// Tests whether there are one link and one count for each element, a place for each desk, and a
+/// share for each worker in order, and whether guests are of these workers and no more than they
+/// may have, else answers `BadShape`.
 pub(crate) fn check(snapshot: &Snapshot) -> Result<(), Fault>
     requires pool { IsPool snapshot.now.limits }
     ensures ok { IfOk result (λ _. HasShape snapshot.now) }

@@ -16,8 +16,8 @@ pub struct ShareData {
     pub slots: Seq<Option<Seq<Seg>>>,
 }
 
-/// A closed pool: the words that its shared part leaves, and what the workers handed in. Nothing is known of it but
-/// what the audit finds.
+/// A closed pool: the words that its shared part leaves, and what the workers handed in. Nothing
+/// is known of it but what the audit finds.
 #[derive(Debug, Drop)]
 pub struct Snapshot {
     /// The pool's limits.

@@ -1,4 +1,5 @@
-//! How often each element of a snapshot is an own element, held and free, and what is wrong with that.
+//! How often each element of a snapshot is an own element, held and free, and what is wrong with
+//! that.
 
 ghost use Rattle.std.specs.Prelude.{◌≡◌, ◌⊎◌, ◌+◌, ◌<◌, ◌≤◌, ℕ, IfErr, IfOk, List, length, max, min, slice_index};
 ghost use Rattle.commons.specs.Bounds.{IsPool};
@@ -18,8 +19,9 @@ use crate::tally::searches::{doubled, lost, miscounted, repeated};
 use crate::tally::tables::{Tally, tallied};
 use std::alloc::Global;
 
-/// Tests that each element is the own one of one segment at most, that it is in one place, and that its count is the
-/// number of its holds, else answers the first fault, or `OutOfMemory` where memory was refused.
+/// Tests that each element is the own one of one segment at most, that it is in one place, and
+/// that its count is the number of its holds, else answers the first fault, or `OutOfMemory` where
+/// memory was refused.
 pub(crate) fn check(alloc: Global, snapshot: &Snapshot, walked: &[u32]) -> Result<(), Fault>
     requires pool { IsPool snapshot.now.limits }
     requires slots { HasSlots snapshot.now }
@@ -41,7 +43,8 @@ pub(crate) fn check(alloc: Global, snapshot: &Snapshot, walked: &[u32]) -> Resul
     }
 }
 
-/// The same by the snapshot's tally, whose numbers of holds are exact: packets hold an element fewer than 2^32 times.
+/// Tests the same by the snapshot's tally, whose numbers of holds are exact: packets hold an
+/// element fewer than 2^32 times.
 fn judge(snapshot: &Snapshot, tally: &Tally) -> Result<(), Fault>
     requires pool { IsPool snapshot.now.limits }
     requires counts { length snapshot.now.counts ≡ snapshot.now.limits.population }

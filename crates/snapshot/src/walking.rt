@@ -36,7 +36,8 @@ pub(crate) fn walk(alloc: Global, snapshot: &Snapshot) -> Result<Vec<u32>, Fault
     Ok(elems)
 }
 
-/// Tests whether the length word is the length of the walk, which has these elements, else answers `BadLength`.
+/// Tests whether the length word is the length of the walk, which has these elements, else answers
+/// `BadLength`.
 pub(crate) fn check_length(snapshot: &Snapshot, elems: &[u32]) -> Result<(), Fault>
     requires walk { elems.now ≡ walk snapshot.now }
     requires clean { IsCleanBelow 3 snapshot.now }

@@ -28,7 +28,7 @@ steps-cons : (x : Try) (ys : List Try) →
     length (notes_of (x ∷ ys)) ≡ length (notes x) + length (notes_of ys)
 steps-cons x ys = length-append (notes x) (notes_of ys)
 
--- so many tries of so many steps each
+-- this many tries of this many steps each
 each_bounded : (P : Try → Type 0) (m : ℕ) (ts : List Try) →
     ((x : Try) → P x → length (notes x) ≤ m) → All P ts → length (notes_of ts) ≤ length ts * m
 each_bounded P m [] f h = omega arith

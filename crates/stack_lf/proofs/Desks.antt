@@ -74,7 +74,7 @@ may_open d p s t u o held own h f = record {
 
 -- ---- the calls, in the trait's words
 
--- what is held no more is no header
+-- what is no longer held is no header
 header_left : (v : View) (p : List Seg) (i : ℕ) → 0 < bag (offered_as p v).holds i →
     bag (offered_as p v).headers i ≡ bag (minus v.headers (own_of_packet p)) i
 header_left v p i some =

@@ -166,7 +166,8 @@ links_stored h xs s t u some e f =
     (f ∙ ap (λ (c : Option Chain). after t (stores h.top xs) (record t.known.view { chain = c }))
     (chain-some h.top xs some))
 
--- a push may be tried where a head was read whose count isn't spent, and a list is chained down to its top
+-- a push may be tried where a head was read whose count isn't spent, and a list is chained down to
+-- its top
 pub may_push : (h : Head) (xs : List ℕ) (first : ℕ) (s t u : Seated) → 0 < length xs →
     h.count < spent → first ≡ last_of h.top xs → Steps LoadHead (HeadIs h) s t →
     Stored h.top xs t u → MayPush u.known.view h first

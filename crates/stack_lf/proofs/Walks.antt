@@ -84,7 +84,8 @@ cut_wins h ps next xs s t u w e f same d =
     (cut_tried h ps next (Got (elements ps)) s t u w e f
     (subst (λ (l : List ℕ). Steps Cut (Got l) u w) front d))
 
--- a cut may be tried where a head was read whose count isn't spent, and as many links walked as are reserved
+-- a cut may be tried where a head was read whose count isn't spent, and as many links walked as
+-- are reserved
 pub may_cut : (h : Head) (ps : Walk) (next : ℕ) (s t u : Seated) → Steps LoadHead (HeadIs h) s t →
     Walked h ps next t u → 0 < length (elements ps) → length (elements ps) ≤ s.known.view.credit →
     h.count < spent → MayCut u.known.view h next

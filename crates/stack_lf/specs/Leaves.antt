@@ -114,7 +114,7 @@ TriesPush xs r s t =
     (x : Try) × (look : Option Look) × (seen : ℕ) × IsPushTry xs r x
     × (t ≡ after s (notes x) (push_as xs r s.known.view look seen))
 
--- so many tries that all lost, and the seat afterwards
+-- this many tries that all lost, and the seat afterwards
 abbrev pub AllLost : (Try → Type 0) → ℕ → Seated → Seated → Type 0
 AllLost P k s t = (ts : List Try) × (length ts ≡ k) × All P ts × (t ≡ tried_to s ts s.known.view)
 
@@ -180,7 +180,7 @@ Gets tries n xs (Err cause) s t =
     (ts : List Try) × (look : Option Look) × (seen : ℕ) × IsGet tries n (Err cause) ts
     × (t ≡ tried_to s ts (seen_as s.known.view look seen))
 
--- the view of a put that was met: the elements have left the hand
+-- the view of a put that succeeded: the elements have left the hand
 abbrev pub put_as : List ℕ → View → Option Look → ℕ → View
 put_as xs v look seen = record (seen_as v look seen) { hand = minus v.hand (reverse xs) }
 

@@ -47,9 +47,9 @@ amounts_added ts = in_notes added_by (notes_of ts)
 abbrev pub pushes_won : List Try → ℕ
 pushes_won ts = length (in_notes pushed_by (notes_of ts))
 
--- What the steps of a get took and gave, by its answer. One that was met reserved once, cut its list off at once, and
--- gave nothing back. One that found too few reserved none. Any other that was refused cut nothing off, and gave back
--- what it reserved.
+-- What the steps of a get took and gave, by its answer. One that succeeded reserved once, cut its
+-- list off at once, and gave nothing back. One that found too few reserved none. Any other that
+-- was refused cut nothing off, and gave back what it reserved.
 abbrev pub TakesOnce : ℕ → Result (List ℕ) Refusal → List Try → Type 0
 TakesOnce n (Ok xs) ts =
     (lists_cut ts ≡ xs ∷ []) × (length xs ≡ n)
@@ -74,8 +74,8 @@ PutsPushOnce =
     (tries : ℕ) (xs : List ℕ) (answer : Result (Unit {0}) Refusal) (ts : List Try) →
     IsPut tries xs answer ts → GivesOnce xs answer ts
 
--- An exchange that lost found another value than the try had read: another length, or a later head, so that the stack was
--- changed after the look.
+-- An exchange that lost found another value than the try had read: another length, or a later
+-- head, so that the stack was changed after the look.
 abbrev pub LostToAnother : Try → Type 0
 LostToAnother (Missed n read found) = found ≢ read
 LostToAnother (Beaten read walk found) = read.count < found.count

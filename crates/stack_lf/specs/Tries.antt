@@ -37,7 +37,8 @@ pub data Try : Type 0 where
   Reserved : (n length : ℕ) → Try
   -- a head was read, and no more
   Stopped : (head : Head) → Try
-  -- a head was read, links were walked, and the walk ended early, or the exchange of the head lost, or won
+  -- a head was read, links were walked, and the walk ended early, or the exchange of the head
+  -- lost, or won
   Ended : (head : Head) (walk : Walk) → Try
   Beaten : (head : Head) (walk : Walk) (found : Head) → Try
   Cutoff : (head : Head) (walk : Walk) → Try
@@ -67,7 +68,8 @@ pub data Try : Type 0 where
 abbrev pub link_note : ℕ × ℕ → Note
 link_note p = (LoadLink p.0, Value p.1)
 
--- the steps that store the links of a list, its first element's to this value and each other's to the one before
+-- the steps that store the links of a list, its first element's to this value and each other's to
+-- the one before
 abbrev pub stores : ℕ → List ℕ → List Note
 stores v [] = []
 stores v (x ∷ xs) = (StoreLink x (element_of v), Done) ∷ stores (suc x) xs
@@ -162,8 +164,8 @@ IsWonPush xs x = (h : Head) × (h.count < spent) × (x ≡ Pushed h xs)
 abbrev pub IsSpent : Try → Type 0
 IsSpent x = (h : Head) × (h.count ≡ spent) × (x ≡ Stopped h)
 
--- The tries of a get of n elements, of at most so many lost ones in each loop, by its answer. What was reserved is
--- added again before each refusal that comes after it.
+-- The tries of a get of n elements, of at most this many lost ones in each loop, by its answer.
+-- What was reserved is added again before each refusal that comes after it.
 abbrev pub IsGet : ℕ → ℕ → Result (List ℕ) Refusal → List Try → Type 0
 IsGet tries n (Ok xs) ts =
     (misses cuts : List Try) × (v : ℕ) × (x : Try)
@@ -218,7 +220,8 @@ abbrev pub IsLower : ℕ → Answer → Try → Type 0
 IsLower i Last x = (x ≡ Freed i) ⊎ ((c : ℕ) × (1 < c) × (x ≡ Lasted i c))
 IsLower i Still x = (c before : ℕ) × (1 < c) × (1 < before) × (x ≡ Lowered i c before)
 
--- The one try of an offer, by its answer, which is noted with the packet that was left; none where there is no such desk.
+-- The one try of an offer, by its answer, which is noted with the packet that was left; none where
+-- there is no such desk.
 abbrev pub IsOffer : Limits → ℕ → List Seg → Result (Unit {0}) Refusal → List Try → Type 0
 IsOffer l d p (Ok _) ts = (d < l.desks) × (ts ≡ Offered d p ∷ [])
 IsOffer l d p (Err NoSuchDesk) ts = (l.desks ≤ d) × (ts ≡ [])
@@ -274,8 +277,8 @@ abbrev pub KnowsLowered : ℕ → Answer → Seated → Type 0
 KnowsLowered i Last s = KnowsCount s.known i 1
 KnowsLowered i Still s = (count : ℕ) × (1 < count) × KnowsCount s.known i count
 
--- What a call's answer tells its seat of the length and of a count that were read, and of what lies on a desk: what a seat
--- of every part knows of each.
+-- What a call's answer tells its seat of the length and of a count that were read, and of what lies
+-- on a desk: what a seat of every part knows of each.
 abbrev pub IsTold : Seated → Call → Type 0
 IsTold s (GetList n (Ok xs)) = KnowsEnough n s
 IsTold s (GetList n (Err NoEntries)) = KnowsShort n s
@@ -301,7 +304,8 @@ lying_after (Offer d packet (Ok _)) known = laid_on d (Some packet) known
 lying_after (Take d (Ok packet)) known = laid_on d None known
 lying_after _ known = known
 
--- what a call over words did: it took the steps of these tries, by this seat, and read what they read
+-- what a call over words did: it took the steps of these tries, by this seat, and read what they
+-- read
 pub record DidOnWords (s : Seated) (call : Call) (rs : List Reading) (t : Seated) : Type 0 where
   pub table : t.table ≡ s.table
   pub seat : t.id ≡ s.id

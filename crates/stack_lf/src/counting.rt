@@ -78,8 +78,8 @@ fn try_raise(ground: &Ground, seat: &mut GroundSeat, element: u32, limits: &Limi
     }
 }
 
-/// Makes one more hold of an element after a first try that was lost, by at most as many lost tries in all as the
-/// limits allow. It stands apart, so that what inlines a raise stays small.
+/// Makes one more hold of an element after a first try that was lost, by at most as many lost
+/// tries in all as the limits allow. It stands apart, so that what inlines a raise stays small.
 #[inline(never)]
 fn raise_apart(ground: &Ground, seat: &mut GroundSeat, element: u32) -> Result<(), Refusal>
     requires of { IsOf ground.now seat.old }
@@ -102,7 +102,8 @@ fn raise_apart(ground: &Ground, seat: &mut GroundSeat, element: u32) -> Result<(
     Err(Refusal::Contended)
 }
 
-/// The same, with a place of its own for the answer, which is filled where a first try was lost alone.
+/// Makes one more hold after a lost try, with a place of its own for the answer, which is filled
+/// only where a first try was lost.
 #[inline(always)]
 fn raise_again(ground: &Ground, seat: &mut GroundSeat, element: u32) -> Result<(), Refusal>
     requires of { IsOf ground.now seat.old }
@@ -142,7 +143,7 @@ fn raise_by_tries(
     }
 }
 
-/// The same, with what the seat's type keeps.
+/// Makes one more hold as `raise_by_tries` does, with what the seat's type keeps.
 #[inline(always)]
 pub(crate) fn raise(
     ground: &Ground,
@@ -165,8 +166,8 @@ pub(crate) fn raise(
     answer
 }
 
-/// Ends one hold of an element: where its count is 1, by the load that read it; else by lowering it, and where that
-/// read 1, by setting it to 1 again.
+/// Ends one hold of an element: where its count is 1, by the load that read it; else by lowering
+/// it, and where that read 1, by setting it to 1 again.
 #[inline(always)]
 fn lower_once(ground: &Ground, seat: &mut GroundSeat, element: u32) -> Lowered
     requires of { IsOf ground.now seat.old }
@@ -185,7 +186,7 @@ fn lower_once(ground: &Ground, seat: &mut GroundSeat, element: u32) -> Lowered
     Lowered::Still
 }
 
-/// The same, with what the seat's type keeps.
+/// Ends one hold as `lower_once` does, with what the seat's type keeps.
 #[inline(always)]
 pub(crate) fn lower(ground: &Ground, seat: &mut GroundSeat, element: u32) -> Lowered
     requires of { IsOf ground.now seat.old }

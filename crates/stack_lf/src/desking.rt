@@ -1,5 +1,5 @@
-//! An offer and a take: each a claim of the desk's word by one exchange, an exchange of what is in its slot, and a store
-//! that lets the desk go.
+//! An offer and a take: each a claim of the desk's word by one exchange, an exchange of what is in
+//! its slot, and a store that releases the desk.
 
 ghost use Rattle.std.specs.Prelude.{◌≡◌, ◌≤◌, ℕ, None, IfErr};
 ghost use Rattle.commons.specs.Bag.{bag};
@@ -14,8 +14,8 @@ use commons::refusal::Refusal;
 use ground::pool::Ground;
 use ground::seat::GroundSeat;
 
-/// Leaves a packet on a desk that is empty: holds the desk, puts the packet in, and makes the desk full. The packet comes
-/// back where there is no such desk, or it isn't empty.
+/// Leaves a packet on a desk that is empty: holds the desk, puts the packet in, and makes the desk
+/// full. The packet comes back where there is no such desk, or it isn't empty.
 fn fill(
     ground: &Ground,
     seat: &mut GroundSeat,
@@ -44,7 +44,7 @@ fn fill(
     }
 }
 
-/// The same, with what the seat's type keeps.
+/// Leaves a packet on a desk as `fill` does, with what the seat's type keeps.
 pub(crate) fn offer(
     ground: &Ground,
     seat: &mut GroundSeat,
@@ -64,7 +64,8 @@ pub(crate) fn offer(
     answer
 }
 
-/// Takes the packet off a desk that is full: seizes the desk, takes the packet out, and makes the desk empty.
+/// Takes the packet off a desk that is full: seizes the desk, takes the packet out, and makes the
+/// desk empty.
 fn empty(ground: &Ground, seat: &mut GroundSeat, desk: u32) -> Result<Packet, Refusal>
     requires of { IsOf ground.now seat.old }
     requires idle { seat.old.known.view.work ≡ None }
@@ -84,7 +85,7 @@ fn empty(ground: &Ground, seat: &mut GroundSeat, desk: u32) -> Result<Packet, Re
     }
 }
 
-/// The same, with what the seat's type keeps.
+/// Takes the packet off a desk as `empty` does, with what the seat's type keeps.
 pub(crate) fn take(ground: &Ground, seat: &mut GroundSeat, desk: u32) -> Result<Packet, Refusal>
     requires of { IsOf ground.now seat.old }
     requires idle { seat.old.known.view.work ≡ None }

@@ -35,8 +35,8 @@ fn try_reserve(ground: &Ground, seat: &mut GroundSeat, n: u64) -> Tried
     }
 }
 
-/// Takes `n` off the length after a first try that was lost, by at most as many lost tries in all as the limits allow. It
-/// stands apart, so that what inlines a get stays small.
+/// Takes `n` off the length after a first try that was lost, by at most as many lost tries in all
+/// as the limits allow. It stands apart, so that what inlines a get stays small.
 #[inline(never)]
 fn reserve_apart(ground: &Ground, seat: &mut GroundSeat, n: u64) -> Result<(), Refusal>
     requires of { IsOf ground.now seat.old }
@@ -59,7 +59,8 @@ fn reserve_apart(ground: &Ground, seat: &mut GroundSeat, n: u64) -> Result<(), R
     Err(Refusal::Contended)
 }
 
-/// The same, with a place of its own for the answer, which is filled where a first try was lost alone.
+/// Takes `n` off the length after a lost try, with a place of its own for the answer, which is
+/// filled only where a first try was lost.
 #[inline(always)]
 fn reserve_again(ground: &Ground, seat: &mut GroundSeat, n: u64) -> Result<(), Refusal>
     requires of { IsOf ground.now seat.old }
@@ -93,8 +94,9 @@ fn reserve(ground: &Ground, seat: &mut GroundSeat, n: u64) -> Result<(), Refusal
     }
 }
 
-/// Walks one link for each place of `out`, and lists the elements there. Answers what is next, or nothing where the
-/// list ends before, as it does for no seat of every part that has reserved as many.
+/// Walks one link for each place of `out`, and lists the elements there. Answers what is next, or
+/// nothing where the list ends before, as it does for no seat of every part that has reserved as
+/// many.
 #[inline(always)]
 fn walk(ground: &Ground, seat: &mut GroundSeat, head: Head, out: &mut [u32]) -> Option<u32>
     requires of { IsOf ground.now seat.old }
@@ -119,8 +121,8 @@ fn walk(ground: &Ground, seat: &mut GroundSeat, head: Head, out: &mut [u32]) -> 
     Some(next)
 }
 
-/// Loads the head, walks as many links as `out` has places, and swings the head past them, if it is still what was
-/// read.
+/// Loads the head, walks as many links as `out` has places, and swings the head past them, if it
+/// is still what was read.
 #[inline(always)]
 fn try_cut(ground: &Ground, seat: &mut GroundSeat, out: &mut [u32]) -> Tried
     requires of { IsOf ground.now seat.old }
@@ -144,8 +146,8 @@ fn try_cut(ground: &Ground, seat: &mut GroundSeat, out: &mut [u32]) -> Tried
     }
 }
 
-/// Takes as many elements as `out` has places after a first try that was lost, by at most as many lost tries in all as the
-/// limits allow. It stands apart, so that what inlines a get stays small.
+/// Takes as many elements as `out` has places after a first try that was lost, by at most as many
+/// lost tries in all as the limits allow. It stands apart, so that what inlines a get stays small.
 #[inline(never)]
 fn cut_apart(ground: &Ground, seat: &mut GroundSeat, out: &mut [u32]) -> Result<(), Refusal>
     requires of { IsOf ground.now seat.old }
@@ -168,7 +170,8 @@ fn cut_apart(ground: &Ground, seat: &mut GroundSeat, out: &mut [u32]) -> Result<
     Err(Refusal::Contended)
 }
 
-/// The same, with a place of its own for the answer, which is filled where a first try was lost alone.
+/// Takes elements after a lost try, with a place of its own for the answer, which is filled only
+/// where a first try was lost.
 #[inline(always)]
 fn cut_again(ground: &Ground, seat: &mut GroundSeat, out: &mut [u32]) -> Result<(), Refusal>
     requires of { IsOf ground.now seat.old }
@@ -184,8 +187,8 @@ fn cut_again(ground: &Ground, seat: &mut GroundSeat, out: &mut [u32]) -> Result<
     }
 }
 
-/// Takes as many elements as `out` has places from the top of the stack, by at most as many lost tries as the limits
-/// allow.
+/// Takes as many elements as `out` has places from the top of the stack, by at most as many lost
+/// tries as the limits allow.
 #[inline(always)]
 fn cut(ground: &Ground, seat: &mut GroundSeat, out: &mut [u32]) -> Result<(), Refusal>
     requires of { IsOf ground.now seat.old }
@@ -228,7 +231,7 @@ fn get_or_return(ground: &Ground, seat: &mut GroundSeat, out: &mut [u32]) -> Res
     }
 }
 
-/// The same, with what the seat's type keeps.
+/// Gets a list as `get_or_return` does, with what the seat's type keeps.
 #[inline(always)]
 pub(crate) fn get(ground: &Ground, seat: &mut GroundSeat, out: &mut [u32]) -> Result<(), Refusal>
     requires of { IsOf ground.now seat.old }

@@ -1,5 +1,5 @@
-//! The shared part of a pool over the words of its ground, as one worker sees it: by many threads at once, without a
-//! lock.
+//! The shared part of a pool over the words of its ground, as one worker sees it by its seat, its
+//! handle on them: by many threads at once, without a lock.
 #![tactic(auto)]
 
 mod counting;

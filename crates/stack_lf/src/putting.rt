@@ -15,8 +15,8 @@ use crossbeam_utils::Backoff;
 use ground::pool::Ground;
 use ground::seat::GroundSeat;
 
-/// Stores the links of a list: its first element's to `top`, and each other's to the one before. Answers the value that
-/// leads to the last.
+/// Stores the links of a list: its first element's to `top`, and each other's to the one before.
+/// Answers the value that leads to the last.
 fn store_links(ground: &Ground, seat: &mut GroundSeat, top: u32, list: &[u32]) -> u32
     requires of { IsOf ground.now seat.old }
     requires hand { (i : ℕ) → bag list.now i ≤ bag seat.old.known.view.hand i }
@@ -37,8 +37,8 @@ fn store_links(ground: &Ground, seat: &mut GroundSeat, top: u32, list: &[u32]) -
     next
 }
 
-/// Loads the head, links the list to its top, and swings the head to the last of the list, if it is still what was
-/// read.
+/// Loads the head, links the list to its top, and swings the head to the last of the list, if it
+/// is still what was read.
 fn try_push(ground: &Ground, seat: &mut GroundSeat, list: &[u32]) -> Tried
     requires of { IsOf ground.now seat.old }
     requires some { 1 ≤ length list.now }
@@ -59,8 +59,8 @@ fn try_push(ground: &Ground, seat: &mut GroundSeat, list: &[u32]) -> Tried
     }
 }
 
-/// Puts a list onto the stack after a first try that was lost, by at most as many lost tries in all as the limits allow.
-/// It stands apart, so that what inlines a put stays small.
+/// Puts a list onto the stack after a first try that was lost, by at most as many lost tries in
+/// all as the limits allow. It stands apart, so that what inlines a put stays small.
 #[inline(never)]
 fn push_apart(ground: &Ground, seat: &mut GroundSeat, list: &[u32]) -> Result<(), Refusal>
     requires of { IsOf ground.now seat.old }
@@ -83,7 +83,8 @@ fn push_apart(ground: &Ground, seat: &mut GroundSeat, list: &[u32]) -> Result<()
     Err(Refusal::Contended)
 }
 
-/// The same, with a place of its own for the answer, which is filled where a first try was lost alone.
+/// Puts a list onto the stack after a lost try, with a place of its own for the answer, which is
+/// filled only where a first try was lost.
 #[inline(always)]
 fn push_again(ground: &Ground, seat: &mut GroundSeat, list: &[u32]) -> Result<(), Refusal>
     requires of { IsOf ground.now seat.old }
@@ -137,7 +138,7 @@ fn push_and_add(ground: &Ground, seat: &mut GroundSeat, list: &[u32]) -> Result<
     }
 }
 
-/// The same, with what the seat's type keeps.
+/// Puts a list as `push_and_add` does, with what the seat's type keeps.
 #[inline(always)]
 pub(crate) fn put(ground: &Ground, seat: &mut GroundSeat, list: &[u32]) -> Result<(), Refusal>
     requires of { IsOf ground.now seat.old }

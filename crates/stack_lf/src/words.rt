@@ -14,15 +14,17 @@ use commons::shared::Commons;
 use ground::pool::Ground;
 use ground::seat::GroundSeat;
 
-/// What one worker shares with others on the words of a ground, by a seat of its own, which is at rest between the
-/// calls: nothing is reserved then, and nothing linked. Any number of workers call at once, each by its own. No call
-/// takes memory or a lock, nor waits for another worker: a try whose exchange of a word finds another value than was
-/// read is lost, and made again, at most as often as the pool's `tries`.
+/// What one worker shares with others on the words of a ground, by a seat of its own, which is at
+/// rest between the calls: nothing is reserved then, and nothing linked. Any number of workers
+/// call at once, each by its own. No call takes memory or a lock, nor waits for another worker: a
+/// try whose exchange of a word finds another value than was read is lost, as is one whose walk
+/// ends early; each loop makes as many tries as the pool's `tries` says at most.
 ///
-/// What each call does is told by `Did`, as of any `Commons`, over `DidOnWords`: the tries that it made, the steps that
-/// its seat took, each one operation on one word, and what they read.
+/// What each call does is said by `Did`, as of any `Commons`, over `DidOnWords`: the tries that it
+/// made, the steps that its seat took, each one operation on one word, and what they read.
 ///
-/// It can't be dropped: `into_seat` gives the seat back, and `lose` ends it for a worker that has died.
+/// It can't be dropped: `into_seat` gives the seat back, and `lose` ends it for a worker that has
+/// died.
 ///
 /// After rte_stack_lf.h (DPDK 21.11), with a count in the head that never wraps.
 pub struct WordCommons<'a> {
@@ -61,24 +63,26 @@ impl<'a> WordCommons<'a> {
     }
 }
 
-/// Each call takes as many steps at most as is said here, each one atomic operation on one word or slot. A seat of every
-/// part is never refused `Contended`.
+/// Each call takes as many steps at most as is said here, each one atomic operation on one word; an
+/// offer and a take that succeed also exchange what is in the desk's slot. The length of a list is
+/// `n`. A seat of every part is never refused `Contended`.
 impl<'a> Commons for WordCommons<'a> {
     ghost side = { λ c. side_of c.seat };
 
     ghost did = { λ s call rs t. DidOnWords s.seat call rs t.seat };
 
-    /// Takes `tries * (n + 4) + 1` steps at most. The elements are reserved first, so that the walk over them is of this
-    /// length; what was reserved is given back before any refusal. While another worker is within a call, its elements
-    /// may be in neither the length nor a hand, so `NoEntries` doesn't say that the pool has no more. To a seat of every
-    /// part it does: the common list was shorter than `n` then.
+    /// Takes `tries * (n + 4) + 1` steps at most. The elements are reserved first, so that the
+    /// walk over them is of this length; what was reserved is given back before any refusal. While
+    /// another worker is within a call, its elements may be in neither the length nor a hand, so
+    /// `NoEntries` doesn't say that the pool has no more. To a seat of every part it does: the
+    /// common list was shorter than `n` then.
     #[inline(always)]
     fn get_list(&mut self, out: &mut [u32]) -> Result<(), Refusal> {
         getting::get(self.ground, &mut self.seat, out)
     }
 
-    /// Takes `tries * (n + 2) + 1` steps at most. The last of the list is on top then, unless another worker has changed
-    /// the stack since; the length is raised after that.
+    /// Takes `tries * (n + 2) + 1` steps at most. The last of the list is on top then, unless
+    /// another worker has changed the stack since; the length is raised after that.
     #[inline(always)]
     fn put_list(&mut self, list: &[u32]) -> Result<(), Refusal> {
         putting::put(self.ground, &mut self.seat, list)
@@ -89,13 +93,14 @@ impl<'a> Commons for WordCommons<'a> {
         counting::claim(self.ground, &mut self.seat, element);
     }
 
-    /// Takes one step. A seat of every part is told how often it and the packets on full desks hold the element.
+    /// Takes one step. A seat of every part is told how often it and the packets on full desks
+    /// hold the element.
     fn count(&mut self, element: u32) -> u32 {
         counting::count(self.ground, &mut self.seat, element) as u32
     }
 
-    /// Takes `2 * tries` steps at most. Where a seat of every part is refused `RefSpent`, it and the packets on full desks
-    /// have as many holds of the element as the reference limit allows.
+    /// Takes `2 * tries` steps at most. Where a seat of every part is refused `RefSpent`, it and
+    /// the packets on full desks have as many holds of the element as the reference limit allows.
     fn raise(&mut self, element: u32) -> Result<(), Refusal> {
         let limits = self.ground.limits();
         counting::raise(self.ground, &mut self.seat, element, &limits)
@@ -106,20 +111,20 @@ impl<'a> Commons for WordCommons<'a> {
         counting::lower(self.ground, &mut self.seat, element)
     }
 
-    /// Takes two steps on the desk's word and an exchange of what is in its slot, or one step where the desk isn't empty,
-    /// and none where there is no such desk.
+    /// Takes two steps on the desk's word and an exchange of what is in its slot, or one step
+    /// where the desk isn't empty, and none where there is no such desk.
     fn offer(&mut self, desk: u32, packet: Packet) -> Result<(), (Refusal, Packet)> {
         desking::offer(self.ground, &mut self.seat, desk, packet)
     }
 
-    /// Takes two steps on the desk's word and an exchange of what is in its slot, or one step where the desk has no
-    /// packet, and none where there is no such desk.
+    /// Takes two steps on the desk's word and an exchange of what is in its slot, or one step
+    /// where the desk has no packet, and none where there is no such desk.
     fn take(&mut self, desk: u32) -> Result<Packet, Refusal> {
         desking::take(self.ground, &mut self.seat, desk)
     }
 
-    /// Takes one step. A seat of every part is told the length of the common list: all that is neither in its hand nor
-    /// held by it or by packets on full desks.
+    /// Takes one step. A seat of every part is told the length of the common list: all that is
+    /// neither in its hand nor held by it or by packets on full desks.
     fn common_count(&mut self) -> u32 {
         counting::length(self.ground, &mut self.seat) as u32
     }

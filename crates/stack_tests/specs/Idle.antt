@@ -1,4 +1,4 @@
--- What is so of a seat between the calls of its worker.
+-- What holds of a seat between the calls of its worker.
 use Rattle.std.specs.Prelude.{◌≡◌, []}
 use Rattle.ground.specs.Own.{AtRest}
 use Rattle.ground.specs.Seats.{Grounded, Seated, IsOf}

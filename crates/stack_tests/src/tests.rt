@@ -31,24 +31,24 @@ struct Row {
     turns: &'static [Turn],
 }
 
-/// What a worker does, and what is told of it.
+/// What a worker does, and what is reported of it.
 enum Turn {
     /// Gets these and puts them back, and the put is answered so.
     Back(&'static [u32], Result<(), Refusal>),
     /// Gets these.
     Get(&'static [u32]),
-    /// A get of so many is refused so.
+    /// A get of this many is refused so.
     Refused(usize, Refusal),
     /// The length of the common list is this.
     Count(u32),
 }
 
-/// Both are one; else it is told of what, with both.
+/// Asserts that both are equal, and else says of what, with both.
 fn same<R: Abort, T: PartialEq + Debug, W: Debug>(rt: &R, given: &T, wanted: &T, what: &W) {
     assert!(rt; *given == *wanted, "{what:?}: {given:?}, not {wanted:?}");
 }
 
-/// A list of so many elements is one that a worker can ask for.
+/// A list of this many elements is one that a worker can ask for.
 fn assert_fits<R: Abort, W: Debug>(rt: &R, n: usize, what: &W)
     ensures some { 0 < n }
     ensures most { n ≤ 32 }
@@ -87,7 +87,7 @@ fn follow_get<R: Abort>(rt: &R, c: &mut WordCommons, elements: &[u32], name: &st
     same(rt, &(answer, &places[..n]), &(Ok(()), elements), &name);
 }
 
-/// A get of so many is refused so.
+/// A get of this many is refused so.
 fn follow_refused<R: Abort>(rt: &R, c: &mut WordCommons, n: usize, refusal: Refusal, name: &str) {
     assert_fits(rt, n, &name);
     let mut places = [0; MOST];

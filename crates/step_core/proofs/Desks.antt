@@ -14,7 +14,8 @@ use Rattle.step_core.proofs.Bags.{times-nil, times-append, times-minus, at_or_el
 use Rattle.step_core.proofs.Frame.{sum_kept, each_view}
 use Rattle.step_core.proofs.StackSteps.{one_view, two_views, busy_view}
 
--- the world after a step on the desk d, which is x afterwards, by a worker whose holds, headers and work change
+-- the world after a step on the desk d, which is x afterwards, by a worker whose holds, headers
+-- and work change
 abbrev pub worked : World → ℕ → ℕ → Desk → List ℕ → List ℕ → Option Work → World
 worked w k d x hs rs work = record w {
   desks = set w.desks d x;

@@ -83,7 +83,8 @@ total_views f n (v ∷ vs) h =
     let sum = total_add n (λ i. bag (f v) i) (λ i. sum_by (λ v. bag (f v) i) vs) in
     omega (arith, sum_by-cons (λ v. length (f v)) v vs)
 
--- available and in use are all: the common list, the hands and the held elements make up the population
+-- available and in use are all: the common list, the hands and the held elements make up the
+-- population
 pub population_is : (w : World) (law : StackLaw w) →
     length law.common + sum_by (λ v. length v.hand) w.views + sum_by (λ v. length v.zeros) w.views
     + total w.limits.population (λ i. min 1 (all_holds i w.views w.desks)) ≡ w.limits.population
@@ -110,7 +111,8 @@ pub length_within : (w : World) (law : StackLaw w) → w.length + credits w.view
 length_within w law = let p = population_is w law in let q = law.credited in omega arith
 
 module _ (w : World) (k : ℕ) (law : StackLaw w) (here : k < length w.views) (busy : 0 < (view_at w.views k).part) where
-  -- while the count of a look stands, its front begins the common list, and its next spells the rest
+  -- while the count of a look stands, its front begins the common list, and its next spells the
+  -- rest
   pub look_splits : (l : Look) → (view_at w.views k).look ≡ Some l → l.head.count ≡ w.head.count →
       (zs : List ℕ) × (law.common ≡ l.front ++ zs) × Spells (link_in w.links) l.next zs
   look_splits l e same =

@@ -1,4 +1,5 @@
--- The laws as steps keep them: in four parts, of which a step opens those alone that read what it changes.
+-- The laws as steps keep them: in four parts, of which a step opens those alone that read what it
+-- changes.
 use Rattle.std.proofs.Common.{◌≡◌, ℕ, ◌+◌, ◌<◌, ◌≤◌, min, max, List, Some, None, length}
 use Rattle.std.specs.Prelude.{sum_by, IfSome, slice_index, ◌==◌}
 use Rattle.commons.specs.Bag.{bag}
@@ -72,7 +73,7 @@ pub record BoardLaw (w : World) : Type 0 where
   pub full : (d : ℕ) → (desk_at w.desks d).word ≡ 2 → (p : Packet) × ((desk_at w.desks d).slot ≡ Some p)
   pub views : (k : ℕ) → (view_at w.views k).part ≡ 0 → (view_at w.views k).work ≡ None
 
--- the slot of a desk in work is as its worker left it
+-- the slot of a busy desk is as its worker left it
 pub record SlotLaw (w : World) : Type 0 where
   pub slots : (k : ℕ) → IfSome (view_at w.views k).work (λ x. (desk_at w.desks x.desk).slot ≡ left_in x.phase)
 

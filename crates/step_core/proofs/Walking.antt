@@ -85,7 +85,7 @@ stops_refused w steps i d os u is l r e = record {
   cause = e;
 }
 
--- nothing was played, for want of memory
+-- nothing was played, for lack of memory
 pub stops_first : (w : World) (steps : Schedule) → IsWorld w → Stopped w steps OutOfMemory w
 stops_first w steps is = record {
   front = [];

@@ -1,4 +1,5 @@
--- Schedules worked out by computation: a stale exchange, a lagging length, a stopped worker, a hand-over.
+-- Schedules worked out by computation: a stale exchange, a lagging length, a stopped worker, a
+-- hand-over.
 use Rattle.std.proofs.Common.{◌≡◌, ℕ, [], ◌∷◌, List, Option, Some, None, map, refl, true, false}
 use Rattle.commons.specs.Bag.{bag}
 use Rattle.commons.specs.declared.limits.PutRule.TheVariants.{Keep}
@@ -61,7 +62,8 @@ stale_world : ((world_after (opening (limits 3 2 0)) stale).head ≡ head_of 1 2
 unfolding world_after limits head_of stale bag without minus
 stale_world = (refl, refl, refl, refl, refl)
 
--- worker 0, a worker past the last, an element past the population, and a reservation of nothing are refused
+-- worker 0, a worker past the last, an element past the population, and a reservation of nothing
+-- are refused
 refused : Schedule
 refused =
     (0, LoadLength) ∷ (3, LoadLength) ∷ (1, LoadLink 3) ∷ (1, StoreLink 0 (Some 3))

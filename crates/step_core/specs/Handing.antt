@@ -16,8 +16,8 @@ abbrev pub put_last : ℕ → Schedule → Option Packet → Option Packet
 put_last d [] p = p
 put_last d (x ∷ rest) p = put_last d rest (put_by d x.1 p)
 
--- Over every schedule, a TakeOut gives the packet that the last PutIn brought to its desk, by
--- whichever worker; where the schedule has none, the one that was in the desk's slot before.
+-- Over every schedule, a TakeOut gives the packet that the last PutIn brought to its desk, by any
+-- worker; where the schedule has none, the one that was in the desk's slot before.
 abbrev pub GivesWhatWasPutIn : Type 0
 GivesWhatWasPutIn =
     (w : World) (schedule : Schedule) (os : List Outcome) (u : World) (taker d : ℕ) (q : Packet)

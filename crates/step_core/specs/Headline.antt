@@ -30,7 +30,8 @@ AllAreThere = (w : World) (common : List ℕ) → Lawful w → Spells (link_in w
 abbrev pub LengthIsBounded : Type 0
 LengthIsBounded = (w : World) → Lawful w → w.length + credits w.views ≤ w.limits.population
 
--- While the count of a look is the head's, the common list is the look's front followed by the list from its next.
+-- While the count of a look is the head's, the common list is the look's front followed by the
+-- list from its next.
 abbrev pub FrontThenRest : Type 0
 FrontThenRest =
     (w : World) (worker : ℕ) (l : Look) (common : List ℕ) → Lawful w →
@@ -75,8 +76,8 @@ events_along w [] = []
 events_along w (p ∷ rest) =
     option_to_list (event_of w p.0 p.1) ++ events_along (after_of w (played w p.0 p.1)) rest
 
--- the events of every schedule that is played from a world of a pool are a run of the table, to one that the last world
--- shows
+-- the events of every schedule that is played from a world of a pool are a run of the table, to
+-- one that the last world shows
 abbrev pub SchedulesAreRuns : Type 0
 SchedulesAreRuns =
     (w : World) (schedule : Schedule) (os : List Outcome) (u : World) → IsWorld w →
@@ -137,8 +138,8 @@ HeldIsLeft =
     (n : ℕ) (t u : Table) (events : List Event) (i : ℕ) → i < n → RunHeld n i t events u →
     Never (Gets i) events × Never (Puts i) events
 
--- While an element isn't common, and until a put lists it, no get lists it: so from its get on, and as long as
--- anybody holds it.
+-- While an element isn't common, and until a put lists it, no get lists it: so from its get on, and
+-- as long as anybody holds it.
 abbrev pub NotGivenAgain : Type 0
 NotGivenAgain =
     (n : ℕ) (t u : Table) (events : List Event) (i : ℕ) → Run n t events u → i < n → t i ≢ Common →

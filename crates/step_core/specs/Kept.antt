@@ -21,8 +21,8 @@ world_of w = record {
   views = w.views.items;
 }
 
--- A lawful world of a pool: the limits are a pool's, there is a view for each worker, each with part 1, and a desk for
--- each desk, and the head's count is at most the spent count.
+-- A lawful world of a pool: the limits are a pool's, there is a view for each worker, each with
+-- part 1, and a desk for each desk, and the head's count is at most the spent count.
 pub record IsWorld (w : World) : Type 0 where
   pub pool : IsPool w.limits
   pub views : length w.views ≡ w.limits.workers
@@ -44,8 +44,8 @@ Grows (Reset i) Done = ⊤
 Grows (Seize d) Won = ⊤
 Grows step outcome = ⊥
 
--- A step that is played has its outcome and change, or finds no memory for a list that it would make longer; one that
--- isn't is refused. A refusal leaves the world as it was.
+-- A step that is played has its outcome and change, or finds no memory for a list that it would
+-- make longer; one that isn't is refused. A refusal leaves the world as it was.
 abbrev pub Answers : Step → Option Play → World → Result Outcome Refusal → World → Type 0
 Answers kind step before (Ok outcome) after =
     MatchOption step ⊥ (λ p. (outcome ≡ p.outcome) × (after ≡ p.after))
@@ -58,8 +58,8 @@ Answers kind step before (Err _) after = ⊥
 abbrev pub Turns : World → ℕ → Step → Result Outcome Refusal → World → Type 0
 Turns before index step answer after = Answers step (turn before index step) before answer after
 
--- The same by `play`: a step that is played answers and leaves what it says, or finds no memory for a list that it
--- makes longer; exactly a step that isn't played is refused so.
+-- The same by `play`: a step that is played answers and leaves what it says, or finds no memory
+-- for a list that it makes longer; exactly a step that isn't played is refused so.
 abbrev pub AnswersTo : Step → Option (Outcome × World) → World → Result Outcome Refusal → World → Type 0
 AnswersTo kind step before (Ok outcome) after = step ≡ Some (outcome, after)
 AnswersTo kind step before (Err StepRefused) after = (step ≡ None) × (after ≡ before)

@@ -5,8 +5,8 @@ use Rattle.step_core.specs.Bags.{one_if, below, Includes}
 use Rattle.step_core.specs.Links.{Path, Spells, first_value}
 use Rattle.step_core.specs.World.{Head, Look, Chain, Phase, ToFill, Filled, Seized, TakenOut, Work, View, World, view_at, link_in, hands, all_zeros, all_holds, credits, parts, Packet, desk_at}
 
--- The common list is spelled from the head's top, and each element below the population stands in exactly one place:
--- once in the common list, once in one hand, or among the holds.
+-- The common list is spelled from the head's top, and each element below the population stands in
+-- exactly one place: once in the common list, once in one hand, or among the holds.
 pub record PlaceLaw (w : World) (common : List ℕ) : Type 0 where
   pub spelled : Spells (link_in w.links) w.head.top common
   pub one_place : (i : ℕ) →
@@ -22,7 +22,8 @@ pub record CountLaw (w : World) : Type 0 where
 pub record LengthLaw (w : World) (common : List ℕ) : Type 0 where
   pub credited : w.length + credits w.views ≡ length common
 
--- What a worker of this part saw of the head: never more than there is, and while the count stands, the walk stands too.
+-- What a worker of this part saw of the head: never more than there is, and while the count
+-- stands, the walk stands too.
 pub record LookRule (workers : ℕ) (head : Head) (link : ℕ → ℕ) (part seen : ℕ) (look : Look) : Type
     0 where
   pub not_ahead : look.head.count ≤ head.count
@@ -52,7 +53,7 @@ is_filling (Filled p) = true
 is_filling (Seized p) = false
 is_filling TakenOut = false
 
--- what the slot of a desk in work has
+-- what the slot of a busy desk has
 abbrev pub left_in : Phase → Option Packet
 left_in ToFill = None
 left_in (Filled p) = Some p
@@ -68,8 +69,9 @@ abbrev pub empties : ℕ → Option Work → ℕ
 empties d None = 0
 empties d (Some x) = one_if ((x.desk == d) && not (is_filling x.phase))
 
--- A desk's word is 0 to 3. With 1 it is in one view's work to be filled, with 3 in one view's work to be emptied, else
--- in nobody's. Its slot is empty with 0, has a packet with 2, and else is as the view's work says.
+-- A desk's word is 0 to 3. With 1 one view works at it, to fill it; with 3 one view works at it,
+-- to empty it; else none does. Its slot is empty with 0, has a packet with 2, and else is as that
+-- view's work says.
 pub record DeskLaw (w : World) : Type 0 where
   pub words : (d : ℕ) → (desk_at w.desks d).word ≤ 3
   pub filled : (d : ℕ) → sum_by (λ v. fills d v.work) w.views ≡ one_if ((desk_at w.desks d).word == 1)
@@ -93,8 +95,8 @@ pub record PartLaw (w : World) : Type 0 where
   pub parts : parts w.views ≡ w.limits.workers
   pub idle : (k : ℕ) → (view_at w.views k).part ≡ 0 → NamesNothing (view_at w.views k)
 
--- Links and counts are one for each element. Link values, tops and ends are at most the population; counts are at
--- most the reference limit, which is at least 1.
+-- Links and counts are one for each element. Link values, tops and ends are at most the
+-- population; counts are at most the reference limit, which is at least 1.
 pub record RangeLaw (w : World) : Type 0 where
   pub links : length w.links ≡ w.limits.population
   pub links_in_range : (i : ℕ) → link_in w.links i ≤ w.limits.population

@@ -1,4 +1,4 @@
--- Schedules that are played, and what is so of every world that they pass.
+-- Schedules that are played, and what holds in every world that they pass.
 use Rattle.std.specs.Prelude.{◌≡◌, ◌⊎◌, List, [], ◌∷◌, ◌++◌, Some, None, MatchOption}
 use Rattle.commons.specs.declared.refusal.Refusal.{Refusal}
 use Rattle.commons.specs.declared.refusal.Refusal.TheVariants.{OutOfMemory, StepRefused}
@@ -17,8 +17,8 @@ Reaches w (p ∷ rest) (o ∷ os) u = (v : World) × (play w p.0 p.1 ≡ Some (o
 Reaches w [] (o ∷ os) u = ⊥
 Reaches w (p ∷ rest) [] u = ⊥
 
--- The same, and each world on the way is lawful and shows a table, from this one on: the next table follows by the
--- step's one event, by the worker that steps, or is the same.
+-- The same, and each world on the way is lawful and shows a table, from this one on: the next
+-- table follows by the step's one event, by the worker that steps, or is the same.
 abbrev pub Walks : World → Table → Schedule → List Outcome → World → Type 0
 Walks w t [] [] u = Lawful w × Shows w t × (u ≡ w)
 Walks w t (p ∷ rest) (o ∷ os) u =
@@ -48,8 +48,8 @@ GrowsFirst u [] = ⊥
 GrowsFirst u (p ∷ rest) = MatchOption (play u p.0 p.1) ⊥ (λ q. Grows p.1 q.0)
 
 -- Why a run stops at u, between the steps that it played and the rest: the condition of the rest's
--- first fails there. Or no memory was had: for the outcomes, before the first step, or for a list
--- that the rest's first makes longer.
+-- first fails there. Or there was no memory: for the outcomes, before the first step, or for a
+-- list that the rest's first makes longer.
 abbrev pub StopsAt : World → Schedule → Schedule → Refusal → Type 0
 StopsAt u front rest StepRefused = FailsFirst u rest
 StopsAt u front rest OutOfMemory = (front ≡ []) ⊎ GrowsFirst u rest

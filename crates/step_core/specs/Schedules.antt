@@ -22,7 +22,8 @@ KeepsLaw =
     (w : World) (worker : ℕ) (s : Step) (o : Outcome) (u : World) → Lawful w →
     0 < (view_of w.views worker).part → play w worker s ≡ Some (o, u) → Lawful u
 
--- a step by a worker with a part is its event or none, whichever tables the worlds before and after it are read as
+-- a step by a worker with a part is its event or none, whichever tables the worlds before and
+-- after it are read as
 abbrev pub MakesItsEvent : Type 0
 MakesItsEvent =
     (w : World) (worker : ℕ) (s : Step) (o : Outcome) (u : World) → Lawful w →
@@ -46,8 +47,8 @@ slot_at desks (TakeOut d) = (desk_at desks d).slot
 slot_at desks (Clear d) = (desk_at desks d).slot
 slot_at desks step = None
 
--- a step makes of its worker's view what `view_after` tells, by the slot as it was before, and leaves every other
--- worker's view
+-- a step makes of its worker's view what `view_after` tells, by the slot as it was before, and
+-- leaves every other worker's view
 abbrev pub MakesItsView : Type 0
 MakesItsView =
     (w : World) (worker : ℕ) (s : Step) (o : Outcome) (u : World) → play w worker s ≡ Some (o, u)

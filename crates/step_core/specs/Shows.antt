@@ -5,7 +5,8 @@ use Rattle.step_core.specs.Table.{Place, Common, Hand, Held, Table, Event, worke
 use Rattle.step_core.specs.World.{World, view_of, desk_at, link_in, shelf}
 use Rattle.step_core.specs.Links.{Spells}
 
--- how often one element is in the common list, in each worker's hand, in each worker's holds and on each full desk
+-- how often one element is in the common list, in each worker's hand, in each worker's holds and
+-- on each full desk
 pub record Standing : Type 0 where
   pub common : ℕ
   pub hand : ℕ → ℕ

@@ -1,6 +1,7 @@
--- What a step makes of the view of the worker that takes it: the parts, which the rows of the steps cite, and one
--- function of them all, `view_after`, which whoever plays the same steps on words of its own may cite. That the rows make
--- just what it tells is a law (`MakesItsView`, Schedules.antt).
+-- What a step makes of the view of the worker that takes it: the parts, which the rows of the
+-- steps cite, and one function of them all, `view_after`, which whoever plays the same steps on
+-- words of its own may cite. That the rows make just what it tells is a law (`MakesItsView`,
+-- Schedules.antt).
 use Rattle.std.specs.Prelude.{◌≡◌, ℕ, suc, ◌+◌, ◌-◌, ◌<◌, ◌≤◌, Bool, true, false, List, [], ◌∷◌, ◌++◌, Option, Some, None, IfSome, length, nat_lt, nat_le, ◌==◌, ◌&&◌, if◌then◌else◌}
 use Rattle.commons.specs.Bag.{bag}
 use Rattle.commons.specs.Calls.{spent}
@@ -65,7 +66,8 @@ cut_view v l = record v {
 abbrev pub lost_look : View → ℕ → View
 lost_look v count = record v { look = None; seen = count }
 
--- the chain after the link of i was set to j: its end moves, or it grows at its front, or a new one begins
+-- the chain after the link of i was set to j: its end moves, or it grows at its front, or a new
+-- one begins
 abbrev pub chain_after : Option Chain → ℕ → ℕ → Chain
 chain_after None i j = record { items = i ∷ []; end = j }
 chain_after (Some c) i j =
@@ -105,7 +107,7 @@ push_view v c count = record v {
 abbrev pub lost_push : View → ℕ → View
 lost_push v count = record v { look = None; seen = count; chain = None }
 
--- the link value of an element, or of none, where that is of a pool of so many
+-- the link value of an element, or of none, where that is of a pool of this many elements
 abbrev pub LinkOf : ℕ → Option ℕ → Option ℕ → Type 0
 LinkOf population next None = population < link_value next
 LinkOf population next (Some link) = (link ≡ link_value next) × (link ≤ population)
@@ -138,7 +140,8 @@ freed v i = record v {
 abbrev pub raised : View → ℕ → View
 raised v i = record v { holds = v.holds ++ i ∷ [] }
 
--- the view once a hold of an element has ended, which is in the hand with count 0 where it was the last
+-- the view once a hold of an element has ended, which is in the hand with count 0 where it was the
+-- last
 abbrev pub hold_ended : View → ℕ → Bool → View
 hold_ended v i last = record v {
   holds = without i v.holds;
@@ -155,7 +158,7 @@ was_reset v i = record v { hand = v.hand ++ i ∷ []; zeros = without i v.zeros 
 abbrev pub at_desk : ℕ → Phase → Option Work
 at_desk d phase = Some (record { desk = d; phase = phase })
 
--- how far the worker is with desk d, if that is its work
+-- how far the worker is with desk d, if it works at that
 abbrev pub phase_at : ℕ → Option Work → Option Phase
 phase_at d None = None
 phase_at d (Some x) = if x.desk == d then Some x.phase else None
@@ -164,7 +167,7 @@ phase_at d (Some x) = if x.desk == d then Some x.phase else None
 abbrev pub working : View → Option Work → View
 working v work = record v { work = work }
 
--- the headers once the packet is given away: without its own elements, and what is held no more
+-- the headers once the packet is given away: without its own elements, and what is no longer held
 abbrev pub headers_left : View → Packet → List ℕ
 headers_left v p =
     still_held (minus v.headers (own_of_packet p)) (minus v.holds (holds_of_packet p))
@@ -205,7 +208,8 @@ abbrev pub seized_from : ℕ → View → Option Packet → View
 seized_from d v None = v
 seized_from d v (Some p) = working (seized v p) (at_desk d (Seized p))
 
--- What a step with this outcome makes of the view of its worker; the slot is that of the step's desk before it.
+-- What a step with this outcome makes of the view of its worker; the slot is that of the step's
+-- desk before it.
 abbrev pub view_after : Option Packet → Step → Outcome → View → View
 view_after slot (Reserve old n) Won v = reserved v n
 view_after slot (Add n) Done v = given_back v n

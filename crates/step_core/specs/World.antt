@@ -63,7 +63,8 @@ link_in links i = slice_index links i
 abbrev pub shelf : Desk → List ℕ
 shelf d = if d.word == desk_full then holds_in_slot d.slot else []
 
--- how often i is in all hands, among all elements whose count is 0 for the moment, and among all holds
+-- how often i is in all hands, among all elements whose count is 0 for the moment, and among all
+-- holds
 abbrev pub hands : ℕ → List View → ℕ
 hands i views = sum_by (λ v. bag v.hand i) views
 

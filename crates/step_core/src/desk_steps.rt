@@ -33,7 +33,7 @@ pub fn hold(words: &mut Words, index: usize, desk: u32) -> Result<Outcome, Refus
     Ok(Outcome::Won)
 }
 
-/// Puts a packet into the slot of the desk in work.
+/// Puts a packet into the slot of the busy desk.
 pub fn put_in(
     words: &mut Words,
     index: usize,
@@ -64,7 +64,7 @@ pub fn put_in(
     Ok(Outcome::Done)
 }
 
-/// Makes the desk in work empty.
+/// Makes the busy desk empty.
 pub fn clear(words: &mut Words, index: usize, desk: u32) -> Result<Outcome, Refusal>
     requires world { IsWorld (world_of words.old) }
     requires index { index < vec_len words.old.views }
@@ -87,7 +87,7 @@ pub fn clear(words: &mut Words, index: usize, desk: u32) -> Result<Outcome, Refu
     Ok(Outcome::Done)
 }
 
-/// Makes the desk in work full, with what is in its slot.
+/// Makes the busy desk full, with what is in its slot.
 pub fn open(words: &mut Words, index: usize, desk: u32) -> Result<Outcome, Refusal>
     requires world { IsWorld (world_of words.old) }
     requires index { index < vec_len words.old.views }
@@ -145,7 +145,7 @@ pub fn seize(words: &mut Words, index: usize, desk: u32) -> Result<Outcome, Refu
     Ok(Outcome::Won)
 }
 
-/// Takes the packet out of the slot of the desk in work.
+/// Takes the packet out of the slot of the busy desk.
 pub fn take_out(words: &mut Words, index: usize, desk: u32) -> Result<Outcome, Refusal>
     requires world { IsWorld (world_of words.old) }
     requires index { index < vec_len words.old.views }

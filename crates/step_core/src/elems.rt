@@ -82,7 +82,7 @@ impl Elems {
         self.items.is_empty()
     }
 
-    /// Puts an element behind the last, or changes nothing.
+    /// Puts an element after the last, or changes nothing.
     pub fn push(&mut self, element: u32) -> Result<(), AllocError>
         ensures ok { OnOk result (self.new ≡ self.old ++ element ∷ []) }
         ensures err { OnErr result (self.new ≡ self.old) }
@@ -104,7 +104,7 @@ impl Elems {
         }
     }
 
-    /// Puts these behind the last, or changes nothing.
+    /// Puts these after the last, or changes nothing.
     pub fn extend(&mut self, elements: &[u32]) -> Result<(), AllocError>
         ensures ok { OnOk result (self.new ≡ self.old ++ elements.now) }
         ensures err { OnErr result (self.new ≡ self.old) }
@@ -147,7 +147,7 @@ impl Elems {
         times
     }
 
-    /// Drops all elements but so many at the front.
+    /// Drops all elements but this many at the front.
     pub fn truncate(&mut self, count: usize)
         ensures { self.new ≡ take count self.old }
     {
@@ -161,7 +161,7 @@ impl Elems {
         keep(&mut self.items, holds);
     }
 
-    /// Puts the own elements of a packet behind the last, or changes nothing.
+    /// Puts the own elements of a packet after the last, or changes nothing.
     pub fn extend_by_own(&mut self, packet: &Packet) -> Result<(), AllocError>
         ensures ok { OnOk result (self.new ≡ self.old ++ own_of_packet packet.now) }
         ensures err { OnErr result (self.new ≡ self.old) }
@@ -187,7 +187,7 @@ impl Elems {
         }
     }
 
-    /// Puts the holds of a packet behind the last, or changes nothing.
+    /// Puts the holds of a packet after the last, or changes nothing.
     pub fn extend_by_packet(&mut self, packet: &Packet) -> Result<(), AllocError>
         ensures ok { OnOk result (self.new ≡ self.old ++ holds_of_packet packet.now) }
         ensures err { OnErr result (self.new ≡ self.old) }
@@ -203,7 +203,7 @@ impl Elems {
         Ok(())
     }
 
-    /// Puts the holds of a segment behind the last; without memory some of them.
+    /// Puts the holds of a segment after the last; without memory some of them.
     fn push_seg(&mut self, seg: Seg) -> Result<(), AllocError>
         ensures ok { OnOk result (self.new ≡ self.old ++ holds_of_seg seg) }
         ensures err { OnErr result (HasFront self.new self.old) }

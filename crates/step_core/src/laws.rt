@@ -37,9 +37,9 @@ pub fn a_lawful_world_shows_a_table()
     ensures { LawfulShows }
 {}
 
-/// Every schedule that is played from a world of a pool, by whichever workers and however long: at each step the world
-/// is lawful and shows a table, and the next table follows by the step's one event, by the worker that steps, or is the
-/// same.
+/// Every schedule that is played from a world of a pool, by any workers and however long: at each
+/// step the world is lawful and shows a table, and the next table follows by the step's one event,
+/// by the worker that steps, or is the same.
 pub fn every_schedule_walks()
     ensures { EveryScheduleWalks }
 {}
@@ -49,7 +49,8 @@ pub fn schedules_are_runs()
     ensures { SchedulesAreRuns }
 {}
 
-/// While an element isn't common, no get lists it, until a put does: from its get on, and as long as it is held.
+/// While an element isn't common, no get lists it, until a put does: from its get on, and as long
+/// as it is held.
 pub fn nothing_is_given_again()
     ensures { NotGivenAgain }
 {}
@@ -65,15 +66,16 @@ pub fn a_cut_gets_all()
     ensures { CutGetsAll }
 {}
 
-/// The common list, the hands and the held elements together are the population; the length word with all credits is
-/// never more.
+/// The common list, the hands and the held elements together are the population; the length word
+/// with all credits is never more.
 pub fn all_elements_are_there()
     ensures all { AllAreThere }
     ensures length { LengthIsBounded }
 {}
 
-/// What a worker knows of the words: while its look's count stands, the common list begins with the look's front; an
-/// exchange that lost found a greater count; a chain's elements are distinct ones of the hand, with count 1.
+/// What a worker knows of the words: while its look's count stands, the common list begins with
+/// the look's front; an exchange that lost found a greater count; a chain's elements are distinct
+/// ones of the hand, with count 1.
 pub fn a_view_knows()
     ensures front { FrontThenRest }
     ensures lost { LostIsLater }
@@ -90,8 +92,8 @@ pub fn headers_are_kept()
     ensures schedules { SchedulesKeepHeaders }
 {}
 
-/// Over every schedule, by whichever workers and however long, a `TakeOut` gives the packet that
-/// the last `PutIn` brought to its desk; where there was none, the one that was in the slot before.
+/// Over every schedule, by any workers and however long, a `TakeOut` gives the packet that the
+/// last `PutIn` brought to its desk; where there was none, the one that was in the slot before.
 pub fn a_desk_gives_what_was_put_in()
     ensures { GivesWhatWasPutIn }
 {}

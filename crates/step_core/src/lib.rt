@@ -1,5 +1,5 @@
-//! The lock-free stack, its counts and its desks as a pure machine: one step on one word at a time, by whichever
-//! worker, in any order.
+//! The lock-free stack, its counts and its desks as a pure machine: one step on one word at a
+//! time, by any worker, in any order.
 #![tactic(auto)]
 
 mod counting;

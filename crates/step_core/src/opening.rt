@@ -48,7 +48,7 @@ fn links_up(alloc: Global, count: u32) -> Result<Vec<u32>, AllocError>
     Ok(links)
 }
 
-/// So many counts of 1.
+/// This many counts of 1.
 fn ones(alloc: Global, count: usize) -> Result<Vec<u32>, AllocError>
     ensures { IfOk result (λ v. v.items ≡ replicate count 1) }
 {
@@ -59,7 +59,7 @@ fn ones(alloc: Global, count: usize) -> Result<Vec<u32>, AllocError>
     Ok(counts)
 }
 
-/// So many empty desks.
+/// This many empty desks.
 fn empty_desks(alloc: Global, count: usize) -> Result<Vec<Desk>, AllocError>
     ensures { IfOk result (λ v. v.items ≡ replicate count no_desk) }
 {
@@ -91,7 +91,7 @@ fn empty_view(alloc: Global) -> View
     }
 }
 
-/// So many of them.
+/// This many of them.
 fn empty_views(alloc: Global, count: usize) -> Result<Vec<View>, AllocError>
     ensures { IfOk result (λ v. v.items ≡ replicate count (empty_view 1)) }
 {

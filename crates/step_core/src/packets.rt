@@ -8,7 +8,7 @@ ghost use Rattle.step_core.specs.Bags.{all_below, includes_from, includes};
 use crate::elems::Elems;
 use commons::packet::{Packet, Seg};
 
-/// The same packet once more.
+/// A copy of a packet.
 pub fn copy_of(packet: &Packet) -> Packet
     ensures { result ≡ packet.now }
 {
@@ -20,7 +20,7 @@ pub fn copy_of(packet: &Packet) -> Packet
     copy
 }
 
-/// Whether the segment's element and base are of a pool of so many.
+/// Whether the segment's element and base are of a pool of this many elements.
 fn seg_below(seg: Seg, population: u64) -> bool
     ensures { result ≡ all_below population (holds_of_seg seg) }
 {
@@ -30,7 +30,7 @@ fn seg_below(seg: Seg, population: u64) -> bool
     }
 }
 
-/// Whether all elements and bases of a packet are of a pool of so many.
+/// Whether all elements and bases of a packet are of a pool of this many elements.
 pub fn is_below(packet: &Packet, population: u64) -> bool
     ensures { result ≡ all_below population (holds_of_packet packet.now) }
 {

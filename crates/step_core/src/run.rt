@@ -12,9 +12,9 @@ use std::alloc::Global;
 /// Plays the steps in order, each by the worker of this number, up to the first that is refused,
 /// and answers their outcomes.
 ///
-/// Refused `StepRefused` where a step's condition fails, and `OutOfMemory` where there is no memory
-/// for the outcomes, before the first step, or for a list that a step would make longer. The world
-/// is then as the steps before it left it, and no step behind it was played.
+/// Refused `StepRefused` where a step's condition fails, and `OutOfMemory` where there is no
+/// memory for the outcomes, before the first step, or for a list that a step would make longer.
+/// The world is then as the steps before it left it, and no step after it was played.
 pub fn run(alloc: Global, world: &mut World, steps: &[(u32, Step)]) -> Result<Vec<Outcome>, Refusal>
     ensures whole { IfOk result (λ outcomes. WalksFrom world.old steps.now outcomes.items world.new) }
     ensures stopped { IfErr result (λ refusal. Stopped world.old steps.now refusal world.new) }

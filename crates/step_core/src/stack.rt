@@ -115,7 +115,7 @@ pub fn cut(words: &mut Words, index: usize) -> Result<Outcome, Refusal>
     }
 }
 
-/// The link value of an element, or of none, if it is of a pool of so many.
+/// The link value of an element, or of none, if it is of a pool of this many elements.
 fn link_value(population: u64, next: Option<u64>) -> Option<u32>
     requires { population ≤ max_population }
     ensures { LinkOf population next result }

@@ -35,15 +35,15 @@ pub enum Step {
     Reset { element: u64 },
     /// Begins to fill a desk, if it is empty.
     Hold { desk: u32 },
-    /// Puts a packet into the slot of the desk in work.
+    /// Puts a packet into the slot of the busy desk.
     PutIn { desk: u32, packet: Packet },
-    /// Makes the desk in work full.
+    /// Makes the busy desk full.
     Open { desk: u32 },
     /// Begins to empty a desk, if it is full.
     Seize { desk: u32 },
-    /// Takes the packet out of the slot of the desk in work.
+    /// Takes the packet out of the slot of the busy desk.
     TakeOut { desk: u32 },
-    /// Makes the desk in work empty.
+    /// Makes the busy desk empty.
     Clear { desk: u32 },
 }
 

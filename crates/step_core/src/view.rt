@@ -1,4 +1,4 @@
-//! What the words are, and what each worker has seen.
+//! What the words are, and each worker's view: what it has and knows of them.
 
 ghost use Rattle.std.specs.Prelude.{◌≡◌, ◌==◌, ◌+◌, ◌^◌, suc, Some, None, ◌<◌, ◌≤◌, true, All, IfOk, IfErr, IfSome, OnOk, OnErr, MatchOption, length};
 ghost use Rattle.commons.specs.Calls.{spent};
@@ -12,15 +12,16 @@ use commons::limits::SPENT;
 use commons::packet::Packet;
 use std::alloc::{AllocError, Global};
 
-/// The head of the common stack: its top as a link value, 0 for none and else the element + 1, and the number of
-/// changes so far.
+/// The head of the common stack: its top as a link value, 0 for none and else the element + 1, and
+/// the number of changes so far.
 #[derive(Clone, Copy, Debug, PartialEq, Eq)]
 pub struct Head {
     pub top: u32,
     pub count: u64,
 }
 
-/// What a worker saw of the common list: the head, the elements walked from its top, and the link value behind them.
+/// What a worker saw of the common list: the head, the elements walked from its top, and the link
+/// value after them.
 #[derive(Debug, Drop)]
 pub struct Look {
     pub head: Head,
@@ -28,7 +29,8 @@ pub struct Look {
     pub next: u32,
 }
 
-/// Elements of a worker's hand whose links lead each to the next, and the last to the end, a link value.
+/// Elements of a worker's hand whose links lead each to the next, and the last to the end, a link
+/// value.
 #[derive(Debug, Drop)]
 pub struct Chain {
     pub items: Elems,
@@ -48,7 +50,7 @@ pub enum Phase {
     TakenOut,
 }
 
-/// The desk that a worker has in work.
+/// The desk that a worker works at.
 #[derive(Debug, Drop)]
 pub struct Work {
     pub desk: u32,
@@ -138,7 +140,7 @@ impl View {
         }
     }
 
-    /// Puts an element behind the walk, which goes on at this link value; or changes nothing.
+    /// Puts an element after the walk, which goes on at this link value; or changes nothing.
     pub fn walk_on(&mut self, element: u32, link: u32) -> Result<(), AllocError>
         ensures ok { OnOk result (self.new ≡ record self.old { look = walked_on self.old.look element link }) }
         ensures err { OnErr result (self.new ≡ self.old) }
@@ -188,7 +190,7 @@ impl View {
         Ok(front)
     }
 
-    /// How far the worker is with this desk, if that is its work.
+    /// How far the worker is with this desk, if it works at that.
     pub fn phase_at(&self, desk: u32) -> Option<&Phase>
         ensures { MatchOption result (phase_at desk self.now.work ≡ None) (λ phase. phase_at desk self.now.work ≡ Some phase.now) }
     {
@@ -238,7 +240,8 @@ impl View {
         Ok(())
     }
 
-    /// Ends a hold of an element, which is in the hand with count 0 where that was the last; or changes nothing.
+    /// Ends a hold of an element, which is in the hand with count 0 where that was the last; or
+    /// changes nothing.
     pub fn end_hold(&mut self, element: u32, last: bool) -> Result<(), AllocError>
         ensures ok { OnOk result (self.new ≡ hold_ended self.old element last) }
         ensures err { OnErr result (self.new ≡ self.old) }
@@ -252,8 +255,8 @@ impl View {
         Ok(())
     }
 
-    /// Gives away the holds of a packet. Its own elements are headers no more, and neither is what
-    /// is held no more.
+    /// Gives away the holds of a packet. Its own elements are no longer headers, nor is what is no
+    /// longer held.
     pub fn open(&mut self, packet: &Packet)
         ensures { self.new ≡ opened self.old packet.now }
     {
@@ -351,7 +354,8 @@ impl View {
     }
 }
 
-/// A desk: its word is 0 where it is empty, 1 while it is filled, 2 where it is full and 3 while it is emptied; and its slot.
+/// A desk: its word is 0 where it is empty, 1 while it is filled, 2 where it is full and 3 while
+/// it is emptied; and its slot.
 #[derive(Debug, Drop)]
 pub struct Desk {
     pub word: u64,

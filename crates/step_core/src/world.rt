@@ -36,7 +36,8 @@ impl World {
 
     /// The world at the start: all elements common, element 0 on top, and nothing seen.
     ///
-    /// Refused `BadPool` where the limits are out of range, and `OutOfMemory` where memory was refused.
+    /// Refused `BadPool` where the limits are out of range, and `OutOfMemory` where memory was
+    /// refused.
     pub fn open(alloc: Global, limits: &Limits) -> Result<World, Refusal>
         ensures ok { IfOk result (λ w. w ≡ opening limits.now) }
         ensures cause { IfErr result (IsMakeCause limits.now) }
@@ -50,8 +51,9 @@ impl World {
 
     /// One step of a worker, numbered from 1.
     ///
-    /// Refused `StepRefused` exactly where the step's condition fails, and `OutOfMemory` where it would be done and
-    /// memory was refused for a list of the worker's view that it makes longer. The world is then as before.
+    /// Refused `StepRefused` exactly where the step's condition fails, and `OutOfMemory` where it
+    /// would be done and memory was refused for a list of the worker's view that it makes longer.
+    /// The world is then as before.
     pub fn step(&mut self, worker: u32, step: Step) -> Result<Outcome, Refusal>
         ensures step { AnswersTo step (play self.old worker step) self.old result self.new }
         ensures world { IsWorld self.new }

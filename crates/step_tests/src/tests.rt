@@ -25,10 +25,12 @@ mod texts;
 use acts::{Act, Told, is_told, step_of};
 use shown::{End, assert_end, numbers_of};
 
-/// A name, a pool's limits, the steps with their workers and what they answer, and the world afterwards.
+/// A name, a pool's limits, the steps with their workers and what they answer, and the world
+/// afterwards.
 type Row = (&'static str, Limits, &'static [(u32, Act, Told)], End);
 
-/// A name, a pool's limits, steps that are all done, and steps that are then refused one after another.
+/// A name, a pool's limits, steps that are all done, and steps that are then refused one after
+/// another.
 type RefusedRow = (
     &'static str,
     Limits,
@@ -36,7 +38,7 @@ type RefusedRow = (
     &'static [(u32, Act)],
 );
 
-/// Both are one; else it is told of what, with both.
+/// Asserts that both are equal, and else says of what, with both.
 fn same<R: Abort, T: PartialEq + Debug>(rt: &R, given: &T, wanted: &T, what: &str) {
     assert!(rt; *given == *wanted, "{what}: {given:?}, not {wanted:?}");
 }
@@ -60,7 +62,7 @@ fn a_head_has_one_word(rt: HostRuntime) {
     }
 }
 
-/// An answer is the one that is told of the step at this place of its row.
+/// An answer is the one that its row gives for the step at this place.
 fn assert_told<R: Abort>(
     rt: &R,
     answer: &Result<Outcome, Refusal>,
@@ -76,7 +78,7 @@ fn answer_of(world: &mut World, worker: u32, act: Act) -> Result<Outcome, Refusa
     world.step(worker, step_of(act))
 }
 
-/// Plays these steps, each of which answers as it is told.
+/// Plays these steps, each of which answers as its row says.
 fn play_told<R: Abort>(rt: &R, world: &mut World, steps: &[(u32, Act, Told)], name: &str) {
     for (place, (worker, act, told)) in steps.iter().enumerate() {
         let answer = answer_of(world, *worker, *act);
@@ -110,7 +112,7 @@ fn schedule_of(alloc: Global, steps: &[(u32, Act, Told)]) -> Result<Vec<(u32, St
     Ok(schedule)
 }
 
-/// These outcomes are those that are told of the steps of a row.
+/// These outcomes are those that a row gives for its steps.
 fn assert_outcomes<R: Abort>(
     rt: &R,
     outcomes: Vec<Outcome>,
@@ -229,7 +231,8 @@ fn answer_at_last<R: Abort>(
     }
 }
 
-/// Whichever request for memory is refused, a step is as its row says or `OutOfMemory`, and then changes nothing.
+/// Whichever request for memory is refused, a step is as its row says or `OutOfMemory`, and then
+/// changes nothing.
 #[test]
 fn refused_memory_changes_no_answer(rt: HostRuntime) -> Result<(), Fail> {
     let (name, limits, steps, end) = schedules::FOR_MEMORY;

@@ -7,7 +7,8 @@ use Rattle.step_core.specs.Law.{Lawful}
 use Rattle.step_core.specs.Kept.{IsWorld}
 use Rattle.step_core.specs.Headline.{AllAreThere}
 
--- The world is lawful, its common list begins with these elements, and the links spell what is left from this value.
+-- The world is lawful, its common list begins with these elements, and the links spell what is
+-- left from this value.
 pub record Followed (w : World) (front : List ℕ) (next : ℕ) : Type 0 where
   pub law : Lawful w
   pub rest : List ℕ

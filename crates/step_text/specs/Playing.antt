@@ -24,7 +24,7 @@ number_or_none (Some element) = element
 abbrev pub in_segment : ℕ → ℕ
 in_segment number = min number 4294967295
 
--- the segment without data, behind the headroom of a fresh mbuf
+-- the segment without data, after the headroom of a fresh mbuf
 abbrev pub segment_of : Limits → StepSegment → Seg
 segment_of limits s = record {
   elem = in_segment s.element;
@@ -92,7 +92,7 @@ abbrev pub refused_text : List ℕ
 refused_text =
     codes "refused " ++ decimal (number_of StepRefused) ++ codes " " ++ name_of StepRefused
 
--- what is told of a step that was played, or refused
+-- what is reported of a step that was played, or refused
 abbrev pub reply_of : Asked → Option Outcome → List ℕ
 reply_of step None = refused_text
 reply_of step (Some outcome) = outcome_text (reads_link step) outcome
@@ -107,7 +107,7 @@ abbrev pub left_by : Option (Outcome × World) → World → World
 left_by None w = w
 left_by (Some (outcome, after)) w = after
 
--- what is told of a line in a world
+-- what is reported of a line in a world
 abbrev pub line_text : World → StepLine → List ℕ
 line_text w line = answer_line line (option_map (λ p. p.0) (play_line w line))
 

@@ -27,8 +27,8 @@ head_text head = codes "head " ++ end_text head.top ++ codes " " ++ decimal head
 unfoldable pub head_line : Head → List ℕ
 head_line head = head_text head ++ codes "\n"
 
--- What a worker has: its credit, the elements of its hand ascending, whatever their count, and those
--- that it holds ascending, each as often as it is held.
+-- What a worker has: its credit, the elements of its hand ascending, whatever their count, and
+-- those that it holds ascending, each as often as it is held.
 unfoldable pub view_text : ℕ → View → List ℕ
 view_text worker v =
     codes "view " ++ decimal worker ++ codes " credit " ++ decimal v.credit ++ codes "\n"

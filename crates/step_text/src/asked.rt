@@ -107,7 +107,7 @@ fn packet_of(limits: &Limits, segments: &[StepSegment]) -> Option<Packet>
     Some(packet)
 }
 
-/// A segment without data, behind the headroom of a fresh mbuf.
+/// A segment without data, after the headroom of a fresh mbuf.
 fn segment_of(limits: &Limits, segment: StepSegment) -> Seg
     requires buf { limits.now.buf ≤ 65535 }
     ensures is { result ≡ segment_for limits.now segment }

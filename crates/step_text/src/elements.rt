@@ -19,7 +19,7 @@ pub(crate) fn write_end(out: &mut Vec<u8>, value: u64) -> io::Result<()>
     }
 }
 
-/// Each segment behind a space.
+/// Each segment after a space.
 pub(crate) fn write_segments(out: &mut Vec<u8>, segs: &[Seg]) -> io::Result<()>
     ensures { OnOk result (out.new.items ≡ out.old.items ++ joined segment_text segs.now) }
 {

@@ -31,7 +31,8 @@ pub fn run_steps(alloc: Global, bytes: &[u8]) -> Result<Vec<u8>, Refusal>
     // Why nothing is printed.
     ensures faults { IfErr result (λ refusal. IsStepCause bytes.now refusal) }
 
-    // Where the bytes are a script of steps, nothing else is printed, and only memory can be wanting.
+    // Where the bytes are a script of steps, nothing else is printed, and only memory can be
+    // missing.
     ensures only { (limits : Limits) (lines : List SteppedLine) →
         IsStepScript bytes.now limits lines → MatchResult result
         (λ out. IsPrintedFor limits lines out.items)

@@ -14,8 +14,8 @@ abbrev pub IsUnreadable : List ℕ → Failure → Type 0
 IsUnreadable file (Unreadable named) = named.now ≡ file
 IsUnreadable file (Fault refusal) = ⊥
 
--- what an error of this kind is told as that came of reading this file: no memory as that, and each other kind as a
--- file that can't be read
+-- how an error of this kind that came of reading this file is reported: a lack of memory as that,
+-- and each other kind as a file that can't be read
 abbrev pub IsUnread : List ℕ → io.ErrorKind → Failure → Type 0
 IsUnread file kinds.OutOfMemory failure = failure ≡ Fault refusals.OutOfMemory
 IsUnread file _ failure = IsUnreadable file failure

@@ -34,7 +34,8 @@ impl fmt::Display for FaultLine {
     }
 }
 
-/// Writes the line that tells of a failure. The error is the writer's; the line may then stand there in part.
+/// Writes the line that tells of a failure. The error is the writer's; part of the line may then
+/// be written.
 pub fn tell<E: Write>(errors: &mut E, failure: &Failure<'_>) -> io::Result<()>
     ensures { OnOk result (Appends (E.contents errors.old) (E.contents errors.new) (line_of failure.now)) }
 {

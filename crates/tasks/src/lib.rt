@@ -1,5 +1,5 @@
-//! What the program does with a script: its replay, its run in threads, what is lost with a worker at its end, or its
-//! steps, printed; or the failure that came.
+//! What the program does with a script: its replay, its run in threads, what is lost with a worker
+//! at its end, or its steps, printed; or the failure that came.
 #![tactic(auto)]
 
 pub mod failures;

@@ -14,8 +14,9 @@ use std::io::Write;
 use std::sync::Wait;
 use std::thread::Threads;
 
-/// Prints what is asked for of the script that a request names, or tells why there is nothing to print, and gives the
-/// status that the program ends with: 0 where it was printed, else 1, also where a writer failed.
+/// Prints what is asked for of the script that a request names, or tells why there is nothing to
+/// print, and gives the status that the program ends with: 0 where it was printed, else 1, also
+/// where a writer failed.
 pub fn print<R: Threads + Wait + Sync, S: Scripts, O: Write, E: Write>(
     rt: &R,
     alloc: Global,
@@ -24,7 +25,8 @@ pub fn print<R: Threads + Wait + Sync, S: Scripts, O: Write, E: Write>(
     screen: &mut O,
     errors: &mut E,
 ) -> u8
-    // With status 0 the screen has the print for what the reading of this file gave, and nothing else new.
+    // With status 0 the screen has the print for what the reading of this file gave, and nothing
+    // else new.
     ensures whole { result ≡ 0 → PrintsFile
         (S.gives scripts.now request.now.file.now)
         request.now.task
@@ -38,7 +40,8 @@ pub fn print<R: Threads + Wait + Sync, S: Scripts, O: Write, E: Write>(
     }
 }
 
-/// Prints what is asked for of the script that a request names, or tells why there is nothing to print.
+/// Prints what is asked for of the script that a request names, or tells why there is nothing to
+/// print.
 ///
 /// Gives the status: 0 where it was printed, and 1 where a failure was told; the other writer
 /// is then as before. The error is that of the writer that failed, which may have taken a part.
@@ -50,7 +53,8 @@ pub fn print_or_tell<R: Threads + Wait + Sync, S: Scripts, O: Write, E: Write>(
     screen: &mut O,
     errors: &mut E,
 ) -> io::Result<u8>
-    // With status 0 the screen has the print for what the reading of this file gave, and nothing else new,
+    // With status 0 the screen has the print for what the reading of this file gave, and nothing
+    // else new,
     ensures whole { IfOk result (λ status. status ≡ 0 → PrintsFile
         (S.gives scripts.now request.now.file.now)
         request.now.task
@@ -84,10 +88,10 @@ pub fn print_or_tell<R: Threads + Wait + Sync, S: Scripts, O: Write, E: Write>(
 
 /// What is printed of the script that a request names.
 ///
-/// `Unreadable` where the reading failed but for memory, `Fault` with `OutOfMemory` where memory was refused, else
-/// `Fault` where the bytes are no script (`ScriptFault`), where no pool can be made within the script's limits
-/// (`BadPool`), where a worker is to be lost that its pool doesn't have (`StrangerShare`), or of a run under the lock where
-/// a thread was refused (`OutOfMemory`).
+/// `Unreadable` where the reading failed but for memory, `Fault` with `OutOfMemory` where memory
+/// was refused, else `Fault` where the bytes aren't a script (`ScriptFault`), where no pool can be
+/// made within the script's limits (`BadPool`), where a worker is to be lost that its pool doesn't
+/// have (`StrangerShare`), or of a run under the lock where a thread was refused (`OutOfMemory`).
 pub fn printed<'a, R: Threads + Wait + Sync, S: Scripts>(
     rt: &R,
     alloc: Global,
@@ -113,7 +117,7 @@ pub fn printed<'a, R: Threads + Wait + Sync, S: Scripts>(
     }
 }
 
-/// What is told of an error that came of reading a file.
+/// What is reported of an error that came of reading a file.
 fn unread(file: &str, kind: io::ErrorKind) -> Failure<'_>
     ensures { IsUnread file.entry.now kind result }
 {

@@ -1,4 +1,5 @@
-//! What is printed of a script: its replay, what its run comes to or loses, or its steps, in the form that is asked for.
+//! What is printed of a script: its replay, what its run comes to or loses, or its steps, in the
+//! form that is asked for.
 ghost use Rattle.std.specs.Prelude.{IfErr, IfOk};
 ghost use Rattle.script_text.specs.Grammar.{IsCause};
 ghost use Rattle.tasks.specs.Forms.{IsCauseFor, IsDoneAs, IsPrintedAs};
@@ -13,9 +14,9 @@ use std::thread::Threads;
 
 /// What is printed of these bytes for a task.
 ///
-/// `ScriptFault` where they are no script, `BadPool` where no pool can be made within the script's limits, `StrangerShare`
-/// where a worker is to be lost that its pool doesn't have, and `OutOfMemory` where memory was refused, or of a run under
-/// the lock a thread.
+/// `ScriptFault` where they aren't a script, `BadPool` where no pool can be made within the
+/// script's limits, `StrangerShare` where a worker is to be lost that its pool doesn't have, and
+/// `OutOfMemory` where memory was refused, or of a run under the lock a thread.
 pub fn done<R: Threads + Wait + Sync>(
     rt: &R,
     alloc: Global,

@@ -13,8 +13,8 @@ use std::thread::Threads;
 
 /// What a run of these bytes with a thread for each worker prints in a form.
 ///
-/// `ScriptFault` where they are no script, `BadPool` where no pool can be made within the script's limits, and
-/// `OutOfMemory` where memory was refused, or under the lock a thread.
+/// `ScriptFault` where they aren't a script, `BadPool` where no pool can be made within the
+/// script's limits, and `OutOfMemory` where memory was refused, or under the lock a thread.
 pub fn text<R: Threads + Wait + Sync>(
     rt: &R,
     alloc: Global,

@@ -23,7 +23,8 @@ pub trait Scripts {
 
     /// The bytes of the script with this name, or as many of them as show that they are too many.
     ///
-    /// The error is that of the first call that failed: to find the script, to read it, or to take memory.
+    /// The error is that of the first call that failed: to find the script, to read it, or to take
+    /// memory.
     fn read(&self, alloc: Global, name: &str) -> io::Result<Vec<u8>>
         ensures gives { IfOk result (λ bytes. gives self.now name.entry.now bytes.items) }
         ensures fails { IfErr result (λ error. fails self.now name.entry.now (error_kind error)) };
@@ -39,7 +40,8 @@ impl<R: Files> Scripts for Disk<'_, R> {
     }
 }
 
-/// All bytes of a reader, or the first `BYTES_READ` of more. The error is the reader's, or that memory was refused.
+/// All bytes of a reader, or the first `BYTES_READ` of more. The error is the reader's, or that
+/// memory was refused.
 pub fn bytes_of<S: Read + Drop>(alloc: Global, source: S) -> io::Result<Vec<u8>>
     ensures { IfOk result (λ bytes. IfSome (S.remaining source) (λ known. bytes.items ≡ take BYTES_READ known)) }
 {

@@ -7,7 +7,7 @@ use script::Grounds;
 /// In which form it is printed where each element is at the end.
 #[derive(Clone, Copy, PartialEq, Eq, Debug)]
 pub enum Form {
-    /// Line by line; behind the replies, if it is a replay.
+    /// Line by line; after the replies, if it is a replay.
     Text,
     /// As one line of JSON.
     Json,
@@ -21,7 +21,7 @@ pub struct Turns {
 }
 
 impl Turns {
-    /// So many turns, if they are any.
+    /// This many turns, if they are any.
     pub fn new(count: u32) -> Option<Turns>
         ensures { MatchOption result (count ≡ 0) (λ turns. turns.count ≡ count) }
     {

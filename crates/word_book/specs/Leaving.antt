@@ -12,8 +12,8 @@ use Rattle.snapshot.specs.Snapshots.{statement_in}
 use Rattle.step_core.specs.declared.view.View.{View}
 use Rattle.word_book.specs.Shares.{AreSharesOf}
 
--- A ground of these limits left it, closed by a seat at rest that had every part, and these are the shares of that
--- seat's view. What lies on full desks is nobody's share.
+-- A ground of these limits left it, closed by a seat at rest that had every part, and these are
+-- the shares of that seat's view. What lies on full desks is nobody's share.
 pub record IsLeftWith (l : Limits) (c : Closed) (members : List Member) : Type 0 where
   pub view : View
   pub left : LeftOf l view c
@@ -21,7 +21,8 @@ pub record IsLeftWith (l : Limits) (c : Closed) (members : List Member) : Type 0
   pub rest : AtRest view
   pub shares : AreSharesOf members view
 
--- The statement of what a ground of these limits left, closed by the seat with this view, and of these shares.
+-- The statement of what a ground of these limits left, closed by the seat with this view, and of
+-- these shares.
 pub record IsStatementOf (l : Limits) (v : View) (members : List Member) (s : Statement) : Type 0 where
   pub closed : Closed
   pub left : LeftOf l v closed

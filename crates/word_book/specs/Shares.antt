@@ -16,9 +16,10 @@ cached_by members i = sum_by (λ member. bag member.cache i) members
 abbrev pub owned_by : List Member → ℕ → ℕ
 owned_by members i = sum_by (λ member. own_in member.table i) members
 
--- All caches together are the view's hand, whoever's cache an element is in; all packets together hold what the view
--- holds, each element as often; and the own elements of their segments are headers of the view, each as often at most.
--- Where no header is one twice, the own elements are distinct.
+-- All caches together are the view's hand, whoever's cache an element is in; all packets together
+-- hold what the view holds, each element as often; and the own elements of their segments are
+-- headers of the view, each as often at most. Where no header is one twice, the own elements are
+-- distinct.
 pub record AreSharesOf (members : List Member) (v : View) : Type 0 where
   pub caches : (i : ℕ) → cached_by members i ≡ bag v.hand i
   pub packets : (i : ℕ) → held_by members i ≡ bag v.holds i

@@ -1,5 +1,5 @@
-//! The end of a pool on words: its ground is closed by the one seat that is left, the shares of its workers are put in a
-//! book, and the book is settled.
+//! The end of a pool on words: its ground is closed by the one seat that is left, the shares of
+//! its workers are put in a book, and the book is settled.
 
 ghost use Rattle.std.specs.Prelude.{◌≡◌, IfOk, IfErr, map};
 ghost use Rattle.std.specs.List.{range_with_len};
@@ -32,13 +32,15 @@ use ground::seat::GroundSeat;
 use pool_model::statement::Statement;
 use std::alloc::Global;
 
-/// Closes a ground by the seat that has every part, and settles it with the shares of all its workers, which are what
-/// the seat has. What lies on full desks is nobody's share, and stands in the statement as theirs. The statement lists
-/// each element exactly once, and each packet has a place of its own. Each packet has 1 to 32 segments, each with its
-/// data within its buffer, and no count is above the reference limit. Where nobody has done anything, all elements are in
-/// the common list as they were at the start, and no packet is on a desk.
+/// Closes a ground by the seat that has every part, and settles it with the shares of all its
+/// workers, which are what the seat has. What lies on full desks is nobody's share, and stands in
+/// the statement as theirs. The statement lists each element exactly once, and each packet has a
+/// place of its own. Each packet has 1 to 32 segments, each with its data within its buffer, and no
+/// count is above the reference limit. Where nobody has done anything, all elements are in the
+/// common list as they were at the start, and no packet is on a desk.
 ///
-/// Refused `OutOfMemory` where memory was refused. The pool is ended then too, and nothing is left of it.
+/// Refused `OutOfMemory` where memory was refused. The pool is ended then too, and nothing is left
+/// of it.
 pub fn settled(
     alloc: Global,
     ground: Ground,
@@ -68,9 +70,9 @@ pub fn settled(
     }
 }
 
-/// Settles what a ground of these limits left with the shares of all its workers. The statement is the one of the
-/// snapshot that they are. Each packet that it lists has 1 to 32 segments, each with its data within its buffer, and no
-/// count is above the reference limit.
+/// Settles what a ground of these limits left with the shares of all its workers. The statement is
+/// that of the snapshot that they make. Each packet that it lists has 1 to 32 segments, each with
+/// its data within its buffer, and no count is above the reference limit.
 ///
 /// Refused `OutOfMemory` where memory was refused. Nothing is left of the pool then either.
 pub fn settled_parts(

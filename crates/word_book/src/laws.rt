@@ -13,8 +13,8 @@ ghost use Rattle.step_core.specs.declared.view.View.{View};
 ghost use Rattle.word_book.specs.Lost.{AreLostBy, IsLeftWithout};
 ghost use Rattle.word_book.specs.Shares.{AreSharesOf, side_in};
 
-/// A worker whose packets are its own, over the view of its seat, has a share of what that view has: all of it. A view
-/// that has nothing is no worker's share.
+/// A worker whose packets are its own, over the view of its seat, has a share of what that view
+/// has: all of it. A view that has nothing is no worker's share.
 pub fn own_packets_are_a_share()
     ensures one { (l : Limits) (v : View) (m : Member) → Own m (side_in l v) → AreSharesOf (m ∷ []) v }
     ensures none { (part : ℕ) → AreSharesOf [] (empty_view part) }

@@ -16,12 +16,14 @@ use pool_model::statement::Statement;
 use std::alloc::Global;
 
 /// The statement of a pool on words and the shares in its book, which ends both: the shares are
-/// those of the seat that closed the ground, and a packet on a full desk is the desk's. It lists each
-/// element exactly once; what is available and what is in use are the population. Each packet that it lists has 1 to
-/// 32 segments, each with its data within its buffer, and no count is above the reference limit.
+/// those of the seat that closed the ground, and a packet on a full desk is the desk's. It lists
+/// each element exactly once; what is available and what is in use are the population. Each packet
+/// that it lists has 1 to 32 segments, each with its data within its buffer, and no count is above
+/// the reference limit.
 ///
-/// Refused `MissingShare` of the least worker whose share isn't in the book, else `OutOfMemory` where
-/// memory was refused. What the ground left has no fault. It and the book are then handed back as they were.
+/// Refused `MissingShare` of the least worker whose share isn't in the book, else `OutOfMemory`
+/// where memory was refused. What the ground left has no fault. It and the book are then handed
+/// back as they were.
 pub fn settle_words(
     alloc: Global,
     closed: Closed,

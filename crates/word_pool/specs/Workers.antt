@@ -27,7 +27,8 @@ pub record Manned : Type 0 where
   pub seat : Seated
   pub member : Member
 
--- between its acts: the seat is at rest, no slot is out with it, and the packets are the worker's own
+-- between its acts: the seat is at rest, no slot is out with it, and the packets are the worker's
+-- own
 pub record IsIdle (m : Manned) : Type 0 where
   pub rest : AtRest m.seat.known.view
   pub slots : m.seat.slots ≡ []
@@ -45,9 +46,9 @@ pub record AllStay (old new : List Manned) : Type 0 where
   pub as_many : length new ≡ length old
   pub each : (i : ℕ) (d : Manned) → i < length old → Stays (slice_index_or old i d) (slice_index_or new i d)
 
--- The worker did this and was answered so: by calls over the words, each of which took the steps of its tries. What the
--- answer tells of as new, none of its packets held; and where the act was refused, all is as before, but for the free
--- elements after a clone.
+-- The worker did this and was answered so: by calls over the words, each of which took the steps
+-- of its tries. What the answer tells of as new, none of its packets held; and where the act was
+-- refused, all is as before, but for the free elements after a clone.
 pub record Acts (act : Act) (old : Manned) (reply : Reply) (new : Manned) : Type 0 where
   pub calls : Calls DidOnWords side_of old.seat new.seat (λ calls. Performs act old.member calls reply new.member)
   pub fresh : AreFresh old.member.limits.population (held_in old.member.table) (new_elements reply)
@@ -73,15 +74,15 @@ pub record AreWorkers (g : Grounded) (ms : List Manned) : Type 0 where
 abbrev pub HasNotActed : Manned → Type 0
 HasNotActed m = IsUnmoved m.seat.known
 
--- They are the workers of a new pool, who have nothing: their caches and tables are empty, and their views name nothing.
--- None of them has taken a step.
+-- They are the workers of a new pool, who have nothing: their caches and tables are empty, and
+-- their views name nothing. None of them has taken a step.
 pub record AreNew (l : Limits) (ms : List Manned) : Type 0 where
   pub members : members_of ms ≡ new_members l 1 l.workers
   pub views : All (λ m. m.seat.known.view ≡ empty_view 1) ms
   pub unmoved : All HasNotActed ms
 
--- The statement of what a ground left, closed by the one seat with every part that all workers' seats were made, and of
--- these workers' caches and packets, which are what that seat's view has.
+-- The statement of what a ground left, closed by the one seat with every part that all workers'
+-- seats were made, and of these workers' caches and packets, which are what that seat's view has.
 pub record IsStatementOfWorkers (g : Grounded) (ms : List Manned) (s : Statement) : Type 0 where
   pub view : View
   pub whole : view.part ≡ g.limits.workers

@@ -1,4 +1,5 @@
-//! Laws of the workers of a pool. Each is a function that does nothing, and its contract is the law.
+//! Laws of the workers of a pool. Each is a function that does nothing, and its contract is the
+//! law.
 
 ghost use Rattle.std.specs.Prelude.{List};
 ghost use Rattle.ground.specs.Seats.{Grounded};

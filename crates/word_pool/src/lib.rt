@@ -1,4 +1,4 @@
-//! The pool of all workers on words: made, worked on by each worker by itself, and settled at its end.
+//! The pool of all workers on words: made, used by each worker on its own, and settled at its end.
 #![tactic(auto)]
 
 pub mod laws;

@@ -27,9 +27,10 @@ use pool_model::statement::Statement;
 use std::alloc::Global;
 use word_book::{ending, laws};
 
-/// Makes a pool on words, and its workers, numbered from 1, each with one part of it. All elements are in the common
-/// list, element 0 on top, and no worker has anything yet, nor has acted: settled as it is, the pool's statement is that of
-/// the start (`settled`).
+/// Makes a pool on words, and its workers, numbered from 1, each with one part of it, and none of
+/// whom has anything yet, nor has acted. The words are those of a new ground (`Ground::make`): all
+/// elements are in the common list, element 0 on top. Settled as it is, the pool's statement is
+/// that of the start (`settled`).
 ///
 /// Refused `BadPool` where the limits are out of range, and `OutOfMemory` where memory was refused.
 pub fn make(alloc: Global, limits: &Limits) -> Result<(Ground, Vec<WordWorker>), Refusal>
@@ -130,13 +131,15 @@ impl FreeSeat {
     }
 }
 
-/// Ends a pool whose workers act no more, and settles it: their seats become one, their packets are handed in, in the
-/// order of the workers' numbers, and the ground is closed. The statement lists each element exactly once, and each
-/// packet has a place of its own; it is the one of what the ground left and of these workers' caches and packets. Each
-/// packet has 1 to 32 segments, each with its data within its buffer, and no count is above the reference limit. Where no
-/// worker has acted, all elements are in the common list, element 0 on top, and no packet is on a desk.
+/// Ends a pool whose workers no longer act, and settles it: their seats become one, their packets
+/// are handed in, in the order of the workers' numbers, and the ground is closed. The statement
+/// lists each element exactly once, and each packet has a place of its own; it is that of what the
+/// ground left and of these workers' caches and packets. Each packet has 1 to 32 segments, each
+/// with its data within its buffer, and no count is above the reference limit. Where no worker has
+/// acted, all elements are in the common list, element 0 on top, and no packet is on a desk.
 ///
-/// Refused `OutOfMemory` where memory was refused. The pool is ended then too, and nothing is left of it.
+/// Refused `OutOfMemory` where memory was refused. The pool is ended then too, and nothing is left
+/// of it.
 pub fn settled(
     alloc: Global,
     ground: Ground,
@@ -158,8 +161,8 @@ pub fn settled(
     ending::settled(alloc, ground, seat, shares)
 }
 
-/// Ends the worker of this number, as one who died: its seat, its cache and its packets are lost. An only worker stays, since
-/// its seat has to close the ground.
+/// Ends the worker of this number, as one who died: its seat, its cache and its packets are lost.
+/// An only worker stays, since its seat has to close the ground.
 pub fn lose(ground: &Ground, workers: &mut Vec<WordWorker>, number: u32)
     requires all { AreWorkers ground.now workers.old.items }
     requires worker { IsWorkerOf ground.now.limits number }
@@ -172,12 +175,14 @@ pub fn lose(ground: &Ground, workers: &mut Vec<WordWorker>, number: u32)
     }
 }
 
-/// Ends a pool of which these workers are left, whose others are listed as missing, and tells which elements are lost,
-/// ascending: exactly those in the hand of a listed worker or held by listed workers alone, wherever these stopped, in
-/// mid-call too. The seats of those who are left become one, which closes the ground, and their packets are handed in.
-/// Where a listed worker is among them, as an only one whose seat was kept, its cache and its packets are lost.
+/// Ends a pool of which these workers are left, whose others are listed as missing, and tells which
+/// elements are lost, ascending: exactly those in the hand of a listed worker or held by listed
+/// workers alone, wherever these stopped, in mid-call too. The seats of those who are left become
+/// one, which closes the ground, and their packets are handed in. Where a listed worker is among
+/// them, as an only one whose seat was kept, its cache and its packets are lost.
 ///
-/// Refused `OutOfMemory` where memory was refused. The pool is ended then too, and nothing is left of it.
+/// Refused `OutOfMemory` where memory was refused. The pool is ended then too, and nothing is left
+/// of it.
 pub fn settled_without(
     alloc: Global,
     ground: Ground,
@@ -196,8 +201,8 @@ pub fn settled_without(
     ending::settled_without(alloc, ground, seat, shares, missing)
 }
 
-/// Makes one seat of the seats of these workers, from the last to the first, and hands in their packets, in the room that
-/// was taken for the shares.
+/// Makes one seat of the seats of these workers, from the last to the first, and hands in their
+/// packets, in the room that was taken for the shares.
 fn joined(
     ground: &Ground,
     mut workers: Vec<WordWorker>,

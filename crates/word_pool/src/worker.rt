@@ -18,10 +18,10 @@ use mbuf::packets::Packets;
 use stack_lf::words::WordCommons;
 use std::marker::Model;
 
-/// A worker of a pool on words: its seat, its cache and its packets, which are its own. It can be sent to a thread. One
-/// that is dropped has died: what it has is lost to the pool.
+/// A worker of a pool on words: its seat, its cache and its packets, which are its own. It can be
+/// sent to a thread. One that is dropped has died: what it has is lost to the pool.
 pub struct WordWorker {
-    /// There is none within an act alone.
+    /// It is missing only within an act.
     seat: Option<GroundSeat>,
     packets: Packets,
 }
@@ -77,7 +77,8 @@ impl WordWorker {
         }
     }
 
-    /// A law of each worker between its acts: its seat is at rest, and its packets are its own. It does nothing.
+    /// A law of each worker between its acts: its seat is at rest, and its packets are its own. It
+    /// does nothing.
     pub fn idle(&self)
         ensures { IsIdle self.now }
     {
@@ -92,10 +93,11 @@ impl WordWorker {
         self.packets.place(slot)
     }
 
-    /// Lets the worker do this over the words of its ground, beside others, and answers what came of it. The worker keeps
-    /// its number, its part, and its place at the ground.
+    /// Lets the worker do this over the words of its ground, beside others, and answers what came
+    /// of it. The worker keeps its number, its part, and its place at the ground.
     ///
-    /// Refused as the act is by `mbuf::acts::perform`.
+    /// Refused as the act is by `mbuf::acts::perform`: all that is the worker's is then as before,
+    /// but for the free elements after a clone.
     pub fn act(&mut self, ground: &Ground, act: Act) -> Reply
         requires of { IsOf ground.now self.old.seat }
         ensures { Acts act self.old result self.new }
@@ -103,8 +105,9 @@ impl WordWorker {
         self.act_in(ground, act)
     }
 
-    /// Does what `act` does, and answers with room for a bulk of `ROOM` packets: with none the answer is small, and
-    /// nothing of a bulk's room is filled.
+    /// Does what `act` does, and answers with room for a bulk of `ROOM` packets, no fewer than a
+    /// bulk asks for where it asks for 256 at most: with none the answer is small, and nothing of a
+    /// bulk's room is filled.
     #[inline(always)]
     pub fn act_in<const ROOM: usize>(&mut self, ground: &Ground, act: Act) -> Answer<ROOM>
         requires room { HasRoom ROOM act }

@@ -1,4 +1,5 @@
--- A new worker over words has its packets as its own, and whatever calls it makes, its seat stays one of its ground.
+-- A new worker over words has its packets as its own, and whatever calls it makes, its seat stays
+-- one of its ground.
 use Rattle.std.proofs.Common.{◌≡◌, ℕ, List, [], ◌∷◌, None, replicate, ap, sym, ◌∙◌}
 use Rattle.commons.proofs.Bags.{bag-nil}
 use Rattle.commons.specs.declared.limits.Limits.{Limits}

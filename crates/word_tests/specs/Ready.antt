@@ -1,4 +1,4 @@
--- What is so of a worker over words between its calls.
+-- What holds of a worker over words between its calls.
 use Rattle.ground.specs.Seats.{Grounded, Seated}
 use Rattle.mbuf.specs.Members.{Member}
 use Rattle.mbuf.specs.Own.{Own}

@@ -1,4 +1,5 @@
-//! Tests of packets over the words of a pool: scripts that are played beside their replay, and workers in threads.
+//! Tests of packets over the words of a pool: scripts that are played beside their replay, and
+//! workers in threads.
 #![tactic(auto)]
 
 #[cfg(test)]

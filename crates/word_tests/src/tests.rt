@@ -38,7 +38,7 @@ const DEFAULTS: Limits = Limits {
     put_rule: PutRule::Keep,
 };
 
-/// Both are one; else it is told of what, with both.
+/// Asserts that both are equal, and else says of what, with both.
 fn same<R: Abort, T: PartialEq + Debug>(rt: &R, given: &T, wanted: &T, what: &str) {
     assert!(rt; *given == *wanted, "{what}: {given:?}, not {wanted:?}");
 }
@@ -82,7 +82,7 @@ fn bases_of(alloc: Global, segs: &[Seg]) -> Result<Vec<u32>, AllocError> {
     Ok(bases)
 }
 
-/// Adds each of these bases once that is no packet's own any more.
+/// Adds each of these bases once that is no longer a packet's own.
 fn add_bases(elements: &mut Vec<u32>, own: &[u32], mut bases: Vec<u32>) -> Result<(), AllocError> {
     bases.dedup();
     for base in &bases {
@@ -93,8 +93,8 @@ fn add_bases(elements: &mut Vec<u32>, own: &[u32], mut bases: Vec<u32>) -> Resul
     Ok(())
 }
 
-/// Adds the elements that packets hold, each once: their own ones, as often as they are listed, and besides each base
-/// that is no packet's own any more.
+/// Adds the elements that packets hold, each once: their own ones, as often as they are listed,
+/// and also each base that is no longer a packet's own.
 fn add_held(
     elements: &mut Vec<u32>,
     alloc: Global,
@@ -106,7 +106,8 @@ fn add_held(
     add_bases(elements, own.as_slice(), bases_of(alloc, segs.as_slice())?)
 }
 
-/// The elements of all places, ascending: of the common list, of the caches, and those that packets hold.
+/// The elements of all places, ascending: of the common list, of the caches, and those that
+/// packets hold.
 fn elements_of(alloc: Global, statement: &Statement) -> Result<Vec<u32>, AllocError> {
     let mut elements = statement.common.as_slice().to_vec(alloc)?;
     for cache in statement.caches.as_slice() {
@@ -117,8 +118,8 @@ fn elements_of(alloc: Global, statement: &Statement) -> Result<Vec<u32>, AllocEr
     Ok(elements)
 }
 
-/// Each element is in one place: in the common list, in a cache, or held by packets, of the workers or on desks. Of these
-/// each is one segment's own, or none's.
+/// Each element is in one place: in the common list, in a cache, or held by packets, of the
+/// workers or on desks. Of these each is one segment's own, or none's.
 fn assert_each_once<R: Abort>(
     rt: &R,
     alloc: Global,
@@ -159,7 +160,8 @@ fn told_holds(alloc: Global, statement: &Statement) -> Result<Vec<u32>, AllocErr
     Ok(told)
 }
 
-/// The elements that a statement tells of as held are those that its packets hold, each as often as they do.
+/// The elements that a statement tells of as held are those that its packets hold, each as often
+/// as they do.
 fn assert_holds<R: Abort>(
     rt: &R,
     alloc: Global,
@@ -219,7 +221,7 @@ fn assert_replies<R: Abort>(rt: &R, replies: &[Reply], told: &[(u32, Reply)], na
     }
 }
 
-/// A statement has the text of the wanted one, and counts each element and hold once.
+/// A statement has the text of the expected one, and counts each element and hold once.
 fn assert_end<R: Abort>(
     rt: &R,
     alloc: Global,
@@ -234,8 +236,8 @@ fn assert_end<R: Abort>(
     assert_holds(rt, alloc, statement, name)
 }
 
-/// Plays a script on the words of a pool, which have to reply as its replay does, and to end in the same statement.
-/// Both are answered.
+/// Plays a script on the words of a pool, which have to reply as its replay does, and to end in
+/// the same statement. Both are answered.
 fn assert_same<R: Abort>(
     rt: &R,
     alloc: Global,
@@ -276,7 +278,7 @@ fn play_rows<R: Abort>(rt: &R, alloc: Global, rows: &[Row]) -> Result<u32, Fail>
     Ok(played)
 }
 
-/// The same of the rows that are too long to write out.
+/// How many of the rows that are too long to write out were played.
 fn play_long_rows<R: Abort>(rt: &R, alloc: Global, rows: &[BuiltRow]) -> Result<u32, Fail> {
     let mut played = 0u32;
     for (name, parts, _) in rows {

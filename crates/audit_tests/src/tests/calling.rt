@@ -1,4 +1,4 @@
-//! The caller on the page of `snapshot`.
+//! The caller in the README of `snapshot`.
 
 ghost use Rattle.std.specs.Prelude.{◌≡◌, ◌⊎◌, IfErr};
 ghost use Rattle.commons.specs.Bounds.{IsPool};

@@ -1,5 +1,5 @@
-//! A large lawful snapshot, of several workers and desks with chains and clones, and what is wrong once something of
-//! it is changed.
+//! A large lawful snapshot, of several workers and desks with chains and clones, and what is wrong
+//! once something of it is changed.
 
 use super::Row;
 use super::shown::{FRESH, Handed, ONE, Places, Shown};
@@ -187,7 +187,7 @@ pub(super) const SHAPES: &[Row] = &[
     ),
 ];
 
-/// Walks that leave the pool, have no end, or not the length that is told.
+/// Walks that leave the pool, have no end, or not the length that the length word says.
 pub(super) const WALKS: &[Row] = &[
     (
         "the top is past the last element",
@@ -249,7 +249,7 @@ pub(super) const WALKS: &[Row] = &[
     ),
 ];
 
-/// Elements that the pool doesn't have, and what is no packet.
+/// Elements that the pool doesn't have, and what isn't a packet.
 pub(super) const PACKETS: &[Row] = &[
     (
         "a stranger in the last cache",
@@ -578,7 +578,7 @@ pub(super) const COUNTS: &[Row] = &[
     ),
 ];
 
-/// Two faults, of which the first is told.
+/// Two faults, of which the first is named.
 pub(super) const ORDER: &[Row] = &[
     (
         "a wrong shape is told before a wrong top",

@@ -1,4 +1,5 @@
-//! Every snapshot that differs from a lawful one in one word: the top, the length, a link or a count.
+//! Every snapshot that differs from a lawful one in one word: the top, the length, a link or a
+//! count.
 
 use self::Answer::{BadTop, Doubled, Holds, Lawful, Loop, Walked};
 use super::shown::{FRESH, ONE, Places, Shown, Word};
@@ -17,15 +18,16 @@ pub(super) enum Answer {
     BadTop(u32),
     /// The walk has no end.
     Loop,
-    /// The walk has so many elements, and the length word says another number.
+    /// The walk has this many elements, and the length word says another number.
     Walked(u64),
     /// This element has two places.
     Doubled(u32),
-    /// The element has so many holds, and the word, its count, says another number.
+    /// The element has this many holds, and the word, its count, says another number.
     Holds(u64),
 }
 
-/// A lawful snapshot with its places, the values that each word takes in turn, and for each word the answers.
+/// A lawful snapshot with its places, the values that each word takes in turn, and for each word
+/// the answers.
 pub(super) struct Pool {
     pub name: &'static str,
     pub shown: Shown,
@@ -399,7 +401,7 @@ fn length(pool: &Pool, word: Word, value: u32) -> u64 {
     }
 }
 
-/// The fault of a count that has this value, and so many holds; of another word there is none.
+/// The fault of a count that has this value, and this many holds; of another word there is none.
 fn bad_count(word: Word, value: u32, holds: u64) -> Fault {
     match word {
         Word::Count(elem) => Fault::BadCount {

@@ -21,7 +21,8 @@ pub trait Hands {
     /// Leaves the packet on this desk. False where that was refused.
     fn offer(&mut self, desk: u32) -> bool;
 
-    /// Takes the packet off this desk, and answers how many bytes it has. None where that was refused.
+    /// Takes the packet off this desk, and answers how many bytes it has. None where that was
+    /// refused.
     fn take(&mut self, desk: u32) -> Option<u32>;
 
     /// Adds a byte to the packet. False where that was refused.
@@ -31,8 +32,8 @@ pub trait Hands {
     fn free_packet(&mut self) -> bool;
 }
 
-/// Leaves the packet on a desk as soon as that is empty. The thread never sleeps, so that it is the words that are
-/// measured.
+/// Leaves the packet on a desk as soon as that is empty. The thread never sleeps, so that it is
+/// the words that are measured.
 fn offered<H: Hands>(hands: &mut H, desk: u32) -> bool {
     for _look in 0..PATIENCE {
         if hands.offer(desk) {
@@ -90,8 +91,8 @@ impl<'h, H: Hands> Rounds for Turns<'h, H> {
     }
 }
 
-/// What the first worker does: it makes the packet, sends it to and fro for so long, and then once more with a byte in it,
-/// at which the second worker ends.
+/// What the first worker does: it makes the packet, sends it to and fro for so long, and then once
+/// more with a byte in it, at which the second worker ends.
 ///
 /// `NotHanded` where the packet was refused, or didn't come back.
 pub fn serve<R: Clock, H: Hands>(rt: &R, hands: &mut H, span: &Span) -> Result<Tally, Failure> {
@@ -104,7 +105,10 @@ pub fn serve<R: Clock, H: Hands>(rt: &R, hands: &mut H, span: &Span) -> Result<T
     whole(tally, ended && freed)
 }
 
-/// The same by one worker alone, on one desk.
+/// What a worker does alone, on one desk: it makes the packet, and offers and takes it for so
+/// long.
+///
+/// `NotHanded` where the packet was refused, or didn't come back.
 pub fn alone<R: Clock, H: Hands>(rt: &R, hands: &mut H, span: &Span) -> Result<Tally, Failure> {
     if !hands.make_packet() {
         return Err(Failure::NotHanded);
@@ -124,7 +128,8 @@ fn whole(tally: Result<Tally, Failure>, ended: bool) -> Result<Tally, Failure> {
     }
 }
 
-/// What the second worker does: it sends each packet back, until one came with a byte in it. Its tally says nothing.
+/// What the second worker does: it sends each packet back, until one came with a byte in it. Its
+/// tally says nothing.
 ///
 /// `NotHanded` where none came for some seconds.
 pub fn echo<H: Hands>(hands: &mut H) -> Result<Tally, Failure> {

@@ -18,7 +18,7 @@ use mempool::worker::Worker;
 use stack_lf::words::WordCommons;
 use std::alloc::Global;
 
-/// Gets the first `N` of a list and puts them back, and answers whether the get was met.
+/// Gets the first `N` of a list and puts them back, and answers whether the get succeeded.
 #[inline(always)]
 fn first_there_and_back<C: Commons, const N: usize>(
     worker: &mut Worker,

@@ -17,7 +17,8 @@ use std::io::Print;
 use std::thread::Threads;
 use std::time::{Clock, Instant};
 
-/// The cells that are measured: those of each workload, each number of threads and each size of cache.
+/// The cells that are measured: those of each workload, each number of threads and each size of
+/// cache.
 #[derive(Clone, Copy, Debug)]
 pub struct Cells<'a> {
     /// The names of the workloads, with commas between.

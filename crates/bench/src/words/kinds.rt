@@ -1,6 +1,7 @@
 //! What is done again and again.
 
-/// How long a list is: a constant of the code, as in a program that knows how many packets it takes at once.
+/// How long a list is: a constant of the code, as in a program that knows how many packets it
+/// takes at once.
 #[derive(Clone, Copy, PartialEq, Eq, Debug)]
 pub enum Width {
     One = 1,
@@ -24,7 +25,7 @@ pub enum Kind {
     Bulk,
     /// 240 allocs, and then the frees, the oldest packet first.
     Kept,
-    /// A clone of a packet of so many segments, and its free.
+    /// A clone of a packet of this many segments, and its free.
     Clone(u32),
 }
 

@@ -10,7 +10,7 @@ const READY: u64 = 20_000_000;
 
 /// Rounds that a thread does again and again.
 pub trait Rounds {
-    /// Does so many rounds, and answers how many elements were refused.
+    /// Does this many rounds, and answers how many elements were refused.
     fn rounds(&mut self, count: u64) -> u64;
 }
 
@@ -36,8 +36,8 @@ pub struct Tally {
     pub refused: u64,
 }
 
-/// Does a quarter of a batch first, so that all memory has been touched; waits until the run begins; and does batch
-/// after batch until its time has passed, one at least.
+/// Does a quarter of a batch first, so that all memory has been touched; waits until the run
+/// begins; and does batch after batch until its time has passed, one at least.
 pub fn timed<R: Clock, W: Rounds>(rt: &R, work: &mut W, span: &Span) -> Result<Tally, Failure> {
     let _warm = work.rounds(span.batch / 4 + 1);
     wait(rt, span.made)?;

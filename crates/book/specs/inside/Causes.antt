@@ -6,7 +6,7 @@ use Rattle.book.specs.declared.twin_settling.TwinUnsettled.{TwinUnsettled}
 use Rattle.book.specs.declared.twin_settling.TwinUnsettled.TheVariants as twin
 use Rattle.book.specs.declared.settling.Unsettled.TheVariants.{OutOfMemory as NoMemory, Fault as HasFault}
 
--- a want of memory is none of the pool's faults
+-- a lack of memory is none of the pool's faults
 abbrev pub cause_of : Fault → Unsettled
 cause_of OutOfMemory = NoMemory
 cause_of f = HasFault f

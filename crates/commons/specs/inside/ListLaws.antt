@@ -20,11 +20,11 @@ in_hand-le w (Held n) = omega arith
 pub hand_once_lem : (s : Lists) (w i : ℕ) → hand_of s w i ≤ 1
 hand_once_lem s w i = in_hand-le w (place_of s i)
 
--- and none from the population on is
+-- and none at or above the population is
 pub hand_below_lem : (s : Lists) (w i : ℕ) → IsTable s → s.limits.population ≤ i → hand_of s w i ≡ 0
 hand_below_lem s w i t h = rw (get_or_past s.places i nowhere (omega (arith, t.elements))) refl
 
--- and none from there on is held
+-- and none at or above it is held
 pub holds_below_lem : (s : Lists) (w i : ℕ) → IsTable s → s.limits.population ≤ i → holds_of s w i ≡ 0
 holds_below_lem s w i t h =
     elim (cases_lt (w - 1) (length s.holds)) [

@@ -21,7 +21,8 @@ pub record IsKept (s : Inside) : Type 0 where
   pub table : IsTable (lists_of s)
   pub room : s.limits.population ≤ vec_capacity s.common
 
--- Worker w had holds of these elements that ended: the worker's row of holds, and the headers, before and afterwards.
+-- Worker w had holds of these elements that ended: the worker's row of holds, and the headers,
+-- before and afterwards.
 pub record HasEnded (w : ℕ) (es row : List ℕ) (headers : List (Option ℕ)) (left : List ℕ)
     (headers_after : List (Option ℕ)) : Type 0 where
   pub holds : (i : ℕ) → slice_index row i ≡ slice_index left i + bag es i

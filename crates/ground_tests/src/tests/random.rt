@@ -20,7 +20,8 @@ const SCHEDULES: u64 = 1_000;
 /// Steps of a schedule, the refused ones too.
 const STEPS: u64 = 60;
 
-/// An act of each kind of step, from those that are drawn seldom to those drawn often. Their numbers say nothing.
+/// An act of each kind of step, from those that are drawn seldom to those drawn often. Their
+/// numbers say nothing.
 const KINDS: [Act; 20] = [
     Act::LoadLength,
     Act::LoadHead,
@@ -94,8 +95,8 @@ fn element_of(link: u32) -> Option<u64> {
     link.checked_sub(1).map(u64::from)
 }
 
-/// An act of this kind with any numbers, some of them of no pool. What is put in is of no pool, so that nothing is opened
-/// but what is a header of its worker.
+/// An act of this kind with any numbers, some of them of no pool. What is put in is of no pool, so
+/// that nothing is opened but what is a header of its worker.
 fn any_act(kind: Act, draws: &mut Draws) -> Act {
     let element = draws.below(8);
     let number = draws.below(8);
@@ -164,7 +165,7 @@ fn raise_of(world: &World, view: &View, draws: &mut Draws) -> Option<Act> {
     Some(Act::Raise(u64::from(element), u64::from(*count) + draws.below(2)))
 }
 
-/// A packet of a header, and of another element that is held or of none, for the desk in work.
+/// A packet of a header, and of another element that is held or of none, for the busy desk.
 fn put_in_of(view: &View, draws: &mut Draws) -> Option<Act> {
     let work = view.work.as_ref()?;
     let element = draws.pick(&view.headers)?;
@@ -172,7 +173,7 @@ fn put_in_of(view: &View, draws: &mut Draws) -> Option<Act> {
     Some(Act::PutIn(work.desk, element, base))
 }
 
-/// The next step of a worker on the desk in work, once it is begun.
+/// The next step of a worker on the busy desk, once it is begun.
 fn desk_of(kind: Act, work: &Work) -> Option<Act> {
     match (kind, &work.phase) {
         (Act::Open(_), Phase::Filled(_)) => Some(Act::Open(work.desk)),
@@ -229,8 +230,8 @@ fn fit_act(kind: Act, world: &World, worker: u32, draws: &mut Draws) -> Option<A
 /// Where the kind that takes a packet out stands in the table.
 const TAKE_OUT: usize = 18;
 
-/// A kind by its place in the table, a worker and an act: four times in five an act that the worker can play, if one is
-/// soon found, and else any, by workers that aren't there too.
+/// A kind by its place in the table, a worker and an act: four times in five an act that the
+/// worker can play, if one is soon found, and else any, by workers that aren't there too.
 fn drawn_kind(world: &World, draws: &mut Draws) -> (usize, u32, Act) {
     if draws.below(5) > 0 {
         for _ in 0..32 {
@@ -247,7 +248,8 @@ fn drawn_kind(world: &World, draws: &mut Draws) -> (usize, u32, Act) {
     (kind, worker, any_act(KINDS[kind], draws))
 }
 
-/// The same, but that a worker which has seized a desk takes the packet out, since a player does nothing else then.
+/// Draws a worker and an act so, but that a worker which has seized a desk takes the packet out,
+/// since a player does nothing else then.
 fn drawn_act(world: &World, draws: &mut Draws) -> (usize, u32, Act) {
     let (kind, worker, act) = drawn_kind(world, draws);
     match view_of(world, worker).and_then(seized_desk) {
@@ -273,7 +275,8 @@ fn step_random<R: Abort>(
     }
 }
 
-/// Plays a schedule by both, and compares each answer and the words at the end. Notes which kinds were played.
+/// Plays a schedule by both, and compares each answer and the words at the end. Notes which kinds
+/// were played.
 fn play_schedule<R: Abort + AllocGlobal>(
     rt: &R,
     draws: &mut Draws,

@@ -83,8 +83,8 @@ fn join_one<R: Abort>(rt: &R, pool: &Ground, first: &mut Player, other: Player, 
     same(rt, &(place, is_joined), &(place, true), "a seat was joined");
 }
 
-/// Splits so many more seats off, and then each of them takes one element, the first seat the element on top. They are
-/// joined again after that.
+/// Splits this many more seats off, and then each of them takes one element, the first seat the
+/// element on top. They are joined again after that.
 fn take_each<R: Abort>(rt: &R, pool: &Ground, first: &mut Player, more: u32)
     requires { IsOf pool.now first.old.seat }
     ensures { IsOf pool.now first.new.seat }
@@ -169,7 +169,7 @@ fn a_pair_of_one_worker_is_refused(rt: HostRuntime) {
     same(&rt, &cause, &Some(Refusal::BadPool), "a pair of one worker");
 }
 
-/// What is left of a ground of so many elements that nobody has used.
+/// What is left of a ground of this many elements that nobody has used.
 fn closed_unused(alloc: Global, population: u64) -> Result<Closed, Refusal> {
     let limits = Limits { population, ..TWO };
     let (pool, player) = Player::make(alloc, &limits)?;
@@ -230,8 +230,8 @@ fn assert_whole<R: Abort>(rt: &R, closed: &Closed) {
     same(rt, &is_empty, &true, "the desk is empty");
 }
 
-/// Whichever request for memory is refused, no ground with a desk is made, or it is closed with all its words: what a
-/// refused close hands back closes the next time.
+/// Whichever request for memory is refused, no ground with a desk is made, or it is closed with
+/// all its words: what a refused close hands back closes the next time.
 #[test]
 fn refused_memory_loses_no_word(rt: HostRuntime) {
     let limits = Limits { desks: 1, ..TWO };

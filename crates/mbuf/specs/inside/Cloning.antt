@@ -39,8 +39,8 @@ abbrev pub TriesSegs : Limits → List Seg → List ℕ → List Call → List S
 TriesSegs l segs cache calls new (Ok _) left = ClonesSegs l segs cache calls new left
 TriesSegs l segs cache calls new (Err cause) left = GivesUp l segs cache calls cause left
 
--- A packet of one direct segment of this element stands in one slot, and a packet that begins with this segment in
--- the other.
+-- A packet of one direct segment of this element stands in one slot, and a packet that begins with
+-- this segment in the other.
 pub record ArePair (table : List (Option (List Seg))) (mi target : ℕ) (pair : ℕ × Seg) : Type 0 where
   pub own : Seg
   pub others : List Seg

@@ -17,11 +17,11 @@ impl Packets {
     /// and an element whose last hold went is put back through the cache.
     ///
     /// Refused `NoSuchPacket` where no packet stands there; nothing changes then. A push that the
-    /// stack refuses is no refusal: `put_off` tells of the last one, and the elements stay in the
-    /// cache.
+    /// stack refuses is not a refusal: `put_off` tells of the last one, and the elements stay in
+    /// the cache.
     ///
-    /// After rte_mbuf.h, `rte_pktmbuf_free` (DPDK 21.11). That a base's hold ends before its segment's
-    /// own is our order.
+    /// After rte_mbuf.h, `rte_pktmbuf_free` (DPDK 21.11). That a base's hold ends before its
+    /// segment's own is our order.
     #[inline(always)]
     pub fn free<C: Commons>(&mut self, c: &mut C, p: Pid) -> Result<Freed, Refusal>
         requires own { OwnWithGuests self.old (C.side c.old) }

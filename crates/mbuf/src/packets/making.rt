@@ -14,8 +14,8 @@ use commons::refusal::Refusal;
 use commons::shared::Commons;
 
 impl Packets {
-    /// Claims an element of the hand, and lets its fresh packet stand in the lowest free slot, whose
-    /// number it answers.
+    /// Claims an element of the hand, and lets its fresh packet stand in the lowest free slot,
+    /// whose number it answers.
     #[inline(always)]
     fn stand<C: Commons>(&mut self, c: &mut C, elem: u32, slot: usize) -> Pid
         requires hand { 0 < (C.side c.old).hand elem }
@@ -84,9 +84,9 @@ impl Packets {
     /// slots, and answers their slots in `out`. The elements come from one get, and the packets
     /// stand in their order. An empty `out` takes no step.
     ///
-    /// Refused `PacketsFull` where fewer slots are free, else as the cache's get of so many elements
-    /// is: `NoEntries`, `Contended` or `HeadSpent`. Packets, cache and holds are then as before, and
-    /// nothing is said of `out`.
+    /// Refused `PacketsFull` where fewer slots are free, else as the cache's get of that many
+    /// elements is: `NoEntries`, `Contended` or `HeadSpent`. Packets, cache and holds are then as
+    /// before, and nothing is said of `out`.
     ///
     /// After rte_mbuf.h, `rte_pktmbuf_alloc_bulk` (DPDK 21.11). The table of packets is our own.
     pub fn alloc_bulk<C: Commons>(&mut self, c: &mut C, out: &mut [Pid]) -> Result<(), Refusal>

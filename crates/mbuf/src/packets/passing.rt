@@ -13,7 +13,7 @@ use commons::refusal::Refusal;
 use commons::shared::Commons;
 
 impl Packets {
-    /// Puts one packet's segments behind another's.
+    /// Puts one packet's segments after another's.
     #[tactic(auto, using(crate::proofs::PacketCases::nothing))]
     fn join(&mut self, head: Pid, tail: Pid) -> Result<(), Refusal>
         ensures chained { Chains self.old head tail result self.new }
@@ -36,7 +36,7 @@ impl Packets {
         Ok(())
     }
 
-    /// Chains two packets: the tail's segments stand behind the head's last, and the tail's slot is
+    /// Chains two packets: the tail's segments stand after the head's last, and the tail's slot is
     /// empty.
     ///
     /// Refused `NoSuchPacket` where no packet stands in one of the slots, `SamePacket` where they
@@ -54,8 +54,8 @@ impl Packets {
         self.join(head, tail)
     }
 
-    /// Leaves a packet on a desk, of which the pool has `desks`, numbered from 0, and frees its slot.
-    /// All that the packet holds goes with it.
+    /// Leaves a packet on a desk, of which the pool has `desks`, numbered from 0, and frees its
+    /// slot. All that the packet holds goes with it.
     ///
     /// Refused `NoSuchPacket` where no packet stands there, `NoSuchDesk` where the pool has no such
     /// desk, and `DeskTaken` where a desk word other than 0, that of an empty desk, was read. The
@@ -86,12 +86,12 @@ impl Packets {
         }
     }
 
-    /// Takes the packet off a desk, of which the pool has `desks`, numbered from 0, with all that it
-    /// holds. It stands in the lowest free slot, which is the answer.
+    /// Takes the packet off a desk, of which the pool has `desks`, numbered from 0, with all that
+    /// it holds. It stands in the lowest free slot, which is the answer.
     ///
-    /// Refused `NoSuchDesk` where the pool has no such desk and `PacketsFull` where no slot is free,
-    /// both before anything is asked of the shared pool, and `DeskEmpty` where a desk word other
-    /// than 2, that of a full desk, was read. Nothing changes then.
+    /// Refused `NoSuchDesk` where the pool has no such desk and `PacketsFull` where no slot is
+    /// free, both before anything is asked of the shared pool, and `DeskEmpty` where a desk word
+    /// other than 2, that of a full desk, was read. Nothing changes then.
     ///
     /// Desks are our own; DPDK passes mbufs between lcores over an `rte_ring`.
     pub fn take<C: Commons>(&mut self, c: &mut C, desk: u32) -> Result<Pid, Refusal>
@@ -119,7 +119,7 @@ impl Packets {
     }
 }
 
-/// Puts the segments of the packet at `second` behind those of the one at `first`.
+/// Puts the segments of the packet at `second` after those of the one at `first`.
 fn push_segs(packets: &mut Vec<Packet>, first: usize, second: usize)
     requires first { first < vec_len packets.old }
     requires second { second < vec_len packets.old }

@@ -15,8 +15,8 @@ use commons::refusal::Refusal;
 use commons::shared::Commons;
 
 impl Packets {
-    /// The element of the packet in one slot, which has one direct segment, and the first segment of
-    /// the packet in another.
+    /// The element of the packet in one slot, which has one direct segment, and the first segment
+    /// of the packet in another.
     fn pair(&self, mi: Pid, target: Pid) -> Result<(u32, Seg), Refusal>
         ensures pair { result ≡ pair_in self.now mi target }
         ensures are { IfOk result (ArePair self.now.table mi target) }
@@ -42,17 +42,18 @@ impl Packets {
         }
     }
 
-    /// Attaches the packet in the slot `mi`, which has one direct segment that nothing else holds, to
-    /// the buffer of the first segment of the packet in the slot `target`, with its lengths. The
-    /// direct element whose buffer that is, the segment's base or itself, has one hold more.
+    /// Attaches the packet in the slot `mi`, which has one direct segment that nothing else holds,
+    /// to the buffer of the first segment of the packet in the slot `target`, with its lengths.
+    /// The direct element whose buffer that is, the segment's base or itself, has one hold more.
     ///
     /// Refused `NoSuchPacket` where no packet stands in one of the slots, `SamePacket` where they
     /// are one, `TooManySegs` where the packet to attach has several segments, `NotDirect` where it
     /// is indirect, `InUse` where a count other than 1 was read of its element, and `RefSpent` or
     /// `Contended` as the raise of the buffer's count is. Nothing changes then.
     ///
-    /// After rte_mbuf.h, `rte_pktmbuf_attach` (DPDK 21.11), which asserts that the packet to attach is
-    /// direct and its count is 1, in builds with `RTE_ENABLE_ASSERT` alone, and asks nothing else.
+    /// After rte_mbuf.h, `rte_pktmbuf_attach` (DPDK 21.11), which asserts that the packet to
+    /// attach is direct and its count is 1, only in builds with `RTE_ENABLE_ASSERT`, and asks
+    /// nothing else.
     pub fn attach<C: Commons>(&mut self, c: &mut C, mi: Pid, target: Pid) -> Result<(), Refusal>
         requires own { OwnWithGuests self.old (C.side c.old) }
         ensures calls { Calls C.did C.side c.old c.new (λ calls.
@@ -108,14 +109,14 @@ impl Packets {
     }
 
     /// Clones a packet: for each of its segments in order an element is got through the cache,
-    /// claimed and attached to the segment's buffer. The clone stands in the lowest free slot, which
-    /// is the answer.
+    /// claimed and attached to the segment's buffer. The clone stands in the lowest free slot,
+    /// which is the answer.
     ///
     /// Refused `NoSuchPacket` where no packet stands there, `PacketsFull` where no slot is free,
     /// else as the first get or raise is that is refused: `NoEntries`, `Contended`, `HeadSpent` or
     /// `RefSpent`. The clones so far are then freed in order, then an element that was got and not
-    /// attached is put back; packets, holds and headers are as before, and so are the free elements,
-    /// though cache and stack may share them out otherwise.
+    /// attached is put back; packets, holds and headers are as before, and so are the free
+    /// elements, though cache and stack may share them out differently.
     ///
     /// After rte_mbuf.h, `rte_pktmbuf_clone` (DPDK 21.11).
     pub fn clone_packet<C: Commons>(&mut self, c: &mut C, p: Pid) -> Result<Pid, Refusal>

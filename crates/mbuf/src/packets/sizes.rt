@@ -29,11 +29,11 @@ impl Packets {
         Ok(lengths::pkt_len(&self.packets[slot]))
     }
 
-    /// Adds `len` bytes behind the data of a packet's last segment, and answers the packet's new
+    /// Adds `len` bytes after the data of a packet's last segment, and answers the packet's new
     /// length in bytes.
     ///
     /// Refused `NoSuchPacket` where no packet stands there, and `NoRoom` where the last segment's
-    /// tailroom, what its buffer has behind the data, is shorter. Nothing changes then.
+    /// tailroom, what its buffer has after the data, is shorter. Nothing changes then.
     ///
     /// After rte_mbuf.h, `rte_pktmbuf_append` (DPDK 21.11).
     pub fn append<C: Commons>(&mut self, c: &mut C, p: Pid, len: u16) -> Result<u32, Refusal>

@@ -9,16 +9,17 @@ use Rattle.mempool.specs.declared.worker.Worker.TheInside.{Inside}
 abbrev pub cache_of : Inside → WorkerCache
 cache_of w = record { limits = w.limits; number = w.number; cache = w.cache.items }
 
--- By this rule a cache of this size is flushed from this length on. Where a cache keeps its size, what is shorter is below
--- the threshold or no longer than the size; where it goes whole, it is no longer than the threshold.
+-- By this rule a cache of this size is flushed from this length on. Where a cache keeps its size,
+-- what is shorter is below the threshold or no longer than the size; where it goes whole, it is no
+-- longer than the threshold.
 pub record IsFlushLength (rule : PutRule) (size least : ℕ) : Type 0 where
   pub below : rule ≡ Keep → (n : ℕ) → n < least → (n < size * 3 / 2) ⊎ (n ≤ size)
   pub threshold : rule ≡ Keep → size * 3 / 2 ≤ least
   pub more : rule ≡ Keep → size < least
   pub whole : rule ≡ Whole → least ≡ size * 3 / 2 + 1
 
--- the limits are a pool's, the number is of one of its workers, the cache has room for all its elements, and the length
--- from which it is flushed is kept beside it
+-- the limits are a pool's, the number is of one of its workers, the cache has room for all its
+-- elements, and the length from which it is flushed is kept beside it
 pub record IsKept (w : Inside) : Type 0 where
   pub pool : IsPool w.limits
   pub first : 1 ≤ w.number

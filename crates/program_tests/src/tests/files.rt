@@ -176,7 +176,7 @@ fn a_missing_file_and_a_folder_cant_be_read(rt: HostRuntime) -> Result<(), Fail>
     Ok(())
 }
 
-/// A file, what is printed and what is told of it, and the status.
+/// A file, what is printed and what is reported of it, and the status.
 type EndRow = (&'static str, &'static str, &'static str, u8);
 
 static ENDED: [EndRow; 2] = [
@@ -184,7 +184,7 @@ static ENDED: [EndRow; 2] = [
     ("pull 3\n", "", "fault 20 ScriptFault line 1\n", 1),
 ];
 
-/// What is printed of a file's replay, what is told, and the status.
+/// What is printed of a file's replay, what is reported, and the status.
 fn ended<R: Threads + Wait + Sync + Files + AllocGlobal>(
     rt: &R,
     file: &str,
@@ -217,7 +217,8 @@ fn a_print_goes_to_the_output_and_a_failure_to_the_errors(rt: HostRuntime) -> Re
     Ok(())
 }
 
-/// Whether a print to a writer that takes nothing, or a failure told to one, fails, and the status then.
+/// Whether a print to a writer that takes nothing, or a failure told to one, fails, and the status
+/// then.
 fn unwritten<R: Threads + Wait + Sync + Files + AllocGlobal>(rt: &R, file: &str) -> (bool, u8) {
     let task = Task::Replay(Form::Text);
     let request = Request { file, task };

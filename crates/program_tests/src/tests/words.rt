@@ -7,8 +7,8 @@ use std::alloc::{AllocError, Global};
 use std::test::Fail;
 use tasks::task::{Form, Task};
 
-/// What a task is called, a run with what it rests on, in how many turns a line is tried, 0 where none are named, the worker
-/// that is to be lost, if one is, and its form.
+/// What a task is called, a run with what it rests on, in how many turns a line is tried, 0 where
+/// none are named, the worker that is to be lost, if one is, and its form.
 type Asked = (&'static str, u32, Option<u32>, Form);
 
 /// Words, the file that they name, and what they ask for.
@@ -170,8 +170,8 @@ fn words_name_a_file_and_what_is_to_be_done_with_it(rt: HostRuntime) -> Result<(
     Ok(())
 }
 
-/// What is told of words that name no file, on the output and as errors, and two statuses: where that is
-/// written, and where it can't be.
+/// What is printed for words that name no file, on the output and as errors, and two statuses:
+/// where that is written, and where it can't be.
 fn told(alloc: Global, words: &[&str]) -> Result<(String, String, u8, u8), Fail> {
     let words = line(alloc, words)?;
     match request_of(alloc, words.as_slice()) {

@@ -27,7 +27,7 @@ fn write_element(out: &mut Vec<u8>, held: &Held) -> io::Result<()>
     writeln!(out)
 }
 
-/// Each holder behind a space.
+/// Each holder after a space.
 fn write_joined(out: &mut Vec<u8>, holders: &[Holder]) -> io::Result<()>
     ensures { OnOk result (out.new.items ≡ out.old.items ++ joined holder_text holders.now) }
 {

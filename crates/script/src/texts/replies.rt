@@ -14,7 +14,7 @@ use std::io::Write;
 
 /// Appends the line that answers the command of the line `number`.
 ///
-/// Refused `OutOfMemory` where there is no room for it: the line may then stand in part.
+/// Refused `OutOfMemory` where there is no room for it; part of the line may then be written.
 pub fn push_reply<const ROOM: usize>(
     out: &mut Vec<u8>,
     number: u32,

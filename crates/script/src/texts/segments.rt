@@ -57,14 +57,14 @@ fn write_segments(out: &mut Vec<u8>, segs: &[Seg]) -> io::Result<()>
     writeln!(out)
 }
 
-/// How long the data of these segments is. A sum of so many lengths fits 128 bits.
+/// How long the data of these segments is. A sum of this many lengths fits 128 bits.
 fn data_len(segs: &[Seg]) -> u128
     ensures { result ≡ pkt_len segs.now }
 {
     segs.iter().map(|seg| u128::from(seg.data_len)).sum()
 }
 
-/// Each segment behind a space.
+/// Each segment after a space.
 fn write_joined(out: &mut Vec<u8>, segs: &[Seg]) -> io::Result<()>
     ensures { OnOk result (out.new.items ≡ out.old.items ++ joined segment_text segs.now) }
 {

@@ -64,8 +64,8 @@ pub(super) const ROWS: &[PoolRow] = &[
             Step::Statement(ONE_OF_THREE),
         ],
     ),
-    // A get fills the cache and takes its last element. A free keeps the element in the cache of the
-    // worker that frees it, and no worker frees another's packet.
+    // A get fills the cache and takes its last element. A free keeps the element in the cache of
+    // the worker that frees it, and no worker frees another's packet.
     (
         "each worker has its own cache and its own packets",
         Limits {
@@ -154,7 +154,7 @@ pub(super) const ROWS: &[PoolRow] = &[
             Step::Statement(ONE_ON_A_DESK),
         ],
     ),
-    // A desk that isn't there is told of before a full table, and that before an empty desk.
+    // A desk that isn't there is reported before a full table, and that before an empty desk.
     (
         "a full table takes no packet",
         Limits {

@@ -17,15 +17,18 @@ use std::test::Fail;
 use std::thread::Threads;
 
 /// Scripts of several workers that end alike in whatever order their threads act: one worker alone
-/// takes elements and puts any back, and who takes a packet off a desk waits for the one offer there.
+/// takes elements and puts any back, and who takes a packet off a desk waits for the one offer
+/// there.
 ///
 /// These don't, and are left out:
 /// - Where two workers take elements of the common stack, the first gets the upper ones: "two
 ///   workers", "a held element is listed with its desks", "take into a full table".
 /// - Where two free what shares a base, it goes back to the cache of the last: "clone over a desk".
-/// - Where a desk is offered on twice, the second offer is met if a take comes between: "desk refusals".
-/// - A worker who waits at a desk on which it has offered may take its own packet back: "a name that is
-///   offered and taken is each workers own", "a packet of 32 segments goes over all desks and back".
+/// - Where a desk is offered on twice, the second offer succeeds if a take comes between: "desk
+///   refusals".
+/// - A worker who waits at a desk on which it has offered may take its own packet back: "a name
+///   that is offered and taken is each workers own", "a packet of 32 segments goes over all desks
+///   and back".
 const ALIKE: &[&str] = &[
     "example of desks",
     "names and caches are each workers own",
@@ -101,7 +104,8 @@ fn assert_ends_on<R: Threads + Wait + Sync + Abort + AllocGlobal>(
     Ok(())
 }
 
-/// Runs a script of one worker on each ground, where it has to end as its replay does. Whether it is one.
+/// Runs a script of one worker on each ground, where it has to end as its replay does. Whether it
+/// is one.
 fn assert_ends_as_its_replay<R: Threads + Wait + Sync + Abort + AllocGlobal>(
     rt: &R,
     text: &str,
@@ -131,7 +135,8 @@ fn end_rows<R: Threads + Wait + Sync + Abort + AllocGlobal>(
     Ok(ended)
 }
 
-/// The same of the rows that are too long to write out.
+/// How many of the rows that are too long to write out are scripts of one worker; each of these
+/// ends as its replay does.
 fn end_long_rows<R: Threads + Wait + Sync + Abort + AllocGlobal>(
     rt: &R,
     rows: &[BuiltRow],
@@ -162,7 +167,8 @@ fn a_script_of_one_worker_ends_on_either_ground_as_its_replay(rt: HostRuntime) -
     Ok(())
 }
 
-/// Runs a script that ends alike 20 times on each ground, where it has to end as its replay does. Whether it is one.
+/// Runs a script that ends alike 20 times on each ground, where it has to end as its replay does.
+/// Whether it is one.
 fn assert_ends_alike<R: Threads + Wait + Sync + Abort + AllocGlobal>(
     rt: &R,
     text: &str,
@@ -211,7 +217,8 @@ fn first_end<R: Threads + Wait + Sync>(
     statement_text(alloc, &statement)
 }
 
-/// Whichever request for memory is refused, a run of one worker comes to the same statement, or to none.
+/// Whichever request for memory is refused, a run of one worker comes to the same statement, or to
+/// none.
 #[test]
 fn refused_memory_changes_no_run(rt: HostRuntime) {
     for grounds in GROUNDS {

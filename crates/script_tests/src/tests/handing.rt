@@ -9,7 +9,8 @@ use share_book::site_pool::SitePool;
 use std::alloc::Global;
 use std::process::Abort;
 
-/// How many elements are free once one worker has made a packet, and another has taken it off a desk and freed it.
+/// How many elements are free once one worker has made a packet, and another has taken it off a
+/// desk and freed it.
 fn handed_over(alloc: Global, limits: &Limits) -> Result<u64, Refusal> {
     let mut pool = SitePool::make(alloc, limits)?;
     let _made = pool.perform(1, Act::Alloc);
@@ -20,7 +21,7 @@ fn handed_over(alloc: Global, limits: &Limits) -> Result<u64, Refusal> {
     Ok(statement.available)
 }
 
-/// So many elements are free then, or memory was wanting.
+/// This many elements are free then, or memory was refused.
 fn assert_free<R: Abort + AllocGlobal>(rt: &R, limits: &Limits, free: u64, what: &str) {
     match handed_over(rt.alloc(), limits) {
         Ok(available) => same(rt, &available, &free, what),

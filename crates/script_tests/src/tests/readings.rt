@@ -49,7 +49,7 @@ pub(super) const ROWS: &[ReadRow] = &[
         "2 1 attach a b; 3 1 detach a; 4 1 clone b c; 5 1 count c; 6 1 attach d d; \
         7 1 clone a1 b2; ",
     ),
-    // The number of a desk is read whether the pool has so many or not.
+    // The number of a desk is read whether the pool has that many or not.
     (
         "the commands of desks are read",
         "pool 9 workers 2\noffer a 0\ntake 0 b\n 2:  offer  a1  007 \n2: take 65535 a\n\

@@ -247,7 +247,8 @@ fn assert_end<R: Abort + AllocGlobal>(rt: &R, statement: &Statement) {
     assert_given(rt, text, FOUR_TEXT, "the statement of the four workers");
 }
 
-/// The missing share was named, and what was handed back settled, or memory for a pool was wanting.
+/// The missing share was named, and what was handed back settled, or memory for a pool was
+/// refused.
 fn assert_late<R: Abort + AllocGlobal>(rt: &R, late: Result<Late, Refusal>) {
     match late {
         Ok((cause, Some(statement))) => {
@@ -259,13 +260,15 @@ fn assert_late<R: Abort + AllocGlobal>(rt: &R, late: Result<Late, Refusal>) {
     }
 }
 
-/// Whichever request for memory is refused, a missing share is told of, and what was handed back settles.
+/// Whichever request for memory is refused, a missing share is named, and what was handed back
+/// settles.
 #[test]
 fn a_missing_share_is_named_and_what_is_handed_back_settles(rt: HostRuntime) {
     assert_late(&rt, settle_four(rt.alloc()));
 }
 
-/// The same of a pool under a lock, each of whose acts is replied to as without one.
+/// A missing share of a pool under a lock is named too, and what was handed back settles. Each act
+/// is replied to as without a lock.
 #[test]
 fn a_missing_share_of_a_locked_pool_is_named_and_what_is_handed_back_settles(rt: HostRuntime) {
     assert_late(&rt, settle_four_locked(&rt, rt.alloc()));

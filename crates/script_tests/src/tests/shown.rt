@@ -5,7 +5,7 @@ use script_text::commands::{Command, Line, Name};
 use script_text::steps::StepLine;
 use std::alloc::{AllocError, Global};
 
-/// Adds a name behind a space. Its bytes are letters and digits.
+/// Adds a name after a space. Its bytes are letters and digits.
 fn push_name(text: &mut String, name: &Name) -> Result<(), AllocError> {
     text.push_str(" ")?;
     for byte in name.as_slice() {
@@ -14,7 +14,7 @@ fn push_name(text: &mut String, name: &Name) -> Result<(), AllocError> {
     Ok(())
 }
 
-/// Adds a word and the names behind it.
+/// Adds a word and the names after it.
 fn push_words(text: &mut String, word: &str, names: &[&Name]) -> Result<(), AllocError> {
     text.push_str(word)?;
     for name in names {
@@ -74,14 +74,14 @@ fn push_command(text: &mut String, command: &Command) -> Result<(), AllocError> 
     }
 }
 
-/// Adds what a line says, with a semicolon behind it.
+/// Adds what a line says, with a semicolon after it.
 fn push_line(text: &mut String, line: &Line) -> Result<(), AllocError> {
     write!(text, "{} {} ", line.number, line.worker)?;
     push_command(text, &line.command)?;
     text.push_str("; ")
 }
 
-/// What each line says, with a semicolon behind each.
+/// What each line says, with a semicolon after each.
 pub(super) fn shown_lines(alloc: Global, lines: &[Line]) -> Result<String, AllocError> {
     let mut text = String::new(alloc);
     for line in lines {
@@ -90,7 +90,7 @@ pub(super) fn shown_lines(alloc: Global, lines: &[Line]) -> Result<String, Alloc
     Ok(text)
 }
 
-/// What each line of a script of steps says, with a semicolon behind each.
+/// What each line of a script of steps says, with a semicolon after each.
 pub(super) fn shown_steps(alloc: Global, lines: &[StepLine]) -> Result<String, AllocError> {
     let mut text = String::new(alloc);
     for line in lines {

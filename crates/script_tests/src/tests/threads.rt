@@ -1,4 +1,5 @@
-//! Workers in threads of their own, on words and under a lock, and a book that threads put shares in.
+//! Workers in threads of their own, on words and under a lock, and a book that threads put shares
+//! in.
 
 ghost use Rattle.std.specs.Prelude.{◌≤◌};
 
@@ -44,7 +45,7 @@ const HANDED_OVER: &str = "pool 4 workers 2 desks 1\nalloc a\noffer a 0\n2: take
 /// The number of each of 64 workers.
 const WORKER: Field = Field("", 1, 1);
 
-/// Each worker has a desk, and takes from another's. What is met depends on who comes first: 100
+/// Each worker has a desk, and takes from another's. What succeeds depends on who comes first: 100
 /// elements don't last for three packets each.
 const CROWD: &[Part] = &[
     Part::Text("pool 100 cache 2 workers 64 desks 64\n"),
@@ -162,7 +163,7 @@ fn listed(alloc: Global, statement: &Statement) -> Result<Vec<u32>, AllocError> 
     Ok(elems)
 }
 
-/// So many elements, from 0.
+/// This many elements, from 0.
 fn all_below(alloc: Global, population: u32) -> Result<Vec<u32>, AllocError> {
     let mut all = Vec::new(alloc);
     for elem in 0..population {
@@ -171,7 +172,7 @@ fn all_below(alloc: Global, population: u32) -> Result<Vec<u32>, AllocError> {
     Ok(all)
 }
 
-/// A statement lists each of so many elements once, and no other.
+/// A statement lists each of this many elements once, and no other.
 fn assert_each_once<R: Abort>(
     rt: &R,
     alloc: Global,
@@ -354,7 +355,8 @@ fn deposit_noted<R: Wait>(rt: &R, book: &Mutex<Book>, failed: &AtomicBool, share
     }
 }
 
-/// The same with the share of a slot, where there is one.
+/// Puts the share of a slot in a book, where there is one, and notes a failure where that is
+/// refused.
 fn deposit_slot<R: Wait>(
     rt: &R,
     book: &Mutex<Book>,

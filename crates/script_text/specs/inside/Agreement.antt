@@ -22,7 +22,7 @@ use Rattle.script_text.specs.inside.ScriptReading.{Lexicon, is_made, are_ready}
 
 -- ---- names that were made
 
--- a name with zeros behind it
+-- a name with zeros after it
 unfoldable pub padded_to : ℕ → List ℕ → List ℕ
 padded_to zero name = []
 padded_to (suc n) [] = 0 ∷ padded_to n []
@@ -48,7 +48,7 @@ AreMade lexicon made lines =
 abbrev pub state_of : {C : Type 0} → Reader C → State C
 state_of reader = record { numbers = option_map numbers_of reader.limits; lines = reader.lines.items }
 
--- the worker is one of so many
+-- the worker is one of this many
 abbrev pub IsAmong : ℕ → ℕ → Type 0
 IsAmong workers worker = (1 ≤ worker) × (worker ≤ workers)
 
@@ -89,7 +89,7 @@ refusal_at OutOfMemory number = refusals.OutOfMemory
 
 -- ---- a script
 
--- the reading was refused likewise; of a refusal for want of memory nothing is said
+-- the reading was refused likewise; of a refusal for lack of memory nothing is said
 abbrev pub Fails : {C : Type 0} → Refusal → Result (State C) Refusal → Type 0
 Fails refusals.OutOfMemory read = Unit {0}
 Fails refusal read = read ≡ Err refusal

@@ -66,7 +66,7 @@ numbered_name word other =
     option_and_then (λ name. option_and_then (λ n. Some (name, n)) (short_number_at other))
     (name_at word)
 
--- a name and the number behind it
+-- a name and the number after it
 abbrev pub name_and_number : List (List ℕ) → Option (List ℕ × ℕ)
 name_and_number words = option_and_then (λ both. numbered_name both.0 both.1) (both_of words)
 
@@ -98,7 +98,7 @@ numbered_with make found = option_and_then (λ named. Some (make named.0 named.1
 abbrev pub resize_with : (ℕ → Change) → List (List ℕ) → Option Command
 resize_with change words = numbered_with (λ name n. Resize name (change n)) (name_and_number words)
 
--- the command of a verb and the words behind it
+-- the command of a verb and the words after it
 abbrev pub command_with : Verb → List (List ℕ) → Option Command
 command_with verbs.Alloc words = name_with Alloc words
 command_with verbs.Bulk words = option_and_then (λ names. Some (Bulk names)) (names_with words)

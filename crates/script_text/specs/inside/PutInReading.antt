@@ -32,7 +32,7 @@ segments_from so_far (word ∷ words) =
     if length so_far == 32 then None else option_and_then
     (λ segment. segments_from (so_far ++ segment ∷ []) words) (segment_at word)
 
--- the step, from the words behind its verb
+-- the step, from the words after its verb
 abbrev pub put_in_from : List (List ℕ) → Option Step
 put_in_from [] = None
 put_in_from (number ∷ words) = option_and_then

@@ -14,7 +14,7 @@ use Rattle.script_text.specs.PoolLine.{key_word, same_key}
 
 -- ---- lines
 
--- the lines of a text, and the bytes behind the last line end
+-- the lines of a text, and the bytes after the last line end
 pub record Parts : Type 0 where
   pub lines : List (List ℕ)
   pub rest : List ℕ
@@ -69,7 +69,7 @@ both_of (word ∷ []) = None
 both_of (word ∷ other ∷ []) = Some (word, other)
 both_of (word ∷ other ∷ third ∷ words) = None
 
--- what a verb says that has no words behind it
+-- what a verb says that has no words after it
 abbrev pub without_words : {C : Type 0} → C → List (List ℕ) → Option C
 without_words command [] = Some command
 without_words command (word ∷ words) = None
@@ -192,7 +192,7 @@ settings_from settings (key ∷ []) = None
 settings_from settings (key ∷ number ∷ words) =
     option_and_then (λ more. settings_from more words) (add_pair settings key number)
 
--- the numbers of a pool line with so many elements and these settings
+-- the numbers of a pool line with this many elements and these settings
 abbrev pub numbers_by : ℕ → Settings → PoolNumbers
 numbers_by population settings = record {
   population = population;
@@ -206,7 +206,7 @@ numbers_by population settings = record {
   put_rule = unwrap_or settings.rule 0;
 }
 
--- the numbers, from the words behind `pool`
+-- the numbers, from the words after `pool`
 abbrev pub pool_with : List (List ℕ) → Option PoolNumbers
 pool_with [] = None
 pool_with (number ∷ words) =

@@ -23,7 +23,7 @@ before_colon word =
     if bytes_eq (drop (length word - 1) word) (codes ":") then Some (take (length word - 1) word)
     else None
 
--- the worker of this number, if there are so many
+-- the worker of this number, if there are that many
 abbrev pub of_workers : ℕ → ℕ → Option ℕ
 of_workers workers worker = if nat_le 1 worker && nat_le worker workers then Some worker else None
 
@@ -37,7 +37,7 @@ worker_at workers number = option_and_then (of_workers workers) (number_at numbe
 abbrev pub with_name : (ℕ → List ℕ → Bool) → ℕ → List ℕ → ℕ → List ℕ → Bool
 with_name made worker name w other = (w == worker && bytes_eq other name) || made w other
 
--- whether one of the names was made before, or stands behind itself
+-- whether one of the names was made before, or stands after itself
 abbrev pub repeats : (ℕ → List ℕ → Bool) → ℕ → List (List ℕ) → Bool
 repeats made worker [] = false
 repeats made worker (name ∷ names) = made worker name
@@ -96,7 +96,7 @@ module _ {C : Type 0} (lexicon : Lexicon C) where
   order_by workers (Some number) all behind =
       option_and_then (λ worker. order_of worker behind) (worker_at workers number)
 
-  -- the worker and the command that the words of a line are, in a pool of so many workers
+  -- the worker and the command that the words of a line are, in a pool of this many workers
   abbrev pub order_from : ℕ → List (List ℕ) → Option (ℕ × C)
   order_from workers [] = None
   order_from workers (word ∷ words) = order_by workers (before_colon word) (word ∷ words) words
@@ -115,7 +115,7 @@ module _ {C : Type 0} (lexicon : Lexicon C) where
       if repeats (is_made state.lines) order.0 (lexicon.language.names_made order.1) then None
       else Some (with_command state number order.0 order.1)
 
-  -- what is told after these words, where a pool's numbers are told and it has so many workers
+  -- what is told after these words, where a pool's numbers are told and it has this many workers
   abbrev pub read_command : ℕ → State C → ℕ → List (List ℕ) → Option (State C)
   read_command workers state number words =
       if nat_lt (length state.lines) 10000

@@ -63,7 +63,7 @@ two_at read read_other words = option_and_then
 abbrev pub step_of : {A : Type 0} → (A → Step) → Option A → Option Step
 step_of make found = option_and_then (λ a. Some (make a)) found
 
--- the step of a verb and the words behind it
+-- the step of a verb and the words after it
 abbrev pub step_with : StepVerb → List (List ℕ) → Option Step
 step_with LoadLength words = without_words kinds.LoadLength words
 step_with Reserve words = step_of (λ both. kinds.Reserve both.0 both.1)

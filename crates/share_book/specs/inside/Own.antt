@@ -1,5 +1,5 @@
--- A worker's part of the lists: what a `PlainSite` keeps for it is what the worker has. No public clause cites
--- this module.
+-- A worker's part of the lists: what a `PlainSite` keeps for it is what the worker has. No public
+-- clause cites this module.
 use Rattle.std.specs.Prelude.{ℕ, ◌≤◌}
 use Rattle.commons.specs.Lists.{Lists, side_of}
 use Rattle.mbuf.specs.Members.{Member}

@@ -24,7 +24,8 @@ pub record IsMember (s : Lists) (n : ℕ) (m : Member) : Type 0 where
   pub number : m.number ≡ n + 1
   pub own : OwnOnLists s (n + 1) m
 
--- The lists show a table, each worker owns its part of them, and the whole pool is one that acts reach.
+-- The lists show a table, each worker owns its part of them, and the whole pool is one that acts
+-- reach.
 pub record IsSitePool (p : Inside) : Type 0 where
   pub table : IsTable p.site
   pub workers : length p.members.items ≡ p.site.limits.workers

@@ -26,7 +26,7 @@ held_of s = elements_with s.guests (own_pool s)
 abbrev pub lists_of : {X : Type 0} → List (Vec X Global) → List (List X)
 lists_of table = map (λ list. list.items) table
 
--- each element's list has got more holders behind it
+-- each element's list has got more holders after it
 pub record AreAdded (more : ℕ → List Holder) (old new : List (List Holder)) : Type 0 where
   pub len : length new ≡ length old
   pub each : (i : ℕ) → slice_index_or new i [] ≡ slice_index_or old i [] ++ more i

@@ -9,7 +9,7 @@ abbrev pub IsPacketIn : Option (List Seg) → Type 0
 IsPacketIn None = Unit {0}
 IsPacketIn (Some segs) = IsPacket segs
 
--- something stands there, and is no packet
+-- something stands there, and isn't a packet
 abbrev pub IsOtherIn : Option (List Seg) → Type 0
 IsOtherIn None = ⊥
 IsOtherIn (Some segs) = ¬ (IsPacket segs)
@@ -18,7 +18,7 @@ IsOtherIn (Some segs) = ¬ (IsPacket segs)
 abbrev pub HasPackets : List (Option (List Seg)) → Type 0
 HasPackets table = All IsPacketIn table
 
--- something in the table is no packet
+-- something in the table isn't a packet
 abbrev pub HasOther : List (Option (List Seg)) → Type 0
 HasOther table = (place : Option (List Seg)) × Contains table place × IsOtherIn place
 

@@ -4,16 +4,16 @@ use Rattle.snapshot.specs.declared.snapshot.Snapshot.{Snapshot}
 use Rattle.snapshot.specs.declared.tally.tables.Tally.{Tally}
 use Rattle.snapshot.specs.Snapshots.{times_free, times_held, times_own}
 
--- the number that stands for so many: it goes no higher than the greatest `u32`
+-- the number that stands for this many: it goes no higher than the greatest `u32`
 abbrev pub capped : ℕ → ℕ
 capped n = min n 4294967295
 
--- each element was met so many times more, by the row before and the row afterwards
+-- each element was met this many times more, by the row before and the row afterwards
 pub record HasMet (times : ℕ → ℕ) (old new : List ℕ) : Type 0 where
   pub len : length new ≡ length old
   pub counts : (i : ℕ) → slice_index new i ≡ capped (slice_index old i + times i)
 
--- the row has a number for each of so many elements: how often it was met
+-- the row has a number for each of this many elements: how often it was met
 pub record IsRow (size : ℕ) (times : ℕ → ℕ) (row : List ℕ) : Type 0 where
   pub len : length row ≡ size
   pub counts : (i : ℕ) → slice_index row i ≡ capped (times i)

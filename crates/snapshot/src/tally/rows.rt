@@ -1,4 +1,5 @@
-//! Rows that count, for each element, how often it was met. Each number stops at the greatest `u32`.
+//! Rows that count, for each element, how often it was met. Each number stops at the greatest
+//! `u32`.
 
 ghost use Rattle.std.specs.Prelude.{◌≡◌, ◌<◌, ◌≤◌, ℕ, IfOk, length};
 ghost use Rattle.commons.specs.Bag.{bag, one};
@@ -11,7 +12,7 @@ use commons::packet::Seg;
 use pool_model::guest::Guest;
 use std::alloc::{AllocError, Global};
 
-/// A row of so many zeros.
+/// A row of this many zeros.
 pub(crate) fn zeros(alloc: Global, size: usize) -> Result<Vec<u32>, AllocError>
     ensures { IfOk result (λ row. IsRow size (λ _. 0) row.items) }
 {

@@ -9,11 +9,12 @@ use commons::shared::Commons;
 use crossbeam_utils::Backoff;
 use stack_lf::words::WordCommons;
 
-/// How often a worker tries to leave a packet on a desk, or to take one off, while another is in its way: for longer than a
-/// test may run, since beside other work the other's thread may begin late.
+/// How often a worker tries to leave a packet on a desk, or to take one off, while another is in
+/// its way: for longer than a test may run, since on a loaded machine the other's thread may begin
+/// late.
 const TRIES: u32 = 100_000_000;
 
-/// The most bytes of data in a buffer of 2,048 behind a headroom of 128.
+/// The most bytes of data in a buffer of 2,048 after a headroom of 128.
 const MOST_DATA: u16 = 1_920;
 
 /// A worker who carries nothing.
@@ -24,8 +25,9 @@ pub(super) fn nothing(c: &WordCommons) -> Option<Packet>
     None
 }
 
-/// Makes a packet of one element, with so many bytes of data, and carries it instead of what was carried. Refused
-/// `NoRoom` where the buffer has no room for so many, and as the get is; the worker carries on what it had then.
+/// Makes a packet of one element, with this many bytes of data, and carries it instead of what was
+/// carried. Refused `NoRoom` where the buffer has no room for that many, and as the get is; the
+/// worker carries on what it had then.
 pub(super) fn make(
     c: &mut WordCommons,
     carried: &mut Option<Packet>,
@@ -73,8 +75,8 @@ pub(super) fn offer(
     }
 }
 
-/// Takes the packet off a desk, and carries it instead of what was carried; where that is refused, the worker carries on
-/// what it had.
+/// Takes the packet off a desk, and carries it instead of what was carried; where that is refused,
+/// the worker carries on what it had.
 pub(super) fn take(
     c: &mut WordCommons,
     carried: &mut Option<Packet>,

@@ -1,4 +1,5 @@
-//! Packets of one element that go over desks: between two workers in one thread, and in threads of their own.
+//! Packets of one element that go over desks: between two workers in one thread, and in threads of
+//! their own.
 
 ghost use Rattle.stack_tests.specs.Carrying.{Carries};
 ghost use Rattle.stack_tests.specs.Idle.{IsIdle, Stays};
@@ -21,7 +22,7 @@ use std::test::Fail;
 use std::thread;
 use std::thread::Threads;
 
-/// What a worker does, and what is told of it.
+/// What a worker does, and what is reported of it.
 enum Turn {
     /// Makes a packet of this many bytes.
     Make(u16),
@@ -99,7 +100,8 @@ fn follow_make<R: Abort>(
     same(rt, &made, &Ok(()), &(name, "a packet is made"));
 }
 
-/// An offer of a packet is answered as it is told, and a refused one leaves the packet as it was.
+/// An offer of a packet is answered as its row says, and a refused one leaves the packet as it
+/// was.
 fn assert_offered<R: Abort>(
     rt: &R,
     before: Option<Seg>,
@@ -113,7 +115,8 @@ fn assert_offered<R: Abort>(
     same(rt, &given, &(true, told, left), &(what, "an offer"));
 }
 
-/// A worker leaves its packet on this desk, and is answered so. A packet whose offer is refused has to be as it was.
+/// A worker leaves its packet on this desk, and is answered so. A packet whose offer is refused
+/// has to be as it was.
 fn follow_offer<R: Abort>(
     rt: &R,
     c: &mut WordCommons,
@@ -200,7 +203,7 @@ fn follow_all<R: Abort>(
     (carried, others)
 }
 
-/// The first elements of these packets besides.
+/// Adds the first elements of these packets.
 fn add_elements(elements: &mut Vec<u32>, packets: &[Option<Packet>]) -> Result<(), AllocError> {
     for packet in packets {
         if let Some(seg) = first_seg(packet) {
@@ -242,7 +245,8 @@ fn play_row<R: Abort>(
     (seat, [carried, others])
 }
 
-/// Plays a row, and demands that each element is in the common list, or in one packet that is carried or on a desk.
+/// Plays a row, and demands that each element is in the common list, or in one packet that is
+/// carried or on a desk.
 fn assert_row<R: Abort>(rt: &R, alloc: Global, row: &Row) -> Result<(), Fail> {
     let limits = Limits {
         population: 4,
@@ -274,8 +278,9 @@ fn len_of(place: u16) -> u16 {
     place % 1_000
 }
 
-/// A worker who makes packets and leaves each on desk 0 once the one before it was taken. `met` counts those that were
-/// left there; a packet that never found the desk empty ends the turns, and is kept.
+/// A worker who makes packets and leaves each on desk 0 once the one before it was taken. `met`
+/// counts those that were left there; a packet that never found the desk empty ends the turns, and
+/// is kept.
 fn hand_over(alloc: Global, ground: &Ground, worker: Worker) -> Played
     requires { IsIdle ground.now worker.seat }
     ensures { IsIdle ground.now result.seat }
@@ -306,8 +311,8 @@ fn hand_over(alloc: Global, ground: &Ground, worker: Worker) -> Played
     }
 }
 
-/// A worker who takes as many packets off desk 0, each once it is there, and keeps them. They have to come in the order in
-/// which they were left.
+/// A worker who takes as many packets off desk 0, each once it is there, and keeps them. They have
+/// to come in the order in which they were left.
 fn take_over(alloc: Global, ground: &Ground, worker: Worker) -> Played
     requires { IsIdle ground.now worker.seat }
     ensures { IsIdle ground.now result.seat }
@@ -357,7 +362,8 @@ fn both_play<R: Threads + Sync>(
     joined(ground, first, second)
 }
 
-/// Ends the pool, and demands that all packets went over its desk, which is empty, and that each element is there once.
+/// Ends the pool, and demands that all packets went over its desk, which is empty, and that each
+/// element is there once.
 fn assert_handed<R: Abort>(
     rt: &R,
     alloc: Global,

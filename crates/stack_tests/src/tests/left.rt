@@ -7,7 +7,8 @@ use std::fmt::Debug;
 use std::process::Abort;
 use std::test::Fail;
 
-/// The elements of the common list, its top first. A list that doesn't end has one more than the pool.
+/// The elements of the common list, its top first. Of a list that doesn't end, one element more
+/// than the pool has.
 fn common_list(alloc: Global, closed: &Closed) -> Result<Vec<u32>, AllocError> {
     let links = closed.links.as_slice();
     let mut list = Vec::new(alloc);

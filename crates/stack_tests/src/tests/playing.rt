@@ -48,7 +48,8 @@ pub(super) struct Played {
     pub sound: bool,
 }
 
-/// Gets as many elements as `out` has places for, and puts the same back: the answer of the put, where the get was met.
+/// Gets as many elements as `out` has places for, and puts the same back: the answer of the put,
+/// where the get succeeded.
 pub(super) fn there_and_back(
     c: &mut WordCommons,
     out: &mut [u32],
@@ -90,8 +91,8 @@ impl Tally {
     }
 }
 
-/// A worker who gets a list of `n` elements and puts it back, again and again. A list whose put is refused stays in the
-/// hand.
+/// A worker who gets a list of `n` elements and puts it back, again and again. A list whose put is
+/// refused stays in the hand.
 pub(super) fn rounds(alloc: Global, ground: &Ground, worker: Worker, n: usize, times: u32) -> Played
     requires idle { IsIdle ground.now worker.seat }
     requires some { 0 < n }

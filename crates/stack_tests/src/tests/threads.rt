@@ -106,8 +106,8 @@ fn four_play<R: Threads + Sync>(
     joined(ground, first, second)
 }
 
-/// Ends a pool, and demands that each element is in its common list or in a hand, once, and that a list went there and
-/// back where the pool has that many elements.
+/// Ends a pool, and demands that each element is in its common list or in a hand, once, and that a
+/// list went there and back where the pool has that many elements.
 fn assert_left<R: Abort, W: Debug>(
     rt: &R,
     alloc: Global,

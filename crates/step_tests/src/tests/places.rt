@@ -105,7 +105,8 @@ fn count_of(places: &Places) -> usize {
     }
 }
 
-/// Whether an element is in exactly one place and has the count that goes with it, in which schedule and after which step.
+/// Whether an element is in exactly one place and has the count that goes with it, in which
+/// schedule and after which step.
 fn assert_place<R: Abort>(rt: &R, places: &Places, count: u32, at: (u64, u64, u32)) {
     assert!(rt;
         is_once(places) && count as usize == count_of(places),

@@ -36,7 +36,7 @@ pub(super) fn assert_end<R: Abort>(rt: &R, world: &World, end: &End, name: &str)
     }
 }
 
-/// Whether the head and the length word are so, and there are so many views and desks.
+/// Whether the head and the length word are so, and there are this many views and desks.
 fn assert_words<R: Abort>(rt: &R, world: &World, end: &End, name: &str) {
     let head = world.head();
     let sizes = (world.views().len(), world.desks().len());
@@ -72,7 +72,7 @@ fn assert_view<R: Abort>(rt: &R, view: &View, end: &End, place: usize, name: &st
     }
 }
 
-/// The count of an element of which these are told: 1 where it isn't among them.
+/// The count of an element, of those that are given: 1 where it isn't among them.
 fn count_told(counts: &[(usize, u32)], element: usize) -> u32 {
     for (other, count) in counts {
         if *other == element {

@@ -466,7 +466,7 @@ pub(super) const ROWS: &[Row] = &[
     ),
 ];
 
-/// A name, a text that is no script of steps, and its refusal.
+/// A name, a text that isn't a script of steps, and its refusal.
 pub(super) type FaultyRow = (&'static str, &'static str, Refusal);
 
 pub(super) const FAULTY: &[FaultyRow] = &[

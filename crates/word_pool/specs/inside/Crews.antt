@@ -8,7 +8,7 @@ use Rattle.pool_model.specs.Pool.{new_members}
 use Rattle.step_core.specs.World.{empty_view}
 use Rattle.word_pool.specs.Workers.{Manned, HasNotActed, IsWorker, members_of}
 
--- a seat with so many parts of a pool of these limits, which names nothing and has taken no step
+-- a seat with this many parts of a pool of these limits, which names nothing and has taken no step
 pub record IsUnused (l : Limits) (part : ℕ) (s : Seated) : Type 0 where
   pub limits : s.known.limits ≡ l
   pub view : s.known.view ≡ empty_view part

@@ -7,8 +7,8 @@ use Rattle.mbuf.specs.Members.{Member}
 use Rattle.word_book.specs.Shares.{AreSharesOf}
 use Rattle.word_pool.specs.Workers.{Manned, HasNotActed, IsIdle, IsWorker, members_of}
 
--- The seats of the last workers are one seat, which is at rest and has their parts, and their shares are handed in, the
--- last worker's first. The others are left.
+-- The seats of the last workers are one seat, which is at rest and has their parts, and their
+-- shares are handed in, the last worker's first. The others are left.
 pub record AreJoined (g : Grounded) (all left : List Manned) (seat : Seated) (handed : List Member) : Type 0 where
   pub each : All (IsWorker g) left
   pub done : List Manned

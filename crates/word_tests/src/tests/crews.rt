@@ -1,4 +1,4 @@
-//! What the workers of a pool do in threads of their own, act by act, and what is told of it.
+//! What the workers of a pool do in threads of their own, act by act, and what is reported of it.
 
 ghost use Rattle.ground.specs.Seats.{IsOf};
 ghost use Rattle.word_pool.specs.Workers.{Stays};
@@ -10,7 +10,7 @@ use mbuf::packets::Pid;
 use std::sync::atomic::{AtomicU64, Ordering};
 use word_pool::worker::WordWorker;
 
-/// What is told of one worker's acts.
+/// What is reported of one worker's acts.
 #[derive(Clone, Copy, Default)]
 pub(super) struct Tally {
     /// How many acts there were.
@@ -31,7 +31,8 @@ impl Tally {
         self.wrong = self.wrong.saturating_add(1);
     }
 
-    /// The slot of a packet that was made. None where too few elements were left, or others were in the way.
+    /// The slot of a packet that was made. None where too few elements were left, or others were
+    /// in the way.
     fn slot(&mut self, reply: &Reply) -> Option<Pid> {
         match reply {
             Reply::Allocated(slot, _) | Reply::Cloned(slot, _) => {
@@ -47,7 +48,7 @@ impl Tally {
     }
 }
 
-/// What is told of the acts of all workers together.
+/// What is reported of the acts of all workers together.
 #[derive(Drop)]
 pub(super) struct Tallies {
     calls: AtomicU64,
@@ -69,7 +70,7 @@ impl Tallies {
         }
     }
 
-    /// Adds what is told of one worker's.
+    /// Adds what is reported of one worker's.
     pub(super) fn add(&self, tally: &Tally) {
         self.calls.fetch_add(tally.calls, Ordering::SeqCst);
         self.made.fetch_add(tally.made, Ordering::SeqCst);
@@ -78,7 +79,7 @@ impl Tallies {
         self.wrong.fetch_add(tally.wrong, Ordering::SeqCst);
     }
 
-    /// What is told of all.
+    /// What is reported of all.
     pub(super) fn all(&self) -> Tally {
         Tally {
             calls: self.calls.load(Ordering::SeqCst),
@@ -127,7 +128,7 @@ pub(super) fn free(ground: &Ground, worker: &mut WordWorker, tally: &mut Tally, 
     }
 }
 
-/// The same, where there is such a slot.
+/// Lets a worker free the packet in a slot, where there is such a slot.
 pub(super) fn free_any(
     ground: &Ground,
     worker: &mut WordWorker,

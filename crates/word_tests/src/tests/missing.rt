@@ -19,8 +19,8 @@ use std::alloc::Global;
 use std::process::Abort;
 use std::test::Fail;
 
-/// Each worker makes a packet and a clone of it, frees the packet, and offers the clone. The desk is taken where another
-/// has left its clone there, and the clone is freed then.
+/// Each worker makes a packet and a clone of it, frees the packet, and offers the clone. The desk
+/// is taken where another has left its clone there, and the clone is freed then.
 const SCRIPT: &str = "pool 16 workers 4 desks 2\n\
     alloc a\nclone a b\nfree a\noffer b 0\nfree b\n\
     2: alloc a\n2: clone a b\n2: free a\n2: offer b 0\n2: free b\n\
@@ -70,7 +70,8 @@ fn played(
     Ok(player.retire())
 }
 
-/// The end of the pool, once each worker has played its lines. The share of worker 3 is handed in, or isn't.
+/// The end of the pool, once each worker has played its lines. The share of worker 3 is handed in,
+/// or isn't.
 fn end_of(alloc: Global, third_is_missing: bool) -> Result<Result<Statement, Unsettled>, Fail> {
     let script = parse(alloc, SCRIPT.as_bytes())?;
     if script.limits.workers != 4 {

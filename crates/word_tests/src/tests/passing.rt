@@ -1,4 +1,5 @@
-//! Sixty-four workers in threads of their own, who hand clones of packets of 32 segments round over 64 desks.
+//! Sixty-four workers in threads of their own, who hand clones of packets of 32 segments round
+//! over 64 desks.
 
 ghost use Rattle.ground.specs.Seats.{IsOf};
 ghost use Rattle.word_pool.specs.Workers.{AreWorkers, Stays};
@@ -119,8 +120,8 @@ fn desk_of(number: u64) -> u32 {
     (number % u64::from(CROWD)) as u32
 }
 
-/// Sends a clone of the worker's own packet to one desk, takes what lies on another, and sends a clone of that to a third
-/// and frees it.
+/// Sends a clone of the worker's own packet to one desk, takes what lies on another, and sends a
+/// clone of that to a third and frees it.
 fn pass(ground: &Ground, worker: &mut WordWorker, tally: &mut Tally, own: Pid, at: u64)
     requires of { IsOf ground.now worker.old.seat }
     ensures of { IsOf ground.now worker.new.seat }
@@ -136,7 +137,7 @@ fn pass(ground: &Ground, worker: &mut WordWorker, tally: &mut Tally, own: Pid, a
     }
 }
 
-/// Passes packets, unless so many calls are made already.
+/// Passes packets, unless this many calls are made already.
 fn pass_if(ground: &Ground, worker: &mut WordWorker, tally: &mut Tally, own: Pid, at: u64)
     requires of { IsOf ground.now worker.old.seat }
     ensures of { IsOf ground.now worker.new.seat }
@@ -147,7 +148,7 @@ fn pass_if(ground: &Ground, worker: &mut WordWorker, tally: &mut Tally, own: Pid
     }
 }
 
-/// Passes packets until so many calls are made.
+/// Passes packets until this many calls are made.
 fn pass_on(ground: &Ground, worker: &mut WordWorker, tally: &mut Tally, own: Pid, number: usize)
     requires of { IsOf ground.now worker.old.seat }
     ensures of { IsOf ground.now worker.new.seat }
@@ -159,7 +160,8 @@ fn pass_on(ground: &Ground, worker: &mut WordWorker, tally: &mut Tally, own: Pid
     }
 }
 
-/// Makes the worker's own packet and passes clones round, and then frees the packet where that is asked.
+/// Makes the worker's own packet and passes clones round, and then frees the packet where that is
+/// asked.
 fn pass_all(ground: &Ground, worker: &mut WordWorker, tally: &mut Tally, number: usize, frees: bool)
     requires of { IsOf ground.now worker.old.seat }
     ensures of { IsOf ground.now worker.new.seat }
@@ -250,7 +252,8 @@ const LIMITS: Limits = Limits {
     ..DEFAULTS
 };
 
-/// The statement of a pool whose workers have passed packets round, and in the end freed all of them, or none.
+/// The statement of a pool whose workers have passed packets round, and in the end freed all of
+/// them, or none.
 fn ended<R: Threads + Sync>(
     rt: &R,
     alloc: Global,
@@ -265,7 +268,8 @@ fn ended<R: Threads + Sync>(
     pool::settled(alloc, ground, workers)
 }
 
-/// No call was refused for another cause, so much was done, and each packet that was left was taken or is on a desk.
+/// No call was refused for another cause, so much was done, and each packet that was left was
+/// taken or is on a desk.
 fn assert_told<R: Abort>(rt: &R, told: &Tally, on_desks: usize) {
     let calls = (told.calls, told.calls >= 1_000_000);
     let taken = (told.taken, told.taken >= TAKEN);
@@ -279,7 +283,7 @@ fn assert_told<R: Abort>(rt: &R, told: &Tally, on_desks: usize) {
     );
 }
 
-/// The same statement, once what is told of the workers is right.
+/// The same statement, once what is reported of the workers is right.
 fn passed<R: Threads + Sync + Abort>(
     rt: &R,
     alloc: Global,

@@ -50,7 +50,7 @@ impl<'a> Drop for Player<'a> {
     }
 }
 
-/// What a worker has once it acts no more.
+/// What a worker has once it no longer acts.
 pub(super) struct Retired {
     pub(super) seat: GroundSeat,
     pub(super) packets: Packets,

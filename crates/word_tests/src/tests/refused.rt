@@ -34,7 +34,8 @@ fn refusals(replies: &[(u32, Reply)], cause: Refusal) -> (u32, u32) {
     (all, such)
 }
 
-/// Plays a script in which a clone is refused for this cause, and nothing else is, and all packets are freed.
+/// Plays a script in which a clone is refused for this cause, and nothing else is, and all packets
+/// are freed.
 fn assert_refused<R: Abort>(
     rt: &R,
     alloc: Global,
@@ -50,7 +51,7 @@ fn assert_refused<R: Abort>(
     Ok(())
 }
 
-/// The same, of the script of this number.
+/// Plays such a script, which has this number.
 fn assert_refused_at<R: Abort>(
     rt: &R,
     alloc: Global,
@@ -62,7 +63,7 @@ fn assert_refused_at<R: Abort>(
     assert_refused(rt, alloc, text, cause, name.as_str())
 }
 
-/// A script in which so many elements are left for a clone of 32 segments.
+/// A script in which this many elements are left for a clone of 32 segments.
 fn with_elements_left(alloc: Global, left: u32) -> Result<String, Fail> {
     let population = left.wrapping_add(32);
     let packets = written(alloc, PACKETS)?;
@@ -79,7 +80,7 @@ fn with_spent_count(alloc: Global, spent: u32) -> Result<String, Fail> {
     )?)
 }
 
-/// A clone of 32 segments is refused where so many elements are left.
+/// A clone of 32 segments is refused where this many elements are left.
 #[test]
 fn a_clone_is_refused_at_each_of_its_gets(rt: HostRuntime) -> Result<(), Fail> {
     for left in 0..32u32 {

@@ -23,7 +23,8 @@ use word_pool::worker::WordWorker;
 /// How often each worker makes three packets and frees them, in the pool that is worked on longest.
 const ROUNDS: u32 = 100_000;
 
-/// Attaches a worker's packet to another, which can't be refused, where there is a slot of the first.
+/// Attaches a worker's packet to another, which can't be refused, where there is a slot of the
+/// first.
 fn attach(ground: &Ground, worker: &mut WordWorker, tally: &mut Tally, slot: Option<Pid>, to: Pid)
     requires of { IsOf ground.now worker.old.seat }
     ensures of { IsOf ground.now worker.new.seat }
@@ -66,7 +67,7 @@ fn round(ground: &Ground, worker: &mut WordWorker, tally: &mut Tally)
     }
 }
 
-/// So many rounds of one worker.
+/// This many rounds of one worker.
 fn rounds(ground: &Ground, worker: &mut WordWorker, tallies: &Tallies, times: u32)
     requires of { IsOf ground.now worker.old.seat }
     ensures stays { Stays worker.old worker.new }
@@ -114,7 +115,7 @@ fn ended<R: Threads + Sync>(
     pool::settled(alloc, ground, workers)
 }
 
-/// No call was refused for another cause, and at least so many packets were made.
+/// No call was refused for another cause, and at least this many packets were made.
 fn assert_told<R: Abort>(rt: &R, told: &Tally, times: u32, name: &str) {
     let enough = told.made >= u64::from(times);
     let wanted = ("wrong, made", 0, told.made, true);

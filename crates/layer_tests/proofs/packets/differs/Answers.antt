@@ -17,7 +17,7 @@ returns-in_err-format c = record {
       c.said.ensures.others;
 }
 
--- as there, where another text was wanted
+-- as there, where another text was expected
 pub returns-then-ne : goal.returns-then-ne
 returns-then-ne c = record {
   others =

@@ -1,4 +1,4 @@
--- An offer that is met leaves the packet on the desk, where only a take off it writes.
+-- An offer that succeeds leaves the packet on the desk, where only a take off it writes.
 use Rattle.mbuf.specs.declared.acts.Act.TheVariants.{Offer}
 use Rattle.pool_model.specs.PacketModel.{after_acts, perform}
 use Rattle.pool_model.proofs.DeskWaits.{given_back, left_by_offer, offer_is_met, offered_waits, take_is_refused, taken_off}

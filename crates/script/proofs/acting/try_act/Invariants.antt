@@ -1,6 +1,6 @@
 use Rattle.script.proofs.acting.try_act.Given as goal
 
--- after so many tries the worker is one of the pool, and the same as at first
+-- after this many tries the worker is one of the pool, and the same as at first
 abbrev pub invariant-loop : goal.invariant-loop
 invariant-loop g l = record {
   of : g.A.Worker.acts_for l.pool l.actor;

@@ -1,4 +1,5 @@
--- Commands act on the pool and do nothing else to it, and after any acts each element is listed once.
+-- Commands act on the pool and do nothing else to it, and after any acts each element is listed
+-- once.
 use Rattle.std.proofs.Common.{sym, subst}
 use Rattle.pool_model.specs.Pool.{Pool}
 use Rattle.pool_model.specs.Statements.{statement_of, ListsEachOnce}

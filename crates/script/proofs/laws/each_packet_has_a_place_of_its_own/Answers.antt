@@ -1,4 +1,5 @@
--- Commands act on the pool and do nothing else to it, and after any acts each packet has a place of its own.
+-- Commands act on the pool and do nothing else to it, and after any acts each packet has a place
+-- of its own.
 use Rattle.std.proofs.Common.{sym, subst}
 use Rattle.pool_model.specs.Pool.{Pool}
 use Rattle.pool_model.specs.Statements.{statement_of, PlacesEachOnce}

@@ -1,5 +1,5 @@
--- The statement has a place for each packet, and lists sound packets, within the limits of the pool after the lines, which are
--- those before.
+-- The statement has a place for each packet, and lists sound packets, within the limits of the
+-- pool after the lines, which are those before.
 use Rattle.std.proofs.Common.{◌∙◌, ap, subst}
 use Rattle.commons.specs.declared.limits.Limits.{Limits}
 use Rattle.pool_model.specs.Pool.{Pool}

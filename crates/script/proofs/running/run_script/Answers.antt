@@ -1,4 +1,5 @@
--- The bytes are one script, so what is true within the limits of the one that was read is true within any that they are of.
+-- The bytes are one script, so what is true within the limits of the one that was read is true
+-- within any that they are of.
 use Rattle.std.proofs.Common.{subst}
 use Rattle.commons.specs.declared.limits.Limits.{Limits}
 use Rattle.pool_model.specs.Sound.{ListsSoundPackets}

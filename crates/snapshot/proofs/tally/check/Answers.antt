@@ -2,7 +2,7 @@ use Rattle.std.proofs.Common.{arith}
 use Rattle.snapshot.proofs.HoldBounds.{held-le}
 use Rattle.snapshot.proofs.tally.check.Goals as goal
 
--- the packets have so many holds at most in all
+-- the packets have this many holds at most in all
 pub judge-requires-clause-few : goal.judge-requires-clause-few
 judge-requires-clause-few c =
     λ e.

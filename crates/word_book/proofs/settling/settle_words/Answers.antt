@@ -2,7 +2,7 @@
 use Rattle.word_book.proofs.Answers.{faults_none, memory_only, packets_listed}
 use Rattle.word_book.proofs.settling.settle_words.Goals as goal
 
--- with all shares memory alone may be wanting
+-- with all shares only memory may be missing
 pub returns-clause-memory : goal.returns-clause-memory
 returns-clause-memory c = λ full.
     memory_only c.args.book c.args.closed c.requires.left c.fits_its_limits.ensures.workers

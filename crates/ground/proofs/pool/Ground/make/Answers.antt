@@ -11,7 +11,7 @@ pub vacant-requires : goal.vacant-requires
 vacant-requires c =
     opens c.args.limits.now (search rules) c.as_slice.result.now (search rules)
 
--- there are so many words
+-- there are this many words
 pub invariant_of-ground : goal.invariant_of-ground
 invariant_of-ground c =
     let e = c.in-Ok-vacant.ensures in

@@ -5,7 +5,7 @@ use Rattle.commons.proofs.Bags.{bag-last, bag-take-drop}
 use Rattle.mempool.specs.Caches.{NoRefill, RefillRefused, Refill}
 use Rattle.mempool.proofs.worker.Worker.refilled_apart.Goals as goal
 
--- No refill can be met, so the stack is asked for what is wanted alone.
+-- No refill can succeed, so the stack is asked only for what is needed.
 pub returns-then-n-size-clause-calls : goal.returns-then-n-size-clause-calls
 returns-then-n-size-clause-calls g c =
     let fewer = rw (sym c.self.view_is) at c.requires.fewer in
@@ -60,7 +60,7 @@ returns-in-Ok-clause-hand g c i =
     rw (sym c.self.view_is, c.take_last.ensures.out, c.take_last.ensures.cache)
     (omega (arith, b, c.in-Ok.ensures.did.step.effect.hand i, bag-last new (length new - length c.args.out.now) i))
 
--- the refill was refused, and the stack was asked for what is wanted
+-- the refill was refused, and the stack was asked for what is needed
 pub returns-in-Err-clause-calls : goal.returns-in-Err-clause-calls
 returns-in-Err-clause-calls g c =
     let fewer = rw (sym c.self.view_is) at c.requires.fewer in

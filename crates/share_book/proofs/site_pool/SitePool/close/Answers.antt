@@ -1,4 +1,5 @@
--- What is left is the pool's snapshot, and acts reach the pool, so the law of closed pools is one of this.
+-- What is left is the pool's snapshot, and acts reach the pool, so the law of closed pools is one
+-- of this.
 use Rattle.std.proofs.Common.{◌≡◌, refl, sym, ap, subst, ◌∙◌}
 use Rattle.std.specs.List.{range_with_len}
 use Rattle.pool_model.specs.Pool.{Pool}

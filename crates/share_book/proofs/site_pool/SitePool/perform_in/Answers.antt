@@ -1,4 +1,5 @@
--- What the worker did is what the model does, so acts reach the pool, and its workers keep their numbers.
+-- What the worker did is what the model does, so acts reach the pool, and its workers keep their
+-- numbers.
 use Rattle.std.proofs.Common.{◌≡◌, ◌-◌, ◌+◌, ◌<◌, length, length-set, set, sym, subst, ap, ◌∙◌, arith}
 use Rattle.commons.specs.declared.limits.Limits.{Limits}
 use Rattle.std.proofs.lemmas.List.{get_or_default}

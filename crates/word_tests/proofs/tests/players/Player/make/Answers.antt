@@ -4,7 +4,8 @@ use Rattle.stack_tests.specs.Idle.{IsIdle}
 use Rattle.word_tests.proofs.Staying.{new_player}
 use Rattle.word_tests.proofs.tests.players.Player.make.Goals as goal
 
--- the seat is the one that was given, and the new packets are the worker's own, since it names nothing
+-- the seat is the one that was given, and the new packets are the worker's own, since it names
+-- nothing
 pub returns : goal.returns
 returns c =
     let same : c.new.result.seat ≡ c.args.free.seat = c.new.ensures.seat ∙ c.into_seat.ensures in record {
