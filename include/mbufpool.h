@@ -2,30 +2,34 @@
  *
  * Three faces, each behind handles that the caller keeps:
  *
- *   struct mbufpool_seat     the bare stack of elements, 0 to population - 1, which up to 64 threads use at once without a
- *                            lock, each by a seat of its own: what stands below a mempool
+ *   struct mbufpool_seat     the bare stack of elements, 0 to population - 1, which up to 64
+ *                            threads use at once without a lock, each by a seat of its own: what
+ *                            stands below a mempool
  *   struct mbufpool_checked  the same by one seat, which takes back only what it gave
- *   struct mbufpool_worker   packets over such a pool: a worker has a cache and a table of 256 packets, with lengths,
- *                            chains, reference counts, clones, and desks over which a packet passes to another worker
+ *   struct mbufpool_worker   packets over such a pool: a worker has a cache and a table of 256
+ *                            packets, with lengths, chains, reference counts, clones, and desks
+ *                            over which a packet passes to another worker
  *
- * Every call answers 0, or the number of a refusal (enum mbufpool_refusal); after a refusal nothing has changed but for
- * what its line says.
+ * Every call answers 0, or the number of a refusal (enum mbufpool_refusal); after a refusal nothing
+ * has changed but for what its line says.
  *
  * What the caller owes, and nothing checks:
  *
- *   handles    A handle begins as zeros (MBUFPOOL_NONE), and is then changed by the calls below alone. It is not copied:
- *              two structs with one pointer are two owners of one seat. One thread at a time uses it; it passes to another
- *              thread by a lock, a thread's start or join, or a sequentially consistent atomic. A handle with zeros is
- *              safe in every call, which answers MBUFPOOL_STRANGER.
- *   memory     `out` has room for n of its kind and `list` has n numbers, n > 0 or not. What the pointers of one call lead to
- *              doesn't overlap (two handles are two structs), and is the call's alone while it runs.
- *   elements   (seats alone) what is put was got by this seat and not put since, each element once in a list. See
- *              mbufpool_seat_put.
- *   process    malloc, realloc and free are of one allocator and give blocks aligned as C asks; no call is made from a
- *              signal handler, or in a forked child of a process with threads.
+ *   handles    A handle begins as zeros (MBUFPOOL_NONE), and is then changed by the calls below
+ *              alone. It is not copied: two structs with one pointer are two owners of one seat.
+ *              One thread at a time uses it; it passes to another thread by a lock, a thread's
+ *              start or join, or a sequentially consistent atomic. A handle with zeros is safe in
+ *              every call, which answers MBUFPOOL_STRANGER.
+ *   memory     `out` has room for n of its kind and `list` has n numbers, n > 0 or not. What the
+ *              pointers of one call lead to doesn't overlap (two handles are two structs), and is
+ *              the call's alone while it runs.
+ *   elements   (seats alone) what is put was got by this seat and not put since, each element once
+ *              in a list. See mbufpool_seat_put.
+ *   process    malloc, realloc and free are of one allocator and give blocks aligned as C asks; no
+ *              call is made from a signal handler, or in a forked child of a process with threads.
  *
- * Whatever numbers a caller passes to a worker's calls (slots that are free, freed packets, desks that there are not, lengths
- * too great), they are refused by name.
+ * Whatever numbers a caller passes to a worker's calls (slots that are free, freed packets, desks
+ * that there are not, lengths too great), they are refused by name.
  */
 #ifndef MBUFPOOL_H
 #define MBUFPOOL_H
@@ -66,8 +70,9 @@ enum mbufpool_refusal {
 /* A seat, or none where the pointer is null. The pointer is the library's. */
 struct mbufpool_seat { void *at; };
 
-/* Makes a pool of 1 to 65,534 elements, all on the stack, for 1 to 64 seats, and its first seat. `tries`, 1 to 1,000,000, is
- * how many lost tries a call makes before it is refused. A seat that was in `out` is ended. */
+/* Makes a pool of 1 to 65,534 elements, all on the stack, for 1 to 64 seats, and its first seat.
+ * `tries`, 1 to 1,000,000, is how many lost tries a call makes before it is refused. A seat that
+ * was in `out` is ended. */
 uint32_t mbufpool_seat_open(uint32_t population, uint32_t seats, uint32_t tries, struct mbufpool_seat *out);
 
 /* Makes one more seat of the pool, by its first seat. */
@@ -80,18 +85,20 @@ uint32_t mbufpool_seat_get(struct mbufpool_seat *seat, uint32_t *out, size_t n);
  * Each was got by this seat, was not put since, and stands in the list once. */
 uint32_t mbufpool_seat_put(struct mbufpool_seat *seat, const uint32_t *list, size_t n);
 
-/* How many elements the stack's length word counts. While other threads are within calls it may lag behind. */
+/* How many elements the stack's length word counts. While other threads are within calls it may lag
+ * behind. */
 uint32_t mbufpool_seat_count(struct mbufpool_seat *seat);
 
-/* Ends a seat; the handle has zeros then. What the seat has got and not put is lost to the pool, so put it first. The pool's
- * memory is freed with its last seat. */
+/* Ends a seat; the handle has zeros then. What the seat has got and not put is lost to the pool, so
+ * put it first. The pool's memory is freed with its last seat. */
 void mbufpool_seat_free(struct mbufpool_seat *seat);
 
 /* ---- the bare stack, checked ---- */
 
-/* One seat of a pool, which keeps a mark for each element that it has got. A list that isn't all in its hand is refused by
- * MBUFPOOL_NOT_IN_HAND, and nothing changes: a double free, an element that was never got, a number out of range. So the
- * caller owes nothing of elements, whoever puts what was got; several threads use it in turn, under a lock of theirs. */
+/* One seat of a pool, which keeps a mark for each element that it has got. A list that isn't all in
+ * its hand is refused by MBUFPOOL_NOT_IN_HAND, and nothing changes: a double free, an element that
+ * was never got, a number out of range. So the caller owes nothing of elements, whoever puts what
+ * was got; several threads use it in turn, under a lock of theirs. */
 struct mbufpool_checked { void *at; };
 
 uint32_t mbufpool_checked_open(uint32_t population, uint32_t tries, struct mbufpool_checked *out);
@@ -118,18 +125,21 @@ struct mbufpool_limits {
 /* A new packet: its slot in its worker's table, 0 to 255, and its first segment's element. */
 struct mbufpool_packet { uint32_t slot, element; };
 
-/* A segment of a packet: its own element, the one whose buffer has its data (another one where the segment is a clone's), and
- * in bytes where the data begins there, how long it is, and how long the buffer is. The buffers are the caller's. */
+/* A segment of a packet: its own element, the one whose buffer has its data (another one where the
+ * segment is a clone's), and in bytes where the data begins there, how long it is, and how long the
+ * buffer is. The buffers are the caller's. */
 struct mbufpool_segment { uint32_t element, buffer; uint16_t off, len, buf; };
 
-/* Makes a pool, and puts its workers into the n handles: n is limits->workers. Where it is refused, no handle has a worker. */
+/* Makes a pool, and puts its workers into the n handles: n is limits->workers. Where it is refused,
+ * no handle has a worker. */
 uint32_t mbufpool_open(const struct mbufpool_limits *limits, struct mbufpool_worker *out, size_t n);
 
-/* Ends a worker; the handle has zeros then. What it has is lost to the pool, so free its packets and flush it first. The
- * pool's memory is freed with its last worker. */
+/* Ends a worker; the handle has zeros then. What it has is lost to the pool, so free its packets
+ * and flush it first. The pool's memory is freed with its last worker. */
 void mbufpool_end(struct mbufpool_worker *worker);
 
-/* Each of these is one act of the worker. A packet is named by its slot; `out` is written where the answer is 0. */
+/* Each of these is one act of the worker. A packet is named by its slot; `out` is written where the
+ * answer is 0. */
 uint32_t mbufpool_alloc(struct mbufpool_worker *worker, struct mbufpool_packet *out);
 uint32_t mbufpool_alloc_bulk(struct mbufpool_worker *worker, struct mbufpool_packet *out, size_t n);	/* n packets, or none */
 uint32_t mbufpool_free(struct mbufpool_worker *worker, uint32_t slot);

@@ -1,5 +1,6 @@
-/* any_numbers.c - two workers are called with any numbers: slots without a packet, desks that there are not, lengths too
- * great. Each call is done or refused by name, and at the end every element can be had again.
+/* any_numbers.c - two workers are called with any numbers: slots without a packet, desks that there
+ * are not, lengths too great. Each call is done or refused by name, and at the end every element
+ * can be had again.
  *
  *     cc -O2 -I../../include any_numbers.c LIBRARY -o any_numbers && ./any_numbers */
 #include <stdio.h>

@@ -1,4 +1,5 @@
-/* two_threads.c - two threads get from one pool and put back, without a lock, each by a seat of its own.
+/* two_threads.c - two threads get from one pool and put back, without a lock, each by a seat
+ * of its own.
  *
  *     cc -O2 -I../../include two_threads.c LIBRARY -pthread -o two_threads && ./two_threads */
 #include <pthread.h>

@@ -1,6 +1,7 @@
 /* double_free.c - an mbuf is freed twice; are two allocs then given the same one?
  *
- *     cc -O2 $(pkg-config --cflags libdpdk) double_free.c -o double_free $(pkg-config --libs libdpdk)
+ *     cc -O2 $(pkg-config --cflags libdpdk) double_free.c -o double_free \
+ *         $(pkg-config --libs libdpdk)
  *     ./double_free OPS --no-huge -m 64 --no-pci -d /path/to/librte_mempool_mbufpool.so */
 #include <stdio.h>
 

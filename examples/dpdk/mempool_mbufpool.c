@@ -1,17 +1,21 @@
 /* mempool_mbufpool.c - two mempool handlers for DPDK over the pool of libmbufpool_c.a.
  *
- *     rte_mempool_set_ops_byname(mp, "mbufpool", NULL), or --mbuf-pool-ops-name=mbufpool for mbuf pools
+ *     rte_mempool_set_ops_byname(mp, "mbufpool", NULL),
+ *     or --mbuf-pool-ops-name=mbufpool for mbuf pools
  *
- * "mbufpool": each enabled lcore has a seat of its own, with which it gets and puts without a lock; threads that are no such
- * lcores share one seat under a spinlock. What the library asks of a seat's put, that the seat has got the elements, an
- * application keeps where each lcore puts back what it got. An object that passes from lcore to lcore is got by one seat and
- * put by another: the words of the stack are the same then, but the library's contract says nothing of it.
+ * "mbufpool": each enabled lcore has a seat of its own, with which it gets and puts without a lock;
+ * threads that are no such lcores share one seat under a spinlock. What the library asks of a
+ * seat's put, that the seat has got the elements, an application keeps where each lcore puts back
+ * what it got. An object that passes from lcore to lcore is got by one seat and put by another: the
+ * words of the stack are the same then, but the library's contract says nothing of it.
  *
- * "mbufpool_checked": one checked seat under a spinlock, for all threads. Nothing is asked of the application: an object that
- * is put twice, or that the pool hasn't given, is refused and logged, and nothing is damaged.
+ * "mbufpool_checked": one checked seat under a spinlock, for all threads. Nothing is asked of the
+ * application: an object that is put twice, or that the pool hasn't given, is refused and logged,
+ * and nothing is damaged.
  *
- * Built as a shared object, it is loaded by EAL's -d (from a folder that others can't write). The pool knows its elements by
- * number: an object's number is found by its place in its memory chunk, and a number's object in a table.
+ * Built as a shared object, it is loaded by EAL's -d (from a folder that others can't write). The
+ * pool knows its elements by number: an object's number is found by its place in its memory chunk,
+ * and a number's object in a table.
  *
  * Limits: at most 65,534 objects, one process, and 63 lcores with a seat of their own. */
 #include <errno.h>
@@ -38,7 +42,8 @@ struct seat {
 	struct mbufpool_seat seat;
 } __rte_cache_aligned;
 
-/* A memory chunk of the mempool, cut into places of the size of an object with its header and trailer. */
+/* A memory chunk of the mempool, cut into places of the size of an object with its header and
+ * trailer. */
 struct chunk {
 	uintptr_t start, end;
 	uint32_t *number_at;	/* for each place the number of its object, or NO_NUMBER */

@@ -1,4 +1,5 @@
--- Shares of some workers, in the order of their numbers, that are put in a book unless their worker is listed.
+-- Shares of some workers, in the order of their numbers, that are put in a book unless their worker
+-- is listed.
 use Rattle.std.proofs.Common.{ℕ, zero, suc, ◌≡◌, ◌≢◌, ◌+◌, ◌-◌, ◌<◌, ◌≤◌, inl, inr, true, false, not, List, [], ◌∷◌, ◌++◌, append_assoc, length, length-append, length-set, get_or, set, map, replicate, Option, Some, None, refl, sym, ap, ◌∙◌, subst, get_or-set_other, arith}
 use Rattle.std.specs.Prelude.{All, Contains, ◌==◌}
 use Rattle.std.proofs.lemmas.Bool.{cases_Bool, cases_lt}
@@ -17,7 +18,8 @@ use Rattle.book.specs.Places.{Places}
 abbrev number : Member → ℕ
 number m = m.number
 
--- the shares behind the first ones are in the book, but for those who are listed; the places of the first are free
+-- the shares after the first ones are in the book, but for those who are listed; the places of the
+-- first are free
 pub record AreFiled (listed : List ℕ) (l : Limits) (all left : List Member) (b : Places) : Type 0 where
   pub limits : b.limits ≡ l
   pub size : length b.places ≡ l.workers

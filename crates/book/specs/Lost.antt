@@ -1,4 +1,4 @@
--- A closed pool some of whose workers have handed in nothing, and are told as missing.
+-- A closed pool some of whose workers have handed in nothing, and are listed as missing.
 use Rattle.std.specs.Prelude.{ℕ, ◌≡◌, ◌==◌, ◌⊎◌, ◌↔◌, ◌+◌, ◌<◌, ◌≤◌, Bool, not, if◌then◌else◌, List, Option, All, Contains, filter, map, sum_by}
 use Rattle.std.specs.List.{list_any}
 use Rattle.commons.specs.Bag.{bag}
@@ -27,8 +27,8 @@ pub record IsLeastUnlisted (b : Places) (listed : List ℕ) (w : ℕ) : Type 0 w
 abbrev pub IsFullBut : Places → List ℕ → Type 0
 IsFullBut b listed = (w : ℕ) → ¬ (IsUnlisted b listed w)
 
--- Why it isn't told which elements are lost: the least worker is named who isn't listed and whose share isn't in the book;
--- only where there is none, memory was refused.
+-- Why it isn't said which elements are lost: the least worker is named who isn't listed and whose
+-- share isn't in the book; only where there is none, memory was refused.
 abbrev pub IsUntold : Places → List ℕ → Unsettled → Type 0
 IsUntold b listed (MissingShare w) = IsLeastUnlisted b listed w
 IsUntold b listed OutOfMemory = IsFullBut b listed
@@ -64,14 +64,15 @@ with_unlisted listed b m = if is_listed listed m.number then b else with_share b
 abbrev pub cached_by : List Member → ℕ → ℕ
 cached_by members i = sum_by (λ member. bag member.cache i) members
 
--- One of these members who is listed has it in its cache; or members who are listed hold it, and they alone: no packet of
--- the others, nor one on these desks, does.
+-- One of these members who is listed has it in its cache; or members who are listed hold it, and
+-- they alone: no packet of the others, nor one on these desks, does.
 abbrev pub IsLostWith : List ℕ → List Member → List (Option (List Seg)) → ℕ → Type 0
 IsLostWith listed members desks e =
     (0 < cached_by (listed_of listed members) e)
     ⊎ ((0 < held_by (listed_of listed members) e) × (held_by (unlisted_of listed members) e + held_in desks e ≡ 0))
 
--- They are, ascending, exactly the elements of the pool that are lost with the listed ones of these members.
+-- They are, ascending, exactly the elements of the pool that are lost with the listed ones of these
+-- members.
 pub record AreLostWith (l : Limits) (listed : List ℕ) (members : List Member) (desks : List (Option (List Seg)))
     (elems : List ℕ) : Type 0 where
   pub ascending : IsAscending elems

@@ -2,7 +2,8 @@
 use Rattle.mbuf.specs.Members.{Member}
 use Rattle.book.specs.Places.{Places}
 
--- what a worker of two pools hands in: what it has of the first, and of the second its cache and its foreign clones
+-- what a worker of two pools hands in: what it has of the first, and of the second its cache and
+-- its foreign clones
 pub record TwinMember : Type 0 where
   pub first : Member
   pub second : Member

@@ -11,7 +11,8 @@ use Rattle.book.specs.Books.{IsFull, IsLeastMissing, shares_in}
 use Rattle.book.specs.Settling.{snapshot_with}
 use Rattle.book.specs.TwinPlaces.{TwinPlaces}
 
--- what the first pool leaves, with the shares in the book: its guests are the bases of the second one's packets
+-- what the first pool leaves, with the shares in the book: its guests are the bases of the second
+-- one's packets
 abbrev pub first_with : TwinPlaces → Closed → Snapshot
 first_with b closed = record (snapshot_with b.first closed) { guests = flat_map guests_by (shares_in b.second.places) }
 
@@ -19,9 +20,9 @@ first_with b closed = record (snapshot_with b.first closed) { guests = flat_map 
 abbrev pub second_with : TwinPlaces → Closed → Snapshot
 second_with b closed = record (snapshot_with b.second closed) { foreign = true }
 
--- The worker that is named is the least one whose share isn't in the book. Only where no share is missing, memory was
--- refused, or the first pool has the fault that is named, and none before it; or the first has none, and the second has
--- the fault that is named, and none before it.
+-- The worker that is named is the least one whose share isn't in the book. Only where no share is
+-- missing, memory was refused, or the first pool has the fault that is named, and none before it;
+-- or the first has none, and the second has the fault that is named, and none before it.
 abbrev pub IsTwinUnsettled : TwinPlaces → Closed → Closed → TwinUnsettled → Type 0
 IsTwinUnsettled b one two (MissingShare w) = IsLeastMissing b.first w
 IsTwinUnsettled b one two OutOfMemory = IsFull b.first

@@ -74,8 +74,8 @@ impl Book {
         None
     }
 
-    /// The least worker whose share isn't in the book and who isn't listed. A listed number that isn't a worker's is passed
-    /// over.
+    /// The least worker whose share isn't in the book and who isn't listed. A listed number that
+    /// isn't a worker's is passed over.
     pub fn missing_but(&self, listed: &[u32]) -> Option<u32>
         ensures { MatchOption result (IsFullBut self.now listed.now) (λ w. IsLeastUnlisted self.now listed.now w) }
     {

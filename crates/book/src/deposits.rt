@@ -25,8 +25,9 @@ pub fn deposit_all(book: &mut Book, mut shares: Vec<Share>)
     shares.destroy_empty();
 }
 
-/// Puts the shares of those workers who aren't listed, in the order of their numbers, in a book without shares. What is
-/// listed is lost. Where each worker has a share or is listed, the book lacks no other's.
+/// Puts the shares of those workers who aren't listed, in the order of their numbers, in a book
+/// without shares. What is listed is lost. Where each worker has a share or is listed, the book
+/// lacks no other's.
 pub fn deposit_unlisted(book: &mut Book, mut shares: Vec<Share>, listed: &[u32])
     requires empty { book.old ≡ new_book book.old.limits }
     requires ordered { AreOrdered book.old.limits listed.now shares.items }

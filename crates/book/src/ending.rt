@@ -1,5 +1,5 @@
-//! The end of a pool some of whose workers are missing: the shares of the others are put in a book, and it is told which
-//! elements are lost beside them.
+//! The end of a pool some of whose workers are missing: the shares of the others are put in a book,
+//! and it is said which elements are lost beside them.
 
 ghost use Rattle.std.specs.Prelude.{◌≡◌, IfErr, IfOk};
 ghost use Rattle.commons.specs.Bounds.{IsPool};
@@ -18,9 +18,9 @@ use commons::limits::Limits;
 use commons::refusal::Refusal;
 use std::alloc::Global;
 
-/// The elements that a pool of these limits has lost, ascending: those that are neither in what it left, nor in the share
-/// of a worker who isn't listed as missing. Each worker hands in a share, in the order of their numbers, or is listed; the
-/// share of one who is listed is lost.
+/// The elements that a pool of these limits has lost, ascending: those that are neither in what it
+/// left, nor in the share of a worker who isn't listed as missing. Each worker hands in a share, in
+/// the order of their numbers, or is listed; the share of one who is listed is lost.
 ///
 /// Refused `OutOfMemory` where memory was refused. Nothing is left of the pool then either.
 pub fn elements_lost(
@@ -48,7 +48,8 @@ pub fn elements_lost(
     }
 }
 
-/// The elements that a pool has lost, by a book that has the share of each worker who isn't listed as missing.
+/// The elements that a pool has lost, by a book that has the share of each worker who isn't listed
+/// as missing.
 fn elements_lost_by(
     alloc: Global,
     closed: Closed,

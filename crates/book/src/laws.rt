@@ -1,4 +1,5 @@
-//! Laws of what workers have lost. Each is a function that does nothing, and its contract is the law.
+//! Laws of what workers have lost. Each is a function that does nothing, and its contract is the
+//! law.
 
 ghost use Rattle.std.specs.Prelude.{ℕ, ◌≡◌, List, map};
 ghost use Rattle.std.specs.List.{range_with_len};
@@ -10,8 +11,9 @@ ghost use Rattle.snapshot.specs.Lost.{AreLost};
 ghost use Rattle.snapshot.specs.Snapshots.{IsLawful};
 ghost use Rattle.book.specs.Lost.{AreLostWith, AreOrdered, unlisted_of};
 
-/// Where a closed pool is lawful with the shares of all its workers, what stands nowhere without those of the listed ones
-/// is exactly what such a worker has in its cache or such workers alone hold.
+/// Where a closed pool is lawful with the shares of all its workers, what stands nowhere without
+/// those of the listed ones is exactly what such a worker has in its cache or such workers alone
+/// hold.
 pub fn what_stands_nowhere_is_lost()
     ensures { (l : Limits) (closed : Closed) (members : List Member) (listed elems : List ℕ) →
         IsLawful (snapshot_of l closed members) → AreLost (snapshot_of l closed (unlisted_of listed members)) elems →

@@ -12,13 +12,14 @@ use commons::closed::Closed;
 use snapshot::lost::lost_elements;
 use std::alloc::Global;
 
-/// The elements that a closed pool has lost, ascending, by the shares in its book, which ends both: those that are
-/// neither on the walk, nor in a share of the book, nor on a desk. Listed are the workers whose shares may be missing, as
-/// those who died; a listed number that isn't a worker's of the pool is passed over. What is wrong with the pool otherwise
-/// isn't looked for.
+/// The elements that a closed pool has lost, ascending, by the shares in its book, which ends both:
+/// those that are neither on the walk, nor in a share of the book, nor on a desk. Listed are the
+/// workers whose shares may be missing, as those who died; a listed number that isn't a worker's of
+/// the pool is passed over. What is wrong with the pool otherwise isn't looked for.
 ///
-/// Refused `MissingShare` of the least worker who isn't listed and whose share isn't in the book, else `OutOfMemory`
-/// where memory was refused. The closed pool and the book are then handed back as they were.
+/// Refused `MissingShare` of the least worker who isn't listed and whose share isn't in the book,
+/// else `OutOfMemory` where memory was refused. The closed pool and the book are then handed back
+/// as they were.
 pub fn settle_without(
     alloc: Global,
     closed: Closed,
@@ -29,7 +30,8 @@ pub fn settle_without(
     ensures full { IfOk result (λ _. IsFullBut book missing.now) }
     ensures lost { IfOk result (λ elems. AreLost (snapshot_with book closed) elems.items) }
     ensures untold { IfErr result (λ e. IsUntold book missing.now e.0) }
-    // Where each worker's share is in the book, or the worker is listed, memory alone can be wanting.
+    // Where each worker's share is in the book, or the worker is listed, only memory can be
+    // missing.
     ensures memory { IsFullBut book missing.now → IfErr result (λ e. e.0 ≡ Unsettled.OutOfMemory) }
     ensures back { IfErr result (λ e. (e.1 ≡ closed) × (e.2 ≡ book)) }
 {

@@ -1,5 +1,5 @@
-//! The book of two pools: `deposit` fills the places of a share's worker in both, and nothing empties them again.
-//! `settle_twin` reads the places, and `lose` ends them.
+//! The book of two pools: `deposit` fills the places of a share's worker in both, and nothing
+//! empties them again. `settle_twin` reads the places, and `lose` ends them.
 
 ghost use Rattle.std.specs.Prelude.{◌≡◌, ◌↔◌, IfOk, IfErr, IsOk, OnOk, OnErr};
 ghost use Rattle.book.specs.Books.{IsMissing};
@@ -34,8 +34,8 @@ impl Model for TwinBook {
 impl TwinBook {
     /// A book without shares.
     ///
-    /// Refused `BadPool` where limits are out of range, or the pools haven't as many workers, and `OutOfMemory` where
-    /// memory was refused.
+    /// Refused `BadPool` where limits are out of range, or the pools haven't as many workers, and
+    /// `OutOfMemory` where memory was refused.
     pub fn make(alloc: Global, first: &Limits, second: &Limits) -> Result<TwinBook, Refusal>
         ensures ok { IfOk result (λ b. b ≡ new_twin_book first.now second.now) }
         ensures cause { IfErr result (IsTwinCause first.now second.now) }
@@ -63,8 +63,8 @@ impl TwinBook {
 
     /// Puts a share in the places of its worker.
     ///
-    /// Refused `StrangerShare` where the pools have no such worker, or its place is filled. The book is then as
-    /// before, and the share is handed back.
+    /// Refused `StrangerShare` where the pools have no such worker, or its place is filled. The
+    /// book is then as before, and the share is handed back.
     pub fn deposit(&mut self, share: TwinShare) -> Result<(), (Refusal, TwinShare)>
         ensures room { IsOk result ↔ IsMissing self.old.first share.first.number }
         ensures filled { OnOk result (self.new ≡ with_twin_share self.old share) }

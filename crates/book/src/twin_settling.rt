@@ -1,4 +1,5 @@
-//! How two closed pools and the shares in their book become two statements, or the reason why they don't.
+//! How two closed pools and the shares in their book become two statements, or the reason why they
+//! don't.
 
 ghost use Rattle.std.specs.Prelude.{ℕ, ◌≡◌, ◌≢◌, ◌⊎◌, ◌+◌, IfOk, IfErr, MatchResult};
 ghost use Rattle.pool_model.specs.Sound.{ListsOnlyPackets};
@@ -32,14 +33,14 @@ pub enum TwinUnsettled {
     Second(Fault),
 }
 
-/// The statements of two closed pools and the shares in their book, which ends all three. Each lists each element of
-/// its pool exactly once: the bases of the second one's packets are elements of the first, which their workers hold.
-/// What is available and what is in use are the population of each. Each packet that is listed has 1 to 32 segments,
-/// each with its data within its buffer.
+/// The statements of two closed pools and the shares in their book, which ends all three. Each
+/// lists each element of its pool exactly once: the bases of the second one's packets are elements
+/// of the first, which their workers hold. What is available and what is in use are the population
+/// of each. Each packet that is listed has 1 to 32 segments, each with its data within its buffer.
 ///
-/// Refused `MissingShare` of the least worker whose share isn't in the book, else `OutOfMemory` where memory was
-/// refused, else the first fault of the first pool, else that of the second. The closed pools and the book are then
-/// handed back as they were.
+/// Refused `MissingShare` of the least worker whose share isn't in the book, else `OutOfMemory`
+/// where memory was refused, else the first fault of the first pool, else that of the second. The
+/// closed pools and the book are then handed back as they were.
 pub fn settle_twin(
     alloc: Global,
     first: Closed,

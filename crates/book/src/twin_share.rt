@@ -1,4 +1,5 @@
-//! What a worker of two pools hands in when these end. It can't be copied, so it is in one book at most.
+//! What a worker of two pools hands in when these end. It can't be copied, so it is in one book at
+//! most.
 
 ghost use Rattle.std.specs.Prelude.{◌≡◌, length};
 ghost use Rattle.mbuf.specs.Members.{slots};
@@ -7,9 +8,9 @@ ghost use Rattle.book.specs.TwinPlaces.{TwinMember};
 use crate::share::Share;
 use std::marker::Model;
 
-/// What a worker of two pools has when these end: its share of the first, and of the second its cache and its foreign
-/// clones, whose own elements are of the second pool and whose bases are of the first. It can't be dropped: `lose`
-/// ends it.
+/// What a worker of two pools has when these end: its share of the first, and of the second its
+/// cache and its foreign clones, whose own elements are of the second pool and whose bases are of
+/// the first. It can't be dropped: `lose` ends it.
 pub struct TwinShare {
     first: Share,
     second: Share,

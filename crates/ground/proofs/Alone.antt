@@ -327,7 +327,7 @@ knows_end w law l limits k here v is whole = all v.look refl
         (ap (λ (u : View). u.part) is ∙ (whole ∙ sym (ap (λ (m : Limits). m.workers) limits))) x
         (ap (λ (u : View). u.look) is ∙ e) ends)
 
--- where its view has no desk in work, no desk is in work
+-- where its view works at no desk, no desk is busy
 pub none_in_work : (w : World) → Lawful w → (k : ℕ) → k < length w.views →
     (view_at w.views k).part ≡ w.limits.workers → (view_at w.views k).work ≡ None → (d : ℕ) →
     ((desk_at w.desks d).word ≢ 1) × ((desk_at w.desks d).word ≢ 3)

@@ -259,7 +259,8 @@ left_at_start l v c left same =
     let desks = left.desks ∙ (ap (λ (w : World). lying_on w.desks) same ∙ sym (none_lie l.desks)) in
     λ i. record { top = top i; length = size i; links = links i; counts = counts i; desks = desks i }
 
--- what is left is of a lawful world, has the packets that the seat knew of, and is that of the start where nobody did anything
+-- what is left is of a lawful world, has the packets that the seat knew of, and is that of the
+-- start where nobody did anything
 abbrev pub Closes : Limits → View → Known → Closed → Type 0
 Closes l v n c =
     LeftOf l v c × IfSome n.lying (λ ds. c.desks ≡ ds) × (IsFresh n → c ≡ closed_at_start l)

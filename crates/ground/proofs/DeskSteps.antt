@@ -85,7 +85,7 @@ module _ (l : Limits) (s : St) (r : Ruled l s) (id : ℕ) (me : Sat) (at : get_e
   pub seen_there : (p : List Seg) → packet_on this ≡ Some p → KnowsThere d p me.0
   seen_there p full = seen_by (λ slot. slot ≡ Some p) (λ whole. full)
 
-  -- a desk that isn't empty is full, where no other seat has it in work
+  -- a desk that isn't empty is full, where no other seat works at it
   pub seen_full : me.0.view.work ≡ None → this.word ≢ 0 → KnowsFull d me.0
   seen_full idle other = seen_by (λ slot. (p : List Seg) × (slot ≡ Some p)) (λ whole.
       let same = is_view l s r id me at busy in

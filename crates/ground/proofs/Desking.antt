@@ -61,7 +61,8 @@ packets_set ds d x inside here all e =
     (λ y n. subst (λ (z : Desk). IfSome z.slot IsPacket)
     (sym (get_or-set_other ds d y x no_desk (λ s. n (sym s)))) (all y)) e
 
--- what is known to lie on the desks, once one of them is another; where nothing lay there and nothing does, it is the same
+-- what is known to lie on the desks, once one of them is another; where nothing lay there and
+-- nothing does, it is the same
 pub laid_right : (o : Option (List Slot)) (P : Type 0) (ds : List Desk) (d : ℕ) (x : Desk) (slot : Slot) →
     packet_on x ≡ slot → IfSome o (λ zs. P × (zs ≡ lying_on ds)) →
     IfSome (laid_on d slot o) (λ zs. P × (zs ≡ lying_on (set ds d x)))

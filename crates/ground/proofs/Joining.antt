@@ -105,8 +105,8 @@ merges l id n other o busy rest rest' s r at apart there =
       );
     }
 
--- A load that changes no word tells what the seat's type keeps; and where the seat has every part, what lies on the desks
--- is what it knows from now on.
+-- A load that changes no word tells what the seat's type keeps; and where the seat has every part,
+-- what lies on the desks is what it knows from now on.
 pub looks : (l : Limits) (slots id : ℕ) (me : Sat) → 0 < me.0.view.part →
     Allows (Ruled l) slots id me 0 (λ n. n) (looked (step slots 0 0 0 none) me)
 looks l slots id me busy s r _ at _ = dite (ℕ_discrete me.0.view.part me.0.limits.workers)

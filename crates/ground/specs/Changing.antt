@@ -23,8 +23,8 @@ changes_in notes = sum_by (λ note. changes_by note.0 note.1) notes
 abbrev pub changes_of : Known → ℕ
 changes_of n = changes_in n.steps + changes_in n.joined
 
--- A seat knows of a head that its count is the start and the changes of the seat at least; with every part it knows that
--- there are no others.
+-- A seat knows of a head that its count is the start and the changes of the seat at least; with
+-- every part it knows that there are no others.
 pub record KnowsChanges (n : Known) (count : ℕ) : Type 0 where
   pub own : n.limits.start_count + changes_of n ≤ count
   pub all : n.view.part ≡ n.limits.workers → count ≡ n.limits.start_count + changes_of n

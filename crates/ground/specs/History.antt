@@ -1,5 +1,5 @@
--- How the words of a pool came to be: by steps of the machine, each by one seat, by seats that were split and seats that
--- were joined. Seats are numbered from 0, and the machine's workers from 1.
+-- How the words of a pool came to be: by steps of the machine, each by one seat, by seats that were
+-- split and seats that were joined. Seats are numbered from 0, and the machine's workers from 1.
 use Rattle.std.specs.Prelude.{◌≡◌, ◌≢◌, ℕ, suc, ◌<◌, ◌≤◌, List, [], ◌∷◌, ◌++◌, Option, Some, None, map, slice_set, ⊤}
 use mathlib.Core.Option.{some}
 use lib.ListN.{get_elem?}
@@ -30,8 +30,9 @@ log_of n = (n.steps, n.joined)
 abbrev pub logs_of : List Known → List Log
 logs_of ns = map log_of ns
 
--- What a seat notes of a step of the machine, by what was in the slot of its desk: the step with its outcome, but of an
--- Open and a won Seize the packet that moved, and of what is done to a slot alone nothing.
+-- What a seat notes of a step of the machine, by what was in the slot of its desk: the step with
+-- its outcome, but of an Open and a won Seize the packet that moved, and of what is done to a slot
+-- alone nothing.
 abbrev pub notes_of : Step → Outcome → Option Packet → List (Step × Outcome)
 notes_of (PutIn d p) outcome slot = []
 notes_of (TakeOut d) outcome slot = []
@@ -39,7 +40,8 @@ notes_of (Open d) outcome (Some p) = (Open d, Found p) ∷ []
 notes_of (Seize d) Won (Some p) = (Seize d, Found p) ∷ []
 notes_of step outcome slot = (step, outcome) ∷ []
 
--- one thing that was done: a step of the machine, by a seat; a part of a seat that went to a new one; two seats made one
+-- one thing that was done: a step of the machine, by a seat; a part of a seat that went to a new
+-- one; two seats made one
 pub data Move : Type 0 where
   Stepped : (seat : ℕ) (step : Step) (outcome : Outcome) → Move
   Split : (seat : ℕ) → Move
@@ -65,15 +67,15 @@ Leads (Joined id other) w logs u after =
     × ((log taken : Log) × (get_elem? logs id ≡ some log) × (get_elem? logs other ≡ some taken)
     × (after ≡ slice_set (slice_set logs id (log.0, log.1 ++ (taken.0 ++ taken.1))) other ([], [])))
 
--- These moves, the last first, lead from the world at the start, with one seat of every part that has noted nothing, to
--- this world and these logs; each world on the way is lawful.
+-- These moves, the last first, lead from the world at the start, with one seat of every part that
+-- has noted nothing, to this world and these logs; each world on the way is lawful.
 abbrev pub Led : Limits → List Move → World → List Log → Type 0
 Led l [] w logs = (w ≡ opening_alone l) × (logs ≡ ([], []) ∷ [])
 Led l (m ∷ ms) w logs =
     (v : World) × (before : List Log) × Lawful v × Led l ms v before × Leads m v before w logs
 
--- Each step of a history is its one event of the table, by its seat's worker, or none, whichever tables the worlds before
--- and after it are read as.
+-- Each step of a history is its one event of the table, by its seat's worker, or none, whichever
+-- tables the worlds before and after it are read as.
 abbrev pub AreEvents : (l : Limits) (ms : List Move) (w : World) (logs : List Log) → Led l ms w logs → Type 0
 AreEvents l [] w logs led = ⊤
 AreEvents l (Stepped id step outcome ∷ ms) w logs led =

@@ -28,7 +28,8 @@ use Rattle.ground.specs.Rule.{Slot, Sat, Ruled}
 use Rattle.ground.specs.Seats.{element_of, front_of}
 use Rattle.ground.specs.Tells.{exchanged, cut_found, push_found, loaded_length, reserved, added, loaded_head, loaded_link, cut_tells, stored_link, push_tells, claim_tells, sole_tells, raise_tells, lower_tells, reset_tells}
 
--- a seat that has a part, and the slot of the desk that it has in work, and knows the desks where it has every part
+-- a seat that has a part, and the slot of the desk that it works at, and knows the desks where it
+-- has every part
 abbrev pub Sits : Sat → Type 0
 Sits m = (0 < m.0.view.part) × AtDesk m.0.view.work m.1 × KnowsDesks m.0
 
@@ -36,9 +37,10 @@ Sits m = (0 < m.0.view.part) × AtDesk m.0.view.work m.1 × KnowsDesks m.0
 abbrev pub by_worker : ℕ → List Step → Schedule
 by_worker worker steps = map (λ s. (worker, s)) steps
 
--- Whatever state the table has, ruled and with this seat, when the operation comes that writes f of what it finds into the
--- word i: the rule holds of the state afterwards, the machine plays these steps of the seat's worker from the world before
--- to the world afterwards, with these outcomes, and the seat is told this.
+-- Whatever state the table has, ruled and with this seat, when the operation comes that writes f of
+-- what it finds into the word i: the rule holds of the state afterwards, the machine plays these
+-- steps of the seat's worker from the world before to the world afterwards, with these outcomes,
+-- and the seat is told this.
 abbrev pub Moves : (l : Limits) (slots id : ℕ) → Sat → ℕ → (ℕ → ℕ) → List Step → (ℕ → List Outcome) →
     (ℕ → Sat → Type 0) → Type 0
 Moves l slots id me i f steps outcomes then =
@@ -49,8 +51,9 @@ Moves l slots id me i f steps outcomes then =
     × Reaches r.world (by_worker (suc id) steps) (outcomes (slice_index s.words i)) after.world)
     × then (slice_index s.words i) (n, carried_after me.1 a)
 
--- So each operation of a call does, under the call's conditions. A packet is put in and taken out by an exchange of a slot,
--- which is with the seat then: its step comes with the one on the desk's word.
+-- So each operation of a call does, under the call's conditions. A packet is put in and taken out
+-- by an exchange of a slot, which is with the seat then: its step comes with the one on the desk's
+-- word.
 pub record OperationsAreSteps : Type 0 where
   pub load_length : (l : Limits) (slots id : ℕ) (me : Sat) → Sits me →
       Moves l slots id me length_word (λ n. n) (LoadLength ∷ []) (λ x. Value x ∷ [])

@@ -35,7 +35,8 @@ both_views v u = record {
   part = v.part + u.part;
 }
 
--- with the steps of the first, which has joined those of the second; what lies on the desks isn't known yet
+-- with the steps of the first, which has joined those of the second; what lies on the desks isn't
+-- known yet
 abbrev pub both : Known → Known → Known
 both n o = record n {
   view = both_views n.view o.view;

@@ -10,7 +10,8 @@ use Rattle.ground.specs.History.{Move, Led, logs_of}
 use Rattle.ground.specs.Layout.{words_of}
 use Rattle.ground.specs.Rule.{Slot, Ruled, view_in, home_of}
 
--- the words, the slots and what the seats know are of a lawful world of the pool, to which these moves led
+-- the words, the slots and what the seats know are of a lawful world of the pool, to which these
+-- moves led
 pub record IsLedTo (l : Limits) (s : State Slot Known) : Type 0 where
   pub world : World
   pub limits : world.limits ≡ l

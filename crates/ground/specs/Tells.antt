@@ -97,7 +97,8 @@ push_tells st m found m' =
     Tells Push (push_found (found == st.first) found) m m'
     × IsLater (found == st.first) m.0 found × IsShared (found == st.first) m.0
 
--- a load that only looks tells what the seat's view is by itself, and a seat of every part what lies on the desks
+-- a load that only looks tells what the seat's view is by itself, and a seat of every part what
+-- lies on the desks
 abbrev pub looked : table.Step Slot → Sat → ℕ → Sat → Type 0
 looked st m found m' =
     (lying : Option (List (Option (List Seg)))) × (m' ≡ (record m.0 { lying = lying }, m.1))

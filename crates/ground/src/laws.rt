@@ -4,28 +4,29 @@ ghost use Rattle.ground.specs.History.{DesksHaveWhatWasPutIn, HistoriesAreEvents
 ghost use Rattle.ground.specs.Operations.{OperationsAreSteps};
 ghost use Rattle.ground.specs.Ruling.{WordsAreLedTo};
 
-/// Between any two operations the words, the slots and what all seats know are a lawful world of the machine, with its law
-/// of headers, to which the machine's own steps led from the world at the start, each by one seat that has noted it, with
-/// seats split and joined in between.
+/// Between any two operations the words, the slots and what all seats know are a lawful world of
+/// the machine, with its law of headers, to which the machine's own steps led from the world at the
+/// start, each by one seat that has noted it, with seats split and joined in between.
 pub fn the_words_are_led_to()
     ensures { WordsAreLedTo }
 {}
 
-/// Each step of such a history is its one event of the table, by its seat's worker, or none: it leads from any table that
-/// the world before it shows to any that the world after it shows.
+/// Each step of such a history is its one event of the table, by its seat's worker, or none: it
+/// leads from any table that the world before it shows to any that the world after it shows.
 pub fn a_history_is_its_events()
     ensures { HistoriesAreEvents }
 {}
 
-/// What is in a desk's slot is the packet that was put in last, by whichever seat, with its lengths. So what a seizure notes
-/// is the packet with which the desk was opened last.
+/// What is in a desk's slot is the packet that was put in last, by whichever seat, with its
+/// lengths. So what a seizure notes is the packet with which the desk was opened last.
 pub fn a_desk_has_what_was_put_in()
     ensures { DesksHaveWhatWasPutIn }
 {}
 
-/// Each operation of a call on a word is a step of the machine by the seat's worker, whatever the other seats did before:
-/// from whatever ruled state it comes to, the machine plays that step, with the outcome that the seat notes, to the world of
-/// the state that it leaves. An `Open` and a `Clear` come with the step that put their packet in, or took it out.
+/// Each operation of a call on a word is a step of the machine by the seat's worker, whatever the
+/// other seats did before: from whatever ruled state it comes to, the machine plays that step, with
+/// the outcome that the seat notes, to the world of the state that it leaves. An `Open` and a
+/// `Clear` come with the step that put their packet in, or took it out.
 pub fn an_operation_is_a_step()
     ensures { OperationsAreSteps }
 {}

@@ -1,5 +1,5 @@
--- The word that a head is: the modification count above the low bits, which are the top's. The width stands once, as
--- `low_bits`: every other number of a head follows from it.
+-- The word that a head is: the modification count above the low bits, which are the top's. The
+-- width stands once, as `low_bits`: every other number of a head follows from it.
 use Rattle.std.specs.Prelude.{ℕ, ◌≡◌, ◌+◌, ◌-◌, ◌*◌, ◌/◌, ◌%◌, ◌^◌, ◌<◌, ◌≤◌, Option, Some, None}
 
 -- how many low bits a word has for the top
@@ -18,7 +18,8 @@ no_low = low_values - 1
 abbrev pub max_elements : ℕ
 max_elements = low_values - 2
 
--- the modification count at which the head is spent, the greatest that the bits above the low ones hold
+-- the modification count at which the head is spent, the greatest that the bits above the low ones
+-- hold
 abbrev pub spent : ℕ
 spent = 2 ^ 64 / low_values - 1
 

@@ -4,8 +4,8 @@
 ghost use Rattle.std.specs.Prelude.{◌≡◌, ℕ, ◌+◌, ◌<◌, ◌≤◌, ◌↔◌, Option, IfSome, MatchOption};
 ghost use Rattle.head_word.specs.Heads.{IsHead, OneHead, OneWord, spent, max_elements, low_in, no_low};
 
-/// How many low bits of a head's word are the top's; the others are the count's. The width stands here and, as
-/// `low_bits`, in the specs alone: every other number of a head follows from it.
+/// How many low bits of a head's word are the top's; the others are the count's. The width stands
+/// here and, as `low_bits`, in the specs alone: every other number of a head follows from it.
 pub const LOW_BITS: u32 = 24;
 
 /// What one step of the count is worth.
@@ -17,7 +17,8 @@ const NO_LOW: u64 = LOW - 1;
 /// The most elements of a pool, each of which can be the top.
 pub const MAX_ELEMENTS: u32 = (LOW - 2) as u32;
 
-/// The modification count at which the head is spent: the greatest that the bits above the low ones hold.
+/// The modification count at which the head is spent: the greatest that the bits above the low ones
+/// hold.
 pub const SPENT: u64 = u64::MAX / LOW;
 
 /// The word of a head: its count above the low bits, which are 0 for no top and else the top + 1.

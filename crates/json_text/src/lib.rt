@@ -49,8 +49,8 @@ fn compact(alloc: Global, statement: &Statement) -> Result<Vec<u8>, AllocError>
     Ok(text)
 }
 
-/// The compact text of what a script's pools come to, with a line feed at its end: of one pool its statement, and of
-/// two an object with `first` and `second`.
+/// The compact text of what a script's pools come to, with a line feed at its end: of one pool its
+/// statement, and of two an object with `first` and `second`.
 ///
 /// Refused `OutOfMemory` where memory was refused.
 pub fn settled_json(alloc: Global, settled: &Settled) -> Result<Vec<u8>, Refusal>

@@ -32,9 +32,9 @@ enum Then {
     Flushes,
 }
 
-/// A row: its name; the put rule; how many elements are got, and the least of them, which the others follow;
-/// what the worker does then, and what comes of it; the cache afterwards; and how many elements the
-/// common list has then, with its top.
+/// A row: its name; the put rule; how many elements are got, and the least of them, which the
+/// others follow; what the worker does then, and what comes of it; the cache afterwards; and how
+/// many elements the common list has then, with its top.
 type Row = (
     &'static str,
     PutRule,

@@ -1,4 +1,5 @@
-//! Plays what a worker of two pools does on two lists, and looks at what it is told and what is left of either pool.
+//! Plays what a worker of two pools does on two lists, and looks at what is reported to it and what
+//! is left of either pool.
 
 ghost use Rattle.std.specs.Prelude.{◌≡◌};
 ghost use Rattle.layer_tests.specs.OwnAtSite.{OwnAtSites};
@@ -16,25 +17,26 @@ use std::test::Fail;
 /// What a worker of two pools does at one step.
 #[derive(Clone, Copy)]
 enum Step {
-    /// It does this with its packets of the first pool, and its reply is told.
+    /// It does this with its packets of the first pool, and its reply is reported.
     First(Act),
-    /// It clones the packet in this slot into the second pool, and the answer is told.
+    /// It clones the packet in this slot into the second pool, and the answer is reported.
     CloneInto(u32),
-    /// It takes so many bytes off the front of the clone in this slot, and the answer is told.
+    /// It takes this many bytes off the front of the clone in this slot, and the answer is told.
     Adj(u32, u16),
-    /// It takes so many bytes off the end of it.
+    /// It takes this many bytes off the end of it.
     Trim(u32, u16),
     /// It counts the clone's first element.
     Count(u32),
     /// It frees the clone.
     Free(u32),
-    /// The segments of the clone in this slot are told.
+    /// The segments of the clone in this slot are reported.
     Segs(u32),
-    /// Its caches are told, that of the first pool and that of the second.
+    /// Its caches are reported, that of the first pool and that of the second.
     Caches,
 }
 
-/// What is left of a pool: the common list, top last, and so often is each element held, 0 being one that isn't.
+/// What is left of a pool: the common list, top last, and so often is each element held, 0 being
+/// one that isn't.
 #[derive(Clone, Copy)]
 struct Left {
     common: &'static [u32],
@@ -328,7 +330,7 @@ fn segs_of(alloc: Global, twin: &Twin, slot: u32) -> Result<String, Fail> {
     Ok(text)
 }
 
-// Lets a worker take a step, and tells what came of it.
+// Lets a worker take a step, and reports what came of it.
 fn said(
     alloc: Global,
     twin: &mut Twin,
@@ -371,7 +373,7 @@ fn said(
     }
 }
 
-// Lets a worker take its steps, and tells of the first of which something else came than is wanted.
+// Lets a worker take its steps, and reports the first that came to something else than is expected.
 fn differs(
     alloc: Global,
     twin: &mut Twin,
@@ -403,7 +405,8 @@ fn is_left(site: &PlainSite, left: Left) -> bool {
     same
 }
 
-// Lets a worker of two new pools take its steps, and tells of the first thing that isn't as wanted.
+// Lets a worker of two new pools take its steps, and reports the first thing that isn't as
+// expected.
 fn played(alloc: Global, row: &Row) -> Result<Option<String>, Fail> {
     let mut first = PlainSite::make(alloc, &row.first)?;
     let mut second = PlainSite::make(alloc, &row.second)?;

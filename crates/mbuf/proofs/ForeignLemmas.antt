@@ -1,5 +1,5 @@
--- Foreign clones: what they hold in either pool, what stays a worker's own, and segments that are freed or cloned one
--- after another by calls on both pools.
+-- Foreign clones: what they hold in either pool, what stays a worker's own, and segments that are
+-- freed or cloned one after another by calls on both pools.
 use Rattle.std.proofs.Common.{◌≡◌, ℕ, suc, ◌+◌, ◌<◌, ◌≤◌, List, [], ◌∷◌, ◌++◌, length, take, drop, get_or, set, replicate, Option, Some, None, refl, sym, ap, ◌∙◌, subst, append_assoc, arith}
 use Rattle.std.proofs.Math.Seq.{take-suc}
 use Rattle.std.proofs.lemmas.List.{append-nil, drop_more, map-append, take-append-drop}
@@ -218,8 +218,8 @@ ClonesForeign-more l (s ∷ segs) seg cache a b new between x y one left h k = (
 
 -- ---- what stays a worker's own
 
--- As many holds of guests more or less as there are guests more or less: the packets stay a worker's own in the first
--- pool.
+-- As many holds of guests more or less as there are guests more or less: the packets stay a
+-- worker's own in the first pool.
 pub own_guests : (guests later : ℕ → ℕ) (m : Member) (s t : Side) (cache : List ℕ) → OwnWith guests m s →
     t.limits ≡ s.limits → ((i : ℕ) → t.hand i ≡ bag cache i) →
     ((i : ℕ) → t.holds i + guests i ≡ s.holds i + later i) →

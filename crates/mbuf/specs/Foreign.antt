@@ -1,6 +1,6 @@
--- Foreign clones: packets whose own elements are of a second pool and whose bases are of the first. What they hold, and
--- what is done with them: for each case the calls that are made on either pool with their answers, the answer, and what
--- the worker has afterwards.
+-- Foreign clones: packets whose own elements are of a second pool and whose bases are of the first.
+-- What they hold, and what is done with them: for each case the calls that are made on either pool
+-- with their answers, the answer, and what the worker has afterwards.
 use Rattle.std.specs.Prelude.{ℕ, ◌≡◌, ◌≤◌, List, [], ◌∷◌, ◌++◌, flat_map, slice_index_or, slice_set, sum_by, Option, Some, None, Result, Ok, Err}
 use Rattle.commons.specs.declared.limits.Limits.{Limits}
 use Rattle.commons.specs.declared.packet.Seg.{Seg}
@@ -30,8 +30,9 @@ bases_in_slot (Some segs) = bases_of_packet segs
 abbrev pub bases_in : List (Option (List Seg)) → ℕ → ℕ
 bases_in table i = sum_by (λ slot. bag (bases_in_slot slot) i) table
 
--- Foreign clones are a worker's own in the second pool: both are of that pool; the cache is the worker's hand; the
--- clones' own elements, and they alone, are what the worker holds there, and they are headers of it.
+-- Foreign clones are a worker's own in the second pool: both are of that pool; the cache is the
+-- worker's hand; the clones' own elements, and they alone, are what the worker holds there, and
+-- they are headers of it.
 pub record OwnForeign (m : Member) (s : Side) : Type 0 where
   pub limits : m.limits ≡ s.limits
   pub cached : (i : ℕ) → s.hand i ≡ bag m.cache i
@@ -40,7 +41,8 @@ pub record OwnForeign (m : Member) (s : Side) : Type 0 where
 
 -- ---- calls on two pools
 
--- calls led from one state to another on either pool, and this is so of those on the first and those on the second
+-- calls led from one state to another on either pool, and this is so of those on the first and
+-- those on the second
 abbrev pub BothCalls : {S T : Type 0} → (S → Call → List Reading → S → Type 0) → (S → Side) → S → S →
     (T → Call → List Reading → T → Type 0) → (T → Side) → T → T →
     (List Call → List Call → Type 0) → Type 0
@@ -49,8 +51,8 @@ BothCalls first_did first_side s after second_did second_side t later rule =
 
 -- ---- freeing
 
--- what the end of a foreign clone's segment does: its base's hold ends in the first pool, and then its own element's in
--- the second
+-- what the end of a foreign clone's segment does: its base's hold ends in the first pool, and then
+-- its own element's in the second
 pub record EndsForeignSeg (first_limits second_limits : Limits) (seg : Seg)
     (first_cache second_cache : List ℕ) (freed : Freed) (firsts seconds : List Call)
     (first_left second_left : List ℕ) (done : Freed) : Type 0 where
@@ -101,8 +103,8 @@ pub data FreesForeign (first second : Member) (slot : ℕ) (firsts seconds : Lis
 
 -- ---- cloning
 
--- A segment is cloned: an element of the second pool is got by a get of one and claimed, and the count of the segment's
--- buffer is raised in the first pool.
+-- A segment is cloned: an element of the second pool is got by a get of one and claimed, and the
+-- count of the segment's buffer is raised in the first pool.
 pub record ClonesForeignSeg (l : Limits) (seg : Seg) (cache : List ℕ) (firsts seconds : List Call)
     (new : Seg) (left : List ℕ) : Type 0 where
   pub elem : ℕ
@@ -112,7 +114,8 @@ pub record ClonesForeignSeg (l : Limits) (seg : Seg) (cache : List ℕ) (firsts 
   pub claimed : seconds ≡ get ++ Claim elem ∷ []
   pub is : new ≡ attached elem seg
 
--- a segment isn't cloned, for this cause, and perhaps an element is left over that was claimed for it
+-- a segment isn't cloned, for this cause, and perhaps an element is left over that was claimed for
+-- it
 pub data StopsForeign (l : Limits) (seg : Seg) (cache : List ℕ) (firsts seconds : List Call)
     (cause : Refusal) (over : Option ℕ) (left : List ℕ) : Type 0 where
   -- the get is refused in the second pool
@@ -142,8 +145,8 @@ ClonesForeign l (seg ∷ segs) cache firsts seconds new left =
     × ClonesForeignSeg l seg cache first second one between
     × ClonesForeign l segs between first_others second_others more left
 
--- the calls on either pool that clone segments, those that stop it, those that free the clones, and that which puts an
--- element back that is left over
+-- the calls on either pool that clone segments, those that stop it, those that free the clones, and
+-- that which puts an element back that is left over
 pub record GivingUp : Type 0 where
   pub first_clone : List Call
   pub second_clone : List Call
@@ -153,8 +156,8 @@ pub record GivingUp : Type 0 where
   pub second_end : List Call
   pub over_end : List Call
 
--- A segment isn't cloned: the clones so far are freed in order, and then an element that is left over is put back into
--- the second pool.
+-- A segment isn't cloned: the clones so far are freed in order, and then an element that is left
+-- over is put back into the second pool.
 pub record GivesUpForeign (l k : Limits) (segs : List Seg) (first_cache second_cache : List ℕ)
     (firsts seconds : List Call) (cause : Refusal) (first_left second_left : List ℕ) : Type 0 where
   pub cloned : List Seg
@@ -178,7 +181,8 @@ pub record GivesUpForeign (l k : Limits) (segs : List Seg) (first_cache second_c
   pub done : Freed
   pub over_ended : EndsHolds k (hold_of over) between freed calls.over_end second_left done
 
--- what a clone of the packet in a slot into the second pool does, by what the worker has of either pool
+-- what a clone of the packet in a slot into the second pool does, by what the worker has of either
+-- pool
 pub data ClonesInto (first second : Member) (source : ℕ) (firsts seconds : List Call)
     (answer : Result ℕ Refusal) (first_after second_after : Member) : Type 0 where
   -- there is no packet, or no free slot: nothing is asked for

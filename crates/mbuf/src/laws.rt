@@ -16,13 +16,15 @@ pub fn new_packets_are_own()
         Own (record { limits = s.limits; number = number; cache = []; table = replicate slots None }) s }
 {}
 
-/// A worker's packets stay its own, with whatever guests, while what it has of the shared pool stays, whatever others do.
+/// A worker's packets stay its own, with whatever guests, while what it has of the shared pool
+/// stays, whatever others do.
 pub fn packets_stay_own()
     ensures { (guests : ℕ → ℕ) (m : Member) (before after : Side) → OwnWith guests m before → SameSide before after →
         OwnWith guests m after }
 {}
 
-/// A new worker of two pools is its own in both, where it has nothing of the shared part of either, in its hand or held.
+/// A new worker of two pools is its own in both, where it has nothing of the shared part of either,
+/// in its hand or held.
 pub fn new_twins_are_own()
     ensures { (s t : Side) (number : ℕ) → ((i : ℕ) → s.hand i ≡ 0) → ((i : ℕ) → s.holds i ≡ 0) →
         ((i : ℕ) → t.hand i ≡ 0) → ((i : ℕ) → t.holds i ≡ 0) → OwnTwin (record {

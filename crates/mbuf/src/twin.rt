@@ -1,4 +1,5 @@
-//! A worker of two pools: its packets of the first, and clones of them whose own elements are of the second.
+//! A worker of two pools: its packets of the first, and clones of them whose own elements are of
+//! the second.
 
 ghost use Rattle.std.specs.Prelude.{◌≡◌, ◌≤◌, [], ◌∷◌, IfOk, IfErr, OnErr, None, replicate, slice_index_or};
 ghost use Rattle.commons.specs.Bounds.{IsPool};
@@ -23,12 +24,13 @@ use commons::shared::Commons;
 use std::alloc::Global;
 use std::marker::Model;
 
-/// A worker of two pools. Of the first it has a cache and packets, and of the second a cache and up to 256 foreign
-/// clones: packets whose own elements are of the second pool, and whose bases are of the first. It can't be dropped:
-/// `lose` ends it.
+/// A worker of two pools. Of the first it has a cache and packets, and of the second a cache and up
+/// to 256 foreign clones: packets whose own elements are of the second pool, and whose bases are of
+/// the first. It can't be dropped: `lose` ends it.
 ///
-/// Each call takes the shared part of either pool. In DPDK the second pool is one of mbufs without buffers of their own,
-/// to which the buffers of the first are attached (Programmer's Guide, Mbuf Library, "Direct and Indirect Buffers").
+/// Each call takes the shared part of either pool. In DPDK the second pool is one of mbufs without
+/// buffers of their own, to which the buffers of the first are attached (Programmer's Guide, Mbuf
+/// Library, "Direct and Indirect Buffers").
 pub struct Twin {
     first: Packets,
     second: Packets,
@@ -49,8 +51,8 @@ impl Model for Twin {
 impl Twin {
     /// A worker with two empty caches and no packets. No other call takes memory.
     ///
-    /// Refused `BadPool` where either limits are out of range or have no worker of this number, and `OutOfMemory` where
-    /// memory was refused.
+    /// Refused `BadPool` where either limits are out of range or have no worker of this number, and
+    /// `OutOfMemory` where memory was refused.
     pub fn make(
         alloc: Global,
         first: &Limits,
@@ -90,7 +92,8 @@ impl Twin {
         second.lose();
     }
 
-    /// What the worker has of the first pool, and what it has of the second, where foreign clones stand as packets.
+    /// What the worker has of the first pool, and what it has of the second, where foreign clones
+    /// stand as packets.
     pub fn into_parts(self) -> (Packets, Packets)
         ensures first { result.0 ≡ self.first }
         ensures second { result.1 ≡ self.second }
@@ -122,8 +125,8 @@ impl Twin {
         &self.second
     }
 
-    /// Lets the worker do this with its packets of the first pool, and answers what came of it. The second pool is asked
-    /// nothing.
+    /// Lets the worker do this with its packets of the first pool, and answers what came of it. The
+    /// second pool is asked nothing.
     ///
     /// Refused as `acts::perform` is.
     pub fn perform_first<C: Commons, D: Commons>(&mut self, c: &mut C, d: &mut D, act: Act) -> Reply
@@ -142,7 +145,8 @@ impl Twin {
         perform(&mut self.first, c, act)
     }
 
-    /// Does what `perform_first` does, and answers with room for a bulk of `ROOM` packets: with none the answer is small.
+    /// Does what `perform_first` does, and answers with room for a bulk of `ROOM` packets: with
+    /// none the answer is small.
     pub fn perform_first_in<C: Commons, D: Commons, const ROOM: usize>(
         &mut self,
         c: &mut C,
@@ -165,14 +169,16 @@ impl Twin {
         perform_in(&mut self.first, c, act)
     }
 
-    /// Clones a packet of the first pool into a foreign clone: for each of its segments in order an element is got
-    /// through the cache of the second pool and claimed, and attached to the segment's buffer, whose count is raised in
-    /// the first. The clone stands in the lowest free slot of the foreign clones, which is the answer.
+    /// Clones a packet of the first pool into a foreign clone: for each of its segments in order an
+    /// element is got through the cache of the second pool and claimed, and attached to the
+    /// segment's buffer, whose count is raised in the first. The clone stands in the lowest free
+    /// slot of the foreign clones, which is the answer.
     ///
-    /// Refused `NoSuchPacket` where no packet stands there, `PacketsFull` where no slot is free, else as the first get or
-    /// raise is that is refused: `NoEntries`, `Contended` or `HeadSpent` in the second pool, `Contended` or `RefSpent` in
-    /// the first. The clones so far are then freed in order, then an element that was got and not attached is put back;
-    /// packets, clones, holds and headers are as before on both sides, and so are the free elements, though cache and
+    /// Refused `NoSuchPacket` where no packet stands there, `PacketsFull` where no slot is free,
+    /// else as the first get or raise is that is refused: `NoEntries`, `Contended` or `HeadSpent`
+    /// in the second pool, `Contended` or `RefSpent` in the first. The clones so far are then freed
+    /// in order, then an element that was got and not attached is put back; packets, clones, holds
+    /// and headers are as before on both sides, and so are the free elements, though cache and
     /// stack may share them out otherwise.
     ///
     /// After rte_mbuf.h, `rte_pktmbuf_clone` (DPDK 21.11), with a second pool.
@@ -197,11 +203,11 @@ impl Twin {
         self.second.clone_foreign(&mut self.first, c, d, p)
     }
 
-    /// Takes `len` bytes off the front of a foreign clone's first segment, and answers the clone's new length in bytes.
-    /// Neither pool is asked.
+    /// Takes `len` bytes off the front of a foreign clone's first segment, and answers the clone's
+    /// new length in bytes. Neither pool is asked.
     ///
-    /// Refused `NoSuchPacket` where no clone stands there, and `TooShort` where the first segment has fewer bytes of
-    /// data. Nothing changes then.
+    /// Refused `NoSuchPacket` where no clone stands there, and `TooShort` where the first segment
+    /// has fewer bytes of data. Nothing changes then.
     ///
     /// After rte_mbuf.h, `rte_pktmbuf_adj` (DPDK 21.11).
     pub fn adj_clone<C: Commons, D: Commons>(
@@ -221,11 +227,11 @@ impl Twin {
         self.second.resize(p, Change::Adj(len))
     }
 
-    /// Takes `len` bytes off the end of a foreign clone's last segment, and answers the clone's new length in bytes.
-    /// Neither pool is asked.
+    /// Takes `len` bytes off the end of a foreign clone's last segment, and answers the clone's new
+    /// length in bytes. Neither pool is asked.
     ///
-    /// Refused `NoSuchPacket` where no clone stands there, and `TooShort` where the last segment has fewer bytes of data.
-    /// Nothing changes then.
+    /// Refused `NoSuchPacket` where no clone stands there, and `TooShort` where the last segment
+    /// has fewer bytes of data. Nothing changes then.
     ///
     /// After rte_mbuf.h, `rte_pktmbuf_trim` (DPDK 21.11).
     pub fn trim_clone<C: Commons, D: Commons>(
@@ -245,8 +251,8 @@ impl Twin {
         self.second.resize(p, Change::Trim(len))
     }
 
-    /// The reference count of a foreign clone's first segment's own element, as the second pool tells it at one moment of
-    /// the call.
+    /// The reference count of a foreign clone's first segment's own element, as the second pool
+    /// gives it at one moment of the call.
     ///
     /// Refused `NoSuchPacket` where no clone stands there. Nothing changes then.
     ///
@@ -267,13 +273,16 @@ impl Twin {
         self.second.count_foreign(d, p)
     }
 
-    /// Frees a foreign clone: of each of its segments in order the base's hold ends in the first pool, and then its own
-    /// element's in the second. An element whose last hold went is put back through the cache of its pool.
+    /// Frees a foreign clone: of each of its segments in order the base's hold ends in the first
+    /// pool, and then its own element's in the second. An element whose last hold went is put back
+    /// through the cache of its pool.
     ///
-    /// Refused `NoSuchPacket` where no clone stands there; nothing changes then. A push that a stack refuses is no
-    /// refusal: `put_off` tells of the last one, and the elements stay in the cache.
+    /// Refused `NoSuchPacket` where no clone stands there; nothing changes then. A push that a
+    /// stack refuses is not a refusal: `put_off` tells of the last one, and the elements stay in
+    /// the cache.
     ///
-    /// After rte_mbuf.h, `rte_pktmbuf_free` (DPDK 21.11). That a base's hold ends before its segment's own is our order.
+    /// After rte_mbuf.h, `rte_pktmbuf_free` (DPDK 21.11). That a base's hold ends before its
+    /// segment's own is our order.
     pub fn free_clone<C: Commons, D: Commons>(
         &mut self,
         c: &mut C,

@@ -1,4 +1,5 @@
--- What a handle owns: nothing, and then its pointer is null, or the value behind the pointer, and the right to free it.
+-- What a handle owns: nothing, and then its pointer is null, or the value behind the pointer, and
+-- the right to free it.
 use Rattle.std.specs.Prelude.{Option, Some, None}
 use base.Fml.{Fml, feq}
 use denote.RattleType.{RattleType}

@@ -22,8 +22,8 @@ abbrev pub status_of : Result (Unit {0}) Refusal → ℕ
 status_of (Ok _) = 0
 status_of (Err cause) = number_of cause
 
--- The seat of a handle made this call, and C has the status of its answer. Where there is no seat nothing was done, and C
--- has the number of a stranger.
+-- The seat of a handle made this call, and C has the status of its answer. Where there is no seat
+-- nothing was done, and C has the number of a stranger.
 abbrev pub CallsIn : (Result (Unit {0}) Refusal → Call) → Option Seated → ℕ → Option Seated → Type 0
 CallsIn call None status new = (status ≡ number_of StrangerShare) × (new ≡ None)
 CallsIn call (Some s) status new =
@@ -49,7 +49,8 @@ abbrev pub CountsIn : Option Seated → ℕ → Option Seated → Type 0
 CountsIn None count new = (count ≡ 0) × (new ≡ None)
 CountsIn (Some s) count new = (t : Seated) × Did DidOnWords side_of s (CommonCount count) t × (new ≡ Some t)
 
--- the seat of the first handle gave one of its parts to a new seat at its words, which is in the second
+-- the seat of the first handle gave one of its parts to a new seat at its words, which is in the
+-- second
 abbrev pub Splits : Option Seated → Option Seated → Option Seated → Type 0
 Splits None new out = ⊥
 Splits (Some s) new out =

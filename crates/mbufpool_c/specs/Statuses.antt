@@ -36,7 +36,8 @@ abbrev pub status_of : Option Reply → ℕ
 status_of None = number_of StrangerShare
 status_of (Some r) = status_of_reply r
 
--- the number that an answer tells of: a length, a number of segments, a count, or a slot; else what was there stays
+-- the number that an answer tells of: a length, a number of segments, a count, or a slot; else what
+-- was there stays
 abbrev pub number_in : Reply → ℕ → ℕ
 number_in (reply.Len len) old = len
 number_in (reply.Segs segs) old = segs

@@ -50,7 +50,8 @@ impl CheckedSeat {
         }
     }
 
-    /// Takes as many elements off the stack into the hand as `out` has places: all of them, or none.
+    /// Takes as many elements off the stack into the hand as `out` has places: all of them, or
+    /// none.
     pub fn get(&mut self, out: &mut [u32]) -> Result<(), Refusal>
         requires { 0 < length out.old }
         ensures { Did DidOnWords side_of self.old (GetList (length out.old) (with_list result out.new)) self.new }
@@ -65,8 +66,8 @@ impl CheckedSeat {
         }
     }
 
-    /// Puts a list of elements onto the stack, whatever they are: all of them, or none. Answers the status of the put, or
-    /// `NOT_IN_HAND` where not each is in the hand, or one is named twice.
+    /// Puts a list of elements onto the stack, whatever they are: all of them, or none. Answers the
+    /// status of the put, or `NOT_IN_HAND` where not each is in the hand, or one is named twice.
     pub fn put(&mut self, list: &[u32]) -> u32
         requires { 0 < length list.now }
         ensures { PutsChecked list.now self.old result self.new }

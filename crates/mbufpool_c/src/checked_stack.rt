@@ -14,7 +14,7 @@ use crate::stack::{stack_of, status_of};
 use commons::refusal::Refusal;
 use std::alloc::Global;
 
-/// A pool of so many elements, with one checked seat.
+/// A pool of this many elements, with one checked seat.
 fn opened(alloc: Global, population: u32, tries: u32) -> Result<Box<CheckedSeat>, Refusal>
     ensures known { IfOk result (λ own. own.value.known ≡ first_known (stack_limits population 1 tries)) }
     ensures cause { IfErr result (IsGroundCause (stack_limits population 1 tries)) }
@@ -26,7 +26,8 @@ fn opened(alloc: Global, population: u32, tries: u32) -> Result<Box<CheckedSeat>
     }
 }
 
-/// Makes a pool of `population` elements with one checked seat. A seat that was in the handle is lost.
+/// Makes a pool of `population` elements with one checked seat. A seat that was in the handle is
+/// lost.
 #[unsafe(no_mangle)]
 pub extern "C" fn mbufpool_checked_open(
     alloc: Global,

@@ -1,5 +1,5 @@
-//! The pool on words as a library for C: each export is one call by a seat or by a worker, behind a handle that C has.
-//! `include/mbufpool.h` declares them.
+//! The pool on words as a library for C: each export is one call by a seat or by a worker, behind a
+//! handle that C has. `include/mbufpool.h` declares them.
 #![tactic(auto)]
 
 pub mod checked;

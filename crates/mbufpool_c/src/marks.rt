@@ -15,8 +15,8 @@ pub(crate) fn mark(marks: &mut [bool], list: &[u32])
     }
 }
 
-/// Takes the marks off these elements, where each is marked and named once. Else nothing changes, and an element is named
-/// more often than it is marked.
+/// Takes the marks off these elements, where each is marked and named once. Else nothing changes,
+/// and an element is named more often than it is marked.
 pub(crate) fn unmark(marks: &mut [bool], list: &[u32]) -> bool
     ensures met { result ≡ true → Marks list.now marks.new marks.old }
     ensures below { result ≡ true → All (λ e. e < length marks.new) list.now }

@@ -41,8 +41,9 @@ pub struct NewPacket {
     pub element: u32,
 }
 
-/// A segment of a packet: its own element, the one whose buffer has its data, which is another where the segment is a
-/// clone's, and in bytes where the data begins there, how long it is, and how long the buffer is.
+/// A segment of a packet: its own element, the one whose buffer has its data, which is another
+/// where the segment is a clone's, and in bytes where the data begins there, how long it is, and
+/// how long the buffer is.
 #[repr(C)]
 #[derive(Clone, Copy)]
 pub struct Segment {
@@ -53,7 +54,8 @@ pub struct Segment {
     pub buf: u16,
 }
 
-/// The status of an answer: 0, or the number of a refusal, which where there is no worker is that of `StrangerShare`.
+/// The status of an answer: 0, or the number of a refusal, which where there is no worker is that
+/// of `StrangerShare`.
 #[inline(always)]
 fn status_of(answer: &Option<Answer<0>>) -> u32
     ensures { result ≡ status_in (replied answer.now) }
@@ -81,7 +83,7 @@ fn act(alloc: Global, worker: &mut WorkerHandle, act: Act) -> Option<Answer<0>>
     }
 }
 
-/// Lets the worker of a handle do this, and tells of the number that is answered.
+/// Lets the worker of a handle do this, and gives C the number that is answered.
 #[inline(always)]
 fn tell(alloc: Global, worker: &mut WorkerHandle, what: Act, out: &mut u32) -> u32
     requires { HasRoom 0 what }
@@ -108,7 +110,7 @@ fn first_of(elements: &[u32]) -> u32
     elements[0]
 }
 
-/// Lets the worker of a handle do this, and tells of the new packet that is answered.
+/// Lets the worker of a handle do this, and gives C the new packet that is answered.
 #[inline(always)]
 fn tell_new(alloc: Global, worker: &mut WorkerHandle, what: Act, out: &mut NewPacket) -> u32
     requires { HasRoom 0 what }
@@ -177,8 +179,8 @@ fn owned(alloc: Global, ground: &Arc<Ground>, worker: WordWorker) -> Result<Box<
     }
 }
 
-/// Makes a pool, and puts its workers into the handles, of which there is one for each. Where it is refused, the handles
-/// have no workers.
+/// Makes a pool, and puts its workers into the handles, of which there is one for each. Where it is
+/// refused, the handles have no workers.
 #[unsafe(no_mangle)]
 pub extern "C" fn mbufpool_open(
     alloc: Global,
@@ -219,7 +221,8 @@ pub extern "C" fn mbufpool_alloc(
     tell_new(alloc, worker, Act::Alloc, out)
 }
 
-/// Lets the worker of a handle make so many packets, all or none. Answers nothing where there is none.
+/// Lets the worker of a handle make this many packets, all or none. Answers nothing where there is
+/// none.
 fn act_bulk(alloc: Global, worker: &mut WorkerHandle, count: usize) -> Option<Reply>
     ensures { ActsIn (Act.AllocBulk count) worker.old.value (replied result) worker.new.value }
 {
@@ -247,7 +250,7 @@ fn tell_each(made: &[acts::NewPacket], out: &mut [NewPacket])
     }
 }
 
-/// Makes as many packets of one element as `out` has places, all or none, and tells of each.
+/// Makes as many packets of one element as `out` has places, all or none, and gives C each.
 #[unsafe(no_mangle)]
 pub extern "C" fn mbufpool_alloc_bulk(
     alloc: Global,
@@ -276,7 +279,7 @@ pub extern "C" fn mbufpool_free(alloc: Global, worker: &mut WorkerHandle, slot: 
     status_of(&act(alloc, worker, Act::Free(slot)))
 }
 
-/// Adds so many bytes behind a packet's data, and tells its length.
+/// Adds this many bytes after a packet's data, and gives its length.
 #[unsafe(no_mangle)]
 pub extern "C" fn mbufpool_append(
     alloc: Global,
@@ -290,7 +293,7 @@ pub extern "C" fn mbufpool_append(
     tell(alloc, worker, Act::Append(slot, len), out)
 }
 
-/// Adds so many bytes in front of a packet's data, and tells its length.
+/// Adds this many bytes in front of a packet's data, and gives its length.
 #[unsafe(no_mangle)]
 pub extern "C" fn mbufpool_prepend(
     alloc: Global,
@@ -304,7 +307,7 @@ pub extern "C" fn mbufpool_prepend(
     tell(alloc, worker, Act::Prepend(slot, len), out)
 }
 
-/// Takes so many bytes off the front of a packet's data, and tells its length.
+/// Takes this many bytes off the front of a packet's data, and gives its length.
 #[unsafe(no_mangle)]
 pub extern "C" fn mbufpool_adj(
     alloc: Global,
@@ -318,7 +321,7 @@ pub extern "C" fn mbufpool_adj(
     tell(alloc, worker, Act::Adj(slot, len), out)
 }
 
-/// Takes so many bytes off the end of a packet's data, and tells its length.
+/// Takes this many bytes off the end of a packet's data, and gives its length.
 #[unsafe(no_mangle)]
 pub extern "C" fn mbufpool_trim(
     alloc: Global,
@@ -332,7 +335,7 @@ pub extern "C" fn mbufpool_trim(
     tell(alloc, worker, Act::Trim(slot, len), out)
 }
 
-/// Puts the segments of a packet behind those of another.
+/// Puts the segments of a packet after those of another.
 #[unsafe(no_mangle)]
 pub extern "C" fn mbufpool_chain(
     alloc: Global,
@@ -392,7 +395,7 @@ pub extern "C" fn mbufpool_offer(
     status_of(&act(alloc, worker, Act::Offer(slot, desk)))
 }
 
-/// Takes the packet off a desk, and tells its slot.
+/// Takes the packet off a desk, and gives its slot.
 #[unsafe(no_mangle)]
 pub extern "C" fn mbufpool_take(
     alloc: Global,

@@ -11,7 +11,8 @@ use std::alloc::Global;
 use std::marker::Model;
 use std::ptr::null_mut;
 
-/// A seat in the hands of C, or none. In C it is a struct of one pointer, which is null where there is none.
+/// A seat in the hands of C, or none. In C it is a struct of one pointer, which is null where there
+/// is none.
 #[repr(C)]
 pub struct SeatHandle {
     at: *mut u8,

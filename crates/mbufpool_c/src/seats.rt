@@ -21,8 +21,8 @@ use std::alloc::Global;
 use std::marker::Model;
 use std::sync::Arc;
 
-/// A seat, with the words that it is at, which are freed with the last of their seats. It can be sent to a thread. One
-/// that is dropped is lost with what is in its hand.
+/// A seat, with the words that it is at, which are freed with the last of their seats. It can be
+/// sent to a thread. One that is dropped is lost with what is in its hand.
 pub struct OwnSeat {
     ground: Arc<Ground>,
     /// There is none within a call alone.
@@ -60,7 +60,8 @@ impl Drop for OwnSeat {
 impl OwnSeat {
     /// Makes a pool, and the one seat of it, which has every part.
     ///
-    /// Refused `BadPool` where the limits are out of range, and `OutOfMemory` where memory was refused.
+    /// Refused `BadPool` where the limits are out of range, and `OutOfMemory` where memory was
+    /// refused.
     pub fn open(alloc: Global, limits: &Limits) -> Result<OwnSeat, Refusal>
         ensures known { IfOk result (λ seat. seat.known ≡ first_known limits.now) }
         ensures cause { IfErr result (IsGroundCause limits.now) }
@@ -82,7 +83,8 @@ impl OwnSeat {
 
     /// Makes one more seat at the same words, of one part of this one.
     ///
-    /// Refused `StrangerShare` where the pool has no more workers, and `OutOfMemory` where there are too many owners.
+    /// Refused `StrangerShare` where the pool has no more workers, and `OutOfMemory` where there
+    /// are too many owners.
     pub fn split(&mut self) -> Result<OwnSeat, Refusal>
         ensures left { IfOk result (λ _. self.new ≡ record self.old { known = less_part self.old.known }) }
         ensures made { IfOk result (λ other. (other.table ≡ self.old.table) × (other.known ≡ newcomer self.old.known)) }
@@ -107,7 +109,8 @@ impl OwnSeat {
         })
     }
 
-    /// Takes as many elements off the stack into the hand as `out` has places: all of them, or none.
+    /// Takes as many elements off the stack into the hand as `out` has places: all of them, or
+    /// none.
     #[inline(always)]
     pub fn get(&mut self, out: &mut [u32]) -> Result<(), Refusal>
         requires { 0 < length out.old }

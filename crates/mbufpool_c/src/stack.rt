@@ -43,7 +43,7 @@ pub(crate) fn stack_of(population: u32, seats: u32, tries: u32) -> Limits
     }
 }
 
-/// A pool of so many elements, with one seat, of which others are made.
+/// A pool of this many elements, with one seat, of which others are made.
 fn opened(alloc: Global, population: u32, seats: u32, tries: u32) -> Result<Box<OwnSeat>, Refusal>
     ensures known { IfOk result (λ own. own.value.known ≡ first_known (stack_limits population seats tries)) }
     ensures cause { IfErr result (IsGroundCause (stack_limits population seats tries)) }
@@ -55,8 +55,8 @@ fn opened(alloc: Global, population: u32, seats: u32, tries: u32) -> Result<Box<
     }
 }
 
-/// Makes a pool of `population` elements, for as many as `seats` seats, and its first seat. A seat that was in the handle
-/// is lost.
+/// Makes a pool of `population` elements, for as many as `seats` seats, and its first seat. A seat
+/// that was in the handle is lost.
 #[unsafe(no_mangle)]
 pub extern "C" fn mbufpool_seat_open(
     alloc: Global,
@@ -161,7 +161,8 @@ fn put_some(alloc: Global, seat: &mut SeatHandle, list: &[u32]) -> u32
     }
 }
 
-/// Puts a list of elements back: all of them, or none. Each is in the seat's hand, and the list names it once.
+/// Puts a list of elements back: all of them, or none. Each is in the seat's hand, and the list
+/// names it once.
 #[unsafe(no_mangle)]
 pub extern "C" fn mbufpool_seat_put(alloc: Global, seat: &mut SeatHandle, list: &[u32]) -> u32
     requires { InHand seat.old.value list.now }

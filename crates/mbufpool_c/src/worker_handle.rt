@@ -11,7 +11,8 @@ use std::alloc::Global;
 use std::marker::Model;
 use std::ptr::null_mut;
 
-/// A worker in the hands of C, or none. In C it is a struct of one pointer, which is null where there is none.
+/// A worker in the hands of C, or none. In C it is a struct of one pointer, which is null where
+/// there is none.
 #[repr(C)]
 pub struct WorkerHandle {
     at: *mut u8,

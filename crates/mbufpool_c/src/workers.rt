@@ -14,8 +14,8 @@ use std::marker::Model;
 use std::sync::Arc;
 use word_pool::worker::WordWorker;
 
-/// A worker, with the words that it works on, which are freed with the last of their workers. It can be sent to a thread.
-/// One that is dropped has died: what it has is lost to the pool.
+/// A worker, with the words that it works on, which are freed with the last of their workers. It
+/// can be sent to a thread. One that is dropped has died: what it has is lost to the pool.
 #[derive(Drop)]
 pub struct OwnWorker {
     ground: Arc<Ground>,
@@ -44,7 +44,8 @@ impl OwnWorker {
 
     /// The segment at this place of the packet in a slot.
     ///
-    /// Refused `NoSuchPacket` where no packet stands there, and `TooShort` where it has fewer segments.
+    /// Refused `NoSuchPacket` where no packet stands there, and `TooShort` where it has fewer
+    /// segments.
     pub fn seg(&self, slot: u32, index: u32) -> Result<Seg, Refusal>
         ensures { result ≡ seg_at (slice_index_or self.now.member.table slot None) index }
     {

@@ -86,7 +86,8 @@ put_whole_passed did side l cache list before after answer left whole long (Stay
       WholeBypassPutOff whole (inr long) cause (rw (drop-append_seam cache list) refl) (rw n at a) k,
     )
 
--- Where cache and list pass the threshold, a push of the whole cache, behind which the list comes, is the one request.
+-- Where cache and list pass the threshold, a push of the whole cache, after which the list comes,
+-- is the one request.
 pub put_after_cache : {S : Type 0} (did : S → Call → List Reading → S → Type 0) (side : S → Side)
     (l : Limits) (cache list rest : List ℕ) (before after : S) (answer : Put) (left : List ℕ) →
     l.put_rule ≡ rules.Whole → 0 < length list → length list ≤ max_cache → length list ≤ threshold l →

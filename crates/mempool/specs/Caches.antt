@@ -85,8 +85,8 @@ put_count Kept = 0
 put_count (Flushed k) = k
 put_count (PutOff k e) = k
 
--- what a put of a list does with a cache, by the pool's rule: `Whole` has the cases that begin with its name, `Keep` the
--- others, and both have the first
+-- what a put of a list does with a cache, by the pool's rule: `Whole` has the cases that begin with
+-- its name, `Keep` the others, and both have the first
 pub data Puts (l : Limits) (cache list : List ℕ) (calls : List Call) (answer : Put) (left : List ℕ)
     : Type 0 where
   -- nothing is put
@@ -163,7 +163,8 @@ pub data Puts (l : Limits) (cache list : List ℕ) (calls : List Call) (answer :
       answer ≡ PutOff (length list) cause →
       left ≡ cache ++ list →
       Puts l cache list calls answer left
-  -- where the two would pass the threshold, the whole cache goes to the stack in one push, and the list becomes the cache
+  -- where the two would pass the threshold, the whole cache goes to the stack in one push, and the
+  -- list becomes the cache
   WholeFlush :
       l.put_rule ≡ rules.Whole →
       0 < length list →
@@ -174,7 +175,7 @@ pub data Puts (l : Limits) (cache list : List ℕ) (calls : List Call) (answer :
       answer ≡ Flushed (length cache) →
       left ≡ list →
       Puts l cache list calls answer left
-  -- and the list comes behind the cache where the stack refuses that
+  -- and the list comes after the cache where the stack refuses that
   WholeFlushPutOff :
       l.put_rule ≡ rules.Whole →
       0 < length list →

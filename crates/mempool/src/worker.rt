@@ -302,9 +302,9 @@ impl Worker {
         self.get_bulk(c, out)
     }
 
-    /// Puts distinct elements of the hand, none of which is in the cache, into the cache, or some of
-    /// them and of the cache onto the common stack, by the pool's rule. By either a list of more than
-    /// 512 goes there past the cache, and an empty put takes no step.
+    /// Puts distinct elements of the hand, none of which is in the cache, into the cache, or some
+    /// of them and of the cache onto the common stack, by the pool's rule. By either a list of more
+    /// than 512 goes there past the cache, and an empty put takes no step.
     ///
     /// - `PutRule::Keep`: from the threshold on all beyond the cache's size goes to the stack.
     /// - `PutRule::Whole`: a list that is longer than the threshold goes past the cache too. Where
@@ -312,7 +312,7 @@ impl Worker {
     ///   becomes the cache.
     ///
     /// Where the stack refuses (`HeadSpent` or `Contended`, the cause in `PutOff`), the list comes
-    /// behind the cache, which keeps all, and the next flush offers them again.
+    /// after the cache, which keeps all, and the next flush offers them again.
     ///
     /// After rte_mempool.h, `rte_mempool_do_generic_put`: `Keep` as in DPDK 21.11, `Whole` as in
     /// DPDK 22.11. Its stack can't refuse.

@@ -162,7 +162,7 @@ flush-IsPut cache s = elim (cases_Bool (length cache == 0)) [
       record { moved = λ i. omega (arith, bag-nil i); desks = refl; changes = omega arith }))
 ]
 
--- a list that goes past a cache, or comes behind it
+-- a list that goes past a cache, or comes after it
 past-IsPut : (list cache : List ℕ) (s : Shared) → IsPut list cache s (put_past cache list (push list s))
 past-IsPut list cache s = push-bag list s (λ r. IsPut list cache s (put_past cache list r))
     (λ t h same more.
@@ -178,7 +178,7 @@ kept-IsPut list cache s = record {
   changes = omega arith;
 }
 
--- a list that takes the place of a cache, or comes behind it
+-- a list that takes the place of a cache, or comes after it
 after-IsPut : (list cache : List ℕ) (s : Shared) → IsPut list cache s (put_after cache list (push cache s))
 after-IsPut list cache s = push-bag cache s (λ r. IsPut list cache s (put_after cache list r))
     (λ t h same more.

@@ -92,7 +92,8 @@ long : {n most threshold : ℕ} → (most < n) ⊎ (threshold < n) → n ≢ 0
 long (inl h) e = omega arith
 long (inr h) e = omega arith
 
--- longer than a cache ever keeps, or than the threshold, the first or the second test lets a list past
+-- longer than a cache ever keeps, or than the threshold, the first or the second test lets a list
+-- past
 past_either : {X : Type 0} (n threshold : ℕ) (x y z : X) → (512 < n) ⊎ (threshold < n) →
     x ≡ y → x ≡ cond (nat_lt 512 n) y (cond (nat_lt threshold n) y z)
 past_either n threshold x y z p e =

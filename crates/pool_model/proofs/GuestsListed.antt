@@ -21,8 +21,8 @@ use Rattle.pool_model.proofs.GuestHolders.{holders_with-desk, holders_with-order
 use Rattle.pool_model.proofs.Listed.{bag-filter_no, bag-filter_yes, bag-flat_map, desks_from-holds, desks_from-own, held_once, length-each, packets-holds, packets-own, packets-worker, range-rises, sum_by-map}
 use Rattle.pool_model.proofs.Numbered.{AreInOrder}
 
--- Each element of the pool is in one place, and nothing else is anywhere, where elements are held for guests too; and
--- each is the own element of at most one segment of all packets.
+-- Each element of the pool is in one place, and nothing else is anywhere, where elements are held
+-- for guests too; and each is the own element of at most one segment of all packets.
 pub record IsBalancedWith (guests : List Guest) (pool : Pool) : Type 0 where
   pub placed : (i : ℕ) → bag pool.shared.common i + sum_by (λ (m : Member). bag m.cache i) pool.members
       + min 1 (held_with guests pool.members pool.shared.desks i)

@@ -61,12 +61,13 @@ put_whole cache (Err e, s) = (PutOff (length cache) e, cache, s)
 abbrev pub flush : List ℕ → Shared → Put × List ℕ × Shared
 flush cache s = if length cache == 0 then (Kept, cache, s) else put_whole cache (push cache s)
 
--- the whole cache goes and the list takes its place, or comes behind it where that was refused
+-- the whole cache goes and the list takes its place, or comes after it where that was refused
 abbrev pub put_after : List ℕ → List ℕ → Result (Unit {0}) Refusal × Shared → Put × List ℕ × Shared
 put_after cache list (Ok _, s) = (Flushed (length cache), list, s)
 put_after cache list (Err e, s) = (PutOff (length cache) e, cache ++ list, s)
 
--- by each rule: the answer to a put of a list that isn't empty, and the cache and the stack that it leaves
+-- by each rule: the answer to a put of a list that isn't empty, and the cache and the stack that it
+-- leaves
 abbrev pub put_by_rule : PutRule → Limits → List ℕ → List ℕ → Shared → Put × List ℕ × Shared
 put_by_rule Keep l list cache s =
     if nat_lt 512 (length list) then put_past cache list (push list s)

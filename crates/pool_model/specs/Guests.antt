@@ -1,4 +1,5 @@
--- Pools of which one has the bases of the other's packets: what each holds of itself, and what its statement says.
+-- Pools of which one has the bases of the other's packets: what each holds of itself, and what its
+-- statement says.
 use Rattle.std.specs.Prelude.{ℕ, ◌≡◌, ◌+◌, ◌<◌, ◌≤◌, nat_lt, ◌==◌, cond, Bool, true, false, List, [], length, replicate, filter, map, flat_map, sum_by, ◌++◌, All, AllPairs, Option, Some, None, count_by}
 use Rattle.std.specs.List.{range_with_len}
 use Rattle.std.specs.List.Sorted.{IsStrictlyIncreasing}
@@ -145,9 +146,10 @@ local_statement true s = record s {
 }
 local_statement false s = s
 
--- What ListsEachOnce says of a statement, of one whose held elements are held for guests too: the count of a held
--- element is the number of its holders, which is that of the holds of all packets and of the guests that it is; each
--- worker stands among them as often as its own packets hold the element and its own guests are it.
+-- What ListsEachOnce says of a statement, of one whose held elements are held for guests too: the
+-- count of a held element is the number of its holders, which is that of the holds of all packets
+-- and of the guests that it is; each worker stands among them as often as its own packets hold the
+-- element and its own guests are it.
 pub record ListsEachOnceWith (guests : List Guest) (s : Statement) : Type 0 where
   pub once : (i : ℕ) → i < s.population → times_listed s i ≡ 1
   pub none_else : (i : ℕ) → s.population ≤ i → times_listed s i ≡ 0

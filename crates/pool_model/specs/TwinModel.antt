@@ -1,5 +1,6 @@
--- The reference model of two pools: lists alone, with no counts. The second pool's packets are foreign clones, by worker
--- and slot: their own elements are of the second pool, and their bases are of the first.
+-- The reference model of two pools: lists alone, with no counts. The second pool's packets are
+-- foreign clones, by worker and slot: their own elements are of the second pool, and their bases
+-- are of the first.
 use Rattle.std.specs.Prelude.{ℕ, ◌+◌, ◌-◌, ◌==◌, ◌&&◌, nat_le, if◌then◌else◌, true, false, flat_map, sum_by, List, [], ◌∷◌, ◌++◌, length, slice_index_or, slice_set, Option, Some, None, Result, Ok, Err}
 use Rattle.commons.specs.Bag.{bag}
 use Rattle.commons.specs.declared.change.Change.{Change}
@@ -39,7 +40,8 @@ new_twin l k = record { first = new_pool l; second = new_pool k }
 abbrev pub based_by : List Member → ℕ → ℕ
 based_by members i = sum_by (λ m. bases_in m.table i) members
 
--- how often an element of the first pool is held: by its packets, in slots and on desks, and as a base of foreign clones
+-- how often an element of the first pool is held: by its packets, in slots and on desks, and as a
+-- base of foreign clones
 abbrev pub held_in_first : TwinPool → ℕ → ℕ
 held_in_first twin i = held_of twin.first.members twin.first.shared.desks i + based_by twin.second.members i
 
@@ -85,8 +87,8 @@ with_second s done = (done.0, record s { second_cache = done.1; second = done.2 
 
 -- ---- foreign clones that are freed
 
--- The segments end in order, each the base's hold first, in the first pool, and then the own element's, in the second;
--- based and owned is how often all others hold each element.
+-- The segments end in order, each the base's hold first, in the first pool, and then the own
+-- element's, in the second; based and owned is how often all others hold each element.
 abbrev pub end_foreign : Limits → Limits → (ℕ → ℕ) → (ℕ → ℕ) → List Seg → Freed × Stocks → Freed × Stocks
 end_foreign l k based owned [] so_far = so_far
 end_foreign l k based owned (seg ∷ segs) so_far =
@@ -102,7 +104,8 @@ end_foreign l k based owned (seg ∷ segs) so_far =
 abbrev pub ClonedInto : Type 0
 ClonedInto = Result (List Seg) Refusal × Stocks
 
--- a clone is given up: those cloned so far end in order, and then an element that was got for the next one
+-- a clone is given up: those cloned so far end in order, and then an element that was got for the
+-- next one
 abbrev pub give_up_into : Limits → Limits → TwinPool → List Seg → List ℕ → Refusal → Stocks → ClonedInto
 give_up_into l k twin new over cause s =
     let ended = end_foreign l k (held_in_first twin) (λ i. bag over i + held_in_second twin i) new (freed_nothing, s) in (
@@ -118,8 +121,8 @@ with_element_into s (Ok [], cache, t) met refused = refused NoEntries (record s 
 with_element_into s (Ok (e ∷ _), cache, t) met refused = met e (record s { second_cache = cache; second = t })
 with_element_into s (Err cause, cache, t) met refused = refused cause (record s { second_cache = cache; second = t })
 
--- The segments are cloned in order; new is what was cloned so far. Each clone is a new element of the second pool that
--- holds the segment's buffer in the first, where that may have one hold more.
+-- The segments are cloned in order; new is what was cloned so far. Each clone is a new element of
+-- the second pool that holds the segment's buffer in the first, where that may have one hold more.
 abbrev pub clone_segs_into : Limits → Limits → TwinPool → List Seg → List Seg → Stocks → ClonedInto
 clone_segs_into l k twin [] new s = (Ok new, s)
 clone_segs_into l k twin (seg ∷ segs) new s =
@@ -174,7 +177,7 @@ free_clone_in twin n slot (Some segs) =
 abbrev pub free_clone : TwinPool → ℕ → ℕ → TwinDone
 free_clone twin n slot = free_clone_in twin n slot (slice_index_or (member_at twin.second n).table slot None)
 
--- a change of a clone's lengths; a clone has no data put before it or behind it
+-- a change of a clone's lengths; a clone has no data put before it or after it
 abbrev pub resize_told : TwinPool → ℕ → Result ℕ Refusal × Member → TwinDone
 resize_told twin n done =
     (told_len done.0, record twin { second = with_member twin.second n done.1 twin.second.shared })
@@ -210,7 +213,8 @@ twin_act twin n (ResizeClone slot change) = resize_clone twin n slot change
 twin_act twin n (CountClone slot) = (count_clone twin n slot, twin)
 twin_act twin n (FreeClone slot) = free_clone twin n slot
 
--- the reply to what a worker is asked to do, and the pools afterwards; a worker outside the pools does nothing
+-- the reply to what a worker is asked to do, and the pools afterwards; a worker outside the pools
+-- does nothing
 abbrev pub perform_twin : TwinPool → ℕ → TwinAct → TwinDone
 perform_twin twin w act =
     if nat_le 1 w && nat_le w (length twin.first.members) then twin_act twin (w - 1) act

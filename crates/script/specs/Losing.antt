@@ -17,15 +17,16 @@ use Rattle.snapshot.specs.Lost.{IsAscending}
 use Rattle.word_pool.specs.Lost.{AreLostOf, left_of}
 use Rattle.word_pool.specs.Workers.{Manned, AreWorkers}
 
--- Under the lock: of a new pool of these limits after some acts of its workers, one after another, exactly these elements
--- are in the cache of this one or held by it alone. Which acts these are isn't said.
+-- Under the lock: of a new pool of these limits after some acts of its workers, one after another,
+-- exactly these elements are in the cache of this one or held by it alone. Which acts these are
+-- isn't said.
 abbrev pub LosesByActs : Limits → ℕ → List ℕ → Type 0
 LosesByActs l worker elems =
     (acts : List (ℕ × Act))
     × AreLostWith l (worker ∷ []) (after_acts acts (new_pool l)).members (after_acts acts (new_pool l)).shared.desks elems
 
--- On words: exactly these elements are in the hand of this worker of a ground of these limits, or held by it alone, by
--- what the ground left once the seats of all others had become one.
+-- On words: exactly these elements are in the hand of this worker of a ground of these limits, or
+-- held by it alone, by what the ground left once the seats of all others had become one.
 pub record LosesOnWords (l : Limits) (worker : ℕ) (elems : List ℕ) : Type 0 where
   pub shared : Grounded
   pub workers : List Manned
@@ -63,7 +64,7 @@ pub record IsStrangerTo (bytes : List ℕ) (worker : ℕ) : Type 0 where
   pub script : IsScript bytes limits lines
   pub stranger : ¬ (IsOf limits worker)
 
--- why it isn't told what is lost: the bytes are no script, or the worker isn't of its pool
+-- why it isn't said what is lost: the bytes aren't a script, or the worker isn't of its pool
 abbrev pub IsCauseWithout : ℕ → List ℕ → Refusal → Type 0
 IsCauseWithout worker bytes cause = IsCause bytes cause ⊎ ((cause ≡ StrangerShare) × IsStrangerTo bytes worker)
 

@@ -71,7 +71,7 @@ text_of s =
     totals_text s ++ codes "common" ++ elements_text s.common ++ caches_text 1 s.caches
     ++ flat_map packet_text s.packets ++ flat_map desk_text s.desks ++ flat_map held_text s.held
 
--- that of a second pool, behind its line
+-- that of a second pool, after its line
 unfoldable pub second_text : Statement → List ℕ
 second_text s = codes "second\n" ++ text_of s
 

@@ -59,7 +59,8 @@ pub(crate) fn run<G: Gate, R: Threads + Sync>(
     settled(alloc, ground, workers)
 }
 
-/// Plays a script so, and ends a worker then, as one who died. Ends the pool, and answers which elements are lost.
+/// Plays a script as `run` does, and then ends a worker, as one who died. Ends the pool, and
+/// answers which elements are lost.
 ///
 /// Refused as `run` is.
 pub(crate) fn run_lost<G: Gate, R: Threads + Sync>(
@@ -81,7 +82,8 @@ pub(crate) fn run_lost<G: Gate, R: Threads + Sync>(
     settled_without(alloc, ground, workers, &[worker])
 }
 
-/// Plays a script so, and gives the ground with all its workers once their threads have ended.
+/// Plays a script with a thread for each worker, and gives the ground with all its workers once
+/// their threads have ended.
 fn played<G: Gate, R: Threads + Sync>(
     rt: &R,
     alloc: Global,

@@ -61,11 +61,11 @@ pub fn run_script<R: Threads + Wait + Sync>(
     }
 }
 
-/// The elements that are lost with a worker at the end of a run of the script that the bytes are, ascending. The run is
-/// as `run_script`'s.
+/// The elements that are lost with a worker at the end of a run of the script that the bytes are,
+/// ascending. The run is as `run_script`'s.
 ///
-/// Refused as reading the script is, then `StrangerShare` where the pool doesn't have such a worker. `OutOfMemory` comes
-/// only where memory was refused, or under the lock a thread.
+/// Refused as reading the script is, then `StrangerShare` where the pool doesn't have such a
+/// worker. `OutOfMemory` comes only where memory was refused, or under the lock a thread.
 pub fn run_script_lost<R: Threads + Wait + Sync>(
     rt: &R,
     alloc: Global,

@@ -66,11 +66,13 @@ pub fn run_threads<G: Gate, R: Threads + Wait + Sync>(
     }
 }
 
-/// Plays a script as `run_threads` does, and ends the worker `lose` at the end, as one who died: its cache and its packets
-/// are lost, and on words its seat too, but that of an only worker, which closes the ground. Answers which elements are lost
-/// then, ascending: exactly those of which this worker alone knows, in its hand or held by it and by nobody else.
+/// Plays a script as `run_threads` does, and ends the worker `lose` at the end, as one who died:
+/// its cache and its packets are lost, and on words its seat too, but that of an only worker, which
+/// closes the ground. Answers which elements are lost then, ascending: exactly those of which this
+/// worker alone knows, in its hand or held by it and by nobody else.
 ///
-/// Refused `StrangerShare` where `lose` isn't a worker of the pool, and `OutOfMemory` as `run_threads` is.
+/// Refused `StrangerShare` where `lose` isn't a worker of the pool, and `OutOfMemory` as
+/// `run_threads` is.
 pub fn run_lost<G: Gate, R: Threads + Wait + Sync>(
     rt: &R,
     alloc: Global,

@@ -97,8 +97,8 @@ pub(crate) fn run_lost<G: Gate, R: Threads + Wait + Sync>(
     settled_parts_without(alloc, &limits, closed, shares, &[worker])
 }
 
-/// Plays a script under a lock whose type knows the script's limits, and gives what the pool left with the shares of all
-/// its workers, once their threads have ended.
+/// Plays a script under a lock whose type knows the script's limits, and gives what the pool left
+/// with the shares of all its workers, once their threads have ended.
 fn played<K: OfLimits + Send + Sync, G: Gate, R: Threads + Wait + Sync>(
     rt: &R,
     alloc: Global,

@@ -61,7 +61,7 @@ module _ {C : Type 0} (lexicon : Lexicon C) where
   unfolding judged
   judged_fault s n line e = ap (judged_as n) e
 
-  -- a reading whose numbers are no pool's is a bad pool
+  -- a reading whose numbers aren't a pool's is a bad pool
   pub judged_bad : (s next : State C) (n : ℕ) (line : List ℕ) → read_line lexicon s n line ≡ Some next →
       are_ready next.numbers ≡ false → judged lexicon s n line ≡ Err refusals.BadPool
   unfolding judged

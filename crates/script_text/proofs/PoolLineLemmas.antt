@@ -265,7 +265,7 @@ numbers_same population pairs settings h =
     let rule : settings.rule ≡ first_number Rule pairs = h Rule ∙ or_none (first_number Rule pairs) in
     rw (cache, workers, desks, buf, refs, tries, start, rule) refl
 
--- behind `pool` stand a number and then pairs, of which the numbers are made
+-- after `pool` stand a number and then pairs, of which the numbers are made
 pool_from_words : (word : List ℕ) (words : List (List ℕ)) (numbers : PoolNumbers) → word ≡ codes "pool" →
     pool_with words ≡ Some numbers → IsPoolLine (word ∷ words) numbers
 pool_from_words word [] numbers e f = absurd cc

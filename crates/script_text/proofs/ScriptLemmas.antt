@@ -77,7 +77,7 @@ module _ {C : Type 0} (lexicon : Lexicon C) (right : IsRight lexicon) where
       judged_ok lexicon state next number line (reads_is lexicon right state next number line reads)
       (ready_is next.numbers ready)
 
-  -- a line is refused where it has no reading, or where the numbers are no pool's
+  -- a line is refused where it has no reading, or where the numbers aren't a pool's
   judged_refuses : (o : Option (State C)) (number : ℕ) (refusal : Refusal) →
       judged_as number o ≡ Err refusal →
       ((o ≡ None) × (refusals.ScriptFault number ≡ refusal))
@@ -425,7 +425,7 @@ module _ {C : Type 0} (lexicon : Lexicon C) (right : IsRight lexicon) where
       unread_as (read_line lexicon state number line) number
       (λ next e. none next (reads_from lexicon right state next number line e))
 
-  -- a line whose numbers are no pool's is refused as a bad pool
+  -- a line whose numbers aren't a pool's is refused as a bad pool
   bad_judged : (state next : State C) (number : ℕ) (line : List ℕ) (numbers : PoolNumbers) →
       Reads lexicon.language state number line next → next.numbers ≡ Some numbers → (IsSomePool numbers → ⊥) →
       judged lexicon state number line ≡ Err refusals.BadPool
@@ -451,7 +451,7 @@ module _ {C : Type 0} (lexicon : Lexicon C) (right : IsRight lexicon) where
       ∙ ap (λ (o : Option PoolNumbers). finish o h.state h.behind []) h.no_numbers
       ∙ ap (λ (n : ℕ). Err (refusals.ScriptFault n)) (sym h.number_is)
 
-  -- the lines before the pool line are read, and its numbers are no pool's
+  -- the lines before the pool line are read, and its numbers aren't a pool's
   pub bad_pool_is : (bytes : List ℕ) → HasBadPool lexicon.language bytes → read_text lexicon bytes ≡ Err refusals.BadPool
   bad_pool_is bytes h =
       reached_line bytes h.state h.number h.line h.left h.rest refusals.BadPool h.short h.reached

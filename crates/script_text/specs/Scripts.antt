@@ -43,7 +43,8 @@ AreApart (name ∷ names) = (IsOneOf names name → ⊥) × AreApart names
 
 -- ---- what was told
 
--- what the lines so far have told: the pool's numbers, if the pool line was read, and the command lines
+-- what the lines so far have told: the pool's numbers, if the pool line was read, and the command
+-- lines
 pub record State (C : Type 0) : Type 0 where
   pub numbers : Option PoolNumbers
   pub lines : List (Line C)

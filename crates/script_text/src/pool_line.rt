@@ -99,7 +99,7 @@ impl Settings {
         Some(settings)
     }
 
-    /// The numbers of a pool line with so many elements and these settings.
+    /// The numbers of a pool line with this many elements and these settings.
     fn numbers(&self, population: u64) -> PoolNumbers
         ensures { result ≡ numbers_by population self.now }
     {
@@ -143,7 +143,8 @@ fn rule_of(number: u64) -> Option<PutRule>
 }
 
 impl PoolNumbers {
-    /// The limits with these numbers, or `None` where no put rule has the number that is given for it.
+    /// The limits with these numbers, or `None` where no put rule has the number that is given for
+    /// it.
     pub(crate) fn limits(&self) -> Option<Limits>
         ensures { MatchOption result (1 < self.now.put_rule) (λ limits. self.now ≡ numbers_of limits) }
     {

@@ -104,11 +104,12 @@ fn settled_book(alloc: Global, closed: Closed, book: Book) -> Result<Statement, 
     }
 }
 
-/// Closes a pool and tells which elements are lost with the workers who are listed as missing, ascending: exactly those
-/// that such a worker has in its cache, or such workers alone hold. The others' shares are put in a book; a listed number
-/// that isn't a worker's is passed over.
+/// Closes a pool and tells which elements are lost with the workers who are listed as missing,
+/// ascending: exactly those that such a worker has in its cache, or such workers alone hold. The
+/// others' shares are put in a book; a listed number that isn't a worker's is passed over.
 ///
-/// Refused `OutOfMemory` where memory was refused. The pool is ended then too, and nothing is left of it.
+/// Refused `OutOfMemory` where memory was refused. The pool is ended then too, and nothing is left
+/// of it.
 pub fn settled_without(alloc: Global, pool: SitePool, missing: &[u32]) -> Result<Vec<u32>, Refusal>
     ensures lost { IfOk result (λ elems. AreLostWith pool.limits missing.now pool.members pool.shared.desks elems.items) }
     ensures memory { IfErr result (λ e. e ≡ Refusal.OutOfMemory) }
@@ -125,8 +126,9 @@ pub fn settled_without(alloc: Global, pool: SitePool, missing: &[u32]) -> Result
     }
 }
 
-/// Tells which elements are lost with the workers who are listed as missing, of what a pool within these limits left, when
-/// it was closed, and of the shares of all its workers: those of the listed ones are lost.
+/// Tells which elements are lost with the workers who are listed as missing, of what a pool within
+/// these limits left, when it was closed, and of the shares of all its workers: those of the listed
+/// ones are lost.
 ///
 /// Refused `OutOfMemory` where memory was refused. Nothing is left of the pool then either.
 pub fn settled_parts_without(

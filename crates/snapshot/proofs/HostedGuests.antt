@@ -125,7 +125,7 @@ guests_of-le (g ∷ guests) w i = elim (cases_eq w g.worker) [
   )
 ]
 
--- what is no guest is in no list
+-- what isn't a guest is in no list
 pub hosted-nowhere : (workers : ℕ) (guests : List Guest) (lists : List (List ℕ)) → AreByWorker workers guests lists →
     (i : ℕ) → guest_holds guests i ≡ 0 → (w : ℕ) → bag (get_or lists w []) i ≡ 0
 hosted-nowhere workers guests lists h i none w = elim (cases_lt w (length lists)) [

@@ -108,8 +108,8 @@ pub record IsLawful (s : Snapshot) : Type 0 where
 abbrev pub statement_in : Snapshot → Statement
 statement_in s = statement_with s.foreign s.guests (pool_of s)
 
--- The statement lists each element of the pool exactly once, as the pool sees itself: bases of its packets that are
--- foreign are no elements of its, and its guests are.
+-- The statement lists each element of the pool exactly once, as the pool sees itself: bases of its
+-- packets that are foreign aren't elements of it, and its guests are.
 abbrev pub ListsItsElements : Snapshot → Statement → Type 0
 ListsItsElements s statement = ListsEachOnceWith s.guests (local_statement s.foreign statement)
 

@@ -18,7 +18,8 @@ pub enum Fault {
         /// The walk's length.
         found: u64,
     },
-    /// A cache, a segment, a base or a guest names an element that the pool doesn't have: the least of them.
+    /// A cache, a segment, a base or a guest names an element that the pool doesn't have: the least
+    /// of them.
     BadElem(u32),
     /// A packet has no segments or more than 32, or one whose data reaches past its buffer.
     BadPacket,

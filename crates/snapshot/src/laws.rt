@@ -25,8 +25,9 @@ pub fn a_lawful_snapshot_lists_each_element_once()
     ensures sound { (s : Snapshot) → IsLawful s → ListsOnlyPackets (statement_in s) }
 {}
 
-/// A snapshot without guests, and whose bases are its own, is that of one pool alone: its elements are held by its
-/// packets and nobody else, its statement is that of the pool that it shows, and lists each element once.
+/// A snapshot without guests, and whose bases are its own, is that of one pool alone: its elements
+/// are held by its packets and nobody else, its statement is that of the pool that it shows, and
+/// lists each element once.
 pub fn a_pool_alone_has_no_guests()
     ensures held { (s : Snapshot) (e : ℕ) → s.guests ≡ [] → s.foreign ≡ false → times_held s e ≡ held_of (pool_of s).members s.desks e }
     ensures statement { (s : Snapshot) → s.guests ≡ [] → s.foreign ≡ false → statement_in s ≡ statement_of (pool_of s) }

@@ -17,11 +17,13 @@ use commons::packet::Seg;
 use commons::seq::Seq;
 use std::alloc::{AllocError, Global};
 
-/// The elements of the pool that stand nowhere, ascending: those that are neither on the walk, nor in a cache, nor in a
-/// packet, of a share or on a desk, as an element or as a base of this pool, and are nobody's guest.
+/// The elements of the pool that stand nowhere, ascending: those that are neither on the walk, nor
+/// in a cache, nor in a packet, of a share or on a desk, as an element or as a base of this pool,
+/// and are nobody's guest.
 ///
-/// The snapshot may have any fault. What names an element that the pool doesn't have is passed over, and so are the counts
-/// and the length word. It takes time linear in the population, the caches, the slots and the segments.
+/// The snapshot may have any fault. What names an element that the pool doesn't have is passed
+/// over, and so are the counts and the length word. It takes time linear in the population, the
+/// caches, the slots and the segments.
 pub fn lost_elements(alloc: Global, snapshot: &Snapshot) -> Result<Vec<u32>, AllocError>
     requires { IsPool snapshot.now.limits }
     ensures { IfOk result (λ elems. AreLost snapshot.now elems.items) }
@@ -40,7 +42,8 @@ pub fn lost_elements(alloc: Global, snapshot: &Snapshot) -> Result<Vec<u32>, All
     unmarked(alloc, met.as_slice())
 }
 
-/// Marks the elements of the walk. Where it comes back to an element, it ends once it has one more than the population.
+/// Marks the elements of the walk. Where it comes back to an element, it ends once it has one more
+/// than the population.
 fn mark_walk(met: &mut Vec<bool>, top: u32, links: &[u32], population: u64)
     requires few { population ≤ max_population }
     requires all { length met.old.items ≡ population }

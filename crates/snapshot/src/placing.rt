@@ -169,7 +169,7 @@ fn holders(alloc: Global, snapshot: &Snapshot) -> Result<Vec<Vec<Holder>>, Alloc
     Ok(table)
 }
 
-/// So many lists without elements.
+/// This many lists without elements.
 fn empty_lists<T: Drop>(alloc: Global, count: u64) -> Result<Vec<Vec<T>>, AllocError>
     ensures { IfOk result (λ lists. lists_of lists.items ≡ replicate count []) }
 {

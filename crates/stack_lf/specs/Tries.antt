@@ -298,7 +298,7 @@ IsTold s (Take d (Err DeskEmpty)) = KnowsEmpty d s.known
 IsTold s (Take d (Err _)) = Unit {0}
 IsTold s (CommonCount n) = KnowsLength s.known n
 
--- what is known to lie on the desks after a call: an offer and a take that are met change it
+-- what is known to lie on the desks after a call: an offer and a take that succeed change it
 abbrev pub lying_after : Call → Option (List (Option (List Seg))) → Option (List (Option (List Seg)))
 lying_after (Offer d packet (Ok _)) known = laid_on d (Some packet) known
 lying_after (Take d (Ok packet)) known = laid_on d None known

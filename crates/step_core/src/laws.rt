@@ -55,8 +55,8 @@ pub fn nothing_is_given_again()
     ensures { NotGivenAgain }
 {}
 
-/// As long as an element is held, no get and no put lists it: over every run of the table in which it is held in each
-/// table.
+/// As long as an element is held, no get and no put lists it: over every run of the table in which
+/// it is held in each table.
 pub fn what_is_held_is_left()
     ensures { HeldIsLeft }
 {}

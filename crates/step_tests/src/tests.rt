@@ -277,8 +277,8 @@ fn each_script_of_steps_prints_its_text(rt: HostRuntime) -> Result<(), Fail> {
     Ok(())
 }
 
-/// How often an element stands in the common list and in hands of a printed world, and once more where it is held, by
-/// workers or by a packet on a full desk.
+/// How often an element stands in the common list and in hands of a printed world, and once more
+/// where it is held, by workers or by a packet on a full desk.
 fn places_in(text: &str, element: &str) -> usize {
     let mut places = 0usize;
     let mut is_held = false;

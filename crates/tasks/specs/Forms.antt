@@ -37,8 +37,8 @@ abbrev pub AreElementsAs : Form → List ℕ → List ℕ → Type 0
 AreElementsAs Text elems out = out ≡ lost_text elems
 AreElementsAs Json elems out = out ≡ numbers_of elems ++ codes "\n"
 
--- The bytes are a script, and this is printed in this form for its run in threads on such a ground, at whose end this
--- worker is lost.
+-- The bytes are a script, and this is printed in this form for its run in threads on such a ground,
+-- at whose end this worker is lost.
 pub record IsLostPrintedAs (grounds : Grounds) (lose : ℕ) (form : Form) (bytes out : List ℕ) : Type 0 where
   pub elems : List ℕ
   pub loses : LosesFrom grounds lose bytes elems

@@ -1,4 +1,5 @@
-//! What is lost with a worker at the end of a script's run in threads, in the form that is asked for.
+//! What is lost with a worker at the end of a script's run in threads, in the form that is asked
+//! for.
 ghost use Rattle.std.specs.Prelude.{◌≡◌, IfErr, IfOk};
 ghost use Rattle.script.specs.Losing.{IsCauseWithout};
 ghost use Rattle.tasks.specs.Forms.{AreElementsAs, IsLostPrintedAs};
@@ -10,10 +11,12 @@ use std::alloc::Global;
 use std::sync::Wait;
 use std::thread::Threads;
 
-/// What a run of these bytes with a thread for each worker prints in a form, where this worker is lost at its end.
+/// What a run of these bytes with a thread for each worker prints in a form, where this worker is
+/// lost at its end.
 ///
-/// `ScriptFault` where they are no script, `BadPool` where no pool can be made within the script's limits, `StrangerShare`
-/// where the pool doesn't have the worker, and `OutOfMemory` where memory was refused, or under the lock a thread.
+/// `ScriptFault` where they aren't a script, `BadPool` where no pool can be made within the
+/// script's limits, `StrangerShare` where the pool doesn't have the worker, and `OutOfMemory` where
+/// memory was refused, or under the lock a thread.
 pub fn text<R: Threads + Wait + Sync>(
     rt: &R,
     alloc: Global,

@@ -43,7 +43,8 @@ module _ (l : Limits) (lost : List View) (members : List Member) (c : Closed) (h
   population_is : w.limits.population ≡ l.population
   population_is = ap (λ (k : Limits). k.population) h.limits
 
-  -- each element is in one place: in the common list, with one of these members or one who is lost, or on a desk
+  -- each element is in one place: in the common list, with one of these members or one who is lost,
+  -- or on a desk
   placed : (i : ℕ) →
       bag common i + (cached_by members i + (hands i lost + all_zeros i lost))
       + min 1 (held_by members i + held_in c.desks i + holds_by lost i)

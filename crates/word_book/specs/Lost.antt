@@ -22,8 +22,8 @@ holds_by views i = sum_by (λ v. bag v.holds i) views
 abbrev pub others : List View → ℕ → List View
 others views k = slice_set views k (empty_view 0)
 
--- A lawful world of these limits left it. Of the views of its workers, wherever each of them stopped, some are lost, and
--- the others are at rest and have what these members have.
+-- A lawful world of these limits left it. Of the views of its workers, wherever each of them
+-- stopped, some are lost, and the others are at rest and have what these members have.
 pub record IsLeftWithout (l : Limits) (lost : List View) (members : List Member) (c : Closed) : Type 0 where
   pub world : World
   pub law : Lawful world
@@ -35,8 +35,8 @@ pub record IsLeftWithout (l : Limits) (lost : List View) (members : List Member)
   pub zeros : (i : ℕ) → all_zeros i world.views ≡ all_zeros i lost
   pub holds : (i : ℕ) → holds_by world.views i ≡ held_by members i + holds_by lost i
 
--- A lost worker has it in its hand, whatever its count; or lost workers hold it, and they alone: no packet of these
--- members, nor one on a full desk, does.
+-- A lost worker has it in its hand, whatever its count; or lost workers hold it, and they alone: no
+-- packet of these members, nor one on a full desk, does.
 abbrev pub IsLostBy : List View → List Member → Closed → ℕ → Type 0
 IsLostBy lost members c e =
     (0 < hands e lost + all_zeros e lost)
@@ -47,8 +47,8 @@ pub record AreLostBy (l : Limits) (lost : List View) (members : List Member) (c 
   pub ascending : IsAscending elems
   pub exactly : (e : ℕ) → Contains elems e ↔ ((e < l.population) × IsLostBy lost members c e)
 
--- What the seat with this view left of a ground of these limits, whose other seats may be lost; and the elements that are
--- lost beside these members.
+-- What the seat with this view left of a ground of these limits, whose other seats may be lost; and
+-- the elements that are lost beside these members.
 pub record AreLeftOut (l : Limits) (v : View) (members : List Member) (elems : List ℕ) : Type 0 where
   pub closed : Closed
   pub left : LeftOf l v closed

@@ -124,11 +124,13 @@ fn settled_book(alloc: Global, closed: Closed, book: Book) -> Result<Statement, 
     }
 }
 
-/// Closes a ground by a seat, whose others may be lost with their workers, and tells which elements are lost beside the
-/// shares of those workers who aren't listed as missing: those that are neither in the common list, nor in such a share,
-/// nor on a full desk, ascending. The shares of listed workers are lost too.
+/// Closes a ground by a seat, whose others may be lost with their workers, and tells which elements
+/// are lost beside the shares of those workers who aren't listed as missing: those that are neither
+/// in the common list, nor in such a share, nor on a full desk, ascending. The shares of listed
+/// workers are lost too.
 ///
-/// Refused `OutOfMemory` where memory was refused. The pool is ended then too, and nothing is left of it.
+/// Refused `OutOfMemory` where memory was refused. The pool is ended then too, and nothing is left
+/// of it.
 pub fn settled_without(
     alloc: Global,
     ground: Ground,

@@ -26,8 +26,9 @@ pub fn joined_seats_have_the_shares_of_both()
         AreSharesOf (first ++ second) (both_views v u) }
 {}
 
-/// Of what a lawful world left, where some views are lost and the shares are all the others', what stands nowhere is
-/// exactly what is in a lost view's hand or held by lost views alone, wherever their workers stopped.
+/// Of what a lawful world left, where some views are lost and the shares are all the others', what
+/// stands nowhere is exactly what is in a lost view's hand or held by lost views alone, wherever
+/// their workers stopped.
 pub fn what_stands_nowhere_is_lost()
     ensures { (l : Limits) (lost : List View) (members : List Member) (c : Closed) (elems : List ℕ) →
         IsLeftWithout l lost members c → AreLost (snapshot_of l c members) elems → AreLostBy l lost members c elems }

@@ -12,7 +12,8 @@ use Rattle.word_book.specs.Lost.{AreLostBy, others}
 use Rattle.word_book.specs.Shares.{AreSharesOf}
 use Rattle.word_pool.specs.Workers.{Manned, IsWorker, members_of}
 
--- Workers of this ground, one at least, in the order of their numbers; each other worker of the pool is listed as missing.
+-- Workers of this ground, one at least, in the order of their numbers; each other worker of the
+-- pool is listed as missing.
 pub record AreLeft (g : Grounded) (listed : List ℕ) (ms : List Manned) : Type 0 where
   pub some : 0 < length ms
   pub each : All (IsWorker g) ms
@@ -22,13 +23,15 @@ pub record AreLeft (g : Grounded) (listed : List ℕ) (ms : List Manned) : Type 
 abbrev pub views_listed : List ℕ → List Manned → List View
 views_listed listed ms = map (λ m. m.seat.known.view) (filter (λ m. is_listed listed m.member.number) ms)
 
--- All workers but the one with this number, which is lost with its seat; an only worker keeps its seat.
+-- All workers but the one with this number, which is lost with its seat; an only worker keeps its
+-- seat.
 abbrev pub left_of : ℕ → List Manned → List Manned
 left_of number ms = if length ms == 1 then ms else remove ms (number - 1)
 
--- The workers that are left closed the ground by the one seat that theirs were made. These elements, ascending, are
--- exactly those of the pool that are in the hand of a listed worker, or held by listed workers alone, wherever these
--- stopped: the lost views are all that aren't of these workers, and those of listed ones among them, whose seats were kept.
+-- The workers that are left closed the ground by the one seat that theirs were made. These
+-- elements, ascending, are exactly those of the pool that are in the hand of a listed worker, or
+-- held by listed workers alone, wherever these stopped: the lost views are all that aren't of these
+-- workers, and those of listed ones among them, whose seats were kept.
 pub record AreLostOf (g : Grounded) (listed : List ℕ) (ms : List Manned) (elems : List ℕ) : Type 0 where
   pub view : View
   pub part : view.part ≡ length ms

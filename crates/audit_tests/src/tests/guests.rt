@@ -1,5 +1,5 @@
-//! Snapshots of two pools, of which one has the bases of the other's packets, and what is wrong once one thing of them
-//! is changed.
+//! Snapshots of two pools, of which one has the bases of the other's packets, and what is wrong
+//! once one thing of them is changed.
 
 use super::Row;
 use super::shown::{FRESH, ONE, Places, Shown};

@@ -18,7 +18,8 @@ use commons::refusal::Refusal;
 use commons::shared::Commons;
 use mempool::worker::Worker;
 
-/// Clones a segment: gets an element of the second pool, claims it, and lets it use the segment's buffer in the first.
+/// Clones a segment: gets an element of the second pool, claims it, and lets it use the segment's
+/// buffer in the first.
 #[tactic(auto, using(commons::proofs::Bags::bags))]
 fn clone_seg<C: Commons, D: Commons>(
     second: &mut Worker,

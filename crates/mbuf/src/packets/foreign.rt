@@ -1,5 +1,5 @@
-//! Foreign clones: packets whose own elements are of this pool and whose bases are of a first one, whose packets of the
-//! same worker stand beside.
+//! Foreign clones: packets whose own elements are of this pool and whose bases are of a first one,
+//! whose packets of the same worker stand beside.
 ghost use Rattle.std.specs.Prelude.{◌≡◌, [], ◌∷◌, IfOk, OnErr, None, slice_index_or};
 ghost use Rattle.commons.specs.Calls.{Calls};
 ghost use Rattle.mbuf.specs.Foreign.{BothCalls, ClonesInto, FreesForeign, OwnForeign};
@@ -16,8 +16,8 @@ use commons::refusal::Refusal;
 use commons::shared::Commons;
 
 impl Packets {
-    /// Clones a packet of the first pool into elements of this one. The clone stands in the lowest free slot here, which
-    /// is the answer.
+    /// Clones a packet of the first pool into elements of this one. The clone stands in the lowest
+    /// free slot here, which is the answer.
     ///
     /// Refused as `Twin::clone_into` is.
     pub(crate) fn clone_foreign<C: Commons, D: Commons>(
@@ -59,8 +59,9 @@ impl Packets {
         Ok(lowest as Pid)
     }
 
-    /// Frees a foreign clone: of each of its segments the base's hold ends in the first pool, and then its own element's
-    /// here, and an element whose last hold went is put back through the cache of its pool.
+    /// Frees a foreign clone: of each of its segments the base's hold ends in the first pool, and
+    /// then its own element's here, and an element whose last hold went is put back through the
+    /// cache of its pool.
     ///
     /// Refused `NoSuchPacket` where no clone stands there; nothing changes then.
     pub(crate) fn free_foreign<C: Commons, D: Commons>(

@@ -1,4 +1,5 @@
-//! Foreign clones that are freed, a segment at a time: their bases are of one pool, and their own elements of another.
+//! Foreign clones that are freed, a segment at a time: their bases are of one pool, and their own
+//! elements of another.
 
 ghost use Rattle.std.specs.Prelude.{◌≡◌, ◌<◌, ◌≤◌, ◌+◌, ◌*◌, ℕ, length};
 ghost use Rattle.commons.specs.Bag.{bag, one};
@@ -41,7 +42,8 @@ pub fn end_if<C: Commons>(worker: &mut Worker, c: &mut C, elem: Option<u32>, fre
     }
 }
 
-/// Ends the holds of one segment: that of its base in the first pool, and then its own in the second.
+/// Ends the holds of one segment: that of its base in the first pool, and then its own in the
+/// second.
 #[tactic(auto, using(commons::proofs::Bags::bags))]
 fn end_seg<C: Commons, D: Commons>(
     first: &mut Worker,

@@ -116,7 +116,8 @@ static LOST: [(&str, u32, Form, &str); 7] = [
 
 const EIGHT: &str = "pool 8 cache 4 workers 2\n2: alloc a\n";
 
-/// What is lost with a worker, whatever its pool rests on; a fault of the script comes before a worker that isn't there.
+/// What is lost with a worker, whatever its pool rests on; a fault of the script comes before a
+/// worker that isn't there.
 #[test]
 fn a_run_prints_what_is_lost_with_a_worker(rt: HostRuntime) -> Result<(), Fail> {
     let path = path(&rt, "lost")?;

@@ -28,8 +28,8 @@ pub fn statement_text(alloc: Global, statement: &Statement) -> Result<Vec<u8>, R
     }
 }
 
-/// The text of what a script's pools come to: the first pool's statement and, where there is a second pool, the line
-/// `second` and its statement.
+/// The text of what a script's pools come to: the first pool's statement and, where there is a
+/// second pool, the line `second` and its statement.
 ///
 /// Refused `OutOfMemory` where there is no room for it.
 pub fn settled_text(alloc: Global, settled: &Settled) -> Result<Vec<u8>, Refusal>

@@ -142,8 +142,8 @@ fn the_gate_is_called_around_the_lines_of_a_lost_worker_too(rt: HostRuntime) -> 
     Ok(())
 }
 
-/// What is lost of a pool of eight elements in which both workers have filled their caches, by a book without the share of
-/// worker 2, and with these workers listed.
+/// What is lost of a pool of eight elements in which both workers have filled their caches, by a
+/// book without the share of worker 2, and with these workers listed.
 fn lost_without_second(alloc: Global, listed: &[u32]) -> Result<Result<Vec<u32>, Unsettled>, Fail> {
     let script = parse(alloc, "pool 8 cache 4 workers 2\n".as_bytes())?;
     let mut pool = SitePool::make(alloc, &script.limits)?;

@@ -118,8 +118,8 @@ fn again(
     tried(alloc, first, second, book, causes)
 }
 
-/// Settles two pools without the first worker's shares; then with them, but with a wrong top in both; then in the second
-/// alone; and then in none.
+/// Settles two pools without the first worker's shares; then with them, but with a wrong top in
+/// both; then in the second alone; and then in none.
 fn settled_in_turn(
     alloc: Global,
     first: Closed,

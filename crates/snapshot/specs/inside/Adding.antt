@@ -36,7 +36,8 @@ pub record AreByWorker (workers : ℕ) (guests : List Guest) (lists : List (List
   pub len : length lists ≡ workers + 1
   pub each : (w i : ℕ) → w < length lists → bag (slice_index_or lists w []) i ≡ guests_of guests w i
 
--- how often a share's worker holds an element: by its packets, and for its guests, which are these by number
+-- how often a share's worker holds an element: by its packets, and for its guests, which are these
+-- by number
 abbrev pub share_holds : Bool → List (List ℕ) → ShareData → ℕ → ℕ
 share_holds foreign guests share i =
     held_in (local_table foreign share.slots) i + bag (slice_index_or guests share.worker []) i

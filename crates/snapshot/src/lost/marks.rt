@@ -1,4 +1,5 @@
-//! A mark for each element of a pool, once it was met. An element that the pool doesn't have gets none.
+//! A mark for each element of a pool, once it was met. An element that the pool doesn't have gets
+//! none.
 
 ghost use Rattle.std.specs.Prelude.{◌≡◌, IfOk, false, replicate};
 ghost use Rattle.commons.specs.Bag.{bag, one};
@@ -11,7 +12,7 @@ use commons::packet::Seg;
 use pool_model::guest::Guest;
 use std::alloc::{AllocError, Global};
 
-/// So many elements without a mark.
+/// This many elements without a mark.
 pub(crate) fn no_marks(alloc: Global, size: usize) -> Result<Vec<bool>, AllocError>
     ensures { IfOk result (λ met. met.items ≡ replicate size false) }
 {

@@ -1,5 +1,5 @@
-//! Scripts of steps in which worker 1 stops right after a step of each kind, and worker 2 then gets one element and puts it
-//! back, and what they print.
+//! Scripts of steps in which worker 1 stops right after a step of each kind, and worker 2 then gets
+//! one element and puts it back, and what they print.
 
 use super::texts::Row;
 

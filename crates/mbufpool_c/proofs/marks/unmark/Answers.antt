@@ -14,7 +14,7 @@ loop-k-init c = record {
   below = All-nil (λ (e : ℕ). e < length c.args.marks.now);
 }
 
--- the next one is marked, and is no more
+-- the next one is marked, and no longer is
 pub loop-k-preserved : goal.loop-k-preserved
 loop-k-preserved c =
     let k = c.loop-k.k in

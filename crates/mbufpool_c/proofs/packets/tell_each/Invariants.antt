@@ -3,7 +3,7 @@ use Rattle.mbuf.specs.declared.acts.NewPacket.{NewPacket as Made}
 use Rattle.mbufpool_c.specs.declared.packets.NewPacket.{NewPacket}
 use Rattle.mbufpool_c.proofs.packets.tell_each.Given as goal
 
--- those that were passed are told of
+-- those that were passed are given to C
 abbrev pub invariant-loop-k : goal.invariant-loop-k
 invariant-loop-k l =
     (j : ℕ) (d : Made) (e : NewPacket) → j < l.k → j < length l.made → j < length l.out →

@@ -5,7 +5,8 @@ use Rattle.snapshot.proofs.ElemFaults.{first-elem}
 use Rattle.snapshot.proofs.NamedSums.{least-named}
 use Rattle.snapshot.proofs.elements.check.Goals as goal
 
--- guests, shares and desks are all that names elements, and the lesser of their least ones is the least
+-- guests, shares and desks are all that names elements, and the lesser of their least ones is the
+-- least
 pub returns-in-Some-clause-first : goal.returns-in-Some-clause-first
 returns-in-Some-clause-first c =
     let s = c.args.snapshot.now in

@@ -1,4 +1,4 @@
--- Guests and foreign bases are no more in the definitions, once there are none.
+-- Guests and foreign bases no longer stand in the definitions, once there are none.
 use Rattle.snapshot.proofs.Alone.{alone_held, alone_once, alone_stated}
 use Rattle.snapshot.proofs.laws.a_pool_alone_has_no_guests.Goals as goal
 

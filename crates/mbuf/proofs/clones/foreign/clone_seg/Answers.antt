@@ -18,8 +18,8 @@ returns-in-Err-clause-calls g c =
 pub returns-in-Err-clause-unheld : goal.returns-in-Err-clause-unheld
 returns-in-Err-clause-unheld g c = λ i some. absurd (omega (arith, some, bag-nil i))
 
--- The calls on the second pool are those of the get and the claim of what it gave, and that on the first is the raise of
--- the buffer's count.
+-- The calls on the second pool are those of the get and the claim of what it gave, and that on the
+-- first is the raise of the buffer's count.
 pub returns-in-Ok-raise-clause-calls : goal.returns-in-Ok-raise-clause-calls
 returns-in-Ok-raise-clause-calls g c =
     let did = g.D.Commons.did in
@@ -81,7 +81,7 @@ returns-in-Ok-raise-clause-unheld g c = λ i some.
     (omega (arith, c.in-Ok.ensures.hand e, c.requires.second_hand e, one-same e)) in
     rw (single_is e i here) (omega (arith, none, ap (λ (f : ℕ → ℕ). f e) c.in-Ok.ensures.holds))
 
--- The get and the claim were met, and the raise was refused.
+-- The get and the claim succeeded, and the raise was refused.
 pub returns-in-Err-raise-clause-calls : goal.returns-in-Err-raise-clause-calls
 returns-in-Err-raise-clause-calls g c =
     let did = g.D.Commons.did in

@@ -44,7 +44,7 @@ clone_seg-requires-clause-first_held g c =
       c.loop-index.invariant.first_holds buffer,
     )
 
--- One segment more is cloned, and its clone stands behind the clones so far.
+-- One segment more is cloned, and its clone stands after the clones so far.
 pub loop-index-preserved : goal.loop-index-preserved
 loop-index-preserved g c =
     let k = c.loop-index.index in

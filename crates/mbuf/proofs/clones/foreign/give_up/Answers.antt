@@ -6,7 +6,8 @@ use Rattle.commons.specs.Packets.{hold_of}
 use Rattle.mbuf.specs.PacketRules.{EndsHolds}
 use Rattle.mbuf.proofs.clones.foreign.give_up.Goals as goal
 
--- The clones' holds ended on both sides, and then that of the element that is left over, in the second pool.
+-- The clones' holds ended on both sides, and then that of the element that is left over, in the
+-- second pool.
 pub returns-clause-calls : goal.returns-clause-calls
 returns-clause-calls g c =
     let first = c.end_segs-freed in

@@ -73,7 +73,8 @@ returns-clause-calls g c =
       ),
     )
 
--- The guests lost the clone's bases, and the clones its own elements, as the worker did on either side.
+-- The guests lost the clone's bases, and the clones its own elements, as the worker did on either
+-- side.
 pub returns-clause-own : goal.returns-clause-own
 returns-clause-own g c =
     let p = c.self.inside in

@@ -1,6 +1,7 @@
 use Rattle.mbuf.proofs.steps.foreign.end_seg.Goals as goal
 
--- The base's hold ended by the calls on the first pool, and then the own element's by those on the second.
+-- The base's hold ended by the calls on the first pool, and then the own element's by those on the
+-- second.
 pub returns-clause-calls : goal.returns-clause-calls
 returns-clause-calls g c =
     let base = c.end_if-so_far.ensures.calls in

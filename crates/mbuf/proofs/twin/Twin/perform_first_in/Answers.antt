@@ -2,7 +2,8 @@ use Rattle.std.proofs.Common.{sym}
 use Rattle.mbuf.specs.Foreign.{bases_in}
 use Rattle.mbuf.proofs.twin.Twin.perform_first_in.Goals as goal
 
--- The packets of the first pool stay the worker's own with the same guests, and the second pool was asked nothing.
+-- The packets of the first pool stay the worker's own with the same guests, and the second pool was
+-- asked nothing.
 pub returns-clause-own : goal.returns-clause-own
 returns-clause-own g c =
     let own = rw (sym c.self.view_is) at c.requires.own in record {

@@ -10,7 +10,8 @@ returns-then-list-self-clause-calls g c =
     c.self.inside.cache.items c.args.list.now c.args.c.now c.put_past.new.c c.put_past.result
     c.put_past.new.cache.items rule (omega (arith, c.self.invariant.flush.whole rule)) c.put_past.ensures.calls)
 
--- Cache and list pass the threshold together, so the cache was pushed whole, and the list came behind what was left.
+-- Cache and list pass the threshold together, so the cache was pushed whole, and the list came
+-- after what was left.
 pub returns-clause-calls : goal.returns-clause-calls
 returns-clause-calls g c =
     let rule = rw (sym c.self.view_is) at c.requires.rule in
