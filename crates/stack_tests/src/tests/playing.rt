@@ -48,7 +48,8 @@ pub(super) struct Played {
     pub sound: bool,
 }
 
-/// Gets as many elements as `out` has places for, and puts the same back: the answer of the put, where the get was met.
+/// Gets as many elements as `out` has places for, and puts the same back: the answer of the put, where
+/// the get succeeded.
 pub(super) fn there_and_back(
     c: &mut WordCommons,
     out: &mut [u32],
