@@ -18,8 +18,9 @@ use Rattle.word_pool.specs.Workers.{Manned, AreWorkers, IsStatementOfWorkers}
 abbrev pub EndsByActs : Limits → Statement → Type 0
 EndsByActs l s = (acts : List (ℕ × Act)) × (s ≡ statement_of (after_acts acts (new_pool l)))
 
--- On words: the statement of what a ground of these limits left, closed with all its workers, and
--- of their caches and packets.
+-- On words: the statement of what a ground of these limits left, closed by the one seat that the
+-- seats of all its workers were joined to, and of their caches and packets. What that seat has and
+-- what it noted are theirs, all together.
 pub record EndsOnWords (l : Limits) (s : Statement) : Type 0 where
   pub shared : Grounded
   pub workers : List Manned

@@ -1,10 +1,12 @@
 -- What a settling answers where there is no fault.
 use Rattle.std.proofs.Common.{◌≡◌, ◌≢◌, List, length, Result, Ok, Err, refl, sym, ap, ◌∙◌, subst}
-use Rattle.std.specs.Prelude.{IfErr, IfOk}
+use Rattle.std.specs.Prelude.{IfErr, IfOk, IfSome}
 use Rattle.commons.specs.declared.closed.Closed.{Closed}
 use Rattle.commons.specs.declared.limits.Limits.{Limits}
 use Rattle.commons.specs.declared.refusal.Refusal.{Refusal}
-use Rattle.ground.specs.Changing.{closed_at_start}
+use Rattle.ground.specs.Changing.{IsFresh, closed_at_start}
+use Rattle.ground.specs.Closing.{LeftOf}
+use Rattle.ground.specs.declared.known.Known.{Known}
 use Rattle.mbuf.specs.Members.{Member}
 use Rattle.snapshot.specs.Closing.{snapshot_of}
 use Rattle.pool_model.specs.declared.statement.Statement.{Statement}
@@ -17,7 +19,7 @@ use Rattle.book.specs.Books.{AreShares, IsFull, shares_in}
 use Rattle.book.specs.Places.{Places}
 use Rattle.book.specs.Settling.{IsUnsettled, snapshot_with}
 use Rattle.snapshot.specs.Snapshots.{IsLawful, statement_in}
-use Rattle.word_book.specs.Leaving.{IsLeftWith, statement_at_start}
+use Rattle.word_book.specs.Leaving.{IsLeftWith, IsStatementOf, statement_at_start}
 use Rattle.word_book.specs.Listing.{ListsPackets}
 use Rattle.word_book.proofs.Faultless.{faultless}
 use Rattle.word_book.proofs.Listed.{lists_packets}
@@ -63,6 +65,19 @@ module _ (b : Places) (closed : Closed) (left : IsLeftWith b.limits closed (shar
       subst (ListsPackets b.limits) (sym same)
       (lists_packets b.limits closed (shares_in b.places) left law (subst ListsOnlyPackets same only))
   packets_listed (Err e) law same only = tt
+
+-- the statement of what a seat left, with what that seat knew
+pub statement_of_seat : (r : Result Statement Refusal) (k l : Limits) (n : Known) (c : Closed) (members : List Member) →
+    k ≡ l → LeftOf l n.view c → IfSome n.lying (λ desks. c.desks ≡ desks) → (IsFresh n → c ≡ closed_at_start l) →
+    IfOk r (λ s. s ≡ statement_in (snapshot_of k c members)) → IfOk r (IsStatementOf l n members)
+statement_of_seat (Ok s) k l n c members limits left desks start same = record {
+  closed = c;
+  left = left;
+  desks = desks;
+  start = start;
+  same = same ∙ ap (λ (x : Limits). statement_in (snapshot_of x c members)) limits;
+}
+statement_of_seat (Err e) k l n c members limits left desks start same = tt
 
 -- the statement of what was left of a pool of which nobody has done anything
 pub at_start : (r : Result Statement Refusal) (k l : Limits) (c : Closed) (members : List Member) → k ≡ l →

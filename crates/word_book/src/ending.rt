@@ -52,7 +52,7 @@ pub fn settled(
     requires rest { AtRest seat.known.view }
     requires workers { map (λ share. share.number) shares.items ≡ range_with_len 1 ground.limits.workers }
     requires shares { AreSharesOf shares.items seat.known.view }
-    ensures statement { IfOk result (IsStatementOf ground.limits seat.known.view shares.items) }
+    ensures statement { IfOk result (IsStatementOf ground.limits seat.known shares.items) }
     ensures fresh { IsFresh seat.known → IfOk result (λ s. s ≡ statement_at_start ground.limits shares.items) }
     ensures once { IfOk result (λ s. ListsEachOnce s) }
     ensures places { IfOk result (λ s. PlacesEachOnce ground.limits s) }

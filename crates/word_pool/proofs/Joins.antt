@@ -1,7 +1,7 @@
 -- The seats of all workers are made one, and their shares are what it has.
-use Rattle.std.proofs.Common.{◌≡◌, List, [], ◌∷◌, ◌++◌, append_assoc, length, reverse, refl, sym, ap, ◌∙◌, subst, arith}
-use Rattle.std.specs.Prelude.{All}
-use Rattle.std.proofs.lemmas.List.{length-map, reverse-append}
+use Rattle.std.proofs.Common.{ℕ, ◌≡◌, List, [], ◌∷◌, ◌++◌, append_assoc, length, reverse, refl, sym, ap, ◌∙◌, subst, arith}
+use Rattle.std.specs.Prelude.{All, flat_map}
+use Rattle.std.proofs.lemmas.List.{append-nil, length-map, reverse-append}
 use Rattle.std.proofs.lemmas.List.Elements.{All-cons, All-nil, All-pop}
 use Rattle.std.proofs.lemmas.List.FromFn.{length-range_with_len}
 use Rattle.std.specs.Prelude.{Option, Some}
@@ -10,14 +10,14 @@ use Rattle.commons.specs.declared.packet.Seg.{Seg}
 use Rattle.ground.specs.declared.known.Known.{Known}
 use Rattle.ground.specs.Changing.{IsUnmoved}
 use Rattle.ground.specs.Parting.{both_with, both_views, IsBoth}
-use Rattle.ground.specs.Seats.{Grounded, Seated, IsOf}
+use Rattle.ground.specs.Seats.{Grounded, Note, Seated, IsOf}
 use Rattle.mbuf.specs.Members.{Member}
 use Rattle.mbuf.specs.Own.{Own}
 use Rattle.step_core.specs.declared.view.View.{View}
 use Rattle.pool_model.specs.declared.statement.Statement.{Statement}
 use Rattle.word_book.specs.Leaving.{IsStatementOf}
 use Rattle.word_book.specs.Shares.{AreSharesOf, side_in}
-use Rattle.word_pool.specs.Workers.{Manned, AreWorkers, HasNotActed, IsIdle, IsStatementOfWorkers, IsWorker, members_of}
+use Rattle.word_pool.specs.Workers.{Manned, AreWorkers, HasNotActed, IsIdle, IsSeatOf, IsStatementOfWorkers, IsWorker, members_of}
 use Rattle.word_pool.specs.inside.Joins.{AreJoined}
 
 -- the two laws of shares
@@ -52,6 +52,14 @@ last_joined one g all left m s p handed each e idle seat packets shares =
       rest = idle.rest;
       slots = idle.slots;
       part = part;
+      made = record {
+        part = part;
+        hand = sym (append-nil m.seat.known.view.hand);
+        holds = sym (append-nil m.seat.known.view.holds);
+        headers = sym (append-nil m.seat.known.view.headers);
+        notes = sym (append-nil (m.seat.known.steps ++ m.seat.known.joined));
+        rest = idle.rest;
+      };
       members = refl;
       shares = one m.seat.known.limits m.seat.known.view m.member idle.own;
       unmoved = λ none. All-pop HasNotActed all left (Some m) e none;
@@ -64,6 +72,13 @@ both_unmoved n o lying a b = record {
   steps = a.steps;
   joined = (λ i. a.joined i ++ (b.steps i ++ b.joined i));
 }
+
+-- two seats that are joined note what both did, in their order
+both_notes : (n o : Known) (lying : Option (List (Option (List Seg)))) (notes : List Note) → o.steps ++ o.joined ≡ notes →
+    (both_with n o lying).steps ++ (both_with n o lying).joined ≡ (n.steps ++ n.joined) ++ notes
+both_notes n o lying notes same =
+    sym (append_assoc n.steps n.joined (o.steps ++ o.joined))
+    ∙ ap (λ (xs : List Note). (n.steps ++ n.joined) ++ xs) same
 
 -- and each seat that is joined to those behind it has what all of them have
 pub next_joined : OneShare → BothShares → (g : Grounded) (all before left : List Manned) (m : Manned)
@@ -92,6 +107,16 @@ next_joined one two g all before left m s o t p handed more joined e idle seat p
       rest = record { zeros = refl; credit = refl; chain = refl; work = refl };
       slots = idle.slots;
       part = omega arith;
+      made = record {
+        part = omega arith;
+        hand = ap (λ (xs : List ℕ). m.seat.known.view.hand ++ xs) joined.made.hand;
+        holds = ap (λ (xs : List ℕ). m.seat.known.view.holds ++ xs) joined.made.holds;
+        headers = ap (λ (xs : List ℕ). m.seat.known.view.headers ++ xs) joined.made.headers;
+        notes =
+            both_notes m.seat.known s.known join.0
+            (flat_map (λ (x : Manned). x.seat.known.steps ++ x.seat.known.joined) joined.done) joined.made.notes;
+        rest = record { zeros = refl; credit = refl; chain = refl; work = refl };
+      };
       members = turned ∙ ap (λ (xs : List Member). m.member ∷ xs) joined.members;
       shares =
           subst (λ (xs : List Member). AreSharesOf xs (both_views m.seat.known.view s.known.view)) (sym turned)
@@ -112,14 +137,17 @@ all_done g all [] s handed joined none = sym joined.split
 all_done g all (m ∷ left) s handed joined none = absurd (omega arith)
 
 -- the statement of what the one seat left is that of these workers
-pub statement_of_workers : (g : Grounded) (ms : List Manned) (v : View) (handed : List Member) (s : Statement) →
-    v.part ≡ g.limits.workers → handed ≡ members_of ms → AreSharesOf handed v → IsStatementOf g.limits v handed s →
-    IsStatementOfWorkers g ms s
-statement_of_workers g ms v handed s whole same shares is = record {
-  view = v;
+pub statement_of_workers : (g : Grounded) (ms : List Manned) (n : Known) (handed : List Member) (s : Statement) →
+    IsSeatOf ms n → n.limits ≡ g.limits → n.view.part ≡ g.limits.workers → All IsIdle ms → handed ≡ members_of ms →
+    AreSharesOf handed n.view → IsStatementOf g.limits n handed s → IsStatementOfWorkers g ms s
+statement_of_workers g ms n handed s one limits whole idle same shares is = record {
+  known = n;
+  seat = one;
+  limits = limits;
   whole = whole;
-  shares = subst (λ (xs : List Member). AreSharesOf xs v) same shares;
-  statement = subst (λ (xs : List Member). IsStatementOf g.limits v xs s) same is;
+  idle = idle;
+  shares = subst (λ (xs : List Member). AreSharesOf xs n.view) same shares;
+  statement = subst (λ (xs : List Member). IsStatementOf g.limits n xs s) same is;
 }
 
 -- the last of some workers is one of the ground

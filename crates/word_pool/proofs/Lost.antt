@@ -13,6 +13,7 @@ use Rattle.book.specs.Lost.{is_listed, listed_of, unlisted_of}
 use Rattle.ground.specs.Closing.{LeftOf}
 use Rattle.ground.specs.Own.{AtRest}
 use Rattle.ground.specs.Seats.{Grounded}
+use Rattle.ground.specs.declared.known.Known.{Known}
 use Rattle.ground.proofs.Playing.{view_there}
 use Rattle.mbuf.specs.Members.{Member}
 use Rattle.snapshot.specs.Closing.{snapshot_of}
@@ -23,7 +24,7 @@ use Rattle.step_core.proofs.Bags.{times-nil}
 use Rattle.word_book.specs.Lost.{AreLeftOut, AreLostBy, IsLeftWithout, others}
 use Rattle.word_book.specs.Shares.{AreSharesOf}
 use Rattle.word_pool.specs.Lost.{AreLostOf, views_listed}
-use Rattle.word_pool.specs.Workers.{Manned, IsIdle, members_of}
+use Rattle.word_pool.specs.Workers.{Manned, IsIdle, IsSeatOf, members_of}
 
 -- what the views of listed workers have, their caches and packets have
 listed_part : (listed : List ℕ) (of_view : View → ℕ) (of_member : Member → ℕ) →
@@ -114,18 +115,18 @@ module _ (g : Grounded) (listed : List ℕ) (ms : List Manned) (v : View) (c : C
   }
 
 -- what the one seat left of the ground, with the laws of what is lost, is what these workers left
-pub lost_of_workers : (g : Grounded) (listed : List ℕ) (ms : List Manned) (v : View) (handed : List Member) (elems : List ℕ) →
-    AtRest v → All IsIdle ms → v.part ≡ length ms → handed ≡ members_of ms → AreSharesOf handed v →
+pub lost_of_workers : (g : Grounded) (listed : List ℕ) (ms : List Manned) (n : Known) (handed : List Member) (elems : List ℕ) →
+    IsSeatOf ms n → All IsIdle ms → handed ≡ members_of ms → AreSharesOf handed n.view →
     ((l : Limits) (lost : List View) (members : List Member) (c : Closed) (elems : List ℕ) →
     IsLeftWithout l lost members c → AreLost (snapshot_of l c members) elems → AreLostBy l lost members c elems) →
-    AreLeftOut g.limits v (unlisted_of listed handed) elems → AreLostOf g listed ms elems
-lost_of_workers g listed ms v handed elems rest idle part same shares law out =
-    let own = subst (λ (xs : List Member). AreSharesOf xs v) same shares in
+    AreLeftOut g.limits n.view (unlisted_of listed handed) elems → AreLostOf g listed ms elems
+lost_of_workers g listed ms n handed elems one idle same shares law out =
+    let own = subst (λ (xs : List Member). AreSharesOf xs n.view) same shares in
     let nowhere : AreLost (snapshot_of g.limits out.closed (unlisted_of listed (members_of ms))) elems =
     subst (λ (xs : List Member). AreLost (snapshot_of g.limits out.closed (unlisted_of listed xs)) elems) same out.lost in
     record {
-      view = v;
-      part = part;
+      known = n;
+      seat = one;
       shares = own;
       closed = out.closed;
       left = out.left;
@@ -133,5 +134,5 @@ lost_of_workers g listed ms v handed elems rest idle part same shares law out =
       lost =
           law g.limits (others out.left.world.views out.left.id ++ views_listed listed ms)
           (unlisted_of listed (members_of ms)) out.closed elems
-          (left_without g listed ms v out.closed out.left rest idle own) nowhere;
+          (left_without g listed ms n.view out.closed out.left one.rest idle own) nowhere;
     }

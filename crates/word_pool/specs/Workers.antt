@@ -1,5 +1,5 @@
 -- The workers of a pool on words.
-use Rattle.std.specs.Prelude.{◌≡◌, ◌<◌, ℕ, List, [], All, length, map, slice_index_or}
+use Rattle.std.specs.Prelude.{◌≡◌, ◌<◌, ◌++◌, ℕ, List, [], All, flat_map, length, map, slice_index_or}
 use Rattle.std.specs.List.{range_with_len}
 use Rattle.commons.specs.Calls.{Calls}
 use Rattle.commons.specs.declared.limits.Limits.{Limits}
@@ -7,6 +7,7 @@ use Rattle.commons.specs.Packets.{held_in}
 use Rattle.ground.specs.Changing.{IsUnmoved}
 use Rattle.ground.specs.Own.{AtRest}
 use Rattle.ground.specs.Seats.{Grounded, Seated, IsOf}
+use Rattle.ground.specs.declared.known.Known.{Known}
 use Rattle.mbuf.specs.declared.acts.Act.{Act}
 use Rattle.mbuf.specs.Acts.{Performs, Reply}
 use Rattle.mbuf.specs.Fresh.{AreFresh, new_elements}
@@ -17,7 +18,6 @@ use Rattle.pool_model.specs.declared.statement.Statement.{Statement}
 use Rattle.pool_model.specs.Pool.{new_members}
 use Rattle.stack_lf.specs.Sides.{side_of}
 use Rattle.stack_lf.specs.Tries.{DidOnWords}
-use Rattle.step_core.specs.declared.view.View.{View}
 use Rattle.step_core.specs.World.{empty_view}
 use Rattle.word_book.specs.Leaving.{IsStatementOf}
 use Rattle.word_book.specs.Shares.{AreSharesOf}
@@ -81,10 +81,28 @@ pub record AreNew (l : Limits) (ms : List Manned) : Type 0 where
   pub views : All (λ m. m.seat.known.view ≡ empty_view 1) ms
   pub unmoved : All HasNotActed ms
 
--- The statement of what a ground left, closed by the one seat with every part that all workers'
--- seats were made, and of these workers' caches and packets, which are what that seat's view has.
+-- What the one seat knows that the seats of all these workers were joined to, in their order.
+pub record IsSeatOf (ms : List Manned) (n : Known) : Type 0 where
+  -- it has the part of each
+  pub part : n.view.part ≡ length ms
+  -- the elements in its hand, those that it holds and its headers are theirs, all together
+  pub hand : n.view.hand ≡ flat_map (λ m. m.seat.known.view.hand) ms
+  pub holds : n.view.holds ≡ flat_map (λ m. m.seat.known.view.holds) ms
+  pub headers : n.view.headers ≡ flat_map (λ m. m.seat.known.view.headers) ms
+  -- the steps that it noted, and those of the seats that were joined to it, are theirs, and no
+  -- other
+  pub notes : n.steps ++ n.joined ≡ flat_map (λ m. m.seat.known.steps ++ m.seat.known.joined) ms
+  -- it is between calls
+  pub rest : AtRest n.view
+
+-- The statement of what a ground left, closed by the one seat with every part that the seats of
+-- these workers were joined to, and of their caches and packets, which are what that seat has.
 pub record IsStatementOfWorkers (g : Grounded) (ms : List Manned) (s : Statement) : Type 0 where
-  pub view : View
-  pub whole : view.part ≡ g.limits.workers
-  pub shares : AreSharesOf (members_of ms) view
-  pub statement : IsStatementOf g.limits view (members_of ms) s
+  pub known : Known
+  pub seat : IsSeatOf ms known
+  pub limits : known.limits ≡ g.limits
+  pub whole : known.view.part ≡ g.limits.workers
+  -- each worker was between its acts: its packets were its own
+  pub idle : All IsIdle ms
+  pub shares : AreSharesOf (members_of ms) known.view
+  pub statement : IsStatementOf g.limits known (members_of ms) s

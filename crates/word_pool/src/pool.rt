@@ -14,7 +14,7 @@ ghost use Rattle.word_book.specs.Listing.{ListsPackets};
 ghost use Rattle.word_book.specs.Shares.{AreSharesOf};
 ghost use Rattle.word_pool.specs.inside.Crews.{IsUnused, new_member};
 ghost use Rattle.word_pool.specs.Lost.{AreLeft, AreLostOf, left_of};
-ghost use Rattle.word_pool.specs.Workers.{AreNew, AreWorkers, HasNotActed, IsIdle, IsStatementOfWorkers, IsWorker, members_of};
+ghost use Rattle.word_pool.specs.Workers.{AreNew, AreWorkers, HasNotActed, IsIdle, IsSeatOf, IsStatementOfWorkers, IsWorker, members_of};
 
 use crate::worker::WordWorker;
 use book::share::{Share, hand_in};
@@ -215,6 +215,7 @@ fn joined(
     ensures of { IsOf ground.now result.0 }
     ensures part { result.0.known.view.part ≡ length workers.items }
     ensures rest { AtRest result.0.known.view }
+    ensures made { IsSeatOf workers.items result.0.known }
     ensures idle { All IsIdle workers.items }
     ensures members { result.1.items ≡ members_of workers.items }
     ensures shares { AreSharesOf result.1.items result.0.known.view }

@@ -5,7 +5,7 @@ use Rattle.ground.specs.Own.{AtRest}
 use Rattle.ground.specs.Seats.{Grounded, Seated, IsOf}
 use Rattle.mbuf.specs.Members.{Member}
 use Rattle.word_book.specs.Shares.{AreSharesOf}
-use Rattle.word_pool.specs.Workers.{Manned, HasNotActed, IsIdle, IsWorker, members_of}
+use Rattle.word_pool.specs.Workers.{Manned, HasNotActed, IsIdle, IsSeatOf, IsWorker, members_of}
 
 -- The seats of the last workers are one seat, which is at rest and has their parts, and their
 -- shares are handed in, the last worker's first. The others are left.
@@ -18,6 +18,7 @@ pub record AreJoined (g : Grounded) (all left : List Manned) (seat : Seated) (ha
   pub rest : AtRest seat.known.view
   pub slots : seat.slots ≡ []
   pub part : seat.known.view.part ≡ length done
+  pub made : IsSeatOf done seat.known
   pub members : reverse handed ≡ members_of done
   pub shares : AreSharesOf (reverse handed) seat.known.view
   -- where no worker has acted, none of the others has, and the seat has taken no step

@@ -19,10 +19,11 @@ returns-clause-statement c =
     let g = c.args.ground in
     let ms = c.args.workers.items in
     let e = c.joined-seat.ensures in
-    let v = c.joined-seat.result.0.known.view in
+    let n = c.joined-seat.result.0.known in
     let handed = c.joined-seat.result.1.items in
-    IfOk-weaker c.settled.result (IsStatementOf g.limits v handed) (IsStatementOfWorkers g ms)
-    (λ s is. statement_of_workers g ms v handed s (e.part ∙ count_of_workers g ms c.requires) e.members e.shares is)
+    IfOk-weaker c.settled.result (IsStatementOf g.limits n handed) (IsStatementOfWorkers g ms)
+    (λ s is. statement_of_workers g ms n handed s e.made e.of.limits (e.part ∙ count_of_workers g ms c.requires) e.idle
+    e.members e.shares is)
     c.settled.ensures.statement
 
 -- where no worker has acted, the one seat of all is of a pool of which nobody has done anything

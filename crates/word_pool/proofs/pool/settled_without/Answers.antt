@@ -12,10 +12,10 @@ returns-clause-lost c =
     let ms = c.args.workers.items in
     let listed = c.args.missing.now in
     let e = c.joined-seat.ensures in
-    let v = c.joined-seat.result.0.known.view in
+    let n = c.joined-seat.result.0.known in
     let handed = c.joined-seat.result.1.items in
-    IfOk-weaker c.settled_without.result (λ elems. AreLeftOut g.limits v (unlisted_of listed handed) elems.items)
+    IfOk-weaker c.settled_without.result (λ elems. AreLeftOut g.limits n.view (unlisted_of listed handed) elems.items)
     (λ elems. AreLostOf g listed ms elems.items)
-    (λ elems out. lost_of_workers g listed ms v handed elems.items e.rest e.idle e.part e.members e.shares
+    (λ elems out. lost_of_workers g listed ms n handed elems.items e.made e.idle e.members e.shares
     c.what_stands_nowhere_is_lost.ensures out)
     c.settled_without.ensures.lost
