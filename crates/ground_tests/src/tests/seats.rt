@@ -177,8 +177,8 @@ fn closed_unused(alloc: Global, population: u64) -> Result<Closed, Refusal> {
 }
 
 #[test]
-fn the_least_and_a_large_ground_are_made_and_closed(rt: HostRuntime) -> Result<(), Fail> {
-    for population in [1, 70_000] {
+fn the_least_and_the_greatest_ground_are_made_and_closed(rt: HostRuntime) -> Result<(), Fail> {
+    for population in [1, 70_000, 16_777_214] {
         let closed = closed_unused(rt.alloc(), population)?;
         let sizes = (closed.links.len() as u64, closed.counts.len() as u64);
         let given = (closed.top, closed.length, sizes);
