@@ -41,7 +41,7 @@ enum mbufpool_refusal {
 	MBUFPOOL_NO_MEMORY = 2,
 	MBUFPOOL_NO_ENTRIES = 3,	/* fewer elements than were asked for were counted */
 	MBUFPOOL_CONTENDED = 4,		/* as many tries were lost to other threads as the pool allows: try again */
-	MBUFPOOL_HEAD_SPENT = 5,	/* 2^48 - 1 changes of the stack were made: the pool is at its end */
+	MBUFPOOL_HEAD_SPENT = 5,	/* 2^40 - 1 changes of the stack were made: the pool is at its end */
 	MBUFPOOL_REF_SPENT = 6,		/* the reference count is at its limit */
 	MBUFPOOL_TOO_MANY_SEGS = 7,
 	MBUFPOOL_NO_ROOM = 8,
@@ -66,7 +66,7 @@ enum mbufpool_refusal {
 /* A seat, or none where the pointer is null. The pointer is the library's. */
 struct mbufpool_seat { void *at; };
 
-/* Makes a pool of 1 to 65,534 elements, all on the stack, for 1 to 64 seats, and its first seat. `tries`, 1 to 1,000,000, is
+/* Makes a pool of 1 to 16,777,214 elements, all on the stack, for 1 to 64 seats, and its first seat. `tries`, 1 to 1,000,000, is
  * how many lost tries a call makes before it is refused. A seat that was in `out` is ended. */
 uint32_t mbufpool_seat_open(uint32_t population, uint32_t seats, uint32_t tries, struct mbufpool_seat *out);
 
@@ -106,7 +106,7 @@ void mbufpool_checked_free(struct mbufpool_checked *seat);
 struct mbufpool_worker { void *at; };
 
 struct mbufpool_limits {
-	uint32_t population;	/* elements, 1 to 65,534 */
+	uint32_t population;	/* elements, 1 to 16,777,214 */
 	uint32_t cache;		/* elements that a worker's cache keeps, 0 to 512, three halves of it at most the population */
 	uint32_t workers;	/* 1 to 64 */
 	uint32_t desks;		/* 0 to 64 */

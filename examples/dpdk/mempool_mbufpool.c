@@ -13,7 +13,7 @@
  * Built as a shared object, it is loaded by EAL's -d (from a folder that others can't write). The pool knows its elements by
  * number: an object's number is found by its place in its memory chunk, and a number's object in a table.
  *
- * Limits: at most 65,534 objects, one process, and 63 lcores with a seat of their own. */
+ * Limits: at most 16,777,214 objects, one process, and 63 lcores with a seat of their own. */
 #include <errno.h>
 #include <stdlib.h>
 #include <string.h>

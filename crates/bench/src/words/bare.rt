@@ -76,7 +76,7 @@ fn first_there_and_back<C: Commons, const N: usize>(c: &mut C, list: &mut [u32])
     there_and_back(c, &mut list[..N])
 }
 
-/// Gets a list and puts it back, and answers how many of the calls were refused. A put is made again until it is met.
+/// Gets a list and puts it back, and answers how many of the calls were refused. A put is made again until it succeeds.
 #[inline(always)]
 fn there_and_back<C: Commons>(c: &mut C, list: &mut [u32]) -> u64
     requires { 0 < length list.old }
