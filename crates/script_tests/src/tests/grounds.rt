@@ -23,7 +23,7 @@ use std::thread::Threads;
 /// - Where two workers take elements of the common stack, the first gets the upper ones: "two
 ///   workers", "a held element is listed with its desks", "take into a full table".
 /// - Where two free what shares a base, it goes back to the cache of the last: "clone over a desk".
-/// - Where a desk is offered on twice, the second offer is met if a take comes between: "desk refusals".
+/// - Where a desk is offered on twice, the second offer succeeds if a take comes between: "desk refusals".
 /// - A worker who waits at a desk on which it has offered may take its own packet back: "a name that is
 ///   offered and taken is each workers own", "a packet of 32 segments goes over all desks and back".
 const ALIKE: &[&str] = &[

@@ -20,7 +20,7 @@ fn handed_over(alloc: Global, limits: &Limits) -> Result<u64, Refusal> {
     Ok(statement.available)
 }
 
-/// So many elements are free then, or memory was wanting.
+/// So many elements are free then, or memory was missing.
 fn assert_free<R: Abort + AllocGlobal>(rt: &R, limits: &Limits, free: u64, what: &str) {
     match handed_over(rt.alloc(), limits) {
         Ok(available) => same(rt, &available, &free, what),

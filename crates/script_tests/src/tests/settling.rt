@@ -247,7 +247,7 @@ fn assert_end<R: Abort + AllocGlobal>(rt: &R, statement: &Statement) {
     assert_given(rt, text, FOUR_TEXT, "the statement of the four workers");
 }
 
-/// The missing share was named, and what was handed back settled, or memory for a pool was wanting.
+/// The missing share was named, and what was handed back settled, or memory for a pool was missing.
 fn assert_late<R: Abort + AllocGlobal>(rt: &R, late: Result<Late, Refusal>) {
     match late {
         Ok((cause, Some(statement))) => {
