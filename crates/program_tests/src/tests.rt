@@ -5,6 +5,7 @@ use std::process::Abort;
 mod faults;
 mod files;
 mod screen;
+mod turns;
 mod words;
 
 /// Both are one; else it is told of what, with both.
