@@ -5,7 +5,7 @@ ghost use Rattle.std.specs.Prelude.{◌≡◌};
 ghost use Rattle.layer_tests.specs.OwnAtSite.{OwnAtSites};
 
 use crate::equal::same;
-use commons::limits::Limits;
+use commons::limits::{Limits, PutRule};
 use commons::place::Place;
 use commons::plain::PlainCommons;
 use commons::site::PlainSite;
@@ -63,6 +63,7 @@ const FIRST: Limits = Limits {
     ref_limit: 65_535,
     tries: 64,
     start_count: 0,
+    put_rule: PutRule::Keep,
 };
 
 const SECOND: Limits = Limits {
@@ -271,11 +272,11 @@ const ROWS: [Row; 9] = [
     Row {
         name: "the last push that is refused is that of the clone's own element",
         first: Limits {
-            start_count: 281_474_976_710_654,
+            start_count: 1_099_511_627_774,
             ..FIRST
         },
         second: Limits {
-            start_count: 281_474_976_710_654,
+            start_count: 1_099_511_627_774,
             cache: 1,
             ..SECOND
         },

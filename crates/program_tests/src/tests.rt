@@ -5,6 +5,7 @@ use std::process::Abort;
 mod faults;
 mod files;
 mod screen;
+mod turns;
 mod words;
 
 /// Asserts that both are equal, and else says of what, with both.

@@ -227,13 +227,27 @@ fn json_refusal(alloc: Global, text: &str) -> Option<Refusal> {
     run_replay_json(alloc, text.as_bytes()).err()
 }
 
-/// Each of the three is refused so, or none is.
+/// The most elements of a pool that a row is played on: the text of one of 16,777,214 elements has 140 million bytes.
+const MOST_PLAYED: u64 = 100_000;
+
+/// Whether a text is a script of a pool that is too large to be played here.
+fn is_of_a_large_pool(alloc: Global, text: &str) -> bool {
+    match parse(alloc, text.as_bytes()) {
+        Ok(script) => script.limits.population > MOST_PLAYED,
+        Err(_) => false,
+    }
+}
+
+/// Each of the three is refused so, or none is; a script of a large pool is only read.
 fn refuse_text<R: Abort + AllocGlobal>(rt: &R, text: &str, refusal: Option<Refusal>, name: &str) {
     let parsed = parse_refusal(rt.alloc(), text);
-    let printed = replay_refusal(rt.alloc(), text);
-    let json = json_refusal(rt.alloc(), text);
-    let wanted = (text, refusal, refusal, refusal);
-    same(rt, &(text, parsed, printed, json), &wanted, name);
+    same(rt, &(text, parsed), &(text, refusal), name);
+    if !is_of_a_large_pool(rt.alloc(), text) {
+        let printed = replay_refusal(rt.alloc(), text);
+        let json = json_refusal(rt.alloc(), text);
+        let wanted = (text, refusal, refusal);
+        same(rt, &(text, printed, json), &wanted, name);
+    }
 }
 
 fn refuse_texts<R: Abort + AllocGlobal>(rt: &R, rows: &[TextsRow]) {

@@ -35,7 +35,7 @@ const FIRST_RUN_JSON: &str = "{\"available\":2,\"caches\":[[]],\"common\":[0,2],
     \"slot\":1,\"worker\":1}],\"population\":3}\n";
 
 /// What comes of a task with a script: its text, or the line of the failure.
-fn outcome<R: Threads + Wait + Sync, S: Scripts>(
+pub(super) fn outcome<R: Threads + Wait + Sync, S: Scripts>(
     rt: &R,
     alloc: Global,
     scripts: &S,

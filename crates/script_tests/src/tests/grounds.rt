@@ -37,30 +37,57 @@ const ALIKE: &[&str] = &[
     "a chain of two lengths in buffers of 300 bytes",
 ];
 
-/// A packet of some length goes from one worker to another.
-const IN_TRANSIT: &str = "pool 4 workers 2 desks 1\nalloc a\nappend a 7\noffer a 0\n2: take 0 x\n";
+/// A name, a script, the line of worker 1 for whose end a gate makes worker 2 wait ahead of its first line, counted from
+/// 1 among worker 1's lines, and where each element is at the end.
+type HeldRow = (&'static str, &'static str, u32, &'static str);
 
-/// Where each element is at its end.
-const IN_TRANSIT_END: &str = "population 4\navailable 3\nin use 1\ncommon 3: 1 2 3\n\
-    cache 1 0:\ncache 2 0:\npacket 2 0 segs 1 len 7: 0@128+7/2048\nheld 0 count 1: 2\n";
+/// A packet of some length goes from one worker to another.
+const IN_TRANSIT: HeldRow = (
+    "lengths in transit",
+    "pool 4 workers 2 desks 1\nalloc a\nappend a 7\noffer a 0\n2: take 0 x\n",
+    3,
+    "population 4\navailable 3\nin use 1\ncommon 3: 1 2 3\n\
+    cache 1 0:\ncache 2 0:\npacket 2 0 segs 1 len 7: 0@128+7/2048\nheld 0 count 1: 2\n",
+);
+
+/// A line of worker 1 is refused at each of its tries, since what it waits for is worker 2's to do.
+const TRIED_TOO_EARLY: &[HeldRow] = &[
+    (
+        "a take ends before the offer begins",
+        "pool 2 workers 2 desks 1\ntake 0 x\n2: alloc a\n2: offer a 0\n",
+        1,
+        "population 2\navailable 1\nin use 1\ncommon 1: 1\ncache 1 0:\ncache 2 0:\n\
+        desk 0 segs 1 len 0: 0@128+0/2048\nheld 0 count 1: d0\n",
+    ),
+    (
+        "a second offer ends before the take of the first begins",
+        "pool 2 workers 2 desks 1\nalloc a\noffer a 0\nalloc b\noffer b 0\n2: take 0 x\n",
+        4,
+        "population 2\navailable 0\nin use 2\ncommon 0:\ncache 1 0:\ncache 2 0:\n\
+        packet 1 0 segs 1 len 0: 1@128+0/2048\npacket 2 0 segs 1 len 0: 0@128+0/2048\n\
+        held 0 count 1: 2\nheld 1 count 1: 1\n",
+    ),
+];
 
 /// Where each element is at the end of the first run.
 const FIRST_END: &str = "population 3\navailable 2\nin use 1\ncommon 2: 0 2\ncache 1 0:\n\
     packet 1 1 segs 1 len 0: 1@128+0/2048\nheld 1 count 1: 1\n";
 
-/// The packet is on the desk before its taker's first line.
-fn pass_on<R: Threads + Wait + Sync + Abort + AllocGlobal>(
+/// Worker 2 begins once worker 1's line is done.
+fn hold<R: Threads + Wait + Sync + Abort + AllocGlobal>(
     rt: &R,
+    row: &HeldRow,
     grounds: Grounds,
     turns: u32,
 ) -> Result<(), Fail>
     requires turns { 1 ≤ turns }
 {
-    let gate = Handover::after(3);
-    let statement = run(rt, IN_TRANSIT, grounds, turns, &gate)?;
-    let text = text_of(rt.alloc(), &statement)?;
-    let given = (grounds, gate.failed(), text.as_str());
-    same(rt, &given, &(grounds, false, IN_TRANSIT_END), "in transit");
+    let (name, text, awaited, wanted) = row;
+    let gate = Handover::after(*awaited);
+    let statement = run(rt, text, grounds, turns, &gate)?;
+    let end = text_of(rt.alloc(), &statement)?;
+    let given = (grounds, turns, gate.failed(), end.as_str());
+    same(rt, &given, &(grounds, turns, false, *wanted), name);
     Ok(())
 }
 
@@ -68,8 +95,20 @@ fn pass_on<R: Threads + Wait + Sync + Abort + AllocGlobal>(
 #[test]
 fn a_packet_keeps_its_length_on_its_way(rt: HostRuntime) -> Result<(), Fail> {
     for grounds in GROUNDS {
-        pass_on(&rt, grounds, 1)?;
-        pass_on(&rt, grounds, TURNS)?;
+        hold(&rt, &IN_TRANSIT, grounds, 1)?;
+        hold(&rt, &IN_TRANSIT, grounds, TURNS)?;
+    }
+    Ok(())
+}
+
+#[test]
+fn a_refusal_at_the_last_turn_stands(rt: HostRuntime) -> Result<(), Fail> {
+    for row in TRIED_TOO_EARLY {
+        for grounds in GROUNDS {
+            hold(&rt, row, grounds, 1)?;
+            hold(&rt, row, grounds, 2)?;
+            hold(&rt, row, grounds, 20)?;
+        }
     }
     Ok(())
 }
