@@ -52,7 +52,7 @@ static ROWS: &[Row] = &[
         script: &[Part::Text(
             "pool 3 desks 1\ntake 0 x\nalloc a\noffer a 0\nalloc b\noffer b 0\nalloc c\n",
         )],
-        turns: &[1, 2, 20],
+        turns: &[1, 2, 7],
         times: 1,
         end: Print::Whole(&[Part::Text(
             "population 3\navailable 0\nin use 3\ncommon 0:\ncache 1 0:\n\
@@ -69,7 +69,7 @@ static ROWS: &[Row] = &[
             "pool 3 workers 2 desks 2\ntake 1 y\noffer y 0\n\
             2: take 0 x\n2: offer x 1\n2: alloc z\n2: alloc w\n",
         )],
-        turns: &[1, 2, 20],
+        turns: &[1, 2, 7],
         times: 1,
         end: Print::Whole(&[Part::Text(
             "population 3\navailable 1\nin use 2\ncommon 1: 2\ncache 1 0:\ncache 2 0:\n\
@@ -80,31 +80,31 @@ static ROWS: &[Row] = &[
     },
     // An offer succeeds only once the packet before it is taken, and a take only once the next one is offered.
     Row {
-        name: "each of 20 packets goes over one desk",
+        name: "each of 10 packets goes over one desk",
         script: &[
-            Part::Text("pool 20 workers 2 desks 1\n"),
-            Part::Each(20, &[Field("alloc a", 0, 1)], "\n"),
-            Part::Each(20, &[Field("offer a", 0, 1)], " 0\n"),
-            Part::Each(20, &[Field("2: take 0 b", 0, 1)], "\n"),
+            Part::Text("pool 10 workers 2 desks 1\n"),
+            Part::Each(10, &[Field("alloc a", 0, 1)], "\n"),
+            Part::Each(10, &[Field("offer a", 0, 1)], " 0\n"),
+            Part::Each(10, &[Field("2: take 0 b", 0, 1)], "\n"),
         ],
         turns: &[MOST],
         times: 1,
         end: Print::Whole(&[
             Part::Text(
-                "population 20\navailable 0\nin use 20\ncommon 0:\ncache 1 0:\ncache 2 0:\n",
+                "population 10\navailable 0\nin use 10\ncommon 0:\ncache 1 0:\ncache 2 0:\n",
             ),
             Part::Each(
-                20,
+                10,
                 &[Field("packet 2 ", 0, 1), Field(" segs 1 len 0: ", 0, 1)],
                 "@128+0/2048\n",
             ),
-            Part::Each(20, &[Field("held ", 0, 1)], " count 1: 2\n"),
+            Part::Each(10, &[Field("held ", 0, 1)], " count 1: 2\n"),
         ]),
         lost: (
             2,
             Print::Whole(&[
-                Part::Text("lost 20:"),
-                Part::Each(20, &[Field(" ", 0, 1)], ""),
+                Part::Text("lost 10:"),
+                Part::Each(10, &[Field(" ", 0, 1)], ""),
                 Part::Text("\n"),
             ]),
         ),
@@ -126,7 +126,7 @@ static ROWS: &[Row] = &[
             Part::Each(200, &[Field("4: alloc a", 0, 1)], "\n"),
         ],
         turns: &[MOST],
-        times: 10,
+        times: 3,
         end: Print::Beginning(&[Part::Text("population 810\navailable 7\nin use 803\ncommon 7:")]),
         lost: (1, Print::Beginning(&[Part::Text("lost 200:")])),
     },

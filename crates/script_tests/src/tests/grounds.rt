@@ -107,7 +107,7 @@ fn a_refusal_at_the_last_turn_stands(rt: HostRuntime) -> Result<(), Fail> {
         for grounds in GROUNDS {
             hold(&rt, row, grounds, 1)?;
             hold(&rt, row, grounds, 2)?;
-            hold(&rt, row, grounds, 20)?;
+            hold(&rt, row, grounds, 7)?;
         }
     }
     Ok(())
