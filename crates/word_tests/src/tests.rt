@@ -15,6 +15,7 @@ use std::process::Abort;
 use std::test::Fail;
 
 mod crews;
+mod example;
 mod missing;
 mod passing;
 mod players;
