@@ -2,7 +2,7 @@
 //! packet and frees it.
 
 ghost use Rattle.ground.specs.Seats.{IsOf};
-ghost use Rattle.word_pool.specs.Workers.{Stays};
+ghost use Rattle.word_pool.specs.Workers.{AreWorkers, Stays};
 
 use super::{DEFAULTS, same};
 use commons::limits::Limits;
@@ -28,23 +28,31 @@ fn send(ground: &Ground, worker: &mut WordWorker)
     }
 }
 
+/// Lets all workers send, each in a thread of its own.
+fn all_send<R: Threads + Sync>(rt: &R, ground: &Ground, workers: &mut [WordWorker])
+    requires { AreWorkers ground.now workers.old }
+    ensures { AreWorkers ground.now workers.new }
+{
+    workers_who_stay_are_all();
+    thread::for_each_mut(
+        rt,
+        workers,
+        4,
+        &|_, worker: &mut WordWorker|
+            requires { IsOf ground.now worker.now.seat }
+            ensures { Stays worker.entry.now worker.exit.now }
+        { send(ground, worker) },
+    );
+}
+
 /// How many elements are free once all workers have sent.
 fn free_at_the_end<R: Threads + Sync>(
     rt: &R,
     alloc: Global,
     limits: &Limits,
 ) -> Result<u64, Refusal> {
-    workers_who_stay_are_all();
     let (ground, mut workers) = pool::make(alloc, limits)?;
-    thread::for_each_mut(
-        rt,
-        workers.as_mut_slice(),
-        4,
-        &|_, worker: &mut WordWorker|
-            requires { IsOf ground.now worker.now.seat }
-            ensures { Stays worker.entry.now worker.exit.now }
-        { send(&ground, worker) },
-    );
+    all_send(rt, &ground, workers.as_mut_slice());
     Ok(pool::settled(alloc, ground, workers)?.available)
 }
 
