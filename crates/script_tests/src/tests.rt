@@ -227,7 +227,8 @@ fn json_refusal(alloc: Global, text: &str) -> Option<Refusal> {
     run_replay_json(alloc, text.as_bytes()).err()
 }
 
-/// The most elements of a pool that a row is played on: the text of one of 16,777,214 elements has 140 million bytes.
+/// The most elements of a pool that a row is played on: the text of one of 16,777,214 elements has
+/// 140 million bytes.
 const MOST_PLAYED: u64 = 100_000;
 
 /// Whether a text is a script of a pool that is too large to be played here.
@@ -261,6 +262,11 @@ fn refuse_texts<R: Abort + AllocGlobal>(rt: &R, rows: &[TextsRow]) {
 #[test]
 fn each_text_is_a_script_or_refused(rt: HostRuntime) {
     refuse_texts(&rt, texts::ROWS);
+}
+
+#[test]
+fn each_pool_line_is_of_a_script_or_refused(rt: HostRuntime) {
+    refuse_texts(&rt, texts::POOL_ROWS);
 }
 
 fn refuse_long_texts<R: Abort + AllocGlobal>(rt: &R, rows: &[LongRow]) -> Result<(), Fail> {

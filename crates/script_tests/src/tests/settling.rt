@@ -322,7 +322,7 @@ fn play_most(pool: &mut SitePool) {
 }
 
 /// Puts all shares in a book.
-fn deposit_all(book: &mut Book, mut shares: Vec<Share>) {
+pub(super) fn deposit_all(book: &mut Book, mut shares: Vec<Share>) {
     while let Some(share) = shares.pop() {
         deposit_one(book, Some(share));
     }

@@ -209,6 +209,10 @@ pub(super) const ROWS: &[TextsRow] = &[
             ),
         ],
     ),
+];
+
+/// More of them: what a pool line says, and its limits.
+pub(super) const POOL_ROWS: &[TextsRow] = &[
     (
         "limits past their range are a bad pool",
         &[
