@@ -16,6 +16,7 @@ use std::test::Fail;
 
 mod crews;
 mod example;
+mod lost;
 mod missing;
 mod passing;
 mod players;

@@ -28,7 +28,7 @@ impl Drop for FreeSeat {
 
 impl FreeSeat {
     /// The seat.
-    fn into_seat(self) -> GroundSeat
+    pub(super) fn into_seat(self) -> GroundSeat
         ensures { result ≡ self.seat }
     {
         let FreeSeat { seat } = self;
