@@ -9,7 +9,7 @@ use Rattle.commons.specs.Calls.{Reading, Call, PutList, Side, Calls}
 use Rattle.mempool.specs.declared.put.Put.{Put}
 use Rattle.mempool.specs.declared.put.Put.TheVariants.{Flushed, PutOff}
 use Rattle.mempool.proofs.Rules.{one_rule}
-use Rattle.mempool.specs.Caches.{Pushed, Gone, Stays, Puts, Bypass, BypassPutOff, Flush, FlushPutOff, WholeBypass, WholeBypassPutOff, WholeFlush, WholeFlushPutOff, Flushes, Whole, WholePutOff, threshold}
+use Rattle.mempool.specs.Caches.{Pushed, Gone, Stays, PushedFor, ListWent, CacheWent, Puts, Bypass, BypassPutOff, Flush, FlushPutOff, WholeBypass, WholeBypassPutOff, WholeFlush, WholeFlushPutOff, Flushes, Whole, WholePutOff, threshold}
 
 -- From the threshold on, a push of all beyond the size is the one request of a put.
 pub put_over : {S : Type 0} (did : S → Call → List Reading → S → Type 0) (side : S → Side)
@@ -107,6 +107,17 @@ put_after_cache did side l cache list rest before after answer left whole some f
       WholeFlushPutOff whole some few short (omega (arith, length-append cache list)) cause refl (rw all at a)
           (e ∙ ap (λ (xs : List ℕ). xs ++ list) k),
     )
+
+-- Where cache and list pass the threshold, the push of one of them is the one request.
+pub put_whole : {S : Type 0} (did : S → Call → List Reading → S → Type 0) (side : S → Side)
+    (l : Limits) (cache list : List ℕ) (before after : S) (answer : Put) (left : List ℕ) →
+    l.put_rule ≡ rules.Whole → 0 < length list → length list ≤ max_cache →
+    threshold l < length cache + length list → PushedFor did side (threshold l) cache list before answer after left →
+    Calls did side before after (λ calls. Puts l cache list calls answer left)
+put_whole did side l cache list before after answer left whole some few over (ListWent long p) =
+    put_whole_passed did side l cache list before after answer left whole long p
+put_whole did side l cache list before after answer left whole some few over (CacheWent short rest p k) =
+    put_after_cache did side l cache list rest before after answer left whole some few short over k p
 
 -- Where nothing is kept and the cache is empty, that is a put's one request too.
 pub put_kept_none : {S : Type 0} (did : S → Call → List Reading → S → Type 0) (side : S → Side)

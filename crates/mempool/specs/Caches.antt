@@ -214,6 +214,22 @@ pub data Pushed {S : Type 0} (did : S → Call → List Reading → S → Type 0
       left ≡ cache →
       Pushed did side keep cache before answer after left
 
+-- a list of more than this many went past a cache; for a shorter one all of the cache went, and the
+-- list came after what stayed
+pub data PushedFor {S : Type 0} (did : S → Call → List Reading → S → Type 0) (side : S → Side)
+    (most : ℕ) (cache list : List ℕ) (before : S) (answer : Put) (after : S) (left : List ℕ)
+    : Type 0 where
+  ListWent :
+      most < length list →
+      Pushed did side (length cache) (cache ++ list) before answer after left →
+      PushedFor did side most cache list before answer after left
+  CacheWent :
+      length list ≤ most →
+      (rest : List ℕ) →
+      Pushed did side 0 cache before answer after rest →
+      left ≡ rest ++ list →
+      PushedFor did side most cache list before answer after left
+
 -- what a flush does: the whole cache goes to the stack in one push, and an empty one is kept
 pub data Flushes (cache : List ℕ) (calls : List Call) (answer : Put) (left : List ℕ) : Type 0 where
   Empty : cache ≡ [] → calls ≡ [] → answer ≡ Kept → left ≡ cache → Flushes cache calls answer left

@@ -359,8 +359,7 @@ impl Worker {
 
     /// Puts a list by the rule `Whole`, where cache and list pass the threshold: the list onto the
     /// common stack, where it is longer than the threshold itself, else the whole cache.
-    #[inline(never)]
-    #[tactic(auto, using(commons::proofs::Bags::bags))]
+    #[inline(always)]
     fn put_whole<C: Commons>(&mut self, c: &mut C, list: &[u32]) -> Put
         requires limits { (C.side c.old).limits ≡ self.old.limits }
         requires in_hand { (i : ℕ) → bag self.old.cache i + bag list.now i ≤ (C.side c.old).hand i }
@@ -379,12 +378,7 @@ impl Worker {
         ensures number { KeepsNumber self.old self.new }
     {
         steps::room(c, &self.cache, list);
-        if list.len() >= self.flush_length {
-            return steps::put_past(&mut self.cache, c, list);
-        }
-        let put = steps::flush_beyond(&mut self.cache, c, 0);
-        steps::append(&mut self.cache, list);
-        put
+        steps::flush_for(&mut self.cache, c, list, self.limits.cache as usize)
     }
 
     /// Puts the whole cache onto the common stack in one push. An empty cache takes no step.

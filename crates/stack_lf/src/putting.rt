@@ -39,6 +39,7 @@ fn store_links(ground: &Ground, seat: &mut GroundSeat, top: u32, list: &[u32]) -
 
 /// Loads the head, links the list to its top, and swings the head to the last of the list, if it
 /// is still what was read.
+#[inline(always)]
 fn try_push(ground: &Ground, seat: &mut GroundSeat, list: &[u32]) -> Tried
     requires of { IsOf ground.now seat.old }
     requires some { 1 ≤ length list.now }
