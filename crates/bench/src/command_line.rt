@@ -5,6 +5,7 @@ use crate::words::{Cells, NAMES};
 use clap::builder::ValueParser;
 use clap::error::ErrorKind;
 use clap::{Arg, Command, Error};
+use commons::limits::PutRule;
 use std::alloc::Global;
 use std::env;
 use std::env::Env;
@@ -108,6 +109,10 @@ pub fn read<'a>(alloc: Global, words: &'a [String]) -> Result<Asked<'a>, Error> 
             caches: matches.get_str("cache").unwrap_or("0,256"),
             population: number(matches.get_str("population")).unwrap_or(8_192),
             millis: number(matches.get_str("ms")).unwrap_or(40),
+            put_rule: match number(matches.get_str("putrule")) {
+                Some(1) => PutRule::Whole,
+                _ => PutRule::Keep,
+            },
         },
     })
 }
@@ -151,7 +156,7 @@ fn number(word: Option<&str>) -> Option<u64> {
 }
 
 /// `bench [WORKLOAD] [--rounds N] [--runs R]`, and for the words of a pool
-/// `[--workload NAMES] [--threads LIST] [--cache LIST] [--population N] [--ms N]`.
+/// `[--workload NAMES] [--threads LIST] [--cache LIST] [--population N] [--ms N] [--putrule 0|1]`.
 fn command<'a>(alloc: Global) -> Result<Command<'a>, Error> {
     let workload = Arg::new(alloc, "WORKLOAD").help(
         "What is measured; none: the list of workloads",
@@ -168,6 +173,11 @@ fn command<'a>(alloc: Global) -> Result<Command<'a>, Error> {
         .long("cache")
         .value_name("LIST")
         .help("Words and memory: how large the caches are, with commas between");
+    let put_rule = Arg::new(alloc, "putrule")
+        .long("putrule")
+        .value_name("RULE")
+        .value_parser(ValueParser::unsigned(0, 1))
+        .help("Words: what a full cache flushes, 0: what is beyond its size (the default), 1: all");
     Ok(
         Command::new(alloc, "bench")
             .about("Measures the pool on the lists, and on its words")
@@ -177,6 +187,7 @@ fn command<'a>(alloc: Global) -> Result<Command<'a>, Error> {
             .arg(names)?
             .arg(threads)?
             .arg(caches)?
+            .arg(put_rule)?
             .arg(whole(
                 alloc,
                 "population",

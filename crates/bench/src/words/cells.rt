@@ -31,6 +31,8 @@ pub struct Cells<'a> {
     pub population: u64,
     /// For how many milliseconds a run goes on, where no number of rounds is asked for.
     pub millis: u64,
+    /// What a full cache flushes.
+    pub put_rule: PutRule,
 }
 
 /// How many elements are got and put back, about, between two looks at the clock.
@@ -113,7 +115,7 @@ pub fn measure<R: Clock + Print + AllocGlobal + Threads + Sync>(
     let mut met = 0u64;
     let mut refused = 0u64;
     for _run in 0..runs {
-        let run = run_once(rt, asked.population, cache, kind, threads, nanos, batch)?;
+        let run = run_once(rt, asked, cache, kind, threads, nanos, batch)?;
         push(&mut picos, run.picos / threads.max(1))?;
         met = met.saturating_add(run.met);
         refused = refused.saturating_add(run.refused);
@@ -137,13 +139,14 @@ fn of_thousand(met: u64, refused: u64) -> u128 {
 /// One run in a new pool, whose fifth seat reads at the end that nothing is missing.
 fn run_once<R: Clock + AllocGlobal + Threads + Sync>(
     rt: &R,
-    population: u64,
+    asked: &Cells,
     cache: u64,
     kind: Kind,
     threads: u64,
     nanos: u64,
     batch: u64,
 ) -> Result<Run, Failure> {
+    let population = asked.population;
     let limits = Limits {
         population,
         cache,
@@ -153,7 +156,7 @@ fn run_once<R: Clock + AllocGlobal + Threads + Sync>(
         ref_limit: 65_535,
         tries: 64,
         start_count: 0,
-        put_rule: PutRule::Keep,
+        put_rule: asked.put_rule,
     };
     let (ground, mut seat) = Ground::make(rt.alloc(), &limits)?;
     let first = Carried {
