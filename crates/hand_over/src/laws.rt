@@ -1,0 +1,24 @@
+//! What stays when elements pass from hand to hand. Each law is a function that does nothing, and
+//! its contract is the law.
+
+ghost use Rattle.hand_over.specs.Passing.{HandsMayPass, PassingKeepsLaw, PassingKeepsWorld, OthersDoTheSame};
+
+/// Elements of a worker's hand, none of them of its chain, may pass to the hand of any other worker
+/// with a part: there is such a world, and it obeys every law of the machine where the one before
+/// does.
+///
+/// So the laws don't depend on whose hand an element is in. An mbuf that one lcore got may be put
+/// by another, as DPDK's programs do (rte_mempool.h, `rte_mempool_put_bulk`, DPDK 21.11): what a
+/// caller owes is that each element that is put was got before, by any of the pool's workers, and
+/// not put since.
+pub fn hands_may_pass()
+    ensures some { HandsMayPass }
+    ensures law { PassingKeepsLaw }
+    ensures world { PassingKeepsWorld }
+{}
+
+/// No third worker sees that elements passed: each step of it is played or refused as before, with
+/// the same outcome and the same event, and the same elements have passed afterwards.
+pub fn others_do_the_same()
+    ensures { OthersDoTheSame }
+{}
