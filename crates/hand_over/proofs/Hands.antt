@@ -5,14 +5,13 @@ use Rattle.std.proofs.lemmas.Bool.{cases_eq}
 use Rattle.std.proofs.lemmas.List.{length-set}
 use Rattle.std.proofs.lemmas.List.Sums.{sum_by-set}
 use Rattle.commons.specs.Bag.{bag}
-use Rattle.step_core.specs.Bags.{Includes}
 use Rattle.step_core.specs.declared.view.Chain.{Chain}
 use Rattle.step_core.specs.declared.view.View.{View}
 use Rattle.step_core.specs.World.{empty_view, view_at}
-use Rattle.step_core.specs.Law.{ChainRule, NamesNothing}
+use Rattle.step_core.specs.Law.{ChainRule}
 use Rattle.step_core.proofs.Bags.{times-append, times-from_length, times-head}
 use Rattle.step_core.proofs.Frame.{each_view}
-use Rattle.hand_over.specs.Passing.{with_hand, IsWithout, AreUnchained, passed}
+use Rattle.hand_over.specs.Passing.{with_hand, IsWithout, passed}
 
 -- a list in which nothing stands is empty
 none_left : (xs : List ℕ) → ((i : ℕ) → bag xs i ≡ 0) → length xs ≡ 0

@@ -1,2 +1,4 @@
 pub mod Hands
+pub mod Others
 pub mod Passing
+pub mod Rows

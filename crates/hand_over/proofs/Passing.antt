@@ -1,5 +1,5 @@
 -- Where elements pass from hand to hand, every law stays.
-use Rattle.std.proofs.Common.{◌≡◌, ◌≢◌, ℕ, ◌+◌, ◌<◌, ◌≤◌, List, ◌++◌, length, refl, sym, ap, ◌∙◌, subst, arith}
+use Rattle.std.proofs.Common.{◌≡◌, ◌≢◌, ℕ, ◌<◌, ◌≤◌, List, ◌++◌, length, refl, sym, ◌∙◌, subst, arith}
 use Rattle.std.specs.Prelude.{sum_by, IfSome}
 use Rattle.commons.specs.Bag.{bag}
 use Rattle.step_core.specs.Bags.{minus}
@@ -8,7 +8,7 @@ use Rattle.step_core.specs.World.{World, view_at, link_in, desk_at}
 use Rattle.step_core.specs.Law.{LookRule, ChainRule, Lawful, NamesNothing, fills, empties, left_in}
 use Rattle.step_core.specs.Kept.{IsWorld}
 use Rattle.step_core.proofs.Bags.{times-minus}
-use Rattle.hand_over.specs.Passing.{with_hand, IsWithout, AreUnchained, passed, PassesHand, HandsMayPass, PassingKeepsLaw, PassingKeepsWorld}
+use Rattle.hand_over.specs.Passing.{with_hand, IsWithout, AreUnchained, passed, HandsMayPass, PassingKeepsLaw, PassingKeepsWorld}
 use Rattle.hand_over.proofs.Hands.{empty_left, chain_left, chain_more, length_kept, hands_kept, sum_kept, each_passed, field_kept}
 
 -- the hand without these elements is what is left of it
