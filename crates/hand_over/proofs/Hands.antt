@@ -1,5 +1,5 @@
 -- What elements that pass leave as it was: sums over the views, and each view but for its hand.
-use Rattle.std.proofs.Common.{◌≡◌, ◌≢◌, ℕ, ◌+◌, ◌<◌, ◌≤◌, List, [], ◌∷◌, ◌++◌, Option, Some, None, length, set, refl, sym, ap, ◌∙◌, subst, arith, ⊎_elim, get_or-set_other, get_or-set_same}
+use Rattle.std.proofs.Common.{◌≡◌, ◌≢◌, ℕ, ◌+◌, ◌<◌, List, [], ◌∷◌, ◌++◌, Option, Some, None, length, set, refl, sym, ap, ◌∙◌, subst, arith, ⊎_elim, get_or-set_other, get_or-set_same}
 use Rattle.std.specs.Prelude.{sum_by, IfSome}
 use Rattle.std.proofs.lemmas.Bool.{cases_eq}
 use Rattle.std.proofs.lemmas.List.{length-set}
@@ -11,7 +11,7 @@ use Rattle.step_core.specs.World.{empty_view, view_at}
 use Rattle.step_core.specs.Law.{ChainRule}
 use Rattle.step_core.proofs.Bags.{times-append, times-from_length, times-head}
 use Rattle.step_core.proofs.Frame.{each_view}
-use Rattle.hand_over.specs.Passing.{with_hand, IsWithout, passed}
+use Rattle.hand_over.specs.Passing.{with_hand, IsWithout, HasBoth, passed}
 
 -- a list in which nothing stands is empty
 none_left : (xs : List ℕ) → ((i : ℕ) → bag xs i ≡ 0) → length xs ≡ 0
@@ -26,7 +26,7 @@ empty_left left hand xs taken empty =
 -- the chain of the hand that was passed from stands as it did
 pub chain_left : (link : ℕ → ℕ) (left hand xs : List ℕ) (chain : Option Chain) →
     IsWithout left hand xs →
-    IfSome chain (λ c. (i : ℕ) → bag c.items i + bag xs i ≤ bag hand i) →
+    IfSome chain (HasBoth hand xs) →
     IfSome chain (ChainRule link hand) → IfSome chain (ChainRule link left)
 chain_left link left hand xs None taken apart rule = tt
 chain_left link left hand xs (Some c) taken apart rule = record {
@@ -103,14 +103,27 @@ module _ (views : List View) (j k : ℕ) (xs left : List ℕ) (apart : j ≢ k)
       let b = same (view_at views k) (xs ++ (view_at views k).hand) in
       omega arith)
 
+  -- what both views with other hands have as before, every view has
+  pub read_kept : {A : Type 0} (f : View → A) →
+      f (with_hand (view_at views j) left) ≡ f (view_at views j) →
+      f (with_hand (view_at views k) (xs ++ (view_at views k).hand)) ≡ f (view_at views k) →
+      (m : ℕ) → f (view_at (passed views j k xs left) m) ≡ f (view_at views m)
+  unfolding given more
+  read_kept f gave got m =
+      one_kept f given k more still_there (got ∙ ap f (sym untouched)) m
+      ∙ one_kept f views j (with_hand (view_at views j) left) giver gave m
+
   -- what isn't the hand, of each view
   pub field_kept : {A : Type 0} (f : View → A) → ((v : View) (hand : List ℕ) → f (with_hand v hand) ≡ f v) →
       (m : ℕ) → f (view_at (passed views j k xs left) m) ≡ f (view_at views m)
-  unfolding given more
   field_kept f same m =
-      one_kept f given k more still_there
-      (same (view_at views k) (xs ++ (view_at views k).hand) ∙ ap f (sym untouched)) m
-      ∙ one_kept f views j (with_hand (view_at views j) left) giver (same (view_at views j) left) m
+      read_kept f (same (view_at views j) left)
+      (same (view_at views k) (xs ++ (view_at views k).hand)) m
+
+  -- the elements are in the hand that they passed to
+  pub got_hand : view_at (passed views j k xs left) k ≡ with_hand (view_at views k) (xs ++ (view_at views k).hand)
+  unfolding given more
+  got_hand = get_or-set_same given k more (empty_view 0) still_there
 
   -- a fact of each view, of which the two with other hands are to be shown
   pub each_passed : (P : View → Type 0) → P (with_hand (view_at views j) left) →

@@ -1,4 +1,5 @@
 pub mod Hands
 pub mod Others
 pub mod Passing
+pub mod Places
 pub mod Rows

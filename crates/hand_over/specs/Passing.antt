@@ -2,12 +2,15 @@
 use Rattle.std.specs.Prelude.{◌≡◌, ◌≢◌, ℕ, suc, ◌+◌, ◌<◌, ◌≤◌, List, ◌++◌, length, slice_set, Option, Some, None, IfSome, ⊤}
 use Rattle.commons.specs.Bag.{bag}
 use Rattle.step_core.specs.Bags.{Includes}
+use Rattle.step_core.specs.declared.view.Chain.{Chain}
 use Rattle.step_core.specs.declared.view.View.{View}
 use Rattle.step_core.specs.World.{World, view_at}
 use Rattle.step_core.specs.Law.{Lawful}
 use Rattle.step_core.specs.Kept.{IsWorld}
 use Rattle.step_core.specs.declared.step.Outcome.{Outcome}
 use Rattle.step_core.specs.declared.step.Step.{Step}
+use Rattle.step_core.specs.Table.{Table, Hand, Same, Where}
+use Rattle.step_core.specs.Shows.{Shows}
 use Rattle.step_core.specs.Steps.{play, event_of}
 
 -- a view with another hand
@@ -18,9 +21,13 @@ with_hand v hand = record v { hand = hand }
 abbrev pub IsWithout : List ℕ → List ℕ → List ℕ → Type 0
 IsWithout left hand xs = (i : ℕ) → bag left i + bag xs i ≡ bag hand i
 
--- none of the elements is of the view's chain: its hand has both
+-- the hand has both the chain's elements and these
+abbrev pub HasBoth : List ℕ → List ℕ → Chain → Type 0
+HasBoth hand xs chain = (i : ℕ) → bag chain.items i + bag xs i ≤ bag hand i
+
+-- none of the elements is of the view's chain
 abbrev pub AreUnchained : View → List ℕ → Type 0
-AreUnchained v xs = IfSome v.chain (λ c. (i : ℕ) → bag c.items i + bag xs i ≤ bag v.hand i)
+AreUnchained v xs = IfSome v.chain (HasBoth v.hand xs)
 
 -- the views once the one at j has these elements left in its hand, and the one at k has xs ahead
 abbrev pub passed : List View → ℕ → ℕ → List ℕ → List ℕ → List View
@@ -55,6 +62,14 @@ PassingKeepsLaw =
 abbrev pub PassingKeepsWorld : Type 0
 PassingKeepsWorld =
     (w u : World) (j k : ℕ) (xs : List ℕ) → j ≢ k → PassesHand w u j k xs → IsWorld w → IsWorld u
+
+-- In the table the elements have gone from the one worker's hand to the other's, and each other
+-- element is where it was.
+abbrev pub PassingMovesThem : Type 0
+PassingMovesThem =
+    (w u : World) (j k : ℕ) (xs : List ℕ) → j ≢ k → PassesHand w u j k xs →
+    (t r : Table) → Shows w t → Shows u r → (i : ℕ) → i < w.limits.population →
+    Where i xs ((t i ≡ Hand (suc j)) × (r i ≡ Hand (suc k))) (Same (t i) (r i))
 
 -- both are refused, or both are played with one outcome, and between the worlds afterwards the same
 -- elements have passed

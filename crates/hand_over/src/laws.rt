@@ -1,7 +1,7 @@
 //! What stays when elements pass from hand to hand. Each law is a function that does nothing, and
 //! its contract is the law.
 
-ghost use Rattle.hand_over.specs.Passing.{HandsMayPass, PassingKeepsLaw, PassingKeepsWorld, OthersDoTheSame};
+ghost use Rattle.hand_over.specs.Passing.{HandsMayPass, PassingKeepsLaw, PassingKeepsWorld, PassingMovesThem, OthersDoTheSame};
 
 /// Elements of a worker's hand, none of them of its chain, may pass to the hand of any other worker
 /// with a part: there is such a world, and it obeys every law of the machine where the one before
@@ -15,6 +15,7 @@ pub fn hands_may_pass()
     ensures some { HandsMayPass }
     ensures law { PassingKeepsLaw }
     ensures world { PassingKeepsWorld }
+    ensures places { PassingMovesThem }
 {}
 
 /// No third worker sees that elements passed: each step of it is played or refused as before, with

@@ -1,7 +1,12 @@
 use Rattle.hand_over.proofs.Passing.{hands_may_pass, passing_keeps_law, passing_keeps_world}
+use Rattle.hand_over.proofs.Places.{passing_moves_them}
 use Rattle.hand_over.proofs.laws.hands_may_pass.Goals as goal
 
--- there is a world, and it keeps the laws
+-- there is such a world, it keeps the laws, and its table is the one before but for the hands
 pub returns : goal.returns
-returns c = record
-    { some = hands_may_pass; law = passing_keeps_law; world = passing_keeps_world }
+returns c = record {
+  some = hands_may_pass;
+  law = passing_keeps_law;
+  world = passing_keeps_world;
+  places = passing_moves_them;
+}
