@@ -6,9 +6,10 @@ use Rattle.step_core.specs.Bags.{minus}
 use Rattle.step_core.specs.declared.view.View.{View}
 use Rattle.step_core.specs.World.{World, view_at, link_in, desk_at}
 use Rattle.step_core.specs.Law.{LookRule, ChainRule, Lawful, NamesNothing, fills, empties, left_in}
+use Rattle.step_core.specs.Headers.{HeaderLaw}
 use Rattle.step_core.specs.Kept.{IsWorld}
 use Rattle.step_core.proofs.Bags.{times-minus}
-use Rattle.hand_over.specs.Passing.{with_hand, IsWithout, AreUnchained, passed, HandsMayPass, PassingKeepsLaw, PassingKeepsWorld}
+use Rattle.hand_over.specs.Passing.{with_hand, IsWithout, AreUnchained, passed, HandsMayPass, PassingKeepsLaw, PassingKeepsWorld, PassingKeepsHeaders}
 use Rattle.hand_over.proofs.Hands.{empty_left, chain_left, chain_more, length_kept, hands_kept, sum_kept, each_passed, field_kept}
 
 -- the hand without these elements is what is left of it
@@ -132,11 +133,29 @@ module _ (w : World) (j k : ℕ) (xs left : List ℕ) (apart : j ≢ k) (giver :
     };
   }
 
+-- by what the second world is of the first
 pub passing_keeps_law : PassingKeepsLaw
 passing_keeps_law w u j k xs apart p some law =
     subst Lawful (sym p.after)
     (lawful_passed w j k xs p.left apart p.giver p.taker p.taken p.unchained some law)
 
+-- headers and holds aren't of a hand
+pub passing_keeps_headers : PassingKeepsHeaders
+passing_keeps_headers w u j k xs apart p law =
+    subst HeaderLaw (sym p.after) (record {
+      once = λ i.
+          let same =
+          sum_kept w.views j k xs p.left apart p.giver p.taker p.taken (λ v. bag v.headers i)
+          (λ v h. refl) in
+          let before = law.once i in
+          omega arith;
+      held =
+          each_passed w.views j k xs p.left apart p.giver p.taker p.taken
+          (λ v. (i : ℕ) → 0 < bag v.headers i → 0 < bag v.holds i)
+          (law.held j) (law.held k) law.held;
+    })
+
+-- a worker of a pool's world has a part
 pub passing_keeps_world : PassingKeepsWorld
 passing_keeps_world w u j k xs apart p is =
     let kept = λ (m : ℕ). field_kept w.views j k xs p.left apart p.giver p.taker p.taken (λ v. v.part) (λ v h. refl) m in

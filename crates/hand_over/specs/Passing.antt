@@ -6,6 +6,7 @@ use Rattle.step_core.specs.declared.view.Chain.{Chain}
 use Rattle.step_core.specs.declared.view.View.{View}
 use Rattle.step_core.specs.World.{World, view_at}
 use Rattle.step_core.specs.Law.{Lawful}
+use Rattle.step_core.specs.Headers.{HeaderLaw}
 use Rattle.step_core.specs.Kept.{IsWorld}
 use Rattle.step_core.specs.declared.step.Outcome.{Outcome}
 use Rattle.step_core.specs.declared.step.Step.{Step}
@@ -62,6 +63,12 @@ PassingKeepsLaw =
 abbrev pub PassingKeepsWorld : Type 0
 PassingKeepsWorld =
     (w u : World) (j k : ℕ) (xs : List ℕ) → j ≢ k → PassesHand w u j k xs → IsWorld w → IsWorld u
+
+-- and keeps the law of headers
+abbrev pub PassingKeepsHeaders : Type 0
+PassingKeepsHeaders =
+    (w u : World) (j k : ℕ) (xs : List ℕ) → j ≢ k → PassesHand w u j k xs → HeaderLaw w →
+    HeaderLaw u
 
 -- In the table the elements have gone from the one worker's hand to the other's, and each other
 -- element is where it was.

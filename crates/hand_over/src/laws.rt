@@ -1,11 +1,12 @@
 //! What stays when elements pass from hand to hand. Each law is a function that does nothing, and
 //! its contract is the law.
 
-ghost use Rattle.hand_over.specs.Passing.{HandsMayPass, PassingKeepsLaw, PassingKeepsWorld, PassingMovesThem, OthersDoTheSame};
+ghost use Rattle.hand_over.specs.Passing.{HandsMayPass, PassingKeepsLaw, PassingKeepsWorld, PassingKeepsHeaders, PassingMovesThem, OthersDoTheSame};
 
 /// Elements of a worker's hand, none of them of its chain, may pass to the hand of any other worker
-/// with a part: there is such a world, and it obeys every law of the machine where the one before
-/// does.
+/// with a part: there is such a world, with the same words, and it obeys each law of the machine
+/// that the one before obeys. In its table these elements have gone from hand to hand, and each
+/// other one is where it was.
 ///
 /// So the laws don't depend on whose hand an element is in. An mbuf that one lcore got may be put
 /// by another, as DPDK's programs do (rte_mempool.h, `rte_mempool_put_bulk`, DPDK 21.11): what a
@@ -15,6 +16,7 @@ pub fn hands_may_pass()
     ensures some { HandsMayPass }
     ensures law { PassingKeepsLaw }
     ensures world { PassingKeepsWorld }
+    ensures headers { PassingKeepsHeaders }
     ensures places { PassingMovesThem }
 {}
 

@@ -1,4 +1,4 @@
-use Rattle.hand_over.proofs.Passing.{hands_may_pass, passing_keeps_law, passing_keeps_world}
+use Rattle.hand_over.proofs.Passing.{hands_may_pass, passing_keeps_law, passing_keeps_world, passing_keeps_headers}
 use Rattle.hand_over.proofs.Places.{passing_moves_them}
 use Rattle.hand_over.proofs.laws.hands_may_pass.Goals as goal
 
@@ -8,5 +8,6 @@ returns c = record {
   some = hands_may_pass;
   law = passing_keeps_law;
   world = passing_keeps_world;
+  headers = passing_keeps_headers;
   places = passing_moves_them;
 }
