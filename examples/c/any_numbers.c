@@ -1,71 +1,489 @@
-/* any_numbers.c - two workers are called with any numbers: slots without a packet, desks that there
- * are not, lengths too great. Each call is done or refused by name, and at the end every element
- * can be had again.
+/* any_numbers.c - every call of the library with any numbers: slots without a packet, desks that
+ * there are not, lengths too great, elements that were never got, handles without a worker. What
+ * is answered is held against what must be so, and at the end of a pool every element can be had
+ * again. (A bare seat is put what it has got alone, as its contract asks.)
  *
- *     cc -O2 -I../../include any_numbers.c LIBRARY -o any_numbers && ./any_numbers */
+ *     make any_numbers && ./any_numbers [CALLS [THREADS [SEED]]]
+ *
+ * Pools are made one after the other, each for some thousand calls by each of THREADS threads. */
+#include <pthread.h>
+#include <sched.h>
 #include <stdio.h>
 #include <stdlib.h>
+#include <string.h>
 
 #include "mbufpool.h"
 
-#define POPULATION 200
-#define CALLS 2000000
+#define MOST_THREADS 4
+#define SLOTS 256
+#define MOST 512 /* elements of a pool, and numbers in a list */
+#define CALLS_OF_POOL 5000
+#define STATUSES 32
 
-static uint32_t any(void)
+/* A thread: its handles, its numbers, and what it knows of its own. */
+struct thread {
+	pthread_t id;
+	uint64_t state;
+	unsigned long calls, answers[STATUSES];
+	struct mbufpool_worker worker;
+	struct mbufpool_seat seat;
+	uint32_t hand[MOST], in_hand; /* what its seat has got */
+	unsigned char full[SLOTS];    /* which of its worker's slots have a packet */
+};
+
+static struct mbufpool_limits limits;
+static int taken[MOST]; /* which elements the threads' seats have */
+static unsigned long seed = 1;
+
+/* Ends the program unless this holds. */
+#define MUST(what) \
+	do { \
+		if (!(what)) { \
+			printf("line %d, seed %lu: not so: %s\n", __LINE__, seed, #what); \
+			exit(1); \
+		} \
+	} while (0)
+
+/* ---- numbers ---- */
+
+static uint64_t next_number(struct thread *t)
 {
-	static const uint32_t odd[] = { 255, 256, 257, 65535, 65536, UINT32_MAX };
-
-	return rand() % 8 ? (uint32_t)rand() % 40 : odd[rand() % 6];
+	t->state ^= t->state << 13;
+	t->state ^= t->state >> 7;
+	t->state ^= t->state << 17;
+	return t->state >> 11;
 }
 
-int main(void)
+static uint32_t below(struct thread *t, uint32_t n)
 {
-	struct mbufpool_limits limits = { POPULATION, 16, 2, 2, 2048, 65535, 64 };
-	struct mbufpool_worker worker[2] = { MBUFPOOL_NONE, MBUFPOOL_NONE };
-	struct mbufpool_packet p[256];
-	struct mbufpool_segment g;
-	unsigned long answers[32] = { 0 };
-	uint32_t n, taken = 0;
+	return (uint32_t)(next_number(t) % n);
+}
 
-	if (mbufpool_open(&limits, worker, 2) != 0)
-		return 1;
-	for (int i = 0; i < CALLS; i++) {
-		struct mbufpool_worker *w = &worker[rand() % 2];
-		uint32_t a = any(), b = any(), status;
+/* Mostly a small number, at times a great one or one at a limit. */
+static uint32_t any(struct thread *t)
+{
+	static const uint32_t odd[] = { 0, 1, 63, 64, 65, 127, 255, 256, 257, 511, 512, 513, 65535,
+		65536, 65537, 16777214, 16777215, 0x7fffffff, 0x80000000u, UINT32_MAX };
 
-		switch (rand() % 16) {
-		case 0: status = mbufpool_alloc(w, p); break;
-		case 1: status = mbufpool_alloc_bulk(w, p, a % 300 < 256 ? a % 300 : 256); break;
-		case 2: status = mbufpool_append(w, a, b, &n); break;
-		case 3: status = mbufpool_prepend(w, a, b, &n); break;
-		case 4: status = mbufpool_adj(w, a, b, &n); break;
-		case 5: status = mbufpool_trim(w, a, b, &n); break;
-		case 6: status = mbufpool_chain(w, a, b); break;
-		case 7: status = mbufpool_attach(w, a, b); break;
-		case 8: status = mbufpool_detach(w, a); break;
-		case 9: status = mbufpool_clone(w, a, p); break;
-		case 10: status = mbufpool_offer(w, a, b); break;
-		case 11: status = mbufpool_take(w, a, &n); break;
-		case 12: status = mbufpool_segment(w, a, b, &g); break;
-		case 13: status = mbufpool_flush(w); break;
-		default: status = mbufpool_free(w, a); break;
+	switch (below(t, 8)) {
+	case 0: return odd[below(t, sizeof(odd) / sizeof(odd[0]))];
+	case 1: return below(t, SLOTS);
+	case 2: return (uint32_t)next_number(t);
+	default: return below(t, 24);
+	}
+}
+
+static uint32_t told(struct thread *t, uint32_t status)
+{
+	MUST(status < STATUSES);
+	t->calls++;
+	t->answers[status]++;
+	return status;
+}
+
+/* ---- packets ---- */
+
+static int is_full(const struct thread *t, uint32_t slot)
+{
+	return slot < SLOTS && t->full[slot];
+}
+
+static void has_new(struct thread *t, const struct mbufpool_packet *p)
+{
+	MUST(p->slot < SLOTS && !t->full[p->slot]);
+	MUST(p->element < limits.population);
+	t->full[p->slot] = 1;
+}
+
+/* A packet's segments add up to it, and lie in their buffers. */
+static void look_at(struct thread *t, uint32_t slot)
+{
+	uint32_t length = 0, segments = 0, references = 0, sum = 0, i;
+	struct mbufpool_segment s;
+
+	MUST(mbufpool_pkt_len(&t->worker, slot, &length) == 0);
+	MUST(mbufpool_nb_segs(&t->worker, slot, &segments) == 0);
+	MUST(mbufpool_count(&t->worker, slot, &references) == 0);
+	MUST(segments >= 1 && segments <= 32 && references >= 1 && references <= limits.ref_limit);
+	for (i = 0; i < segments; i++) {
+		MUST(mbufpool_segment(&t->worker, slot, i, &s) == 0);
+		MUST(s.element < limits.population && s.buffer < limits.population);
+		MUST((uint32_t)s.off + s.len <= s.buf && s.buf <= limits.buf);
+		sum += s.len;
+	}
+	MUST(mbufpool_segment(&t->worker, slot, segments, &s) == MBUFPOOL_TOO_SHORT);
+	MUST(sum == length);
+}
+
+/* One call of a worker. What names a slot without a packet is refused, and says so. */
+static void call_worker(struct thread *t)
+{
+	struct mbufpool_worker *w = &t->worker;
+	uint32_t a = any(t), b = any(t), status, n = 0, i, had = 0, now = 0;
+	uint16_t length = (uint16_t)(b % 7 ? b % 200 : b);
+	struct mbufpool_packet p[SLOTS + 2];
+	struct mbufpool_segment s;
+
+	switch (below(t, 20)) {
+	case 0:
+	case 1:
+		status = told(t, mbufpool_alloc(w, p));
+		if (status == 0)
+			has_new(t, p);
+		return;
+	case 2:
+		n = a % (below(t, 4) ? 12 : SLOTS + 3);
+		status = told(t, mbufpool_alloc_bulk(w, p, n));
+		for (i = 0; status == 0 && i < n; i++)
+			has_new(t, &p[i]);
+		return;
+	case 3:
+		status = told(t, mbufpool_chain(w, a, b));
+		MUST(status != 0 || (is_full(t, a) && is_full(t, b) && a != b));
+		if (status == 0)
+			t->full[b] = 0;
+		return;
+	case 4:
+		status = told(t, mbufpool_attach(w, a, b));
+		MUST(status != 0 || (is_full(t, a) && is_full(t, b) && a != b));
+		return;
+	case 5:
+		status = told(t, mbufpool_clone(w, a, p));
+		MUST((status == MBUFPOOL_NO_SUCH_PACKET) == !is_full(t, a));
+		if (status == 0)
+			has_new(t, p);
+		return;
+	case 6:
+		status = told(t, mbufpool_offer(w, a, b));
+		MUST(status != 0 || (is_full(t, a) && b < limits.desks));
+		if (status == 0)
+			t->full[a] = 0;
+		return;
+	case 7:
+		status = told(t, mbufpool_take(w, a, &n));
+		MUST((status == MBUFPOOL_NO_SUCH_DESK) == (a >= limits.desks));
+		if (status != 0)
+			return;
+		MUST(n < SLOTS && !t->full[n]);
+		t->full[n] = 1;
+		look_at(t, n);
+		return;
+	case 8:
+		status = told(t, mbufpool_flush(w));
+		MUST(status == 0 || status == MBUFPOOL_CONTENDED);
+		return;
+	case 9:
+		status = told(t, mbufpool_segment(w, a, b, &s));
+		MUST((status == MBUFPOOL_NO_SUCH_PACKET) == !is_full(t, a));
+		return;
+	case 10: status = mbufpool_detach(w, a); break;
+	case 11: status = mbufpool_count(w, a, &n); break;
+	case 12: status = mbufpool_nb_segs(w, a, &n); break;
+	case 13:
+	case 14:
+	case 15:
+	case 16:
+		if (is_full(t, a))
+			MUST(mbufpool_pkt_len(w, a, &had) == 0);
+		switch (below(t, 4)) {
+		case 0: status = mbufpool_append(w, a, length, &now), had += length; break;
+		case 1: status = mbufpool_prepend(w, a, length, &now), had += length; break;
+		case 2: status = mbufpool_adj(w, a, length, &now), had -= length; break;
+		default: status = mbufpool_trim(w, a, length, &now), had -= length; break;
 		}
-		answers[status]++;
+		MUST(status != 0 || now == had);
+		break;
+	default:
+		status = mbufpool_free(w, a);
+		MUST((status == MBUFPOOL_NO_SUCH_PACKET) == !is_full(t, a));
+		if (status == 0)
+			t->full[a] = 0;
+		told(t, status);
+		return;
 	}
-	for (int w = 0; w < 2; w++) {
-		while (mbufpool_take(&worker[w], 0, &n) == 0 || mbufpool_take(&worker[w], 1, &n) == 0)
-			mbufpool_free(&worker[w], n);
-		for (uint32_t slot = 0; slot < 256; slot++)
-			mbufpool_free(&worker[w], slot);
-		mbufpool_flush(&worker[w]);
+	told(t, status);
+	MUST((status == MBUFPOOL_NO_SUCH_PACKET) == !is_full(t, a));
+	if (is_full(t, a))
+		look_at(t, a);
+}
+
+/* Takes what lies on desks, frees all packets, and flushes. */
+static void clear_worker(struct thread *t)
+{
+	uint32_t desk, slot, status;
+
+	for (slot = 0; slot < SLOTS; slot++)
+		MUST((mbufpool_free(&t->worker, slot) == 0) == t->full[slot]);
+	for (desk = 0; desk < limits.desks; desk++) {
+		while ((status = mbufpool_take(&t->worker, desk, &slot)) == 0)
+			MUST(mbufpool_free(&t->worker, slot) == 0);
+		MUST(status == MBUFPOOL_DESK_EMPTY || status == MBUFPOOL_CONTENDED);
 	}
-	while (mbufpool_alloc(&worker[0], p) == 0)
-		taken++;
-	for (int i = 0; i < 32; i++)
-		if (answers[i])
-			printf("status %d: %lu\n", i, answers[i]);
-	printf("%u of %d elements can be had again\n", taken, POPULATION);
-	mbufpool_end(&worker[0]);
-	mbufpool_end(&worker[1]);
-	return taken != POPULATION;
+	MUST(mbufpool_flush(&t->worker) == 0);
+	memset(t->full, 0, sizeof(t->full));
+}
+
+/* ---- seats ---- */
+
+static void got(struct thread *t, const uint32_t *list, uint32_t n)
+{
+	uint32_t i;
+
+	for (i = 0; i < n; i++) {
+		MUST(list[i] < limits.population);
+		MUST(__atomic_exchange_n(&taken[list[i]], 1, __ATOMIC_SEQ_CST) == 0);
+		t->hand[t->in_hand++] = list[i];
+	}
+}
+
+/* One call of a bare seat: it is put elements of its hand, in any order. */
+static void call_seat(struct thread *t)
+{
+	uint32_t list[MOST], n = any(t) % (below(t, 4) ? 9 : MOST - t->in_hand + 1), i, k, status;
+
+	if (below(t, 2)) {
+		n = n < MOST - t->in_hand ? n : MOST - t->in_hand;
+		status = told(t, mbufpool_seat_get(&t->seat, list, n));
+		MUST(status == 0 || status == MBUFPOOL_NO_ENTRIES || status == MBUFPOOL_CONTENDED);
+		if (status == 0)
+			got(t, list, n);
+		return;
+	}
+	n = n < t->in_hand ? n : t->in_hand;
+	for (i = 0; i < n; i++) {
+		k = below(t, t->in_hand);
+		list[i] = t->hand[k];
+		t->hand[k] = t->hand[--t->in_hand];
+		MUST(__atomic_exchange_n(&taken[list[i]], 0, __ATOMIC_SEQ_CST) == 1);
+	}
+	status = told(t, mbufpool_seat_put(&t->seat, list, n));
+	MUST(status == 0 || status == MBUFPOOL_CONTENDED);
+	if (status != 0)
+		got(t, list, n);
+	MUST(mbufpool_seat_count(&t->seat) <= limits.population);
+}
+
+/* ---- a checked seat ---- */
+
+/* Some calls of a checked seat of a pool of its own: a put is done where it must be. */
+static void call_checked(struct thread *t)
+{
+	struct mbufpool_checked seat = MBUFPOOL_NONE;
+	uint32_t population = 1 + below(t, 40), list[MOST], n, i, left = population, status;
+	unsigned char has[64] = { 0 }, named[64];
+	int calls, is_right;
+
+	MUST(mbufpool_checked_open(population, 1 + any(t) % 1000000, &seat) == 0);
+	for (calls = 0; calls < 50; calls++) {
+		n = below(t, 6);
+		if (below(t, 2)) {
+			status = told(t, mbufpool_checked_get(&seat, list, n));
+			MUST(status == (n <= left ? 0 : MBUFPOOL_NO_ENTRIES));
+			for (i = 0; status == 0 && i < n; i++) {
+				MUST(list[i] < population && !has[list[i]]);
+				has[list[i]] = 1;
+				left--;
+			}
+			continue;
+		}
+		memset(named, 0, sizeof(named));
+		for (i = 0, is_right = 1; i < n; i++) {
+			list[i] = below(t, 10) ? below(t, population) : any(t);
+			is_right = is_right && list[i] < population && has[list[i]] &&
+				!named[list[i]];
+			named[list[i] < population ? list[i] : 63] = 1;
+		}
+		status = told(t, mbufpool_checked_put(&seat, list, n));
+		MUST(status == (is_right ? 0 : MBUFPOOL_NOT_IN_HAND));
+		for (i = 0; status == 0 && i < n; i++) {
+			has[list[i]] = 0;
+			left++;
+		}
+		MUST(mbufpool_checked_count(&seat) == left);
+	}
+	mbufpool_checked_free(&seat);
+	MUST(seat.at == NULL);
+	MUST(mbufpool_checked_get(&seat, list, 1) == MBUFPOOL_STRANGER);
+	MUST(mbufpool_checked_put(&seat, list, 1) == MBUFPOOL_STRANGER);
+}
+
+/* ---- handles without an owner, and pools that there can't be ---- */
+
+static void call_none(struct thread *t)
+{
+	struct mbufpool_worker none = MBUFPOOL_NONE;
+	struct mbufpool_seat no_seat = MBUFPOOL_NONE, other = MBUFPOOL_NONE;
+	struct mbufpool_packet p[4];
+	uint32_t a = any(t), b = any(t), n = 77;
+
+	MUST(mbufpool_alloc(&none, p) == MBUFPOOL_STRANGER);
+	MUST(mbufpool_alloc_bulk(&none, p, 4) == MBUFPOOL_STRANGER);
+	MUST(mbufpool_free(&none, a) == MBUFPOOL_STRANGER);
+	MUST(mbufpool_append(&none, a, 1, &n) == MBUFPOOL_STRANGER && n == 77);
+	MUST(mbufpool_chain(&none, a, b) == MBUFPOOL_STRANGER);
+	MUST(mbufpool_offer(&none, a, b) == MBUFPOOL_STRANGER);
+	MUST(mbufpool_take(&none, a, &n) == MBUFPOOL_STRANGER && n == 77);
+	MUST(mbufpool_flush(&none) == MBUFPOOL_STRANGER);
+	mbufpool_end(&none);
+	MUST(mbufpool_seat_split(&no_seat, &other) == MBUFPOOL_STRANGER && other.at == NULL);
+	MUST(mbufpool_seat_get(&no_seat, &n, 1) == MBUFPOOL_STRANGER && n == 77);
+	MUST(mbufpool_seat_put(&no_seat, &n, 1) == MBUFPOOL_STRANGER);
+	mbufpool_seat_free(&no_seat);
+	t->calls += 12;
+}
+
+/* Whether there can be a pool of these limits, by the header. */
+static int is_pool(const struct mbufpool_limits *l)
+{
+	return l->population >= 1 && l->population <= 16777214 && l->cache <= 512 &&
+		l->cache * 3 / 2 <= l->population && l->workers >= 1 && l->workers <= 64 &&
+		l->desks <= 64 && l->buf <= 65535 && l->ref_limit >= 1 && l->ref_limit <= 65535 &&
+		l->tries >= 1 && l->tries <= 1000000;
+}
+
+static void call_open(struct thread *t)
+{
+	struct mbufpool_limits l = { 1 + below(t, MOST), below(t, 64), 1 + below(t, 4), below(t, 4),
+		2048, 10, 10 };
+	struct mbufpool_worker w[4] = { MBUFPOOL_NONE };
+	struct mbufpool_seat seat = MBUFPOOL_NONE, other = MBUFPOOL_NONE;
+	uint32_t n, status, i;
+
+	/* (a pool of millions takes its time) */
+	switch (below(t, 8)) {
+	case 0: n = any(t), l.population = n < 100000 || n > 16777214 ? n : 1; break;
+	case 1: l.cache = any(t); break;
+	case 2: l.workers = any(t); break;
+	case 3: l.desks = any(t); break;
+	case 4: l.buf = any(t); break;
+	case 5: l.ref_limit = any(t); break;
+	case 6: l.tries = any(t); break;
+	default: break;
+	}
+	n = below(t, 8) ? l.workers & 3 : below(t, 4);
+	status = told(t, mbufpool_open(&l, w, n));
+	MUST(status == (is_pool(&l) && n == l.workers ? 0 : MBUFPOOL_BAD_POOL));
+	for (i = 0; i < 4; i++) {
+		MUST((w[i].at != NULL) == (status == 0 && i < n));
+		if (below(t, 2))
+			mbufpool_end(&w[i]);
+	}
+	/* Workers that are left are ended by an open over them, done or refused. */
+	l.workers = 5;
+	MUST(mbufpool_open(&l, w, 4) == MBUFPOOL_BAD_POOL);
+	for (i = 0; i < 4; i++)
+		MUST(w[i].at == NULL);
+	status = told(t, mbufpool_seat_open(l.population, l.desks, l.tries, &seat));
+	MUST((status == 0) ==
+		(l.population >= 1 && l.population <= 16777214 && l.desks >= 1 && l.desks <= 64 &&
+			l.tries >= 1 && l.tries <= 1000000));
+	if (status == 0) {
+		for (i = 1; (status = mbufpool_seat_split(&seat, &other)) == 0; i++)
+			;
+		MUST(status == MBUFPOOL_STRANGER && i == l.desks);
+		MUST(mbufpool_seat_count(&seat) == l.population);
+	}
+	mbufpool_seat_free(&seat);
+	mbufpool_seat_free(&other);
+}
+
+/* ---- a pool, and its end ---- */
+
+static void *call_all(void *arg)
+{
+	struct thread *t = (struct thread *)arg;
+	unsigned long until = t->calls + CALLS_OF_POOL;
+
+	while (t->calls < until) {
+		switch (below(t, 1000)) {
+		case 0: call_checked(t); break;
+		case 1: call_open(t); break;
+		case 2: call_none(t); break;
+		default: below(t, 4) ? call_worker(t) : call_seat(t); break;
+		}
+	}
+	return NULL;
+}
+
+/* One pool of packets and one of bare seats, which all threads call, and after which nothing is
+ * missing. */
+static void one_pool(struct thread *t, uint32_t threads)
+{
+	struct mbufpool_worker w[MOST_THREADS] = { MBUFPOOL_NONE };
+	struct mbufpool_packet p;
+	uint32_t i, found = 0, slot;
+
+	limits.population = 1 + below(t, below(t, 4) ? 60 : MOST / 2);
+	limits.cache = below(t, limits.population * 2 / 3 + 1);
+	limits.workers = threads;
+	limits.desks = below(t, 8);
+	limits.buf = below(t, 4) ? 2048 : below(t, 65536);
+	limits.ref_limit = below(t, 4) ? 65535 : 1 + below(t, 4);
+	limits.tries = threads == 1 ? 1 + below(t, 10) : 1000000;
+	MUST(is_pool(&limits));
+	MUST(mbufpool_open(&limits, w, threads) == 0);
+	MUST(mbufpool_seat_open(limits.population, threads, limits.tries, &t[0].seat) == 0);
+	for (i = 0; i < threads; i++) {
+		t[i].worker = w[i];
+		MUST(i == 0 || mbufpool_seat_split(&t[0].seat, &t[i].seat) == 0);
+		MUST(i == 0 || pthread_create(&t[i].id, NULL, call_all, &t[i]) == 0);
+	}
+	call_all(&t[0]);
+	for (i = 1; i < threads; i++)
+		pthread_join(t[i].id, NULL);
+	for (i = 0; i < threads; i++)
+		clear_worker(&t[i]);
+	for (i = 0; i < threads; i++)
+		found += t[i].in_hand;
+	MUST(mbufpool_seat_count(&t[0].seat) + found == limits.population);
+	for (i = 0; i < threads; i++) {
+		MUST(mbufpool_seat_put(&t[i].seat, t[i].hand, t[i].in_hand) == 0);
+		t[i].in_hand = 0;
+	}
+	memset(taken, 0, sizeof(taken));
+	MUST(mbufpool_seat_get(&t[0].seat, t[0].hand, limits.population) == 0);
+	got(&t[0], t[0].hand, limits.population);
+	memset(taken, 0, sizeof(taken));
+	t[0].in_hand = 0;
+	for (found = 0; mbufpool_alloc(&t[0].worker, &p) == 0; found++)
+		;
+	MUST(found == limits.population);
+	for (slot = 0; below(t, 2) && slot < SLOTS; slot++)
+		mbufpool_free(&t[0].worker, slot);
+	for (i = 0; i < threads; i++) {
+		mbufpool_end(&t[i].worker);
+		mbufpool_seat_free(&t[i].seat);
+		MUST(t[i].worker.at == NULL && t[i].seat.at == NULL);
+	}
+}
+
+int main(int argc, char **argv)
+{
+	static struct thread t[MOST_THREADS];
+	unsigned long wanted = argc > 1 ? strtoul(argv[1], NULL, 10) : 1000000;
+	unsigned long threads = argc > 2 ? strtoul(argv[2], NULL, 10) : 1, calls = 0, pools = 0,
+		      sum, i, k;
+
+	if (threads < 1 || threads > MOST_THREADS) {
+		fprintf(stderr, "%s: 1 to %d threads\n", argv[0], MOST_THREADS);
+		return 2;
+	}
+	seed = argc > 3 ? strtoul(argv[3], NULL, 10) : 1;
+	for (i = 0; i < threads; i++)
+		t[i].state = (seed * MOST_THREADS + i + 1) * 0x9e3779b97f4a7c15u;
+	for (; calls < wanted; pools++) {
+		one_pool(t, (uint32_t)threads);
+		for (calls = 0, i = 0; i < threads; i++)
+			calls += t[i].calls;
+	}
+	printf("%lu calls by %lu threads in %lu pools, seed %lu; by their answers", calls, threads,
+		pools, seed);
+	for (k = 0; k < STATUSES; k++) {
+		for (sum = 0, i = 0; i < threads; i++)
+			sum += t[i].answers[k];
+		if (sum)
+			printf("%s %lu: %lu", k ? "," : "", k, sum);
+	}
+	printf("\nafter each pool all its elements could be had again\n");
+	return 0;
 }

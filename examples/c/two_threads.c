@@ -1,11 +1,9 @@
 /* two_threads.c - two threads get from one pool and put back, without a lock, each by a seat
  * of its own.
  *
- *     cc -O2 -I../../include two_threads.c LIBRARY -pthread -o two_threads && ./two_threads */
+ *     make two_threads && ./two_threads */
 #include <pthread.h>
-#include <stdatomic.h>
 #include <stdio.h>
-#include <string.h>
 
 #include "mbufpool.h"
 
@@ -13,45 +11,53 @@
 #define BULK 8
 #define ROUNDS 200000
 
-static atomic_int holder[POPULATION];	/* how many threads have the element: never more than one */
-static atomic_int twice;
+struct turn {
+	struct mbufpool_seat seat;
+	unsigned long met;
+};
+
+static int holder[POPULATION]; /* how many threads have the element: never more than one */
+static int twice;
 
 static void *work(void *arg)
 {
-	struct mbufpool_seat *seat = arg;
+	struct turn *turn = (struct turn *)arg;
 	uint32_t list[BULK];
-	unsigned long met = 0;
+	int round, k;
 
-	for (int round = 0; round < ROUNDS; round++) {
-		if (mbufpool_seat_get(seat, list, BULK) != 0)
+	for (round = 0; round < ROUNDS; round++) {
+		if (mbufpool_seat_get(&turn->seat, list, BULK) != 0)
 			continue;
-		for (int k = 0; k < BULK; k++)
-			if (atomic_fetch_add(&holder[list[k]], 1) != 0)
-				twice++;
-		for (int k = 0; k < BULK; k++)
-			atomic_fetch_sub(&holder[list[k]], 1);
-		while (mbufpool_seat_put(seat, list, BULK) == MBUFPOOL_CONTENDED)
+		for (k = 0; k < BULK; k++)
+			if (__atomic_fetch_add(&holder[list[k]], 1, __ATOMIC_SEQ_CST) != 0)
+				__atomic_fetch_add(&twice, 1, __ATOMIC_SEQ_CST);
+		for (k = 0; k < BULK; k++)
+			__atomic_fetch_sub(&holder[list[k]], 1, __ATOMIC_SEQ_CST);
+		while (mbufpool_seat_put(&turn->seat, list, BULK) == MBUFPOOL_CONTENDED)
 			;
-		met++;
+		turn->met++;
 	}
-	return (void *)met;
+	return NULL;
 }
 
 int main(void)
 {
-	struct mbufpool_seat first = MBUFPOOL_NONE, second = MBUFPOOL_NONE;
+	struct turn first = { MBUFPOOL_NONE, 0 }, second = { MBUFPOOL_NONE, 0 };
+	uint32_t common, refused, element;
 	pthread_t thread;
-	void *a, *b;
 
-	if (mbufpool_seat_open(POPULATION, 2, 64, &first) || mbufpool_seat_split(&first, &second))
+	if (mbufpool_seat_open(POPULATION, 2, 64, &first.seat) != 0 ||
+		mbufpool_seat_split(&first.seat, &second.seat) != 0 ||
+		pthread_create(&thread, NULL, work, &second) != 0)
 		return 1;
-	pthread_create(&thread, NULL, work, &second);
-	a = work(&first);
-	pthread_join(thread, &b);
-	printf("met %lu and %lu, given twice %d, common %u of %u\n", (unsigned long)a, (unsigned long)b, twice,
-		mbufpool_seat_count(&first), POPULATION);
-	mbufpool_seat_free(&second);
-	mbufpool_seat_free(&first);
-	printf("after its end: refused %u\n", mbufpool_seat_get(&first, &(uint32_t){0}, 1));
-	return 0;
+	work(&first);
+	pthread_join(thread, NULL);
+	common = mbufpool_seat_count(&first.seat);
+	printf("met %lu and %lu times, given twice %d, on the stack %u of %u\n", first.met,
+		second.met, twice, (unsigned)common, POPULATION);
+	mbufpool_seat_free(&second.seat);
+	mbufpool_seat_free(&first.seat);
+	refused = mbufpool_seat_get(&first.seat, &element, 1);
+	printf("after its end a seat is refused, %u\n", (unsigned)refused);
+	return twice != 0 || common != POPULATION || refused != MBUFPOOL_STRANGER;
 }
