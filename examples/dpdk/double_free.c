@@ -1,15 +1,15 @@
 /* double_free.c - an mbuf is freed twice; are two allocs then given the same one?
  *
- *     cc -O2 $(pkg-config --cflags libdpdk) double_free.c -o double_free \
- *         $(pkg-config --libs libdpdk)
- *     ./double_free OPS --no-huge -m 64 --no-pci -d /path/to/librte_mempool_mbufpool.so */
+ *     make double_free
+ *     ./double_free OPS --no-huge -m 64 --no-pci -d $PWD/librte_mempool_mbufpool.so */
 #include <stdio.h>
 
 #include <rte_eal.h>
 #include <rte_errno.h>
 #include <rte_mbuf.h>
 
-int main(int argc, char **argv)
+int
+main(int argc, char **argv)
 {
 	struct rte_mempool *mp;
 	struct rte_mbuf *kept, *m, *a, *b;

@@ -11,13 +11,18 @@
  *
  * "mbufpool_checked": one checked seat under a spinlock, for all threads. Nothing is asked of the
  * application: an object that is put twice, or that the pool hasn't given, is refused and logged,
- * and nothing is damaged.
+ * and nothing is damaged. What lies in a mempool's cache hasn't come here yet, so this holds of
+ * what the cache passes on, and of each object where there is no cache.
  *
- * Built as a shared object, it is loaded by EAL's -d (from a folder that others can't write). The
- * pool knows its elements by number: an object's number is found by its place in its memory chunk,
- * and a number's object in a table.
+ * Built as a shared object, it is loaded by EAL's -d (from a folder that others can't write).
  *
- * Limits: at most 16,777,214 objects, one process, and 63 lcores with a seat of their own. */
+ * The pool knows its elements by number. An object's number is its place: how many objects would
+ * fit between the first one of its chunk of memory and it, which a multiplication tells, on from the
+ * numbers of earlier chunks. Where objects keep off the ends of pages, some places have none: such
+ * numbers are got at first as all are, and never put.
+ *
+ * Limits: at most 16,777,214 places, 64 chunks, one process, and 63 lcores with a seat of their
+ * own. */
 #include <errno.h>
 #include <stdlib.h>
 #include <string.h>
@@ -34,6 +39,7 @@
 
 #define MAX_SEATS 64
 #define MAX_CHUNKS 64
+#define MAX_PLACES 16777214
 #define TRIES 1000000
 #define BURST 512
 #define NO_NUMBER UINT32_MAX
@@ -42,25 +48,40 @@ struct seat {
 	struct mbufpool_seat seat;
 } __rte_cache_aligned;
 
-/* A memory chunk of the mempool, cut into places of the size of an object with its header and
- * trailer. */
+/* A chunk of the mempool's memory, from its first object to behind its last. */
 struct chunk {
-	uintptr_t start, end;
-	uint32_t *number_at;	/* for each place the number of its object, or NO_NUMBER */
+	uintptr_t first, bytes;
+	uint32_t number; /* its first object's */
 };
 
 struct pool {
-	struct mbufpool_checked checked;	/* the only seat of a checked pool, else none */
-	struct seat shared;			/* for the first filling, and threads without a seat of their own */
+	struct mbufpool_checked checked; /* the only seat of a checked pool, else none */
+	struct seat shared; /* for the first filling, and threads without a seat of their own */
 	rte_spinlock_t lock;
-	struct mbufpool_seat *own[RTE_MAX_LCORE];	/* each lcore's, or NULL */
+	struct mbufpool_seat *own[RTE_MAX_LCORE]; /* each lcore's, or NULL */
 	struct seat seats[MAX_SEATS];
-	uint32_t population, known, stride;
-	uint64_t inverse;			/* 2^64 / stride, rounded up */
+	uint32_t size, known; /* how many objects there are to be, and how many there are */
+	uint32_t places;      /* numbers are below it */
+	uint32_t next;	      /* the number behind the last object's */
+	uint64_t inverse;     /* 2^64 / stride, rounded up: a stride is an object with its header
+				 and trailer */
+	uint32_t stride;
 	uint32_t nb_chunks;
 	struct chunk chunks[MAX_CHUNKS];
-	void **object_of;			/* for each number its object */
+	void **objects; /* for each place its object, or NULL */
 };
+
+/* At most this many places are needed: one for each object, and one for each page, as what is left
+ * at the end of a page is smaller than an object; the same at the beginning of a chunk. */
+static uint64_t
+places_of(struct rte_mempool *mp, uint32_t stride)
+{
+	size_t page;
+
+	if (rte_mempool_get_page_size(mp, &page) != 0 || page < stride)
+		page = SIZE_MAX;
+	return mp->size + mp->size / (page / stride) + 2 * MAX_CHUNKS;
+}
 
 static int
 pool_alloc(struct rte_mempool *mp, int is_checked)
@@ -72,28 +93,24 @@ pool_alloc(struct rte_mempool *mp, int is_checked)
 	p = rte_zmalloc_socket("mbufpool", sizeof(*p), RTE_CACHE_LINE_SIZE, mp->socket_id);
 	if (p == NULL)
 		return -ENOMEM;
-	p->population = mp->size;
+	p->size = mp->size;
 	p->stride = mp->header_size + mp->elt_size + mp->trailer_size;
 	p->inverse = UINT64_MAX / p->stride + 1;
-	rte_spinlock_init(&p->lock);
-	p->object_of = calloc(mp->size, sizeof(*p->object_of));
-	all = calloc(mp->size, sizeof(*all));
-	if (p->object_of == NULL || all == NULL)
-		goto no_memory;
-	n = is_checked ? 1 : RTE_MIN(rte_lcore_count() + 1, (unsigned int)MAX_SEATS);
-	switch (is_checked ? mbufpool_checked_open(mp->size, TRIES, &p->checked) :
-			mbufpool_seat_open(mp->size, n, TRIES, &p->shared.seat)) {
-	case 0:
-		break;
-	case MBUFPOOL_BAD_POOL:
-		free(all);
-		free(p->object_of);
+	if (places_of(mp, p->stride) > MAX_PLACES) {
 		rte_free(p);
 		return -EINVAL;
-	default:
-		goto no_memory;
 	}
-	RTE_LCORE_FOREACH(lcore) {
+	p->places = places_of(mp, p->stride);
+	rte_spinlock_init(&p->lock);
+	p->objects = calloc(p->places + 1, sizeof(*p->objects));
+	all = calloc(p->places, sizeof(*all));
+	if (p->objects == NULL || all == NULL)
+		goto no_memory;
+	n = is_checked ? 1 : RTE_MIN(rte_lcore_count() + 1, (unsigned int)MAX_SEATS);
+	if ((is_checked ? mbufpool_checked_open(p->places, TRIES, &p->checked)
+			: mbufpool_seat_open(p->places, n, TRIES, &p->shared.seat)) != 0)
+		goto no_memory;
+	RTE_LCORE_FOREACH (lcore) {
 		if (seats == n)
 			break;
 		if (mbufpool_seat_split(&p->shared.seat, &p->seats[seats].seat) != 0)
@@ -101,8 +118,8 @@ pool_alloc(struct rte_mempool *mp, int is_checked)
 		p->own[lcore] = &p->seats[seats++].seat;
 	}
 	/* The pool begins full, a mempool empty: its objects are put in one by one. */
-	if ((is_checked ? mbufpool_checked_get(&p->checked, all, mp->size) :
-			mbufpool_seat_get(&p->shared.seat, all, mp->size)) != 0)
+	if ((is_checked ? mbufpool_checked_get(&p->checked, all, p->places)
+			: mbufpool_seat_get(&p->shared.seat, all, p->places)) != 0)
 		goto no_memory;
 	free(all);
 	mp->pool_data = p;
@@ -114,7 +131,7 @@ no_memory:
 	mbufpool_seat_free(&p->shared.seat);
 	mbufpool_checked_free(&p->checked);
 	free(all);
-	free(p->object_of);
+	free(p->objects);
 	rte_free(p);
 	return -ENOMEM;
 }
@@ -141,73 +158,81 @@ handler_free(struct rte_mempool *mp)
 		mbufpool_seat_free(&p->seats[i].seat);
 	mbufpool_seat_free(&p->shared.seat);
 	mbufpool_checked_free(&p->checked);
-	for (i = 0; i < p->nb_chunks; i++)
-		free(p->chunks[i].number_at);
-	free(p->object_of);
+	free(p->objects);
 	rte_free(p);
 	mp->pool_data = NULL;
 }
 
+/* How many strides fit. Two objects of a chunk, which are a stride apart at least, differ in it. */
 static inline uint32_t
-place_in(const struct pool *p, const struct chunk *c, uintptr_t object)
+strides(const struct pool *p, uintptr_t bytes)
 {
-	return ((unsigned __int128)(object - c->start) * p->inverse) >> 64;
+	return ((unsigned __int128)bytes * p->inverse) >> 64;
 }
 
-static inline struct chunk *
-chunk_of(struct pool *p, uintptr_t at)
+static uint32_t
+number_by_chunks(const struct pool *p, uintptr_t object)
 {
-	uint32_t i;
+	const struct chunk *c;
 
-	for (i = 0; i < p->nb_chunks; i++)
-		if (likely(at >= p->chunks[i].start && at < p->chunks[i].end))
-			return &p->chunks[i];
-	return NULL;
+	for (c = p->chunks; c < p->chunks + p->nb_chunks; c++)
+		if (object - c->first < c->bytes)
+			return c->number + strides(p, object - c->first);
+	return NO_NUMBER;
 }
 
+/* An object's number, or NO_NUMBER where it is in no chunk. The first chunk's begin at 0. */
 static inline uint32_t
-number_of(struct pool *p, const void *object)
+number_of(const struct pool *p, const void *object)
 {
-	const struct chunk *c = chunk_of(p, (uintptr_t)object);
+	uintptr_t at = (uintptr_t)object - p->chunks[0].first;
 
-	return likely(c != NULL) ? c->number_at[place_in(p, c, (uintptr_t)object)] : NO_NUMBER;
+	return likely(at < p->chunks[0].bytes) ? strides(p, at)
+					       : number_by_chunks(p, (uintptr_t)object);
 }
 
 /* A memory chunk is to be filled with objects. */
 static int
-handler_populate(struct rte_mempool *mp, unsigned int max_objs, void *vaddr, rte_iova_t iova, size_t len,
-		rte_mempool_populate_obj_cb_t *obj_cb, void *obj_cb_arg)
+handler_populate(struct rte_mempool *mp, unsigned int max_objs, void *vaddr, rte_iova_t iova,
+	size_t len, rte_mempool_populate_obj_cb_t *obj_cb, void *obj_cb_arg)
 {
 	struct pool *p = mp->pool_data;
-	struct chunk *c = &p->chunks[p->nb_chunks];
-	uint32_t places = len / p->stride + 1, i;
+	int populated;
 
 	if (p->nb_chunks == MAX_CHUNKS)
 		return -ENOSPC;
-	c->number_at = malloc(places * sizeof(*c->number_at));
-	if (c->number_at == NULL)
-		return -ENOMEM;
-	for (i = 0; i < places; i++)
-		c->number_at[i] = NO_NUMBER;
-	c->start = (uintptr_t)vaddr;
-	c->end = c->start + len;
 	p->nb_chunks++;
-	return rte_mempool_op_populate_default(mp, max_objs, vaddr, iova, len, obj_cb, obj_cb_arg);
+	populated = rte_mempool_op_populate_default(
+		mp, max_objs, vaddr, iova, len, obj_cb, obj_cb_arg);
+	if (p->chunks[p->nb_chunks - 1].bytes == 0)
+		p->nb_chunks--;
+	return populated;
 }
 
-/* A new object is known by the next number, which the shared seat has had since the beginning. */
+/* A new object, behind the others of the last chunk, has a number that the pool has given at the
+ * beginning. */
 static int
 add_object(struct pool *p, void *object)
 {
-	struct chunk *c = chunk_of(p, (uintptr_t)object);
+	struct chunk *c;
+	uint32_t number;
 
-	if (p->known == p->population || c == NULL)
+	if (p->nb_chunks == 0 || p->known == p->size)
+		return -EINVAL;
+	c = &p->chunks[p->nb_chunks - 1];
+	if (c->bytes == 0) {
+		c->first = (uintptr_t)object;
+		c->number = p->next;
+	}
+	number = c->number + strides(p, (uintptr_t)object - c->first);
+	if (number < p->next || number >= p->places)
+		return -EINVAL;
+	p->objects[number] = object;
+	if ((p->checked.at != NULL ? mbufpool_checked_put(&p->checked, &number, 1)
+				   : mbufpool_seat_put(&p->shared.seat, &number, 1)) != 0)
 		return -ENOBUFS;
-	c->number_at[place_in(p, c, (uintptr_t)object)] = p->known;
-	p->object_of[p->known] = object;
-	if ((p->checked.at != NULL ? mbufpool_checked_put(&p->checked, &p->known, 1) :
-			mbufpool_seat_put(&p->shared.seat, &p->known, 1)) != 0)
-		return -ENOBUFS;
+	c->bytes = (uintptr_t)object - c->first + p->stride;
+	p->next = number + 1;
 	p->known++;
 	return 0;
 }
@@ -240,85 +265,137 @@ put_by(struct mbufpool_seat *seat, const uint32_t *list, size_t n)
 	return cause;
 }
 
-static inline uint32_t
-get(struct pool *p, uint32_t *out, size_t n)
+static __rte_always_inline uint32_t
+get(struct pool *p, uint32_t *out, size_t n, const int is_checked)
 {
-	struct mbufpool_seat *seat = seat_of(p);
+	struct mbufpool_seat *seat = is_checked ? NULL : seat_of(p);
 	uint32_t cause;
 
 	if (likely(seat != NULL))
 		return get_by(seat, out, n);
 	rte_spinlock_lock(&p->lock);
-	cause = p->checked.at != NULL ? mbufpool_checked_get(&p->checked, out, n) : get_by(&p->shared.seat, out, n);
+	cause = is_checked ? mbufpool_checked_get(&p->checked, out, n)
+			   : get_by(&p->shared.seat, out, n);
 	rte_spinlock_unlock(&p->lock);
 	return cause;
 }
 
-static inline uint32_t
-put(struct pool *p, const uint32_t *list, size_t n)
+/* Where a list isn't all in the pool's hand, what is goes back one by one. */
+static uint32_t
+put_checked(struct pool *p, const uint32_t *list, size_t n)
 {
-	struct mbufpool_seat *seat = seat_of(p);
+	uint32_t cause = mbufpool_checked_put(&p->checked, list, n), refused = 0;
+	size_t i;
+
+	if (likely(cause != MBUFPOOL_NOT_IN_HAND))
+		return cause;
+	for (i = 0; i < n; i++)
+		if (n == 1 || mbufpool_checked_put(&p->checked, &list[i], 1) != 0)
+			refused++;
+	RTE_LOG(ERR, MEMPOOL, "mbufpool: put twice, or never got: %u of %zu objects refused\n",
+		refused, n);
+	return cause;
+}
+
+static __rte_always_inline uint32_t
+put(struct pool *p, const uint32_t *list, size_t n, const int is_checked)
+{
+	struct mbufpool_seat *seat = is_checked ? NULL : seat_of(p);
 	uint32_t cause;
 
 	if (likely(seat != NULL))
 		return put_by(seat, list, n);
 	rte_spinlock_lock(&p->lock);
-	cause = p->checked.at != NULL ? mbufpool_checked_put(&p->checked, list, n) : put_by(&p->shared.seat, list, n);
+	cause = is_checked ? put_checked(p, list, n) : put_by(&p->shared.seat, list, n);
 	rte_spinlock_unlock(&p->lock);
-	if (unlikely(cause == MBUFPOOL_NOT_IN_HAND))
-		RTE_LOG(ERR, MEMPOOL, "mbufpool: an object was put that the pool hasn't given, or given once: refused\n");
 	return cause;
 }
 
+/* An object that is in no chunk, or for a checked pool isn't where an object is: a new one while
+ * the mempool is filled, else refused. */
 static int
-handler_enqueue(struct rte_mempool *mp, void * const *objects, unsigned int n)
+put_unknown(struct pool *p, void *object)
 {
-	struct pool *p = mp->pool_data;
-	uint32_t list[BURST];
-	unsigned int i, k, done;
 	int err;
 
-	for (done = 0; done < n; done += k) {
+	rte_spinlock_lock(&p->lock);
+	err = add_object(p, object);
+	rte_spinlock_unlock(&p->lock);
+	if (err != 0)
+		RTE_LOG(ERR, MEMPOOL, "mbufpool: no object of the pool, refused: %p\n", object);
+	return err;
+}
+
+static __rte_always_inline int
+enqueue(struct pool *p, void *const *objects, unsigned int n, const int is_checked)
+{
+	uint32_t list[BURST];
+	unsigned int i, k, done;
+	int err = 0;
+
+	for (done = 0; done < n; done += i) {
 		k = RTE_MIN(n - done, (unsigned int)BURST);
 		for (i = 0; i < k; i++) {
 			list[i] = number_of(p, objects[done + i]);
 			if (unlikely(list[i] == NO_NUMBER))
 				break;
+			if (is_checked && unlikely(p->objects[list[i]] != objects[done + i]))
+				break;
 		}
-		if (likely(i > 0)) {
-			if (put(p, list, i) != 0)
-				return -ENOBUFS;
-			k = i;
-			continue;
+		if (likely(i > 0) && unlikely(put(p, list, i, is_checked) != 0)) {
+			err = -ENOBUFS;
+			if (!is_checked)
+				return err;
 		}
-		rte_spinlock_lock(&p->lock);
-		err = add_object(p, objects[done]);
-		rte_spinlock_unlock(&p->lock);
-		if (err != 0)
-			return err;
-		k = 1;
+		if (unlikely(i < k)) {
+			if (put_unknown(p, objects[done + i]) != 0)
+				err = -ENOBUFS;
+			i++;
+		}
 	}
-	return 0;
+	return err;
 }
 
-static int
-handler_dequeue(struct rte_mempool *mp, void **objects, unsigned int n)
+static __rte_always_inline int
+dequeue(struct pool *p, void **objects, unsigned int n, const int is_checked)
 {
-	struct pool *p = mp->pool_data;
 	uint32_t list[BURST];
 	unsigned int i, k, done;
 
 	for (done = 0; done < n; done += k) {
 		k = RTE_MIN(n - done, (unsigned int)BURST);
-		if (unlikely(get(p, list, k) != 0)) {
-			if (done > 0)
-				handler_enqueue(mp, objects, done);
+		if (unlikely(get(p, list, k, is_checked) != 0)) {
+			enqueue(p, objects, done, is_checked);
 			return -ENOBUFS;
 		}
 		for (i = 0; i < k; i++)
-			objects[done + i] = p->object_of[list[i]];
+			objects[done + i] = p->objects[list[i]];
 	}
 	return 0;
+}
+
+static int
+handler_enqueue(struct rte_mempool *mp, void *const *objects, unsigned int n)
+{
+	return enqueue(mp->pool_data, objects, n, 0);
+}
+
+static int
+checked_enqueue(struct rte_mempool *mp, void *const *objects, unsigned int n)
+{
+	return enqueue(mp->pool_data, objects, n, 1);
+}
+
+static int
+handler_dequeue(struct rte_mempool *mp, void **objects, unsigned int n)
+{
+	return dequeue(mp->pool_data, objects, n, 0);
+}
+
+static int
+checked_dequeue(struct rte_mempool *mp, void **objects, unsigned int n)
+{
+	return dequeue(mp->pool_data, objects, n, 1);
 }
 
 static unsigned int
@@ -331,7 +408,8 @@ handler_get_count(const struct rte_mempool *mp)
 	if (seat != NULL)
 		return mbufpool_seat_count(seat);
 	rte_spinlock_lock(&p->lock);
-	count = p->checked.at != NULL ? mbufpool_checked_count(&p->checked) : mbufpool_seat_count(&p->shared.seat);
+	count = p->checked.at != NULL ? mbufpool_checked_count(&p->checked)
+				      : mbufpool_seat_count(&p->shared.seat);
 	rte_spinlock_unlock(&p->lock);
 	return count;
 }
@@ -350,8 +428,8 @@ static struct rte_mempool_ops checked_ops = {
 	.name = "mbufpool_checked",
 	.alloc = checked_alloc,
 	.free = handler_free,
-	.enqueue = handler_enqueue,
-	.dequeue = handler_dequeue,
+	.enqueue = checked_enqueue,
+	.dequeue = checked_dequeue,
 	.get_count = handler_get_count,
 	.populate = handler_populate,
 };
