@@ -165,9 +165,9 @@ handler_free(struct rte_mempool *mp)
 
 /* How many strides fit. Two objects of a chunk, which are a stride apart at least, differ in it. */
 static inline uint32_t
-strides(const struct pool *p, uintptr_t bytes)
+strides(uint64_t inverse, uintptr_t bytes)
 {
-	return ((unsigned __int128)bytes * p->inverse) >> 64;
+	return ((unsigned __int128)bytes * inverse) >> 64;
 }
 
 static uint32_t
@@ -177,18 +177,41 @@ number_by_chunks(const struct pool *p, uintptr_t object)
 
 	for (c = p->chunks; c < p->chunks + p->nb_chunks; c++)
 		if (object - c->first < c->bytes)
-			return c->number + strides(p, object - c->first);
+			return c->number + strides(p->inverse, object - c->first);
 	return NO_NUMBER;
 }
 
-/* An object's number, or NO_NUMBER where it is in no chunk. The first chunk's begin at 0. */
-static inline uint32_t
-number_of(const struct pool *p, const void *object)
+/* Turns objects into their numbers, up to one that is in no chunk, or that in a checked pool isn't
+ * where an object is. Returns how many. The first chunk's numbers begin at 0. */
+static __rte_always_inline unsigned int
+numbers_of(const struct pool *p, void *const *objects, unsigned int n, uint32_t *list,
+	const int is_checked)
 {
-	uintptr_t at = (uintptr_t)object - p->chunks[0].first;
+	const uintptr_t first = p->chunks[0].first, bytes = p->chunks[0].bytes;
+	const uint64_t inverse = p->inverse;
+	size_t i;
 
-	return likely(at < p->chunks[0].bytes) ? strides(p, at)
-					       : number_by_chunks(p, (uintptr_t)object);
+	for (i = 0; i < n; i++) {
+		uintptr_t at = (uintptr_t)objects[i] - first;
+
+		if (likely(at < bytes))
+			list[i] = strides(inverse, at);
+		else if ((list[i] = number_by_chunks(p, (uintptr_t)objects[i])) == NO_NUMBER)
+			break;
+		if (is_checked && unlikely(p->objects[list[i]] != objects[i]))
+			break;
+	}
+	return i;
+}
+
+static inline void
+objects_of(const struct pool *p, const uint32_t *list, unsigned int n, void **objects)
+{
+	void *const *of = p->objects;
+	size_t i;
+
+	for (i = 0; i < n; i++)
+		objects[i] = of[list[i]];
 }
 
 /* A memory chunk is to be filled with objects. */
@@ -224,7 +247,7 @@ add_object(struct pool *p, void *object)
 		c->first = (uintptr_t)object;
 		c->number = p->next;
 	}
-	number = c->number + strides(p, (uintptr_t)object - c->first);
+	number = c->number + strides(p->inverse, (uintptr_t)object - c->first);
 	if (number < p->next || number >= p->places)
 		return -EINVAL;
 	p->objects[number] = object;
@@ -335,13 +358,7 @@ enqueue(struct pool *p, void *const *objects, unsigned int n, const int is_check
 
 	for (done = 0; done < n; done += i) {
 		k = RTE_MIN(n - done, (unsigned int)BURST);
-		for (i = 0; i < k; i++) {
-			list[i] = number_of(p, objects[done + i]);
-			if (unlikely(list[i] == NO_NUMBER))
-				break;
-			if (is_checked && unlikely(p->objects[list[i]] != objects[done + i]))
-				break;
-		}
+		i = numbers_of(p, objects + done, k, list, is_checked);
 		if (likely(i > 0) && unlikely(put(p, list, i, is_checked) != 0)) {
 			err = -ENOBUFS;
 			if (!is_checked)
@@ -356,20 +373,29 @@ enqueue(struct pool *p, void *const *objects, unsigned int n, const int is_check
 	return err;
 }
 
+/* (apart, as it needs a list of its own, and is rarely called) */
+static __rte_noinline void
+give_back(struct pool *p, void *const *objects, unsigned int n, int is_checked)
+{
+	if (is_checked)
+		enqueue(p, objects, n, 1);
+	else
+		enqueue(p, objects, n, 0);
+}
+
 static __rte_always_inline int
 dequeue(struct pool *p, void **objects, unsigned int n, const int is_checked)
 {
 	uint32_t list[BURST];
-	unsigned int i, k, done;
+	unsigned int k, done;
 
 	for (done = 0; done < n; done += k) {
 		k = RTE_MIN(n - done, (unsigned int)BURST);
 		if (unlikely(get(p, list, k, is_checked) != 0)) {
-			enqueue(p, objects, done, is_checked);
+			give_back(p, objects, done, is_checked);
 			return -ENOBUFS;
 		}
-		for (i = 0; i < k; i++)
-			objects[done + i] = p->objects[list[i]];
+		objects_of(p, list, k, objects + done);
 	}
 	return 0;
 }
