@@ -17,9 +17,9 @@
  * Built as a shared object, it is loaded by EAL's -d (from a folder that others can't write).
  *
  * The pool knows its elements by number. An object's number is its place: how many objects would
- * fit between the first one of its chunk of memory and it, which a multiplication tells, on from the
- * numbers of earlier chunks. Where objects keep off the ends of pages, some places have none: such
- * numbers are got at first as all are, and never put.
+ * fit between the first one of its chunk of memory and it, which a multiplication tells, on from
+ * the numbers of earlier chunks. Where objects keep off the ends of pages, some places have none:
+ * such numbers are got at first as all are, and never put.
  *
  * Limits: at most 16,777,214 places, 64 chunks, one process, and 63 lcores with a seat of their
  * own. */
