@@ -85,8 +85,10 @@ uint32_t mbufpool_seat_get(struct mbufpool_seat *seat, uint32_t *out, size_t n);
  * Each was got by this seat, was not put since, and stands in the list once. */
 uint32_t mbufpool_seat_put(struct mbufpool_seat *seat, const uint32_t *list, size_t n);
 
-/* How many elements the stack's length word counts. While other threads are within calls it may lag
- * behind. */
+/* How many elements the stack's length word counts; 0 where the handle has no seat. While other
+ * threads are within calls it may lag behind. To see at the end whether all elements are back: let
+ * each seat put what it has got, wait for all threads, and call this by any seat before the seats
+ * are ended. What is missing from the population then was not put, or was lost with a seat. */
 uint32_t mbufpool_seat_count(struct mbufpool_seat *seat);
 
 /* Ends a seat; the handle has zeros then. What the seat has got and not put is lost to the pool, so
