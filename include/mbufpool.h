@@ -132,8 +132,10 @@ struct mbufpool_packet { uint32_t slot, element; };
  * buffer is. The buffers are the caller's. */
 struct mbufpool_segment { uint32_t element, buffer; uint16_t off, len, buf; };
 
-/* Makes a pool, and puts its workers into the n handles: n is limits->workers. Where it is refused,
- * no handle has a worker. */
+/* Makes a pool, and puts its workers into the n handles: worker 1 into out[0], worker n into
+ * out[n - 1]. n is limits->workers; with any other it is refused by MBUFPOOL_BAD_POOL. The workers
+ * have nothing yet, and all elements are on the common stack. Workers that were in the handles are
+ * ended; where the call is refused, they stay. */
 uint32_t mbufpool_open(const struct mbufpool_limits *limits, struct mbufpool_worker *out, size_t n);
 
 /* Ends a worker; the handle has zeros then. What it has is lost to the pool, so free its packets

@@ -1,6 +1,7 @@
 mod CheckedHandles
 mod Handles
 mod MarkLemmas
+mod OpenLemmas
 mod SeatHandles
 mod Values
 mod WorkerHandles

@@ -4,3 +4,4 @@ pub mod Stacks
 pub mod Statuses
 pub mod Segments
 pub mod Marks
+pub mod Opens

@@ -7,6 +7,7 @@ pub mod checked_handle;
 pub mod checked_stack;
 mod loose;
 mod marks;
+pub mod opening;
 pub mod packets;
 pub mod seat_handle;
 pub mod seats;

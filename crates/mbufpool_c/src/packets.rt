@@ -1,37 +1,16 @@
 //! Packets for C: each export is one act of a worker.
 
-ghost use Rattle.std.specs.Prelude.{◌≡◌, All, None, length, slice_index_or};
-ghost use Rattle.ground.specs.Seats.{IsOf};
+ghost use Rattle.std.specs.Prelude.{◌≡◌, None, length, slice_index_or};
 ghost use Rattle.mbuf.specs.Acts.{HasRoom};
-ghost use Rattle.word_pool.specs.Workers.{IsWorker};
 ghost use Rattle.mbufpool_c.specs.Segments.{ShowsSegment, segment_of as segment_in};
 ghost use Rattle.mbufpool_c.specs.Statuses.{ActsIn, ActsAs, AreTold, TellsBulk, TellsNumber, TellsNew, status_of as status_in, replied};
 
 use crate::worker_handle::WorkerHandle;
-use crate::workers::OwnWorker;
-use commons::limits::{Limits, PutRule};
 use commons::packet::Seg;
 use commons::refusal::Refusal;
-use ground::pool::Ground;
 use mbuf::acts;
 use mbuf::acts::{Act, Answer, Reply};
 use std::alloc::Global;
-use std::sync::Arc;
-use word_pool::pool;
-use word_pool::worker::WordWorker;
-
-/// What a pool is made of.
-#[repr(C)]
-#[derive(Clone, Copy)]
-pub struct PoolLimits {
-    pub population: u32,
-    pub cache: u32,
-    pub workers: u32,
-    pub desks: u32,
-    pub buf: u32,
-    pub ref_limit: u32,
-    pub tries: u32,
-}
 
 /// A new packet: its slot, and the element of its first segment.
 #[repr(C)]
@@ -133,80 +112,6 @@ fn tell_new(alloc: Global, worker: &mut WorkerHandle, what: Act, out: &mut NewPa
         _ => {}
     }
     status_of(&answer)
-}
-
-/// Makes a pool, and puts its workers into the handles, of which there is one for each.
-fn open(alloc: Global, limits: &Limits, out: &mut [WorkerHandle]) -> Result<(), Refusal> {
-    if out.len() as u64 != limits.workers {
-        return Err(Refusal::BadPool);
-    }
-    let (ground, mut workers) = pool::make(alloc, limits)?;
-    let Ok(ground) = Arc::new(alloc, ground) else {
-        return Err(Refusal::OutOfMemory);
-    };
-    fill(alloc, &ground, workers, out)
-}
-
-/// Puts these workers into the handles, the last into the last.
-fn fill(
-    alloc: Global,
-    ground: &Arc<Ground>,
-    mut workers: Vec<WordWorker>,
-    out: &mut [WorkerHandle],
-) -> Result<(), Refusal>
-    requires { All (IsWorker ground.now.value) workers.items }
-{
-    let count = out.len();
-    for k in 0..count {
-        let Some(worker) = workers.pop() else {
-            return Ok(());
-        };
-        out[count - 1 - k].put(owned(alloc, ground, worker)?);
-    }
-    Ok(())
-}
-
-/// A worker with its words, on the heap.
-fn owned(alloc: Global, ground: &Arc<Ground>, worker: WordWorker) -> Result<Box<OwnWorker>, Refusal>
-    requires { IsOf ground.now.value worker.seat }
-{
-    let Ok(ground) = Arc::try_clone(ground) else {
-        return Err(Refusal::OutOfMemory);
-    };
-    match Box::new(alloc, OwnWorker::new(ground, worker)) {
-        Ok(own) => Ok(own),
-        Err(_) => Err(Refusal::OutOfMemory),
-    }
-}
-
-/// Makes a pool, and puts its workers into the handles, of which there is one for each. Where it is
-/// refused, the handles have no workers.
-#[unsafe(no_mangle)]
-pub extern "C" fn mbufpool_open(
-    alloc: Global,
-    limits: &PoolLimits,
-    out: &mut [WorkerHandle],
-) -> u32 {
-    let limits = Limits {
-        population: limits.population as u64,
-        cache: limits.cache as u64,
-        workers: limits.workers as u64,
-        desks: limits.desks as u64,
-        buf: limits.buf as u64,
-        ref_limit: limits.ref_limit as u64,
-        tries: limits.tries as u64,
-        start_count: 0,
-        put_rule: PutRule::Keep,
-    };
-    match open(alloc, &limits, out) {
-        Ok(()) => 0,
-        Err(cause) => {
-            for k in 0..out.len() {
-                drop(out[k].take(alloc));
-            }
-            cause.number()
-        }
-    }
 }
 
 /// Makes a packet of one element.

@@ -1,0 +1,128 @@
+//! How a pool of packets is made for C.
+
+ghost use Rattle.std.specs.Prelude.{◌≡◌, ◌≢◌, All, IfOk, IfErr, length, map, reverse};
+ghost use Rattle.ground.specs.Opening.{IsGroundCause};
+ghost use Rattle.ground.specs.Seats.{IsOf};
+ghost use Rattle.word_pool.specs.Workers.{IsWorker};
+ghost use Rattle.mbufpool_c.specs.Opens.{HaveWorkers, IsNewCrew, Opens, RefusesOpen, pool_limits};
+
+use crate::worker_handle::WorkerHandle;
+use crate::workers::OwnWorker;
+use commons::limits::{Limits, PutRule};
+use commons::refusal::Refusal;
+use ground::pool::Ground;
+use std::alloc::{AllocError, Global};
+use std::sync::Arc;
+use word_pool::pool;
+use word_pool::worker::WordWorker;
+
+/// What a pool is made of.
+#[repr(C)]
+#[derive(Clone, Copy)]
+pub struct PoolLimits {
+    pub population: u32,
+    pub cache: u32,
+    pub workers: u32,
+    pub desks: u32,
+    pub buf: u32,
+    pub ref_limit: u32,
+    pub tries: u32,
+}
+
+/// The limits of a pool of packets.
+fn limits_of(limits: &PoolLimits) -> Limits
+    ensures { result ≡ pool_limits limits.now }
+{
+    Limits {
+        population: limits.population as u64,
+        cache: limits.cache as u64,
+        workers: limits.workers as u64,
+        desks: limits.desks as u64,
+        buf: limits.buf as u64,
+        ref_limit: limits.ref_limit as u64,
+        tries: limits.tries as u64,
+        start_count: 0,
+        put_rule: PutRule::Keep,
+    }
+}
+
+/// A worker with its words, on the heap.
+fn owned(
+    alloc: Global,
+    ground: &Arc<Ground>,
+    worker: WordWorker,
+) -> Result<Box<OwnWorker>, AllocError>
+    requires { IsOf ground.now.value worker.seat }
+    ensures { IfOk result (λ own. own.value ≡ worker) }
+{
+    let ground = Arc::try_clone(ground)?;
+    match Box::new(alloc, OwnWorker::new(ground, worker)) {
+        Ok(own) => Ok(own),
+        Err(_) => Err(AllocError),
+    }
+}
+
+/// These workers with their words, each on the heap, the last one first.
+fn boxed(
+    alloc: Global,
+    ground: &Arc<Ground>,
+    mut workers: Vec<WordWorker>,
+) -> Result<Vec<Box<OwnWorker>>, AllocError>
+    requires { All (IsWorker ground.now.value) workers.items }
+    ensures { IfOk result (λ boxes. reverse (map (λ own. own.value) boxes.items) ≡ workers.items) }
+{
+    let mut boxes = Vec::with_capacity(alloc, workers.len())?;
+    while let Some(worker) = workers.pop() {
+        boxes.push(owned(alloc, ground, worker)?)?;
+    }
+    Ok(boxes)
+}
+
+/// Makes a pool, and answers its workers, the last one first.
+fn opened(alloc: Global, limits: &Limits) -> Result<Vec<Box<OwnWorker>>, Refusal>
+    ensures crew { IfOk result (λ boxes. IsNewCrew limits.now (reverse (map (λ own. own.value) boxes.items))) }
+    ensures cause { IfErr result (IsGroundCause limits.now) }
+{
+    let (ground, workers) = pool::make(alloc, limits)?;
+    let Ok(ground) = Arc::new(alloc, ground) else {
+        return Err(Refusal::OutOfMemory);
+    };
+    match boxed(alloc, &ground, workers) {
+        Ok(boxes) => Ok(boxes),
+        Err(_) => Err(Refusal::OutOfMemory),
+    }
+}
+
+/// Puts these workers into the handles, the last into the first. Those that were there are lost.
+fn fill(mut boxes: Vec<Box<OwnWorker>>, out: &mut [WorkerHandle])
+    requires { length boxes.items ≡ length out.old }
+    ensures { HaveWorkers (reverse (map (λ own. own.value) boxes.items)) out.new }
+{
+    for k in 0..out.len() {
+        let Some(own) = boxes.pop() else {
+            unreachable!()
+        };
+        out[k].put(own);
+    }
+}
+
+/// Makes a pool, and puts its workers into the handles, in their order. There is one handle for
+/// each. Workers that were in the handles are lost then; where it is refused, they stay.
+#[unsafe(no_mangle)]
+pub extern "C" fn mbufpool_open(alloc: Global, limits: &PoolLimits, out: &mut [WorkerHandle]) -> u32
+    ensures opened { result ≡ 0 → Opens (pool_limits limits.now) out.new }
+    ensures kept { result ≢ 0 → out.new ≡ out.old }
+    ensures cause { result ≢ 0 → RefusesOpen (pool_limits limits.now) (length out.old) result }
+{
+    let limits = limits_of(limits);
+    if out.len() as u64 != limits.workers {
+        return Refusal::BadPool.number();
+    }
+    match opened(alloc, &limits) {
+        Ok(boxes) => {
+            fill(boxes, out);
+            0
+        }
+        Err(cause) => cause.number(),
+    }
+}
