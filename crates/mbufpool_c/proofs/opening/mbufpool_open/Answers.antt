@@ -5,9 +5,8 @@ use Rattle.mbufpool_c.proofs.opening.mbufpool_open.Goals as goal
 
 -- there isn't one handle for each worker
 pub returns-then-out-limits-clause-cause : goal.returns-then-out-limits-clause-cause
-returns-then-out-limits-clause-cause c _ =
-    (
-      BadPool,
-      c.number.ensures,
-      λ both. c.if-out-limits.true (both.1 ∙ sym (ap (λ (l : Limits). l.workers) c.limits_of-limits.ensures)),
-    )
+returns-then-out-limits-clause-cause c _ = (
+  BadPool,
+  c.number.ensures,
+  λ both. c.if-out-limits.true (both.1 ∙ sym (ap (λ (l : Limits). l.workers) c.limits_of-limits.ensures)),
+)
