@@ -11,7 +11,8 @@
  *                            over which a packet passes to another worker
  *
  * Every call answers 0, or the number of a refusal (enum mbufpool_refusal); after a refusal nothing
- * has changed but for what its line says.
+ * has changed but for what its line says. mbufpool_seat_count and mbufpool_checked_count answer a
+ * count instead, and the calls that end a handle nothing.
  *
  * What the caller owes, and nothing checks:
  *
@@ -19,7 +20,7 @@
  *              alone. It is not copied: two structs with one pointer are two owners of one seat.
  *              One thread at a time uses it; it passes to another thread by a lock, a thread's
  *              start or join, or a sequentially consistent atomic. A handle with zeros is safe in
- *              every call, which answers MBUFPOOL_STRANGER.
+ *              every call, which answers MBUFPOOL_STRANGER, or a count of 0.
  *   memory     `out` has room for n of its kind and `list` has n numbers, n > 0 or not. What the
  *              pointers of one call lead to doesn't overlap (two handles are two structs), and is
  *              the call's alone while it runs.
