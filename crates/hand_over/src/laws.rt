@@ -8,10 +8,9 @@ ghost use Rattle.hand_over.specs.Passing.{HandsMayPass, PassingKeepsLaw, Passing
 /// that the one before obeys. In its table these elements have gone from hand to hand, and each
 /// other one is where it was.
 ///
-/// So the laws don't depend on whose hand an element is in. An mbuf that one lcore got may be put
-/// by another, as DPDK's programs do (rte_mempool.h, `rte_mempool_put_bulk`, DPDK 21.11): what a
-/// caller owes is that each element that is put was got before, by any of the pool's workers, and
-/// not put since.
+/// So no law depends on whose hand an element is in. DPDK's programs put by one lcore what another
+/// got (rte_mempool.h, `rte_mempool_put_bulk`, DPDK 21.11); this says of the machine that they may.
+/// Of the calls of a running pool it says nothing: what they ask is their own contract's.
 pub fn hands_may_pass()
     ensures some { HandsMayPass }
     ensures law { PassingKeepsLaw }
