@@ -9,7 +9,7 @@ use Rattle.commons.specs.Calls.{Reading, Call, PutList, Side, Calls}
 use Rattle.mempool.specs.declared.put.Put.{Put}
 use Rattle.mempool.specs.declared.put.Put.TheVariants.{Flushed, PutOff}
 use Rattle.mempool.proofs.Rules.{one_rule}
-use Rattle.mempool.specs.Caches.{Pushed, Gone, Stays, PushedFor, ListWent, CacheWent, Puts, Bypass, BypassPutOff, Flush, FlushPutOff, WholeBypass, WholeBypassPutOff, WholeFlush, WholeFlushPutOff, Flushes, Whole, WholePutOff, threshold}
+use Rattle.mempool.specs.Caches.{Pushed, Gone, Stays, Puts, Bypass, BypassPutOff, Flush, FlushPutOff, WholeBypass, WholeBypassPutOff, WholeFlush, WholeFlushPutOff, Flushes, Whole, WholePutOff, threshold}
 
 -- From the threshold on, a push of all beyond the size is the one request of a put.
 pub put_over : {S : Type 0} (did : S → Call → List Reading → S → Type 0) (side : S → Side)
@@ -108,28 +108,20 @@ put_after_cache did side l cache list rest before after answer left whole some f
           (e ∙ ap (λ (xs : List ℕ). xs ++ list) k),
     )
 
--- Where cache and list pass the threshold, the push of one of them is the one request.
-pub put_whole : {S : Type 0} (did : S → Call → List Reading → S → Type 0) (side : S → Side)
-    (l : Limits) (cache list : List ℕ) (before after : S) (answer : Put) (left : List ℕ) →
-    l.put_rule ≡ rules.Whole → 0 < length list → length list ≤ max_cache →
-    threshold l < length cache + length list → PushedFor did side (threshold l) cache list before answer after left →
-    Calls did side before after (λ calls. Puts l cache list calls answer left)
-put_whole did side l cache list before after answer left whole some few over (ListWent long p) =
-    put_whole_passed did side l cache list before after answer left whole long p
-put_whole did side l cache list before after answer left whole some few over (CacheWent short rest p k) =
-    put_after_cache did side l cache list rest before after answer left whole some few short over k p
-
--- Where nothing is kept and the cache is empty, that is a put's one request too.
+-- Where nothing is kept and the cache is empty, that is a put's one request too, by either rule.
 pub put_kept_none : {S : Type 0} (did : S → Call → List Reading → S → Type 0) (side : S → Side)
     (l : Limits) (cache list : List ℕ) (before after : S) (answer : Put) (left : List ℕ) →
-    l.put_rule ≡ rules.Keep → l.cache ≡ 0 → length cache ≡ 0 → 0 < length list → length list ≤ max_cache →
+    l.cache ≡ 0 → length cache ≡ 0 → 0 < length list → length list ≤ max_cache →
     Pushed did side (length cache) (cache ++ list) before answer after left →
     Calls did side before after (λ calls. Puts l cache list calls answer left)
-put_kept_none did side l cache list before after answer left keep none empty some few p =
+put_kept_none did side l cache list before after answer left none empty some few p =
     let t : threshold l ≡ 0 = rw none refl in
-    put_over did side l cache list (cache ++ list) before after answer left keep refl some few
-    (omega (arith, t)) (omega (arith, none, length-append cache list))
-    (subst (λ (keep : ℕ). Pushed did side keep (cache ++ list) before answer after left) (empty ∙ sym none) p)
+    elim (one_rule l.put_rule) [
+      | inl keep ↦ put_over did side l cache list (cache ++ list) before after answer left keep refl some few
+          (omega (arith, t)) (omega (arith, none, length-append cache list))
+          (subst (λ (keep : ℕ). Pushed did side keep (cache ++ list) before answer after left) (empty ∙ sym none) p)
+      | inr whole ↦ put_whole_passed did side l cache list before after answer left whole (omega (arith, t)) p
+    ]
 
 -- A push of all beyond a length of 0 is the one request of a flush.
 pub flush_whole : {S : Type 0} (did : S → Call → List Reading → S → Type 0) (side : S → Side)

@@ -21,6 +21,11 @@ without_last n cache = take (length cache - n) cache
 abbrev pub threshold : Limits → ℕ
 threshold l = l.cache * 3 / 2
 
+-- a cache can't keep this many by its pool's rule
+pub record Overflows (l : Limits) (n : ℕ) : Type 0 where
+  pub keep : l.put_rule ≡ rules.Keep → (threshold l ≤ n) × (l.cache < n)
+  pub whole : l.put_rule ≡ rules.Whole → threshold l < n
+
 -- an answer of one element, as a list
 abbrev pub as_list : Result ℕ Refusal → Result (List ℕ) Refusal
 as_list (Ok e) = Ok (e ∷ [])
@@ -213,22 +218,6 @@ pub data Pushed {S : Type 0} (did : S → Call → List Reading → S → Type 0
       answer ≡ PutOff (length cache - keep) cause →
       left ≡ cache →
       Pushed did side keep cache before answer after left
-
--- a list of more than this many went past a cache; for a shorter one all of the cache went, and the
--- list came after what stayed
-pub data PushedFor {S : Type 0} (did : S → Call → List Reading → S → Type 0) (side : S → Side)
-    (most : ℕ) (cache list : List ℕ) (before : S) (answer : Put) (after : S) (left : List ℕ)
-    : Type 0 where
-  ListWent :
-      most < length list →
-      Pushed did side (length cache) (cache ++ list) before answer after left →
-      PushedFor did side most cache list before answer after left
-  CacheWent :
-      length list ≤ most →
-      (rest : List ℕ) →
-      Pushed did side 0 cache before answer after rest →
-      left ≡ rest ++ list →
-      PushedFor did side most cache list before answer after left
 
 -- what a flush does: the whole cache goes to the stack in one push, and an empty one is kept
 pub data Flushes (cache : List ℕ) (calls : List Call) (answer : Put) (left : List ℕ) : Type 0 where

@@ -345,40 +345,12 @@ impl Worker {
             steps::append(&mut self.cache, list);
             return Put::Kept;
         }
-        match self.limits.put_rule {
-            PutRule::Keep => {}
-            PutRule::Whole => return self.put_whole(c, list),
-        }
         if size == 0 && len == 0 {
             // All of the list goes to the stack: it need not pass through the cache.
             return steps::put_past(&mut self.cache, c, list);
         }
         steps::append(&mut self.cache, list);
-        steps::flush_beyond(&mut self.cache, c, size)
-    }
-
-    /// Puts a list by the rule `Whole`, where cache and list pass the threshold: the list onto the
-    /// common stack, where it is longer than the threshold itself, else the whole cache.
-    #[inline(always)]
-    fn put_whole<C: Commons>(&mut self, c: &mut C, list: &[u32]) -> Put
-        requires limits { (C.side c.old).limits ≡ self.old.limits }
-        requires in_hand { (i : ℕ) → bag self.old.cache i + bag list.now i ≤ (C.side c.old).hand i }
-        requires rule { self.old.limits.put_rule ≡ Whole }
-        requires some { 0 < length list.now }
-        requires short { length list.now ≤ max_cache }
-        requires over { threshold self.old.limits < length self.old.cache + length list.now }
-        ensures calls { Calls C.did C.side c.old c.new (λ calls.
-            Puts self.old.limits self.old.cache list.now calls result self.new.cache) }
-        ensures few { put_count result ≤ self.old.limits.population }
-        ensures hand { (i : ℕ) → (C.side c.new).hand i + bag self.old.cache i + bag list.now i
-            ≡ (C.side c.old).hand i + bag self.new.cache i }
-        ensures holds { (C.side c.new).holds ≡ (C.side c.old).holds }
-        ensures headers { (C.side c.new).headers ≡ (C.side c.old).headers }
-        ensures limits { (C.side c.new).limits ≡ (C.side c.old).limits }
-        ensures number { KeepsNumber self.old self.new }
-    {
-        steps::room(c, &self.cache, list);
-        steps::flush_for(&mut self.cache, c, list, self.limits.cache as usize)
+        steps::overflow(&mut self.cache, c, len, &self.limits)
     }
 
     /// Puts the whole cache onto the common stack in one push. An empty cache takes no step.

@@ -9,4 +9,4 @@ returns-in-Err-clause-calls g c =
     let cache = c.args.cache.now.items in
     let list = c.args.list.now in
     let count : length (cache ++ list) - length cache ≡ length list = omega (arith, length-append cache list) in
-    Stays c.in-Err.cause (rw (drop-append_seam cache list) c.in-Err.ensures.did) (rw count refl) c.append.ensures.items
+    Stays c.in-Err.cause (rw (drop-append_seam cache list) c.in-Err.ensures.did) (rw count refl) c.append_refused.ensures.items

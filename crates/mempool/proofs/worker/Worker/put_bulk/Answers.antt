@@ -1,5 +1,5 @@
 use Rattle.std.proofs.Common.{arith, sym}
-use Rattle.mempool.proofs.Pushes.{put_over, put_passed, put_kept_none}
+use Rattle.mempool.proofs.Pushes.{put_passed, put_kept_none}
 use Rattle.mempool.proofs.worker.Worker.put_bulk.Goals as goal
 
 -- More than a cache ever keeps was pushed past it.
@@ -16,17 +16,22 @@ returns-then-len-eq0-clause-calls g c =
     rw (sym c.self.view_is) (put_kept_none g.C.Commons.did g.C.Commons.side c.self.inside.limits
     c.self.inside.cache.items c.args.list.now
     c.args.c.now c.put_past-then-len-eq0.new.c c.put_past-then-len-eq0.result
-    c.put_past-then-len-eq0.new.cache.items c.in-Keep.is (omega arith) (omega (arith, ok)) (omega arith)
+    c.put_past-then-len-eq0.new.cache.items (omega arith) (omega (arith, ok)) (omega arith)
     (omega arith) c.put_past-then-len-eq0.ensures.calls)
 
--- Cache and list together reach the threshold, so all beyond the size was pushed.
+-- The cache can't keep cache and list together.
+pub overflow-requires-clause-over : goal.overflow-requires-clause-over
+overflow-requires-clause-over g c =
+    let ok = c.self.inside.cache.ok in
+    let flush = c.self.invariant.flush in
+    record {
+      keep = λ rule. (omega (arith, ok, flush.threshold rule), omega (arith, ok, flush.more rule));
+      whole = λ rule. omega (arith, ok, flush.whole rule);
+    }
+
+-- The list was put by the pool's rule.
 pub returns-clause-calls : goal.returns-clause-calls
 returns-clause-calls g c =
-    let ok = c.append-2.new.cache.ok in
-    rw (sym c.self.view_is) (put_over g.C.Commons.did g.C.Commons.side c.self.inside.limits
-    c.self.inside.cache.items c.args.list.now c.append-2.new.cache.items c.args.c.now
-    c.flush_beyond.new.c c.flush_beyond.result c.flush_beyond.new.cache.items
-    c.in-Keep.is c.append-2.ensures.items (omega arith) (omega arith)
-    (omega (arith, ok, c.self.invariant.flush.threshold c.in-Keep.is))
-    (omega (arith, ok, c.self.invariant.flush.more c.in-Keep.is))
-    c.flush_beyond.ensures.calls)
+    let ok = c.self.inside.cache.ok in
+    rw (sym c.self.view_is) (c.overflow.ensures.calls c.self.inside.cache.items c.args.list.now
+    c.append-2.ensures.items (omega (arith, ok)))
