@@ -1,10 +1,10 @@
 //! What packets ask of the cache and of the shared pool, an element at a time.
 
-ghost use Rattle.std.specs.Prelude.{◌≡◌, ◌<◌, ◌≤◌, ◌+◌, ◌*◌, ℕ, length, if◌then◌else◌, nat_lt};
+ghost use Rattle.std.specs.Prelude.{◌≡◌, ◌<◌, ◌≤◌, ◌+◌, ◌*◌, ◌∷◌, [], ℕ, length, if◌then◌else◌, nat_lt};
 ghost use Rattle.commons.specs.Bag.{bag, one};
 ghost use Rattle.commons.specs.Bounds.{IsPool, max_population};
 ghost use Rattle.commons.specs.Calls.{Calls};
-ghost use Rattle.mempool.specs.Caches.{put_count};
+ghost use Rattle.mempool.specs.Caches.{Puts, put_count};
 ghost use Rattle.mempool.specs.WorkerCache.{KeepsNumber};
 ghost use Rattle.commons.specs.Packets.{holds_of_packet, holds_of_seg, max_segs};
 ghost use Rattle.mbuf.specs.PacketRules.{fresh_seg, freed_nothing, counted as counted_put, EndsHold, EndsHolds};
@@ -58,6 +58,24 @@ pub fn counted(freed: Freed, put: Put) -> Freed
     freed
 }
 
+/// Puts one element back. The list has its place here, where there is something to put.
+#[inline(always)]
+fn put_one<C: Commons>(worker: &mut Worker, c: &mut C, elem: u32) -> Put
+    requires limits { (C.side c.old).limits ≡ worker.old.limits }
+    requires in_hand { (i : ℕ) → bag worker.old.cache i + bag (elem ∷ []) i ≤ (C.side c.old).hand i }
+    ensures calls { Calls C.did C.side c.old c.new (λ calls.
+        Puts worker.old.limits worker.old.cache (elem ∷ []) calls result worker.new.cache) }
+    ensures few { put_count result ≤ worker.old.limits.population }
+    ensures hand { (i : ℕ) → (C.side c.new).hand i + bag worker.old.cache i + bag (elem ∷ []) i
+        ≡ (C.side c.old).hand i + bag worker.new.cache i }
+    ensures holds { (C.side c.new).holds ≡ (C.side c.old).holds }
+    ensures headers { (C.side c.new).headers ≡ (C.side c.old).headers }
+    ensures limits { (C.side c.new).limits ≡ (C.side c.old).limits }
+    ensures number { KeepsNumber worker.old worker.new }
+{
+    worker.put_bulk(c, &[elem])
+}
+
 /// Ends one hold of an element, and puts it back where that was the last.
 #[inline(always)]
 #[tactic(auto, using(commons::proofs::Bags::bags))]
@@ -81,7 +99,7 @@ pub fn end_hold<C: Commons>(worker: &mut Worker, c: &mut C, elem: u32, freed: Fr
     let _limits = worker.limits();
     match c.lower(elem) {
         Lowered::Still => freed,
-        Lowered::Last => counted(freed, worker.put_bulk(c, &[elem])),
+        Lowered::Last => counted(freed, put_one(worker, c, elem)),
     }
 }
 

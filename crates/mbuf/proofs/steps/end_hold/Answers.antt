@@ -17,8 +17,8 @@ returns-in-Still-clause-calls g c =
 pub returns-in-Last-clause-calls : goal.returns-in-Last-clause-calls
 returns-in-Last-clause-calls g c =
     let d = c.in-Last.ensures.did in
-    let e = c.put_bulk.ensures.calls in (
+    let e = c.put_one.ensures.calls in (
       record { call = Lower c.args.elem Last; readings = d.readings } ∷ e.0,
       (c.lower.new.self, d.step, e.1),
-      GoesBack (calls_of e.0) c.put_bulk.result e.2 refl c.counted.ensures.counted,
+      GoesBack (calls_of e.0) c.put_one.result e.2 refl c.counted.ensures.counted,
     )
