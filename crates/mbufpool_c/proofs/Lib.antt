@@ -1,4 +1,5 @@
 mod CheckedHandles
+mod EndingHandles
 mod Handles
 mod MarkLemmas
 mod OpenLemmas

@@ -5,6 +5,10 @@
 pub mod checked;
 pub mod checked_handle;
 pub mod checked_stack;
+pub mod closing;
+pub mod ending;
+pub mod ending_handle;
+mod hall;
 mod loose;
 mod marks;
 pub mod opening;
@@ -13,5 +17,6 @@ pub mod seat_handle;
 pub mod seats;
 pub mod sent;
 pub mod stack;
+pub mod told;
 pub mod worker_handle;
 pub mod workers;

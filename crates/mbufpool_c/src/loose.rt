@@ -35,3 +35,7 @@ impl<T: Drop, A: Allocator> Loose<T, A> {
         unsafe { Box::from_raw(alloc, at) }
     }
 }
+
+unsafe impl<T: Send, A: Allocator + Send> Send for Loose<T, A> {}
+
+unsafe impl<T: Send, A: Allocator + Sync> Sync for Loose<T, A> {}

@@ -1,11 +1,13 @@
 //! How a pool of packets is made for C.
 
-ghost use Rattle.std.specs.Prelude.{◌≡◌, ◌≢◌, All, IfOk, IfErr, length, map, reverse};
+ghost use Rattle.std.specs.Prelude.{◌≡◌, ◌≢◌, ◌≤◌, All, IfOk, IfErr, length, map, reverse};
+ghost use Rattle.std.specs.List.{range_with_len};
 ghost use Rattle.ground.specs.Opening.{IsGroundCause};
-ghost use Rattle.ground.specs.Seats.{IsOf};
-ghost use Rattle.word_pool.specs.Workers.{IsWorker};
+ghost use Rattle.word_pool.specs.Workers.{AreWorkers, IsWorker};
+ghost use Rattle.mbufpool_c.specs.Halls.{numbers_of};
 ghost use Rattle.mbufpool_c.specs.Opens.{HaveWorkers, IsNewCrew, Opens, RefusesOpen, pool_limits};
 
+use crate::hall::Hall;
 use crate::worker_handle::WorkerHandle;
 use crate::workers::OwnWorker;
 use commons::limits::{Limits, PutRule};
@@ -46,34 +48,39 @@ fn limits_of(limits: &PoolLimits) -> Limits
     }
 }
 
-/// A worker with its words, on the heap.
+/// The worker of this number with its hall, on the heap.
 fn owned(
     alloc: Global,
-    ground: &Arc<Ground>,
+    hall: &Arc<Hall>,
     worker: WordWorker,
+    number: u32,
 ) -> Result<Box<OwnWorker>, AllocError>
-    requires { IsOf ground.now.value worker.seat }
+    requires of { IsWorker hall.now.value worker }
+    requires number { number ≡ worker.member.number }
     ensures { IfOk result (λ own. own.value ≡ worker) }
 {
-    let ground = Arc::try_clone(ground)?;
-    match Box::new(alloc, OwnWorker::new(ground, worker)) {
+    let hall = Arc::try_clone(hall)?;
+    match Box::new(alloc, OwnWorker::new(hall, worker, number)) {
         Ok(own) => Ok(own),
         Err(_) => Err(AllocError),
     }
 }
 
-/// These workers with their words, each on the heap, the last one first.
+/// These workers, of whom the first has number 1, with their hall, each on the heap, the last one
+/// first.
 fn boxed(
     alloc: Global,
-    ground: &Arc<Ground>,
+    hall: &Arc<Hall>,
     mut workers: Vec<WordWorker>,
 ) -> Result<Vec<Box<OwnWorker>>, AllocError>
-    requires { All (IsWorker ground.now.value) workers.items }
+    requires each { All (IsWorker hall.now.value) workers.items }
+    requires numbers { numbers_of workers.items ≡ range_with_len 1 (length workers.items) }
+    requires few { length workers.items ≤ 64 }
     ensures { IfOk result (λ boxes. reverse (map (λ own. own.value) boxes.items) ≡ workers.items) }
 {
     let mut boxes = Vec::with_capacity(alloc, workers.len())?;
     while let Some(worker) = workers.pop() {
-        boxes.push(owned(alloc, ground, worker)?)?;
+        boxes.push(owned(alloc, hall, worker, workers.len() as u32 + 1)?)?;
     }
     Ok(boxes)
 }
@@ -84,13 +91,27 @@ fn opened(alloc: Global, limits: &Limits) -> Result<Vec<Box<OwnWorker>>, Refusal
     ensures cause { IfErr result (IsGroundCause limits.now) }
 {
     let (ground, workers) = pool::make(alloc, limits)?;
-    let Ok(ground) = Arc::new(alloc, ground) else {
-        return Err(Refusal::OutOfMemory);
-    };
-    match boxed(alloc, &ground, workers) {
+    match shared(alloc, ground, workers) {
         Ok(boxes) => Ok(boxes),
         Err(_) => Err(Refusal::OutOfMemory),
     }
+}
+
+/// All workers of these words, with one hall, the last one first.
+fn shared(
+    alloc: Global,
+    ground: Ground,
+    workers: Vec<WordWorker>,
+) -> Result<Vec<Box<OwnWorker>>, AllocError>
+    requires { AreWorkers ground workers.items }
+    ensures { IfOk result (λ boxes. reverse (map (λ own. own.value) boxes.items) ≡ workers.items) }
+{
+    let _ = ground.limits();
+    let hall = Hall::new(alloc, ground)?;
+    let Ok(hall) = Arc::new(alloc, hall) else {
+        return Err(AllocError);
+    };
+    boxed(alloc, &hall, workers)
 }
 
 /// Puts these workers into the handles, the last into the first. Those that were there are lost.

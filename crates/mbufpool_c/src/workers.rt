@@ -1,45 +1,75 @@
 //! A worker with the words that it works on.
 
 ghost use Rattle.std.specs.Prelude.{◌≡◌, None, Some, slice_index_or};
-ghost use Rattle.ground.specs.Seats.{IsOf};
 ghost use Rattle.mbuf.specs.Acts.{HasRoom, as_reply};
 ghost use Rattle.mbufpool_c.specs.Segments.{seg_at};
-ghost use Rattle.word_pool.specs.Workers.{Acts};
+ghost use Rattle.word_pool.specs.Workers.{Acts, IsWorker};
 
+use crate::hall::{Hall, Sitter};
 use commons::packet::Seg;
 use commons::refusal::Refusal;
-use ground::pool::Ground;
 use mbuf::acts::{Act, Answer};
+use std::alloc::AllocError;
 use std::marker::Model;
 use std::sync::Arc;
 use word_pool::worker::WordWorker;
 
-/// A worker, with the words that it works on, which are freed with the last of their workers. It
-/// can be sent to a thread. One that is dropped has died: what it has is lost to the pool.
+/// A worker, with the hall of its pool, which is freed with the last of its workers. It can be sent
+/// to a thread. One that is dropped has died: what it has is lost to the pool.
 #[derive(Drop)]
 pub struct OwnWorker {
-    ground: Arc<Ground>,
+    hall: Arc<Hall>,
     worker: WordWorker,
+    number: u32,
 }
 
 impl Model for OwnWorker {
-    ghost use Rattle.ground.specs.Seats.{IsOf};
-    ghost use Rattle.word_pool.specs.Workers.{Manned};
+    ghost use Rattle.std.specs.Prelude.{◌≡◌};
+    ghost use Rattle.word_pool.specs.Workers.{Manned, IsWorker};
 
     ghost Value = { Manned };
 
     ghost view = { λ w. w.worker };
 
-    ghost invariant = { λ w. IsOf w.ground.value w.worker.seat };
+    ghost invariant = { λ w. IsWorker w.hall.value w.worker × (w.number ≡ w.worker.member.number) };
 }
 
 impl OwnWorker {
-    /// The worker of these words.
-    pub(crate) fn new(ground: Arc<Ground>, worker: WordWorker) -> OwnWorker
-        requires { IsOf ground.value worker.seat }
+    /// The worker of this number, in this hall.
+    pub(crate) fn new(hall: Arc<Hall>, worker: WordWorker, number: u32) -> OwnWorker
+        requires of { IsWorker hall.value worker }
+        requires number { number ≡ worker.member.number }
         ensures { result ≡ worker }
     {
-        OwnWorker { ground, worker }
+        OwnWorker {
+            hall,
+            worker,
+            number,
+        }
+    }
+
+    /// The hall of its pool, once more, unless there are too many owners.
+    pub(crate) fn hall(&self) -> Result<Arc<Hall>, AllocError> {
+        Arc::try_clone(&self.hall)
+    }
+
+    /// Whether its pool is marked.
+    pub(crate) fn is_marked(&self) -> bool {
+        let hall: &Hall = &self.hall;
+        hall.is_marked()
+    }
+
+    /// Leaves the worker in its chair, in this place, and answers its number.
+    pub(crate) fn leave(self, place: Box<Option<WordWorker>>) -> u32
+        ensures { result ≡ self.member.number }
+    {
+        let OwnWorker {
+            hall,
+            worker,
+            number,
+        } = self;
+        hall.leave(Sitter::new(place, worker, number));
+        number
     }
 
     /// The segment at this place of the packet in a slot.
@@ -61,7 +91,7 @@ impl OwnWorker {
         requires { HasRoom ROOM act }
         ensures { Acts act self.old (as_reply result) self.new }
     {
-        self.worker.act_in(&self.ground, act)
+        self.worker.act_in(self.hall.ground(), act)
     }
 }
 

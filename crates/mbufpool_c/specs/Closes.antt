@@ -1,0 +1,91 @@
+-- What C is answered where it closes a pool of packets.
+use Rattle.std.specs.Prelude.{ℕ, ◌≡◌, ◌≢◌, ◌≤◌, ◌+◌, ◌⊎◌, List, [], ◌∷◌, Option, Some, None, All, flat_map, length, map, vec_capacity}
+use Rattle.commons.specs.declared.refusal.Refusal.TheVariants.{InUse, OutOfMemory, StrangerShare}
+use Rattle.commons.specs.Refusals.{number_of}
+use Rattle.ground.specs.Seats.{Grounded}
+use Rattle.pool_model.specs.declared.statement.Statement.{Statement}
+use Rattle.pool_model.specs.Statements.{ListsEachOnce, PlacesEachOnce}
+use Rattle.word_book.specs.Listing.{ListsPackets}
+use Rattle.word_pool.specs.Lost.{AreLeft, AreLostOf}
+use Rattle.word_pool.specs.Workers.{Manned, AreWorkers, IsStatementOfWorkers}
+use Rattle.mbufpool_c.specs.declared.closing.Room.{Room}
+use Rattle.mbufpool_c.specs.declared.ending.Ending.{Ending}
+use Rattle.mbufpool_c.specs.declared.worker_handle.WorkerHandle.{WorkerHandle}
+
+-- what handles have
+abbrev pub values_of : List WorkerHandle → List (Option Manned)
+values_of handles = map (λ h. h.value) handles
+
+-- no handle has a worker
+abbrev pub AreEmpty : List WorkerHandle → Type 0
+AreEmpty handles = All (λ v. v ≡ None) (values_of handles)
+
+-- the handles have what they had
+abbrev pub HaveSame : List WorkerHandle → List WorkerHandle → Type 0
+HaveSame old new = values_of new ≡ values_of old
+
+-- the number of the worker in a handle, where there is one
+abbrev pub number_in : Option Manned → List ℕ
+number_in None = []
+number_in (Some m) = m.member.number ∷ []
+
+-- the numbers of the workers in handles
+abbrev pub numbers_in : List WorkerHandle → List ℕ
+numbers_in handles = flat_map number_in (values_of handles)
+
+-- none of these numbers is another's
+abbrev pub AreApart : List ℕ → List ℕ → Type 0
+AreApart ws vs = All (λ w. All (λ v. v ≢ w) vs) ws
+
+-- what a misused handle is refused by: a number that no refusal has
+abbrev pub misused : ℕ
+misused = 25
+
+-- The workers ms of this ground, beside whom these are missing, are settled. Where nobody is, what
+-- they left is the pool's statement: it lists each element exactly once, what is available and what
+-- is in use are the population, and each packet has a place of its own. Else it is the list of
+-- the elements that are lost with those who are missing.
+abbrev pub IsSettled : Grounded → List ℕ → List Manned → Ending → Type 0
+IsSettled g [] ms e = (s : Statement) × (e.statement ≡ Some s) × (e.lost.items ≡ [])
+    × AreWorkers g ms × IsStatementOfWorkers g ms s
+    × ListsEachOnce s × PlacesEachOnce g.limits s × ListsPackets g.limits s
+IsSettled g (w ∷ missing) ms e = (e.statement ≡ None) × AreLeft g (w ∷ missing) ms
+    × AreLostOf g (w ∷ missing) ms e.lost.items
+
+-- Workers of one ground are settled, as many as there were in handles. Each worker whose number one
+-- of these had is among them: none of those who are missing has it.
+pub record HasClosed (numbers : List ℕ) (e : Ending) : Type 0 where
+  pub ground : Grounded
+  pub workers : List Manned
+  pub missing : List ℕ
+  pub as_many : length workers ≡ length numbers
+  pub apart : AreApart numbers missing
+  pub all : length workers + length missing ≡ ground.limits.workers
+  pub settled : IsSettled ground missing workers e
+
+-- The handles have no workers then, and C has what their pool left.
+pub record Closes (old new : List WorkerHandle) (ending : Option Ending) : Type 0 where
+  pub left : AreEmpty new
+  pub found : Ending
+  pub there : ending ≡ Some found
+  pub closed : HasClosed (numbers_in old) found
+
+-- Why a pool isn't closed, while each handle keeps what it has: there is no worker, or one of
+-- another pool than the first's; one of the pool is in a handle elsewhere; or memory was refused.
+abbrev pub IsRefused : ℕ → Type 0
+IsRefused status = (status ≡ number_of StrangerShare) ⊎ (status ≡ number_of InUse) ⊎ (status ≡ number_of OutOfMemory)
+
+-- Why a pool is ended, and nothing is told: memory was refused, or a handle was misused.
+abbrev pub IsEnded : ℕ → Type 0
+IsEnded status = (status ≡ number_of OutOfMemory) ⊎ (status ≡ misused)
+
+abbrev pub RefusesClose : List WorkerHandle → ℕ → List WorkerHandle → Type 0
+RefusesClose old status new = (HaveSame old new × IsRefused status) ⊎ (AreEmpty new × IsEnded status)
+
+-- room for the workers of n handles
+pub record IsRoom (n : ℕ) (r : Room) : Type 0 where
+  pub places : length r.places.items ≡ n
+  pub numbers : r.numbers.items ≡ []
+  pub room : n ≤ vec_capacity r.numbers
+  pub workers : r.workers.items ≡ []
+  pub missing : r.missing.items ≡ []
