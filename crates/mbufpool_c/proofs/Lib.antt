@@ -1,6 +1,10 @@
 mod CheckedHandles
+mod CloseLemmas
 mod EndingHandles
+mod FillLemmas
+mod HallLemmas
 mod Handles
+mod LooseSend
 mod MarkLemmas
 mod OpenLemmas
 mod SeatHandles

@@ -1,5 +1,5 @@
 -- The hall of a pool, in which its workers are left where it is closed.
-use Rattle.std.specs.Prelude.{ℕ, ◌≡◌, ◌≤◌, ◌+◌, ◌-◌, ◌<◌, ◌⊎◌, List, [], Some, All, Contains, length, map}
+use Rattle.std.specs.Prelude.{ℕ, ◌≡◌, ◌≤◌, ◌+◌, ◌-◌, ◌<◌, ◌⊎◌, ◌++◌, List, [], ◌∷◌, Some, All, Contains, length, map}
 use Rattle.std.specs.List.{range_with_len}
 use Rattle.ground.specs.Seats.{Grounded}
 use Rattle.snapshot.specs.Lost.{IsAscending}
@@ -27,3 +27,9 @@ pub record AreAbove (g : Grounded) (k : ℕ) (ms : List Manned) (missing : List 
   pub all : (w : ℕ) → k < w → w ≤ g.limits.workers → Contains (numbers_of ms) w ⊎ Contains missing w
   pub full : missing ≡ [] → numbers_of ms ≡ range_with_len (k + 1) (g.limits.workers - k)
   pub as_many : length ms + length missing ≡ g.limits.workers - k
+
+-- the worker of this number was added, or its number to those of the missing
+abbrev pub IsGathered : Grounded → ℕ → List Manned → List Manned → List ℕ → List ℕ → Type 0
+IsGathered g n ms new missing gone =
+    ((m : Manned) × IsWorker g m × (m.member.number ≡ n) × (new ≡ ms ++ m ∷ []) × (gone ≡ missing))
+    ⊎ ((new ≡ ms) × (gone ≡ missing ++ n ∷ []))

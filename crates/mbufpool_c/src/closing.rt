@@ -5,7 +5,7 @@ ghost use Rattle.commons.specs.Refusals.{number_of};
 ghost use Rattle.word_pool.specs.Workers.{AreWorkers};
 ghost use Rattle.word_pool.specs.Lost.{AreLeft, AreLostOf};
 ghost use Rattle.mbufpool_c.specs.Closes.{AreApart, AreEmpty, Closes, HasClosed, HaveSame, IsEnded, IsRefused, IsRoom, IsSettled, RefusesClose, number_in, numbers_in};
-ghost use Rattle.mbufpool_c.specs.Halls.{AreAbove};
+ghost use Rattle.mbufpool_c.specs.Halls.{AreAbove, IsGathered};
 
 use crate::ending::Ending;
 use crate::ending_handle::EndingHandle;
@@ -41,7 +41,7 @@ fn places(alloc: Global, count: usize) -> Result<Vec<Box<Option<WordWorker>>>, A
     ensures { IfOk result (λ places. length places.items ≡ count) }
 {
     let mut places = Vec::with_capacity(alloc, count)?;
-    for _ in 0..count {
+    for k in 0..count {
         let Ok(place) = Box::new(alloc, None) else {
             return Err(AllocError);
         };
@@ -213,6 +213,28 @@ fn leave_all(
     }
 }
 
+/// Adds the worker of this number, who sits in this chair, or where nobody does its number to those
+/// who are missing. Refused where another sits there, or there is no room.
+fn gather(
+    chair: Chair,
+    number: u32,
+    workers: &mut Vec<WordWorker>,
+    missing: &mut Vec<u32>,
+) -> Result<(), ()>
+    ensures { IfOk result (λ _. IsGathered chair number workers.old.items workers.new.items missing.old.items missing.new.items) }
+{
+    match rise(chair, number)? {
+        Some(worker) => match workers.push(worker) {
+            Ok(()) => Ok(()),
+            Err(_) => Err(()),
+        },
+        None => match missing.push(number) {
+            Ok(()) => Ok(()),
+            Err(_) => Err(()),
+        },
+    }
+}
+
 /// Takes the workers out of these chairs of a pool with these words, in the order of their numbers,
 /// and the numbers of those who are missing. Answers `None` where one sits in another's chair.
 fn gathered(
@@ -228,10 +250,9 @@ fn gathered(
 {
     let count = ground.limits().workers as u32;
     for k in 0..count {
-        let number = count - k;
-        match rise(chairs.pop()?, number) {
-            Ok(Some(worker)) => workers.push(worker).ok()?,
-            Ok(None) => missing.push(number).ok()?,
+        let chair = chairs.pop()?;
+        match gather(chair, count - k, &mut workers, &mut missing) {
+            Ok(()) => {}
             Err(()) => return None,
         }
     }

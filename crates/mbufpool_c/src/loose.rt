@@ -38,4 +38,4 @@ impl<T: Drop, A: Allocator> Loose<T, A> {
 
 unsafe impl<T: Send, A: Allocator + Send> Send for Loose<T, A> {}
 
-unsafe impl<T: Send, A: Allocator + Sync> Sync for Loose<T, A> {}
+unsafe impl<T: Send, A: Allocator + Send> Sync for Loose<T, A> {}

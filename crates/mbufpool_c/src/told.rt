@@ -63,10 +63,8 @@ fn give_bytes(bytes: &[u8], buf: &mut [u8]) -> usize
     ensures all { result ≡ length bytes.now }
     ensures fills { Fills bytes.now buf.old buf.new }
 {
-    for k in 0..buf.len() {
-        if k < bytes.len() {
-            buf[k] = bytes[k];
-        }
+    for k in 0..bytes.len().min(buf.len()) {
+        buf[k] = bytes[k];
     }
     bytes.len()
 }
@@ -76,10 +74,8 @@ fn give_numbers(numbers: &[u32], out: &mut [u32]) -> usize
     ensures all { result ≡ length numbers.now }
     ensures fills { Fills numbers.now out.old out.new }
 {
-    for k in 0..out.len() {
-        if k < numbers.len() {
-            out[k] = numbers[k];
-        }
+    for k in 0..numbers.len().min(out.len()) {
+        out[k] = numbers[k];
     }
     numbers.len()
 }

@@ -1,12 +1,9 @@
--- A `&` to a loose box shows its pointer and its allocator, and nothing of what is behind it.
+-- A `&` to a loose box shows nothing of what is behind it.
 use denote.RattleType.{RattleType}
-use denote.Builtin.{RawPtr}
-use denote.Struct.Owning.{shape, to}
-use denote.Param.Send.{IsSend, IsSync, struct_sync, sendable}
+use denote.Param.Send.{IsSend, IsSync, Frees, part_keyless}
 use Rattle.std.specs.declared.alloc.Allocator.{Ghosts}
-use Rattle.mbufpool_c.specs.contracts.loose.Loose.{the_row, the_type}
+use Rattle.mbufpool_c.specs.contracts.loose.Loose.{the_row}
+use Rattle.mbufpool_c.proofs.LooseSend.{loose_send}
 
-pub sync : (T A : RattleType) (g : Ghosts A.Denot) → IsSend T → IsSync A → IsSync (the_row T A g)
-sync T A g s sa =
-    let O = the_type T A g in let py : IsSync RawPtr = search sendable in
-    record { shared = λ d b o κ. (struct_sync (shape O) (py, (sa, tt))).shared (to O d) b o κ }
+pub sync : (T A : RattleType) (g : Ghosts A.Denot) → IsSend T → IsSend A → Frees g g.dealloc_token → IsSync (the_row T A g)
+sync T A g s sa f = record { shared = λ d b o κ q. part_keyless (the_row T A g) (loose_send T A g s sa f) q d b o }

@@ -1,0 +1,9 @@
+use Rattle.std.proofs.Common.{ℕ, ◌≡◌, ◌<◌, ◌≤◌, get_or}
+use Rattle.mbufpool_c.proofs.told.give_bytes.Given as goal
+
+-- what was passed is given, and the rest is as it was
+abbrev pub invariant-loop-k : goal.invariant-loop-k
+invariant-loop-k l = record {
+  given : (j d : ℕ) → j < l.k → get_or l.buf j d ≡ get_or l.bytes j (get_or l.fn.buf j d);
+  stays : (j d : ℕ) → l.k ≤ j → get_or l.buf j d ≡ get_or l.fn.buf j d;
+}
