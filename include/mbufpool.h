@@ -8,11 +8,12 @@
  *   struct mbufpool_checked  the same by one seat, which takes back only what it gave
  *   struct mbufpool_worker   packets over such a pool: a worker has a cache and a table of 256
  *                            packets, with lengths, chains, reference counts, clones, and desks
- *                            over which a packet passes to another worker
+ *                            over which a packet passes to another worker; a pool of packets that
+ *                            is closed leaves a statement (struct mbufpool_ending)
  *
  * Every call answers 0, or the number of a refusal (enum mbufpool_refusal); after a refusal nothing
- * has changed but for what its line says. mbufpool_seat_count and mbufpool_checked_count answer a
- * count instead, and the calls that end a handle nothing.
+ * has changed but for what its line says. Calls of another type answer a count, as their lines say,
+ * and the calls that end a handle nothing.
  *
  * What the caller owes, and nothing checks:
  *
@@ -21,6 +22,8 @@
  *              One thread at a time uses it; it passes to another thread by a lock, a thread's
  *              start or join, or a sequentially consistent atomic. A handle with zeros is safe in
  *              every call, which answers MBUFPOOL_STRANGER, or a count of 0.
+ *   closing    One thread at a time closes a pool: no two calls of mbufpool_close that run at once
+ *              are given workers of one pool.
  *   memory     `out` has room for n of its kind and `list` has n numbers, n > 0 or not. What the
  *              pointers of one call lead to doesn't overlap (two handles are two structs), and is
  *              the call's alone while it runs.
@@ -62,6 +65,7 @@ enum mbufpool_refusal {
 	MBUFPOOL_STRANGER = 19,		/* the handle has no seat or worker, or the pool has no more of them */
 	MBUFPOOL_SAME_PACKET = 23,
 	MBUFPOOL_NOT_IN_HAND = 24,	/* (checked seats alone) the list names what the seat hasn't got, or something twice */
+	MBUFPOOL_MISUSED = 25,	/* (mbufpool_close alone) a handle was used by another thread meanwhile: the workers are ended */
 };
 
 #define MBUFPOOL_NONE { 0 }
@@ -140,7 +144,8 @@ struct mbufpool_segment { uint32_t element, buffer; uint16_t off, len, buf; };
 uint32_t mbufpool_open(const struct mbufpool_limits *limits, struct mbufpool_worker *out, size_t n);
 
 /* Ends a worker; the handle has zeros then. What it has is lost to the pool, so free its packets
- * and flush it first. The pool's memory is freed with its last worker. */
+ * and flush it first, or close the pool instead (mbufpool_close). The pool's memory is freed with its
+ * last worker. */
 void mbufpool_end(struct mbufpool_worker *worker);
 
 /* Each of these is one act of the worker. A packet is named by its slot; `out` is written where the
@@ -163,6 +168,48 @@ uint32_t mbufpool_pkt_len(struct mbufpool_worker *worker, uint32_t slot, uint32_
 uint32_t mbufpool_nb_segs(struct mbufpool_worker *worker, uint32_t slot, uint32_t *segments);
 uint32_t mbufpool_segment(struct mbufpool_worker *worker, uint32_t slot, uint32_t index, struct mbufpool_segment *out);
 uint32_t mbufpool_flush(struct mbufpool_worker *worker);	/* the cache's elements go to the common stack */
+
+/* ---- the end of a pool of packets ---- */
+
+/* What a pool left at its end, or none where the pointer is null. The pointer is the library's. */
+struct mbufpool_ending { void *at; };
+
+/* Closes the pool of the workers in the n handles, which may stand in any order, and leaves in `out`
+ * what it found; an ending that was there is freed. The handles have zeros then. A handle with zeros
+ * is passed over: its worker was ended before, and what that had is lost.
+ *
+ * Where every worker of the pool is there, the pool has a statement, which says where each element
+ * is: what the workers still have is settled, so nothing need be freed or flushed before. Where some
+ * were ended before, there is no statement, but the list of the elements that are lost with them
+ * (mbufpool_lost).
+ *
+ * Refused, in this order:
+ *   MBUFPOOL_STRANGER   no handle has a worker, or one has a worker of another pool than the first's
+ *   MBUFPOOL_IN_USE     a worker of the pool is in another handle
+ *   MBUFPOOL_NO_MEMORY  there is no memory for what a closing takes
+ * and each handle keeps its worker. The pool is ended, each handle has zeros and nothing is told
+ * where the answer is one of
+ *   MBUFPOOL_NO_MEMORY  memory was refused while the pool was settled
+ *   MBUFPOOL_MISUSED    another thread used one of these workers meanwhile */
+uint32_t mbufpool_close(struct mbufpool_worker *workers, size_t n, struct mbufpool_ending *out);
+
+/* How many elements the pool had, and how many were available and in use. */
+struct mbufpool_counts { uint64_t population, available, in_use; };
+
+/* The counts of the statement; MBUFPOOL_STRANGER where there is none. */
+uint32_t mbufpool_ending_counts(struct mbufpool_ending *ending, struct mbufpool_counts *out);
+
+/* The statement as one line of JSON: writes the first len bytes of it, or all where it is shorter,
+ * and no zero byte behind them. Answers how many bytes all of it has; 0 where there is no statement,
+ * or memory was refused. */
+size_t mbufpool_statement_json(struct mbufpool_ending *ending, char *buf, size_t len);
+
+/* The elements that are lost, ascending: writes the first n of them, and answers how many there are;
+ * 0 where there is a statement. */
+size_t mbufpool_lost(struct mbufpool_ending *ending, uint32_t *out, size_t n);
+
+/* Frees an ending; the handle has zeros then. */
+void mbufpool_ending_free(struct mbufpool_ending *ending);
 
 #ifdef __cplusplus
 }
