@@ -307,12 +307,37 @@ static void call_checked(struct thread *t)
 	MUST(mbufpool_checked_put(&seat, list, 1) == MBUFPOOL_STRANGER);
 }
 
+/* ---- the end of a pool of packets ---- */
+
+/* What a pool that was closed left, by calls with room for any number of bytes. */
+static void look_at_ending(struct thread *t, struct mbufpool_ending *e)
+{
+	struct mbufpool_counts c = { 7, 7, 7 };
+	uint32_t lost[MOST], status = mbufpool_ending_counts(e, &c), room = below(t, 40), i;
+	size_t n = mbufpool_lost(e, lost, MOST), length;
+	char text[40];
+
+	MUST(status == 0 || status == MBUFPOOL_STRANGER);
+	for (i = 1; i < n && i < MOST; i++)
+		MUST(lost[i - 1] < lost[i]);
+	memset(text, '#', sizeof(text));
+	length = mbufpool_statement_json(e, text, room);
+	MUST((length == 0) == (status != 0));
+	for (i = 0; i < sizeof(text); i++)
+		MUST((text[i] == '#') == (i >= room || i >= length));
+	if (status == 0)
+		MUST(n == 0 && c.available + c.in_use == c.population);
+	else
+		MUST(c.population == 7 && c.available == 7 && c.in_use == 7);
+}
+
 /* ---- handles without an owner, and pools that there can't be ---- */
 
 static void call_none(struct thread *t)
 {
 	struct mbufpool_worker none = MBUFPOOL_NONE;
 	struct mbufpool_seat no_seat = MBUFPOOL_NONE, other = MBUFPOOL_NONE;
+	struct mbufpool_ending no_ending = MBUFPOOL_NONE;
 	struct mbufpool_packet p[4];
 	uint32_t a = any(t), b = any(t), n = 77;
 
@@ -329,7 +354,11 @@ static void call_none(struct thread *t)
 	MUST(mbufpool_seat_get(&no_seat, &n, 1) == MBUFPOOL_STRANGER && n == 77);
 	MUST(mbufpool_seat_put(&no_seat, &n, 1) == MBUFPOOL_STRANGER);
 	mbufpool_seat_free(&no_seat);
-	t->calls += 12;
+	MUST(mbufpool_close(&none, 1, &no_ending) == MBUFPOOL_STRANGER && no_ending.at == NULL);
+	MUST(mbufpool_close(&none, 0, &no_ending) == MBUFPOOL_STRANGER);
+	look_at_ending(t, &no_ending);
+	mbufpool_ending_free(&no_ending);
+	t->calls += 14;
 }
 
 /* Whether there can be a pool of these limits, by the header. */
@@ -341,13 +370,46 @@ static int is_pool(const struct mbufpool_limits *l)
 		l->tries >= 1 && l->tries <= 1000000;
 }
 
+/* Closes the pool of these n handles, which have this many workers, all of one pool that are not
+ * ended; before, with one handle fewer, and with a worker of another pool. */
+static void close_some(struct thread *t, struct mbufpool_worker *w, uint32_t n, uint32_t there)
+{
+	struct mbufpool_limits one = { 3, 1, 1, 0, 64, 1, 10 };
+	struct mbufpool_worker both[2] = { MBUFPOOL_NONE };
+	struct mbufpool_ending e = MBUFPOOL_NONE;
+	uint32_t last = n - 1, status;
+
+	if (there == 0) {
+		MUST(told(t, mbufpool_close(w, n, &e)) == MBUFPOOL_STRANGER && e.at == NULL);
+		look_at_ending(t, &e);
+		return;
+	}
+	while (w[last].at == NULL)
+		last--;
+	status = told(t, mbufpool_close(w, last, &e));
+	MUST(status == (there == 1 ? MBUFPOOL_STRANGER : MBUFPOOL_IN_USE) && w[last].at != NULL);
+	MUST(mbufpool_open(&one, &both[1], 1) == 0);
+	both[0] = w[last];
+	MUST(told(t, mbufpool_close(both, 2, &e)) == MBUFPOOL_STRANGER && e.at == NULL);
+	w[last] = both[0];
+	MUST(told(t, mbufpool_close(&both[1], 1, &e)) == 0 && both[1].at == NULL);
+	look_at_ending(t, &e);
+	MUST(told(t, mbufpool_close(w, n, &e)) == 0);
+	for (last = 0; last < n; last++)
+		MUST(w[last].at == NULL);
+	look_at_ending(t, &e);
+	mbufpool_ending_free(&e);
+	MUST(e.at == NULL);
+	look_at_ending(t, &e);
+}
+
 static void call_open(struct thread *t)
 {
 	struct mbufpool_limits l = { 1 + below(t, MOST), below(t, 64), 1 + below(t, 4), below(t, 4),
 		2048, 10, 10 };
 	struct mbufpool_worker w[4] = { MBUFPOOL_NONE };
 	struct mbufpool_seat seat = MBUFPOOL_NONE, other = MBUFPOOL_NONE;
-	uint32_t n, status, i;
+	uint32_t n, status, i, there = 0;
 
 	/* (a pool of millions takes its time) */
 	switch (below(t, 8)) {
@@ -368,11 +430,12 @@ static void call_open(struct thread *t)
 		if (below(t, 2))
 			mbufpool_end(&w[i]);
 	}
-	/* Workers that are left are ended by an open over them, done or refused. */
+	/* Workers that are left stay where an open over them is refused, and close what is left. */
 	l.workers = 5;
-	MUST(mbufpool_open(&l, w, 4) == MBUFPOOL_BAD_POOL);
 	for (i = 0; i < 4; i++)
-		MUST(w[i].at == NULL);
+		there += w[i].at != NULL;
+	MUST(mbufpool_open(&l, w, 4) == MBUFPOOL_BAD_POOL);
+	close_some(t, w, 4, there);
 	status = told(t, mbufpool_seat_open(l.population, l.desks, l.tries, &seat));
 	MUST((status == 0) ==
 		(l.population >= 1 && l.population <= 16777214 && l.desks >= 1 && l.desks <= 64 &&
@@ -451,10 +514,12 @@ static void one_pool(struct thread *t, uint32_t threads)
 	for (slot = 0; below(t, 2) && slot < SLOTS; slot++)
 		mbufpool_free(&t[0].worker, slot);
 	for (i = 0; i < threads; i++) {
-		mbufpool_end(&t[i].worker);
+		w[threads - 1 - i] = t[i].worker;
+		t[i].worker.at = NULL;
 		mbufpool_seat_free(&t[i].seat);
-		MUST(t[i].worker.at == NULL && t[i].seat.at == NULL);
+		MUST(t[i].seat.at == NULL);
 	}
+	close_some(&t[0], w, threads, threads);
 }
 
 int main(int argc, char **argv)

@@ -1,0 +1,102 @@
+/* closing.c - a pool is closed, and tells where each of its elements is: those on the common stack,
+ * in a worker's cache, in packets and on desks. A second pool is closed after one of its workers was
+ * ended with a packet and a cache: the elements that are lost with it are told.
+ *
+ *     make closing && ./closing */
+#include <stdio.h>
+#include <stdlib.h>
+
+#include "mbufpool.h"
+
+#define WORKERS 3
+#define POPULATION 24
+#define CACHE 4
+
+/* Ends the program where a call is refused. */
+static void must(uint32_t status, const char *call)
+{
+	if (status == 0)
+		return;
+	printf("%s was refused, %u\n", call, (unsigned)status);
+	exit(1);
+}
+
+static void open_pool(struct mbufpool_worker *worker)
+{
+	struct mbufpool_limits limits = { POPULATION, CACHE, WORKERS, 2, 2048, 65535, 64 };
+
+	must(mbufpool_open(&limits, worker, WORKERS), "open");
+}
+
+/* Each worker gets a packet of some bytes, and a cache; the first clones its own, and lays the clone
+ * on a desk. */
+static void use_pool(struct mbufpool_worker *worker)
+{
+	struct mbufpool_packet packet, clone;
+	uint32_t length;
+	uint16_t w;
+
+	for (w = 0; w < WORKERS; w++) {
+		must(mbufpool_alloc(&worker[w], &packet), "alloc");
+		must(mbufpool_append(&worker[w], packet.slot, (uint16_t)(60 + w), &length), "append");
+		if (w > 0)
+			continue;
+		must(mbufpool_clone(&worker[0], packet.slot, &clone), "clone");
+		must(mbufpool_offer(&worker[0], clone.slot, 1), "offer");
+	}
+}
+
+/* Prints the statement as JSON, in room of its length. */
+static void print_statement(struct mbufpool_ending *ending)
+{
+	size_t length = mbufpool_statement_json(ending, NULL, 0);
+	char *text = (char *)malloc(length);
+
+	if (length == 0 || text == NULL)
+		must(MBUFPOOL_NO_MEMORY, "the statement");
+	mbufpool_statement_json(ending, text, length);
+	fwrite(text, 1, length, stdout);
+	free(text);
+}
+
+/* Whether the counts are those of a pool of which nothing is missing. */
+static int are_whole(const struct mbufpool_counts *counts)
+{
+	return counts->population == POPULATION &&
+		counts->available + counts->in_use == counts->population;
+}
+
+int main(void)
+{
+	struct mbufpool_worker worker[WORKERS] = { MBUFPOOL_NONE };
+	struct mbufpool_ending ending = MBUFPOOL_NONE;
+	struct mbufpool_counts counts;
+	uint32_t lost[POPULATION];
+	size_t n, k;
+
+	open_pool(worker);
+	use_pool(worker);
+	if (mbufpool_close(worker, 1, &ending) != MBUFPOOL_IN_USE)
+		return 1;
+	must(mbufpool_close(worker, WORKERS, &ending), "close");
+	must(mbufpool_ending_counts(&ending, &counts), "counts");
+	printf("of %lu elements %lu are available, %lu in use\n", (unsigned long)counts.population,
+		(unsigned long)counts.available, (unsigned long)counts.in_use);
+	print_statement(&ending);
+	if (!are_whole(&counts) || mbufpool_lost(&ending, lost, POPULATION) != 0)
+		return 1;
+
+	open_pool(worker);
+	use_pool(worker);
+	mbufpool_end(&worker[1]);
+	must(mbufpool_close(worker, WORKERS, &ending), "close");
+	n = mbufpool_lost(&ending, lost, POPULATION);
+	printf("lost with worker 2:");
+	for (k = 0; k < n; k++)
+		printf(" %u", (unsigned)lost[k]);
+	printf("\n");
+	if (n == 0 || mbufpool_ending_counts(&ending, &counts) != MBUFPOOL_STRANGER)
+		return 1;
+	mbufpool_ending_free(&ending);
+	return 0;
+}
