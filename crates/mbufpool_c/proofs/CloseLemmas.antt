@@ -9,7 +9,7 @@ use Rattle.std.specs.Prelude.{flat_map}
 use Rattle.ground.specs.Seats.{Grounded}
 use Rattle.word_pool.specs.Lost.{AreLeft, AreLostOf}
 use Rattle.word_pool.specs.Workers.{Manned}
-use Rattle.mbufpool_c.specs.Closes.{AreApart, AreEmpty, HasClosed, HaveSame, IsSettled, number_in, numbers_in, values_of}
+use Rattle.mbufpool_c.specs.Closes.{AreApart, AreEmpty, Closes, HasClosed, HaveSame, IsSettled, number_in, numbers_in, values_of}
 use Rattle.mbufpool_c.specs.Halls.{AreAbove}
 use Rattle.mbufpool_c.specs.declared.ending.Ending.{Ending}
 use Rattle.mbufpool_c.specs.declared.worker_handle.WorkerHandle.{WorkerHandle}
@@ -119,4 +119,14 @@ closed_some numbers g ms missing e are some as_many apart none left lost = recor
   apart = apart;
   all = omega (arith, are.as_many);
   settled = settled_some g ms missing e some none left lost;
+}
+
+-- handles that were looked at first are closed as well
+pub closes_same : (old looked new : List WorkerHandle) (ending : Option Ending) → HaveSame old looked →
+    Closes looked new ending → Closes old new ending
+closes_same old looked new ending same closes = record {
+  left = closes.left;
+  found = closes.found;
+  there = closes.there;
+  closed = subst (λ (vs : List (Option Manned)). HasClosed (flat_map number_in vs) closes.found) same closes.closed;
 }

@@ -85,7 +85,7 @@ one_missing g k n ms missing next low are = record {
 }
 
 -- the numbers of workers are those of their members
-numbers_are : (ms : List Manned) → map (λ member. member.number) (members_of ms) ≡ numbers_of ms
+pub numbers_are : (ms : List Manned) → map (λ member. member.number) (members_of ms) ≡ numbers_of ms
 numbers_are [] = refl
 numbers_are (m ∷ ms) = ap (λ (ws : List ℕ). m.member.number ∷ ws) (numbers_are ms)
 

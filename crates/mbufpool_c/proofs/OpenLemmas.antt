@@ -3,19 +3,27 @@ use Rattle.std.proofs.Common.{ℕ, ◌≡◌, ◌+◌, ◌<◌, inl, inr, List, 
 use Rattle.std.proofs.lemmas.Bool.{cases_eq}
 use Rattle.std.proofs.lemmas.List.{drop-drop, get_or-drop, map-append, reverse-append, length-map}
 use Rattle.std.proofs.lemmas.List.FromFn.{length-range_with_len}
+use Rattle.std.specs.List.{range_with_len}
 use Rattle.commons.specs.declared.limits.Limits.{Limits}
 use Rattle.ground.specs.Seats.{Grounded}
 use Rattle.mbuf.specs.Members.{Member}
 use Rattle.word_pool.specs.Workers.{Manned, AreNew, AreWorkers, members_of}
+use Rattle.mbufpool_c.proofs.HallLemmas.{numbers_are}
+use Rattle.mbufpool_c.specs.Halls.{numbers_of}
 use Rattle.mbufpool_c.specs.Opens.{IsNewCrew}
 use Rattle.mbufpool_c.specs.declared.worker_handle.WorkerHandle.{WorkerHandle}
 
 -- all workers are as many as the pool has
-count_of_crew : (g : Grounded) (ms : List Manned) → AreWorkers g ms → length ms ≡ g.limits.workers
+pub count_of_crew : (g : Grounded) (ms : List Manned) → AreWorkers g ms → length ms ≡ g.limits.workers
 count_of_crew g ms all =
     sym (length-map ms (λ (m : Manned). m.member))
     ∙ sym (length-map (members_of ms) (λ (m : Member). m.number))
     ∙ ap length all.numbers ∙ length-range_with_len 1 g.limits.workers
+
+-- and are numbered from 1
+pub numbers_of_crew : (g : Grounded) (ms : List Manned) → AreWorkers g ms → numbers_of ms ≡ range_with_len 1 (length ms)
+numbers_of_crew g ms all =
+    sym (numbers_are ms) ∙ all.numbers ∙ ap (range_with_len 1) (sym (count_of_crew g ms all))
 
 -- workers of a pool as it is made are a new crew, also where they went from list to list
 pub crew_of : (l : Limits) (g : Grounded) (ms ns : List Manned) → g.limits ≡ l → AreWorkers g ms → AreNew l ms →

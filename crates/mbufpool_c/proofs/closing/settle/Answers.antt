@@ -1,4 +1,4 @@
-use Rattle.std.proofs.Common.{◌≡◌, ◌<◌, [], List, ℕ, Box, Global, None, length, arith, subst, sym}
+use Rattle.std.proofs.Common.{◌≡◌, ◌<◌, [], List, ℕ, Box, Global, None, length, arith, refl, subst, sym}
 use Rattle.ground.specs.Seats.{Grounded}
 use Rattle.word_pool.specs.Lost.{AreLeft, AreLostOf}
 use Rattle.mbufpool_c.specs.Closes.{AreApart, HasClosed, IsSettled}
@@ -22,7 +22,7 @@ returns-then-len-eq0-2-clause-closed c =
     let as_many : length ms ≡ length c.args.numbers.now =
     omega (arith, c.if-len-numbers.false, c.len-else-len-eq0.ensures, c.args.found.0.ok) in
     let apart : AreApart c.args.numbers.now missing =
-    subst (AreApart c.args.numbers.now) c.as_slice.ensures.value c.if-not-are_apart.ensures in
+    subst (AreApart c.args.numbers.now) c.as_slice.ensures.value (c.if-not-are_apart.ensures refl) in
     if_ok (λ (e : Box Ending Global). IsSettled c.args.ground [] ms e.value)
     (λ (e : Box Ending Global). HasClosed c.args.numbers.now e.value)
     (λ e settled. closed_all c.args.numbers.now c.args.ground ms missing e.value c.requires none as_many apart settled)
@@ -45,7 +45,7 @@ returns-clause-closed c =
     let as_many : length ms ≡ length c.args.numbers.now =
     omega (arith, c.if-len-numbers.false, c.len-else-len-eq0.ensures, c.args.found.0.ok) in
     let apart : AreApart c.args.numbers.now missing =
-    subst (AreApart c.args.numbers.now) c.as_slice.ensures.value c.if-not-are_apart.ensures in
+    subst (AreApart c.args.numbers.now) c.as_slice.ensures.value (c.if-not-are_apart.ensures refl) in
     let left : AreLeft c.args.ground missing ms = some_there c.args.ground ms missing c.requires some in
     if_ok_both (λ (e : Box Ending Global). e.value.statement ≡ None)
     (λ (e : Box Ending Global). AreLostOf c.args.ground c.as_slice-2.result.now ms e.value.lost.items)
