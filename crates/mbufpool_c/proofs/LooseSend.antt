@@ -1,5 +1,4 @@
 -- A loose box may cross threads as what is behind it may, where its allocator may.
-use mathlib.Core.List.{[], ◌∷◌}
 use mir.Raw.{raw}
 use base.Fraction.{full_share}
 use base.Shift.{Keyless}

@@ -1,5 +1,4 @@
 use Rattle.std.proofs.Common.{◌≡◌, ◌<◌, [], List, ℕ, Box, Global, None, length, arith, refl, subst, sym}
-use Rattle.ground.specs.Seats.{Grounded}
 use Rattle.word_pool.specs.Lost.{AreLeft, AreLostOf}
 use Rattle.mbufpool_c.specs.Closes.{AreApart, HasClosed, IsSettled}
 use Rattle.mbufpool_c.specs.declared.ending.Ending.{Ending}

@@ -1,4 +1,4 @@
-use Rattle.std.proofs.Common.{◌≡◌, ◌≤◌, ◌++◌, ◌∷◌, [], Box, Global, List, Some, length, length-append, map, reverse, arith, ap, ◌∙◌, sym}
+use Rattle.std.proofs.Common.{◌++◌, ◌∷◌, [], Box, Global, List, Some, length, length-append, map, reverse, arith, ap, ◌∙◌, sym}
 use Rattle.std.proofs.lemmas.List.Elements.{All-pop}
 use Rattle.word_pool.specs.Workers.{Manned, IsWorker}
 use Rattle.mbufpool_c.specs.declared.workers.OwnWorker.{OwnWorker}
