@@ -23,6 +23,7 @@ mod players;
 mod playing;
 mod refused;
 mod settling;
+mod stopped;
 mod threads;
 
 use playing::play;

@@ -7,6 +7,7 @@ use super::players::Retired;
 use book::book::Book;
 use book::settling::{Unsettled, settle};
 use book::share::hand_in;
+use commons::closed::Closed;
 use commons::limits::Limits;
 use commons::refusal::Refusal;
 use ground::pool::Ground;
@@ -67,6 +68,21 @@ impl Ending {
         let (seat, packets) = other.into_parts();
         ground.join(&mut self.seat, seat);
         packets.lose();
+    }
+
+    /// Closes the pool. The book has the shares so far.
+    pub(super) fn close(self, ground: Ground) -> Result<(Closed, Book), Refusal>
+        requires { IsIdle ground self.seat }
+    {
+        let Ending { seat, book } = self;
+        match ground.close(seat) {
+            Ok(closed) => Ok((closed, book)),
+            Err((refusal, _, seat)) => {
+                seat.lose();
+                book.lose();
+                Err(refusal)
+            }
+        }
     }
 
     /// Closes the pool, and settles it.
