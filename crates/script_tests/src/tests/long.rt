@@ -26,6 +26,16 @@ pub(super) const ROWS: &[LongRow] = &[
         Some(Refusal::ScriptFault(2)),
     ),
     (
+        "a line of 8193 spaces",
+        &[
+            Part::Text("pool 3\n"),
+            Part::Each(8_193, &[], " "),
+            Part::Text("\n"),
+        ],
+        8_201,
+        Some(Refusal::ScriptFault(2)),
+    ),
+    (
         "a script has 10000 command lines at most",
         &[
             Part::Text("pool 3\n"),
@@ -42,6 +52,12 @@ pub(super) const ROWS: &[LongRow] = &[
         ],
         80_015,
         Some(Refusal::ScriptFault(20_002)),
+    ),
+    (
+        "10001 lines flush",
+        &[Part::Text("pool 3\n"), Part::Each(10_001, &[], "flush\n")],
+        60_013,
+        Some(Refusal::ScriptFault(10_002)),
     ),
     (
         "a script has 1048576 bytes at most",

@@ -121,6 +121,7 @@ pub(super) const ROWS: &[TextsRow] = &[
         "skipped lines alone are a fault of the last one",
         &[
             ("#\n\n  \n", Some(ScriptFault(3))),
+            ("#\n\n", Some(ScriptFault(2))),
             ("#\n\n  \n#", Some(ScriptFault(4))),
         ],
     ),
@@ -129,6 +130,15 @@ pub(super) const ROWS: &[TextsRow] = &[
         &[
             ("pool 3\nalloc a", Some(ScriptFault(2))),
             ("pool 3\n ", Some(ScriptFault(2))),
+            ("pool 0", Some(ScriptFault(1))),
+        ],
+    ),
+    (
+        "a line ends by a line feed alone, and may be empty",
+        &[
+            ("pool 3\n\n", None),
+            ("pool 3\x0d\n", Some(ScriptFault(1))),
+            ("pool 3\nflush\x0d\n", Some(ScriptFault(2))),
         ],
     ),
     (
@@ -138,6 +148,7 @@ pub(super) const ROWS: &[TextsRow] = &[
             ("pool 3\nalloc abcdefghijklmnopq\n", Some(ScriptFault(2))),
             ("pool 3\nalloc 1a\n", Some(ScriptFault(2))),
             ("pool 3\nalloc aB\n", Some(ScriptFault(2))),
+            ("pool 3\nalloc A\n", Some(ScriptFault(2))),
             ("pool 3\nalloc a1\n", None),
         ],
     ),
@@ -148,6 +159,7 @@ pub(super) const ROWS: &[TextsRow] = &[
                 "pool 3\nalloc a\nfree a\nalloc b\nalloc a\nalloc b\n",
                 Some(ScriptFault(5)),
             ),
+            ("pool 3\nalloc a\nalloc a\n", Some(ScriptFault(3))),
             (
                 "pool 3\nalloc abcdefghijklmno\nalloc abcdefghijklmnop\n",
                 None,
@@ -163,6 +175,7 @@ pub(super) const ROWS: &[TextsRow] = &[
             ("pool 3\nalloc a b\n", Some(ScriptFault(2))),
             ("pool 3\nalloc\n", Some(ScriptFault(2))),
             ("pool 3\n1:alloc a\n", Some(ScriptFault(2))),
+            ("pool 3\n2: alloc a\n", Some(ScriptFault(2))),
         ],
     ),
     // In a pool of two workers, which words in front of a command name one.
@@ -219,6 +232,7 @@ pub(super) const POOL_ROWS: &[TextsRow] = &[
             ("pool 16777215\n", Some(BadPool)),
             ("pool 16777214\n", None),
             ("pool 0\nbad\nworse", Some(BadPool)),
+            ("pool 0\nbogus\n", Some(BadPool)),
             ("pool 3 tries 0\n", Some(BadPool)),
             ("pool 3 start 1099511627776\n", Some(BadPool)),
             ("pool 3 start 1099511627775\n", None),
@@ -271,6 +285,8 @@ pub(super) const POOL_ROWS: &[TextsRow] = &[
             ("pool 0 buf x\n", Some(ScriptFault(1))),
             ("pool\n", Some(ScriptFault(1))),
             ("pool 3 pool 3\n", Some(ScriptFault(1))),
+            ("pool 3 pool 4\n", Some(ScriptFault(1))),
+            ("pool 3 cache\n", Some(ScriptFault(1))),
             ("pools 3\n", Some(ScriptFault(1))),
         ],
     ),
@@ -285,6 +301,7 @@ pub(super) const POOL_ROWS: &[TextsRow] = &[
         "a number has twenty digits at most and is below 2 to the 64",
         &[
             ("pool 00000000000000000003\n", None),
+            ("pool 0003\n", None),
             ("pool 000000000000000000003\n", Some(ScriptFault(1))),
             ("pool 18446744073709551615\n", Some(BadPool)),
             ("pool 18446744073709551616\n", Some(ScriptFault(1))),
