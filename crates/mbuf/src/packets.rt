@@ -12,6 +12,7 @@ mod sharing;
 mod sizes;
 
 use crate::free_slots::FreeSlots;
+use crate::steps;
 use commons::limits::Limits;
 use commons::packet::{Packet, Seg};
 use commons::refusal::Refusal;
@@ -30,6 +31,9 @@ pub struct Packets {
     worker: Worker,
     packets: Vec<Packet>,
     free: FreeSlots,
+    /// The headroom of the pool's fresh packets, in bytes. It is kept, so that no alloc asks how
+    /// long a buffer is.
+    headroom: u16,
 }
 
 impl Model for Packets {
@@ -65,6 +69,7 @@ impl Packets {
                 worker,
                 packets,
                 free: FreeSlots::new(),
+                headroom: steps::headroom(limits),
             }),
             Err(_) => {
                 worker.lose();
@@ -79,6 +84,7 @@ impl Packets {
             worker,
             packets: _,
             free: _,
+            headroom: _,
         } = self;
         worker.lose();
     }

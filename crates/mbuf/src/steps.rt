@@ -1,6 +1,6 @@
 //! What packets ask of the cache and of the shared pool, an element at a time.
 
-ghost use Rattle.std.specs.Prelude.{◌≡◌, ◌<◌, ◌≤◌, ◌+◌, ◌*◌, ◌∷◌, [], ℕ, length, if◌then◌else◌, nat_lt};
+ghost use Rattle.std.specs.Prelude.{◌≡◌, ◌<◌, ◌≤◌, ◌+◌, ◌*◌, ◌∷◌, [], ℕ, length, if◌then◌else◌, min, nat_lt};
 ghost use Rattle.commons.specs.Bag.{bag, one};
 ghost use Rattle.commons.specs.Bounds.{IsPool, max_population};
 ghost use Rattle.commons.specs.Calls.{Calls};
@@ -23,17 +23,26 @@ use mempool::worker::Worker;
 /// (rte_config.h, `RTE_PKTMBUF_HEADROOM`, DPDK 21.11)
 const HEADROOM: u64 = 128;
 
-/// The segment of a fresh packet.
-#[inline(always)]
-pub fn fresh(limits: &Limits, elem: u32) -> Seg
+/// The headroom of a pool's fresh packets, in bytes.
+pub fn headroom(limits: &Limits) -> u16
     requires { IsPool limits.now }
+    ensures { result ≡ min 128 limits.now.buf }
+{
+    HEADROOM.min(limits.buf) as u16
+}
+
+/// The segment of a fresh packet, with the headroom of its pool.
+#[inline(always)]
+pub fn fresh(limits: &Limits, headroom: u16, elem: u32) -> Seg
+    requires pool { IsPool limits.now }
+    requires headroom { headroom ≡ min 128 limits.now.buf }
     ensures seg { result ≡ fresh_seg limits.now elem }
     ensures fits { result.data_off + result.data_len ≤ result.buf_len }
 {
     Seg {
         elem,
         base: None,
-        data_off: HEADROOM.min(limits.buf) as u16,
+        data_off: headroom,
         data_len: 0,
         buf_len: limits.buf as u16,
     }

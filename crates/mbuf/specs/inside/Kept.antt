@@ -1,5 +1,5 @@
 -- How a `Packets` is kept. No public clause cites this module.
-use Rattle.std.specs.Prelude.{ℕ, ◌≡◌, Bool, true, false, List, [], ◌∷◌, length, Option, Some, None}
+use Rattle.std.specs.Prelude.{ℕ, ◌≡◌, Bool, true, false, List, [], ◌∷◌, length, Option, Some, None, min}
 use Rattle.commons.specs.declared.packet.Seg.{Seg}
 use Rattle.commons.specs.Packets.{held_in, own_in}
 use Rattle.mbuf.specs.Members.{Member, slots}
@@ -24,10 +24,11 @@ member_of p = record {
   table = shown p.free p.packets.items;
 }
 
--- there is a flag and a packet for each slot
+-- there is a flag and a packet for each slot, and the headroom is that of the pool's fresh packets
 pub record IsKept (p : Inside) : Type 0 where
   pub flags : length p.free ≡ slots
   pub packets : length p.packets.items ≡ slots
+  pub headroom : p.headroom ≡ min 128 p.worker.limits.buf
 
 -- the cache is as before, and the packets hold what they held
 pub record KeepsHolds (m after : Member) : Type 0 where

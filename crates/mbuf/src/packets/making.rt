@@ -27,7 +27,7 @@ impl Packets {
         } }
     {
         c.claim(elem);
-        let seg = steps::fresh(self.worker.limits(), elem);
+        let seg = steps::fresh(self.worker.limits(), self.headroom, elem);
         self.packets[slot].restart(seg);
         self.free.take(slot);
         slot as Pid

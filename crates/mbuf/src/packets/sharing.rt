@@ -103,7 +103,7 @@ impl Packets {
     {
         let (elem, base) = self.indirect(p)?;
         let freed = steps::end_hold(&mut self.worker, c, base, steps::NOTHING_FREED);
-        let fresh = steps::fresh(self.worker.limits(), elem);
+        let fresh = steps::fresh(self.worker.limits(), self.headroom, elem);
         self.packets[p as usize].restart(fresh);
         Ok(freed)
     }
