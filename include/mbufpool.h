@@ -199,9 +199,10 @@ struct mbufpool_counts { uint64_t population, available, in_use; };
 /* The counts of the statement; MBUFPOOL_STRANGER where there is none. */
 uint32_t mbufpool_ending_counts(struct mbufpool_ending *ending, struct mbufpool_counts *out);
 
-/* The statement as one line of JSON: writes the first len bytes of it, or all where it is shorter,
- * and no zero byte behind them. Answers how many bytes all of it has; 0 where there is no statement,
- * or memory was refused. */
+/* The statement, line by line as text, or as one line of JSON: writes the first len bytes of it, or
+ * all where it is shorter, and no zero byte behind them. Answers how many bytes all of it has; 0
+ * where there is no statement, or memory was refused. */
+size_t mbufpool_statement_text(struct mbufpool_ending *ending, char *buf, size_t len);
 size_t mbufpool_statement_json(struct mbufpool_ending *ending, char *buf, size_t len);
 
 /* The elements that are lost, ascending: writes the first n of them, and answers how many there are;

@@ -321,7 +321,8 @@ static void look_at_ending(struct thread *t, struct mbufpool_ending *e)
 	for (i = 1; i < n && i < MOST; i++)
 		MUST(lost[i - 1] < lost[i]);
 	memset(text, '#', sizeof(text));
-	length = mbufpool_statement_json(e, text, room);
+	length = below(t, 2) ? mbufpool_statement_json(e, text, room) :
+			       mbufpool_statement_text(e, text, room);
 	MUST((length == 0) == (status != 0));
 	for (i = 0; i < sizeof(text); i++)
 		MUST((text[i] == '#') == (i >= room || i >= length));

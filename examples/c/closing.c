@@ -46,15 +46,15 @@ static void use_pool(struct mbufpool_worker *worker)
 	}
 }
 
-/* Prints the statement as JSON, in room of its length. */
+/* Prints the statement, in room of its length. */
 static void print_statement(struct mbufpool_ending *ending)
 {
-	size_t length = mbufpool_statement_json(ending, NULL, 0);
+	size_t length = mbufpool_statement_text(ending, NULL, 0);
 	char *text = (char *)malloc(length);
 
 	if (length == 0 || text == NULL)
 		must(MBUFPOOL_NO_MEMORY, "the statement");
-	mbufpool_statement_json(ending, text, length);
+	mbufpool_statement_text(ending, text, length);
 	fwrite(text, 1, length, stdout);
 	free(text);
 }

@@ -2,6 +2,7 @@
 
 ghost use Rattle.std.specs.Prelude.{◌≡◌, ◌++◌, None, codes, length};
 ghost use Rattle.json_text.specs.StatementData.{json_of};
+ghost use Rattle.statement_text.specs.StatementText.{text_of};
 ghost use Rattle.mbufpool_c.specs.Told.{Fills, ShowsCounts, ShowsCountsOf, TellsLost, TellsText, TellsTextOf, counts_in, statement_in};
 
 use crate::ending::Ending;
@@ -9,6 +10,7 @@ use crate::ending_handle::EndingHandle;
 use commons::refusal::Refusal;
 use json_text::statement_json;
 use pool_model::statement::Statement;
+use statement_text::statement_text;
 use std::alloc::Global;
 
 /// How many elements a pool has, how many are available, and how many are in use.
@@ -78,6 +80,41 @@ fn give_numbers(numbers: &[u32], out: &mut [u32]) -> usize
         out[k] = numbers[k];
     }
     numbers.len()
+}
+
+/// Gives what there is room for of a statement's text, and answers how long it is: 0 where there is
+/// no statement, or memory was refused.
+fn give_text(alloc: Global, statement: &Option<Statement>, buf: &mut [u8]) -> usize
+    ensures { TellsTextOf text_of statement.now result buf.old buf.new }
+{
+    match statement {
+        None => 0,
+        Some(statement) => match statement_text(alloc, statement) {
+            Ok(text) => give_bytes(text.as_slice(), buf),
+            Err(_) => 0,
+        },
+    }
+}
+
+/// The statement as text, line by line: as much as there is room for. Answers how many bytes it has,
+/// or 0 where there is no statement, or memory was refused.
+#[unsafe(no_mangle)]
+pub extern "C" fn mbufpool_statement_text(
+    alloc: Global,
+    ending: &mut EndingHandle,
+    buf: &mut [u8],
+) -> usize
+    ensures kept { ending.new.value ≡ ending.old.value }
+    ensures told { TellsText text_of ending.old.value result buf.old buf.new }
+{
+    match ending.take(alloc) {
+        None => 0,
+        Some(found) => {
+            let told = give_text(alloc, &found.statement, buf);
+            ending.put(found);
+            told
+        }
+    }
 }
 
 /// Gives what there is room for of a statement as JSON, and answers how long it is: 0 where there

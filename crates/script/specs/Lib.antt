@@ -4,5 +4,4 @@ pub mod Replay
 pub mod ReplyText
 pub mod Running
 pub mod Stands
-pub mod StatementText
 pub mod inside

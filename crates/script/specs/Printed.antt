@@ -6,7 +6,7 @@ use Rattle.script_text.specs.Commands.{Line}
 use Rattle.script_text.specs.Grammar.{IsScript}
 use Rattle.script.specs.Replay.{replies_to, end_of, new_run}
 use Rattle.script.specs.ReplyText.{reply_line}
-use Rattle.script.specs.StatementText.{text_of}
+use Rattle.statement_text.specs.StatementText.{text_of}
 use Rattle.pool_model.specs.Statements.{statement_of}
 
 -- the reference model's reply to each line, and the statement of its end

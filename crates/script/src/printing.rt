@@ -8,7 +8,7 @@ ghost use Rattle.script.specs.ReplyText.{reply_line};
 ghost use Rattle.script.specs.Printed.{printed_for, IsPrintedFor};
 ghost use Rattle.script.specs.Replay.{CommandHasRoom, end_of, obey as obeyed, replies_to};
 ghost use Rattle.script.specs.inside.Standing.{fresh_run, run_of};
-ghost use Rattle.script.specs.StatementText.{text_of};
+ghost use Rattle.statement_text.specs.StatementText.{text_of};
 ghost use Rattle.pool_model.specs.Statements.{statement_of};
 
 use crate::names::Names;

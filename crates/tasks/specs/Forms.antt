@@ -7,7 +7,7 @@ use Rattle.script.specs.Losing.{IsCauseWithout, LosesFrom, lost_text}
 use Rattle.script.specs.Printed.{IsJsonFor, IsPrintedFor}
 use Rattle.script.specs.Running.{RunsTo}
 use Rattle.script.specs.declared.threaded.Grounds.{Grounds}
-use Rattle.script.specs.StatementText.{text_of}
+use Rattle.statement_text.specs.StatementText.{text_of}
 use Rattle.script_text.specs.Grammar.{IsCause}
 use Rattle.script_text.specs.StepGrammar.{IsStepCause}
 use Rattle.step_text.specs.Printed.{IsStepsPrint}

@@ -1,6 +1,6 @@
 use Rattle.std.proofs.Common.{◌≡◌, ◌++◌, ◌+◌, drop}
-use Rattle.script.specs.StatementText.{caches_text}
-use Rattle.script.proofs.texts.caches.write_caches.Given as goal
+use Rattle.statement_text.specs.StatementText.{caches_text}
+use Rattle.statement_text.proofs.caches.write_caches.Given as goal
 
 -- what was written, and what is left to write
 abbrev pub invariant-loop-index : goal.invariant-loop-index

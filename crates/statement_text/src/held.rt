@@ -2,14 +2,14 @@
 ghost use Rattle.std.specs.Prelude.{◌≡◌, ◌++◌, OnOk};
 ghost use Rattle.std.specs.List.{flat_map};
 ghost use Rattle.element_text.specs.Elements.{joined};
-ghost use Rattle.script.specs.StatementText.{held_text, holder_text};
+ghost use Rattle.statement_text.specs.StatementText.{held_text, holder_text};
 
 use pool_model::statement::{Held, Holder};
 use std::io;
 use std::io::Write;
 
 /// A line for each held element.
-pub(super) fn write_held(out: &mut Vec<u8>, held: &[Held]) -> io::Result<()>
+pub(crate) fn write_held(out: &mut Vec<u8>, held: &[Held]) -> io::Result<()>
     ensures { OnOk result (out.new.items ≡ out.old.items ++ flat_map held_text held.now) }
 {
     for element in held {

@@ -1,7 +1,7 @@
 use Rattle.std.proofs.Common.{◌≡◌, ◌++◌, take}
 use Rattle.element_text.specs.Elements.{joined}
-use Rattle.script.specs.StatementText.{holder_text}
-use Rattle.script.proofs.texts.held.write_joined.Given as goal
+use Rattle.statement_text.specs.StatementText.{holder_text}
+use Rattle.statement_text.proofs.held.write_joined.Given as goal
 
 abbrev pub invariant-loop-holder : goal.invariant-loop-holder
 invariant-loop-holder l =

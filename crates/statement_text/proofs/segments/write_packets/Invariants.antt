@@ -1,7 +1,7 @@
 use Rattle.std.proofs.Common.{◌≡◌, ◌++◌, take}
 use Rattle.std.specs.List.{flat_map}
-use Rattle.script.specs.StatementText.{packet_text}
-use Rattle.script.proofs.texts.segments.write_packets.Given as goal
+use Rattle.statement_text.specs.StatementText.{packet_text}
+use Rattle.statement_text.proofs.segments.write_packets.Given as goal
 
 abbrev pub invariant-loop-packet : goal.invariant-loop-packet
 invariant-loop-packet l =

@@ -1,7 +1,7 @@
 use Rattle.std.proofs.Common.{◌≡◌, ◌++◌, take}
 use Rattle.std.specs.List.{flat_map}
-use Rattle.script.specs.StatementText.{held_text}
-use Rattle.script.proofs.texts.held.write_held.Given as goal
+use Rattle.statement_text.specs.StatementText.{held_text}
+use Rattle.statement_text.proofs.held.write_held.Given as goal
 
 abbrev pub invariant-loop-element : goal.invariant-loop-element
 invariant-loop-element l =

@@ -1,6 +1,6 @@
 //! The caches.
 ghost use Rattle.std.specs.Prelude.{◌≡◌, ◌++◌, OnOk};
-ghost use Rattle.script.specs.StatementText.{cache_text, caches_text};
+ghost use Rattle.statement_text.specs.StatementText.{cache_text, caches_text};
 
 use commons::seq::Seq;
 use element_text::write_elements;
@@ -8,7 +8,7 @@ use std::io;
 use std::io::Write;
 
 /// A line for each worker's cache.
-pub(super) fn write_caches(out: &mut Vec<u8>, caches: &[Seq<u32>]) -> io::Result<()>
+pub(crate) fn write_caches(out: &mut Vec<u8>, caches: &[Seq<u32>]) -> io::Result<()>
     ensures { OnOk result (out.new.items ≡ out.old.items ++ caches_text 1 caches.now) }
 {
     for (index, cache) in caches.iter().enumerate() {

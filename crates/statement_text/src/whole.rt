@@ -1,10 +1,10 @@
 //! The whole text of a statement.
 ghost use Rattle.std.specs.Prelude.{◌≡◌, ◌++◌, IfErr, IfOk, OnOk};
-ghost use Rattle.script.specs.StatementText.{second_text, text_of, text_of_settled, total_line, totals_text};
+ghost use Rattle.statement_text.specs.StatementText.{second_text, text_of, text_of_settled, total_line, totals_text};
 
-use super::caches::write_caches;
-use super::held::write_held;
-use super::segments::{write_desks, write_packets};
+use crate::caches::write_caches;
+use crate::held::write_held;
+use crate::segments::{write_desks, write_packets};
 use commons::refusal::Refusal;
 use element_text::write_elements;
 use pool_model::settled::Settled;

@@ -3,7 +3,7 @@ ghost use Rattle.std.specs.Prelude.{◌≡◌, ◌++◌, OnOk};
 ghost use Rattle.std.specs.List.{flat_map};
 ghost use Rattle.mbuf.specs.Lengths.{pkt_len};
 ghost use Rattle.element_text.specs.Elements.{joined};
-ghost use Rattle.script.specs.StatementText.{desk_text, packet_text, segment_text, segments_text};
+ghost use Rattle.statement_text.specs.StatementText.{desk_text, packet_text, segment_text, segments_text};
 
 use commons::packet::Seg;
 use element_text::write_base;
@@ -12,7 +12,7 @@ use std::io;
 use std::io::Write;
 
 /// A line for each packet of a worker.
-pub(super) fn write_packets(out: &mut Vec<u8>, packets: &[PlacedPacket]) -> io::Result<()>
+pub(crate) fn write_packets(out: &mut Vec<u8>, packets: &[PlacedPacket]) -> io::Result<()>
     ensures { OnOk result (out.new.items ≡ out.old.items ++ flat_map packet_text packets.now) }
 {
     for packet in packets {
@@ -30,7 +30,7 @@ fn write_packet(out: &mut Vec<u8>, packet: &PlacedPacket) -> io::Result<()>
 }
 
 /// A line for each packet on a desk.
-pub(super) fn write_desks(out: &mut Vec<u8>, desks: &[DeskPacket]) -> io::Result<()>
+pub(crate) fn write_desks(out: &mut Vec<u8>, desks: &[DeskPacket]) -> io::Result<()>
     ensures { OnOk result (out.new.items ≡ out.old.items ++ flat_map desk_text desks.now) }
 {
     for desk in desks {

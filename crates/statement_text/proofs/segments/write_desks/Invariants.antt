@@ -1,7 +1,7 @@
 use Rattle.std.proofs.Common.{◌≡◌, ◌++◌, take}
 use Rattle.std.specs.List.{flat_map}
-use Rattle.script.specs.StatementText.{desk_text}
-use Rattle.script.proofs.texts.segments.write_desks.Given as goal
+use Rattle.statement_text.specs.StatementText.{desk_text}
+use Rattle.statement_text.proofs.segments.write_desks.Given as goal
 
 abbrev pub invariant-loop-desk : goal.invariant-loop-desk
 invariant-loop-desk l =

@@ -1,7 +1,7 @@
 use Rattle.std.proofs.Common.{◌≡◌, ◌++◌, take}
 use Rattle.element_text.specs.Elements.{joined}
-use Rattle.script.specs.StatementText.{segment_text}
-use Rattle.script.proofs.texts.segments.write_joined.Given as goal
+use Rattle.statement_text.specs.StatementText.{segment_text}
+use Rattle.statement_text.proofs.segments.write_joined.Given as goal
 
 abbrev pub invariant-loop-seg : goal.invariant-loop-seg
 invariant-loop-seg l =
