@@ -1,6 +1,6 @@
 -- The status that the program ends with where the words of its command line ask for nothing that
 -- can be done.
-use Rattle.std.specs.Prelude.{ℕ}
+use Rattle.std.specs.Prelude.{ℕ, ◌≡◌, ◌<◌, ◌≤◌}
 use Rattle.clap.specs.Values.{kind_of}
 use Rattle.clap.specs.declared.error.Error.{Error}
 use Rattle.clap.specs.declared.error.kind.ErrorKind.{ErrorKind}
@@ -27,3 +27,7 @@ status_of_kind _ = 2
 abbrev pub status_of : Unasked → ℕ
 status_of (Said error) = status_of_kind (kind_of error)
 status_of Memory = 1
+
+-- what is said of such words may end with this status: their own, or for help and the version 1 too
+abbrev pub IsToldWith : ℕ → ℕ → Type 0
+IsToldWith own status = (0 < own → status ≡ own) × (own ≡ 0 → status ≤ 1)

@@ -1,10 +1,11 @@
 //! Why the words of the command line ask for nothing that can be done, and what is said of that.
-ghost use Rattle.std.specs.Prelude.{◌≡◌, ◌<◌, ◌≤◌};
-ghost use Rattle.command_line.specs.Statuses.{status_of, unasked_by};
+ghost use Rattle.std.specs.Prelude.{◌≡◌, false};
+ghost use Rattle.command_line.specs.Statuses.{IsToldWith, status_of, unasked_by};
 
 use clap::Error;
 use clap::error::ErrorKind;
 use commons::refusal::Refusal;
+use script_io::Tally;
 use std::io;
 use std::io::Write;
 use tasks::failures::Failure;
@@ -48,13 +49,14 @@ impl From<Error> for Unasked {
 /// Says why nothing was asked for, and gives the status of the program; where the text can't be
 /// written, 1 in place of 0. No clause says what is written, since `clap` says nothing of the text
 /// of its errors.
-pub fn tell<O: Write, E: Write>(screen: &mut O, errors: &mut E, unasked: &Unasked) -> u8
-    ensures failed { 0 < status_of unasked.now → result ≡ status_of unasked.now }
-    ensures help { status_of unasked.now ≡ 0 → result ≤ 1 }
+pub fn tell<O: Write, E: Write>(screen: &mut Tally<O>, errors: &mut E, unasked: &Unasked) -> u8
+    ensures status { IsToldWith (status_of unasked.now) result }
+    // The output didn't fail.
+    ensures sound { result ≡ 0 → screen.new.failed ≡ false }
 {
     match say(screen, errors, unasked) {
-        Ok(()) => unasked.status(),
-        Err(_) => unasked.status().max(1),
+        Ok(()) if !screen.failed => unasked.status(),
+        _ => unasked.status().max(1),
     }
 }
 

@@ -1,11 +1,11 @@
 -- What the program says of a failure.
 use Rattle.std.specs.Prelude.{◌≡◌, ℕ, List, [], ◌++◌, codes, decimal}
-use Rattle.std.specs.declared.io.ErrorKind as io
-use Rattle.std.specs.declared.io.ErrorKind.TheVariants as kinds
 use Rattle.commons.specs.declared.refusal.Refusal.{Refusal}
 use Rattle.commons.specs.declared.refusal.Refusal.TheVariants.{MissingShare, ScriptFault}
 use Rattle.commons.specs.declared.refusal.Refusal.TheVariants as refusals
 use Rattle.commons.specs.Refusals.{name_of, number_of}
+use Rattle.script_io.specs.declared.reading.ReadFault.{ReadFault}
+use Rattle.script_io.specs.declared.reading.ReadFault.TheVariants.{Device, Memory}
 use Rattle.tasks.specs.declared.failures.Failure.{Failure}
 use Rattle.tasks.specs.declared.failures.Failure.TheVariants.{Unreadable, Fault}
 
@@ -14,11 +14,11 @@ abbrev pub IsUnreadable : List ℕ → Failure → Type 0
 IsUnreadable file (Unreadable named) = named.now ≡ file
 IsUnreadable file (Fault refusal) = ⊥
 
--- how an error of this kind that came of reading this file is reported: a lack of memory as that,
--- and each other kind as a file that can't be read
-abbrev pub IsUnread : List ℕ → io.ErrorKind → Failure → Type 0
-IsUnread file kinds.OutOfMemory failure = failure ≡ Fault refusals.OutOfMemory
-IsUnread file _ failure = IsUnreadable file failure
+-- how a fault of reading this file is reported: a lack of memory as that, and a device that fails
+-- as a file that can't be read
+abbrev pub IsUnread : List ℕ → ReadFault → Failure → Type 0
+IsUnread file Device failure = IsUnreadable file failure
+IsUnread file Memory failure = failure ≡ Fault refusals.OutOfMemory
 
 -- a failure that is a refusal with such a cause
 abbrev pub IsFaultOf : (Refusal → Type 0) → Failure → Type 0

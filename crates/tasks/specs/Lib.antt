@@ -1,3 +1,4 @@
+pub mod Ends
 pub mod Failures
 pub mod Forms
 pub mod Replays

@@ -11,4 +11,4 @@ pub mod scripts;
 pub mod task;
 
 pub use failures::tell;
-pub use printing::{print, print_or_tell, printed};
+pub use printing::{End, print, printed};

@@ -1,94 +1,87 @@
 //! What is printed of the script that a request names, and where it goes.
-ghost use Rattle.std.specs.Prelude.{◌≡◌, ◌≢◌, ◌≤◌, IfErr, IfOk};
+ghost use Rattle.std.specs.Prelude.{◌≡◌, ◌↔◌, IfErr, IfOk, false, true};
+ghost use Rattle.tasks.specs.Ends.{IsBrokenOff, status_of_end};
 ghost use Rattle.tasks.specs.Failures.{IsUnread};
-ghost use Rattle.tasks.specs.Replays.{FailsAt, PrintsFile, PrintsReading, TellsFailure};
+ghost use Rattle.tasks.specs.Replays.{EndsAs, FailsAt, PrintsReading};
 
 use crate::failures::{Failure, tell};
 use crate::replay;
 use crate::scripts::Scripts;
 use crate::task::Request;
 use commons::refusal::Refusal;
+use script_io::{ReadFault, Tally, write_out};
 use std::alloc::Global;
-use std::io;
 use std::io::Write;
 use std::sync::Wait;
 use std::thread::Threads;
 
+/// How a print ended.
+#[derive(Clone, Copy, PartialEq, Eq, Debug)]
+pub enum End {
+    /// The whole print was written.
+    Printed,
+    /// The output failed once so many of the print's first bytes were written.
+    BrokenOff(usize),
+    /// There was nothing to print, and the line of the failure was written on the errors.
+    Told,
+    /// There was nothing to print, and the errors failed: a part of the line may be written there.
+    Untold,
+}
+
+impl End {
+    /// The status that the program ends with: 0 where the whole print was written, else 1.
+    pub fn status(self) -> u8
+        ensures { result ≡ status_of_end self }
+    {
+        match self {
+            End::Printed => 0,
+            End::BrokenOff(_) | End::Told | End::Untold => 1,
+        }
+    }
+}
+
 /// Prints what is asked for of the script that a request names, or tells why there is nothing to
-/// print, and gives the status that the program ends with: 0 where it was printed, else 1, also
-/// where a writer failed.
+/// print. Whichever of the two writers isn't written to is then as before, and after a write that
+/// failed nothing is written on either.
 pub fn print<R: Threads + Wait + Sync, S: Scripts, O: Write, E: Write>(
     rt: &R,
     alloc: Global,
     scripts: &S,
     request: &Request<'_>,
-    screen: &mut O,
+    screen: &mut Tally<O>,
     errors: &mut E,
-) -> u8
-    // With status 0 the screen has the print for what the reading of this file gave, and nothing
-    // else new.
-    ensures whole { result ≡ 0 → PrintsFile
-        (S.gives scripts.now request.now.file.now)
-        request.now.task
-        (O.contents screen.old)
-        (O.contents screen.new) }
-    ensures status { result ≤ 1 }
-{
-    match print_or_tell(rt, alloc, scripts, request, screen, errors) {
-        Ok(status) => status,
-        Err(_) => 1,
-    }
-}
-
-/// Prints what is asked for of the script that a request names, or tells why there is nothing to
-/// print.
-///
-/// Gives the status: 0 where it was printed, and 1 where a failure was told; the other writer
-/// is then as before. The error is that of the writer that failed, which may have taken a part.
-pub fn print_or_tell<R: Threads + Wait + Sync, S: Scripts, O: Write, E: Write>(
-    rt: &R,
-    alloc: Global,
-    scripts: &S,
-    request: &Request<'_>,
-    screen: &mut O,
-    errors: &mut E,
-) -> io::Result<u8>
-    // With status 0 the screen has the print for what the reading of this file gave, and nothing
-    // else new,
-    ensures whole { IfOk result (λ status. status ≡ 0 → PrintsFile
-        (S.gives scripts.now request.now.file.now)
-        request.now.task
-        (O.contents screen.old)
-        (O.contents screen.new)) }
-    // and with any other the errors have the line of the failure that came.
-    ensures told { IfOk result (λ status. status ≢ 0 → TellsFailure
+) -> End
+    requires { screen.old.failed ≡ false }
+    // It is the print for bytes that the reading of this file gave, or the failure that came.
+    ensures ends { EndsAs
         (S.gives scripts.now request.now.file.now)
         (S.fails scripts.now request.now.file.now)
         request.now.file.now
         request.now.task
+        (O.contents screen.old.inner)
+        (O.contents screen.new.inner)
         (E.contents errors.old)
-        (E.contents errors.new)) }
-    ensures status { IfOk result (λ status. status ≤ 1) }
-    // The other of the two is as it was.
-    ensures quiet { IfOk result (λ status.
-        (status ≡ 0 → E.contents errors.new ≡ E.contents errors.old)
-        × (status ≢ 0 → O.contents screen.new ≡ O.contents screen.old)) }
+        (E.contents errors.new)
+        result }
+    // The output failed exactly where the print was broken off.
+    ensures failed { (screen.new.failed ≡ true) ↔ IsBrokenOff result }
+    ensures sound { status_of_end result ≡ 0 → screen.new.failed ≡ false }
 {
     match printed(rt, alloc, scripts, request) {
-        Ok(text) => {
-            screen.write_all(text.as_slice())?;
-            Ok(0)
-        }
-        Err(failure) => {
-            tell(errors, &failure)?;
-            Ok(1)
-        }
+        Ok(text) => match write_out(screen, text.as_slice()) {
+            Ok(()) => End::Printed,
+            Err(count) => End::BrokenOff(count),
+        },
+        Err(failure) => match tell(errors, &failure) {
+            Ok(()) => End::Told,
+            Err(_) => End::Untold,
+        },
     }
 }
 
 /// What is printed of the script that a request names.
 ///
-/// `Unreadable` where the reading failed but for memory, `Fault` with `OutOfMemory` where memory
+/// `Unreadable` where the file isn't found or the device failed, `Fault` with `OutOfMemory` where memory
 /// was refused, else `Fault` where the bytes aren't a script (`ScriptFault`), where no pool can be
 /// made within the script's limits (`BadPool`), where a worker is to be lost that its pool doesn't
 /// have (`StrangerShare`), or of a run under the lock where a thread was refused (`OutOfMemory`).
@@ -113,16 +106,16 @@ pub fn printed<'a, R: Threads + Wait + Sync, S: Scripts>(
             Ok(text) => Ok(text),
             Err(refusal) => Err(Failure::Fault(refusal)),
         },
-        Err(error) => Err(unread(request.file, error.kind())),
+        Err(fault) => Err(unread(request.file, fault)),
     }
 }
 
-/// What is reported of an error that came of reading a file.
-fn unread(file: &str, kind: io::ErrorKind) -> Failure<'_>
-    ensures { IsUnread file.entry.now kind result }
+/// What is reported of a fault of reading a file.
+fn unread(file: &str, fault: ReadFault) -> Failure<'_>
+    ensures { IsUnread file.entry.now fault result }
 {
-    match kind {
-        io::ErrorKind::OutOfMemory => Failure::Fault(Refusal::OutOfMemory),
-        _ => Failure::Unreadable(file),
+    match fault {
+        ReadFault::Device => Failure::Unreadable(file),
+        ReadFault::Memory => Failure::Fault(Refusal::OutOfMemory),
     }
 }

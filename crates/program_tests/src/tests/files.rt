@@ -1,7 +1,8 @@
 //! Files that are replayed, run, played step by step, or can't be read.
 use super::same;
-use super::screen::{Full, Screen};
+use super::screen::{Full, Narrow, Screen};
 use script::Grounds;
+use script_io::{ReadFault, Tally, read_script};
 use std::alloc::Global;
 use std::io::Read;
 use std::rt::Files;
@@ -9,9 +10,9 @@ use std::sync::Wait;
 use std::test::Fail;
 use std::thread::Threads;
 use std::{env, fs, io, process};
-use tasks::scripts::{Disk, Scripts, bytes_of};
+use tasks::scripts::{Disk, Scripts};
 use tasks::task::{Form, Request, Task, Turns};
-use tasks::{print, print_or_tell, printed, tell};
+use tasks::{End, print, printed, tell};
 
 /// The path of a file of this test in the folder for such files.
 fn path(rt: &HostRuntime, name: &str) -> Result<String, Fail> {
@@ -193,16 +194,10 @@ fn ended<R: Threads + Wait + Sync + Files + AllocGlobal>(
     let mut screen = Screen::new(rt.alloc());
     let (output, errors) = (&mut screen.output, &mut screen.errors);
     let task = Task::Replay(Form::Text);
-    let status = print(
-        rt,
-        rt.alloc(),
-        &Disk(rt),
-        &Request { file, task },
-        output,
-        errors,
-    );
+    let request = Request { file, task };
+    let end = print(rt, rt.alloc(), &Disk(rt), &request, output, errors);
     let (output, errors) = screen.written()?;
-    Ok((output, errors, status))
+    Ok((output, errors, end.status()))
 }
 
 #[test]
@@ -218,24 +213,70 @@ fn a_print_goes_to_the_output_and_a_failure_to_the_errors(rt: HostRuntime) -> Re
     Ok(())
 }
 
-/// Whether a print to a writer that takes nothing, or a failure told to one, fails, and the status
-/// then.
-fn unwritten<R: Threads + Wait + Sync + Files + AllocGlobal>(rt: &R, file: &str) -> (bool, u8) {
+/// How a print ends on writers that take nothing, and the status then.
+fn unwritten<R: Threads + Wait + Sync + Files + AllocGlobal>(rt: &R, file: &str) -> (End, u8) {
     let task = Task::Replay(Form::Text);
     let request = Request { file, task };
-    let failed = print_or_tell(rt, rt.alloc(), &Disk(rt), &request, &mut Full, &mut Full).is_err();
-    let status = print(rt, rt.alloc(), &Disk(rt), &request, &mut Full, &mut Full);
-    (failed, status)
+    let mut screen = Tally::new(Full);
+    let end = print(rt, rt.alloc(), &Disk(rt), &request, &mut screen, &mut Full);
+    (end, end.status())
 }
 
 #[test]
-fn a_print_and_a_failure_that_cant_be_written_are_errors(rt: HostRuntime) -> Result<(), Fail> {
+fn a_print_and_a_failure_that_cant_be_written_are_told_by_the_end(
+    rt: HostRuntime,
+) -> Result<(), Fail> {
     let path = path(&rt, "full")?;
-    same(&rt, &unwritten(&rt, path.as_str()), &(true, 1), "a failure");
+    let failure = unwritten(&rt, path.as_str());
+    same(&rt, &failure, &(End::Untold, 1), "a failure");
     fs::write(&rt, path.as_str(), FIRST_RUN)?;
-    let failed = unwritten(&rt, path.as_str());
+    let print = unwritten(&rt, path.as_str());
     fs::remove_file(&rt, path.as_str())?;
-    same(&rt, &failed, &(true, 1), "a print");
+    same(&rt, &print, &(End::BrokenOff(0), 1), "a print");
+    Ok(())
+}
+
+#[test]
+fn a_screen_that_fails_has_the_first_bytes_and_the_errors_no_line(
+    rt: HostRuntime,
+) -> Result<(), Fail> {
+    let file = path(&rt, "narrow")?;
+    fs::write(&rt, file.as_str(), FIRST_RUN)?;
+    for room in [0, 1, 3, FIRST_RUN_TEXT.len() - 1, FIRST_RUN_TEXT.len()] {
+        let mut screen = Tally::new(Narrow {
+            taken: Vec::new(rt.alloc()),
+            room,
+        });
+        let mut errors = Vec::new(rt.alloc());
+        let request = Request {
+            file: file.as_str(),
+            task: Task::Replay(Form::Text),
+        };
+        let end = print(
+            &rt,
+            rt.alloc(),
+            &Disk(&rt),
+            &request,
+            &mut screen,
+            &mut errors,
+        );
+        let wanted = if room < FIRST_RUN_TEXT.len() {
+            End::BrokenOff(room)
+        } else {
+            End::Printed
+        };
+        same(&rt, &end, &wanted, "the end");
+        let taken = String::from_utf8(screen.inner.taken)?;
+        same(&rt, &taken.len(), &room, "what the screen took");
+        same(
+            &rt,
+            &FIRST_RUN_TEXT.starts_with(taken.as_str()),
+            &true,
+            "its bytes",
+        );
+        same(&rt, &errors.len(), &0, "what the errors took");
+    }
+    fs::remove_file(&rt, file.as_str())?;
     Ok(())
 }
 
@@ -253,38 +294,34 @@ fn of_a_file_that_is_too_long_one_byte_too_many_is_read(rt: HostRuntime) -> Resu
 
 /// A disk that fails in this way.
 #[derive(Drop)]
-struct Fails(io::ErrorKind);
+struct Fails(ReadFault);
 
 impl Scripts for Fails {
-    fn read(&self, _alloc: Global, _name: &str) -> io::Result<Vec<u8>> {
-        Err(io::Error::from(self.0))
+    fn read(&self, _alloc: Global, _name: &str) -> Result<Vec<u8>, ReadFault> {
+        Err(self.0)
     }
 }
 
-static FAILED: [(io::ErrorKind, &str); 5] = [
-    (io::ErrorKind::OutOfMemory, "fault 2 OutOfMemory\n"),
-    (io::ErrorKind::NotFound, "cannot read a.script\n"),
-    (io::ErrorKind::PermissionDenied, "cannot read a.script\n"),
-    (io::ErrorKind::IsADirectory, "cannot read a.script\n"),
-    (io::ErrorKind::Other, "cannot read a.script\n"),
-];
-
-#[test]
-fn each_error_of_a_reading_is_told_but_memory_as_a_file_that_cant_be_read(
-    rt: HostRuntime,
-) -> Result<(), Fail> {
+/// What is told of a task with a script that can't be read.
+fn assert_told<S: Scripts>(rt: &HostRuntime, scripts: &S, line: &str) -> Result<(), Fail> {
     let file = "a.script";
-    for (kind, line) in FAILED {
-        for task in [
-            Task::Replay(Form::Text),
-            Task::Replay(Form::Json),
-            Task::Steps,
-        ] {
-            let found = outcome(&rt, rt.alloc(), &Fails(kind), &Request { file, task })?;
-            same(&rt, &found.as_str(), &line, "a reading that fails");
-        }
+    for task in [
+        Task::Replay(Form::Text),
+        Task::Replay(Form::Json),
+        Task::Steps,
+    ] {
+        let found = outcome(rt, rt.alloc(), scripts, &Request { file, task })?;
+        same(rt, &found.as_str(), &line, "a reading that fails");
     }
     Ok(())
+}
+
+#[test]
+fn a_device_that_fails_is_a_file_that_cant_be_read_and_memory_is_told_as_that(
+    rt: HostRuntime,
+) -> Result<(), Fail> {
+    assert_told(&rt, &Fails(ReadFault::Device), "cannot read a.script\n")?;
+    assert_told(&rt, &Fails(ReadFault::Memory), "fault 2 OutOfMemory\n")
 }
 
 /// A reader that gives one byte, and then this error.
@@ -305,16 +342,29 @@ impl Read for Breaks {
     }
 }
 
-#[test]
-fn a_reading_that_breaks_gives_its_error_and_no_bytes(rt: HostRuntime) {
-    for kind in [io::ErrorKind::OutOfMemory, io::ErrorKind::TimedOut] {
+/// A disk of which each file breaks in mid-file.
+#[derive(Drop)]
+struct Broken(io::ErrorKind);
+
+impl Scripts for Broken {
+    fn read(&self, alloc: Global, _name: &str) -> Result<Vec<u8>, ReadFault> {
         let source = Breaks {
             is_begun: false,
-            kind,
+            kind: self.0,
         };
-        let error = bytes_of(rt.alloc(), source)
-            .map_err(|error| error.kind())
-            .err();
-        same(&rt, &error, &Some(kind), "the error of a reading");
+        read_script(alloc, &mut Tally::new(source))
     }
+}
+
+#[test]
+fn a_file_that_breaks_cant_be_read_whatever_the_error(rt: HostRuntime) -> Result<(), Fail> {
+    for kind in [
+        io::ErrorKind::OutOfMemory,
+        io::ErrorKind::TimedOut,
+        io::ErrorKind::UnexpectedEof,
+        io::ErrorKind::Other,
+    ] {
+        assert_told(&rt, &Broken(kind), "cannot read a.script\n")?;
+    }
+    Ok(())
 }

@@ -1,4 +1,5 @@
-//! A terminal that takes nothing, and what another one took.
+//! Terminals that take nothing or little, and what another one took.
+use script_io::Tally;
 use std::alloc::Global;
 use std::io;
 use std::io::Write;
@@ -17,17 +18,40 @@ impl Write for Full {
     }
 }
 
+/// A terminal that has room for so many bytes, and then takes nothing.
+#[derive(Drop)]
+pub struct Narrow {
+    pub taken: Vec<u8>,
+    pub room: usize,
+}
+
+impl Write for Narrow {
+    fn write(&mut self, bytes: &[u8]) -> io::Result<usize> {
+        if self.room == 0 {
+            return Err(io::Error::from(io::ErrorKind::StorageFull));
+        }
+        let count = self.room.min(bytes.len());
+        self.taken.extend_from_slice(&bytes[..count])?;
+        self.room -= count;
+        Ok(count)
+    }
+
+    fn flush(&mut self) -> io::Result<()> {
+        Ok(())
+    }
+}
+
 /// What was written to the standard output, and to the standard error.
 #[derive(Drop)]
 pub struct Screen {
-    pub output: Vec<u8>,
+    pub output: Tally<Vec<u8>>,
     pub errors: Vec<u8>,
 }
 
 impl Screen {
     pub(super) fn new(alloc: Global) -> Screen {
         Screen {
-            output: Vec::new(alloc),
+            output: Tally::new(Vec::new(alloc)),
             errors: Vec::new(alloc),
         }
     }
@@ -35,6 +59,6 @@ impl Screen {
     /// Both as text.
     pub(super) fn written(self) -> Result<(String, String), Fail> {
         let Screen { output, errors } = self;
-        Ok((String::from_utf8(output)?, String::from_utf8(errors)?))
+        Ok((String::from_utf8(output.inner)?, String::from_utf8(errors)?))
     }
 }

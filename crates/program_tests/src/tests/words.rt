@@ -3,6 +3,7 @@ use super::same;
 use super::screen::{Full, Screen};
 use command_line::{request_of, tell};
 use script::Grounds;
+use script_io::Tally;
 use std::alloc::{AllocError, Global};
 use std::test::Fail;
 use tasks::task::{Form, Task};
@@ -180,7 +181,7 @@ fn told(alloc: Global, words: &[&str]) -> Result<(String, String, u8, u8), Fail>
             let mut screen = Screen::new(alloc);
             let status = tell(&mut screen.output, &mut screen.errors, &unasked);
             let (output, errors) = screen.written()?;
-            let untold = tell(&mut Full, &mut Full, &unasked);
+            let untold = tell(&mut Tally::new(Full), &mut Full, &unasked);
             Ok((output, errors, status, untold))
         }
     }

@@ -1,0 +1,46 @@
+//! What the program does, and the status that it ends with.
+ghost use Rattle.std.specs.Prelude.{◌≡◌, ◌≤◌, false};
+ghost use Rattle.command_line.specs.Runs.{RunsSo};
+
+use crate::parsing::{request_of, words};
+use crate::unasked::tell;
+use script_io::Tally;
+use std::env::Env;
+use std::io::Write;
+use std::sync::Wait;
+use std::thread::Threads;
+use tasks::print;
+use tasks::scripts::Scripts;
+
+/// Does what the command line asks for, and gives the status that the program ends with: 0 where
+/// the whole print was written, or help or the version; 1 where a failure was told or a writer
+/// failed; 2 where the words are wrong.
+pub fn run<R: Env + AllocGlobal + Threads + Wait + Sync, S: Scripts, O: Write, E: Write>(
+    rt: &R,
+    scripts: &S,
+    screen: &mut Tally<O>,
+    errors: &mut E,
+) -> u8
+    requires { screen.old.failed ≡ false }
+    // It is the status of the print that was asked for, or of words that ask for none.
+    ensures runs { RunsSo
+        (S.gives scripts.now)
+        (S.fails scripts.now)
+        (O.contents screen.old.inner)
+        (O.contents screen.new.inner)
+        (E.contents errors.old)
+        (E.contents errors.new)
+        result }
+    // The output didn't fail.
+    ensures sound { result ≡ 0 → screen.new.failed ≡ false }
+    ensures status { result ≤ 2 }
+{
+    let words = match words(rt) {
+        Ok(words) => words,
+        Err(unasked) => return tell(screen, errors, &unasked),
+    };
+    match request_of(rt.alloc(), words.as_slice()) {
+        Ok(request) => print(rt, rt.alloc(), scripts, &request, screen, errors).status(),
+        Err(unasked) => tell(screen, errors, &unasked),
+    }
+}

@@ -1,0 +1,161 @@
+//! Scripts that are read whole, up to one byte more than they may have, or not at all.
+
+use crate::equal::same;
+use script_io::{ReadFault, Retrying, Tally, read_script};
+use std::io;
+use std::io::{ErrorKind, Read};
+
+/// A reader of so many bytes `x`, a few at each call, of which one call fails.
+#[derive(Drop)]
+struct Brittle {
+    left: usize,
+    each: usize,
+    fails: Option<(u32, ErrorKind)>,
+    calls: u32,
+}
+
+impl Read for Brittle {
+    fn read(&mut self, buf: &mut [u8]) -> io::Result<usize> {
+        self.calls = self.calls.saturating_add(1);
+        if let Some((call, kind)) = self.fails {
+            if self.calls == call {
+                return Err(io::Error::from(kind));
+            }
+        }
+        let count = self.left.min(self.each).min(buf.len());
+        buf[..count].fill(b'x');
+        self.left -= count;
+        Ok(count)
+    }
+}
+
+/// A row: its name; how many bytes the reader has, and how many it gives at a call at most; the
+/// call that fails, and how; how many bytes are read, or the fault; and how many calls there are.
+type Row = (
+    &'static str,
+    usize,
+    usize,
+    Option<(u32, ErrorKind)>,
+    Result<usize, ReadFault>,
+    u32,
+);
+
+const ROWS: [Row; 14] = [
+    ("an empty reader", 0, 1, None, Ok(0), 1),
+    ("a reader of one byte", 1, 1, None, Ok(1), 2),
+    ("a reader of a byte at a time", 5, 1, None, Ok(5), 6),
+    ("two pieces", 10_000, 8_192, None, Ok(10_000), 3),
+    (
+        "as many bytes as a script may have",
+        1_048_576,
+        8_192,
+        None,
+        Ok(1_048_576),
+        129,
+    ),
+    ("one byte more", 1_048_577, 8_192, None, Ok(1_048_577), 129),
+    ("two bytes more", 1_048_578, 8_192, None, Ok(1_048_577), 129),
+    (
+        "a reader that fails at its first read",
+        5,
+        1,
+        Some((1, ErrorKind::TimedOut)),
+        Err(ReadFault::Device),
+        1,
+    ),
+    (
+        "a reader that fails at its second read",
+        5,
+        1,
+        Some((2, ErrorKind::Other)),
+        Err(ReadFault::Device),
+        2,
+    ),
+    (
+        "a reader that fails where it would be at its end",
+        1,
+        1,
+        Some((2, ErrorKind::UnexpectedEof)),
+        Err(ReadFault::Device),
+        2,
+    ),
+    (
+        "a device without memory",
+        5,
+        1,
+        Some((2, ErrorKind::OutOfMemory)),
+        Err(ReadFault::Device),
+        2,
+    ),
+    (
+        "a reader that is interrupted",
+        5,
+        1,
+        Some((2, ErrorKind::Interrupted)),
+        Err(ReadFault::Device),
+        2,
+    ),
+    (
+        "a reader that fails at the last byte that is read",
+        1_048_578,
+        8_192,
+        Some((129, ErrorKind::Other)),
+        Err(ReadFault::Device),
+        129,
+    ),
+    (
+        "a reader that would fail behind the bytes that are read",
+        1_048_578,
+        8_192,
+        Some((130, ErrorKind::Other)),
+        Ok(1_048_577),
+        129,
+    ),
+];
+
+#[test]
+fn all_bytes_are_read_or_it_is_said_that_the_reader_failed(rt: HostRuntime) {
+    for (name, left, each, fails, wanted, calls) in ROWS {
+        let mut source = Tally::new(Brittle {
+            left,
+            each,
+            fails,
+            calls: 0,
+        });
+        let found = read_script(rt.alloc(), &mut source);
+        let is_read = match &found {
+            Ok(bytes) => bytes.as_slice().iter().all(|byte| *byte == b'x'),
+            Err(_) => true,
+        };
+        same(&rt, &is_read, &true, name);
+        same(&rt, &found.map(|bytes| bytes.len()), &wanted, name);
+        same(&rt, &source.failed, &wanted.is_err(), name);
+        same(&rt, &source.inner.calls, &calls, name);
+    }
+}
+
+#[test]
+fn the_bytes_are_those_of_the_reader(rt: HostRuntime) {
+    for text in ["", "a", "pool 3\n", "pool 3\nalloc a\n"] {
+        let mut source = Tally::new(text.as_bytes());
+        match read_script(rt.alloc(), &mut source) {
+            Ok(bytes) => same(&rt, &bytes.as_slice(), &text.as_bytes(), text),
+            Err(fault) => same(&rt, &Some(fault), &None, text),
+        }
+        same(&rt, &source.failed, &false, text);
+    }
+}
+
+#[test]
+fn below_the_tally_an_interrupted_read_is_tried_again(rt: HostRuntime) {
+    let mut source = Tally::new(Retrying(Brittle {
+        left: 5,
+        each: 1,
+        fails: Some((2, ErrorKind::Interrupted)),
+        calls: 0,
+    }));
+    let found = read_script(rt.alloc(), &mut source).map(|bytes| bytes.len());
+    same(&rt, &found, &Ok(5), "the bytes");
+    same(&rt, &source.failed, &false, "whether it failed");
+    same(&rt, &source.inner.0.calls, &7, "the calls");
+}

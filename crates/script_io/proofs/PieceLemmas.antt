@@ -1,0 +1,50 @@
+-- What several reads took, and several writes added, one after another.
+use Rattle.std.proofs.Common.{◌≡◌, ◌≤◌, ◌+◌, ◌-◌, ℕ, List, ◌++◌, IfSome, None, Option, Some, ap, append-nil, arith, drop, length, length-append, subst, sym, take, take_all, ◌∙◌}
+use Rattle.std.proofs.Math.Seq.{take-add, take-append_seam}
+use Rattle.std.proofs.lemmas.List.{take_rest}
+use Rattle.std.proofs.KnownBytes.{Appends-trans, Consumes-trans}
+use Rattle.std.specs.Io.KnownBytes.{Appends, Consumes, IsAtEnd}
+use Rattle.script_io.specs.Readings.{LosesSome, ReadsMore}
+
+-- a reader that is at its end gave all that it had, which is no more than the limit
+pub read_whole : (old new : Option (List ℕ)) (bytes : List ℕ) (limit : ℕ) → Consumes old new bytes → IsAtEnd new → length bytes ≤ limit
+    → IfSome old (λ known. bytes ≡ take limit known)
+read_whole None new bytes limit taken end short = tt
+read_whole (Some all) None bytes limit taken end short = absurd taken
+read_whole (Some all) (Some rest) bytes limit taken end short =
+    let same : all ≡ bytes = taken ∙ ap (λ l. bytes ++ l) end ∙ append-nil bytes in
+    sym (ap (take limit) same ∙ take_all limit bytes short)
+
+-- a reader that gave as many bytes as the limit gave the first of what it had
+pub read_up_to : (old new : Option (List ℕ)) (bytes : List ℕ) (limit : ℕ) → Consumes old new bytes → length bytes ≡ limit
+    → IfSome old (λ known. bytes ≡ take limit known)
+read_up_to None new bytes limit taken full = tt
+read_up_to (Some all) None bytes limit taken full = absurd taken
+read_up_to (Some all) (Some rest) bytes limit taken full =
+    sym (ap (take limit) taken ∙ ap (λ n. take n (bytes ++ rest)) (sym full) ∙ take-append_seam bytes rest)
+
+-- what a read gave stands behind what was read before
+pub read_further : (old mid new : Option (List ℕ)) (before after : List ℕ) (count : ℕ) → Consumes old mid before → ReadsMore mid new before after count
+    → Consumes old new after
+read_further old mid new before after count taken more =
+    subst (Consumes old new) (sym more.behind) (Consumes-trans old mid new before more.piece taken more.taken)
+
+-- what a refused request loses is lost with what was read before
+pub lost_with : (old mid new : Option (List ℕ)) (before : List ℕ) → Consumes old mid before → LosesSome mid new → LosesSome old new
+lost_with old mid new before taken loses = record {
+  lost = before ++ loses.lost;
+  some = omega (arith, length-append before loses.lost, loses.some);
+  taken = Consumes-trans old mid new before loses.lost taken loses.taken;
+}
+
+-- a write of the rest took so many bytes more of the text
+pub written_further : (old mid new : Option (List ℕ)) (text : List ℕ) (count more : ℕ) → Appends old mid (take count text)
+    → Appends mid new (take more (take (length text - count) (drop count text))) → Appends old new (take (count + more) text)
+written_further old mid new text count more before after =
+    let joined : take count text ++ take more (take (length text - count) (drop count text)) ≡ take (count + more) text =
+    ap (λ l. take count text ++ take more l) (take_rest text count) ∙ sym (take-add count more text) in
+    subst (Appends old new) joined (Appends-trans old mid new (take count text) _ before after)
+
+-- as many bytes of a text as it has are the text
+pub written_whole : (old new : Option (List ℕ)) (text : List ℕ) (count : ℕ) → length text ≤ count → Appends old new (take count text) → Appends old new text
+written_whole old new text count all written = subst (Appends old new) (take_all count text all) written

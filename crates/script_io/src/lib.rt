@@ -1,0 +1,12 @@
+//! How a script is read and a text is written, so that a reader or a writer that fails is told.
+#![tactic(auto)]
+
+pub mod reading;
+pub mod retrying;
+pub mod tally;
+pub mod writing;
+
+pub use reading::{BYTES_READ, MAX_BYTES, ReadFault, read_script};
+pub use retrying::Retrying;
+pub use tally::Tally;
+pub use writing::write_out;
