@@ -20,6 +20,7 @@ pub use json_text::{numbers_json, settled_json, statement_json};
 pub use playing::replay;
 pub use printing::run_replay;
 pub use running::{run_script, run_script_lost};
+pub use script_io::{ReadFault, Tally, read_script, write_out};
 pub use script_text::{MAX_BYTES, parse};
 pub use step_text::{run_steps, world_text};
 pub use texts::{lost_text, settled_text, statement_text};

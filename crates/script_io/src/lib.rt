@@ -6,7 +6,7 @@ pub mod retrying;
 pub mod tally;
 pub mod writing;
 
-pub use reading::{BYTES_READ, MAX_BYTES, ReadFault, read_script};
+pub use reading::{BYTES_READ, ReadFault, read_script};
 pub use retrying::Retrying;
 pub use tally::Tally;
 pub use writing::write_out;

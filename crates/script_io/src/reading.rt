@@ -4,11 +4,9 @@ ghost use Rattle.std.specs.Io.KnownBytes.{Consumes, IsAtEnd};
 ghost use Rattle.script_io.specs.Readings.{LosesSome, ReadsMore};
 
 use crate::tally::Tally;
+use script_text::MAX_BYTES;
 use std::alloc::Global;
 use std::io::Read;
-
-/// The most bytes that a script has.
-pub const MAX_BYTES: usize = 1_048_576;
 
 /// The most bytes of a script that are read: one more than it may have.
 pub const BYTES_READ: usize = MAX_BYTES + 1;
