@@ -10,7 +10,7 @@ use Rattle.ground.specs.Seats.{Grounded}
 use Rattle.word_pool.specs.Lost.{AreLeft, AreLostOf}
 use Rattle.word_pool.specs.Workers.{Manned}
 use Rattle.mbufpool_c.specs.Closes.{AreApart, AreEmpty, Closes, HasClosed, HaveSame, IsSettled, number_in, numbers_in, values_of}
-use Rattle.mbufpool_c.specs.Halls.{AreAbove}
+use Rattle.mbufpool_c.specs.inside.Halls.{AreAbove}
 use Rattle.mbufpool_c.specs.declared.ending.Ending.{Ending}
 use Rattle.mbufpool_c.specs.declared.worker_handle.WorkerHandle.{WorkerHandle}
 

@@ -12,7 +12,7 @@ use Rattle.ground.specs.Seats.{Grounded}
 use Rattle.snapshot.specs.Lost.{IsAscending}
 use Rattle.word_pool.specs.Lost.{AreLeft}
 use Rattle.word_pool.specs.Workers.{Manned, AreWorkers, IsWorker, members_of}
-use Rattle.mbufpool_c.specs.Halls.{AreAbove, IsGathered, numbers_of}
+use Rattle.mbufpool_c.specs.inside.Halls.{AreAbove, IsGathered, numbers_of}
 
 -- no worker is above the last
 pub none_above : (g : Grounded) (k : ℕ) → k ≡ g.limits.workers → AreAbove g k [] []

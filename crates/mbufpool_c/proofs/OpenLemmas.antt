@@ -9,7 +9,7 @@ use Rattle.ground.specs.Seats.{Grounded}
 use Rattle.mbuf.specs.Members.{Member}
 use Rattle.word_pool.specs.Workers.{Manned, AreNew, AreWorkers, members_of}
 use Rattle.mbufpool_c.proofs.HallLemmas.{numbers_are}
-use Rattle.mbufpool_c.specs.Halls.{numbers_of}
+use Rattle.mbufpool_c.specs.inside.Halls.{numbers_of}
 use Rattle.mbufpool_c.specs.Opens.{IsNewCrew}
 use Rattle.mbufpool_c.specs.declared.worker_handle.WorkerHandle.{WorkerHandle}
 

@@ -1,5 +1,5 @@
 -- What C is answered where it closes a pool of packets.
-use Rattle.std.specs.Prelude.{ℕ, ◌≡◌, ◌≢◌, ◌≤◌, ◌+◌, ◌⊎◌, List, [], ◌∷◌, Option, Some, None, All, flat_map, length, map, vec_capacity}
+use Rattle.std.specs.Prelude.{ℕ, ◌≡◌, ◌≢◌, ◌≤◌, ◌+◌, ◌⊎◌, List, [], ◌∷◌, Option, Some, None, All, flat_map, length, map}
 use Rattle.commons.specs.declared.refusal.Refusal.TheVariants.{InUse, OutOfMemory, StrangerShare}
 use Rattle.commons.specs.Refusals.{number_of}
 use Rattle.ground.specs.Seats.{Grounded}
@@ -8,7 +8,6 @@ use Rattle.pool_model.specs.Statements.{ListsEachOnce, PlacesEachOnce}
 use Rattle.word_book.specs.Listing.{ListsPackets}
 use Rattle.word_pool.specs.Lost.{AreLeft, AreLostOf}
 use Rattle.word_pool.specs.Workers.{Manned, AreWorkers, IsStatementOfWorkers}
-use Rattle.mbufpool_c.specs.declared.closing.Room.{Room}
 use Rattle.mbufpool_c.specs.declared.ending.Ending.{Ending}
 use Rattle.mbufpool_c.specs.declared.worker_handle.WorkerHandle.{WorkerHandle}
 
@@ -81,11 +80,3 @@ IsEnded status = (status ≡ number_of OutOfMemory) ⊎ (status ≡ misused)
 
 abbrev pub RefusesClose : List WorkerHandle → ℕ → List WorkerHandle → Type 0
 RefusesClose old status new = (HaveSame old new × IsRefused status) ⊎ (AreEmpty new × IsEnded status)
-
--- room for the workers of n handles
-pub record IsRoom (n : ℕ) (r : Room) : Type 0 where
-  pub places : length r.places.items ≡ n
-  pub numbers : r.numbers.items ≡ []
-  pub room : n ≤ vec_capacity r.numbers
-  pub workers : r.workers.items ≡ []
-  pub missing : r.missing.items ≡ []

@@ -5,6 +5,6 @@ pub mod Statuses
 pub mod Segments
 pub mod Marks
 pub mod Opens
-pub mod Halls
 pub mod Closes
 pub mod Told
+pub mod inside

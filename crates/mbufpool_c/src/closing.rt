@@ -4,8 +4,9 @@ ghost use Rattle.std.specs.Prelude.{◌≡◌, ◌≢◌, ◌<◌, ◌≤◌, �
 ghost use Rattle.commons.specs.Refusals.{number_of};
 ghost use Rattle.word_pool.specs.Workers.{AreWorkers};
 ghost use Rattle.word_pool.specs.Lost.{AreLeft, AreLostOf};
-ghost use Rattle.mbufpool_c.specs.Closes.{AreApart, AreEmpty, Closes, HasClosed, HaveSame, IsEnded, IsRefused, IsRoom, IsSettled, RefusesClose, number_in, numbers_in};
-ghost use Rattle.mbufpool_c.specs.Halls.{AreAbove, IsGathered};
+ghost use Rattle.mbufpool_c.specs.Closes.{AreApart, AreEmpty, Closes, HasClosed, HaveSame, IsEnded, IsRefused, IsSettled, RefusesClose, number_in, numbers_in};
+ghost use Rattle.mbufpool_c.specs.inside.Halls.{AreAbove, IsGathered};
+ghost use Rattle.mbufpool_c.specs.inside.Rooms.{IsRoom};
 
 use crate::ending::Ending;
 use crate::ending_handle::EndingHandle;

@@ -3,7 +3,7 @@
 
 ghost use Rattle.std.specs.Prelude.{◌≡◌, All, IfOk, IfSome};
 ghost use Rattle.word_pool.specs.Workers.{IsWorker};
-ghost use Rattle.mbufpool_c.specs.Halls.{IsSeated};
+ghost use Rattle.mbufpool_c.specs.inside.Halls.{IsSeated};
 
 use crate::loose::Loose;
 use counted_slot::{Counted, FREE, Fits, TAKEN};

@@ -4,7 +4,7 @@ ghost use Rattle.std.specs.Prelude.{◌≡◌, ◌≢◌, ◌≤◌, All, IfOk, 
 ghost use Rattle.std.specs.List.{range_with_len};
 ghost use Rattle.ground.specs.Opening.{IsGroundCause};
 ghost use Rattle.word_pool.specs.Workers.{AreWorkers, IsWorker};
-ghost use Rattle.mbufpool_c.specs.Halls.{numbers_of};
+ghost use Rattle.mbufpool_c.specs.inside.Halls.{numbers_of};
 ghost use Rattle.mbufpool_c.specs.Opens.{HaveWorkers, IsNewCrew, Opens, RefusesOpen, pool_limits};
 
 use crate::hall::Hall;

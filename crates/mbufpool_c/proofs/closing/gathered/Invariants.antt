@@ -1,5 +1,5 @@
 use Rattle.std.proofs.Common.{◌≡◌, ◌-◌, All, reverse}
-use Rattle.mbufpool_c.specs.Halls.{AreAbove}
+use Rattle.mbufpool_c.specs.inside.Halls.{AreAbove}
 use Rattle.mbufpool_c.proofs.closing.gathered.Given as goal
 
 -- those whose chairs were passed are there, or missing

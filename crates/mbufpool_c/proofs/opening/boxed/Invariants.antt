@@ -1,7 +1,7 @@
 use Rattle.std.proofs.Common.{◌≡◌, ◌≤◌, ◌++◌, All, length, map, reverse, vec_len}
 use Rattle.std.specs.List.{range_with_len}
 use Rattle.word_pool.specs.Workers.{IsWorker}
-use Rattle.mbufpool_c.specs.Halls.{numbers_of}
+use Rattle.mbufpool_c.specs.inside.Halls.{numbers_of}
 use Rattle.mbufpool_c.proofs.opening.boxed.Given as goal
 
 -- those who are left are workers of the words, and the others are on the heap
