@@ -5,6 +5,7 @@ use script::Grounds;
 use script_io::{ReadFault, Tally, read_script};
 use std::alloc::Global;
 use std::io::Read;
+use std::process::Abort;
 use std::rt::Files;
 use std::sync::Wait;
 use std::test::Fail;
@@ -303,7 +304,11 @@ impl Scripts for Fails {
 }
 
 /// What is told of a task with a script that can't be read.
-fn assert_told<S: Scripts>(rt: &HostRuntime, scripts: &S, line: &str) -> Result<(), Fail> {
+fn assert_told<R: Threads + Wait + Sync + Abort + AllocGlobal, S: Scripts>(
+    rt: &R,
+    scripts: &S,
+    line: &str,
+) -> Result<(), Fail> {
     let file = "a.script";
     for task in [
         Task::Replay(Form::Text),

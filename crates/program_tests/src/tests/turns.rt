@@ -2,14 +2,14 @@
 use super::files::outcome;
 use super::same;
 use script::Grounds;
+use script_io::ReadFault;
 use script_rows::parts::{Field, Part, written};
 use std::alloc::Global;
-use std::io;
 use std::process::Abort;
 use std::sync::Wait;
 use std::test::Fail;
 use std::thread::Threads;
-use tasks::scripts::{Scripts, bytes_of};
+use tasks::scripts::Scripts;
 use tasks::task::{Form, Request, Task, Turns};
 
 /// The one script that there is, whatever name is asked for.
@@ -17,8 +17,8 @@ use tasks::task::{Form, Request, Task, Turns};
 struct Only<'a>(&'a str);
 
 impl Scripts for Only<'_> {
-    fn read(&self, alloc: Global, _name: &str) -> io::Result<Vec<u8>> {
-        bytes_of(alloc, self.0.as_bytes())
+    fn read(&self, alloc: Global, _name: &str) -> Result<Vec<u8>, ReadFault> {
+        Vec::from_slice(alloc, self.0.as_bytes()).map_err(|_| ReadFault::Memory)
     }
 }
 
