@@ -1,4 +1,6 @@
 //! Terminals that take nothing or little, and what another one took.
+ghost use Rattle.std.specs.Prelude.{◌≡◌, false};
+
 use script_io::Tally;
 use std::alloc::Global;
 use std::io;
@@ -49,7 +51,10 @@ pub struct Screen {
 }
 
 impl Screen {
-    pub(super) fn new(alloc: Global) -> Screen {
+    /// A screen on which nothing stands, and of which no write has failed.
+    pub(super) fn new(alloc: Global) -> Screen
+        ensures { result.output.failed ≡ false }
+    {
         Screen {
             output: Tally::new(Vec::new(alloc)),
             errors: Vec::new(alloc),
