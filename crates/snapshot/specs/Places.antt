@@ -1,5 +1,5 @@
 -- Where the packets of a statement stand in a snapshot.
-use Rattle.std.specs.Prelude.{ℕ, ◌≡◌, ◌<◌, ◌≤◌, All, AllPairs, Contains, None, Some, length, slice_index_or}
+use Rattle.std.specs.Prelude.{◌≡◌, ◌<◌, ◌≤◌, All, AllPairs, Contains, None, Some, length, slice_index_or}
 use Rattle.pool_model.specs.Statements.{StandsBefore}
 use Rattle.pool_model.specs.declared.statement.PlacedPacket.{PlacedPacket}
 use Rattle.pool_model.specs.declared.statement.Statement.{Statement}

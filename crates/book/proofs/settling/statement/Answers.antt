@@ -2,9 +2,9 @@ use Rattle.book.proofs.Causes.{unsettled_is}
 use Rattle.book.proofs.Shares.{all_slots}
 use Rattle.book.proofs.settling.statement.Goals as goal
 
--- a book keeps shares with all their slots
-pub audit-requires-clause-slots : goal.audit-requires-clause-slots
-audit-requires-clause-slots c =
+-- a book keeps shares with all their slots, so packets stand in these
+pub returns-clause-places : goal.returns-clause-places
+returns-clause-places c =
     let each = c.fits_its_limits.ensures.each in
     rw c.in-Ok.ensures.same (all_slots c.args.book.now.places (λ n m e. (each n m e).slots))
 
