@@ -157,8 +157,7 @@ fn count(elem: u32) -> u32 {
 }
 
 /// What all workers handed in.
-fn shares(alloc: Global) -> Result<Seq<ShareData>, AllocError>
-{
+fn shares(alloc: Global) -> Result<Seq<ShareData>, AllocError> {
     let mut shares = Vec::new(alloc);
     for index in 0..64 {
         shares.push(ShareData {
