@@ -39,7 +39,8 @@ pub(crate) fn check(alloc: Global, snapshot: &Snapshot, walked: &[u32]) -> Resul
     }
 }
 
-/// Tests the same by the snapshot's tally.
+/// Tests, by the snapshot's tally, that each element is the own one of one segment at most, that it
+/// is in one place, and that its count is the number of its holds, else answers the first fault.
 fn judge(snapshot: &Snapshot, tally: &Tally) -> Result<(), Fault>
     requires pool { IsPool snapshot.now.limits }
     requires shape { HasShape snapshot.now }
