@@ -14,6 +14,7 @@ mod building;
 mod calling;
 mod faults;
 mod guests;
+mod places;
 mod shown;
 mod vectors;
 mod words;
@@ -142,6 +143,7 @@ fn audit_rows<R: Abort + AllocGlobal>(rt: &R, rows: &[Row]) {
 fn each_snapshot_is_lawful_or_has_its_first_fault(rt: HostRuntime) {
     audit_rows(&rt, vectors::ROWS);
     audit_rows(&rt, guests::ROWS);
+    audit_rows(&rt, places::ROWS);
     audit_rows(&rt, faults::LAWFUL);
     audit_rows(&rt, faults::SHAPES);
     audit_rows(&rt, faults::WALKS);

@@ -1,8 +1,6 @@
 //! The audit of a large lawful snapshot, beside one plain pass over the same words.
-ghost use Rattle.std.specs.Prelude.{◌≡◌, ◌<◌, All, IfOk, length};
+ghost use Rattle.std.specs.Prelude.{◌≡◌, ◌<◌, IfOk};
 ghost use Rattle.commons.specs.Bounds.{IsPool};
-ghost use Rattle.mbuf.specs.Members.{slots};
-ghost use Rattle.snapshot.specs.Snapshots.{HasSlots};
 
 use crate::failures::Failure;
 use crate::figures::{print_each, since};
@@ -42,7 +40,6 @@ fn audit_runs<R: Clock + AllocGlobal>(
     runs: u64,
 ) -> Result<u64, Failure>
     requires pool { IsPool snapshot.now.limits }
-    requires slots { HasSlots snapshot.now }
 {
     let mut least = u64::MAX;
     for _run in 0..runs {
@@ -118,8 +115,7 @@ fn with_packets(table: &[Option<Seq<Seg>>], sum: u64) -> u64 {
 /// The snapshot that is audited: each worker has 255 packets and a full cache, and each desk one
 /// packet.
 fn large(alloc: Global, limits: &Limits) -> Result<Snapshot, AllocError>
-    ensures limits { IfOk result (λ s. s.limits ≡ limits.now) }
-    ensures slots { IfOk result (λ s. HasSlots s) }
+    ensures { IfOk result (λ s. s.limits ≡ limits.now) }
 {
     let mut links = Vec::new(alloc);
     let mut counts = Vec::new(alloc);
@@ -161,9 +157,7 @@ fn count(elem: u32) -> u32 {
 }
 
 /// What all workers handed in.
-fn shares(alloc: Global) -> Result<Seq<ShareData>, AllocError>
-    ensures { IfOk result (λ shares. All (λ share. length share.slots ≡ slots) shares) }
-{
+fn shares(alloc: Global) -> Result<Seq<ShareData>, AllocError> {
     let mut shares = Vec::new(alloc);
     for index in 0..64 {
         shares.push(ShareData {
@@ -189,7 +183,6 @@ fn cache(alloc: Global, index: u32) -> Result<Seq<u32>, AllocError>
 /// A worker's slots, the last of them free: what was its packet lies on a desk.
 fn table(alloc: Global, index: u32) -> Result<Seq<Option<Seq<Seg>>>, AllocError>
     requires { index < 64 }
-    ensures { IfOk result (λ table. length table ≡ slots) }
 {
     let mut table = Vec::new(alloc);
     for slot in 0..255 {

@@ -1,6 +1,8 @@
 -- The workers of a pool stay numbered from 1, each with all its slots, and the desks as many.
 use Rattle.std.proofs.Common.{ℕ, zero, suc, ◌≡◌, ◌+◌, List, [], ◌∷◌, length, length-set, get_or, set, Option, None, refl, ◌∙◌, ◌<◌, arith}
+use Rattle.std.specs.Prelude.{All}
 use Rattle.std.proofs.lemmas.List.{length-replicate}
+use Rattle.std.proofs.lemmas.List.Elements.{All-cons, All-nil}
 use Rattle.commons.specs.declared.limits.Limits.{Limits}
 use Rattle.commons.specs.declared.packet.Seg.{Seg}
 use Rattle.mbuf.specs.declared.acts.Act.{Act}
@@ -26,6 +28,13 @@ AreNumbered number (m ∷ members) = (m.number ≡ number) × (length m.table �
 pub numbered_in_order : (number : ℕ) (members : List Member) → AreNumbered number members → AreInOrder number members
 numbered_in_order number [] a = tt
 numbered_in_order number (m ∷ members) a = (a.0, numbered_in_order (number + 1) members a.2)
+
+-- each of them has all its slots
+pub full_tables : (number : ℕ) (members : List Member) → AreNumbered number members →
+    All (λ m. length m.table ≡ slots) members
+full_tables number [] a = All-nil (λ (m : Member). length m.table ≡ slots)
+full_tables number (m ∷ members) a =
+    All-cons (λ (m : Member). length m.table ≡ slots) m members a.1 (full_tables (number + 1) members a.2)
 
 -- a pool within these limits, with a worker for each number and a place for each desk
 pub record IsNumbered (l : Limits) (pool : Pool) : Type 0 where

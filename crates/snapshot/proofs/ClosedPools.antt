@@ -5,7 +5,7 @@ use Rattle.std.specs.List.{range_with_len}
 use Rattle.std.proofs.lemmas.Bool.{cases_lt}
 use Rattle.std.proofs.lemmas.Bool.Decides.{nat_tests}
 use Rattle.std.proofs.lemmas.List.{append-nil}
-use Rattle.std.proofs.lemmas.List.Elements.{All-contains, All-cons, All-nil, All-head, All-tail}
+use Rattle.std.proofs.lemmas.List.Elements.{All-contains, All-cons, All-nil, All-head, All-tail, All-weaker}
 use Rattle.std.proofs.lemmas.List.FromFn.{get_or-map-range_with_len, length-map-range_with_len}
 use Rattle.std.proofs.lemmas.List.Sums.{sum_by-cons}
 use Rattle.commons.specs.Bag.{bag}
@@ -23,11 +23,11 @@ use Rattle.pool_model.specs.Pool.{Pool, held_by, held_of, new_pool}
 use Rattle.pool_model.specs.Statements.{statement_of}
 use Rattle.pool_model.proofs.Alone.{statement_alone}
 use Rattle.pool_model.proofs.Balance.{IsBalanced, after_acts-balanced, at_most_one, new_pool-balanced}
-use Rattle.pool_model.proofs.Numbered.{AreNumbered, IsNumbered, acts-numbered}
+use Rattle.pool_model.proofs.Numbered.{AreNumbered, IsNumbered, acts-numbered, full_tables}
 use Rattle.pool_model.proofs.PacketsStand.{ArePlaces, HasPackets, IsPlace, acts-packets}
 use Rattle.snapshot.specs.Closing.{share_of, snapshot_in}
 use Rattle.snapshot.specs.declared.snapshot.ShareData.{ShareData}
-use Rattle.snapshot.specs.Snapshots.{elements_of, HasPacket, HasShape, HasSlots, IsLawful, pool_of, statement_in, times_held, walk, words_met}
+use Rattle.snapshot.specs.Snapshots.{elements_of, HasPacket, HasShape, IsLawful, most_places, pool_of, statement_in, times_held, walk, words_met}
 use Rattle.snapshot.proofs.FollowedLinks.{linked, words_linked}
 use Rattle.snapshot.proofs.Walks.{IsBelow, elements_after, words_and, words_of}
 
@@ -49,7 +49,7 @@ all_shares P (m ∷ members) h =
     (All-head (λ (m : Member). P (share_of m)) m members h)
     (all_shares P members (All-tail (λ (m : Member). P (share_of m)) m members h))
 
--- ---- the numbers of the shares, and their slots
+-- ---- the numbers of the shares
 
 -- workers numbered in a row hand in shares with these numbers
 share_numbers : (number : ℕ) (members : List Member) → AreNumbered number members →
@@ -57,14 +57,6 @@ share_numbers : (number : ℕ) (members : List Member) → AreNumbered number me
 share_numbers number [] a = refl
 share_numbers number (m ∷ members) a =
     rw a.0 (ap (λ (ns : List ℕ). number ∷ ns) (share_numbers (number + 1) members a.2))
-
--- a worker hands in all its slots
-share_slots : (number : ℕ) (members : List Member) → AreNumbered number members →
-    All (λ m. length m.table ≡ slots) members
-share_slots number [] a = All-nil (λ (m : Member). length m.table ≡ slots)
-share_slots number (m ∷ members) a =
-    All-cons (λ (m : Member). length m.table ≡ slots) m members a.1
-    (share_slots (number + 1) members a.2)
 
 -- ---- how often the snapshot's packets hold an element
 
@@ -141,6 +133,9 @@ shaped l pool n = record {
   shares =
       share_numbers 1 pool.members n.numbers
       ∙ ap (range_with_len 1) (n.workers ∙ sym (ap (λ (x : Limits). x.workers) n.limits));
+  places = all_shares (λ share. length share.slots ≤ most_places) pool.members
+      (All-weaker (λ (m : Member). length m.table ≡ slots) (λ m. length m.table ≤ most_places)
+      (λ m full. omega (arith, full)) pool.members (full_tables 1 pool.members n.numbers));
   guests = All-nil (λ (guest : Guest). (1 ≤ guest.worker) × (guest.worker ≤ pool.limits.workers));
   few = omega arith;
 }
@@ -237,13 +232,6 @@ acts_lawful l acts =
     lawful l (after_acts acts (new_pool l))
     (after_acts-balanced acts (new_pool l) (new_pool-balanced l)) (acts-numbered l acts)
     (acts-packets l acts)
-
--- acts leave each worker its slots
-pub acts_have_slots : (l : Limits) (acts : List (ℕ × Act)) → HasSlots (snapshot_in (after_acts acts (new_pool l)))
-acts_have_slots l acts =
-    let pool = after_acts acts (new_pool l) in
-    all_shares (λ share. length share.slots ≡ slots) pool.members
-    (share_slots 1 pool.members (acts-numbered l acts).numbers)
 
 -- acts leave a pool whose snapshot shows it again
 pub acts_stated : (l : Limits) (acts : List (ℕ × Act)) → let pool =

@@ -12,7 +12,7 @@ use Rattle.snapshot.specs.declared.fault.Fault.TheVariants.{BadShape, BadTop, Lo
 use Rattle.snapshot.specs.declared.snapshot.ShareData.{ShareData}
 use Rattle.snapshot.specs.declared.snapshot.Snapshot.{Snapshot}
 use Rattle.snapshot.specs.Faults.{IsFault, IsCleanBelow}
-use Rattle.snapshot.specs.Snapshots.{HasShape, IsLawful, most_guests, times_free, times_held, times_own, walk, words_met}
+use Rattle.snapshot.specs.Snapshots.{HasShape, IsLawful, most_guests, most_places, times_free, times_held, times_own, walk, words_met}
 use Rattle.snapshot.proofs.HostedGuests.{no_guest}
 use Rattle.snapshot.proofs.Clean.{clean_shape, clean_words, clean_ends, clean_length, clean_elements, clean_packets, clean_own, clean_once, clean_counted, known_clean}
 
@@ -53,6 +53,8 @@ shape_stable s h = record {
   desks = eq_stable (length s.desks) s.limits.desks (λ no. h (λ is. no is.desks));
   shares = list_stable (map (λ (share : ShareData). share.worker) s.shares) (range_with_len 1 s.limits.workers)
       (λ no. h (λ is. no is.shares));
+  places = λ i d l. le_stable (length (get_or s.shares i d).slots) most_places
+      (λ no. h (λ is. no (is.places i d l)));
   guests = All-from_get_or (λ (guest : Guest). (1 ≤ guest.worker) × (guest.worker ≤ s.limits.workers)) s.guests no_guest
       (λ i l.
       let guest = get_or s.guests i no_guest in

@@ -8,7 +8,7 @@ use Rattle.commons.specs.Bag.{bag, one}
 use Rattle.commons.specs.Packets.{own_of_packet}
 use Rattle.commons.specs.declared.packet.Seg.{Seg}
 use Rattle.commons.proofs.Bags.{bag-nil, bag-cons, bag-take-le, one-same}
-use Rattle.snapshot.specs.inside.Tallies.{HasMet}
+use Rattle.snapshot.specs.inside.Tallies.{HasMet, IsRow}
 
 -- nothing was met
 pub met-none : (times : ℕ → ℕ) (row : List ℕ) → ((i : ℕ) → i < length row → get_or row i 0 ≤ 4294967295) →
@@ -67,3 +67,11 @@ own-suc segs k i d l =
       own-sum (take k segs) i,
       sum_by_more (λ (s : Seg). one s.elem i) segs k d l,
     )
+
+-- where no number of a row is above 1, nothing was met twice
+pub row-once : (size : ℕ) (times : ℕ → ℕ) (row : List ℕ) → IsRow size times row →
+    ((i : ℕ) → i < length row → get_or row i 0 ≤ 1) → (e : ℕ) → times e ≤ 1
+row-once size times row is once e = elim (cases_lt e (length row)) [
+  | inl h ↦ omega (arith, once e h, is.counts e)
+  | inr h ↦ omega (arith, get_or_past row e 0 h, is.counts e)
+]

@@ -11,7 +11,7 @@ use Rattle.std.proofs.lemmas.List.FromFn.{get_or-map-range_with_len, length-map-
 use Rattle.std.proofs.lemmas.List.Sums.{get_or-le-sum_by, sum_by-cons, sum_by-le}
 use Rattle.commons.specs.Bag.{bag}
 use Rattle.commons.specs.Bounds.{IsPool, max_population, max_workers}
-use Rattle.commons.specs.Packets.{held_in, holds_in_slot}
+use Rattle.commons.specs.Packets.{held_in}
 use Rattle.commons.specs.declared.packet.Seg.{Seg}
 use Rattle.commons.proofs.Bags.{length-le}
 use Rattle.mbuf.specs.Members.{Member}

@@ -1,23 +1,28 @@
 -- The pool that a lawful snapshot shows has each element in one place, and its workers in order.
-use Rattle.std.proofs.Common.{ℕ, zero, suc, ◌≡◌, ◌+◌, inl, inr, nat_lt, cond, List, [], ◌∷◌, length, map, false, refl, sym, subst, ◌∙◌, ap, arith}
-use Rattle.std.specs.Prelude.{All, min, sum_by}
+use Rattle.std.proofs.Common.{ℕ, zero, suc, ◌≡◌, ◌+◌, ◌-◌, ◌<◌, ◌≤◌, inl, inr, nat_lt, cond, List, [], ◌∷◌, length, map, get_or, Option, None, Some, false, refl, sym, subst, ◌∙◌, ap, arith}
+use Rattle.std.specs.Prelude.{flat_map, min, sum_by}
 use Rattle.std.specs.List.{range_with_len}
 use Rattle.std.proofs.lemmas.Bool.{cases_lt, cond-true, cond-false, lt-ltb, le-ltb}
-use Rattle.std.proofs.lemmas.List.{length-map}
-use Rattle.std.proofs.lemmas.List.Elements.{All-head, All-tail}
+use Rattle.std.proofs.lemmas.List.{get_or-map, length-map}
+use Rattle.std.proofs.lemmas.List.Elements.{All-contains, All-weaker, Contains-get_or}
 use Rattle.std.proofs.lemmas.List.FromFn.{length-range_with_len}
 use Rattle.commons.specs.Bag.{bag}
 use Rattle.commons.specs.Packets.{own_in}
+use Rattle.commons.specs.declared.packet.Seg.{Seg}
+use Rattle.commons.proofs.PacketBags.{stands_within}
 use Rattle.mbuf.specs.Members.{Member, slots}
 use Rattle.pool_model.specs.Guests.{AreOfWorkers, ListsEachOnceWith, statement_with}
 use Rattle.pool_model.proofs.GuestsListed.{IsBalancedWith, lists_each_once_with}
 use Rattle.pool_model.proofs.Listed.{sum_by-map}
 use Rattle.pool_model.proofs.LocalPools.{cached-local, length-local, local-available, local-in_use, local-population, local-common, local-in_order, local-limits, own_of-local, statement-local}
-use Rattle.pool_model.proofs.Numbered.{AreInOrder, AreNumbered, IsNumbered}
-use Rattle.pool_model.proofs.Placed.{places_each_once}
-use Rattle.pool_model.specs.Statements.{PlacesEachOnce}
+use Rattle.pool_model.proofs.Numbered.{AreInOrder}
+use Rattle.pool_model.proofs.Placed.{IsInTable, IsOfWorkers, OnDesks, desks_from-desks, desks_from-order, packets-in_tables, packets-order, packets-workers}
+use Rattle.pool_model.specs.declared.statement.PlacedPacket.{PlacedPacket}
+use Rattle.pool_model.specs.declared.statement.Statement.{Statement}
+use Rattle.pool_model.specs.Statements.{PlacesEachOnce, desks_from, packets_of}
 use Rattle.snapshot.specs.declared.snapshot.ShareData.{ShareData}
 use Rattle.snapshot.specs.declared.snapshot.Snapshot.{Snapshot}
+use Rattle.snapshot.specs.Places.{IsInItsShare, PlacesItsPackets}
 use Rattle.snapshot.specs.Snapshots.{HasShape, HasSlots, IsLawful, ListsItsElements, member_of, own_pool, pool_of, statement_in, times_free, times_held}
 use Rattle.snapshot.proofs.Clean.{nowhere_past}
 
@@ -66,35 +71,20 @@ in_order s number (suc n) (share ∷ shares) e =
     let rest : map (λ (share : ShareData). share.worker) shares ≡ range_with_len (number + 1) n = cc in
     (first, in_order s (number + 1) n shares rest)
 
--- and each with all its slots
-all_numbered : (s : Snapshot) (number : ℕ) (shares : List ShareData) →
-    All (λ (share : ShareData). length share.slots ≡ slots) shares →
-    AreInOrder number (map (member_of s) shares) → AreNumbered number (map (member_of s) shares)
-all_numbered s number [] all a = tt
-all_numbered s number (share ∷ shares) all a =
-    let full = λ (share : ShareData). length share.slots ≡ slots in
-    (a.0, All-head full share shares all, all_numbered s (number + 1) shares (All-tail full share shares all) a.1)
-
 pub shows_in_order : (s : Snapshot) → HasShape s → AreInOrder 1 (pool_of s).members
 shows_in_order s h = in_order s 1 s.limits.workers s.shares h.shares
 
--- the shares are in order, one for each worker, so the shown pool's members are numbered
-pub shows_numbered : (s : Snapshot) → HasSlots s → HasShape s → IsNumbered s.limits (pool_of s)
-shows_numbered s full h = record {
-  limits = refl;
-  workers = length-map s.shares (member_of s) ∙ sym (length-map s.shares (λ (share : ShareData). share.worker))
-      ∙ ap length h.shares ∙ length-range_with_len 1 s.limits.workers;
-  numbers = all_numbered s 1 s.shares full (shows_in_order s h);
-  desks = h.desks;
-}
+-- it has as many members as its limits have workers
+shows_workers : (s : Snapshot) → HasShape s → length (pool_of s).members ≡ s.limits.workers
+shows_workers s h =
+    length-map s.shares (member_of s) ∙ sym (length-map s.shares (λ (share : ShareData). share.worker))
+    ∙ ap length h.shares ∙ length-range_with_len 1 s.limits.workers
 
--- it has as many members as workers, and guests are of these
+-- and guests are of these
 pub shows_guests : (s : Snapshot) → HasShape s → AreOfWorkers (length (own_pool s).members) s.guests
 shows_guests s h =
     let many : s.limits.workers ≡ length (own_pool s).members =
-    sym (length-local s.foreign (pool_of s) ∙ length-map s.shares (member_of s)
-    ∙ sym (length-map s.shares (λ (share : ShareData). share.worker))
-    ∙ ap length h.shares ∙ length-range_with_len 1 s.limits.workers) in
+    sym (length-local s.foreign (pool_of s) ∙ shows_workers s h) in
     subst (λ (workers : ℕ). AreOfWorkers workers s.guests) many h.guests
 
 -- so its statement lists each element once, as the pool sees itself
@@ -121,14 +111,69 @@ lawful_whole s h =
       local-population s.foreign statement,
     )
 
--- packets stand where they stand in the pool that is shown
-pub lawful_places_once : (s : Snapshot) → HasSlots s → IsLawful s → PlacesEachOnce s.limits (statement_in s)
-lawful_places_once s full h =
-    let places = places_each_once s.limits (pool_of s) (shows_numbered s full h.shape) in record {
-      population = places.population;
-      caches = places.caches;
-      packets = places.packets;
-      slots = places.slots;
-      desks = places.desks;
-      on_desks = places.on_desks;
+-- ---- where packets stand
+
+-- stands for a share where there is none
+no_share : ShareData
+no_share = record { worker = 0; cache = []; slots = [] }
+
+-- what stands in a member's table stands in its share
+in_share : (s : Snapshot) (placed : PlacedPacket) → IsInTable (pool_of s).members placed → IsInItsShare s placed
+in_share s placed h =
+    let k = h.1.0 in
+    let share = get_or s.shares k no_share in
+    let within : k < length s.shares = omega (arith, h.1.1, length-map s.shares (member_of s)) in
+    let is : h.0 ≡ member_of s share = sym h.1.2 ∙ get_or-map (member_of s) s.shares k no_share h.0 within in
+    let number : share.worker ≡ placed.worker = ap (λ (m : Member). m.number) (sym is) ∙ sym h.2.0 in
+    let table : share.slots ≡ h.0.table = ap (λ (m : Member). m.table) (sym is) in
+    let slot : placed.slot ≡ placed.slot - 0 = omega arith in
+    let stands : get_or share.slots placed.slot None ≡ Some placed.segs =
+    ap (λ (slots : List (Option (List Seg))). get_or slots placed.slot None) table
+    ∙ ap (λ (n : ℕ). get_or h.0.table n None) slot ∙ h.2.2 in
+    (share, Contains-get_or s.shares k no_share within, number, stands)
+
+-- in a snapshot with the shape of its pool each packet has a place of its own
+pub places_packets : (s : Snapshot) → HasShape s → PlacesItsPackets s (statement_in s)
+places_packets s h =
+    let members = (pool_of s).members in
+    let in_order = shows_in_order s h in
+    record {
+      population = refl;
+      caches = length-map members (λ (m : Member). m.cache) ∙ shows_workers s h;
+      packets = packets-order 1 members in_order;
+      workers =
+          All-weaker (IsOfWorkers 1 (1 + length members))
+          (λ placed. (1 ≤ placed.worker) × (placed.worker ≤ s.limits.workers))
+          (λ placed of. (of.0, omega (arith, of.1, shows_workers s h))) (flat_map packets_of members)
+          (packets-workers 1 members in_order);
+      placed =
+          All-weaker (IsInTable members) (IsInItsShare s) (in_share s) (flat_map packets_of members)
+          (packets-in_tables members);
+      desks = desks_from-order 0 s.desks;
+      on_desks =
+          All-weaker (OnDesks 0 (0 + length s.desks)) (λ packet. packet.desk < s.limits.desks)
+          (λ packet on. omega (arith, on.1, h.desks)) (desks_from 0 s.desks) (desks_from-desks 0 s.desks);
     }
+
+pub lawful_places : (s : Snapshot) → IsLawful s → PlacesItsPackets s (statement_in s)
+lawful_places s h = places_packets s h.shape
+
+-- in a share with a place for each slot it is one of the slots
+in_slots : (s : Snapshot) (statement : Statement) → HasSlots s → PlacesItsPackets s statement →
+    PlacesEachOnce s.limits statement
+in_slots s statement full places = record {
+  population = places.population;
+  caches = places.caches;
+  packets = places.packets;
+  slots = λ k d l.
+      let placed = get_or statement.packets k d in
+      let of = places.workers k d l in
+      let at = places.placed k d l in
+      let all : length at.0.slots ≡ slots = All-contains (λ share. length share.slots ≡ slots) s.shares at.0 full at.1 in
+      (of.0, of.1, omega (arith, all, stands_within at.0.slots placed.slot placed.segs at.3));
+  desks = places.desks;
+  on_desks = places.on_desks;
+}
+
+pub lawful_slots : (s : Snapshot) → HasSlots s → IsLawful s → PlacesEachOnce s.limits (statement_in s)
+lawful_slots s full h = in_slots s (statement_in s) full (lawful_places s h)

@@ -1,5 +1,6 @@
 pub mod Closing
 pub mod Faults
 pub mod Lost
+pub mod Places
 pub mod Snapshots
 pub mod inside

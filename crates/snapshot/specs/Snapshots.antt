@@ -1,5 +1,5 @@
 -- A snapshot read as a pool: what is free in it, and what is held.
-use Rattle.std.specs.Prelude.{ℕ, zero, suc, ◌≡◌, ◌<◌, ◌≤◌, ◌+◌, ◌*◌, min, max, nat_lt, if◌then◌else◌, List, [], ◌∷◌, All, Contains, Some, map, length, slice_index, sum_by, ◌⊎◌}
+use Rattle.std.specs.Prelude.{ℕ, zero, suc, ◌≡◌, ◌<◌, ◌≤◌, ◌+◌, ◌*◌, ◌^◌, min, max, nat_lt, if◌then◌else◌, List, [], ◌∷◌, All, Contains, Some, map, length, slice_index, sum_by, ◌⊎◌}
 use Rattle.std.specs.List.{range_with_len}
 use Rattle.commons.specs.Bag.{bag}
 use Rattle.commons.specs.Packets.{IsPacket, own_in}
@@ -79,13 +79,19 @@ HasPacket s segs =
 abbrev pub most_guests : ℕ
 most_guests = 8192
 
+-- the most places of a share: a place has a number of 32 bits
+abbrev pub most_places : ℕ
+most_places = 2 ^ 32
+
 -- One link and one count for each element, a place for each desk, and a share for each worker in
--- order. Guests are of these workers, and no more than their packets may have bases.
+-- order, each with no more places than have a number. Guests are of these workers, and no more
+-- than their packets may have bases.
 pub record HasShape (s : Snapshot) : Type 0 where
   pub links : length s.links ≡ s.limits.population
   pub counts : length s.counts ≡ s.limits.population
   pub desks : length s.desks ≡ s.limits.desks
   pub shares : map (λ share. share.worker) s.shares ≡ range_with_len 1 s.limits.workers
+  pub places : All (λ share. length share.slots ≤ most_places) s.shares
   pub guests : AreOfWorkers s.limits.workers s.guests
   pub few : length s.guests ≤ s.limits.workers * most_guests
 

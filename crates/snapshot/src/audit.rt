@@ -5,6 +5,7 @@ ghost use Rattle.commons.specs.Bounds.{IsPool};
 ghost use Rattle.pool_model.specs.Sound.{ListsOnlyPackets};
 ghost use Rattle.pool_model.specs.Statements.{PlacesEachOnce};
 ghost use Rattle.snapshot.specs.Faults.{IsFirstFault};
+ghost use Rattle.snapshot.specs.Places.{PlacesItsPackets};
 ghost use Rattle.snapshot.specs.Snapshots.{HasSlots, IsLawful, ListsItsElements, statement_in};
 
 use crate::fault::Fault;
@@ -15,14 +16,15 @@ use std::alloc::Global;
 
 /// The statement of a lawful snapshot, else the first of its faults, or `OutOfMemory` where memory
 /// was refused. Each packet that is listed has 1 to 32 segments, each with its data within its
-/// buffer. Of the reference limit nothing is said.
+/// buffer, and its slot is the number of its place in the share of its worker, which has as many
+/// places as it has. Of the reference limit nothing is said.
 pub fn audit(alloc: Global, snapshot: &Snapshot) -> Result<Statement, Fault>
     requires pool { IsPool snapshot.now.limits }
-    requires slots { HasSlots snapshot.now }
     ensures lawful { IfOk result (λ _. IsLawful snapshot.now) }
     ensures statement { IfOk result (λ s. s ≡ statement_in snapshot.now) }
     ensures once { IfOk result (λ s. ListsItsElements snapshot.now s) }
-    ensures places { IfOk result (λ s. PlacesEachOnce snapshot.now.limits s) }
+    ensures places { IfOk result (λ s. PlacesItsPackets snapshot.now s) }
+    ensures slots { IfOk result (λ s. HasSlots snapshot.now → PlacesEachOnce snapshot.now.limits s) }
     ensures sound { IfOk result (λ s. ListsOnlyPackets s) }
     ensures first { IfErr result (λ f. (f ≡ Fault.OutOfMemory) ⊎ IsFirstFault snapshot.now f) }
 {

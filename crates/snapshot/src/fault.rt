@@ -4,8 +4,8 @@
 #[derive(Clone, Copy, PartialEq, Eq, Debug)]
 pub enum Fault {
     /// Links or counts aren't one for each element, desks aren't as many as the pool has, shares
-    /// aren't one for each worker in order, or guests aren't of these workers, or are more than
-    /// 8,192 for each of them.
+    /// aren't one for each worker in order, a share has more than 4,294,967,296 places, or guests
+    /// aren't of these workers, or are more than 8,192 for each of them.
     BadShape,
     /// The top, or a link on the walk from it, is above the population.
     BadTop(u32),

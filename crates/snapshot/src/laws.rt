@@ -4,6 +4,7 @@ ghost use Rattle.std.specs.Prelude.{◌≡◌, ◌+◌, ◌↔◌, ℕ, [], fals
 ghost use Rattle.snapshot.specs.declared.fault.Fault.{Fault};
 ghost use Rattle.snapshot.specs.declared.snapshot.Snapshot.{Snapshot};
 ghost use Rattle.snapshot.specs.Faults.{IsFault};
+ghost use Rattle.snapshot.specs.Places.{PlacesItsPackets};
 ghost use Rattle.snapshot.specs.Snapshots.{HasSlots, IsLawful, ListsItsElements, pool_of, statement_in, times_held};
 ghost use Rattle.pool_model.specs.Sound.{ListsOnlyPackets};
 ghost use Rattle.pool_model.specs.Pool.{held_of};
@@ -17,11 +18,14 @@ pub fn a_lawful_snapshot_has_no_fault()
 
 /// The statement of a lawful snapshot lists each element of its pool exactly once, what is
 /// available and what is in use are the population, and each packet has a place of its own, 1 to 32
-/// segments, and the data of each within its buffer.
+/// segments, and the data of each within its buffer. That place is in the share of its worker,
+/// however many places it has; where all shares have a place for each slot of a worker's table, it
+/// is one of these slots.
 pub fn a_lawful_snapshot_lists_each_element_once()
     ensures once { (s : Snapshot) → IsLawful s → ListsItsElements s (statement_in s) }
     ensures whole { (s : Snapshot) → IsLawful s → (statement_in s).available + (statement_in s).in_use ≡ s.limits.population }
-    ensures places { (s : Snapshot) → HasSlots s → IsLawful s → PlacesEachOnce s.limits (statement_in s) }
+    ensures places { (s : Snapshot) → IsLawful s → PlacesItsPackets s (statement_in s) }
+    ensures slots { (s : Snapshot) → HasSlots s → IsLawful s → PlacesEachOnce s.limits (statement_in s) }
     ensures sound { (s : Snapshot) → IsLawful s → ListsOnlyPackets (statement_in s) }
 {}
 

@@ -5,10 +5,9 @@ ghost use Rattle.std.specs.List.{range_with_len};
 ghost use Rattle.commons.specs.Bag.{bag, one};
 ghost use Rattle.commons.specs.Bounds.{IsPool};
 ghost use Rattle.commons.specs.Packets.{held_in, hold_of, holds_of_packet, holds_of_seg};
-ghost use Rattle.mbuf.specs.Members.{slots};
 ghost use Rattle.pool_model.specs.Guests.{AreOfWorkers, local_packet, local_table};
 ghost use Rattle.pool_model.specs.Statements.{desks_from, desks_of, packets_from};
-ghost use Rattle.snapshot.specs.Snapshots.{HasSlots, IsLawful, statement_in, walk};
+ghost use Rattle.snapshot.specs.Snapshots.{IsLawful, most_places, statement_in, walk};
 ghost use Rattle.snapshot.specs.inside.Adding.{AreAdded, AreByWorker, entry_of, held_of, holders_in, lists_of, share_holds, workers_in};
 
 use crate::local::local;
@@ -26,7 +25,6 @@ pub fn statement(
     common: Vec<u32>,
 ) -> Result<Statement, AllocError>
     requires pool { IsPool snapshot.now.limits }
-    requires slots { HasSlots snapshot.now }
     requires lawful { IsLawful snapshot.now }
     requires walk { common.items ≡ walk snapshot.now }
     ensures { IfOk result (λ s. s ≡ statement_in snapshot.now) }
@@ -77,7 +75,7 @@ fn in_caches(shares: &[ShareData]) -> u64
 
 /// The packets by worker and slot.
 fn packets(alloc: Global, shares: &[ShareData]) -> Result<Seq<PlacedPacket>, AllocError>
-    requires { All (λ share. length share.slots ≡ slots) shares.now }
+    requires { All (λ share. length share.slots ≤ most_places) shares.now }
     ensures { IfOk result (λ s. s ≡ flat_map (λ share. packets_from share.worker 0 share.slots) shares.now) }
 {
     let mut placed = Vec::new(alloc);
@@ -93,7 +91,7 @@ fn place_packets(
     share: &ShareData,
     placed: &mut Vec<PlacedPacket>,
 ) -> Result<(), AllocError>
-    requires { length share.now.slots ≡ slots }
+    requires { length share.now.slots ≤ most_places }
     ensures { IfOk result (λ _. placed.new.items ≡ placed.old.items ++ packets_from share.now.worker 0 share.now.slots) }
 {
     for (slot, place) in share.slots.as_slice().iter().enumerate() {

@@ -1,12 +1,10 @@
 //! How often each element of a snapshot is an own element, held and free, and what is wrong with
 //! that.
 
-ghost use Rattle.std.specs.Prelude.{◌≡◌, ◌⊎◌, ◌+◌, ◌<◌, ◌≤◌, ℕ, IfErr, IfOk, List, length, max, min, slice_index};
+ghost use Rattle.std.specs.Prelude.{◌≡◌, ◌⊎◌, ◌+◌, ◌<◌, ◌≤◌, ℕ, IfErr, IfOk, length, max, min, slice_index};
 ghost use Rattle.commons.specs.Bounds.{IsPool};
-ghost use Rattle.commons.specs.Packets.{IsPacket};
-ghost use Rattle.commons.specs.declared.packet.Seg.{Seg};
 ghost use Rattle.snapshot.specs.Faults.{IsCleanBelow, IsFirstFault};
-ghost use Rattle.snapshot.specs.Snapshots.{HasPacket, HasShape, HasSlots, times_free, times_held, times_named, times_own, walk};
+ghost use Rattle.snapshot.specs.Snapshots.{HasShape, times_free, times_held, times_named, times_own, walk};
 ghost use Rattle.snapshot.specs.inside.Tallies.{IsTally};
 
 mod rows;
@@ -24,11 +22,9 @@ use std::alloc::Global;
 /// memory was refused.
 pub(crate) fn check(alloc: Global, snapshot: &Snapshot, walked: &[u32]) -> Result<(), Fault>
     requires pool { IsPool snapshot.now.limits }
-    requires slots { HasSlots snapshot.now }
     requires shape { HasShape snapshot.now }
     requires walk { walked.now ≡ walk snapshot.now }
     requires known { (e : ℕ) → snapshot.now.limits.population ≤ e → times_named snapshot.now e ≡ 0 }
-    requires packets { (segs : List Seg) → HasPacket snapshot.now segs → IsPacket segs }
     requires clean { IsCleanBelow 6 snapshot.now }
     ensures own { IfOk result (λ _. (e : ℕ) → times_own snapshot.now e ≤ 1) }
     ensures once { IfOk result (λ _. (e : ℕ) → e < snapshot.now.limits.population →
@@ -43,13 +39,12 @@ pub(crate) fn check(alloc: Global, snapshot: &Snapshot, walked: &[u32]) -> Resul
     }
 }
 
-/// Tests the same by the snapshot's tally, whose numbers of holds are exact: packets hold an
-/// element fewer than 2^32 times.
+/// Tests, by the snapshot's tally, that each element is the own one of one segment at most, that it
+/// is in one place, and that its count is the number of its holds, else answers the first fault.
 fn judge(snapshot: &Snapshot, tally: &Tally) -> Result<(), Fault>
     requires pool { IsPool snapshot.now.limits }
-    requires counts { length snapshot.now.counts ≡ snapshot.now.limits.population }
+    requires shape { HasShape snapshot.now }
     requires tally { IsTally snapshot.now tally.now }
-    requires few { (e : ℕ) → times_held snapshot.now e ≤ 4_294_967_295 }
     requires known { (e : ℕ) → snapshot.now.limits.population ≤ e → times_named snapshot.now e ≡ 0 }
     requires clean { IsCleanBelow 6 snapshot.now }
     ensures own { IfOk result (λ _. (e : ℕ) → times_own snapshot.now e ≤ 1) }
@@ -59,12 +54,32 @@ fn judge(snapshot: &Snapshot, tally: &Tally) -> Result<(), Fault>
         slice_index snapshot.now.counts e ≡ max 1 (times_held snapshot.now e)) }
     ensures first { IfErr result (λ f. IsFirstFault snapshot.now f) }
 {
+    match repeated(tally.own.as_slice()) {
+        Some(elem) => Err(Fault::DoubleHeader(elem as u32)),
+        None => judge_holds(snapshot, tally),
+    }
+}
+
+/// Tests, where each element is the own one of one segment at most, that each is in one place, and
+/// that its count is the number of its holds. The numbers of holds in the tally are exact: there
+/// are no more segments than elements, so an element is held fewer than 2^32 times, however many
+/// places the shares have.
+fn judge_holds(snapshot: &Snapshot, tally: &Tally) -> Result<(), Fault>
+    requires pool { IsPool snapshot.now.limits }
+    requires counts { length snapshot.now.counts ≡ snapshot.now.limits.population }
+    requires tally { IsTally snapshot.now tally.now }
+    requires few { (e : ℕ) → times_held snapshot.now e ≤ 4_294_967_295 }
+    requires known { (e : ℕ) → snapshot.now.limits.population ≤ e → times_named snapshot.now e ≡ 0 }
+    requires clean { IsCleanBelow 7 snapshot.now }
+    ensures once { IfOk result (λ _. (e : ℕ) → e < snapshot.now.limits.population →
+        times_free snapshot.now e + min 1 (times_held snapshot.now e) ≡ 1) }
+    ensures counted { IfOk result (λ _. (e : ℕ) → e < snapshot.now.limits.population →
+        slice_index snapshot.now.counts e ≡ max 1 (times_held snapshot.now e)) }
+    ensures first { IfErr result (λ f. IsFirstFault snapshot.now f) }
+{
     let held = tally.held.as_slice();
     let free = tally.free.as_slice();
     let counts = snapshot.counts.as_slice();
-    if let Some(elem) = repeated(tally.own.as_slice()) {
-        return Err(Fault::DoubleHeader(elem as u32));
-    }
     if let Some(elem) = doubled(free, held) {
         return Err(Fault::Doubled(elem as u32));
     }

@@ -1,14 +1,15 @@
 -- What a settling answers where there is no fault.
-use Rattle.std.proofs.Common.{◌≡◌, ◌≢◌, List, length, Result, Ok, Err, refl, sym, ap, ◌∙◌, subst}
-use Rattle.std.specs.Prelude.{IfErr, IfOk, IfSome}
+use Rattle.std.proofs.Common.{◌≡◌, ◌≢◌, ◌≤◌, List, length, map, Result, Ok, Err, refl, sym, ap, ◌∙◌, subst, arith}
+use Rattle.std.specs.Prelude.{All, IfErr, IfOk, IfSome}
+use Rattle.std.proofs.lemmas.List.Elements.{All-weaker}
 use Rattle.commons.specs.declared.closed.Closed.{Closed}
 use Rattle.commons.specs.declared.limits.Limits.{Limits}
 use Rattle.commons.specs.declared.refusal.Refusal.{Refusal}
 use Rattle.ground.specs.Changing.{IsFresh, closed_at_start}
 use Rattle.ground.specs.Closing.{LeftOf}
 use Rattle.ground.specs.declared.known.Known.{Known}
-use Rattle.mbuf.specs.Members.{Member}
-use Rattle.snapshot.specs.Closing.{snapshot_of}
+use Rattle.mbuf.specs.Members.{Member, slots}
+use Rattle.snapshot.specs.Closing.{share_of, snapshot_of}
 use Rattle.pool_model.specs.declared.statement.Statement.{Statement}
 use Rattle.pool_model.specs.Sound.{ListsOnlyPackets}
 use Rattle.snapshot.specs.declared.fault.Fault.{Fault}
@@ -18,7 +19,9 @@ use Rattle.book.specs.declared.settling.Unsettled.TheVariants.{MissingShare, Out
 use Rattle.book.specs.Books.{AreShares, IsFull, shares_in}
 use Rattle.book.specs.Places.{Places}
 use Rattle.book.specs.Settling.{IsUnsettled, snapshot_with}
-use Rattle.snapshot.specs.Snapshots.{IsLawful, statement_in}
+use Rattle.snapshot.specs.declared.snapshot.ShareData.{ShareData}
+use Rattle.snapshot.specs.Snapshots.{IsLawful, most_places, statement_in}
+use Rattle.book.proofs.Shares.{all_slots}
 use Rattle.word_book.specs.Leaving.{IsLeftWith, IsStatementOf, statement_at_start}
 use Rattle.word_book.specs.Listing.{ListsPackets}
 use Rattle.word_book.proofs.Faultless.{faultless}
@@ -27,10 +30,17 @@ use Rattle.word_book.proofs.Wholes.{numbered}
 
 module _ (b : Places) (closed : Closed) (left : IsLeftWith b.limits closed (shares_in b.places))
     (workers : length b.places ≡ b.limits.workers) (each : AreShares b.places) where
+  -- each place of these shares has a number
+  few_places : All (λ (share : ShareData). length share.slots ≤ most_places) (map share_of (shares_in b.places))
+  few_places =
+      All-weaker (λ (share : ShareData). length share.slots ≡ slots) (λ share. length share.slots ≤ most_places)
+      (λ share full. omega (arith, full)) (map share_of (shares_in b.places))
+      (all_slots b.places (λ n m is. (each n m is).slots))
+
   -- a fault is named of a full book alone
   none_named : (f : Fault) → IsUnsettled b closed (HasFault f) → HasFault f ≢ HasFault BadPacket → ⊥
   none_named f unsettled packets =
-      faultless b.limits closed (shares_in b.places) left (numbered b workers each unsettled.0) f
+      faultless b.limits closed (shares_in b.places) left (numbered b workers each unsettled.0) few_places f
       (λ same. packets (ap HasFault same)) unsettled.1.0
 
   no_fault : (cause : Unsettled) → IsUnsettled b closed cause → cause ≢ HasFault BadPacket →

@@ -31,7 +31,7 @@ use Rattle.snapshot.specs.declared.fault.Fault.TheVariants.{BadShape, BadTop, Lo
 use Rattle.snapshot.specs.declared.snapshot.ShareData.{ShareData}
 use Rattle.snapshot.specs.declared.snapshot.Snapshot.{Snapshot}
 use Rattle.snapshot.specs.Faults.{IsFault}
-use Rattle.snapshot.specs.Snapshots.{HasShape, elements_of, times_free, times_held, times_named, times_own, walk, words_from, words_met}
+use Rattle.snapshot.specs.Snapshots.{HasShape, elements_of, most_places, times_free, times_held, times_named, times_own, walk, words_from, words_met}
 use Rattle.snapshot.proofs.FollowedLinks.{AreLinked, words_linked}
 use Rattle.snapshot.proofs.Walks.{IsBelow, elements_after, words_and, words_of}
 use Rattle.word_book.specs.Leaving.{IsLeftWith}
@@ -176,12 +176,17 @@ module _ (l : Limits) (c : Closed) (members : List Member) (h : IsLeftWith l c m
 
   -- ---- what a lawful snapshot asks for, but that packets are packets
 
-  shaped : map (λ m. m.number) members ≡ range_with_len 1 l.workers → HasShape s
-  shaped numbers = record {
+  -- each place of the shares has a number
+  abbrev HaveNumbers : Type 0
+  HaveNumbers = All (λ (share : ShareData). length share.slots ≤ most_places) (map share_of members)
+
+  shaped : map (λ m. m.number) members ≡ range_with_len 1 l.workers → HaveNumbers → HasShape s
+  shaped numbers places = record {
     links = ap length h.left.links ∙ (h.left.law.ranges.links ∙ population_is);
     counts = ap length h.left.counts ∙ (h.left.law.ranges.counts ∙ population_is);
     desks = ap length h.left.desks ∙ (length-map w.desks packet_on ∙ h.left.desk_count);
     shares = workers_again members ∙ numbers;
+    places = places;
     guests = All-nil (λ (guest : Guest). (1 ≤ guest.worker) × (guest.worker ≤ l.workers));
     few = omega arith;
   }
@@ -220,21 +225,21 @@ module _ (l : Limits) (c : Closed) (members : List Member) (h : IsLeftWith l c m
       omega (arith, held_is i)
 
   -- none of the faults is there, but what stands as a packet may be none
-  pub faultless : map (λ m. m.number) members ≡ range_with_len 1 l.workers → (f : Fault) → IsOther f →
+  pub faultless : map (λ m. m.number) members ≡ range_with_len 1 l.workers → HaveNumbers → (f : Fault) → IsOther f →
       IsFault s f → ⊥
-  faultless numbers BadShape other fault = fault (shaped numbers)
-  faultless numbers (BadTop v) other fault =
+  faultless numbers places BadShape other fault = fault (shaped numbers places)
+  faultless numbers places (BadTop v) other fault =
       let fits : v ≤ l.population =
       All-contains (λ word. word ≤ l.population) (words_met s) v words_fit fault.0 in
       omega (arith, fault.1)
-  faultless numbers Loop other fault = omega (arith, fault, ap length walk_is, common_short)
-  faultless numbers (BadLength word found) other fault = fault.2 (fault.0 ∙ (long ∙ sym fault.1))
-  faultless numbers (BadElem v) other fault = omega (arith, fault.0, known v fault.1)
-  faultless numbers BadPacket other fault = other refl
-  faultless numbers (DoubleHeader e) other fault = omega (arith, fault, own_once e)
-  faultless numbers (Doubled e) other fault = omega (arith, fault, one_place e, below-le l.population e)
-  faultless numbers (Lost e) other fault =
+  faultless numbers places Loop other fault = omega (arith, fault, ap length walk_is, common_short)
+  faultless numbers places (BadLength word found) other fault = fault.2 (fault.0 ∙ (long ∙ sym fault.1))
+  faultless numbers places (BadElem v) other fault = omega (arith, fault.0, known v fault.1)
+  faultless numbers places BadPacket other fault = other refl
+  faultless numbers places (DoubleHeader e) other fault = omega (arith, fault, own_once e)
+  faultless numbers places (Doubled e) other fault = omega (arith, fault, one_place e, below-le l.population e)
+  faultless numbers places (Lost e) other fault =
       omega (arith, fault.1, one_place e, below-at l.population e fault.0)
-  faultless numbers (BadCount e word holds) other fault =
+  faultless numbers places (BadCount e word holds) other fault =
       fault.3 (fault.1 ∙ (counted e fault.0 ∙ ap (λ (n : ℕ). max 1 n) (sym fault.2)))
-  faultless numbers OutOfMemory other fault = fault
+  faultless numbers places OutOfMemory other fault = fault

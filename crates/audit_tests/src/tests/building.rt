@@ -1,8 +1,6 @@
 //! Snapshots that are made from rows.
 
-ghost use Rattle.std.specs.Prelude.{◌≡◌, All, IfOk, length};
-ghost use Rattle.mbuf.specs.Members.{slots};
-ghost use Rattle.snapshot.specs.Snapshots.{HasSlots};
+ghost use Rattle.std.specs.Prelude.{◌≡◌, IfOk};
 
 use super::shown::{Handed, Shown, Word};
 use commons::packet::Seg;
@@ -39,12 +37,14 @@ fn packet(alloc: Global, segs: Option<&[Seg]>) -> Result<Option<Seq<Seg>>, Alloc
     }
 }
 
-/// A table's slots, with the packet in each that has one.
-fn table(alloc: Global, packets: &[(usize, &[Seg])]) -> Result<Seq<Option<Seq<Seg>>>, AllocError>
-    ensures { IfOk result (λ table. length table ≡ slots) }
-{
+/// This many places, with the packet in each that has one.
+fn table(
+    alloc: Global,
+    packets: &[(usize, &[Seg])],
+    places: usize,
+) -> Result<Seq<Option<Seq<Seg>>>, AllocError> {
     let mut table = Vec::new(alloc);
-    for slot in 0..256 {
+    for slot in 0..places {
         table.push(packet(alloc, in_slot(packets, slot))?)?;
     }
     Ok(Seq::new(table))
@@ -60,16 +60,16 @@ fn in_slot<'a>(packets: &[(usize, &'a [Seg])], slot: usize) -> Option<&'a [Seg]>
     None
 }
 
-/// What the workers handed in.
-fn shares(alloc: Global, rows: &[Handed]) -> Result<Seq<ShareData>, AllocError>
-    ensures { IfOk result (λ shares. All (λ share. length share.slots ≡ slots) shares) }
-{
+/// What the workers handed in, in shares of so many places: 256 where nothing is said.
+fn shares(alloc: Global, rows: &[Handed], places: &[usize]) -> Result<Seq<ShareData>, AllocError> {
     let mut shares = Vec::new(alloc);
-    for (worker, cache, packets) in rows {
+    for (index, row) in rows.iter().enumerate() {
+        let (worker, cache, packets) = row;
+        let places = places.get(index).copied().unwrap_or(256);
         shares.push(ShareData {
             worker: *worker,
             cache: seq(alloc, cache)?,
-            slots: table(alloc, packets)?,
+            slots: table(alloc, packets, places)?,
         })?;
     }
     Ok(Seq::new(shares))
@@ -90,8 +90,7 @@ pub(super) fn built(
     shown: &Shown,
     other: Option<(Word, u32)>,
 ) -> Result<Snapshot, AllocError>
-    ensures limits { IfOk result (λ s. s.limits ≡ shown.now.limits) }
-    ensures slots { IfOk result (λ s. HasSlots s) }
+    ensures { IfOk result (λ s. s.limits ≡ shown.now.limits) }
 {
     let (mut top, mut length, mut link, mut count, mut value) = (
         shown.top,
@@ -116,7 +115,7 @@ pub(super) fn built(
         links: words(alloc, shown.links, link, value)?,
         counts: words(alloc, shown.counts, count, value)?,
         desks: desks(alloc, shown.desks)?,
-        shares: shares(alloc, shown.shares)?,
+        shares: shares(alloc, shown.shares, shown.places)?,
         guests: seq(alloc, shown.guests)?,
         foreign: shown.foreign,
     })

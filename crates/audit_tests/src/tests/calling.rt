@@ -3,7 +3,6 @@
 ghost use Rattle.std.specs.Prelude.{◌≡◌, ◌⊎◌, IfErr};
 ghost use Rattle.commons.specs.Bounds.{IsPool};
 ghost use Rattle.snapshot.specs.Faults.{IsFirstFault};
-ghost use Rattle.snapshot.specs.Snapshots.{HasSlots};
 
 use snapshot::audit::audit;
 use snapshot::fault::Fault;
@@ -13,7 +12,6 @@ use std::alloc::Global;
 /// How many elements of a closed pool are held, or its first fault.
 pub(super) fn in_use(alloc: Global, snapshot: &Snapshot) -> Result<u64, Fault>
     requires pool { IsPool snapshot.now.limits }
-    requires slots { HasSlots snapshot.now }
     ensures first { IfErr result (λ f. (f ≡ Fault.OutOfMemory) ⊎ IsFirstFault snapshot.now f) }
 {
     Ok(audit(alloc, snapshot)?.in_use)

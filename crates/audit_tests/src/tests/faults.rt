@@ -75,6 +75,7 @@ pub(super) const LARGE: Shown = Shown {
     counts: &[2, 2, 1, 1, 1, 1, 3, 1, 1, 1, 1, 1, 1],
     desks: &[None, Some(&[E6]), Some(&[C12])],
     shares: &[FIRST, SECOND, THIRD],
+    places: &[],
     guests: &[],
     foreign: false,
 };

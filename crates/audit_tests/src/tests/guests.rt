@@ -22,6 +22,7 @@ const FIRST: Shown = Shown {
     counts: &[1, 1, 1, 1],
     desks: &[None],
     shares: &[(1, &[], &[])],
+    places: &[],
     guests: &[Guest { worker: 1, elem: 0 }],
     foreign: false,
 };
@@ -57,6 +58,7 @@ const SECOND: Shown = Shown {
     counts: &[1, 1],
     desks: &[],
     shares: &[(1, &[], &[(0, &[CLONE])])],
+    places: &[],
     guests: &[],
     foreign: true,
 };

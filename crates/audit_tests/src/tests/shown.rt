@@ -22,6 +22,8 @@ pub(super) struct Shown {
     pub desks: &'static [Option<&'static [Seg]>],
     /// What the workers handed in.
     pub shares: &'static [Handed],
+    /// How many places each share has: 256 where nothing is said.
+    pub places: &'static [usize],
     /// The elements that workers hold for packets of another pool.
     pub guests: &'static [Guest],
     /// Whether the bases of the packets are elements of another pool.

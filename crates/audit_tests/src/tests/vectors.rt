@@ -19,6 +19,7 @@ pub(super) const SMALL: Shown = Shown {
     counts: &[1, 1, 1],
     desks: &[],
     shares: &[(1, &[], &[(0, &[FRESH])])],
+    places: &[],
     guests: &[],
     foreign: false,
 };

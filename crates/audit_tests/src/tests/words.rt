@@ -50,6 +50,7 @@ const CACHED: Shown = Shown {
     counts: &[1, 1],
     desks: &[None],
     shares: &[(1, &[], &[]), (2, &[1], &[])],
+    places: &[],
     guests: &[],
     foreign: false,
 };
@@ -85,6 +86,7 @@ const CLONED: Shown = Shown {
     counts: &[2, 1, 1, 1],
     desks: &[Some(&[FRESH])],
     shares: &[(1, &[], &[]), (2, &[], &[(7, &[CLONE])])],
+    places: &[],
     guests: &[],
     foreign: false,
 };

@@ -1,11 +1,21 @@
+use Rattle.std.proofs.lemmas.Result.{IfOk-weaker}
+use Rattle.pool_model.specs.Statements.{PlacesEachOnce}
+use Rattle.pool_model.specs.declared.statement.Statement.{Statement}
+use Rattle.snapshot.specs.Snapshots.{HasSlots}
+use Rattle.book.specs.TwinSettling.{second_with}
 use Rattle.book.proofs.Shares.{all_slots}
 use Rattle.book.proofs.twin_settling.second_statement.Goals as goal
 
--- a book keeps shares with all their slots
-pub audit-requires-clause-slots : goal.audit-requires-clause-slots
-audit-requires-clause-slots c =
+-- a book keeps shares with all their slots, so packets stand in these
+pub returns-clause-places : goal.returns-clause-places
+returns-clause-places c =
     let each = rw c.second.ensures at c.fits_its_limits.ensures.each in
-    rw (c.in-Ok.ensures.same, c.second-2.ensures) (all_slots c.args.book.now.second.places (λ n m e. (each n m e).slots))
+    let full = all_slots c.args.book.now.second.places (λ n m e. (each n m e).slots) in
+    let placed = rw (c.in-Ok.ensures.same, c.second-2.ensures) at c.audit.ensures.slots in
+    let limits = c.args.book.now.second.limits in
+    let s = second_with c.args.book.now c.args.closed.now in
+    IfOk-weaker c.audit.result (λ (statement : Statement). HasSlots s → PlacesEachOnce limits statement)
+    (PlacesEachOnce limits) (λ statement stands. stands full) placed
 
 -- the first fault of the copy is the pool's
 pub returns-clause-first : goal.returns-clause-first
