@@ -159,3 +159,21 @@ fn below_the_tally_an_interrupted_read_is_tried_again(rt: HostRuntime) {
     same(&rt, &source.failed, &false, "whether it failed");
     same(&rt, &source.inner.0.calls, &7, "the calls");
 }
+
+/// Whichever request for memory is refused, all bytes are read, or it is said that memory was
+/// refused, and not that the reader failed.
+#[test]
+fn refused_memory_is_no_fault_of_the_reader(rt: HostRuntime) {
+    let what = "a reader of two pieces";
+    let mut source = Tally::new(Brittle {
+        left: 10_000,
+        each: 8_192,
+        fails: None,
+        calls: 0,
+    });
+    match read_script(rt.alloc(), &mut source) {
+        Ok(bytes) => same(&rt, &bytes.len(), &10_000, what),
+        Err(fault) => same(&rt, &fault, &ReadFault::Memory, what),
+    }
+    same(&rt, &source.failed, &false, what);
+}

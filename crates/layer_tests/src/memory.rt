@@ -1,11 +1,13 @@
 //! What is made of the pool and its workers where memory is refused.
 
 use crate::equal::same;
+use commons::closed::Closed;
 use commons::limits::{Limits, PutRule};
 use commons::place::Place;
 use commons::refusal::Refusal;
 use commons::site::PlainSite;
 use mbuf::packets::Packets;
+use mbuf::twin::Twin;
 use mempool::worker::Worker;
 use std::alloc::Global;
 use std::fmt::Debug;
@@ -55,6 +57,14 @@ fn free_made(alloc: Global) -> Result<bool, Refusal> {
     Ok(is_free)
 }
 
+// The number of a worker of two pools that is made.
+fn twin_made(alloc: Global) -> Result<u32, Refusal> {
+    let twin = Twin::make(alloc, &LIMITS, &LIMITS, 1)?;
+    let number = twin.worker();
+    twin.lose();
+    Ok(number)
+}
+
 // What was made is as expected, or memory was refused.
 fn assert_made<R: Abort + AllocGlobal, T: PartialEq + Debug>(
     rt: &R,
@@ -80,4 +90,42 @@ fn what_is_made_is_whole_or_memory_was_refused(rt: HostRuntime) {
         &true,
         "whether a worker's first slot is free",
     );
+    assert_made(&rt, &twin_made(rt.alloc()), &1, "a twin's number");
+}
+
+// Closes a site, and where memory was refused closes what came back once more.
+fn closed_at_last<R: Abort + AllocGlobal>(rt: &R, site: PlainSite) -> Result<Closed, Refusal> {
+    match site.close(rt.alloc()) {
+        Ok(closed) => Ok(closed),
+        Err((refusal, site)) => {
+            same(rt, &refusal, &Refusal::OutOfMemory, "a close is refused");
+            site.close(rt.alloc()).map_err(|(refusal, _)| refusal)
+        }
+    }
+}
+
+// A site of three elements and an empty desk has left all its words.
+fn assert_closed<R: Abort>(rt: &R, closed: &Closed) {
+    let what = "a closed site of three";
+    let given = (closed.top, closed.length, closed.desks.len());
+    same(rt, &given, &(1, 3, 1), what);
+    let given = (closed.links.as_slice(), closed.counts.as_slice());
+    let wanted = ([2, 3, 0].as_slice(), [1, 1, 1].as_slice());
+    same(rt, &given, &wanted, what);
+}
+
+// Whichever request for memory is refused, no site is made, or it is closed with all its words:
+// what a refused close hands back closes the next time.
+#[test]
+fn a_site_whose_close_was_refused_memory_closes_the_next_time(rt: HostRuntime) {
+    match PlainSite::make(rt.alloc(), &LIMITS) {
+        Ok(site) => {
+            let closed = closed_at_last(&rt, site);
+            same(&rt, &closed.is_ok(), &true, "what was handed back closed");
+            if let Ok(closed) = &closed {
+                assert_closed(&rt, closed);
+            }
+        }
+        Err(refusal) => same(&rt, &refusal, &Refusal::OutOfMemory, "no site"),
+    }
 }

@@ -28,6 +28,7 @@ mod handing;
 mod json;
 mod long;
 mod lost;
+mod memory;
 mod readings;
 mod replies;
 mod settling;

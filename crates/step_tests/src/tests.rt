@@ -245,6 +245,24 @@ fn refused_memory_changes_no_answer(rt: HostRuntime) -> Result<(), Fail> {
     Ok(())
 }
 
+/// Whichever request for memory is refused, a run has the outcomes of its row or is `OutOfMemory`.
+#[test]
+fn refused_memory_changes_no_outcome(rt: HostRuntime) -> Result<(), Fail> {
+    let (name, limits, steps, end) = schedules::FOR_MEMORY;
+    let mut world = world_at_last(&rt, &limits, name)?;
+    let Ok(schedule) = schedule_of(rt.alloc(), steps) else {
+        return Ok(());
+    };
+    match run(rt.alloc(), &mut world, schedule.as_slice()) {
+        Ok(outcomes) => {
+            assert_outcomes(&rt, outcomes, steps, name);
+            assert_end(&rt, &world, &end, name);
+        }
+        Err(cause) => same(&rt, &cause, &Refusal::OutOfMemory, name),
+    }
+    Ok(())
+}
+
 /// What a script prints.
 fn printed_by(alloc: Global, script: &str) -> Result<Vec<u8>, Refusal> {
     run_steps(alloc, script.as_bytes())

@@ -1,8 +1,10 @@
 //! What is lost with a worker at the end of a run, and with one whose share is missing in a book.
 
-use super::same;
-use super::settling::deposit_all;
+use super::settling::{book_at_last, closed_at_last, deposit_all, lose_one, play};
 use super::threads::GROUNDS;
+use super::{DEFAULTS, assert_given, same};
+use commons::closed::Closed;
+use commons::limits::Limits;
 use commons::refusal::Refusal;
 use mbuf::acts::Act;
 use script::{Gate, Grounds, OpenGate, lost_text, numbers_json, run_lost};
@@ -207,7 +209,17 @@ fn a_missing_share_is_passed_over_where_its_worker_is_listed(rt: HostRuntime) ->
     assert_lost_with_second(&rt, &[9, 2, 2])
 }
 
-/// Whichever request for memory is refused, what is lost is the same or `OutOfMemory`.
+/// What is lost with the only worker of a pool of four, and its text and JSON.
+fn assert_first_lost<R: Abort + AllocGlobal>(rt: &R, lost: &[u32]) {
+    same(rt, &lost, &[0, 1, 2].as_slice(), "an only worker");
+    let text = lost_text(rt.alloc(), lost);
+    assert_given(rt, text, "lost 3: 0 1 2\n", "what is lost as text");
+    let json = numbers_json(rt.alloc(), lost);
+    assert_given(rt, json, "[0,1,2]\n", "what is lost as JSON");
+}
+
+/// Whichever request for memory is refused, what is lost is the same or `OutOfMemory`, and so are
+/// its text and its JSON.
 #[test]
 fn refused_memory_changes_nothing_that_is_lost(rt: HostRuntime) {
     let text = "pool 4 cache 2\nalloc a\nalloc b\nfree a\n";
@@ -217,13 +229,70 @@ fn refused_memory_changes_nothing_that_is_lost(rt: HostRuntime) {
             Err(cause) => Err(cause),
         };
         match lost {
-            Ok(lost) => same(
-                &rt,
-                &lost.as_slice(),
-                &[0, 1, 2].as_slice(),
-                "an only worker",
-            ),
+            Ok(lost) => assert_first_lost(&rt, lost.as_slice()),
             Err(cause) => same(&rt, &cause, &Refusal::OutOfMemory, "an only worker"),
         }
+    }
+}
+
+/// Tells what is lost of a closed pool with worker 2, and tries once more with what a refusal
+/// handed back.
+fn lost_at_last<R: Abort + AllocGlobal>(rt: &R, closed: Closed, book: Book) -> Option<Vec<u32>> {
+    match settle_without(rt.alloc(), closed, book, &[2]) {
+        Ok(elems) => Some(elems),
+        Err((cause, closed, book)) => {
+            same(rt, &cause, &Unsettled::OutOfMemory, "nothing is told");
+            lost_again(rt.alloc(), closed, book)
+        }
+    }
+}
+
+/// Tells once more what is lost of a closed pool with worker 2.
+fn lost_again(alloc: Global, closed: Closed, book: Book) -> Option<Vec<u32>> {
+    match settle_without(alloc, closed, book, &[2]) {
+        Ok(elems) => Some(elems),
+        Err((_, _, book)) => {
+            book.lose();
+            None
+        }
+    }
+}
+
+/// What is lost of a pool with worker 2, who was alone to get the last element.
+fn lost_of<R: Abort + AllocGlobal>(rt: &R, pool: SitePool) -> Option<Vec<u32>> {
+    let (limits, closed, mut shares) = closed_at_last(rt.alloc(), pool)?;
+    lose_one(shares.pop());
+    match book_at_last(rt.alloc(), &limits) {
+        Some(mut book) => {
+            deposit_all(&mut book, shares);
+            lost_at_last(rt, closed, book)
+        }
+        None => {
+            share_book::lose_all(shares);
+            None
+        }
+    }
+}
+
+/// Whichever request for memory is refused, no pool is made, or it is told what is lost: what a
+/// refusal hands back tells it the next time.
+#[test]
+fn what_was_refused_memory_is_told_as_lost_the_next_time(rt: HostRuntime) {
+    let limits = Limits {
+        population: 2,
+        workers: 2,
+        ..DEFAULTS
+    };
+    match SitePool::make(rt.alloc(), &limits) {
+        Ok(mut pool) => {
+            play(&mut pool, 1, &[Act::Alloc]);
+            play(&mut pool, 2, &[Act::Alloc]);
+            let lost = lost_of(&rt, pool);
+            same(&rt, &lost.is_some(), &true, "what was handed back tells");
+            if let Some(lost) = &lost {
+                same(&rt, &lost.as_slice(), &[1].as_slice(), "worker 2 is lost");
+            }
+        }
+        Err(cause) => same(&rt, &cause, &Refusal::OutOfMemory, "no pool is made"),
     }
 }

@@ -126,7 +126,7 @@ fn unlocked_at_last(alloc: Global, site: LockedSite) -> Option<Parts> {
 }
 
 /// An empty book, made at the second try where the first is refused.
-fn book_at_last(alloc: Global, limits: &Limits) -> Option<Book> {
+pub(super) fn book_at_last(alloc: Global, limits: &Limits) -> Option<Book> {
     match Book::make(alloc, limits) {
         Ok(book) => Some(book),
         Err(_) => match Book::make(alloc, limits) {
