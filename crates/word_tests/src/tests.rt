@@ -17,6 +17,7 @@ use std::test::Fail;
 mod crews;
 mod example;
 mod lost;
+mod memory;
 mod missing;
 mod passing;
 mod players;
