@@ -4,4 +4,7 @@ pub mod FilledPlaces
 pub mod Filed
 pub mod Lost
 pub mod Shares
+pub mod Spelled
 pub mod TwinPlaces
+pub mod TwinShares
+pub mod Typed
