@@ -9,7 +9,6 @@ mod NewPools
 mod PacketCalls
 mod Reaching
 mod SharedBuffers
-mod TwinGuests
 mod TwinLawful
 mod TwinMembers
 mod TwinPools

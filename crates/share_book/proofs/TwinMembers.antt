@@ -61,7 +61,7 @@ module _ (s u s' u' : Lists) (members : List TwinMember) (n : ℕ) (m : TwinMemb
               own = own;
             })
         | inr apart ↦
-            rw (get_or-set_other members n k m e (λ same. apart (sym same)), get_or_default members k e d within)
+            rw (get_or-set_other members n k m e apart, get_or_default members k e d within)
             (other_owns k apart a b (get_or members k d) (each k within))
       ]
 

@@ -3,7 +3,6 @@ use Rattle.std.proofs.Common.{ℕ, ◌≡◌, ◌+◌, ◌-◌, ◌<◌, true, f
 use Rattle.std.specs.Prelude.{flat_map, sum_by}
 use Rattle.std.specs.List.{range_with_len}
 use Rattle.std.proofs.lemmas.List.{get_or-map, length-map, nil_from_length}
-use Rattle.std.proofs.lemmas.List.Sums.{sum_by-cons}
 use Rattle.commons.specs.declared.packet.Seg.{Seg}
 use Rattle.commons.specs.Lists.{Lists, held_count, holds_of_all, place_of}
 use Rattle.commons.specs.Packets.{held_in, own_in}
@@ -21,33 +20,18 @@ use Rattle.book.specs.TwinSettling.{IsLawfulByTypes}
 use Rattle.share_book.specs.TwinSites.{TwinLists, first_snapshot, second_snapshot, twin_at}
 use Rattle.share_book.specs.inside.TwinSite.{AreTables}
 use Rattle.share_book.proofs.Counts.{sums_agree}
-use Rattle.share_book.proofs.TwinGuests.{guests_are_bases, guests_of_workers, local_holds}
+use Rattle.book.proofs.TwinGuests.{guests_are_bases, guests_of_workers, local_holds, sum_both, sum_same}
 use Rattle.share_book.proofs.TwinLawful.{IsPart, lists_lawful}
 use Rattle.share_book.proofs.TwinMembers.{first_numbers, second_numbers}
 
-firsts : List TwinMember → List Member
+abbrev firsts : List TwinMember → List Member
 firsts ms = map (λ m. m.first) ms
 
-seconds : List TwinMember → List Member
+abbrev seconds : List TwinMember → List Member
 seconds ms = map (λ m. m.second) ms
 
--- sums of what is the same of each
-sum_same : {X : Type 0} (f g : X → ℕ) (xs : List X) → ((x : X) → f x ≡ g x) → sum_by f xs ≡ sum_by g xs
-sum_same f g xs same = λ j. sum_by (λ x. same x j) xs
-
--- sums of two terms
-sum_both : {X : Type 0} (f g : X → ℕ) (xs : List X) → sum_by (λ x. f x + g x) xs ≡ sum_by f xs + sum_by g xs
-sum_both f g [] = omega arith
-sum_both f g (x ∷ xs) = omega (
-  arith,
-  sum_both f g xs,
-  sum_by-cons (λ y. f y + g y) x xs,
-  sum_by-cons f x xs,
-  sum_by-cons g x xs,
-)
-
 module _ (s : TwinLists) (t : AreTables s) where
-  nobody : TwinMember
+  abbrev nobody : TwinMember
   nobody = twin_at (record s { members = [] }) 0
 
   -- the row of the holds of the worker at k

@@ -128,8 +128,6 @@ impl<K: OfLimits, L: OfLimits> LockedTwins<K, L> {
     {
         let LockedTwins { site } = self;
         let site = site.into_inner().into_site();
-        site.fits_its_limits();
-        site.each_pool_is_lawful();
         site.close(alloc)
     }
 

@@ -157,6 +157,11 @@ impl TwinSite {
         ensures second_limits { IfOk result (λ c. c.second_limits ≡ self.second.limits) }
         ensures second { IfOk result (λ c. c.second ≡ closed_of self.second) }
         ensures shares { IfOk result (λ c. c.shares.items ≡ self.members) }
+        ensures pools { IfOk result (λ c. AreTwinPools c.first_limits c.second_limits) }
+        ensures first_numbers { IfOk result (λ c. map (λ m. m.number) (map (λ m. m.first) c.shares.items) ≡ range_with_len 1 c.first_limits.workers) }
+        ensures second_numbers { IfOk result (λ c. map (λ m. m.number) (map (λ m. m.second) c.shares.items) ≡ range_with_len 1 c.second_limits.workers) }
+        ensures first_lawful { IfOk result (λ c. IsLawfulByTypes (first_of c.first_limits c.first c.shares.items)) }
+        ensures second_lawful { IfOk result (λ c. IsLawfulByTypes (second_of c.second_limits c.second c.shares.items)) }
         ensures memory { IfErr result (λ refused. refused.0 ≡ Refusal.OutOfMemory) }
         ensures back { IfErr result (λ refused. refused.1 ≡ self) }
     {
@@ -164,6 +169,7 @@ impl TwinSite {
             return Err((Refusal::OutOfMemory, self));
         };
         self.fits_its_limits();
+        self.each_pool_is_lawful();
         let Ok(left) = left_without_desks(alloc, &self.second) else {
             shares.destroy_empty();
             return Err((Refusal::OutOfMemory, self));

@@ -4,6 +4,8 @@ mod Faultless
 mod Joined
 mod Listed
 mod Lost
+mod OneView
 mod Sums
+mod TwinLeft
 mod Walked
 mod Wholes

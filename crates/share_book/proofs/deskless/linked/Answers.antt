@@ -3,7 +3,7 @@ use Rattle.commons.proofs.Closings.{more_on_top, none_linked, one_linked}
 use Rattle.share_book.proofs.deskless.linked.Goals as goal
 
 pub loop-element-init : goal.loop-element-init
-loop-element-init c = record { top = refl; links = c.in_ok-links.ensures ∙ none_linked c.args.population }
+loop-element-init c = record { top = refl; links = c.in_ok-links.ensures.items_if_clones_equal (λ y e. e) ∙ none_linked c.args.population }
 
 -- the list read so far has one element more on top, whose link names the top before it
 pub loop-element-preserved : goal.loop-element-preserved

@@ -140,3 +140,20 @@ local_holds (slot ∷ table) i = omega (
   sum_by-cons (λ (s : Option (List Seg)). bag (holds_in_slot s) i) (local_place true slot) (local_table true table),
   sum_by-cons (λ (s : Option (List Seg)). bag (own_in_slot s) i) slot table,
 )
+
+-- ---- sums over workers
+
+-- sums of what is the same of each
+pub sum_same : {X : Type 0} (f g : X → ℕ) (xs : List X) → ((x : X) → f x ≡ g x) → sum_by f xs ≡ sum_by g xs
+sum_same f g xs same = λ j. sum_by (λ x. same x j) xs
+
+-- sums of two terms
+pub sum_both : {X : Type 0} (f g : X → ℕ) (xs : List X) → sum_by (λ x. f x + g x) xs ≡ sum_by f xs + sum_by g xs
+sum_both f g [] = omega arith
+sum_both f g (x ∷ xs) = omega (
+  arith,
+  sum_both f g xs,
+  sum_by-cons (λ y. f y + g y) x xs,
+  sum_by-cons f x xs,
+  sum_by-cons g x xs,
+)
