@@ -20,13 +20,13 @@ act_alone-requires g c =
     let again : w - 1 + 1 ≡ w = omega arith in
     let twin = c.index_mut-twin.ensures.value
     ∙ get_or_default s.members (w - 1) c.index_mut-twin.result.now (twin_at (record s { members = [] }) 0) below in
-    let own = rw again at (i.each (w - 1) below).own in (
+    let own = rw again at (i.each (w - 1) below).own in
+    let lent : OwnTwin c.index_mut-twin.result.now (side_of s.first w) (side_of s.second w) = rw twin own in (
       search rules,
-      c.requires.room,
-      omega arith,
-      omega (arith, below, i.workers),
-      omega (arith, below, i.workers, i.pools.twins.workers),
-      rw twin own,
+      (
+        c.requires.room,
+        (omega arith, (omega (arith, below, i.workers), (omega (arith, below, i.workers, i.pools.twins.workers), lent))),
+      ),
     )
 
 -- the others keep hand, holds and headers on both lists, and the one who acted owns what its calls
