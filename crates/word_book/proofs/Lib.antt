@@ -6,6 +6,7 @@ mod Listed
 mod Lost
 mod OneView
 mod Sums
+mod TwinJoined
 mod TwinLeft
 mod Walked
 mod Wholes

@@ -1,6 +1,6 @@
 -- What two grounds left is lawful, with the shares of the views that closed them.
-use Rattle.std.proofs.Common.{ℕ, ◌≡◌, ◌+◌, ◌≤◌, true, false, List, [], length, map, Option, refl, sym, ap, ◌∙◌, arith}
-use Rattle.std.specs.Prelude.{flat_map, sum_by}
+use Rattle.std.proofs.Common.{ℕ, ◌≡◌, ◌+◌, ◌≤◌, true, false, List, [], length, map, Option, Result, Ok, Err, refl, sym, ap, ◌∙◌, arith}
+use Rattle.std.specs.Prelude.{IfOk, flat_map, sum_by}
 use Rattle.std.specs.List.{range_with_len}
 use Rattle.std.proofs.lemmas.List.{nil_from_length}
 use Rattle.std.proofs.lemmas.List.FromFn.{length-range_with_len}
@@ -9,21 +9,24 @@ use Rattle.commons.specs.Bag.{bag}
 use Rattle.commons.specs.declared.closed.Closed.{Closed}
 use Rattle.commons.specs.declared.limits.Limits.{Limits}
 use Rattle.commons.specs.declared.packet.Seg.{Seg}
+use Rattle.commons.specs.declared.refusal.Refusal.{Refusal}
 use Rattle.commons.specs.Packets.{held_in, own_in}
 use Rattle.mbuf.specs.Foreign.{bases_in}
 use Rattle.mbuf.specs.Members.{Member}
 use Rattle.mbuf.specs.Twins.{TwinMember}
 use Rattle.pool_model.specs.Guests.{guests_by, local_table}
 use Rattle.pool_model.proofs.Listed.{sum_by-map}
+use Rattle.pool_model.specs.declared.statement.Statement.{Statement}
+use Rattle.ground.specs.Closing.{LeftOf}
 use Rattle.step_core.specs.declared.view.View.{View}
 use Rattle.snapshot.specs.Closing.{share_of}
 use Rattle.snapshot.specs.declared.snapshot.ShareData.{ShareData}
-use Rattle.snapshot.specs.Snapshots.{times_held}
+use Rattle.snapshot.specs.Snapshots.{ListsItsElements, statement_in, times_held}
 use Rattle.snapshot.proofs.Times.{held-is}
 use Rattle.book.specs.TwinSettling.{IsLawfulByTypes, first_of, second_of}
 use Rattle.book.proofs.Spelled.{lawful}
 use Rattle.book.proofs.TwinGuests.{guests_are_bases, guests_of_workers, local_holds, sum_both, sum_same}
-use Rattle.word_book.specs.TwinShares.{AreFirstShares, AreSecondShares, IsLeftWhole}
+use Rattle.word_book.specs.TwinShares.{AreFirstShares, AreSecondShares, AreStatementsOf, IsLeftWhole}
 use Rattle.word_book.proofs.OneView.{common, words_show}
 
 -- the parts of both pools, and their numbers
@@ -96,3 +99,23 @@ module _ (l : Limits) (c : Closed) (v : View) (members : List TwinMember) (h : I
       (second_held none are)
       (λ i. omega (arith, sum_by-map (λ (m : Member). own_in m.table i) (λ (m : TwinMember). m.second) members, are.headers i))
       numbers (guests_of_workers l.workers 1 [] (omega arith) (omega arith) refl))
+
+-- both statements, with what they are of
+pub statements_of : (r : Result (Statement × Statement) Refusal) (l k : Limits) (v u : View) (members : List TwinMember)
+    (one two : Closed) → LeftOf l v one → LeftOf k u two →
+    IfOk r (λ s. s.0 ≡ statement_in (first_of l one members)) →
+    IfOk r (λ s. s.1 ≡ statement_in (second_of k two members)) →
+    IfOk r (λ s. ListsItsElements (first_of l one members) s.0) →
+    IfOk r (λ s. ListsItsElements (second_of k two members) s.1) →
+    IfOk r (AreStatementsOf l k v u members)
+statements_of (Ok s) l k v u members one two left others same also once again = record {
+  first = one;
+  second = two;
+  first_left = left;
+  second_left = others;
+  first_same = same;
+  second_same = also;
+  first_once = once;
+  second_once = again;
+}
+statements_of (Err e) l k v u members one two left others same also once again = tt

@@ -4,3 +4,5 @@ mod Leading
 mod Left
 mod Lost
 mod Staying
+mod TwinCrews
+mod TwinJoins
