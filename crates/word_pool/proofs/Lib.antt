@@ -6,3 +6,4 @@ mod Lost
 mod Staying
 mod TwinCrews
 mod TwinJoins
+mod TwinLeading

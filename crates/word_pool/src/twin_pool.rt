@@ -283,8 +283,12 @@ fn both(first: &Ground, second: &Ground, one: Seats, other: Seats) -> Seats
         first: mut first_seat,
         second: mut second_seat,
     } = one;
-    first.join(&mut first_seat, other.first);
-    second.join(&mut second_seat, other.second);
+    let Seats {
+        first: first_other,
+        second: second_other,
+    } = other;
+    first.join(&mut first_seat, first_other);
+    second.join(&mut second_seat, second_other);
     Seats {
         first: first_seat,
         second: second_seat,

@@ -33,5 +33,5 @@ returns-in-Ok-close-clause-statements c =
     c.in-Ok-close.ensures.closed
     (rw c.limits-first_limits.ensures.limits at e.first_statement)
     (rw c.limits-second_limits.ensures.limits at e.second_statement)
-    (rw c.limits-first_limits.ensures.limits at e.first_once)
-    (rw c.limits-second_limits.ensures.limits at e.second_once)
+    e.first_once
+    e.second_once
