@@ -109,7 +109,7 @@ module _ (s : Lists) (members : List Member) (guests : List Guest) (foreign : Bo
     arith,
     sum_by-map (λ (share : ShareData). own_in share.slots i) share_of members,
     headers_summed (λ (m : Member). own_in m.table i) d members (get_or s.headers i None)
-    (λ k l. (parts k l).headed i),
+        (λ k l. (parts k l).headed i),
     t.headers_apart i,
   )
 

@@ -7,3 +7,4 @@ mod Staying
 mod TwinCrews
 mod TwinJoins
 mod TwinLeading
+mod TwinStaying
