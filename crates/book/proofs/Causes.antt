@@ -12,7 +12,9 @@ use Rattle.book.specs.Settling.{IsUnsettled, snapshot_with}
 use Rattle.book.specs.declared.twin_settling.TwinUnsettled.{TwinUnsettled}
 use Rattle.book.specs.declared.twin_settling.TwinUnsettled.TheVariants as twin
 use Rattle.book.specs.TwinPlaces.{TwinPlaces}
-use Rattle.book.specs.TwinSettling.{IsTwinUnsettled, first_with, second_with}
+use Rattle.book.specs.TwinSettling.{IsLawfulByTypes, IsTwinUnsettled, first_with, second_with}
+use Rattle.snapshot.specs.Snapshots.{IsLawful}
+use Rattle.snapshot.specs.declared.snapshot.Snapshot.{Snapshot}
 use Rattle.book.specs.inside.Causes.{cause_of}
 
 -- what an audit answers where no share is missing
@@ -37,3 +39,15 @@ twin_memory_alone b one two (twin.MissingShare w) full sound fine is = absurd (f
 twin_memory_alone b one two twin.OutOfMemory full sound fine is = refl
 twin_memory_alone b one two (twin.First f) full sound fine is = absurd (sound f is.1.0)
 twin_memory_alone b one two (twin.Second f) full sound fine is = absurd (fine f is.2.0)
+
+-- and where both are lawful, given what types keep, which is told beside a fault
+pub twin_memory_typed : (b : TwinPlaces) (one two : Closed) (cause : TwinUnsettled) → IsFull b.first →
+    IsLawfulByTypes (first_with b one) → IsLawfulByTypes (second_with b two) →
+    ((s : Snapshot) → IsLawful s → (f : Fault) → ¬ (IsFault s f)) →
+    IsTwinUnsettled b one two cause → cause ≡ twin.OutOfMemory
+twin_memory_typed b one two (twin.MissingShare w) full first second sound is = absurd (full w is.missing)
+twin_memory_typed b one two twin.OutOfMemory full first second sound is = refl
+twin_memory_typed b one two (twin.First f) full first second sound is =
+    absurd (sound (first_with b one) (first is.2) f is.1.0)
+twin_memory_typed b one two (twin.Second f) full first second sound is =
+    absurd (sound (second_with b two) (second is.3) f is.2.0)

@@ -4,4 +4,8 @@ pub mod FilledPlaces
 pub mod Filed
 pub mod Lost
 pub mod Shares
+pub mod Spelled
+pub mod TwinGuests
 pub mod TwinPlaces
+pub mod TwinShares
+pub mod Typed

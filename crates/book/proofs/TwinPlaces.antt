@@ -5,7 +5,8 @@ use Rattle.mbuf.specs.Members.{Member}
 use Rattle.book.specs.Books.{IsMissing, with_share}
 use Rattle.book.specs.Places.{Places}
 use Rattle.book.specs.TwinBooks.{AreFilledAlike, with_twin_share}
-use Rattle.book.specs.TwinPlaces.{TwinMember, TwinPlaces}
+use Rattle.mbuf.specs.Twins.{TwinMember}
+use Rattle.book.specs.TwinPlaces.{TwinPlaces}
 
 -- who is missing then was missing before, and is another worker
 missing_after : (b : Places) (m : Member) (w : ℕ) → length b.places ≡ b.limits.workers → IsMissing b m.number →

@@ -5,7 +5,8 @@ use Rattle.commons.specs.declared.limits.Limits.{Limits}
 use Rattle.commons.specs.declared.refusal.Refusal.{Refusal}
 use Rattle.commons.specs.declared.refusal.Refusal.TheVariants.{BadPool, OutOfMemory}
 use Rattle.book.specs.Books.{IsMissing, new_book, with_share}
-use Rattle.book.specs.TwinPlaces.{TwinMember, TwinPlaces}
+use Rattle.mbuf.specs.Twins.{TwinMember}
+use Rattle.book.specs.TwinPlaces.{TwinPlaces}
 
 -- limits of two pools with the same workers
 pub record AreTwins (one two : Limits) : Type 0 where

@@ -11,5 +11,7 @@ pub mod losing;
 pub mod settling;
 pub mod share;
 pub mod twin_book;
+pub mod twin_deposits;
+pub mod twin_ending;
 pub mod twin_settling;
 pub mod twin_share;

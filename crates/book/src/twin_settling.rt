@@ -7,7 +7,7 @@ ghost use Rattle.pool_model.specs.Statements.{PlacesEachOnce};
 ghost use Rattle.snapshot.specs.Snapshots.{IsLawful, ListsItsElements, statement_in};
 ghost use Rattle.book.specs.Books.{IsFull, IsLeastMissing};
 ghost use Rattle.snapshot.specs.Faults.{IsFirstFault};
-ghost use Rattle.book.specs.TwinSettling.{IsTwinUnsettled, first_with, second_with};
+ghost use Rattle.book.specs.TwinSettling.{AreOfPackets, IsLawfulByTypes, IsTwinUnsettled, first_with, second_with};
 ghost use Rattle.book.specs.inside.Causes.{first_cause_of, second_cause_of};
 
 use crate::copies;
@@ -62,7 +62,9 @@ pub fn settle_twin(
     ensures unsettled { IfErr result (λ e. IsTwinUnsettled book first second e.0) }
     // What stands in a slot of a share or lies on a desk is a packet.
     ensures packets { IfErr result (λ e. (e.0 ≢ TwinUnsettled.First Fault.BadPacket) × (e.0 ≢ TwinUnsettled.Second Fault.BadPacket)) }
-    // What whole pools leave at rest has no fault.
+    // What whole pools leave at rest has no fault; of packets, types know that they are.
+    ensures faultless { IsFull book.first → IsLawfulByTypes (first_with book first) → IsLawfulByTypes (second_with book second) →
+        IfErr result (λ e. e.0 ≡ TwinUnsettled.OutOfMemory) }
     ensures memory { IsFull book.first → IsLawful (first_with book first) → IsLawful (second_with book second) →
         IfErr result (λ e. e.0 ≡ TwinUnsettled.OutOfMemory) }
     ensures back { IfErr result (λ e. (e.1 ≡ first) × (e.2 ≡ second) × (e.3 ≡ book)) }
@@ -119,10 +121,12 @@ fn first_statement(alloc: Global, closed: &Closed, book: &TwinBook) -> Result<St
     ensures once { IfOk result (λ s. ListsItsElements (first_with book.now closed.now) s) }
     ensures places { IfOk result (λ s. PlacesEachOnce book.now.first.limits s) }
     ensures sound { IfOk result (λ s. ListsOnlyPackets s) }
-    ensures first { IfErr result (λ f. (f ≡ Fault.OutOfMemory) ⊎ IsFirstFault (first_with book.now closed.now) f) }
+    ensures first { IfErr result (λ f. (f ≡ Fault.OutOfMemory) ⊎ (IsFirstFault (first_with book.now closed.now) f × AreOfPackets (first_with book.now closed.now))) }
     ensures packets { IfErr result (λ f. f ≢ Fault.BadPacket) }
 {
     book.first().fits_its_limits();
+    book.second().fits_its_limits();
+    book.is_filled_alike();
     let Ok(mut snapshot) = copies::snapshot(alloc, closed, book.first()) else {
         return Err(Fault::OutOfMemory);
     };
@@ -140,7 +144,7 @@ fn second_statement(alloc: Global, closed: &Closed, book: &TwinBook) -> Result<S
     ensures once { IfOk result (λ s. ListsItsElements (second_with book.now closed.now) s) }
     ensures places { IfOk result (λ s. PlacesEachOnce book.now.second.limits s) }
     ensures sound { IfOk result (λ s. ListsOnlyPackets s) }
-    ensures first { IfErr result (λ f. (f ≡ Fault.OutOfMemory) ⊎ IsFirstFault (second_with book.now closed.now) f) }
+    ensures first { IfErr result (λ f. (f ≡ Fault.OutOfMemory) ⊎ (IsFirstFault (second_with book.now closed.now) f × AreOfPackets (second_with book.now closed.now))) }
     ensures packets { IfErr result (λ f. f ≢ Fault.BadPacket) }
 {
     book.second().fits_its_limits();

@@ -3,9 +3,10 @@
 
 ghost use Rattle.std.specs.Prelude.{◌≡◌, length};
 ghost use Rattle.mbuf.specs.Members.{slots};
-ghost use Rattle.book.specs.TwinPlaces.{TwinMember};
+ghost use Rattle.mbuf.specs.Twins.{TwinMember};
 
-use crate::share::Share;
+use crate::share::{Share, hand_in};
+use mbuf::twin::Twin;
 use std::marker::Model;
 
 /// What a worker of two pools has when these end: its share of the first, and of the second its
@@ -17,7 +18,7 @@ pub struct TwinShare {
 }
 
 impl Model for TwinShare {
-    ghost use Rattle.book.specs.TwinPlaces.{TwinMember};
+    ghost use Rattle.mbuf.specs.Twins.{TwinMember};
 
     ghost Value = { TwinMember };
 
@@ -26,6 +27,22 @@ impl Model for TwinShare {
     ghost view = { member_of };
 
     ghost invariant = { IsOfOne };
+}
+
+/// Ends a worker of two pools, and gives all that it has.
+pub fn hand_in_twin(twin: Twin) -> TwinShare
+    ensures { result ≡ twin }
+{
+    let (first, second) = twin.into_parts();
+    TwinShare::of(hand_in(first), hand_in(second))
+}
+
+/// Ends these shares and gives nothing back.
+pub fn lose_all_twins(mut shares: Vec<TwinShare>) {
+    while let Some(share) = shares.pop() {
+        share.lose();
+    }
+    shares.destroy_empty();
 }
 
 impl TwinShare {

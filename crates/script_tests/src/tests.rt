@@ -39,6 +39,7 @@ mod step_texts;
 mod texts;
 mod threads;
 mod told;
+mod twin_sites;
 mod twins;
 
 use building::placed;

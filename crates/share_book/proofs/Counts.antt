@@ -13,7 +13,7 @@ abbrev pub AreMembers : Lists → List Member → Type 0
 AreMembers s members = (n : ℕ) → n < s.limits.workers → IsMember s n (get_or members n (nobody s.limits))
 
 -- two sums whose terms agree at each index
-sums_agree : {X Y : Type 0} (f : X → ℕ) (g : Y → ℕ) (xs : List X) (ys : List Y) (c : X) (d : Y) →
+pub sums_agree : {X Y : Type 0} (f : X → ℕ) (g : Y → ℕ) (xs : List X) (ys : List Y) (c : X) (d : Y) →
     length xs ≡ length ys →
     ((k : ℕ) → k < length ys → f (get_or xs k c) ≡ g (get_or ys k d)) → sum_by f xs ≡ sum_by g ys
 sums_agree f g [] [] c d l h = refl

@@ -3,8 +3,12 @@ mod Closings
 mod Counts
 mod DeskCalls
 mod EndedHolds
+mod ListSums
 mod Members
 mod NewPools
 mod PacketCalls
 mod Reaching
 mod SharedBuffers
+mod TwinLawful
+mod TwinMembers
+mod TwinPools

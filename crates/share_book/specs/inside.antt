@@ -1,3 +1,4 @@
 -- For proofs and the inside of types only. No public clause cites these modules.
 pub mod Own
 pub mod SitePool
+pub mod TwinSite

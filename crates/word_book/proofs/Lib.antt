@@ -4,6 +4,9 @@ mod Faultless
 mod Joined
 mod Listed
 mod Lost
+mod OneView
 mod Sums
+mod TwinJoined
+mod TwinLeft
 mod Walked
 mod Wholes

@@ -6,12 +6,14 @@ ghost use Rattle.commons.specs.declared.limits.Limits.{Limits};
 ghost use Rattle.ground.specs.Parting.{both_views};
 ghost use Rattle.mbuf.specs.Members.{Member};
 ghost use Rattle.mbuf.specs.Own.{Own};
+ghost use Rattle.mbuf.specs.Twins.{OwnTwin, TwinMember};
 ghost use Rattle.snapshot.specs.Closing.{snapshot_of};
 ghost use Rattle.snapshot.specs.Lost.{AreLost};
 ghost use Rattle.step_core.specs.World.{empty_view};
 ghost use Rattle.step_core.specs.declared.view.View.{View};
 ghost use Rattle.word_book.specs.Lost.{AreLostBy, IsLeftWithout};
 ghost use Rattle.word_book.specs.Shares.{AreSharesOf, side_in};
+ghost use Rattle.word_book.specs.TwinShares.{AreTwinShares};
 
 /// A worker whose packets are its own, over the view of its seat, has a share of what that view
 /// has: all of it. A view that has nothing is no worker's share.
@@ -32,4 +34,17 @@ pub fn joined_seats_have_the_shares_of_both()
 pub fn what_stands_nowhere_is_lost()
     ensures { (l : Limits) (lost : List View) (members : List Member) (c : Closed) (elems : List ℕ) →
         IsLeftWithout l lost members c → AreLost (snapshot_of l c members) elems → AreLostBy l lost members c elems }
+{}
+
+/// A worker of two pools, whose packets and clones are its own over the views of its seats, has a
+/// share of what those views have: all of it.
+pub fn an_own_twin_is_a_share()
+    ensures { (l k : Limits) (v u : View) (t : TwinMember) → OwnTwin t (side_in l v) (side_in k u) → AreTwinShares (t ∷ []) v u }
+{}
+
+/// Where two seats are joined at the ground of either pool, the shares of both together are those of
+/// the one seat there.
+pub fn joined_seats_have_the_twin_shares_of_both()
+    ensures { (v w u x : View) (first second : List TwinMember) → AreTwinShares first v u → AreTwinShares second w x →
+        AreTwinShares (first ++ second) (both_views v w) (both_views u x) }
 {}

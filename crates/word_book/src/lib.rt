@@ -4,3 +4,4 @@
 pub mod ending;
 pub mod laws;
 pub mod settling;
+pub mod twin_ending;

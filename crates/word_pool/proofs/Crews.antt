@@ -30,7 +30,7 @@ more_from l first (suc n) =
     ∙ ap (λ (ms : List Member). new_member l first ∷ ms) (more_from l (first + 1) n)
 
 -- so the members up to a number are those below it, and that one
-members_upto : (l : Limits) (number : ℕ) → 1 ≤ number →
+pub members_upto : (l : Limits) (number : ℕ) → 1 ≤ number →
     new_members l 1 (number - 1) ++ new_member l number ∷ [] ≡ new_members l 1 number
 members_upto l number first =
     let here : number ≡ 1 + (number - 1) = omega arith in
@@ -39,7 +39,7 @@ members_upto l number first =
     ∙ more_from l 1 (number - 1) ∙ ap (new_members l 1) again
 
 -- new members are numbered in a row
-numbered_from : (l : Limits) (first n : ℕ) →
+pub numbered_from : (l : Limits) (first n : ℕ) →
     map (λ (m : Member). m.number) (new_members l first n) ≡ range_with_len first n
 numbered_from l first zero = refl
 numbered_from l first (suc n) = ap (λ (ns : List ℕ). first ∷ ns) (numbered_from l (first + 1) n)

@@ -4,3 +4,7 @@ mod Leading
 mod Left
 mod Lost
 mod Staying
+mod TwinCrews
+mod TwinJoins
+mod TwinLeading
+mod TwinStaying

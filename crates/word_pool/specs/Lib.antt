@@ -1,3 +1,4 @@
 pub mod Lost
+pub mod TwinWorkers
 pub mod Workers
 pub mod inside

@@ -2,3 +2,5 @@
 pub mod Crews
 pub mod Joins
 pub mod Kept
+pub mod TwinCrews
+pub mod TwinKept

@@ -26,6 +26,7 @@ mod refused;
 mod settling;
 mod stopped;
 mod threads;
+mod twins;
 
 use playing::play;
 

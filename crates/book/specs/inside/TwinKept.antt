@@ -1,6 +1,7 @@
 -- How a `TwinShare` and a `TwinBook` are kept. No public clause cites this module.
 use Rattle.std.specs.Prelude.{◌≡◌}
-use Rattle.book.specs.TwinPlaces.{TwinMember, TwinPlaces}
+use Rattle.mbuf.specs.Twins.{TwinMember}
+use Rattle.book.specs.TwinPlaces.{TwinPlaces}
 use Rattle.book.specs.TwinBooks.{AreFilledAlike}
 use Rattle.book.specs.declared.twin_book.TwinBook.TheInside as book
 use Rattle.book.specs.declared.twin_share.TwinShare.TheInside.{Inside}

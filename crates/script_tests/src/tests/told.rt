@@ -19,6 +19,8 @@ pub(super) enum Told {
     Taken(Pid, u32, u32),
     /// The packet's bytes.
     Len(u32),
+    /// The first packet's segments and its bytes.
+    Chained(u32, u32),
     /// What a flush did.
     Put(Put),
     /// Why the call was refused.
@@ -33,6 +35,7 @@ pub(super) fn reply(told: Told) -> Reply {
         Told::Offered => Reply::Offered,
         Told::Taken(slot, segs, len) => Reply::Taken(slot, segs, len),
         Told::Len(len) => Reply::Len(len),
+        Told::Chained(segs, len) => Reply::Chained(segs, len),
         Told::Put(put) => Reply::Put(put),
         Told::Refused(refusal) => Reply::Refused(refusal),
     }

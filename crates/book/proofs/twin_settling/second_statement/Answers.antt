@@ -1,9 +1,11 @@
+use Rattle.std.proofs.Common.{arith}
 use Rattle.std.proofs.lemmas.Result.{IfOk-weaker}
 use Rattle.pool_model.specs.Statements.{PlacesEachOnce}
 use Rattle.pool_model.specs.declared.statement.Statement.{Statement}
 use Rattle.snapshot.specs.Snapshots.{HasSlots}
-use Rattle.book.specs.TwinSettling.{second_with}
 use Rattle.book.proofs.Shares.{all_slots}
+use Rattle.book.proofs.Typed.{also_typed, packets_there}
+use Rattle.book.specs.TwinSettling.{AreOfPackets, second_with}
 use Rattle.book.proofs.twin_settling.second_statement.Goals as goal
 
 -- a book keeps shares with all their slots, so packets stand in these
@@ -17,6 +19,17 @@ returns-clause-places c =
     IfOk-weaker c.audit.result (λ (statement : Statement). HasSlots s → PlacesEachOnce limits statement)
     (PlacesEachOnce limits) (λ statement stands. stands full) placed
 
+-- what was copied stands in slots or lies on desks, and there are no guests
+typed : (c : goal.After-drop-snapshot-5) → AreOfPackets (second_with c.args.book.now c.args.closed.now)
+typed c =
+    let desks = rw c.in-Ok.ensures.same at c.in-Ok.ensures.on_desks in
+    let slots = rw (c.in-Ok.ensures.same, c.second-2.ensures) at c.in-Ok.ensures.in_slots in record {
+      packets = packets_there (second_with c.args.book.now c.args.closed.now) desks slots;
+      few = omega arith;
+    }
+
 -- the first fault of the copy is the pool's
 pub returns-clause-first : goal.returns-clause-first
-returns-clause-first c = rw (c.in-Ok.ensures.same, c.second-2.ensures) at c.audit.ensures.first
+returns-clause-first c =
+    let audited = rw (c.in-Ok.ensures.same, c.second-2.ensures) at c.audit.ensures.first in
+    also_typed c.audit.result (second_with c.args.book.now c.args.closed.now) (typed c) audited

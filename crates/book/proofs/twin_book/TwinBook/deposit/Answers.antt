@@ -1,6 +1,7 @@
 use Rattle.std.proofs.Common.{refl, ap, sym, ◌∙◌}
 use Rattle.mbuf.specs.Members.{Member}
-use Rattle.book.specs.TwinPlaces.{TwinMember, TwinPlaces}
+use Rattle.mbuf.specs.Twins.{TwinMember}
+use Rattle.book.specs.TwinPlaces.{TwinPlaces}
 use Rattle.book.proofs.TwinPlaces.{filled_alike}
 use Rattle.book.proofs.twin_book.TwinBook.deposit.Goals as goal
 

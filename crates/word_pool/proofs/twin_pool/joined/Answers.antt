@@ -1,0 +1,55 @@
+-- Each pair of seats that joins adds its worker's share, which is what the seats have.
+use Rattle.std.proofs.Common.{◌++◌, ◌∷◌, [], length, List, ap, ◌∙◌, arith}
+use Rattle.mbuf.specs.Twins.{TwinMember}
+use Rattle.word_pool.proofs.TwinJoins.{last_twin_joined, next_twin_joined}
+use Rattle.word_pool.proofs.twin_pool.joined.Goals as goal
+
+-- the last worker's seats have what the worker has, and its share is the only one
+pub loop-worker-init : goal.loop-worker-init
+loop-worker-init c =
+    let none = ap (λ (ms : List TwinMember). length ms) c.requires.empty in
+    let parts = c.into_parts-seats.ensures.parts in
+    let seats = c.into_parts-seats.result.0 in
+    record {
+      joined =
+          last_twin_joined c.an_own_twin_is_a_share.ensures c.args.first.now c.args.second.now c.args.workers.items
+          c.pop.new.self.items c.in-Some.last seats.first seats.second c.into_parts-seats.result.1
+          c.add_share.new.shares.items c.requires.each c.in-Some.ensures.items c.into_parts-seats.ensures.idle
+          parts.0 parts.1 parts.2
+          (c.add_share.ensures.added
+          ∙ ap (λ (ms : List TwinMember). ms ++ c.into_parts-seats.result.1 ∷ []) c.requires.empty);
+      room =
+          omega (
+            arith,
+            c.requires.room,
+            c.in-Some.ensures.len,
+            c.add_share.ensures.len,
+            c.add_share.ensures.room,
+            c.args.shares.ok,
+            none,
+          );
+    }
+
+-- so is what the joined seats have, with one share more
+pub loop-worker-preserved : goal.loop-worker-preserved
+loop-worker-preserved c =
+    let parts = c.into_parts-others.ensures.parts in
+    let others = c.into_parts-others.result.0 in
+    record {
+      joined =
+          next_twin_joined c.an_own_twin_is_a_share.ensures c.joined_seats_have_the_twin_shares_of_both.ensures
+          c.args.first.now c.args.second.now c.args.workers.items c.loop-worker.workers.items
+          c.pop-in-loop-worker.new.self.items c.in-Some-pop.worker c.loop-worker.seats.first c.loop-worker.seats.second
+          others.first others.second c.both-seats.result.first c.both-seats.result.second c.into_parts-others.result.1
+          c.loop-worker.shares.items c.add_share-in-Some-pop.new.shares.items c.loop-worker.invariant.joined
+          c.in-Some-pop.ensures.items c.into_parts-others.ensures.idle parts.0 parts.1 parts.2
+          c.both-seats.ensures.first c.both-seats.ensures.second c.add_share-in-Some-pop.ensures.added;
+      room =
+          omega (
+            arith,
+            c.loop-worker.invariant.room,
+            c.in-Some-pop.ensures.len,
+            c.add_share-in-Some-pop.ensures.len,
+            c.add_share-in-Some-pop.ensures.room,
+          );
+    }

@@ -1,0 +1,120 @@
+-- The workers of two pools on words.
+use Rattle.std.specs.Prelude.{◌≡◌, ◌<◌, ℕ, List, [], All, length, map, slice_index_or}
+use Rattle.std.specs.List.{range_with_len}
+use Rattle.commons.specs.declared.limits.Limits.{Limits}
+use Rattle.commons.specs.declared.refusal.Refusal.{Refusal}
+use Rattle.commons.specs.declared.refusal.Refusal.TheVariants.{BadPool, OutOfMemory}
+use Rattle.ground.specs.Own.{AtRest}
+use Rattle.ground.specs.Seats.{Grounded, Seated, IsOf}
+use Rattle.mbuf.specs.Acts.{Reply}
+use Rattle.mbuf.specs.Foreign.{BothCalls}
+use Rattle.mbuf.specs.Fresh.{new_elements}
+use Rattle.mbuf.specs.Members.{Member}
+use Rattle.mbuf.specs.Refused.{IfRefused}
+use Rattle.mbuf.specs.Twins.{OwnTwin, TwinMember}
+use Rattle.pool_model.specs.Pool.{new_members}
+use Rattle.pool_model.specs.declared.statement.Statement.{Statement}
+use Rattle.book.specs.TwinBooks.{AreTwins}
+use Rattle.stack_lf.specs.Sides.{side_of}
+use Rattle.stack_lf.specs.Tries.{DidOnWords}
+use Rattle.twin_acts.specs.TwinActs.{AreFreshByAct, KeepsTwin, PerformsTwin, TwinAsBefore}
+use Rattle.twin_acts.specs.declared.acts.TwinAct.{TwinAct}
+use Rattle.word_book.specs.TwinShares.{AreStatementsOf, AreTwinShares}
+use Rattle.step_core.specs.declared.view.View.{View}
+
+-- a worker: its seat at the ground of either pool, and what it has of both
+pub record TwinManned : Type 0 where
+  pub first : Seated
+  pub second : Seated
+  pub member : TwinMember
+
+-- between its acts: both seats are at rest, no slot is out with them, and packets and clones are the
+-- worker's own
+pub record IsTwinIdle (m : TwinManned) : Type 0 where
+  pub first_rest : AtRest m.first.known.view
+  pub second_rest : AtRest m.second.known.view
+  pub first_slots : m.first.slots ≡ []
+  pub second_slots : m.second.slots ≡ []
+  pub own : OwnTwin m.member (side_of m.first) (side_of m.second)
+
+-- the seat is one of the same ground, with the same part of it
+pub record SeatStays (old new : Seated) : Type 0 where
+  pub table : new.table ≡ old.table
+  pub limits : new.known.limits ≡ old.known.limits
+  pub part : new.known.view.part ≡ old.known.view.part
+
+-- it is the same worker of the same pools
+pub record TwinStays (old new : TwinManned) : Type 0 where
+  pub first : SeatStays old.first new.first
+  pub second : SeatStays old.second new.second
+  pub member : KeepsTwin old.member new.member
+
+-- each of these workers is the same
+pub record AllTwinsStay (old new : List TwinManned) : Type 0 where
+  pub as_many : length new ≡ length old
+  pub each : (i : ℕ) (d : TwinManned) → i < length old → TwinStays (slice_index_or old i d) (slice_index_or new i d)
+
+-- The worker did this and was answered so: by calls over the words of either ground, each of which
+-- took the steps of its tries. What the answer tells of as new the worker held none of; and where
+-- the act was refused, all is as before, but for the free elements after a clone.
+pub record DoesTwin (act : TwinAct) (old : TwinManned) (reply : Reply) (new : TwinManned) : Type 0 where
+  pub calls : BothCalls DidOnWords side_of old.first new.first DidOnWords side_of old.second new.second
+      (λ firsts seconds. PerformsTwin act old.member firsts seconds reply new.member)
+  pub fresh : AreFreshByAct act old.member (side_of old.first) (side_of old.second) (new_elements reply)
+  pub refused : IfRefused reply (TwinAsBefore act old.member (side_of old.first) (side_of old.second)
+      new.member (side_of new.first) (side_of new.second))
+  pub stays : TwinStays old new
+
+-- a worker of these grounds, with one part of either
+pub record IsTwinWorker (g h : Grounded) (m : TwinManned) : Type 0 where
+  pub first : IsOf g m.first
+  pub second : IsOf h m.second
+  pub first_part : m.first.known.view.part ≡ 1
+  pub second_part : m.second.known.view.part ≡ 1
+
+-- what workers have of both pools, and of either
+abbrev pub twins_of : List TwinManned → List TwinMember
+twins_of ms = map (λ m. m.member) ms
+
+abbrev pub firsts_of : List TwinManned → List Member
+firsts_of ms = map (λ t. t.first) (twins_of ms)
+
+abbrev pub seconds_of : List TwinManned → List Member
+seconds_of ms = map (λ t. t.second) (twins_of ms)
+
+-- limits of two pools with the same workers, the second without desks
+pub record AreTwinPools (l k : Limits) : Type 0 where
+  pub twins : AreTwins l k
+  pub no_desks : k.desks ≡ 0
+
+-- why two pools aren't made
+abbrev pub IsTwinMakeCause : Limits → Limits → Refusal → Type 0
+IsTwinMakeCause l k BadPool = ¬ (AreTwinPools l k)
+IsTwinMakeCause l k OutOfMemory = AreTwinPools l k
+IsTwinMakeCause l k _ = ⊥
+
+-- all workers of these grounds, in their order
+pub record AreTwinWorkers (g h : Grounded) (ms : List TwinManned) : Type 0 where
+  pub pools : AreTwinPools g.limits h.limits
+  pub first_numbers : map (λ m. m.number) (firsts_of ms) ≡ range_with_len 1 g.limits.workers
+  pub second_numbers : map (λ m. m.number) (seconds_of ms) ≡ range_with_len 1 h.limits.workers
+  pub each : All (IsTwinWorker g h) ms
+
+-- They are the workers of new pools, who have nothing: their caches and tables are empty.
+pub record AreNewTwins (l k : Limits) (ms : List TwinManned) : Type 0 where
+  pub firsts : firsts_of ms ≡ new_members l 1 l.workers
+  pub seconds : seconds_of ms ≡ new_members k 1 k.workers
+
+-- The statements of what two grounds left, each closed by one seat with every part, and of these
+-- workers' caches, packets and clones, which are what those seats had.
+pub record AreStatementsOfTwins (g h : Grounded) (ms : List TwinManned) (s : Statement × Statement) : Type 0 where
+  pub first_view : View
+  pub second_view : View
+  pub first_whole : first_view.part ≡ g.limits.workers
+  pub second_whole : second_view.part ≡ h.limits.workers
+  pub first_rest : AtRest first_view
+  pub second_rest : AtRest second_view
+  -- each worker was between its acts: packets and clones were its own
+  pub idle : All IsTwinIdle ms
+  pub shares : AreTwinShares (twins_of ms) first_view second_view
+  pub statements : AreStatementsOf g.limits h.limits first_view second_view (twins_of ms) s

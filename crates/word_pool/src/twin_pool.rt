@@ -1,0 +1,309 @@
+//! Two pools of all workers on words, each on a ground of its own. Direct packets are of the first,
+//! and foreign clones, whose bases are elements of it, of the second.
+
+ghost use Rattle.std.specs.Prelude.{◌≡◌, ◌+◌, ◌<◌, ◌≤◌, ◌++◌, ◌∷◌, [], All, IfOk, IfErr, length, vec_len, vec_capacity};
+ghost use Rattle.ground.specs.Own.{AtRest};
+ghost use Rattle.ground.specs.Parting.{IsBoth};
+ghost use Rattle.ground.specs.Rule.{first_known};
+ghost use Rattle.ground.specs.Seats.{IsOf};
+ghost use Rattle.mbuf.specs.Twins.{TwinMember};
+ghost use Rattle.pool_model.specs.Sound.{ListsOnlyPackets};
+ghost use Rattle.pool_model.specs.Statements.{PlacesEachOnce};
+ghost use Rattle.word_book.specs.TwinShares.{AreTwinShares};
+ghost use Rattle.word_pool.specs.inside.Crews.{IsUnused, new_member};
+ghost use Rattle.word_pool.specs.inside.TwinCrews.{IsWhole};
+ghost use Rattle.word_pool.specs.TwinWorkers.{AreNewTwins, AreStatementsOfTwins, AreTwinPools, AreTwinWorkers, IsTwinIdle, IsTwinMakeCause, IsTwinWorker, twins_of};
+
+use crate::twin_worker::{Seats, WordTwin, lose};
+use book::twin_share::{TwinShare, hand_in_twin};
+use commons::limits::Limits;
+use commons::refusal::Refusal;
+use ground::pool::Ground;
+use mbuf::twin::Twin;
+use pool_model::statement::Statement;
+use std::alloc::Global;
+use word_book::{laws, twin_ending};
+
+/// Makes two pools on words, and their workers, numbered from 1, each with one part of either, and
+/// none of whom has anything yet. The words are those of new grounds (`Ground::make`).
+///
+/// Refused `BadPool` where either limits are out of range, where the pools haven't as many workers,
+/// or where the second has desks, and `OutOfMemory` where memory was refused.
+pub fn make(
+    alloc: Global,
+    first: &Limits,
+    second: &Limits,
+) -> Result<(Ground, Ground, Vec<WordTwin>), Refusal>
+    ensures first_limits { IfOk result (λ made. made.0.limits ≡ first.now) }
+    ensures second_limits { IfOk result (λ made. made.1.limits ≡ second.now) }
+    ensures workers { IfOk result (λ made. AreTwinWorkers made.0 made.1 made.2.items) }
+    ensures new { IfOk result (λ made. AreNewTwins first.now second.now made.2.items) }
+    ensures cause { IfErr result (IsTwinMakeCause first.now second.now) }
+{
+    first.check()?;
+    second.check()?;
+    if second.workers != first.workers {
+        return Err(Refusal::BadPool);
+    }
+    if second.desks != 0 {
+        return Err(Refusal::BadPool);
+    }
+    opened(alloc, first, second)
+}
+
+/// Two pools within these limits and their workers, or a refusal of memory.
+fn opened(
+    alloc: Global,
+    first: &Limits,
+    second: &Limits,
+) -> Result<(Ground, Ground, Vec<WordTwin>), Refusal>
+    requires { AreTwinPools first.now second.now }
+    ensures first_limits { IfOk result (λ made. made.0.limits ≡ first.now) }
+    ensures second_limits { IfOk result (λ made. made.1.limits ≡ second.now) }
+    ensures workers { IfOk result (λ made. AreTwinWorkers made.0 made.1 made.2.items) }
+    ensures new { IfOk result (λ made. AreNewTwins first.now second.now made.2.items) }
+    ensures memory { IfErr result (λ e. e ≡ Refusal.OutOfMemory) }
+{
+    let (first_ground, first_seat) = match Ground::make(alloc, first) {
+        Ok(made) => made,
+        Err(_) => return Err(Refusal::OutOfMemory),
+    };
+    let (second_ground, second_seat) = match Ground::make(alloc, second) {
+        Ok(made) => made,
+        Err(_) => {
+            first_seat.lose();
+            return Err(Refusal::OutOfMemory);
+        }
+    };
+    let seats = Seats {
+        first: first_seat,
+        second: second_seat,
+    };
+    match twins(alloc, &first_ground, &second_ground, seats) {
+        Ok(workers) => Ok((first_ground, second_ground, workers)),
+        Err(_) => Err(Refusal::OutOfMemory),
+    }
+}
+
+/// A worker for each part of two seats that name nothing, numbered from 1.
+fn twins(
+    alloc: Global,
+    first: &Ground,
+    second: &Ground,
+    seats: Seats,
+) -> Result<Vec<WordTwin>, Refusal>
+    requires pools { AreTwinPools first.now.limits second.now.limits }
+    requires first_of { IsOf first.now seats.first }
+    requires second_of { IsOf second.now seats.second }
+    requires first_known { seats.first.known ≡ first_known first.now.limits }
+    requires second_known { seats.second.known ≡ first_known second.now.limits }
+    requires first_slots { seats.first.slots ≡ [] }
+    requires second_slots { seats.second.slots ≡ [] }
+    ensures workers { IfOk result (λ workers. AreTwinWorkers first.now second.now workers.items) }
+    ensures new { IfOk result (λ workers. AreNewTwins first.now.limits second.now.limits workers.items) }
+    ensures memory { IfErr result (λ e. e ≡ Refusal.OutOfMemory) }
+{
+    let first_limits = first.limits();
+    let second_limits = second.limits();
+    let mut rest = FreeSeats { seats };
+    let mut workers = Vec::new(alloc);
+    for number in 1..first_limits.workers as u32 {
+        let seats = Seats {
+            first: first.split(&mut rest.seats.first),
+            second: second.split(&mut rest.seats.second),
+        };
+        add_twin(
+            alloc,
+            &first_limits,
+            &second_limits,
+            &mut workers,
+            seats,
+            number,
+        )?;
+    }
+    add_twin(
+        alloc,
+        &first_limits,
+        &second_limits,
+        &mut workers,
+        rest.into_seats(),
+        first_limits.workers as u32,
+    )?;
+    Ok(workers)
+}
+
+/// Adds the worker of this number, who has these seats and nothing yet.
+fn add_twin(
+    alloc: Global,
+    first: &Limits,
+    second: &Limits,
+    workers: &mut Vec<WordTwin>,
+    seats: Seats,
+    number: u32,
+) -> Result<(), Refusal>
+    requires pools { AreTwinPools first.now second.now }
+    requires low { 1 ≤ number }
+    requires high { number ≤ first.now.workers }
+    requires first_unused { IsUnused first.now 1 seats.first }
+    requires second_unused { IsUnused second.now 1 seats.second }
+    ensures added { IfOk result (λ _. workers.new.items ≡ workers.old.items ++ record {
+      first = seats.first;
+      second = seats.second;
+      member = record { first = new_member first.now number; second = new_member second.now number };
+    } ∷ []) }
+    ensures memory { IfErr result (λ e. e ≡ Refusal.OutOfMemory) }
+{
+    match Twin::make(alloc, first, second, number) {
+        Ok(twin) => add(workers, WordTwin::new(seats, twin)),
+        Err(cause) => {
+            lose(seats);
+            Err(cause)
+        }
+    }
+}
+
+/// Adds a worker.
+fn add(workers: &mut Vec<WordTwin>, worker: WordTwin) -> Result<(), Refusal>
+    ensures added { IfOk result (λ _. workers.new.items ≡ workers.old.items ++ worker ∷ []) }
+    ensures memory { IfErr result (λ e. e ≡ Refusal.OutOfMemory) }
+{
+    match workers.push(worker) {
+        Ok(()) => Ok(()),
+        Err(_) => Err(Refusal::OutOfMemory),
+    }
+}
+
+/// Seats that no worker has taken yet: where none does, they are lost.
+struct FreeSeats {
+    seats: Seats,
+}
+
+impl Drop for FreeSeats {
+    fn drop(self) {
+        let FreeSeats { seats } = self;
+        lose(seats);
+    }
+}
+
+impl FreeSeats {
+    /// The seats.
+    fn into_seats(self) -> Seats
+        ensures { result ≡ self.seats }
+    {
+        let FreeSeats { seats } = self;
+        seats
+    }
+}
+
+/// Ends two pools whose workers no longer act, and settles them: their seats become one at either
+/// ground, what they have is handed in, in the order of their numbers, and both grounds are closed.
+/// Neither has a fault. Each statement lists each element of its pool exactly once, and is that of
+/// what the ground left and of what these workers have: the bases of foreign clones are elements of
+/// the first pool, which their workers hold, and their own elements are of the second. What is
+/// available and what is in use are the population of each.
+///
+/// Refused `OutOfMemory` where memory was refused. The pools are ended then too, and nothing is left
+/// of them.
+pub fn settled(
+    alloc: Global,
+    first: Ground,
+    second: Ground,
+    workers: Vec<WordTwin>,
+) -> Result<(Statement, Statement), Refusal>
+    requires { AreTwinWorkers first second workers.items }
+    ensures statements { IfOk result (AreStatementsOfTwins first second workers.items) }
+    ensures places { IfOk result (λ s. PlacesEachOnce first.limits s.0 × PlacesEachOnce second.limits s.1) }
+    ensures sound { IfOk result (λ s. ListsOnlyPackets s.0 × ListsOnlyPackets s.1) }
+    ensures whole { IfOk result (λ s. (s.0.available + s.0.in_use ≡ first.limits.population)
+        × (s.1.available + s.1.in_use ≡ second.limits.population)) }
+    ensures memory { IfErr result (λ e. e ≡ Refusal.OutOfMemory) }
+{
+    let _ = first.limits();
+    let Ok(shares) = Vec::with_capacity(alloc, workers.len()) else {
+        return Err(Refusal::OutOfMemory);
+    };
+    let (seats, shares) = joined(&first, &second, workers, shares);
+    let Seats {
+        first: first_seat,
+        second: second_seat,
+    } = seats;
+    twin_ending::settled(alloc, (first, second), (first_seat, second_seat), shares)
+}
+
+/// Makes one seat at either ground of the seats of these workers, from the last to the first, and
+/// hands in what they have, in the room that was taken for the shares.
+fn joined(
+    first: &Ground,
+    second: &Ground,
+    mut workers: Vec<WordTwin>,
+    mut shares: Vec<TwinShare>,
+) -> (Seats, Vec<TwinShare>)
+    requires some { 0 < length workers.items }
+    requires each { All (IsTwinWorker first.now second.now) workers.items }
+    requires empty { shares.items ≡ [] }
+    requires room { vec_len workers ≤ vec_capacity shares }
+    ensures first { IsWhole first.now (length workers.items) result.0.first }
+    ensures second { IsWhole second.now (length workers.items) result.0.second }
+    ensures idle { All IsTwinIdle workers.items }
+    ensures members { result.1.items ≡ twins_of workers.items }
+    ensures shares { AreTwinShares result.1.items result.0.first.known.view result.0.second.known.view }
+{
+    laws::an_own_twin_is_a_share();
+    laws::joined_seats_have_the_twin_shares_of_both();
+    let Some(last) = workers.pop() else {
+        unreachable!()
+    };
+    let (mut seats, twin) = last.into_parts();
+    add_share(&mut shares, twin);
+    while let Some(worker) = workers.pop() {
+        let (others, twin) = worker.into_parts();
+        seats = both(first, second, others, seats);
+        add_share(&mut shares, twin);
+    }
+    shares.reverse();
+    (seats, shares)
+}
+
+/// Makes one seat of two at either ground.
+fn both(first: &Ground, second: &Ground, one: Seats, other: Seats) -> Seats
+    requires first_of { IsOf first.now one.first }
+    requires first_other { IsOf first.now other.first }
+    requires second_of { IsOf second.now one.second }
+    requires second_other { IsOf second.now other.second }
+    requires first_rest { AtRest one.first.known.view }
+    requires first_other_rest { AtRest other.first.known.view }
+    requires second_rest { AtRest one.second.known.view }
+    requires second_other_rest { AtRest other.second.known.view }
+    requires first_slots { other.first.slots ≡ [] }
+    requires second_slots { other.second.slots ≡ [] }
+    ensures first { IsBoth one.first other.first.known result.first }
+    ensures second { IsBoth one.second other.second.known result.second }
+{
+    let Seats {
+        first: mut first_seat,
+        second: mut second_seat,
+    } = one;
+    let Seats {
+        first: first_other,
+        second: second_other,
+    } = other;
+    first.join(&mut first_seat, first_other);
+    second.join(&mut second_seat, second_other);
+    Seats {
+        first: first_seat,
+        second: second_seat,
+    }
+}
+
+/// Hands in what a worker has, where there is room.
+fn add_share(shares: &mut Vec<TwinShare>, twin: Twin)
+    requires room { vec_len shares.old < vec_capacity shares.old }
+    ensures added { shares.new.items ≡ shares.old.items ++ twin ∷ [] }
+    ensures len { vec_len shares.new ≡ vec_len shares.old + 1 }
+    ensures room { vec_capacity shares.old ≤ vec_capacity shares.new }
+{
+    if let Err(failed) = shares.push(hand_in_twin(twin)) {
+        failed.value.lose();
+        unreachable!()
+    }
+}

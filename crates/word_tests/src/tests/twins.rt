@@ -1,0 +1,164 @@
+//! Two pools on words: what their workers are replied, and where their elements are at the end.
+
+ghost use Rattle.ground.specs.Seats.{IsOf};
+ghost use Rattle.word_pool.specs.TwinWorkers.{AreTwinWorkers, TwinStays};
+
+use super::{DEFAULTS, same};
+use commons::limits::Limits;
+use commons::refusal::Refusal;
+use ground::pool::Ground;
+use mbuf::acts::Act;
+use pool_model::settled::Settled;
+use script::settled_text;
+use std::alloc::Global;
+use std::test::Fail;
+use std::thread;
+use std::thread::Threads;
+use twin_acts::acts::TwinAct;
+use word_pool::laws::twins_who_stay_are_all;
+use word_pool::twin_pool;
+use word_pool::twin_worker::WordTwin;
+
+/// Makes a packet of 100 bytes and a clone of it in the second pool, and frees the packet.
+fn clone(first: &Ground, second: &Ground, worker: &mut WordTwin)
+    requires first { IsOf first.now worker.old.first }
+    requires second { IsOf second.now worker.old.second }
+    ensures { TwinStays worker.old worker.new }
+{
+    let _made = worker.act(first, second, TwinAct::OnFirst(Act::Alloc));
+    let _longer = worker.act(first, second, TwinAct::OnFirst(Act::Append(0, 100)));
+    let _cloned = worker.act(first, second, TwinAct::CloneInto(0));
+    let _freed = worker.act(first, second, TwinAct::OnFirst(Act::Free(0)));
+}
+
+/// Makes a packet of two segments and a clone of it, and frees the packet and then the clone.
+fn clone_and_free(first: &Ground, second: &Ground, worker: &mut WordTwin)
+    requires first { IsOf first.now worker.old.first }
+    requires second { IsOf second.now worker.old.second }
+    ensures { TwinStays worker.old worker.new }
+{
+    let _one = worker.act(first, second, TwinAct::OnFirst(Act::Alloc));
+    let _other = worker.act(first, second, TwinAct::OnFirst(Act::Alloc));
+    let _chained = worker.act(first, second, TwinAct::OnFirst(Act::Chain(0, 1)));
+    let _cloned = worker.act(first, second, TwinAct::CloneInto(0));
+    let _freed = worker.act(first, second, TwinAct::OnFirst(Act::Free(0)));
+    let _gone = worker.act(first, second, TwinAct::FreeClone(0));
+}
+
+/// Lets all workers clone and free, each in a thread of its own.
+fn all_clone<R: Threads + Sync>(
+    rt: &R,
+    first: &Ground,
+    second: &Ground,
+    workers: &mut [WordTwin],
+)
+    requires { AreTwinWorkers first.now second.now workers.old }
+    ensures { AreTwinWorkers first.now second.now workers.new }
+{
+    twins_who_stay_are_all();
+    thread::for_each_mut(
+        rt,
+        workers,
+        4,
+        &|_, worker: &mut WordTwin|
+            requires first { IsOf first.now worker.now.first }
+            requires second { IsOf second.now worker.now.second }
+            ensures { TwinStays worker.entry.now worker.exit.now }
+        { clone_and_free(first, second, worker) },
+    );
+}
+
+/// How many elements of either pool are free once all workers have cloned and freed.
+fn free_at_the_end<R: Threads + Sync>(
+    rt: &R,
+    alloc: Global,
+    first: &Limits,
+    second: &Limits,
+) -> Result<(u64, u64), Refusal> {
+    let (one, other, mut workers) = twin_pool::make(alloc, first, second)?;
+    all_clone(rt, &one, &other, workers.as_mut_slice());
+    let (one, other) = twin_pool::settled(alloc, one, other, workers)?;
+    Ok((one.available, other.available))
+}
+
+#[test]
+fn threads_of_two_pools_leave_all_free(rt: HostRuntime) -> Result<(), Fail> {
+    for cache in [0, 4] {
+        let first = Limits {
+            population: 64,
+            cache,
+            workers: 4,
+            desks: 1,
+            ..DEFAULTS
+        };
+        let second = Limits {
+            population: 32,
+            cache,
+            workers: 4,
+            buf: 0,
+            ..DEFAULTS
+        };
+        let available = free_at_the_end(&rt, rt.alloc(), &first, &second)?;
+        same(
+            &rt,
+            &available,
+            &(64, 32),
+            "what two pools have free at the end",
+        );
+    }
+    Ok(())
+}
+
+/// Lets all workers clone, one after another, and leave their clones.
+fn each_clones(first: &Ground, second: &Ground, workers: &mut [WordTwin])
+    requires { AreTwinWorkers first.now second.now workers.old }
+    ensures { AreTwinWorkers first.now second.now workers.new }
+{
+    twins_who_stay_are_all();
+    for worker in workers.iter_mut() {
+        clone(first, second, worker);
+    }
+}
+
+/// The statements of two pools whose workers have clones left.
+fn settled_with_clones(
+    alloc: Global,
+    first: &Limits,
+    second: &Limits,
+) -> Result<Settled, Refusal> {
+    let (one, other, mut workers) = twin_pool::make(alloc, first, second)?;
+    each_clones(&one, &other, workers.as_mut_slice());
+    let (first, second) = twin_pool::settled(alloc, one, other, workers)?;
+    Ok(Settled {
+        first,
+        second: Some(second),
+    })
+}
+
+const TEXT: &str = "population 4\navailable 3\nin use 1\ncommon 3: 1 2 3\ncache 1 0:\n\
+    held 0 count 1: 1\n\
+    second\npopulation 2\navailable 1\nin use 1\ncommon 1: 1\ncache 1 0:\n\
+    packet 1 0 segs 1 len 100: 0>0@128+100/2048\nheld 0 count 1: 1\n";
+
+#[test]
+fn a_clone_on_words_holds_the_buffer_of_the_first_pool(rt: HostRuntime) -> Result<(), Fail> {
+    let first = Limits {
+        population: 4,
+        desks: 1,
+        ..DEFAULTS
+    };
+    let second = Limits {
+        population: 2,
+        buf: 0,
+        ..DEFAULTS
+    };
+    let settled = settled_with_clones(rt.alloc(), &first, &second)?;
+    let text = settled_text(rt.alloc(), &settled)?;
+    same(
+        &rt,
+        &text.as_slice(),
+        &TEXT.as_bytes(),
+        "a clone that is left",
+    );
+    Ok(())
+}
