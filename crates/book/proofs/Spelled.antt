@@ -92,6 +92,7 @@ module _ (s : Snapshot) (common : List ℕ) (h : Shows s common) where
       counts = h.counts;
       desks = h.desks;
       shares = h.shares;
+      places = typed.places;
       guests = h.guests;
       few = typed.few;
     };

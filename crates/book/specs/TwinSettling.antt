@@ -1,5 +1,5 @@
 -- Two closed pools with the shares in their book, and why they aren't settled.
-use Rattle.std.specs.Prelude.{◌≤◌, ◌*◌, true, flat_map, length, map, List}
+use Rattle.std.specs.Prelude.{◌≤◌, ◌*◌, All, true, flat_map, length, map, List}
 use Rattle.commons.specs.Packets.{IsPacket}
 use Rattle.commons.specs.declared.closed.Closed.{Closed}
 use Rattle.commons.specs.declared.limits.Limits.{Limits}
@@ -8,7 +8,7 @@ use Rattle.mbuf.specs.Twins.{TwinMember}
 use Rattle.pool_model.specs.Guests.{guests_by}
 use Rattle.snapshot.specs.Closing.{snapshot_of}
 use Rattle.snapshot.specs.Faults.{IsFirstFault}
-use Rattle.snapshot.specs.Snapshots.{HasPacket, IsLawful, most_guests}
+use Rattle.snapshot.specs.Snapshots.{HasPacket, IsLawful, most_guests, most_places}
 use Rattle.snapshot.specs.declared.snapshot.Snapshot.{Snapshot}
 use Rattle.book.specs.declared.twin_settling.TwinUnsettled.{TwinUnsettled}
 use Rattle.book.specs.declared.twin_settling.TwinUnsettled.TheVariants.{MissingShare, OutOfMemory, First, Second}
@@ -34,10 +34,12 @@ first_of l closed members = record (snapshot_of l closed (map (λ m. m.first) me
 abbrev pub second_of : Limits → Closed → List TwinMember → Snapshot
 second_of l closed members = record (snapshot_of l closed (map (λ m. m.second) members)) { foreign = true }
 
--- What stands in a slot of a share or lies on a desk is a packet, and the guests are no more than
--- the packets of all workers may have bases. The types of shares and desks keep this.
+-- What stands in a slot of a share or lies on a desk is a packet, each place of a share has a
+-- number, and the guests are no more than the packets of all workers may have bases. The types of
+-- shares and desks keep this.
 pub record AreOfPackets (s : Snapshot) : Type 0 where
   pub packets : (segs : List Seg) → HasPacket s segs → IsPacket segs
+  pub places : All (λ share. length share.slots ≤ most_places) s.shares
   pub few : length s.guests ≤ s.limits.workers * most_guests
 
 -- lawful, given what the types of shares and desks keep

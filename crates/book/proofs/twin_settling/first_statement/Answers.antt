@@ -4,7 +4,7 @@ use Rattle.pool_model.specs.Statements.{PlacesEachOnce}
 use Rattle.pool_model.specs.declared.statement.Statement.{Statement}
 use Rattle.snapshot.specs.Snapshots.{HasSlots}
 use Rattle.book.proofs.Shares.{all_slots}
-use Rattle.book.proofs.Typed.{also_typed, packets_there}
+use Rattle.book.proofs.Typed.{also_typed, numbered_places, packets_there}
 use Rattle.book.specs.TwinSettling.{AreOfPackets, first_with}
 use Rattle.book.proofs.twin_settling.first_statement.Goals as goal
 
@@ -26,9 +26,12 @@ typed c =
     let desks = rw c.in-Ok.ensures.same at c.in-Ok.ensures.on_desks in
     let slots = rw (c.in-Ok.ensures.same, c.first-2.ensures) at c.in-Ok.ensures.in_slots in
     let few = rw (c.in-Ok-guests.ensures.same, c.places.ensures, c.second-2.ensures) at c.in-Ok-guests.ensures.few in
-    let places = rw c.second.ensures at c.fits_its_limits-2.ensures.workers in record {
+    let each = rw c.first.ensures at c.fits_its_limits.ensures.each in
+    let full = all_slots b.first.places (λ n m e. (each n m e).slots) in
+    let workers = rw c.second.ensures at c.fits_its_limits-2.ensures.workers in record {
       packets = packets_there (first_with b c.args.closed.now) desks slots;
-      few = omega (arith, few, places, c.is_filled_alike.ensures.workers);
+      places = numbered_places (first_with b c.args.closed.now).shares full;
+      few = omega (arith, few, workers, c.is_filled_alike.ensures.workers);
     }
 
 -- the first fault of the copy is the pool's

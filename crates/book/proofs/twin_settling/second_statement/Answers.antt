@@ -4,7 +4,7 @@ use Rattle.pool_model.specs.Statements.{PlacesEachOnce}
 use Rattle.pool_model.specs.declared.statement.Statement.{Statement}
 use Rattle.snapshot.specs.Snapshots.{HasSlots}
 use Rattle.book.proofs.Shares.{all_slots}
-use Rattle.book.proofs.Typed.{also_typed, packets_there}
+use Rattle.book.proofs.Typed.{also_typed, numbered_places, packets_there}
 use Rattle.book.specs.TwinSettling.{AreOfPackets, second_with}
 use Rattle.book.proofs.twin_settling.second_statement.Goals as goal
 
@@ -22,9 +22,12 @@ returns-clause-places c =
 -- what was copied stands in slots or lies on desks, and there are no guests
 typed : (c : goal.After-drop-snapshot-5) → AreOfPackets (second_with c.args.book.now c.args.closed.now)
 typed c =
+    let each = rw c.second.ensures at c.fits_its_limits.ensures.each in
+    let full = all_slots c.args.book.now.second.places (λ n m e. (each n m e).slots) in
     let desks = rw c.in-Ok.ensures.same at c.in-Ok.ensures.on_desks in
     let slots = rw (c.in-Ok.ensures.same, c.second-2.ensures) at c.in-Ok.ensures.in_slots in record {
       packets = packets_there (second_with c.args.book.now c.args.closed.now) desks slots;
+      places = numbered_places (second_with c.args.book.now c.args.closed.now).shares full;
       few = omega arith;
     }
 
