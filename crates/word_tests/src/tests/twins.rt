@@ -46,12 +46,7 @@ fn clone_and_free(first: &Ground, second: &Ground, worker: &mut WordTwin)
 }
 
 /// Lets all workers clone and free, each in a thread of its own.
-fn all_clone<R: Threads + Sync>(
-    rt: &R,
-    first: &Ground,
-    second: &Ground,
-    workers: &mut [WordTwin],
-)
+fn all_clone<R: Threads + Sync>(rt: &R, first: &Ground, second: &Ground, workers: &mut [WordTwin])
     requires { AreTwinWorkers first.now second.now workers.old }
     ensures { AreTwinWorkers first.now second.now workers.new }
 {
@@ -121,11 +116,7 @@ fn each_clones(first: &Ground, second: &Ground, workers: &mut [WordTwin])
 }
 
 /// The statements of two pools whose workers have clones left.
-fn settled_with_clones(
-    alloc: Global,
-    first: &Limits,
-    second: &Limits,
-) -> Result<Settled, Refusal> {
+fn settled_with_clones(alloc: Global, first: &Limits, second: &Limits) -> Result<Settled, Refusal> {
     let (one, other, mut workers) = twin_pool::make(alloc, first, second)?;
     each_clones(&one, &other, workers.as_mut_slice());
     let (first, second) = twin_pool::settled(alloc, one, other, workers)?;
