@@ -6,7 +6,6 @@ use Rattle.std.proofs.lemmas.Bool.{cases_lt}
 use Rattle.std.proofs.lemmas.Bool.Decides.{nat_tests}
 use lib.ListN.{length-map}
 use Rattle.commons.specs.Bag.{bag}
-use Rattle.commons.specs.Closing.{top_word}
 use Rattle.commons.specs.declared.closed.Closed.{Closed}
 use Rattle.commons.specs.declared.limits.Limits.{Limits}
 use Rattle.commons.specs.declared.packet.Seg.{Seg}

@@ -1,5 +1,5 @@
 -- When the shares of the workers of two pools are what one view of either has.
-use Rattle.std.specs.Prelude.{ℕ, ◌≡◌, ◌≤◌, ◌+◌, List, sum_by, map}
+use Rattle.std.specs.Prelude.{ℕ, ◌≡◌, ◌≤◌, ◌+◌, List, sum_by}
 use Rattle.commons.specs.Bag.{bag}
 use Rattle.commons.specs.Packets.{held_in, own_in}
 use Rattle.commons.specs.declared.closed.Closed.{Closed}

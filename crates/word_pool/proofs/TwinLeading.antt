@@ -1,7 +1,7 @@
 -- Calls over the words of two grounds leave a worker of both the same.
 use Rattle.std.proofs.Common.{◌≡◌, List, sym}
 use Rattle.commons.specs.Calls.{Leads, Made, calls_of}
-use Rattle.ground.specs.Seats.{Grounded, Seated, IsOf}
+use Rattle.ground.specs.Seats.{Seated}
 use Rattle.mbuf.specs.Acts.{Reply}
 use Rattle.mbuf.specs.Fresh.{new_elements}
 use Rattle.mbuf.specs.Refused.{IfRefused}

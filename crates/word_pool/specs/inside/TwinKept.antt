@@ -1,6 +1,5 @@
 -- How a `WordTwin` is kept. No public clause cites this module.
 use Rattle.std.specs.Prelude.{◌≡◌, Option, Some, None}
-use Rattle.ground.specs.Seats.{Seated}
 use Rattle.word_pool.specs.TwinWorkers.{TwinManned, IsTwinIdle}
 use Rattle.word_pool.specs.inside.Kept.{no_seat}
 use Rattle.word_pool.specs.declared.twin_worker.Seats.{Seats}

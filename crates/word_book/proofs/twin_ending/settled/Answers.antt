@@ -1,5 +1,5 @@
 -- Each ground left what its one seat tells, and the shares are what both seats have.
-use Rattle.std.proofs.Common.{ℕ, ap, ◌∙◌, sym}
+use Rattle.std.proofs.Common.{ap, ◌∙◌}
 use Rattle.std.specs.List.{range_with_len}
 use Rattle.word_book.specs.TwinShares.{IsLeftWhole}
 use Rattle.word_book.proofs.TwinLeft.{first_left, second_left, statements_of}
