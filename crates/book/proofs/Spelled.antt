@@ -1,6 +1,6 @@
 -- A snapshot whose links spell a common list, in which each element is in one place and its count
 -- is the number of its holds, is lawful, where packets are packets.
-use Rattle.std.proofs.Common.{ℕ, ◌≡◌, ◌+◌, ◌<◌, ◌≤◌, inl, inr, nat_lt, cond, List, [], ◌∷◌, ◌++◌, length, map, refl, sym, ap, ◌∙◌, arith}
+use Rattle.std.proofs.Common.{ℕ, ◌≡◌, ◌+◌, ◌<◌, ◌≤◌, inl, inr, nat_lt, cond, List, [], ◌∷◌, ◌++◌, length, map, sym, ap, ◌∙◌, arith}
 use Rattle.std.specs.Prelude.{All, min, max, slice_index, sum_by}
 use Rattle.std.specs.List.{range_with_len}
 use Rattle.std.proofs.lemmas.Bool.{cases_lt}
@@ -12,7 +12,7 @@ use Rattle.commons.proofs.Bags.{length-le}
 use Rattle.commons.proofs.Tables.{all_below}
 use Rattle.pool_model.specs.Guests.{AreOfWorkers}
 use Rattle.snapshot.specs.declared.snapshot.Snapshot.{Snapshot}
-use Rattle.snapshot.specs.Snapshots.{elements_of, HasShape, IsLawful, times_held, times_own, walk, words_from, words_met}
+use Rattle.snapshot.specs.Snapshots.{elements_of, IsLawful, times_held, times_own, walk, words_from, words_met}
 use Rattle.snapshot.proofs.FollowedLinks.{AreLinked, linked, words_linked}
 use Rattle.snapshot.proofs.Walks.{IsBelow, elements_after, words_and, words_of}
 use Rattle.book.specs.TwinSettling.{AreOfPackets}

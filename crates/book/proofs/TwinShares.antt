@@ -1,5 +1,5 @@
 -- The shares of all workers of two pools, put in an empty book from the last to the first.
-use Rattle.std.proofs.Common.{ℕ, ◌≡◌, ◌+◌, ◌-◌, ◌<◌, List, [], ◌∷◌, ◌++◌, append_assoc, length, map, replicate, None, sym, ap, ◌∙◌}
+use Rattle.std.proofs.Common.{◌≡◌, ◌+◌, ◌-◌, List, [], ◌∷◌, ◌++◌, append_assoc, length, map, replicate, None, sym, ap, ◌∙◌}
 use Rattle.std.proofs.lemmas.List.{append-nil, map-append, nil_from_length}
 use Rattle.mbuf.specs.Members.{Member}
 use Rattle.mbuf.specs.Twins.{TwinMember}

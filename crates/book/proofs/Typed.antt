@@ -18,10 +18,10 @@ use Rattle.book.specs.TwinSettling.{AreOfPackets}
 -- what stands in slots and lies on desks
 pub packets_there : (s : Snapshot) → HasPackets s.desks → HavePackets s.shares → (segs : List Seg) → HasPacket s segs →
     IsPacket segs
-packets_there s desks slots segs (inl lies) = All-contains IsPacketIn s.desks (Some segs) desks lies
-packets_there s desks slots segs (inr stands) =
+packets_there s desks tables segs (inl lies) = All-contains IsPacketIn s.desks (Some segs) desks lies
+packets_there s desks tables segs (inr stands) =
     All-contains IsPacketIn stands.0.slots (Some segs)
-    (All-contains (λ (share : ShareData). HasPackets share.slots) s.shares stands.0 slots stands.1) stands.2
+    (All-contains (λ (share : ShareData). HasPackets share.slots) s.shares stands.0 tables stands.1) stands.2
 
 -- places that are the slots of a worker's table have numbers
 pub numbered_places : (shares : List ShareData) → All (λ (share : ShareData). length share.slots ≡ slots) shares →

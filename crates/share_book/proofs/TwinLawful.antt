@@ -1,32 +1,28 @@
 -- Lists that show a table, each worker of which owns its part of them, leave a lawful snapshot,
 -- whatever bases are foreign and whatever guests there are.
-use Rattle.std.proofs.Common.{ℕ, ◌≡◌, ◌+◌, ◌-◌, ◌<◌, ◌≤◌, inl, inr, Bool, true, false, List, [], ◌∷◌, length, get_or, map, Option, None, refl, sym, ap, ◌∙◌, arith}
-use Rattle.std.specs.Prelude.{flat_map, max, min, slice_index, sum_by}
+use Rattle.std.proofs.Common.{ℕ, ◌≡◌, ◌+◌, ◌-◌, ◌<◌, ◌≤◌, inl, inr, Bool, List, [], ◌∷◌, length, get_or, map, None, refl, sym, ap, ◌∙◌, arith}
+use Rattle.std.specs.Prelude.{max, min, slice_index, sum_by}
 use Rattle.std.specs.List.{range_with_len}
 use Rattle.std.proofs.lemmas.Bool.{cases_lt}
 use Rattle.std.proofs.lemmas.Bool.Decides.{nat_tests}
-use Rattle.std.proofs.lemmas.List.{get_or-map, get_or_past, length-map, nil_from_length}
+use Rattle.std.proofs.lemmas.List.{get_or-map, get_or_past, length-map}
 use Rattle.std.proofs.lemmas.List.FromFn.{get_or-map-range_with_len, length-map-range_with_len}
-use Rattle.std.proofs.lemmas.List.Sums.{sum_by-cons}
 use Rattle.commons.specs.Bag.{bag}
 use Rattle.commons.specs.Closing.{closed_of, link_in}
 use Rattle.commons.specs.declared.place.Place.{Place}
 use Rattle.commons.specs.declared.place.Place.TheVariants.{Common, Hand, Held}
-use Rattle.commons.specs.declared.packet.Seg.{Seg}
-use Rattle.commons.specs.Lists.{Lists, IsTable, hand_of, header_of, held_count, holds_of, holds_of_all, in_common, in_hand, nowhere, place_of, weight}
-use Rattle.commons.specs.Packets.{held_in, own_in}
+use Rattle.commons.specs.Lists.{Lists, IsTable, hand_of, header_of, held_count, in_common, in_hand, nowhere, place_of, weight}
+use Rattle.commons.specs.Packets.{own_in}
 use Rattle.mbuf.specs.Members.{Member}
 use Rattle.pool_model.specs.declared.guest.Guest.{Guest}
-use Rattle.pool_model.specs.Guests.{AreOfWorkers, guest_holds, local_table}
+use Rattle.pool_model.specs.Guests.{AreOfWorkers}
 use Rattle.pool_model.proofs.Listed.{sum_by-map}
 use Rattle.snapshot.specs.Closing.{share_of, snapshot_of}
 use Rattle.snapshot.specs.declared.snapshot.ShareData.{ShareData}
 use Rattle.snapshot.specs.declared.snapshot.Snapshot.{Snapshot}
 use Rattle.snapshot.specs.Snapshots.{IsLawful, times_held, times_own}
-use Rattle.snapshot.proofs.Times.{held-is}
 use Rattle.book.specs.TwinSettling.{AreOfPackets}
-use Rattle.book.proofs.Spelled.{IsPlaced, Shows, below, lawful, placed_linked}
-use Rattle.share_book.proofs.Counts.{sums_agree}
+use Rattle.book.proofs.Spelled.{IsPlaced, below, lawful, placed_linked}
 use Rattle.share_book.proofs.ListSums.{hands_summed, headers_summed, in_hands, no_hands}
 
 -- a worker's number, its hand and its headers are those of its place in the lists

@@ -1,5 +1,5 @@
 -- Two pools on the lists, each of which is lawful by itself.
-use Rattle.std.proofs.Common.{ℕ, ◌≡◌, ◌+◌, ◌-◌, ◌<◌, true, false, List, [], ◌∷◌, length, get_or, map, Option, refl, sym, ap, ◌∙◌, subst, arith}
+use Rattle.std.proofs.Common.{ℕ, ◌≡◌, ◌+◌, ◌-◌, ◌<◌, true, false, List, [], length, get_or, map, Option, refl, sym, ap, ◌∙◌, arith}
 use Rattle.std.specs.Prelude.{flat_map, sum_by}
 use Rattle.std.specs.List.{range_with_len}
 use Rattle.std.proofs.lemmas.List.{get_or-map, length-map, nil_from_length}
@@ -9,8 +9,7 @@ use Rattle.commons.specs.Packets.{held_in, own_in}
 use Rattle.mbuf.specs.Foreign.{bases_in}
 use Rattle.mbuf.specs.Members.{Member}
 use Rattle.mbuf.specs.Twins.{TwinMember}
-use Rattle.pool_model.specs.declared.guest.Guest.{Guest}
-use Rattle.pool_model.specs.Guests.{guest_holds, guests_by, local_table}
+use Rattle.pool_model.specs.Guests.{guests_by, local_table}
 use Rattle.pool_model.proofs.Listed.{sum_by-map}
 use Rattle.snapshot.specs.Closing.{share_of}
 use Rattle.snapshot.specs.declared.snapshot.ShareData.{ShareData}

@@ -1,7 +1,6 @@
 -- What a worker of two pools keeps, whatever it does; and where a clone stands.
-use Rattle.std.proofs.Common.{ℕ, ◌≡◌, List, length, get_or, set, get_or-set_same, IsSome, Option, Some, None, Result, Ok, Err, refl, sym, ap, subst, ◌∙◌}
+use Rattle.std.proofs.Common.{ℕ, ◌≡◌, List, length, get_or, get_or-set_same, IsSome, Option, Some, None, Result, Ok, refl, sym, ap, subst, ◌∙◌}
 use Rattle.commons.specs.Calls.{Call}
-use Rattle.commons.specs.declared.limits.Limits.{Limits}
 use Rattle.commons.specs.declared.packet.Seg.{Seg}
 use Rattle.commons.specs.declared.refusal.Refusal.{Refusal}
 use Rattle.commons.specs.declared.refusal.Refusal.TheVariants.{TooShort}

@@ -1,5 +1,5 @@
 -- The views name the worker and its sites, so what the calls do through them is done to these.
-use Rattle.std.proofs.Common.{ℕ, ◌≡◌, ap, subst, rules, sym, ◌∙◌}
+use Rattle.std.proofs.Common.{rules}
 use Rattle.commons.specs.Calls.{calls_of}
 use Rattle.commons.specs.Lists.{side_of}
 use Rattle.mbuf.specs.Acts.{as_reply}

@@ -1,5 +1,4 @@
 -- new lists are tables on which no worker has anything
-use Rattle.std.proofs.Common.{arith}
 use Rattle.std.proofs.lemmas.List.FromFn.{length-map-range_with_len}
 use Rattle.share_book.specs.TwinSites.{new_twin}
 use Rattle.share_book.proofs.TwinMembers.{new_twin_owns}

@@ -1,10 +1,10 @@
 -- What the worker has is its own on both lists, and what it did leaves the others what they have.
-use Rattle.std.proofs.Common.{ℕ, ◌≡◌, ◌-◌, ◌+◌, ◌<◌, [], length, length-set, set, sym, subst, ap, ◌∙◌, rules, arith}
+use Rattle.std.proofs.Common.{ℕ, ◌≡◌, ◌-◌, ◌+◌, ◌<◌, [], length, length-set, sym, subst, ap, ◌∙◌, rules, arith}
 use Rattle.std.proofs.lemmas.List.{get_or_default}
 use Rattle.commons.specs.Beside.{KeepsSides}
 use Rattle.commons.specs.declared.limits.Limits.{Limits}
 use Rattle.commons.specs.Lists.{side_of}
-use Rattle.mbuf.specs.Twins.{OwnTwin, TwinMember}
+use Rattle.mbuf.specs.Twins.{OwnTwin}
 use Rattle.share_book.specs.TwinSites.{TwinLists, twin_at}
 use Rattle.share_book.specs.inside.TwinSite.{lists_of}
 use Rattle.share_book.proofs.TwinMembers.{twins_after}
