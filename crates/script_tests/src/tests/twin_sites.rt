@@ -275,11 +275,7 @@ fn follow<R: Abort>(rt: &R, pools: &mut TwinSite, steps: &[TwinStep], name: &str
 }
 
 /// Two new pools after these steps, settled.
-fn settled_after<R: Abort>(
-    rt: &R,
-    alloc: Global,
-    row: &TwinRow,
-) -> Result<Settled, Refusal> {
+fn settled_after<R: Abort>(rt: &R, alloc: Global, row: &TwinRow) -> Result<Settled, Refusal> {
     let (name, first, second, steps, _) = row;
     let mut pools = TwinSite::make(alloc, first, second)?;
     follow(rt, &mut pools, steps, name);
