@@ -104,21 +104,38 @@ fn threads_of_two_pools_leave_all_free(rt: HostRuntime) -> Result<(), Fail> {
     Ok(())
 }
 
-/// Lets all workers clone, one after another, and leave their clones.
-fn each_clones(first: &Ground, second: &Ground, workers: &mut [WordTwin])
+/// Lets all workers leave a clone, each in a thread of its own.
+fn all_leave_clones<R: Threads + Sync>(
+    rt: &R,
+    first: &Ground,
+    second: &Ground,
+    workers: &mut [WordTwin],
+)
     requires { AreTwinWorkers first.now second.now workers.old }
     ensures { AreTwinWorkers first.now second.now workers.new }
 {
     twins_who_stay_are_all();
-    for worker in workers.iter_mut() {
-        clone(first, second, worker);
-    }
+    thread::for_each_mut(
+        rt,
+        workers,
+        4,
+        &|_, worker: &mut WordTwin|
+            requires first { IsOf first.now worker.now.first }
+            requires second { IsOf second.now worker.now.second }
+            ensures { TwinStays worker.entry.now worker.exit.now }
+        { clone(first, second, worker) },
+    );
 }
 
 /// The statements of two pools whose workers have clones left.
-fn settled_with_clones(alloc: Global, first: &Limits, second: &Limits) -> Result<Settled, Refusal> {
+fn settled_with_clones<R: Threads + Sync>(
+    rt: &R,
+    alloc: Global,
+    first: &Limits,
+    second: &Limits,
+) -> Result<Settled, Refusal> {
     let (one, other, mut workers) = twin_pool::make(alloc, first, second)?;
-    each_clones(&one, &other, workers.as_mut_slice());
+    all_leave_clones(rt, &one, &other, workers.as_mut_slice());
     let (first, second) = twin_pool::settled(alloc, one, other, workers)?;
     Ok(Settled {
         first,
@@ -143,7 +160,7 @@ fn a_clone_on_words_holds_the_buffer_of_the_first_pool(rt: HostRuntime) -> Resul
         buf: 0,
         ..DEFAULTS
     };
-    let settled = settled_with_clones(rt.alloc(), &first, &second)?;
+    let settled = settled_with_clones(&rt, rt.alloc(), &first, &second)?;
     let text = settled_text(rt.alloc(), &settled)?;
     same(
         &rt,
