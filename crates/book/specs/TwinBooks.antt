@@ -20,6 +20,17 @@ IsTwinCause first second BadPool = ¬ (AreTwins first second)
 IsTwinCause first second OutOfMemory = AreTwins first second
 IsTwinCause first second _ = ⊥
 
+-- limits of two pools with the same workers, the second without desks
+pub record AreTwinPools (one two : Limits) : Type 0 where
+  pub twins : AreTwins one two
+  pub no_desks : two.desks ≡ 0
+
+-- why two pools aren't made
+abbrev pub IsTwinMakeCause : Limits → Limits → Refusal → Type 0
+IsTwinMakeCause first second BadPool = ¬ (AreTwinPools first second)
+IsTwinMakeCause first second OutOfMemory = AreTwinPools first second
+IsTwinMakeCause first second _ = ⊥
+
 -- a book without shares
 abbrev pub new_twin_book : Limits → Limits → TwinPlaces
 new_twin_book first second = record { first = new_book first; second = new_book second }

@@ -28,9 +28,10 @@ pub struct Closed {
     pub desks: Seq<Option<Packet>>,
 }
 
-/// The top and the links of a common list, its top last, and the counts of elements with these
-/// places.
-pub(crate) fn words(
+/// The words of a common list, its top last, and of elements with these places: the top, the link
+/// of each element, and its reference count, 1 where nobody holds it. Takes the memory of both
+/// vectors; where one is refused the other goes too.
+pub fn words(
     alloc: Global,
     common: &[u32],
     places: &[Place],

@@ -6,8 +6,6 @@ use Rattle.commons.specs.Closing.{closed_of}
 use Rattle.commons.specs.Lists.{Lists, opening, side_of}
 use Rattle.commons.specs.PlainCalls.{LeadsPlain}
 use Rattle.commons.specs.declared.limits.Limits.{Limits}
-use Rattle.commons.specs.declared.refusal.Refusal.{Refusal}
-use Rattle.commons.specs.declared.refusal.Refusal.TheVariants.{BadPool, OutOfMemory}
 use Rattle.mbuf.specs.Acts.{Reply}
 use Rattle.mbuf.specs.Fresh.{new_elements}
 use Rattle.mbuf.specs.Members.{slots}
@@ -15,7 +13,7 @@ use Rattle.mbuf.specs.Refused.{IfRefused}
 use Rattle.mbuf.specs.Twins.{TwinMember}
 use Rattle.pool_model.specs.Pool.{nobody}
 use Rattle.snapshot.specs.declared.snapshot.Snapshot.{Snapshot}
-use Rattle.book.specs.TwinBooks.{AreTwins}
+pub use Rattle.book.specs.TwinBooks.{AreTwinPools, IsTwinMakeCause}
 use Rattle.book.specs.TwinSettling.{first_of, second_of}
 use Rattle.twin_acts.specs.TwinActs.{AreFreshByAct, PerformsTwin, TwinAsBefore}
 use Rattle.twin_acts.specs.declared.acts.TwinAct.{TwinAct}
@@ -25,17 +23,6 @@ pub record TwinLists : Type 0 where
   pub first : Lists
   pub second : Lists
   pub members : List TwinMember
-
--- limits of two pools with the same workers, the second without desks
-pub record AreTwinPools (l k : Limits) : Type 0 where
-  pub twins : AreTwins l k
-  pub no_desks : k.desks ≡ 0
-
--- why two pools aren't made
-abbrev pub IsTwinMakeCause : Limits → Limits → Refusal → Type 0
-IsTwinMakeCause l k BadPool = ¬ (AreTwinPools l k)
-IsTwinMakeCause l k OutOfMemory = AreTwinPools l k
-IsTwinMakeCause l k _ = ⊥
 
 -- a worker of both pools who has nothing
 abbrev pub new_twin : Limits → Limits → ℕ → TwinMember

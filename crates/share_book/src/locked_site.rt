@@ -10,7 +10,7 @@ ghost use Rattle.mbuf.specs.declared.acts.Act.{Act};
 ghost use Rattle.pool_model.specs.Pool.{Pool};
 ghost use Rattle.share_book.specs.Locked.{AreLeftBy};
 ghost use Rattle.snapshot.specs.Closing.{snapshot_of};
-ghost use Rattle.snapshot.specs.Snapshots.{IsLawful};
+ghost use Rattle.snapshot.specs.Snapshots.{HasSlots, IsLawful};
 
 use crate::site_pool::SitePool;
 use book::share::Share;
@@ -131,6 +131,7 @@ impl<K: OfLimits> LockedPool<K> {
         ensures reached { IfOk result (λ parts. (acts : List (ℕ × Act)) × AreLeftBy acts parts.0 parts.1 parts.2.items) }
         ensures numbers { IfOk result (λ parts. map (λ share. share.number) parts.2.items ≡ range_with_len 1 parts.0.workers) }
         ensures lawful { IfOk result (λ parts. IsLawful (snapshot_of parts.0 parts.1 parts.2.items)) }
+        ensures slots { IfOk result (λ parts. HasSlots (snapshot_of parts.0 parts.1 parts.2.items)) }
         ensures memory { IfErr result (λ refused. refused.0 ≡ Refusal.OutOfMemory) }
         ensures back { IfErr result (λ refused. K.allows refused.1.limits) }
     {

@@ -57,7 +57,7 @@ impl SitePool {
     ghost use Rattle.pool_model.specs.Standing.{GaveOnly, PoolAsBefore};
     ghost use Rattle.pool_model.specs.Statements.{statement_of};
     ghost use Rattle.snapshot.specs.Closing.{closed_pool, snapshot_of};
-    ghost use Rattle.snapshot.specs.Snapshots.{IsLawful, statement_in};
+    ghost use Rattle.snapshot.specs.Snapshots.{HasSlots, IsLawful, statement_in};
 
     /// A new pool: all elements in the common list; its workers have nothing, and its desks are
     /// empty.
@@ -167,6 +167,7 @@ impl SitePool {
         ensures shares { IfOk result (λ parts. parts.2.items ≡ self.members) }
         ensures numbers { IfOk result (λ parts. map (λ share. share.number) parts.2.items ≡ range_with_len 1 self.limits.workers) }
         ensures lawful { IfOk result (λ parts. IsLawful (snapshot_of parts.0 parts.1 parts.2.items)) }
+        ensures slots { IfOk result (λ parts. HasSlots (snapshot_of parts.0 parts.1 parts.2.items)) }
         ensures statement { IfOk result (λ parts. statement_in (snapshot_of parts.0 parts.1 parts.2.items) ≡ statement_of self) }
         ensures memory { IfErr result (λ refused. refused.0 ≡ Refusal.OutOfMemory) }
         ensures back { IfErr result (λ refused. refused.1 ≡ self) }

@@ -27,7 +27,7 @@ use Rattle.pool_model.proofs.Numbered.{AreNumbered, IsNumbered, acts-numbered, f
 use Rattle.pool_model.proofs.PacketsStand.{ArePlaces, HasPackets, IsPlace, acts-packets}
 use Rattle.snapshot.specs.Closing.{share_of, snapshot_in}
 use Rattle.snapshot.specs.declared.snapshot.ShareData.{ShareData}
-use Rattle.snapshot.specs.Snapshots.{elements_of, HasPacket, HasShape, IsLawful, most_places, pool_of, statement_in, times_held, walk, words_met}
+use Rattle.snapshot.specs.Snapshots.{elements_of, HasPacket, HasShape, HasSlots, IsLawful, most_places, pool_of, statement_in, times_held, walk, words_met}
 use Rattle.snapshot.proofs.FollowedLinks.{linked, words_linked}
 use Rattle.snapshot.proofs.Walks.{IsBelow, elements_after, words_and, words_of}
 
@@ -232,6 +232,13 @@ acts_lawful l acts =
     lawful l (after_acts acts (new_pool l))
     (after_acts-balanced acts (new_pool l) (new_pool-balanced l)) (acts-numbered l acts)
     (acts-packets l acts)
+
+-- acts leave each worker its slots
+pub acts_have_slots : (l : Limits) (acts : List (ℕ × Act)) → HasSlots (snapshot_in (after_acts acts (new_pool l)))
+acts_have_slots l acts =
+    let pool = after_acts acts (new_pool l) in
+    all_shares (λ share. length share.slots ≡ slots) pool.members
+    (full_tables 1 pool.members (acts-numbered l acts).numbers)
 
 -- acts leave a pool whose snapshot shows it again
 pub acts_stated : (l : Limits) (acts : List (ℕ × Act)) → let pool =

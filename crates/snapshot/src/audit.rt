@@ -15,9 +15,9 @@ use pool_model::statement::Statement;
 use std::alloc::Global;
 
 /// The statement of a lawful snapshot, else the first of its faults, or `OutOfMemory` where memory
-/// was refused. Each packet that is listed has 1 to 32 segments, each with its data within its
-/// buffer, and its slot is the number of its place in the share of its worker, which has as many
-/// places as it has. Of the reference limit nothing is said.
+/// was refused. A share may have any number of places: each packet that is listed has the number of
+/// its place as its slot. It has 1 to 32 segments, each with its data within its buffer. Of the
+/// reference limit nothing is said.
 pub fn audit(alloc: Global, snapshot: &Snapshot) -> Result<Statement, Fault>
     requires pool { IsPool snapshot.now.limits }
     ensures lawful { IfOk result (λ _. IsLawful snapshot.now) }

@@ -2,8 +2,6 @@
 use Rattle.std.specs.Prelude.{◌≡◌, ◌<◌, ℕ, List, [], All, length, map, slice_index_or}
 use Rattle.std.specs.List.{range_with_len}
 use Rattle.commons.specs.declared.limits.Limits.{Limits}
-use Rattle.commons.specs.declared.refusal.Refusal.{Refusal}
-use Rattle.commons.specs.declared.refusal.Refusal.TheVariants.{BadPool, OutOfMemory}
 use Rattle.ground.specs.Own.{AtRest}
 use Rattle.ground.specs.Seats.{Grounded, Seated, IsOf}
 use Rattle.mbuf.specs.Acts.{Reply}
@@ -14,7 +12,7 @@ use Rattle.mbuf.specs.Refused.{IfRefused}
 use Rattle.mbuf.specs.Twins.{OwnTwin, TwinMember}
 use Rattle.pool_model.specs.Pool.{new_members}
 use Rattle.pool_model.specs.declared.statement.Statement.{Statement}
-use Rattle.book.specs.TwinBooks.{AreTwins}
+pub use Rattle.book.specs.TwinBooks.{AreTwinPools, IsTwinMakeCause}
 use Rattle.stack_lf.specs.Sides.{side_of}
 use Rattle.stack_lf.specs.Tries.{DidOnWords}
 use Rattle.twin_acts.specs.TwinActs.{AreFreshByAct, KeepsTwin, PerformsTwin, TwinAsBefore}
@@ -81,17 +79,6 @@ firsts_of ms = map (λ t. t.first) (twins_of ms)
 
 abbrev pub seconds_of : List TwinManned → List Member
 seconds_of ms = map (λ t. t.second) (twins_of ms)
-
--- limits of two pools with the same workers, the second without desks
-pub record AreTwinPools (l k : Limits) : Type 0 where
-  pub twins : AreTwins l k
-  pub no_desks : k.desks ≡ 0
-
--- why two pools aren't made
-abbrev pub IsTwinMakeCause : Limits → Limits → Refusal → Type 0
-IsTwinMakeCause l k BadPool = ¬ (AreTwinPools l k)
-IsTwinMakeCause l k OutOfMemory = AreTwinPools l k
-IsTwinMakeCause l k _ = ⊥
 
 -- all workers of these grounds, in their order
 pub record AreTwinWorkers (g h : Grounded) (ms : List TwinManned) : Type 0 where

@@ -4,8 +4,8 @@ use Rattle.commons.proofs.Closings.{common_below, counts_by_element}
 use Rattle.share_book.proofs.deskless.left_without_desks.Goals as goal
 
 -- what stands in the common list are elements of the pool, so each has a place for its link
-pub linked-requires-clause-below : goal.linked-requires-clause-below
-linked-requires-clause-below c =
+pub words-requires-clause-below : goal.words-requires-clause-below
+words-requires-clause-below c =
     let s = c.args.site.now in
     let t = c.common.ensures.table in
     rw (c.places.ensures.places, t.elements) (common_below s c.common.result.now t (sym c.common.ensures.common))
@@ -24,11 +24,10 @@ returns c =
       c.new-3.ensures.items,
       c.in_ok-top.ensures.top,
       c.in_ok-top.ensures.links,
-      c.in_ok-counts.ensures,
+      c.in_ok-top.ensures.counts,
       c.common_count.ensures.count,
       c.common.ensures.common,
       c.places.ensures.places,
-      c.places-2.ensures.places,
       counts_by_element s.places s.limits.population population,
       population,
       none,
