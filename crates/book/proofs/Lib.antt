@@ -2,6 +2,7 @@ pub mod AllShares
 pub mod Causes
 pub mod FilledPlaces
 pub mod Filed
+pub mod ListedGuests
 pub mod Lost
 pub mod Shares
 pub mod Spelled

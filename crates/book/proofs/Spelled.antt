@@ -78,7 +78,8 @@ module _ (s : Snapshot) (common : List ℕ) (h : Shows s common) where
       ap (words_from s.limits.population s.limits.population s.links) h.top
       ∙ words_linked s.limits.population s.limits.population s.links common h.linked all_within short
 
-  walk_is : walk s ≡ common
+  -- the walk is the common list
+  pub walk_is : walk s ≡ common
   walk_is =
       ap (elements_of s.limits.population) words_are
       ∙ elements_after s.limits.population common (0 ∷ []) all_within

@@ -1,9 +1,10 @@
 //! The end of two pools: the shares of all their workers are put in a book, and both are settled.
 
-ghost use Rattle.std.specs.Prelude.{◌≡◌, ◌+◌, IfOk, IfErr, map};
+ghost use Rattle.std.specs.Prelude.{◌≡◌, ◌+◌, IfOk, IfErr, map, true};
 ghost use Rattle.std.specs.List.{range_with_len};
+ghost use Rattle.pool_model.specs.Guests.{ListsEachOnceWith, guests_listed, local_statement};
 ghost use Rattle.pool_model.specs.Sound.{ListsOnlyPackets};
-ghost use Rattle.pool_model.specs.Statements.{PlacesEachOnce};
+ghost use Rattle.pool_model.specs.Statements.{ListsEachOnce, PlacesEachOnce};
 ghost use Rattle.snapshot.specs.Snapshots.{ListsItsElements, statement_in};
 ghost use Rattle.book.specs.Books.{IsFull};
 ghost use Rattle.book.specs.TwinBooks.{AreTwins};
@@ -21,9 +22,9 @@ use std::alloc::Global;
 
 /// Settles what two pools within these limits left, when they were closed, with the shares of all
 /// their workers. Each statement lists each element of its pool exactly once: the bases of the
-/// second one's packets are elements of the first, which their workers hold. What is available and
-/// what is in use are the population of each. Each packet that is listed has 1 to 32 segments, each
-/// with its data within its buffer.
+/// packets that the second lists are elements of the first, which their workers hold. What is
+/// available and what is in use are the population of each. Each packet that is listed has 1 to 32
+/// segments, each with its data within its buffer.
 ///
 /// Refused `OutOfMemory` where memory was refused. Nothing is left of the pools then either.
 pub fn settled_twins(
@@ -43,6 +44,8 @@ pub fn settled_twins(
     ensures second_statement { IfOk result (λ s. s.1 ≡ statement_in (second_of second.now closed_second shares.items)) }
     ensures first_once { IfOk result (λ s. ListsItsElements (first_of first.now closed_first shares.items) s.0) }
     ensures second_once { IfOk result (λ s. ListsItsElements (second_of second.now closed_second shares.items) s.1) }
+    // That each lists its elements once is read off both statements alone.
+    ensures each { IfOk result (λ s. ListsEachOnceWith (guests_listed s.1) s.0 × ListsEachOnce (local_statement true s.1)) }
     ensures places { IfOk result (λ s. PlacesEachOnce first.now s.0 × PlacesEachOnce second.now s.1) }
     ensures sound { IfOk result (λ s. ListsOnlyPackets s.0 × ListsOnlyPackets s.1) }
     ensures whole { IfOk result (λ s. (s.0.available + s.0.in_use ≡ first.now.population)
@@ -75,6 +78,7 @@ fn settled_book(
     ensures second_statement { IfOk result (λ s. s.1 ≡ statement_in (second_with book second)) }
     ensures first_once { IfOk result (λ s. ListsItsElements (first_with book first) s.0) }
     ensures second_once { IfOk result (λ s. ListsItsElements (second_with book second) s.1) }
+    ensures each { IfOk result (λ s. ListsEachOnceWith (guests_listed s.1) s.0 × ListsEachOnce (local_statement true s.1)) }
     ensures places { IfOk result (λ s. PlacesEachOnce book.first.limits s.0 × PlacesEachOnce book.second.limits s.1) }
     ensures sound { IfOk result (λ s. ListsOnlyPackets s.0 × ListsOnlyPackets s.1) }
     ensures whole { IfOk result (λ s. (s.0.available + s.0.in_use ≡ book.first.limits.population)

@@ -15,10 +15,10 @@ use pool_model::settled::Settled;
 use pool_model::statement::Statement;
 use std::alloc::{AllocError, Global};
 
-/// The compact text of a statement, with a line feed at its end.
+/// The compact text of one pool's statement, with a line feed at its end.
 ///
 /// Refused `OutOfMemory` where memory was refused.
-pub fn statement_json(alloc: Global, statement: &Statement) -> Result<Vec<u8>, Refusal>
+pub fn pool_json(alloc: Global, statement: &Statement) -> Result<Vec<u8>, Refusal>
     ensures text { IfOk result (λ out. out.items ≡ json_of statement.now ++ codes "\n") }
     // A reader of JSON finds the statement in it.
     ensures reads_back { IfOk result (λ _. read (json_of statement.now) ≡ Some (statement_data statement.now)) }
@@ -53,7 +53,7 @@ fn compact(alloc: Global, statement: &Statement) -> Result<Vec<u8>, AllocError>
 /// statement, and of two an object with `first` and `second`.
 ///
 /// Refused `OutOfMemory` where memory was refused.
-pub fn settled_json(alloc: Global, settled: &Settled) -> Result<Vec<u8>, Refusal>
+pub fn statement_json(alloc: Global, settled: &Settled) -> Result<Vec<u8>, Refusal>
     ensures text { IfOk result (λ out. out.items ≡ json_of_settled settled.now ++ codes "\n") }
     // A reader of JSON finds both statements in it.
     ensures reads_back { IfOk result (λ _. read (json_of_settled settled.now) ≡ Some (settled_data settled.now)) }

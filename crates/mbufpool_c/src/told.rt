@@ -8,9 +8,9 @@ ghost use Rattle.mbufpool_c.specs.Told.{Fills, ShowsCounts, ShowsCountsOf, Tells
 use crate::ending::Ending;
 use crate::ending_handle::EndingHandle;
 use commons::refusal::Refusal;
-use json_text::statement_json;
+use json_text::pool_json;
 use pool_model::statement::Statement;
-use statement_text::statement_text;
+use statement_text::pool_text;
 use std::alloc::Global;
 
 /// How many elements a pool has, how many are available, and how many are in use.
@@ -89,7 +89,7 @@ fn give_text(alloc: Global, statement: &Option<Statement>, buf: &mut [u8]) -> us
 {
     match statement {
         None => 0,
-        Some(statement) => match statement_text(alloc, statement) {
+        Some(statement) => match pool_text(alloc, statement) {
             Ok(text) => give_bytes(text.as_slice(), buf),
             Err(_) => 0,
         },
@@ -124,7 +124,7 @@ fn give_json(alloc: Global, statement: &Option<Statement>, buf: &mut [u8]) -> us
 {
     match statement {
         None => 0,
-        Some(statement) => match statement_json(alloc, statement) {
+        Some(statement) => match pool_json(alloc, statement) {
             Ok(text) => give_bytes(text.as_slice(), buf),
             Err(_) => 0,
         },

@@ -10,7 +10,9 @@ use Rattle.mbuf.specs.declared.acts.Answer.TheVariants as reply
 use Rattle.mbuf.specs.Acts.{Reply}
 use Rattle.mbuf.specs.declared.freed.Freed.{Freed}
 use Rattle.pool_model.specs.declared.statement.Holder.TheVariants.{Worker}
-use Rattle.pool_model.specs.TwinModel.{TwinAct, TwinPool, OnFirst, CloneInto, CountClone, FreeClone, first_statement, new_twin, perform_twin, second_statement}
+use Rattle.pool_model.specs.TwinModel.{TwinPool, first_statement, new_twin_pool, perform_twin, second_statement}
+use Rattle.twin_acts.specs.declared.acts.TwinAct.{TwinAct}
+use Rattle.twin_acts.specs.declared.acts.TwinAct.TheVariants.{OnFirst, CloneInto, CountClone, FreeClone}
 
 -- a first pool of 4 elements and a desk, and a second of 2
 one : Limits
@@ -37,14 +39,14 @@ nothing_back : Freed
 nothing_back = record { back = 0; flushed = 0; put_off = None }
 
 -- the clone's elements are those of the second pool, and the free puts nothing back
-row_replies : replies row (new_twin one two)
+row_replies : replies row (new_twin_pool one two)
     ≡ reply.Allocated 0 0 ∷ reply.Len 100 ∷ reply.Cloned 0 (record { items = 0 ∷ [] }) ∷ reply.Count 2
     ∷ reply.Freed nothing_back ∷ reply.Count 1 ∷ []
 unfolding one two nothing_back bags.bag
 row_replies = refl
 
 -- the first pool lists no packet, and its element is held by the worker
-row_first : let s = first_statement (end row (new_twin one two)) in
+row_first : let s = first_statement (end row (new_twin_pool one two)) in
     (s.available ≡ 3) × (s.common ≡ 1 ∷ 2 ∷ 3 ∷ []) × (s.packets ≡ [])
     × (s.held ≡ record { elem = 0; count = 1; holders = Worker 1 ∷ [] } ∷ [])
 unfolding one two bags.bag
@@ -54,7 +56,7 @@ clone : Seg
 clone = record { elem = 0; base = Some 0; data_off = 128; data_len = 100; buf_len = 2048 }
 
 -- the second lists the clone
-row_second : let s = second_statement (end row (new_twin one two)) in
+row_second : let s = second_statement (end row (new_twin_pool one two)) in
     (s.available ≡ 1) × (s.common ≡ 1 ∷ []) × (s.packets ≡ record { worker = 1; slot = 0; segs = clone ∷ [] } ∷ [])
     × (s.held ≡ record { elem = 0; count = 1; holders = Worker 1 ∷ [] } ∷ [])
 unfolding one two clone bags.bag
@@ -66,7 +68,7 @@ abbrev freed_row : List TwinAct
 freed_row = OnFirst Alloc ∷ OnFirst (Append 0 100) ∷ CloneInto 0 ∷ OnFirst (CountOf 0) ∷ OnFirst (Free 0) ∷ FreeClone 0 ∷ []
 
 -- its base goes back to the first pool and its element to the second
-freed_ends : let twin = end freed_row (new_twin one two) in
+freed_ends : let twin = end freed_row (new_twin_pool one two) in
     (twin.first.shared.common ≡ 0 ∷ 1 ∷ 2 ∷ 3 ∷ []) × (twin.second.shared.common ≡ 0 ∷ 1 ∷ [])
 unfolding one two bags.bag
 freed_ends = (refl, refl)
@@ -80,8 +82,8 @@ abbrev refused_row : List TwinAct
 refused_row = OnFirst Alloc ∷ OnFirst Alloc ∷ OnFirst (Chain 0 1) ∷ CloneInto 0 ∷ OnFirst (CountOf 0) ∷ []
 
 -- it is refused, and the one element is back
-refused_ends : (replies refused_row (new_twin one small)
+refused_ends : (replies refused_row (new_twin_pool one small)
     ≡ reply.Allocated 0 0 ∷ reply.Allocated 1 1 ∷ reply.Chained 2 0 ∷ reply.Refused NoEntries ∷ reply.Count 1 ∷ [])
-    × ((end refused_row (new_twin one small)).second.shared.common ≡ 0 ∷ [])
+    × ((end refused_row (new_twin_pool one small)).second.shared.common ≡ 0 ∷ [])
 unfolding one small bags.bag
 refused_ends = (refl, refl)

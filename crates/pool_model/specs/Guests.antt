@@ -90,19 +90,6 @@ elements_with guests pool =
 
 -- ---- foreign clones, whose bases are guests of another pool
 
--- the bases of a packet, in the order of its segments
-abbrev pub bases_of_packet : List Seg → List ℕ
-bases_of_packet segs = flat_map (λ seg. hold_of seg.base) segs
-
--- of what is in a slot
-abbrev pub bases_in_slot : Option (List Seg) → List ℕ
-bases_in_slot None = []
-bases_in_slot (Some segs) = bases_of_packet segs
-
--- how often the packets of a table use the buffer of an element
-abbrev pub bases_in : List (Option (List Seg)) → ℕ → ℕ
-bases_in table i = sum_by (λ slot. bag (bases_in_slot slot) i) table
-
 -- a worker's guest
 abbrev pub guest_of : ℕ → ℕ → Guest
 guest_of worker e = record { worker = worker; elem = e }
@@ -119,6 +106,11 @@ guests_in_slot worker (Some segs) = guests_for worker segs
 -- and for all its packets
 abbrev pub guests_by : Member → List Guest
 guests_by m = flat_map (guests_in_slot m.number) m.table
+
+-- the guests that a statement of the other pool tells of: for each packet that it lists of a worker,
+-- the bases of its segments
+abbrev pub guests_listed : Statement → List Guest
+guests_listed s = flat_map (λ packet. guests_for packet.worker packet.segs) s.packets
 
 -- ---- the statement of a pool
 

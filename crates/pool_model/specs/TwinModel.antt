@@ -3,12 +3,10 @@
 -- are of the first.
 use Rattle.std.specs.Prelude.{ℕ, ◌+◌, ◌-◌, ◌==◌, ◌&&◌, nat_le, if◌then◌else◌, true, false, flat_map, sum_by, List, [], ◌∷◌, ◌++◌, length, slice_index_or, slice_set, Option, Some, None, Result, Ok, Err}
 use Rattle.commons.specs.Bag.{bag}
-use Rattle.commons.specs.declared.change.Change.{Change}
-use Rattle.commons.specs.declared.change.Change.TheVariants.{Append, Prepend, Adj, Trim}
 use Rattle.commons.specs.declared.limits.Limits.{Limits}
 use Rattle.commons.specs.declared.packet.Seg.{Seg}
 use Rattle.commons.specs.declared.refusal.Refusal.{Refusal}
-use Rattle.commons.specs.declared.refusal.Refusal.TheVariants.{Foreign, NoEntries, NoSuchPacket, RefSpent, StrangerShare, TooShort}
+use Rattle.commons.specs.declared.refusal.Refusal.TheVariants.{NoEntries, NoSuchPacket, RefSpent, StrangerShare, TooShort}
 use Rattle.commons.specs.Packets.{hold_of, own_of_packet}
 use Rattle.mbuf.specs.declared.acts.Act.{Act}
 use Rattle.mbuf.specs.Acts.{Reply, told_count, told_len}
@@ -20,10 +18,13 @@ use Rattle.mbuf.specs.PacketRules.{free_slot, freed_nothing, of_packet, resize}
 use Rattle.mbuf.specs.Sharing.{attached, buffer_of, clonable, first_seg}
 use Rattle.pool_model.specs.CacheModel.{get}
 use Rattle.pool_model.specs.HoldModel.{end_holds}
-use Rattle.pool_model.specs.Guests.{bases_in, bases_of_packet, guests_by, statement_with}
+use Rattle.mbuf.specs.Foreign.{bases_in, bases_of_packet}
+use Rattle.pool_model.specs.Guests.{guests_by, statement_with}
 use Rattle.pool_model.specs.PacketModel.{held_elsewhere, member_act, without_packet}
 use Rattle.pool_model.specs.Pool.{Pool, Shared, held_of, member_at, new_pool, own_by, with_member}
 use Rattle.pool_model.specs.declared.statement.Statement.{Statement}
+use Rattle.twin_acts.specs.declared.acts.TwinAct.{TwinAct}
+use Rattle.twin_acts.specs.declared.acts.TwinAct.TheVariants.{OnFirst, CloneInto, AdjClone, TrimClone, CountClone, FreeClone}
 
 -- the first pool, and the second
 pub record TwinPool : Type 0 where
@@ -31,8 +32,8 @@ pub record TwinPool : Type 0 where
   pub second : Pool
 
 -- new pools
-abbrev pub new_twin : Limits → Limits → TwinPool
-new_twin l k = record { first = new_pool l; second = new_pool k }
+abbrev pub new_twin_pool : Limits → Limits → TwinPool
+new_twin_pool l k = record { first = new_pool l; second = new_pool k }
 
 -- ---- who holds what
 
@@ -177,16 +178,13 @@ free_clone_in twin n slot (Some segs) =
 abbrev pub free_clone : TwinPool → ℕ → ℕ → TwinDone
 free_clone twin n slot = free_clone_in twin n slot (slice_index_or (member_at twin.second n).table slot None)
 
--- a change of a clone's lengths; a clone has no data put before it or after it
+-- a change of a clone's lengths
 abbrev pub resize_told : TwinPool → ℕ → Result ℕ Refusal × Member → TwinDone
 resize_told twin n done =
     (told_len done.0, record twin { second = with_member twin.second n done.1 twin.second.shared })
 
-abbrev pub resize_clone : TwinPool → ℕ → ℕ → Change → TwinDone
-resize_clone twin n slot (Adj len) = resize_told twin n (resize (adjusted len) TooShort slot (member_at twin.second n))
-resize_clone twin n slot (Trim len) = resize_told twin n (resize (trimmed len) TooShort slot (member_at twin.second n))
-resize_clone twin n slot (Append len) = (reply.Refused Foreign, twin)
-resize_clone twin n slot (Prepend len) = (reply.Refused Foreign, twin)
+abbrev pub resize_clone : (List Seg → Option (List Seg)) → TwinPool → ℕ → ℕ → TwinDone
+resize_clone change twin n slot = resize_told twin n (resize change TooShort slot (member_at twin.second n))
 
 -- the count of a clone's first element
 abbrev pub count_clone : TwinPool → ℕ → ℕ → Reply
@@ -196,20 +194,13 @@ count_clone twin n slot =
 
 -- ---- by the worker's number
 
--- What a worker of two pools may do: an act on the first, or one on its foreign clones.
-pub data TwinAct : Type 0 where
-  OnFirst : Act → TwinAct
-  CloneInto : ℕ → TwinAct
-  ResizeClone : ℕ → Change → TwinAct
-  CountClone : ℕ → TwinAct
-  FreeClone : ℕ → TwinAct
-
 abbrev pub twin_act : TwinPool → ℕ → TwinAct → TwinDone
 twin_act twin n (OnFirst act) =
     let done = act_on_first twin n act in
     (done.0, record twin { first = with_member twin.first n done.1 done.2 })
 twin_act twin n (CloneInto source) = clone_into twin n source
-twin_act twin n (ResizeClone slot change) = resize_clone twin n slot change
+twin_act twin n (AdjClone slot len) = resize_clone (adjusted len) twin n slot
+twin_act twin n (TrimClone slot len) = resize_clone (trimmed len) twin n slot
 twin_act twin n (CountClone slot) = (count_clone twin n slot, twin)
 twin_act twin n (FreeClone slot) = free_clone twin n slot
 

@@ -2,4 +2,5 @@ mod CommandsKeep
 mod Losses
 mod NameLemmas
 mod Outcomes
+mod TwinEnds
 mod WordWorkers

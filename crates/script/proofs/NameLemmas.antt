@@ -8,8 +8,9 @@ use Rattle.std.specs.Cmp.{unsigned_Decides}
 use Rattle.std.proofs.lemmas.Bool.Decides.{same_from_decides, Decides-and, Decides-like}
 use Rattle.std.proofs.lemmas.Slice.Eq.{bytes_eq-Decides}
 use Rattle.script.specs.declared.names.Names.{Names}
+use Rattle.script.specs.declared.names.Stand.{Stand}
 use Rattle.mbuf.specs.declared.acts.NewPacket.{NewPacket}
-use Rattle.script.specs.Replay.{named, all_named}
+use Rattle.script.specs.Replay.{Stands, named, all_named}
 use Rattle.script.specs.Stands.{same_key, stands_in}
 
 -- it doesn't matter which of two keys comes first
@@ -22,14 +23,14 @@ same_key-flip a b x y =
     same_from_decides (eqb a b && bytes_eq x y) (eqb b a && bytes_eq y x) (Decides-like (eqb a b && bytes_eq x y) to from one) other
 
 -- what the map says of one key is what the model says of a name
-pub is_named : (old new : Names) (worker : ℕ) (name : Bor (List ℕ)) (slot : Option ℕ) →
-    ((q : ℕ × Bor (List ℕ)) → get same_key new.slots q ≡ cond (same_key (worker, name) q) slot (get same_key old.slots q)) →
-    (w : ℕ) (other : List ℕ) → stands_in new w other ≡ named worker name.now slot (stands_in old) w other
-is_named old new worker name slot updates w other =
-    updates (w, record { ref_ptr = (0, 0); now = other }) ∙ ap (λ b. cond b slot (stands_in old w other)) (same_key-flip worker w name.now other)
+pub is_named : (old new : Names) (worker : ℕ) (name : Bor (List ℕ)) (stand : Option Stand) →
+    ((q : ℕ × Bor (List ℕ)) → get same_key new.stands q ≡ cond (same_key (worker, name) q) stand (get same_key old.stands q)) →
+    (w : ℕ) (other : List ℕ) → stands_in new w other ≡ named worker name.now stand (stands_in old) w other
+is_named old new worker name stand updates w other =
+    updates (w, record { ref_ptr = (0, 0); now = other }) ∙ ap (λ b. cond b stand (stands_in old w other)) (same_key-flip worker w name.now other)
 
 -- where no name or no packet is left, each name stands as it did
-pub all_named-end : (worker : ℕ) (names : List (List ℕ)) (packets : List NewPacket) (stands : ℕ → List ℕ → Option ℕ) → min (length names) (length packets) ≡ 0 → all_named worker names packets stands ≡ stands
+pub all_named-end : (worker : ℕ) (names : List (List ℕ)) (packets : List NewPacket) (stands : Stands) → min (length names) (length packets) ≡ 0 → all_named worker names packets stands ≡ stands
 all_named-end worker [] packets stands e = refl
 all_named-end worker (name ∷ names) [] stands e = refl
 all_named-end worker (name ∷ names) (packet ∷ packets) stands e = absurd (omega (arith, e))

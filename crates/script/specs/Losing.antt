@@ -1,9 +1,9 @@
 -- What is lost with a worker at the end of a run of a script in threads.
-use Rattle.std.specs.Prelude.{ℕ, ◌≡◌, ◌⊎◌, ◌<◌, List, [], ◌∷◌, ◌++◌, All, codes}
+use Rattle.std.specs.Prelude.{ℕ, ◌≡◌, ◌⊎◌, ◌<◌, List, [], ◌∷◌, ◌++◌, All, IsSome, None, codes}
 use Rattle.book.specs.Lost.{AreLostWith, IsOf}
 use Rattle.commons.specs.declared.limits.Limits.{Limits}
 use Rattle.commons.specs.declared.refusal.Refusal.{Refusal}
-use Rattle.commons.specs.declared.refusal.Refusal.TheVariants.{OutOfMemory, StrangerShare}
+use Rattle.commons.specs.declared.refusal.Refusal.TheVariants.{Foreign, OutOfMemory, StrangerShare}
 use Rattle.element_text.specs.Elements.{elements_text}
 use Rattle.ground.specs.Seats.{Grounded}
 use Rattle.mbuf.specs.declared.acts.Act.{Act}
@@ -11,6 +11,7 @@ use Rattle.pool_model.specs.PacketModel.{after_acts}
 use Rattle.pool_model.specs.Pool.{new_pool}
 use Rattle.script.specs.declared.threaded.Grounds.{Grounds}
 use Rattle.script.specs.declared.threaded.Grounds.TheVariants.{Words, Locked}
+use Rattle.script_text.specs.declared.lines.Pools.{Pools}
 use Rattle.script_text.specs.Commands.{Line}
 use Rattle.script_text.specs.Grammar.{IsCause, IsScript}
 use Rattle.snapshot.specs.Lost.{IsAscending}
@@ -46,27 +47,35 @@ pub record Loses (grounds : Grounds) (l : Limits) (worker : ℕ) (elems : List �
   pub reached : grounds ≡ Locked → LosesByActs l worker elems
   pub ended : grounds ≡ Words → LosesOnWords l worker elems
 
--- the worker isn't of the pool, or memory was refused
-abbrev pub IsLostCause : Limits → ℕ → Refusal → Type 0
-IsLostCause l worker cause = ((cause ≡ StrangerShare) × (¬ (IsOf l worker))) ⊎ ((cause ≡ OutOfMemory) × IsOf l worker)
+-- Why it isn't said what is lost: there is a second pool. Or there is none, and the worker isn't of
+-- the pool; or it is, and memory was refused.
+pub data IsLostCause (pools : Pools) (worker : ℕ) (cause : Refusal) : Type 0 where
+  OfTwo : IsSome pools.second → cause ≡ Foreign → IsLostCause pools worker cause
+  Stranger : pools.second ≡ None → ¬ (IsOf pools.first worker) → cause ≡ StrangerShare →
+      IsLostCause pools worker cause
+  NoMemory : pools.second ≡ None → IsOf pools.first worker → cause ≡ OutOfMemory →
+      IsLostCause pools worker cause
 
--- the bytes are a script, and this is lost with the worker at the end of a run on such a ground
+-- the bytes are a script of one pool, and this is lost with the worker at the end of a run on such a
+-- ground
 pub record LosesFrom (grounds : Grounds) (worker : ℕ) (bytes elems : List ℕ) : Type 0 where
-  pub limits : Limits
+  pub pools : Pools
   pub lines : List Line
-  pub script : IsScript bytes limits lines
-  pub loses : Loses grounds limits worker elems
+  pub script : IsScript bytes pools lines
+  pub alone : pools.second ≡ None
+  pub loses : Loses grounds pools.first worker elems
 
--- the bytes are a script of a pool that doesn't have such a worker
-pub record IsStrangerTo (bytes : List ℕ) (worker : ℕ) : Type 0 where
-  pub limits : Limits
+-- the bytes are a script, and this is why it isn't said what is lost with the worker
+pub record IsCauseOfRun (bytes : List ℕ) (worker : ℕ) (cause : Refusal) : Type 0 where
+  pub pools : Pools
   pub lines : List Line
-  pub script : IsScript bytes limits lines
-  pub stranger : ¬ (IsOf limits worker)
+  pub script : IsScript bytes pools lines
+  pub cause_is : IsLostCause pools worker cause
 
--- why it isn't said what is lost: the bytes aren't a script, or the worker isn't of its pool
+-- why it isn't said what is lost: the bytes aren't a script, or it is of two pools, or the worker
+-- isn't of its pool, or memory was refused
 abbrev pub IsCauseWithout : ℕ → List ℕ → Refusal → Type 0
-IsCauseWithout worker bytes cause = IsCause bytes cause ⊎ ((cause ≡ StrangerShare) × IsStrangerTo bytes worker)
+IsCauseWithout worker bytes cause = IsCause bytes cause ⊎ IsCauseOfRun bytes worker cause
 
 -- how many elements are lost, and which, as a line
 abbrev pub lost_text : List ℕ → List ℕ

@@ -1,2 +1,3 @@
 -- How the code keeps a run of the reference model. No public clause cites this module.
+pub mod Crews
 pub mod Standing

@@ -1,21 +1,23 @@
 //! What plays a worker's lines, wherever the worker acts.
 
 ghost use Rattle.std.specs.Prelude.{◌≤◌};
-ghost use Rattle.mbuf.specs.Acts.{HasRoom};
 ghost use Rattle.mbuf.specs.Members.{slots};
 ghost use Rattle.script.specs.Replay.{CommandHasRoom};
+ghost use Rattle.twin_acts.specs.TwinActs.{HasTwinRoom};
 
+use crate::asking::asked;
 use crate::gate::Gate;
 use crate::names::Names;
-use crate::playing::{asked, note};
+use crate::playing::note;
 use commons::refusal::Refusal;
 use crossbeam_utils::Backoff;
-use mbuf::acts::{Act, Answer};
+use mbuf::acts::Answer;
 use mbuf::packets::SLOTS;
 use script_text::commands::{Command, Line};
 use std::alloc::{AllocError, Global};
+use twin_acts::acts::TwinAct;
 
-/// A worker of a pool `P`.
+/// A worker of a pool, or of two, `P`.
 pub(crate) trait Worker<P> {
     /// It is a worker of this pool.
     ghost acts_for: { P → Self → Type 0 };
@@ -24,11 +26,12 @@ pub(crate) trait Worker<P> {
     ghost stays: { Self → Self → Type 0 };
 }
 
-/// A worker that acts on a pool `P`, and answers with room for a bulk of `ROOM` packets.
+/// A worker that acts on `P`, and answers with room for a bulk of `ROOM` packets.
 pub(crate) trait Actor<P, const ROOM: usize>: Worker<P> {
-    /// Lets the worker do this on the pool, beside others.
-    fn act_in(&mut self, pool: &P, act: Act) -> Answer<ROOM>
-        requires room { HasRoom ROOM act }
+    /// Lets the worker do this, beside others. On a pool alone an act on a foreign clone is refused
+    /// `Foreign`.
+    fn act_in(&mut self, pool: &P, act: TwinAct) -> Answer<ROOM>
+        requires room { HasTwinRoom ROOM act }
         requires of { Self.acts_for pool.now self.old }
         ensures of { Self.acts_for pool.now self.new }
         ensures stays { (first : Self) → Self.stays first self.old → Self.stays first self.new };
@@ -63,7 +66,7 @@ pub(crate) fn perform_lines<P, A: Actor<P, 0> + Actor<P, SLOTS>, G: Gate>(
     true
 }
 
-/// Performs a line, which is its worker's `nth`, and keeps which packets its names stand for. The
+/// Performs a line, which is its worker's `nth`, and keeps what its names stand for. The
 /// gate is called before its first try and after its last.
 fn perform_line<'a, P, A: Actor<P, 0> + Actor<P, SLOTS>, G: Gate>(
     pool: &P,
@@ -125,8 +128,8 @@ fn try_line<'a, P, A: Actor<P, ROOM>, const ROOM: usize>(
     ensures stays { (first : A) → A.stays first actor.old → A.stays first actor.new }
 {
     match asked(names, line) {
-        Some(act) => try_act(pool, actor, act, turns),
-        None => Answer::Refused(Refusal::NoSuchPacket),
+        Ok(act) => try_act(pool, actor, act, turns),
+        Err(cause) => Answer::Refused(cause),
     }
 }
 
@@ -135,10 +138,10 @@ fn try_line<'a, P, A: Actor<P, ROOM>, const ROOM: usize>(
 fn try_act<P, A: Actor<P, ROOM>, const ROOM: usize>(
     pool: &P,
     actor: &mut A,
-    act: Act,
+    act: TwinAct,
     turns: u32,
 ) -> Answer<ROOM>
-    requires room { HasRoom ROOM act }
+    requires room { HasTwinRoom ROOM act }
     requires turns { 1 ≤ turns }
     requires of { A.acts_for pool.now actor.old }
     ensures of { A.acts_for pool.now actor.new }

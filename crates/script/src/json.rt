@@ -1,6 +1,6 @@
-//! What a replay prints as JSON: the statement at the end.
+//! What a replay prints as JSON: what the pools come to at the end.
 ghost use Rattle.std.specs.Prelude.{◌≡◌, List, IfErr, IfOk, MatchResult};
-ghost use Rattle.commons.specs.declared.limits.Limits.{Limits};
+ghost use Rattle.script_text.specs.declared.lines.Pools.{Pools};
 ghost use Rattle.script_text.specs.Commands.{Line};
 ghost use Rattle.script_text.specs.Grammar.{IsCause, IsScript};
 ghost use Rattle.script.specs.Printed.{json_for, IsJsonFor};
@@ -12,21 +12,21 @@ use script_text::commands::Script;
 use script_text::parse;
 use std::alloc::Global;
 
-/// All that the replay of a script prints as JSON: the statement that places every element, as one
-/// line, and no reply lines.
+/// All that the replay of a script prints as JSON: the statement that places every element, or with
+/// a second pool an object of both statements, as one line, and no reply lines.
 ///
 /// Refused as `run_replay` is.
 pub fn run_replay_json(alloc: Global, bytes: &[u8]) -> Result<Vec<u8>, Refusal>
-    // What is printed is the JSON of the reference model's statement, for the script that the
-    // bytes are.
+    // What is printed is the JSON of what the reference model's pools come to, for the script
+    // that the bytes are.
     ensures printed { IfOk result (λ out. IsJsonFor bytes.now out.items) }
 
     // Why nothing is printed.
     ensures faults { IfErr result (λ refusal. IsCause bytes.now refusal) }
 
     // Where the bytes are a script, nothing else is printed, and only memory can be missing.
-    ensures only { (limits : Limits) (lines : List Line) → IsScript bytes.now limits lines →
-        MatchResult result (λ out. out.items ≡ json_for limits lines) (λ refusal. refusal ≡ Refusal.OutOfMemory) }
+    ensures only { (pools : Pools) (lines : List Line) → IsScript bytes.now pools lines →
+        MatchResult result (λ out. out.items ≡ json_for pools lines) (λ refusal. refusal ≡ Refusal.OutOfMemory) }
 {
     match parse(alloc, bytes) {
         Ok(script) => end(alloc, &script),
@@ -34,11 +34,11 @@ pub fn run_replay_json(alloc: Global, bytes: &[u8]) -> Result<Vec<u8>, Refusal>
     }
 }
 
-/// The JSON of the statement at a script's end.
+/// The JSON of what a script's pools come to at its end.
 fn end(alloc: Global, script: &Script) -> Result<Vec<u8>, Refusal>
-    ensures text { IfOk result (λ out. out.items ≡ json_for script.now.limits script.now.lines) }
+    ensures text { IfOk result (λ out. out.items ≡ json_for script.now.pools script.now.lines) }
     ensures memory { IfErr result (λ refusal. refusal ≡ Refusal.OutOfMemory) }
 {
-    let (_replies, statement) = replay(alloc, script)?;
-    statement_json(alloc, &statement)
+    let (_replies, settled) = replay(alloc, script)?;
+    statement_json(alloc, &settled)
 }

@@ -1,30 +1,29 @@
 //! All that the replay of a script prints.
 ghost use Rattle.std.specs.Prelude.{◌≡◌, ◌++◌, List, flat_map, IfOk, IfErr, OnOk, MatchResult};
-ghost use Rattle.commons.specs.declared.limits.Limits.{Limits};
 ghost use Rattle.commons.specs.declared.refusal.Refusal.{Refusal};
+ghost use Rattle.script_text.specs.declared.lines.Pools.{Pools};
 ghost use Rattle.script_text.specs.Commands.{Line};
 ghost use Rattle.script_text.specs.Grammar.{IsScript, IsCause};
 ghost use Rattle.script.specs.ReplyText.{reply_line};
 ghost use Rattle.script.specs.Printed.{printed_for, IsPrintedFor};
-ghost use Rattle.script.specs.Replay.{CommandHasRoom, end_of, obey as obeyed, replies_to};
-ghost use Rattle.script.specs.inside.Standing.{fresh_run, run_of};
-ghost use Rattle.statement_text.specs.StatementText.{text_of};
-ghost use Rattle.pool_model.specs.Statements.{statement_of};
+ghost use Rattle.script.specs.Replay.{CommandHasRoom, end_of, obey as obeyed, replies_to, settled_of};
+ghost use Rattle.script.specs.inside.Standing.{fresh_run, run_of, stock_of};
+ghost use Rattle.statement_text.specs.StatementText.{text_of_settled};
 
 use crate::names::Names;
 use crate::playing::{obey, obey_in};
-use crate::texts::{push_reply, statement_text};
+use crate::sites::Sites;
+use crate::texts::push_reply;
 use commons::refusal::Refusal;
 use script_text::commands::{Command, Line, Script};
 use script_text::parse;
-use share_book::ending::settled;
-use share_book::site_pool::SitePool;
+use statement_text::statement_text;
 use std::alloc::Global;
 
 /// All that the replay of a script prints: a line for the reply to each command, and then the
-/// statement that places every element.
+/// statement that places every element, or with a second pool both statements.
 ///
-/// Refused as reading the script is: `BadPool` where no pool can be made within the limits of its
+/// Refused as reading the script is: `BadPool` where no pools can be made within the limits of its
 /// pool line, and `ScriptFault` with the number of the first faulty line, or 0 where the bytes are
 /// more than a script has. `OutOfMemory` comes only where memory was refused.
 pub fn run_replay(alloc: Global, bytes: &[u8]) -> Result<Vec<u8>, Refusal>
@@ -35,8 +34,8 @@ pub fn run_replay(alloc: Global, bytes: &[u8]) -> Result<Vec<u8>, Refusal>
     ensures faults { IfErr result (λ refusal. IsCause bytes.now refusal) }
 
     // Where the bytes are a script, nothing else is printed, and only memory can be missing.
-    ensures only { (limits : Limits) (lines : List Line) → IsScript bytes.now limits lines →
-        MatchResult result (λ out. out.items ≡ printed_for limits lines) (λ refusal. refusal ≡ Refusal.OutOfMemory) }
+    ensures only { (pools : Pools) (lines : List Line) → IsScript bytes.now pools lines →
+        MatchResult result (λ out. out.items ≡ printed_for pools lines) (λ refusal. refusal ≡ Refusal.OutOfMemory) }
 {
     match parse(alloc, bytes) {
         Ok(script) => printed(alloc, &script),
@@ -46,34 +45,34 @@ pub fn run_replay(alloc: Global, bytes: &[u8]) -> Result<Vec<u8>, Refusal>
 
 /// What is printed for a script.
 fn printed(alloc: Global, script: &Script) -> Result<Vec<u8>, Refusal>
-    ensures text { IfOk result (λ out. out.items ≡ printed_for script.now.limits script.now.lines) }
+    ensures text { IfOk result (λ out. out.items ≡ printed_for script.now.pools script.now.lines) }
     ensures memory { IfErr result (λ refusal. refusal ≡ Refusal.OutOfMemory) }
 {
-    let pool = SitePool::make(alloc, &script.limits)?;
-    printed_on(alloc, pool, script.lines.as_slice())
+    let sites = Sites::make(alloc, &script.pools)?;
+    printed_on(alloc, sites, script.lines.as_slice())
 }
 
-/// What is printed for these lines on a pool in which no name stands for a packet, which they end.
-fn printed_on(alloc: Global, mut pool: SitePool, lines: &[Line]) -> Result<Vec<u8>, Refusal>
-    ensures text { IfOk result (λ out. out.items ≡ flat_map (λ p. reply_line p.0 p.1) (replies_to lines.now (fresh_run pool)) ++ text_of (statement_of (end_of lines.now (fresh_run pool)).pool)) }
+/// What is printed for these lines on pools in which no name stands for anything, which they end.
+fn printed_on(alloc: Global, mut sites: Sites, lines: &[Line]) -> Result<Vec<u8>, Refusal>
+    ensures text { IfOk result (λ out. out.items ≡ flat_map (λ p. reply_line p.0 p.1) (replies_to lines.now (fresh_run sites)) ++ text_of_settled (settled_of (end_of lines.now (fresh_run sites)).stock)) }
     ensures memory { IfErr result (λ refusal. refusal ≡ Refusal.OutOfMemory) }
 {
-    match reply_lines(alloc, &mut pool, lines) {
-        Ok(out) => printed_end(alloc, pool, out),
+    match reply_lines(alloc, &mut sites, lines) {
+        Ok(out) => printed_end(alloc, sites, out),
         Err(cause) => {
-            pool.lose();
+            sites.lose();
             Err(cause)
         }
     }
 }
 
-/// What was printed so far, and after it the statement of a pool, which it ends.
-fn printed_end(alloc: Global, pool: SitePool, mut out: Vec<u8>) -> Result<Vec<u8>, Refusal>
-    ensures text { IfOk result (λ all. all.items ≡ out.items ++ text_of (statement_of pool)) }
+/// What was printed so far, and after it what the pools come to, which it ends.
+fn printed_end(alloc: Global, sites: Sites, mut out: Vec<u8>) -> Result<Vec<u8>, Refusal>
+    ensures text { IfOk result (λ all. all.items ≡ out.items ++ text_of_settled (settled_of (stock_of sites))) }
     ensures memory { IfErr result (λ refusal. refusal ≡ Refusal.OutOfMemory) }
 {
-    let statement = settled(alloc, pool)?;
-    let text = statement_text(alloc, &statement)?;
+    let settled = sites.settled(alloc)?;
+    let text = statement_text(alloc, &settled)?;
     match out.extend_from_slice(&text) {
         Ok(()) => Ok(out),
         Err(_) => Err(Refusal::OutOfMemory),
@@ -81,15 +80,15 @@ fn printed_end(alloc: Global, pool: SitePool, mut out: Vec<u8>) -> Result<Vec<u8
 }
 
 /// The lines that answer the commands, each written as its reply comes.
-fn reply_lines(alloc: Global, pool: &mut SitePool, lines: &[Line]) -> Result<Vec<u8>, Refusal>
-    ensures lines { IfOk result (λ out. out.items ≡ flat_map (λ p. reply_line p.0 p.1) (replies_to lines.now (fresh_run pool.old))) }
-    ensures pool { OnOk result (pool.new ≡ (end_of lines.now (fresh_run pool.old)).pool) }
+fn reply_lines(alloc: Global, sites: &mut Sites, lines: &[Line]) -> Result<Vec<u8>, Refusal>
+    ensures lines { IfOk result (λ out. out.items ≡ flat_map (λ p. reply_line p.0 p.1) (replies_to lines.now (fresh_run sites.old))) }
+    ensures sites { OnOk result (stock_of sites.new ≡ (end_of lines.now (fresh_run sites.old)).stock) }
     ensures memory { IfErr result (λ refusal. refusal ≡ Refusal.OutOfMemory) }
 {
     let mut names = Names::new(alloc);
     let mut out = Vec::new(alloc);
     for line in lines {
-        answer(&mut out, pool, &mut names, line)?;
+        answer(&mut out, sites, &mut names, line)?;
     }
     Ok(out)
 }
@@ -97,32 +96,32 @@ fn reply_lines(alloc: Global, pool: &mut SitePool, lines: &[Line]) -> Result<Vec
 /// Performs one line, and appends the line that answers it.
 fn answer<'a>(
     out: &mut Vec<u8>,
-    pool: &mut SitePool,
+    sites: &mut Sites,
     names: &mut Names<'a>,
     line: &'a Line,
 ) -> Result<(), Refusal>
-    ensures text { OnOk result (out.new.items ≡ out.old.items ++ reply_line line.now.number (obeyed line.now.worker line.now.command (run_of pool.old names.old)).0) }
-    ensures run { OnOk result (run_of pool.new names.new ≡ (obeyed line.now.worker line.now.command (run_of pool.old names.old)).1) }
+    ensures text { OnOk result (out.new.items ≡ out.old.items ++ reply_line line.now.number (obeyed line.now.worker line.now.command (run_of sites.old names.old)).0) }
+    ensures run { OnOk result (run_of sites.new names.new ≡ (obeyed line.now.worker line.now.command (run_of sites.old names.old)).1) }
     ensures memory { IfErr result (λ refusal. refusal ≡ Refusal.OutOfMemory) }
 {
     match &line.command {
-        Command::Bulk(_) => answer_any(out, pool, names, line),
-        _ => answer_small(out, pool, names, line),
+        Command::Bulk(_) => answer_any(out, sites, names, line),
+        _ => answer_small(out, sites, names, line),
     }
 }
 
 /// Performs one line with room for a bulk in the answer, and appends the line that answers it.
 fn answer_any<'a>(
     out: &mut Vec<u8>,
-    pool: &mut SitePool,
+    sites: &mut Sites,
     names: &mut Names<'a>,
     line: &'a Line,
 ) -> Result<(), Refusal>
-    ensures text { OnOk result (out.new.items ≡ out.old.items ++ reply_line line.now.number (obeyed line.now.worker line.now.command (run_of pool.old names.old)).0) }
-    ensures run { OnOk result (run_of pool.new names.new ≡ (obeyed line.now.worker line.now.command (run_of pool.old names.old)).1) }
+    ensures text { OnOk result (out.new.items ≡ out.old.items ++ reply_line line.now.number (obeyed line.now.worker line.now.command (run_of sites.old names.old)).0) }
+    ensures run { OnOk result (run_of sites.new names.new ≡ (obeyed line.now.worker line.now.command (run_of sites.old names.old)).1) }
     ensures memory { IfErr result (λ refusal. refusal ≡ Refusal.OutOfMemory) }
 {
-    match obey(pool, names, line) {
+    match obey(sites, names, line) {
         Ok(reply) => push_reply(out, line.number, &reply),
         Err(_) => Err(Refusal::OutOfMemory),
     }
@@ -132,16 +131,16 @@ fn answer_any<'a>(
 /// line that answers it.
 fn answer_small<'a>(
     out: &mut Vec<u8>,
-    pool: &mut SitePool,
+    sites: &mut Sites,
     names: &mut Names<'a>,
     line: &'a Line,
 ) -> Result<(), Refusal>
     requires { CommandHasRoom 0 line.now.command }
-    ensures text { OnOk result (out.new.items ≡ out.old.items ++ reply_line line.now.number (obeyed line.now.worker line.now.command (run_of pool.old names.old)).0) }
-    ensures run { OnOk result (run_of pool.new names.new ≡ (obeyed line.now.worker line.now.command (run_of pool.old names.old)).1) }
+    ensures text { OnOk result (out.new.items ≡ out.old.items ++ reply_line line.now.number (obeyed line.now.worker line.now.command (run_of sites.old names.old)).0) }
+    ensures run { OnOk result (run_of sites.new names.new ≡ (obeyed line.now.worker line.now.command (run_of sites.old names.old)).1) }
     ensures memory { IfErr result (λ refusal. refusal ≡ Refusal.OutOfMemory) }
 {
-    match obey_in::<0>(pool, names, line) {
+    match obey_in::<0>(sites, names, line) {
         Ok(reply) => push_reply(out, line.number, &reply),
         Err(_) => Err(Refusal::OutOfMemory),
     }

@@ -1,22 +1,26 @@
 //! Scripts whose workers act in threads of their own.
 
-ghost use Rattle.std.specs.Prelude.{◌≡◌, ◌≤◌, IfOk, IfErr};
+ghost use Rattle.std.specs.Prelude.{◌≡◌, ◌≤◌, None, Some, IfOk, IfErr};
+ghost use Rattle.commons.specs.Bounds.{IsPool};
 ghost use Rattle.pool_model.specs.Sound.{ListsSoundPackets};
 ghost use Rattle.pool_model.specs.Statements.{ListsEachOnce, PlacesEachOnce};
 ghost use Rattle.script.specs.Losing.{IsLostCause, Loses};
-ghost use Rattle.script.specs.Running.{EndsByActs, EndsOnWords};
+ghost use Rattle.script.specs.Running.{EndsByActs, EndsOnWords, LeftOnWords, ReachedByActs};
+ghost use Rattle.script.specs.Settling.{ListsEachPoolOnce, ListsPacketsInEach, ListsSoundInEach, PlacesInEach};
 ghost use Rattle.word_book.specs.Listing.{ListsPackets};
 
 use crate::gate::Gate;
-use crate::{on_words, under_lock};
+use crate::{on_words, twins_on_words, twins_under_lock, under_lock};
+use commons::limits::Limits;
 use commons::refusal::Refusal;
+use pool_model::settled::Settled;
 use pool_model::statement::Statement;
-use script_text::commands::Script;
+use script_text::commands::{Line, Script};
 use std::alloc::Global;
 use std::sync::Wait;
 use std::thread::Threads;
 
-/// What the threads' pool rests on.
+/// What the threads' pools rest on.
 #[derive(Clone, Copy, PartialEq, Eq, Debug)]
 pub enum Grounds {
     /// Words that all threads read and write at once, each step of which is atomic.
@@ -26,16 +30,16 @@ pub enum Grounds {
 }
 
 /// Plays a script with a thread for each worker, which performs that worker's lines in order;
-/// closes the pool once all have ended, and settles it with the shares of all workers. A line that
-/// is refused `Contended`, `DeskTaken` or `DeskEmpty` is tried again, up to `turns` tries in all,
-/// with a growing pause between; then the refusal stands. The gate is called around each line,
-/// outside any lock.
+/// closes the pool, or both pools, once all have ended, and settles with the shares of all workers.
+/// A line that is refused `Contended`, `DeskTaken` or `DeskEmpty` is tried again, up to `turns` tries
+/// in all, with a growing pause between; then the refusal stands. The gate is called around each
+/// line, outside any lock.
 ///
-/// Whatever the threads' order was, the statement is, under the lock, that of the reference model
-/// after some acts, one after another, on a new pool of the script's limits; on words, where no
-/// act waits for another, it is what a ground of these limits left, closed by the seats of all its
-/// workers, and their caches and packets. That the acts are the script's lines is shown only by
-/// tests.
+/// Whatever the threads' order was, what the pools come to is, under the lock, what the reference
+/// model's come to after some acts, one after another, on new pools of the script's limits; on words,
+/// where no act waits for another, it is what grounds of these limits left, closed by the seats of
+/// all their workers, and their caches and packets. That the acts are the script's lines is shown
+/// only by tests.
 ///
 /// Refused `OutOfMemory` where memory was refused, or under the lock a thread, and for no other
 /// cause; the other threads have ended then. On words the lines of a thread that can't be started
@@ -47,32 +51,87 @@ pub fn run_threads<G: Gate, R: Threads + Wait + Sync>(
     grounds: Grounds,
     turns: u32,
     gate: &G,
-) -> Result<Statement, Refusal>
+) -> Result<Settled, Refusal>
     requires turns { 1 ≤ turns }
-    ensures reached { grounds ≡ Grounds.Locked → IfOk result (EndsByActs script.now.limits) }
-    ensures ended { grounds ≡ Grounds.Words → IfOk result (EndsOnWords script.now.limits) }
+    ensures reached { grounds ≡ Grounds.Locked → IfOk result (λ s. ReachedByActs script.now.pools s) }
+    ensures ended { grounds ≡ Grounds.Words → IfOk result (λ s. LeftOnWords script.now.pools s) }
     // Above both: no element is missing, and none is anywhere twice; no two packets stand in one
     // place; and each packet has 1 to 32 segments, each with its data within its buffer.
-    ensures once { IfOk result (λ s. ListsEachOnce s) }
-    ensures places { IfOk result (λ s. PlacesEachOnce script.now.limits s) }
-    ensures packets { IfOk result (λ s. ListsPackets script.now.limits s) }
-    // And under the lock each packet is sound: its buffers are the pool's, and a base is direct.
-    ensures sound { grounds ≡ Grounds.Locked → IfOk result (λ s. ListsSoundPackets script.now.limits s) }
+    ensures once { IfOk result (λ s. ListsEachPoolOnce script.now.pools s) }
+    ensures places { IfOk result (λ s. PlacesInEach script.now.pools s) }
+    ensures packets { IfOk result (λ s. ListsPacketsInEach script.now.pools s) }
+    // And under the lock each packet of a pool alone is sound: its buffers are the pool's, and a
+    // base is direct.
+    ensures sound { grounds ≡ Grounds.Locked → IfOk result (λ s. ListsSoundInEach script.now.pools s) }
     ensures memory { IfErr result (λ e. e ≡ Refusal.OutOfMemory) }
 {
-    match grounds {
-        Grounds::Words => on_words::run(rt, alloc, script, turns, gate),
-        Grounds::Locked => under_lock::run(rt, alloc, script, turns, gate),
+    let first = &script.pools.first;
+    let lines = script.lines.as_slice();
+    match &script.pools.second {
+        None => {
+            let statement = run_one(rt, alloc, first, lines, grounds, turns, gate)?;
+            Ok(Settled {
+                first: statement,
+                second: None,
+            })
+        }
+        Some(second) => match grounds {
+            Grounds::Words => {
+                let ended = twins_on_words::run(rt, alloc, first, second, lines, turns, gate)?;
+                Ok(of_two(ended))
+            }
+            Grounds::Locked => {
+                let ended = twins_under_lock::run(rt, alloc, first, second, lines, turns, gate)?;
+                Ok(of_two(ended))
+            }
+        },
     }
 }
 
-/// Plays a script as `run_threads` does, and ends the worker `lose` at the end, as one who died:
-/// its cache and its packets are lost, and on words its seat too, but that of an only worker, which
-/// closes the ground. Answers which elements are lost then, ascending: exactly those of which this
-/// worker alone knows, in its hand or held by it and by nobody else.
+/// What two pools come to, by their statements.
+fn of_two(statements: (Statement, Statement)) -> Settled
+    ensures { result ≡ record { first = statements.0; second = Some statements.1 } }
+{
+    let (first, second) = statements;
+    Settled {
+        first,
+        second: Some(second),
+    }
+}
+
+/// Plays lines on a pool alone.
+fn run_one<G: Gate, R: Threads + Wait + Sync>(
+    rt: &R,
+    alloc: Global,
+    limits: &Limits,
+    lines: &[Line],
+    grounds: Grounds,
+    turns: u32,
+    gate: &G,
+) -> Result<Statement, Refusal>
+    requires turns { 1 ≤ turns }
+    requires pool { IsPool limits.now }
+    ensures reached { grounds ≡ Grounds.Locked → IfOk result (EndsByActs limits.now) }
+    ensures ended { grounds ≡ Grounds.Words → IfOk result (EndsOnWords limits.now) }
+    ensures once { IfOk result (λ s. ListsEachOnce s) }
+    ensures places { IfOk result (λ s. PlacesEachOnce limits.now s) }
+    ensures packets { IfOk result (λ s. ListsPackets limits.now s) }
+    ensures sound { grounds ≡ Grounds.Locked → IfOk result (λ s. ListsSoundPackets limits.now s) }
+    ensures memory { IfErr result (λ e. e ≡ Refusal.OutOfMemory) }
+{
+    match grounds {
+        Grounds::Words => on_words::run(rt, alloc, limits, lines, turns, gate),
+        Grounds::Locked => under_lock::run(rt, alloc, limits, lines, turns, gate),
+    }
+}
+
+/// Plays a script of one pool as `run_threads` does, and ends the worker `lose` at the end, as one
+/// who died: its cache and its packets are lost, and on words its seat too, but that of an only
+/// worker, which closes the ground. Answers which elements are lost then, ascending: exactly those of
+/// which this worker alone knows, in its hand or held by it and by nobody else.
 ///
-/// Refused `StrangerShare` where `lose` isn't a worker of the pool, and `OutOfMemory` as
-/// `run_threads` is.
+/// Refused `Foreign` where the script has a second pool, else `StrangerShare` where `lose` isn't a
+/// worker of the pool, and `OutOfMemory` as `run_threads` is.
 pub fn run_lost<G: Gate, R: Threads + Wait + Sync>(
     rt: &R,
     alloc: Global,
@@ -83,14 +142,20 @@ pub fn run_lost<G: Gate, R: Threads + Wait + Sync>(
     gate: &G,
 ) -> Result<Vec<u32>, Refusal>
     requires turns { 1 ≤ turns }
-    ensures lost { IfOk result (λ elems. Loses grounds script.now.limits lose elems.items) }
-    ensures cause { IfErr result (IsLostCause script.now.limits lose) }
+    ensures lost { IfOk result (λ elems. Loses grounds script.now.pools.first lose elems.items) }
+    ensures alone { IfOk result (λ _. script.now.pools.second ≡ None) }
+    ensures cause { IfErr result (IsLostCause script.now.pools lose) }
 {
-    if lose == 0 || u64::from(lose) > script.limits.workers {
+    let first = &script.pools.first;
+    let lines = script.lines.as_slice();
+    if script.pools.second.is_some() {
+        return Err(Refusal::Foreign);
+    }
+    if lose == 0 || u64::from(lose) > first.workers {
         return Err(Refusal::StrangerShare);
     }
     match grounds {
-        Grounds::Words => on_words::run_lost(rt, alloc, script, turns, lose, gate),
-        Grounds::Locked => under_lock::run_lost(rt, alloc, script, turns, lose, gate),
+        Grounds::Words => on_words::run_lost(rt, alloc, first, lines, turns, lose, gate),
+        Grounds::Locked => under_lock::run_lost(rt, alloc, first, lines, turns, lose, gate),
     }
 }

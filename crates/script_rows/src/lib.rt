@@ -9,6 +9,7 @@ pub mod packets;
 pub mod parts;
 pub mod pools;
 pub mod sharing;
+pub mod twins;
 
 use parts::Part;
 

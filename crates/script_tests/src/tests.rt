@@ -6,16 +6,18 @@ use commons::refusal::Refusal;
 use commons::seq::Seq;
 use mbuf::acts::{Act, Reply};
 use mbuf::freed::Freed;
+use pool_model::settled::Settled;
 use pool_model::statement::{Held, Holder, PlacedPacket, Statement};
 use script::texts::push_reply;
 use script::{replay, run_replay, run_replay_json, statement_json, statement_text};
 use script_rows::parts::{Part, written};
 use script_rows::pools::{FIRST_RUN, FIRST_RUN_TEXT};
-use script_rows::{BuiltRow, Row, built, caches, desks, packets, pools, sharing};
+use script_rows::{BuiltRow, Row, built, caches, desks, packets, pools, sharing, twins as foreign};
 use script_text::{parse, parse_steps};
 use serde_json::Value;
 use share_book::ending::settled;
 use share_book::site_pool::SitePool;
+use statement_text::pool_text;
 use std::alloc::Global;
 use std::fmt::Debug;
 use std::process::Abort;
@@ -29,6 +31,7 @@ mod json;
 mod long;
 mod lost;
 mod memory;
+mod random;
 mod readings;
 mod replies;
 mod settling;
@@ -52,8 +55,14 @@ type TextsRow = (&'static str, &'static [(&'static str, Option<Refusal>)]);
 /// A name, the parts of a text, its length in bytes, and its refusal; a script has none.
 type LongRow = (&'static str, &'static [Part], usize, Option<Refusal>);
 
-/// A name, a script, its limits, and what its lines say.
-type ReadRow = (&'static str, &'static str, Limits, &'static str);
+/// A name, a script, its limits, those of its second pool, and what its lines say.
+type ReadRow = (
+    &'static str,
+    &'static str,
+    Limits,
+    Option<Limits>,
+    &'static str,
+);
 
 /// A name, a pool's limits, and what is done with it.
 type PoolRow = (&'static str, Limits, &'static [Step]);
@@ -94,7 +103,7 @@ struct Places {
 /// A name, a statement, and its text.
 type StatementRow = (&'static str, Places, &'static str);
 
-/// A name, a script, the JSON of the statement of its end without its line end, and the population
+/// A name, a script, the JSON of its end without its line end, and the population of the first pool
 /// in it.
 type JsonRow = (&'static str, &'static str, &'static str, u64);
 
@@ -124,9 +133,15 @@ fn assert_given<R: Abort>(rt: &R, given: Result<Vec<u8>, Refusal>, wanted: &str,
     }
 }
 
-/// The text of a statement.
+/// The text of a pool's statement.
 fn text_of(alloc: Global, statement: &Statement) -> Result<String, Fail> {
-    let bytes = statement_text(alloc, statement)?;
+    let bytes = pool_text(alloc, statement)?;
+    Ok(String::from_utf8(bytes)?)
+}
+
+/// The text of what a script's pools come to.
+fn text_of_end(alloc: Global, settled: &Settled) -> Result<String, Fail> {
+    let bytes = statement_text(alloc, settled)?;
     Ok(String::from_utf8(bytes)?)
 }
 
@@ -141,8 +156,8 @@ fn replayed(alloc: Global, script: &str) -> Result<String, Fail> {
     Ok(String::from_utf8(bytes)?)
 }
 
-/// The replies of a script, each with the number of its line, and the statement of its end.
-fn played(alloc: Global, script: &str) -> Result<(Vec<(u32, Reply)>, Statement), Fail> {
+/// The replies of a script, each with the number of its line, and what its pools come to.
+fn played(alloc: Global, script: &str) -> Result<(Vec<(u32, Reply)>, Settled), Fail> {
     let script = parse(alloc, script.as_bytes())?;
     Ok(replay(alloc, &script)?)
 }
@@ -156,11 +171,11 @@ fn text_of_replies(alloc: Global, replies: &[(u32, Reply)]) -> Result<String, Fa
     Ok(String::from_utf8(text)?)
 }
 
-/// What the replies of a script and the statement of its end print, each by its own call.
+/// What the replies of a script and its end print, each by its own call.
 fn replayed_in_parts(alloc: Global, script: &str) -> Result<String, Fail> {
-    let (replies, statement) = played(alloc, script)?;
+    let (replies, settled) = played(alloc, script)?;
     let mut text = text_of_replies(alloc, replies.as_slice())?;
-    text.push_str(text_of(alloc, &statement)?.as_str())?;
+    text.push_str(text_of_end(alloc, &settled)?.as_str())?;
     Ok(text)
 }
 
@@ -196,7 +211,8 @@ fn each_script_prints_its_text(rt: HostRuntime) -> Result<(), Fail> {
     print_texts(&rt, caches::ROWS)?;
     print_texts(&rt, packets::ROWS)?;
     print_texts(&rt, sharing::ROWS)?;
-    print_texts(&rt, desks::ROWS)
+    print_texts(&rt, desks::ROWS)?;
+    print_texts(&rt, foreign::ROWS)
 }
 
 fn print_long_texts<R: Abort + AllocGlobal>(rt: &R, rows: &[BuiltRow]) -> Result<(), Fail> {
@@ -236,7 +252,10 @@ const MOST_PLAYED: u64 = 100_000;
 /// Whether a text is a script of a pool that is too large to be played here.
 fn is_of_a_large_pool(alloc: Global, text: &str) -> bool {
     match parse(alloc, text.as_bytes()) {
-        Ok(script) => script.limits.population > MOST_PLAYED,
+        Ok(script) => {
+            let second = script.pools.second.map_or(0, |limits| limits.population);
+            script.pools.first.population.max(second) > MOST_PLAYED
+        }
         Err(_) => false,
     }
 }
@@ -286,13 +305,13 @@ fn each_long_text_is_a_script_or_refused(rt: HostRuntime) -> Result<(), Fail> {
 }
 
 fn read_scripts<R: Abort + AllocGlobal>(rt: &R, rows: &[ReadRow]) -> Result<(), Fail> {
-    for (name, text, limits, lines) in rows {
+    for (name, text, limits, second, lines) in rows {
         let script = parse(rt.alloc(), text.as_bytes())?;
         let shown = shown_lines(rt.alloc(), script.lines.as_slice())?;
         same(
             rt,
-            &(script.limits, shown.as_str()),
-            &(*limits, *lines),
+            &(script.pools.first, script.pools.second, shown.as_str()),
+            &(*limits, *second, *lines),
             name,
         );
     }
@@ -306,13 +325,13 @@ fn each_script_is_read_as_its_limits_and_lines(rt: HostRuntime) -> Result<(), Fa
 
 /// The steps of a script are compared as their `Debug` shows them.
 fn read_steps<R: Abort + AllocGlobal>(rt: &R, rows: &[ReadRow]) -> Result<(), Fail> {
-    for (name, text, limits, lines) in rows {
+    for (name, text, limits, second, lines) in rows {
         let script = parse_steps(rt.alloc(), text.as_bytes())?;
         let shown = shown_steps(rt.alloc(), script.lines.as_slice())?;
         same(
             rt,
-            &(script.limits, shown.as_str()),
-            &(*limits, *lines),
+            &(script.pools.first, script.pools.second, shown.as_str()),
+            &(*limits, *second, *lines),
             name,
         );
     }
@@ -517,9 +536,10 @@ fn each_statement_prints_its_text(rt: HostRuntime) -> Result<(), Fail> {
     print_statements(&rt, statements::ROWS)
 }
 
-/// The population that a reader of JSON finds.
+/// The population that a reader of JSON finds, of two pools that of the first.
 fn population_in(alloc: Global, json: &str) -> Result<Option<u64>, Fail> {
-    let statement = Value::from_str(alloc, json)?;
+    let settled = Value::from_str(alloc, json)?;
+    let statement = settled.get("first").unwrap_or(&settled);
     Ok(statement.get("population").and_then(Value::as_u64))
 }
 
@@ -529,10 +549,10 @@ fn json_of(alloc: Global, script: &str) -> Result<String, Fail> {
     Ok(String::from_utf8(bytes)?)
 }
 
-/// The statement of a script's end as JSON.
+/// What a script's pools come to as JSON.
 fn json_of_end(alloc: Global, script: &str) -> Result<String, Fail> {
-    let (_replies, statement) = played(alloc, script)?;
-    let bytes = statement_json(alloc, &statement)?;
+    let (_replies, settled) = played(alloc, script)?;
+    let bytes = statement_json(alloc, &settled)?;
     Ok(String::from_utf8(bytes)?)
 }
 
@@ -642,9 +662,9 @@ fn assert_first_replies(rt: &impl Abort, replies: &[(u32, Reply)]) {
 
 #[test]
 fn a_replay_answers_each_command_and_places_each_element(rt: HostRuntime) -> Result<(), Fail> {
-    let (replies, statement) = played(rt.alloc(), FIRST_RUN)?;
+    let (replies, settled) = played(rt.alloc(), FIRST_RUN)?;
     assert_first_replies(&rt, replies.as_slice());
-    assert_first_end(&rt, &statement);
+    assert_first_end(&rt, &settled.first);
     Ok(())
 }
 

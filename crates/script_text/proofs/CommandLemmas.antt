@@ -8,7 +8,7 @@ use Rattle.commons.specs.declared.change.Change.TheVariants.{Append, Prepend, Ad
 use Rattle.script_text.specs.declared.command_line.Verb.{Verb}
 use Rattle.script_text.specs.declared.command_line.Verb.TheVariants as verbs
 use Rattle.script_text.specs.declared.commands.Command.{Command}
-use Rattle.script_text.specs.declared.commands.Command.TheVariants.{Alloc, Bulk, Free, Resize, Chain, Attach, Detach, Clone, Count, Offer, Take, Flush}
+use Rattle.script_text.specs.declared.commands.Command.TheVariants.{Alloc, Bulk, Free, Resize, Chain, Attach, Detach, Clone, CloneTo, Count, Offer, Take, Flush}
 use Rattle.script_text.specs.Commands.{names_made}
 use Rattle.script_text.specs.Names.{IsName}
 use Rattle.script_text.specs.Numbers.{IsNumber}
@@ -209,6 +209,9 @@ command_of_verb verbs.Detach words command e =
 command_of_verb verbs.Clone words command e =
     both_named_is verbs.Clone (λ packet made. Clone packet made) (λ all packet made h. h) words
     command e
+command_of_verb verbs.CloneTo words command e =
+    both_named_is verbs.CloneTo (λ packet made. CloneTo packet made) (λ all packet made h. h) words
+    command e
 command_of_verb verbs.Count words command e =
     named_is verbs.Count (λ packet. Count packet) (λ all packet h. h) words command e
 command_of_verb verbs.Offer words command e =
@@ -274,6 +277,8 @@ command_is words (Chain head tail) h = ap command_from h.0 ∙ both_by_words (λ
 command_is words (Attach first second) h = ap command_from h.0 ∙ both_by_words (λ n k. Attach n k) first second h.1 h.2
 command_is words (Detach packet) h = ap command_from h.0 ∙ name_by_words (λ n. Detach n) packet h.1
 command_is words (Clone packet made) h = ap command_from h.0 ∙ both_by_words (λ n k. Clone n k) packet made h.1 h.2
+command_is words (CloneTo packet made) h =
+    ap command_from h.0 ∙ both_by_words (λ n k. CloneTo n k) packet made h.1 h.2
 command_is words (Count packet) h = ap command_from h.0 ∙ name_by_words (λ n. Count n) packet h.1
 command_is words (Offer packet desk) h =
     ap command_from h.words_are
@@ -296,6 +301,7 @@ verb_first words (Chain head tail) h = begins words _ _ h.0 refl refl
 verb_first words (Attach first second) h = begins words _ _ h.0 refl refl
 verb_first words (Detach packet) h = begins words _ _ h.0 refl refl
 verb_first words (Clone packet made) h = begins words _ _ h.0 refl refl
+verb_first words (CloneTo packet made) h = begins words _ _ h.0 refl refl
 verb_first words (Count packet) h = begins words _ _ h.0 refl refl
 verb_first words (Offer packet desk) h = begins words _ _ h.words_are refl refl
 verb_first words (Take desk made) h = begins words _ _ h.words_are refl refl
@@ -307,6 +313,7 @@ names_by : (words : List (List ℕ)) (command : Command) → IsCommand words com
 names_by words (Alloc packet) h = (h.1, tt)
 names_by words (Bulk packets) h = h.1.each
 names_by words (Clone packet copy) h = (h.2, tt)
+names_by words (CloneTo packet copy) h = (h.2, tt)
 names_by words (Take desk packet) h = (h.is_name, tt)
 names_by words command h = tt
 

@@ -1,9 +1,9 @@
 -- Each text is a script of the grammar, or has a first faulty line, or has a bad pool.
-use Rattle.std.proofs.Common.{◌≡◌, ◌≢◌, ℕ, ◌+◌, ◌-◌, max, ltb, Bool, true, false, cond, List, [], ◌∷◌, length, Option, Some, None, Result, Ok, Err, refl, ap, ◌∙◌, inl, inr}
+use Rattle.std.proofs.Common.{◌≡◌, ◌≢◌, ℕ, ◌+◌, ◌-◌, max, ltb, Bool, true, false, cond, List, [], ◌∷◌, length, Option, Some, None, Result, Ok, Err, refl, ap, inl, inr}
 use Rattle.std.specs.Prelude.{◌⊎◌}
 use Rattle.commons.specs.declared.refusal.Refusal.{Refusal}
 use Rattle.commons.specs.declared.refusal.Refusal.TheVariants as refusals
-use Rattle.script_text.specs.declared.pool_line.PoolNumbers.{PoolNumbers}
+use Rattle.script_text.specs.declared.pool_line.LineNumbers.{LineNumbers}
 use Rattle.script_text.specs.Scripts.{State, start, HasBadPool, IsCause, IsSomeScript, HasSomeFault}
 use Rattle.script_text.specs.inside.Reading.{parts}
 use Rattle.script_text.specs.inside.ScriptReading.{Lexicon, are_ready, read_line, judged_as, judged, finish, goes_on, read_lines, read_from, read_text}
@@ -35,7 +35,7 @@ module _ {C : Type 0} (lexicon : Lexicon C) (right : IsRight lexicon) where
   judged_answers (Some next) number e = ready_answers (are_ready next.numbers) next e
 
   -- at the end a pool's numbers are told, or a line isn't ended, or no pool line was read
-  finish_answers : (o : Option PoolNumbers) (state : State C) (number : ℕ) (rest : List ℕ) →
+  finish_answers : (o : Option LineNumbers) (state : State C) (number : ℕ) (rest : List ℕ) →
       IsAnswer (finish o state number rest)
   finish_answers None state number [] = fault_answers (max 1 (number - 1))
   finish_answers (Some numbers) state number [] = tt

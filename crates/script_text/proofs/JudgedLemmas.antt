@@ -5,7 +5,7 @@ use Rattle.std.proofs.lemmas.Bool.{cond-true, cond-false, lt-ltb, le-ltb}
 use Rattle.commons.specs.declared.refusal.Refusal.{Refusal}
 use Rattle.commons.specs.declared.refusal.Refusal.TheVariants as refusals
 use Rattle.script_text.specs.declared.lines.Line.{Line}
-use Rattle.script_text.specs.declared.pool_line.PoolNumbers.{PoolNumbers}
+use Rattle.script_text.specs.declared.pool_line.LineNumbers.{LineNumbers}
 use Rattle.script_text.specs.declared.reader.Stop.{Stop}
 use Rattle.script_text.specs.declared.reader.Stop.TheVariants.{Fault, BadPool, OutOfMemory}
 use Rattle.script_text.specs.Scripts.{State, start}
@@ -39,17 +39,17 @@ module _ {C : Type 0} (lexicon : Lexicon C) where
       ∙ cond-true (is_skipped (words_of line)) (Some s) (read_words lexicon s.numbers s n (words_of line)) f
 
   -- a plain line that isn't skipped is read by whether numbers are told
-  pub read_as : (s : State C) (n : ℕ) (line : List ℕ) (o : Option PoolNumbers) → is_plain line ≡ true →
+  pub read_as : (s : State C) (n : ℕ) (line : List ℕ) (o : Option LineNumbers) → is_plain line ≡ true →
       is_skipped (words_of line) ≡ false → s.numbers ≡ o →
       read_line lexicon s n line ≡ read_words lexicon o s n (words_of line)
   read_as s n line o e f g =
       read_plain s n line e
       ∙ cond-false (is_skipped (words_of line)) (Some s) (read_words lexicon s.numbers s n (words_of line)) f
-      ∙ ap (λ (x : Option PoolNumbers). read_words lexicon x s n (words_of line)) g
+      ∙ ap (λ (x : Option LineNumbers). read_words lexicon x s n (words_of line)) g
 
   -- ---- what a line's reading is judged as
 
-  -- a reading whose numbers, if told, are a pool's goes on
+  -- a reading whose numbers, if told, are those of pools goes on
   pub judged_ok : (s next : State C) (n : ℕ) (line : List ℕ) → read_line lexicon s n line ≡ Some next →
       are_ready next.numbers ≡ true → judged lexicon s n line ≡ Ok next
   unfolding judged
@@ -61,7 +61,7 @@ module _ {C : Type 0} (lexicon : Lexicon C) where
   unfolding judged
   judged_fault s n line e = ap (judged_as n) e
 
-  -- a reading whose numbers aren't a pool's is a bad pool
+  -- a reading whose numbers aren't those of pools is a bad pool
   pub judged_bad : (s next : State C) (n : ℕ) (line : List ℕ) → read_line lexicon s n line ≡ Some next →
       are_ready next.numbers ≡ false → judged lexicon s n line ≡ Err refusals.BadPool
   unfolding judged
@@ -76,8 +76,9 @@ module _ {C : Type 0} (lexicon : Lexicon C) where
 
   -- a pool line that stops a reader stops the line, as a fault or a bad pool
   pub stops_pool : (stop : Stop) (s : State C) (n : ℕ) (line : List ℕ) →
-      read_line lexicon s n line ≡ read_pool s (words_of line) →
-      StopsPool stop (numbers_from (words_of line)) → StopsLine stop n (judged lexicon s n line)
+      read_line lexicon s n line ≡ read_pool lexicon.language.knows_second s (words_of line) →
+      StopsPool stop (numbers_from lexicon.language.knows_second (words_of line)) →
+      StopsLine stop n (judged lexicon s n line)
   stops_pool Fault s n line e h = judged_fault s n line (e ∙ ap (option_and_then (λ numbers. Some (with_numbers s numbers))) h)
   stops_pool BadPool s n line e h =
       judged_bad s (with_numbers s h.0) n line
@@ -129,13 +130,13 @@ module _ {C : Type 0} (lexicon : Lexicon C) where
   read_last s n text e = ap (lines_of s n) e
 
   -- bytes that are left behind the last line end are a fault
-  finish_rest : (o : Option PoolNumbers) (s : State C) (n : ℕ) (text : List ℕ) → 0 < length text →
+  finish_rest : (o : Option LineNumbers) (s : State C) (n : ℕ) (text : List ℕ) → 0 < length text →
       finish o s n text ≡ Err (refusals.ScriptFault n)
   finish_rest o s n [] lt = absurd (omega (arith, lt))
   finish_rest o s n (byte ∷ text) lt = refl
 
   -- where nothing is left the end is that of an empty rest
-  finish_end : (o : Option PoolNumbers) (s : State C) (n : ℕ) (text : List ℕ) → length text ≡ 0 →
+  finish_end : (o : Option LineNumbers) (s : State C) (n : ℕ) (text : List ℕ) → length text ≡ 0 →
       finish o s n text ≡ finish o s n []
   finish_end o s n [] e = refl
   finish_end o s n (byte ∷ text) e = absurd (omega (arith, e))
@@ -152,15 +153,15 @@ module _ {C : Type 0} (lexicon : Lexicon C) where
       whole ≡ Err (refusals.ScriptFault (max 1 (n - 1)))
   no_pool_line s n text whole e z none w =
       sym w ∙ read_last s n text e ∙ finish_end s.numbers s n text z
-      ∙ ap (λ (o : Option PoolNumbers). finish o s n []) none
+      ∙ ap (λ (o : Option LineNumbers). finish o s n []) none
 
   -- a text that ends behind its pool line is read as what its lines told
-  pub whole_script : (s : State C) (n : ℕ) (text : List ℕ) (numbers : PoolNumbers)
+  pub whole_script : (s : State C) (n : ℕ) (text : List ℕ) (numbers : LineNumbers)
       (whole : Result (State C) Refusal) → parts text ≡ parts_of [] text → length text ≡ 0 →
       s.numbers ≡ Some numbers → read_from lexicon s n text ≡ whole → whole ≡ Ok s
   whole_script s n text numbers whole e z some w =
       sym w ∙ read_last s n text e ∙ finish_end s.numbers s n text z
-      ∙ ap (λ (o : Option PoolNumbers). finish o s n []) some
+      ∙ ap (λ (o : Option LineNumbers). finish o s n []) some
 
   -- ---- the whole text
 
@@ -179,9 +180,9 @@ module _ {C : Type 0} (lexicon : Lexicon C) where
       (le-ltb 1048576 (length bytes) le)
 
   -- what was told are these numbers and these lines, by their parts
-  pub same_state : (s : State C) (numbers : PoolNumbers) (lines : List (Line C)) (whole : Result (State C) Refusal) →
+  pub same_state : (s : State C) (numbers : LineNumbers) (lines : List (Line C)) (whole : Result (State C) Refusal) →
       s.numbers ≡ Some numbers → lines ≡ s.lines → whole ≡ Ok s →
       whole ≡ Ok (record { numbers = Some numbers; lines = lines })
   same_state s numbers lines whole e f w =
-      w ∙ ap (λ (o : Option PoolNumbers). Ok (record { numbers = o; lines = s.lines })) e
+      w ∙ ap (λ (o : Option LineNumbers). Ok (record { numbers = o; lines = s.lines })) e
       ∙ ap (λ (ls : List (Line C)). Ok (record { numbers = Some numbers; lines = ls })) (sym f)

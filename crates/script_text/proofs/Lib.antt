@@ -1,3 +1,4 @@
+pub mod BesideLemmas
 pub mod CommandLemmas
 pub mod CutLemmas
 pub mod FoundLemmas

@@ -1,16 +1,17 @@
 -- The pool line's numbers are those that the reading function gives, and no others.
-use Rattle.std.proofs.Common.{◌≡◌, ℕ, true, false, List, [], ◌∷◌, Option, Some, None, refl, sym, ap, ◌∙◌, subst, inl, inr}
-use Rattle.std.specs.Prelude.{option_and_then, is_some, codes}
+use Rattle.std.proofs.Common.{◌≡◌, ℕ, Bool, true, false, List, [], ◌∷◌, Option, Some, None, refl, sym, ap, ◌∙◌, subst, inl, inr}
+use Rattle.std.specs.Prelude.{option_and_then, is_some, unwrap_or, codes}
 use Rattle.std.specs.Str.{bytes_eq}
 use Rattle.std.proofs.lemmas.Bool.{cond-true, cond-false, cases_Bool, false≢true}
 use Rattle.std.proofs.lemmas.Slice.Eq.{bytes_eq-Decides}
 use Rattle.script_text.specs.declared.commands.Key.{Key}
-use Rattle.script_text.specs.declared.commands.Key.TheVariants.{Cache, Workers, Desks, Buf, Refs, Tries, Start, Rule}
+use Rattle.script_text.specs.declared.commands.Key.TheVariants.{Cache, Workers, Desks, Buf, Refs, Tries, Start, Rule, Second, SecondCache}
+use Rattle.script_text.specs.declared.pool_line.LineNumbers.{LineNumbers}
 use Rattle.script_text.specs.declared.pool_line.PoolNumbers.{PoolNumbers}
 use Rattle.script_text.specs.declared.pool_line.Settings.{Settings}
 use Rattle.script_text.specs.Numbers.{IsNumber}
-use Rattle.script_text.specs.PoolLine.{key_word, same_key, ArePairs, first_number, AreOnce, numbers_with, IsPoolLine}
-use Rattle.script_text.specs.inside.Reading.{number_at, keys, key_at, value_of, value_with, with_value, none_given, add_value, add_pair, settings_from, numbers_by, pool_with, numbers_from}
+use Rattle.script_text.specs.PoolLine.{key_word, same_key, ArePairs, first_number, AreOnce, numbers_with, second_beside, IsSecond, IsPoolLine}
+use Rattle.script_text.specs.inside.Reading.{number_at, keys, key_at, value_of, value_with, with_value, none_given, add_value, add_pair, settings_from, numbers_by, with_second, line_numbers_by, pool_with, numbers_from}
 use Rattle.script_text.proofs.NumberLemmas.{number_from, number_is}
 use Rattle.script_text.proofs.SettingsLemmas.{no_settings, no_number, one_pair, with_pair}
 use Rattle.script_text.proofs.FoundLemmas.{and_then_some, found_is, if_some, if_none, spelled_from}
@@ -30,6 +31,8 @@ key_at-key_word Refs = refl
 key_at-key_word Tries = refl
 key_at-key_word Start = refl
 key_at-key_word Rule = refl
+key_at-key_word Second = refl
+key_at-key_word SecondCache = refl
 
 -- keys with the same word are the same
 same_key-true : (a b : Key) → same_key a b ≡ true → a ≡ b
@@ -51,6 +54,8 @@ with-each settings key Refs value = refl
 with-each settings key Tries value = refl
 with-each settings key Start value = refl
 with-each settings key Rule value = refl
+with-each settings key Second value = refl
+with-each settings key SecondCache value = refl
 
 -- a key that was given a value has it
 with-same : (settings : Settings) (key : Key) (value : ℕ) → value_of (with_value settings key value) key ≡ Some value
@@ -250,6 +255,8 @@ none_value Refs = refl
 none_value Tries = refl
 none_value Start = refl
 none_value Rule = refl
+none_value Second = refl
+none_value SecondCache = refl
 
 -- each number is the one that the pairs give its key, or its default
 numbers_same : (population : ℕ) (pairs : List (Key × ℕ)) (settings : Settings) →
@@ -265,17 +272,60 @@ numbers_same population pairs settings h =
     let rule : settings.rule ≡ first_number Rule pairs = h Rule ∙ or_none (first_number Rule pairs) in
     rw (cache, workers, desks, buf, refs, tries, start, rule) refl
 
+-- the numbers of a second pool are read by what the pairs give it
+second_same : (knows : Bool) (first : PoolNumbers) (pairs : List (Key × ℕ)) (settings : Settings) →
+    AreWith none_given pairs settings →
+    with_second knows first settings.second settings.second_cache
+    ≡ with_second knows first (first_number Second pairs) (first_number SecondCache pairs)
+second_same knows first pairs settings h =
+    let second : settings.second ≡ first_number Second pairs = h Second ∙ or_none (first_number Second pairs) in
+    let cache : settings.second_cache ≡ first_number SecondCache pairs =
+    h SecondCache ∙ or_none (first_number SecondCache pairs) in
+    rw (second, cache) refl
+
+-- the numbers of a line are the first pool's, and beside them those of a second
+record AreBoth (knows : Bool) (first : PoolNumbers) (population cache : Option ℕ)
+    (numbers : LineNumbers) : Type 0 where
+  first_is : numbers.first ≡ first
+  second_is : IsSecond knows numbers.first population cache numbers.second
+
+-- what is read beside the first pool's numbers is what a second pool may have
+second_comes : (knows : Bool) (first : PoolNumbers) (population cache : Option ℕ) (numbers : LineNumbers) →
+    with_second knows first population cache ≡ Some numbers → AreBoth knows first population cache numbers
+second_comes knows first None None numbers e =
+    subst (AreBoth knows first None None) (found_is (record { first = first; second = None }) numbers e)
+    (record { first_is = refl; second_is = (refl, refl) })
+second_comes knows first None (Some cache) numbers e = absurd cc
+second_comes true first (Some population) cache numbers e =
+    let second = second_beside first population (unwrap_or cache 0) in
+    subst (AreBoth true first (Some population) cache)
+    (found_is (record { first = first; second = Some second }) numbers e)
+    (record { first_is = refl; second_is = (refl, (population, refl, refl)) })
+second_comes false first (Some population) cache numbers e = absurd cc
+
+-- what a second pool may have is read beside the first pool's numbers
+second_goes : (knows : Bool) (first : PoolNumbers) (population cache : Option ℕ) (second : Option PoolNumbers) →
+    IsSecond knows first population cache second →
+    with_second knows first population cache ≡ Some (record { first = first; second = second })
+second_goes knows first population cache None h = rw (h.0, h.1) refl
+second_goes knows first population cache (Some second) h = rw (h.0, h.1.1, h.1.2) refl
+
 -- after `pool` stand a number and then pairs, of which the numbers are made
-pool_from_words : (word : List ℕ) (words : List (List ℕ)) (numbers : PoolNumbers) → word ≡ codes "pool" →
-    pool_with words ≡ Some numbers → IsPoolLine (word ∷ words) numbers
-pool_from_words word [] numbers e f = absurd cc
-pool_from_words word (number ∷ words) numbers e f =
+pool_from_words : (knows : Bool) (word : List ℕ) (words : List (List ℕ)) (numbers : LineNumbers) →
+    word ≡ codes "pool" → pool_with knows words ≡ Some numbers → IsPoolLine knows (word ∷ words) numbers
+pool_from_words knows word [] numbers e f = absurd cc
+pool_from_words knows word (number ∷ words) numbers e f =
     let a =
     and_then_some (λ population.
-    option_and_then (λ settings. Some (numbers_by population settings))
+    option_and_then (λ settings. line_numbers_by knows population settings)
     (settings_from none_given words)) (number_at number) numbers f in
-    let b = and_then_some (λ settings. Some (numbers_by a.0 settings)) (settings_from none_given words) numbers a.2 in
+    let b =
+    and_then_some (λ settings. line_numbers_by knows a.0 settings) (settings_from none_given words)
+    numbers a.2 in
     let c = settings_come words none_given b.0 b.1 in
+    let is =
+    second_comes knows (numbers_by a.0 b.0) (first_number Second c.pairs) (first_number SecondCache c.pairs) numbers
+    (sym (second_same knows (numbers_by a.0 b.0) c.pairs b.0 c.are_with) ∙ b.2) in
     record {
       number = number;
       population = a.0;
@@ -285,24 +335,31 @@ pool_from_words word (number ∷ words) numbers e f =
       population_is = number_from number a.0 a.1;
       pairs_are = c.are_pairs;
       once = c.once;
-      numbers_are = sym (found_is (numbers_by a.0 b.0) numbers b.2) ∙ numbers_same a.0 c.pairs b.0 c.are_with;
+      first_is = is.first_is ∙ numbers_same a.0 c.pairs b.0 c.are_with;
+      second_is = is.second_is;
     }
 
 -- words that are read as a pool line begin with `pool`
-pub pool_line_from : (words : List (List ℕ)) (numbers : PoolNumbers) → numbers_from words ≡ Some numbers →
-    IsPoolLine words numbers
-pool_line_from [] numbers e = absurd cc
-pool_line_from (word ∷ words) numbers e =
-    let a = if_some (bytes_eq word (codes "pool")) (pool_with words) numbers e in
-    pool_from_words word words numbers ((bytes_eq-Decides word (codes "pool")).0 a.0) a.1
+pub pool_line_from : (knows : Bool) (words : List (List ℕ)) (numbers : LineNumbers) →
+    numbers_from knows words ≡ Some numbers → IsPoolLine knows words numbers
+pool_line_from knows [] numbers e = absurd cc
+pool_line_from knows (word ∷ words) numbers e =
+    let a = if_some (bytes_eq word (codes "pool")) (pool_with knows words) numbers e in
+    pool_from_words knows word words numbers ((bytes_eq-Decides word (codes "pool")).0 a.0) a.1
 
 -- a pool line of the grammar is read as its numbers
-pub pool_line_is : (words : List (List ℕ)) (numbers : PoolNumbers) → IsPoolLine words numbers → numbers_from words ≡ Some numbers
-pool_line_is words numbers h =
+pub pool_line_is : (knows : Bool) (words : List (List ℕ)) (numbers : LineNumbers) →
+    IsPoolLine knows words numbers → numbers_from knows words ≡ Some numbers
+pool_line_is knows words numbers h =
     let s = settings_go h.pairs h.rest none_given h.pairs_are h.once (λ key value f. none_value key) in
-    ap numbers_from h.words_are
+    let first : numbers_by h.population s.0 ≡ numbers.first =
+    numbers_same h.population h.pairs s.0 s.2 ∙ sym h.first_is in
+    ap (numbers_from knows) h.words_are
     ∙ ap (option_and_then (λ population.
-    option_and_then (λ settings. Some (numbers_by population settings))
+    option_and_then (λ settings. line_numbers_by knows population settings)
     (settings_from none_given h.rest))) (number_is h.number h.population h.population_is)
-    ∙ ap (option_and_then (λ settings. Some (numbers_by h.population settings))) s.1
-    ∙ ap (λ (n : PoolNumbers). Some n) (numbers_same h.population h.pairs s.0 s.2 ∙ sym h.numbers_are)
+    ∙ ap (option_and_then (λ settings. line_numbers_by knows h.population settings)) s.1
+    ∙ ap (λ (n : PoolNumbers). with_second knows n s.0.second s.0.second_cache) first
+    ∙ second_same knows numbers.first h.pairs s.0 s.2
+    ∙ second_goes knows numbers.first (first_number Second h.pairs) (first_number SecondCache h.pairs)
+    numbers.second h.second_is

@@ -4,20 +4,20 @@ use Rattle.std.proofs.Common.{◌≡◌, ◌≢◌, ℕ, ◌+◌, ◌-◌, max, 
 use Rattle.std.specs.Prelude.{◌⊎◌, IfSome, IfOk, IfErr, MatchResult}
 use Rattle.std.proofs.lemmas.Bool.{cases_Bool, cases_lt, both_ways, false_from_ne_true, cond-true, cond-false}
 use Rattle.std.proofs.lemmas.List.{length_push}
-use Rattle.commons.specs.declared.limits.Limits.{Limits}
+use Rattle.script_text.specs.declared.lines.Pools.{Pools}
 use Rattle.commons.specs.declared.refusal.Refusal.{Refusal}
 use Rattle.commons.specs.declared.refusal.Refusal.TheVariants as refusals
 use Rattle.script_text.specs.declared.lines.Line.{Line}
 use Rattle.script_text.specs.declared.lines.Script.{Script}
-use Rattle.script_text.specs.declared.pool_line.PoolNumbers.{PoolNumbers}
-use Rattle.script_text.specs.PoolLine.{IsSomePool, numbers_of}
+use Rattle.script_text.specs.declared.pool_line.LineNumbers.{LineNumbers}
+use Rattle.script_text.specs.PoolLine.{AreSomePools, numbers_of_pools}
 use Rattle.script_text.specs.Text.{AreLines}
 use Rattle.script_text.specs.Scripts.{State, start, Reads, IsReady, AreRead, IsShort, IsScript, Reaches, IsFirstFault, too_long, no_reading, unfinished, no_pool, HasBadPool, IsCause, IsSomeScript}
-use Rattle.script_text.specs.inside.Reading.{parts, is_pool}
+use Rattle.script_text.specs.inside.Reading.{parts, are_pools}
 use Rattle.script_text.specs.inside.ScriptReading.{Lexicon, are_ready, read_line, judged_as, judged, finish, goes_on, read_lines, read_from, read_text}
 use Rattle.script_text.specs.inside.Agreement.{Fails, Gives}
 use Rattle.script_text.proofs.LineLemmas.{parts_are, lines_once}
-use Rattle.script_text.proofs.PoolLemmas.{limits_once, pool_is, pool_from, ready_is, ready_from}
+use Rattle.script_text.proofs.PoolLemmas.{pools_once, pools_are, pools_from, ready_is, ready_from}
 use Rattle.script_text.proofs.GrammarLemmas.{reads_from, reads_is}
 use Rattle.script_text.proofs.JudgedLemmas.{judged_ok, judged_bad, text_too_long, text_short}
 use Rattle.script_text.proofs.FoundLemmas.{found_is}
@@ -40,12 +40,12 @@ module _ {C : Type 0} (lexicon : Lexicon C) (right : IsRight lexicon) where
 
   -- ---- one line
 
-  -- the line has this reading, and a pool has its numbers
+  -- the line has this reading, and pools have its numbers
   record IsJudged (state next : State C) (number : ℕ) (line : List ℕ) : Type 0 where
     reads : Reads lexicon.language state number line next
     ready : IsReady next
 
-  -- only a reading whose numbers, if told, are a pool's isn't refused
+  -- only a reading whose numbers, if told, are those of pools isn't refused
   judged_gives : (o : Option (State C)) (number : ℕ) (next : State C) → judged_as number o ≡ Ok next →
       (o ≡ Some next) × (are_ready next.numbers ≡ true)
   judged_gives None number next e = absurd cc
@@ -61,23 +61,23 @@ module _ {C : Type 0} (lexicon : Lexicon C) (right : IsRight lexicon) where
         ∙ e in absurd cc
   ]
 
-  -- a line that isn't refused has a reading in the grammar, ready to be a pool's
+  -- a line that isn't refused has a reading in the grammar, ready to be that of pools
   judged_from : (state next : State C) (number : ℕ) (line : List ℕ) → judged lexicon state number line ≡ Ok next →
-      -- the line has a reading, and what is told then can be a pool's
+      -- the line has a reading, and what is told then can be that of pools
       IsJudged state next number line
   unfolding judged
   judged_from state next number line e =
       let h = judged_gives (read_line lexicon state number line) number next e in
       record { reads = reads_from lexicon right state next number line h.0; ready = ready_from next.numbers h.1 }
 
-  -- a line's reading in the grammar, ready to be a pool's, is what is told after it
+  -- a line's reading in the grammar, ready to be that of pools, is what is told after it
   judged_is : (state next : State C) (number : ℕ) (line : List ℕ) → Reads lexicon.language state number line next →
       IsReady next → judged lexicon state number line ≡ Ok next
   judged_is state next number line reads ready =
       judged_ok lexicon state next number line (reads_is lexicon right state next number line reads)
       (ready_is next.numbers ready)
 
-  -- a line is refused where it has no reading, or where the numbers aren't a pool's
+  -- a line is refused where it has no reading, or where the numbers aren't those of pools
   judged_refuses : (o : Option (State C)) (number : ℕ) (refusal : Refusal) →
       judged_as number o ≡ Err refusal →
       ((o ≡ None) × (refusals.ScriptFault number ≡ refusal))
@@ -101,12 +101,13 @@ module _ {C : Type 0} (lexicon : Lexicon C) (right : IsRight lexicon) where
   -- ---- lines one after another
 
   -- lines that are read in the grammar are read so, one after another
-  lines_is : (lines : List (List ℕ)) (state last : State C) (number : ℕ) (numbers : PoolNumbers) →
+  lines_is : (lines : List (List ℕ)) (state last : State C) (number : ℕ) (numbers : LineNumbers) →
       AreRead lexicon.language state number lines last → last.numbers ≡ Some numbers →
       read_lines lexicon state number lines [] ≡ Ok last
   unfolding read_lines
   lines_is [] state last number numbers h e =
-      ap (λ (o : Option PoolNumbers). finish o state number []) (ap (λ (s : State C). s.numbers) (sym h) ∙ e) ∙ ap read_ok (sym h)
+      ap (λ (o : Option LineNumbers). finish o state number []) (ap (λ (s : State C). s.numbers) (sym h) ∙ e)
+      ∙ ap read_ok (sym h)
   lines_is (line ∷ lines) state last number numbers h e =
       ap (λ (r : Result (State C) Refusal). goes_on r (λ next. read_lines lexicon next (number + 1) lines []))
       (judged_is state h.0 number line h.1 h.2)
@@ -116,11 +117,11 @@ module _ {C : Type 0} (lexicon : Lexicon C) (right : IsRight lexicon) where
   record ReadAll (state last : State C) (number : ℕ) (lines : List (List ℕ)) (rest : List ℕ) : Type 0 where
     are_read : AreRead lexicon.language state number lines last
     none : rest ≡ []
-    numbers : PoolNumbers
+    numbers : LineNumbers
     numbers_are : last.numbers ≡ Some numbers
 
   -- a text ends well where nothing is left behind its last line and a pool line was read
-  finish_from : (o : Option PoolNumbers) (state last : State C) (number : ℕ) (rest : List ℕ) →
+  finish_from : (o : Option LineNumbers) (state last : State C) (number : ℕ) (rest : List ℕ) →
       state.numbers ≡ o → finish o state number rest ≡ Ok last → ReadAll state last number [] rest
   finish_from None state last number [] some e = absurd cc
   finish_from (Some numbers) state last number [] some e =
@@ -140,7 +141,7 @@ module _ {C : Type 0} (lexicon : Lexicon C) (right : IsRight lexicon) where
   goes_from (Ok next) f last e = (next, refl, e)
   goes_from (Err refusal) f last e = absurd cc
 
-  -- lines that are read to the end each have a reading, and a pool's numbers are told
+  -- lines that are read to the end each have a reading, and the pools' numbers are told
   lines_from : (lines : List (List ℕ)) (state last : State C) (number : ℕ) (rest : List ℕ) →
       read_lines lexicon state number lines rest ≡ Ok last → ReadAll state last number lines rest
   unfolding read_lines
@@ -198,14 +199,14 @@ module _ {C : Type 0} (lexicon : Lexicon C) (right : IsRight lexicon) where
         place;
   }
 
-  -- numbers that don't pass the test are there, and no pool has them
-  bad_numbers : (o : Option PoolNumbers) → are_ready o ≡ false →
-      (numbers : PoolNumbers) × (o ≡ Some numbers) × (IsSomePool numbers → ⊥)
+  -- numbers that don't pass the test are there, and no pools have them
+  bad_numbers : (o : Option LineNumbers) → are_ready o ≡ false →
+      (numbers : LineNumbers) × (o ≡ Some numbers) × (AreSomePools numbers → ⊥)
   bad_numbers None e = absurd cc
-  bad_numbers (Some numbers) e = (numbers, refl, λ pool. both_ways (is_pool numbers) e (pool_is numbers pool))
+  bad_numbers (Some numbers) e = (numbers, refl, λ pool. both_ways (are_pools numbers) e (pools_are numbers pool))
 
   -- a text ends badly where its last line isn't ended, or where every line is skipped
-  finish_cause : (o : Option PoolNumbers) (bytes : List ℕ) (state : State C) (number : ℕ) (rest : List ℕ)
+  finish_cause : (o : Option LineNumbers) (bytes : List ℕ) (state : State C) (number : ℕ) (rest : List ℕ)
       (refusal : Refusal) → IsShort bytes → state.numbers ≡ o → Reaches lexicon.language bytes state number [] rest →
       finish o state number rest ≡ Err refusal → IsCause lexicon.language bytes refusal
   finish_cause None bytes state number [] refusal short none reached e =
@@ -289,16 +290,16 @@ module _ {C : Type 0} (lexicon : Lexicon C) (right : IsRight lexicon) where
   -- ---- the whole text
 
   -- what is read of a text is read of its lines, within the length that a script has
-  pub script_from : (bytes : List ℕ) (limits : Limits) (lines : List (Line C)) →
-      read_text lexicon bytes ≡ Ok (record { numbers = Some (numbers_of limits); lines = lines }) →
-      IsScript lexicon.language bytes limits lines
+  pub script_from : (bytes : List ℕ) (pools : Pools) (lines : List (Line C)) →
+      read_text lexicon bytes ≡ Ok (record { numbers = Some (numbers_of_pools pools); lines = lines }) →
+      IsScript lexicon.language bytes pools lines
   unfolding read_from
-  script_from bytes limits lines e =
+  script_from bytes pools lines e =
       elim (cases_lt 1048576 (length bytes)) [
         | inl long ↦ let clash = sym (text_too_long lexicon bytes long) ∙ e in absurd cc
         | inr short ↦
             let h =
-            lines_from (parts bytes).lines start (record { numbers = Some (numbers_of limits); lines = lines })
+            lines_from (parts bytes).lines start (record { numbers = Some (numbers_of_pools pools); lines = lines })
             1 (parts bytes).rest (sym (text_short lexicon bytes short) ∙ e) in
             record {
               short = short;
@@ -308,13 +309,13 @@ module _ {C : Type 0} (lexicon : Lexicon C) (right : IsRight lexicon) where
             }
       ]
 
-  -- lines that are read leave what a pool has
+  -- lines that are read leave numbers that pools have
   ready_after : (lines : List (List ℕ)) (state last : State C) (number : ℕ) →
       AreRead lexicon.language state number lines last → IsReady state → IsReady last
   ready_after [] state last number h ready = subst (λ (s : State C). IsReady s) (sym h) ready
   ready_after (line ∷ lines) state last number h ready = ready_after lines h.0 last (number + 1) h.3 h.2
 
-  -- what is read of a text is some script: the numbers that are told are a pool's
+  -- what is read of a text is some script: the numbers that are told are those of pools
   pub some_script : (bytes : List ℕ) (state : State C) → read_text lexicon bytes ≡ Ok state →
       IsSomeScript lexicon.language bytes
   unfolding read_from
@@ -326,27 +327,28 @@ module _ {C : Type 0} (lexicon : Lexicon C) (right : IsRight lexicon) where
             lines_from (parts bytes).lines start state 1 (parts bytes).rest
             (sym (text_short lexicon bytes short) ∙ e) in
             let ready = ready_after (parts bytes).lines start state 1 h.are_read tt in
-            let pool : IsSomePool h.numbers =
-            subst (λ (o : Option PoolNumbers). IfSome o IsSomePool) h.numbers_are ready in
+            let pool : AreSomePools h.numbers =
+            subst (λ (o : Option LineNumbers). IfSome o AreSomePools) h.numbers_are ready in
             record {
-              limits = pool.limits;
+              pools = pool.pools;
               lines = state.lines;
               script =
-                  script_from bytes pool.limits state.lines
-                  (e ∙ ap (λ (o : Option PoolNumbers). Ok (record { numbers = o; lines = state.lines }))
-                  (h.numbers_are ∙ ap (λ (n : PoolNumbers). Some n) pool.numbers_are));
+                  script_from bytes pool.pools state.lines
+                  (e ∙ ap (λ (o : Option LineNumbers). Ok (record { numbers = o; lines = state.lines }))
+                  (h.numbers_are ∙ ap (λ (n : LineNumbers). Some n) pool.numbers_are));
             }
       ]
 
   -- a text has one reading as lines, and each line one reading, so a script is read as itself
-  pub script_is : (bytes : List ℕ) (limits : Limits) (lines : List (Line C)) →
-      IsScript lexicon.language bytes limits lines →
-      read_text lexicon bytes ≡ Ok (record { numbers = Some (numbers_of limits); lines = lines })
+  pub script_is : (bytes : List ℕ) (pools : Pools) (lines : List (Line C)) →
+      IsScript lexicon.language bytes pools lines →
+      read_text lexicon bytes ≡ Ok (record { numbers = Some (numbers_of_pools pools); lines = lines })
   unfolding read_from
-  script_is bytes limits lines h =
+  script_is bytes pools lines h =
       text_short lexicon bytes h.short
       ∙ ap (λ p. read_lines lexicon start 1 p.lines p.rest) (lines_once bytes h.texts [] h.are_lines)
-      ∙ lines_is h.texts start (record { numbers = Some (numbers_of limits); lines = lines }) 1 (numbers_of limits) h.read
+      ∙ lines_is h.texts start (record { numbers = Some (numbers_of_pools pools); lines = lines }) 1
+      (numbers_of_pools pools) h.read
       refl
 
   -- a text that is too long has the fault 0, and else the first refused line or the end is the
@@ -405,7 +407,7 @@ module _ {C : Type 0} (lexicon : Lexicon C) (right : IsRight lexicon) where
       e
 
   -- bytes behind the last line end are a fault of that line
-  finish_some : (o : Option PoolNumbers) (state : State C) (number : ℕ) (rest : List ℕ) → rest ≢ [] →
+  finish_some : (o : Option LineNumbers) (state : State C) (number : ℕ) (rest : List ℕ) → rest ≢ [] →
       finish o state number rest ≡ Err (refusals.ScriptFault number)
   finish_some o state number [] some = absurd (some refl)
   finish_some o state number (byte ∷ rest) some = refl
@@ -425,14 +427,14 @@ module _ {C : Type 0} (lexicon : Lexicon C) (right : IsRight lexicon) where
       unread_as (read_line lexicon state number line) number
       (λ next e. none next (reads_from lexicon right state next number line e))
 
-  -- a line whose numbers aren't a pool's is refused as a bad pool
-  bad_judged : (state next : State C) (number : ℕ) (line : List ℕ) (numbers : PoolNumbers) →
-      Reads lexicon.language state number line next → next.numbers ≡ Some numbers → (IsSomePool numbers → ⊥) →
+  -- a line whose numbers aren't those of pools is refused as a bad pool
+  bad_judged : (state next : State C) (number : ℕ) (line : List ℕ) (numbers : LineNumbers) →
+      Reads lexicon.language state number line next → next.numbers ≡ Some numbers → (AreSomePools numbers → ⊥) →
       judged lexicon state number line ≡ Err refusals.BadPool
   bad_judged state next number line numbers reads e bad =
       judged_bad lexicon state next number line (reads_is lexicon right state next number line reads)
       (ap are_ready e
-      ∙ false_from_ne_true (is_pool numbers) (λ ready. bad (pool_from numbers ready)))
+      ∙ false_from_ne_true (are_pools numbers) (λ ready. bad (pools_from numbers ready)))
 
   -- the first fault of the bytes is what they are read as
   pub fault_is : (bytes : List ℕ) (number : ℕ) → IsFirstFault lexicon.language bytes number →
@@ -448,10 +450,10 @@ module _ {C : Type 0} (lexicon : Lexicon C) (right : IsRight lexicon) where
       ∙ finish_some h.state.numbers h.state number h.rest h.some
   fault_is bytes number (no_pool short h) =
       reached_text bytes h.state h.behind [] [] short h.reached
-      ∙ ap (λ (o : Option PoolNumbers). finish o h.state h.behind []) h.no_numbers
+      ∙ ap (λ (o : Option LineNumbers). finish o h.state h.behind []) h.no_numbers
       ∙ ap (λ (n : ℕ). Err (refusals.ScriptFault n)) (sym h.number_is)
 
-  -- the lines before the pool line are read, and its numbers aren't a pool's
+  -- the lines before the pool line are read, and its numbers aren't those of pools
   pub bad_pool_is : (bytes : List ℕ) → HasBadPool lexicon.language bytes → read_text lexicon bytes ≡ Err refusals.BadPool
   bad_pool_is bytes h =
       reached_line bytes h.state h.number h.line h.left h.rest refusals.BadPool h.short h.reached
@@ -469,8 +471,8 @@ module _ {C : Type 0} (lexicon : Lexicon C) (right : IsRight lexicon) where
 
   -- a script that is given is the one that the text is read as
   pub is_read : (result : Result (Script C) Refusal) (bytes : List ℕ) → Gives result (read_text lexicon bytes) →
-      IfOk result (λ script. IsScript lexicon.language bytes script.limits script.lines)
-  is_read (Ok script) bytes h = script_from bytes script.limits script.lines h
+      IfOk result (λ script. IsScript lexicon.language bytes script.pools script.lines)
+  is_read (Ok script) bytes h = script_from bytes script.pools script.lines h
   is_read (Err refusal) bytes h = tt
 
   -- a refusal that is given is the one that the text has, or for lack of memory
@@ -480,36 +482,36 @@ module _ {C : Type 0} (lexicon : Lexicon C) (right : IsRight lexicon) where
   is_caused (Err refusal) bytes h = cause_of refusal bytes h
 
   -- the one script that is read
-  pub only_one : (result : Result (Script C) Refusal) (bytes : List ℕ) (limits : Limits)
-      (lines : List (Line C)) → IsScript lexicon.language bytes limits lines → Gives result (read_text lexicon bytes) →
-      MatchResult result (λ script. (script.limits ≡ limits) × (script.lines ≡ lines))
+  pub only_one : (result : Result (Script C) Refusal) (bytes : List ℕ) (pools : Pools)
+      (lines : List (Line C)) → IsScript lexicon.language bytes pools lines → Gives result (read_text lexicon bytes) →
+      MatchResult result (λ script. (script.pools ≡ pools) × (script.lines ≡ lines))
       (λ refusal. refusal ≡ refusals.OutOfMemory)
-  only_one (Ok script) bytes limits lines h given =
+  only_one (Ok script) bytes pools lines h given =
       let same =
-      ok_is (record { numbers = Some (numbers_of script.limits); lines = script.lines })
-      (record { numbers = Some (numbers_of limits); lines = lines })
-      (sym given ∙ script_is bytes limits lines h) in (
-        limits_once script.limits limits
-            (found_is (numbers_of script.limits) (numbers_of limits) (ap (λ (s : State C). s.numbers) same)),
+      ok_is (record { numbers = Some (numbers_of_pools script.pools); lines = script.lines })
+      (record { numbers = Some (numbers_of_pools pools); lines = lines })
+      (sym given ∙ script_is bytes pools lines h) in (
+        pools_once script.pools pools
+            (found_is (numbers_of_pools script.pools) (numbers_of_pools pools) (ap (λ (s : State C). s.numbers) same)),
         ap (λ (s : State C). s.lines) same,
       )
-  only_one (Err refusal) bytes limits lines h given =
-      fails_ok refusal (record { numbers = Some (numbers_of limits); lines = lines })
-      (subst (Fails refusal) (script_is bytes limits lines h) given)
+  only_one (Err refusal) bytes pools lines h given =
+      fails_ok refusal (record { numbers = Some (numbers_of_pools pools); lines = lines })
+      (subst (Fails refusal) (script_is bytes pools lines h) given)
 
   -- ---- laws
 
   -- a text is read as one script, so two that it is are the same
-  pub one_script : (bytes : List ℕ) (limits other_limits : Limits) (lines other_lines : List (Line C)) →
-      IsScript lexicon.language bytes limits lines → IsScript lexicon.language bytes other_limits other_lines →
-      (limits ≡ other_limits) × (lines ≡ other_lines)
-  one_script bytes limits other_limits lines other_lines h k =
+  pub one_script : (bytes : List ℕ) (pools other_pools : Pools) (lines other_lines : List (Line C)) →
+      IsScript lexicon.language bytes pools lines → IsScript lexicon.language bytes other_pools other_lines →
+      (pools ≡ other_pools) × (lines ≡ other_lines)
+  one_script bytes pools other_pools lines other_lines h k =
       let same =
-      ok_is (record { numbers = Some (numbers_of limits); lines = lines })
-      (record { numbers = Some (numbers_of other_limits); lines = other_lines })
-      (sym (script_is bytes limits lines h) ∙ script_is bytes other_limits other_lines k) in (
-        limits_once limits other_limits
-            (found_is (numbers_of limits) (numbers_of other_limits) (ap (λ (s : State C). s.numbers) same)),
+      ok_is (record { numbers = Some (numbers_of_pools pools); lines = lines })
+      (record { numbers = Some (numbers_of_pools other_pools); lines = other_lines })
+      (sym (script_is bytes pools lines h) ∙ script_is bytes other_pools other_lines k) in (
+        pools_once pools other_pools
+            (found_is (numbers_of_pools pools) (numbers_of_pools other_pools) (ap (λ (s : State C). s.numbers) same)),
         ap (λ (s : State C). s.lines) same,
       )
 
@@ -531,12 +533,12 @@ module _ {C : Type 0} (lexicon : Lexicon C) (right : IsRight lexicon) where
       cc
 
   -- a text that is refused with a line is read as no script
-  pub line_or_script : (bytes : List ℕ) (number : ℕ) (limits : Limits) (lines : List (Line C)) →
-      IsFirstFault lexicon.language bytes number → IsScript lexicon.language bytes limits lines → ⊥
-  line_or_script bytes number limits lines h k =
-      let clash = sym (fault_is bytes number h) ∙ script_is bytes limits lines k in cc
+  pub line_or_script : (bytes : List ℕ) (number : ℕ) (pools : Pools) (lines : List (Line C)) →
+      IsFirstFault lexicon.language bytes number → IsScript lexicon.language bytes pools lines → ⊥
+  line_or_script bytes number pools lines h k =
+      let clash = sym (fault_is bytes number h) ∙ script_is bytes pools lines k in cc
 
   -- a text that is refused for a bad pool is read as no script
-  pub pool_or_script : (bytes : List ℕ) (limits : Limits) (lines : List (Line C)) → HasBadPool lexicon.language bytes →
-      IsScript lexicon.language bytes limits lines → ⊥
-  pool_or_script bytes limits lines h k = let clash = sym (bad_pool_is bytes h) ∙ script_is bytes limits lines k in cc
+  pub pool_or_script : (bytes : List ℕ) (pools : Pools) (lines : List (Line C)) → HasBadPool lexicon.language bytes →
+      IsScript lexicon.language bytes pools lines → ⊥
+  pool_or_script bytes pools lines h k = let clash = sym (bad_pool_is bytes h) ∙ script_is bytes pools lines k in cc

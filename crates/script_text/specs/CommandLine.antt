@@ -4,7 +4,7 @@ use Rattle.std.specs.List.{AllByRecursion}
 use Rattle.commons.specs.declared.change.Change.{Change}
 use Rattle.commons.specs.declared.change.Change.TheVariants.{Append, Prepend, Adj, Trim}
 use Rattle.script_text.specs.declared.commands.Command.{Command}
-use Rattle.script_text.specs.declared.commands.Command.TheVariants.{Alloc, Bulk, Free, Resize, Chain, Attach, Detach, Clone, Count, Offer, Take, Flush}
+use Rattle.script_text.specs.declared.commands.Command.TheVariants.{Alloc, Bulk, Free, Resize, Chain, Attach, Detach, Clone, CloneTo, Count, Offer, Take, Flush}
 use Rattle.script_text.specs.Names.{IsName}
 use Rattle.script_text.specs.Numbers.{IsNumber}
 
@@ -58,6 +58,7 @@ IsCommand words (Chain head tail) = AreVerbAndNames words (codes "chain") head t
 IsCommand words (Attach first second) = AreVerbAndNames words (codes "attach") first second
 IsCommand words (Detach packet) = AreVerbAndName words (codes "detach") packet
 IsCommand words (Clone packet made) = AreVerbAndNames words (codes "clone") packet made
+IsCommand words (CloneTo packet made) = AreVerbAndNames words (codes "cloneto") packet made
 IsCommand words (Count packet) = AreVerbAndName words (codes "count") packet
 IsCommand words (Offer packet desk) =
     AreWithNumber words (λ number. codes "offer" ∷ packet ∷ number ∷ []) packet desk

@@ -1,27 +1,32 @@
 -- The grammar of scripts of commands: which bytes are which script, and which line is the first
 -- faulty one.
-use Rattle.std.specs.Prelude.{ℕ, List}
-use Rattle.commons.specs.declared.limits.Limits.{Limits}
+use Rattle.std.specs.Prelude.{ℕ, List, true}
+use Rattle.script_text.specs.declared.lines.Pools.{Pools}
 use Rattle.commons.specs.declared.refusal.Refusal.{Refusal}
 use Rattle.script_text.specs.declared.commands.Command.{Command}
-use Rattle.script_text.specs.Commands.{Line, names_made}
+use Rattle.script_text.specs.Commands.{Line, names_made, needs_second}
 use Rattle.script_text.specs.CommandLine.{IsCommand}
 use Rattle.script_text.specs.Scripts as scripts
 use Rattle.script_text.specs.Scripts.{Language}
 
 -- the language of commands
 abbrev pub commands : Language Command
-commands = record { IsCommand = IsCommand; names_made = names_made }
+commands = record {
+  IsCommand = IsCommand;
+  names_made = names_made;
+  knows_second = true;
+  needs_second = needs_second;
+}
 
--- the bytes are the script with these limits and command lines
-abbrev pub IsScript : List ℕ → Limits → List Line → Type 0
-IsScript bytes limits lines = scripts.IsScript commands bytes limits lines
+-- the bytes are the script with pools of these limits and with these command lines
+abbrev pub IsScript : List ℕ → Pools → List Line → Type 0
+IsScript bytes pools lines = scripts.IsScript commands bytes pools lines
 
 -- the first faulty line has this number; it is 0 where there are more bytes than a script has
 abbrev pub IsFirstFault : List ℕ → ℕ → Type 0
 IsFirstFault bytes number = scripts.IsFirstFault commands bytes number
 
--- the pool line has a reading, as each line before it, and no pool has its numbers
+-- the pool line has a reading, as each line before it, and no pools have its numbers
 abbrev pub HasBadPool : List ℕ → Type 0
 HasBadPool bytes = scripts.HasBadPool commands bytes
 

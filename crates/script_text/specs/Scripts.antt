@@ -1,14 +1,14 @@
 -- The form of scripts, whatever their lines tell workers to do: which bytes are which script, and
 -- which line is the first faulty one. A step is a command here too.
-use Rattle.std.specs.Prelude.{◌≡◌, ◌≢◌, ℕ, ◌+◌, ◌-◌, ◌<◌, ◌≤◌, ◌⊎◌, max, List, [], ◌∷◌, ◌++◌, length, All, Option, Some, None, IfSome, codes}
-use Rattle.commons.specs.declared.limits.Limits.{Limits}
+use Rattle.std.specs.Prelude.{◌≡◌, ◌≢◌, ℕ, Bool, true, IsSome, ◌+◌, ◌-◌, ◌<◌, ◌≤◌, ◌⊎◌, max, List, [], ◌∷◌, ◌++◌, length, All, Option, Some, None, IfSome, codes}
+use Rattle.script_text.specs.declared.lines.Pools.{Pools}
 use Rattle.commons.specs.declared.refusal.Refusal.{Refusal}
 use Rattle.commons.specs.declared.refusal.Refusal.TheVariants.{BadPool, OutOfMemory, ScriptFault}
 use Rattle.script_text.specs.declared.lines.Line.{Line}
-use Rattle.script_text.specs.declared.pool_line.PoolNumbers.{PoolNumbers}
+use Rattle.script_text.specs.declared.pool_line.LineNumbers.{LineNumbers}
 use Rattle.script_text.specs.Numbers.{IsNumber}
 use Rattle.script_text.specs.Text.{AreLines, IsPlain, Spells, IsSkipped}
-use Rattle.script_text.specs.PoolLine.{IsPoolLine, IsSomePool, numbers_of}
+use Rattle.script_text.specs.PoolLine.{IsPoolLine, AreSomePools, numbers_of_pools}
 
 -- what the lines of one kind of script say, after the pool line and a worker's number
 pub record Language (C : Type 0) : Type 1 where
@@ -16,6 +16,9 @@ pub record Language (C : Type 0) : Type 1 where
   pub IsCommand : List (List ℕ) → C → Type 0
   -- the names that a command makes
   pub names_made : C → List (List ℕ)
+  -- whether the pool line may give a second pool, and whether a command is of one
+  pub knows_second : Bool
+  pub needs_second : C → Bool
 
 -- each line is of a worker of the pool
 abbrev pub AreOfPool : {C : Type 0} → ℕ → List (Line C) → Type 0
@@ -43,10 +46,10 @@ AreApart (name ∷ names) = (IsOneOf names name → ⊥) × AreApart names
 
 -- ---- what was told
 
--- what the lines so far have told: the pool's numbers, if the pool line was read, and the command
+-- what the lines so far have told: the pools' numbers, if the pool line was read, and the command
 -- lines
 pub record State (C : Type 0) : Type 0 where
-  pub numbers : Option PoolNumbers
+  pub numbers : Option LineNumbers
   pub lines : List (Line C)
 
 -- before the first line
@@ -60,25 +63,24 @@ with_command state number worker command = record {
   lines = state.lines ++ record { number = number; worker = worker; command = command } ∷ [];
 }
 
--- a pool has the numbers, if they were told
+-- pools have the numbers, if they were told
 abbrev pub IsReady : {C : Type 0} → State C → Type 0
-IsReady state = IfSome state.numbers IsSomePool
+IsReady state = IfSome state.numbers AreSomePools
 
 -- the bytes are no more than a script has
 abbrev pub IsShort : List ℕ → Type 0
 IsShort bytes = length bytes ≤ 1048576
 
-module _ {C : Type 0} where
+module _ {C : Type 0} (language : Language C) where
   -- the line is the pool line, which comes before each command
   pub record ReadsPool (before : State C) (line : List ℕ) (after : State C) : Type 0 where
     pub first : before.numbers ≡ None
     pub words : List (List ℕ)
     pub spelled : Spells line words
-    pub numbers : PoolNumbers
-    pub is_pool_line : IsPoolLine words numbers
+    pub numbers : LineNumbers
+    pub is_pool_line : IsPoolLine language.knows_second words numbers
     pub after_is : after ≡ record { numbers = Some numbers; lines = before.lines }
 
-module _ {C : Type 0} (language : Language C) where
   -- the words are a line of this worker, in a pool of this many workers, with this command
   pub data IsCommandLine (workers : ℕ) (words : List (List ℕ)) (worker : ℕ)
       (command : C) : Type 0 where
@@ -106,14 +108,15 @@ module _ {C : Type 0} (language : Language C) where
   -- the line is the next command, and the one with this number
   pub record ReadsCommand (before : State C) (number : ℕ) (line : List ℕ)
       (after : State C) : Type 0 where
-    pub numbers : PoolNumbers
+    pub numbers : LineNumbers
     pub behind_pool : before.numbers ≡ Some numbers
     pub few : length before.lines < 10000
     pub words : List (List ℕ)
     pub spelled : Spells line words
     pub worker : ℕ
     pub command : C
-    pub is_command_line : IsCommandLine numbers.workers words worker command
+    pub is_command_line : IsCommandLine numbers.first.workers words worker command
+    pub has_second : language.needs_second command ≡ true → IsSome numbers.second
     pub anew : MakesAnew before.lines worker command
     pub after_is : after ≡ with_command before number worker command
 
@@ -135,12 +138,13 @@ module _ {C : Type 0} (language : Language C) where
       (next : State C) × Reads before number line next × IsReady next
       × AreRead next (number + 1) lines after
 
-  -- the bytes are the script with these limits and command lines
-  pub record IsScript (bytes : List ℕ) (limits : Limits) (lines : List (Line C)) : Type 0 where
+  -- the bytes are the script with pools of these limits and with these command lines
+  pub record IsScript (bytes : List ℕ) (pools : Pools) (lines : List (Line C)) : Type 0 where
     pub short : IsShort bytes
     pub texts : List (List ℕ)
     pub are_lines : AreLines bytes texts []
-    pub read : AreRead start 1 texts (record { numbers = Some (numbers_of limits); lines = lines })
+    pub read : AreRead start 1 texts
+        (record { numbers = Some (numbers_of_pools pools); lines = lines })
 
   -- the lines before the one with this number are read, and then these lines and this rest are left
   pub record Reaches (bytes : List ℕ) (state : State C) (number : ℕ) (left : List (List ℕ))
@@ -181,7 +185,7 @@ module _ {C : Type 0} (language : Language C) where
     unfinished : IsShort bytes → IsUnfinished bytes number → IsFirstFault bytes number
     no_pool : IsShort bytes → HasNoPool bytes number → IsFirstFault bytes number
 
-  -- the pool line has a reading, as each line before it, and no pool has its numbers
+  -- the pool line has a reading, as each line before it, and no pools have its numbers
   pub record HasBadPool (bytes : List ℕ) : Type 0 where
     pub short : IsShort bytes
     pub state : State C
@@ -192,9 +196,9 @@ module _ {C : Type 0} (language : Language C) where
     pub reached : Reaches bytes state number (line ∷ left) rest
     pub next : State C
     pub reads : Reads state number line next
-    pub numbers : PoolNumbers
+    pub numbers : LineNumbers
     pub numbers_are : next.numbers ≡ Some numbers
-    pub bad : IsSomePool numbers → ⊥
+    pub bad : AreSomePools numbers → ⊥
 
   -- why the bytes are refused; of a refusal for lack of memory nothing is said, and no other is
   -- given
@@ -206,9 +210,9 @@ module _ {C : Type 0} (language : Language C) where
 
   -- the bytes are some script
   pub record IsSomeScript (bytes : List ℕ) : Type 0 where
-    pub limits : Limits
+    pub pools : Pools
     pub lines : List (Line C)
-    pub script : IsScript bytes limits lines
+    pub script : IsScript bytes pools lines
 
   -- some line of the bytes is the first faulty one
   pub record HasSomeFault (bytes : List ℕ) : Type 0 where

@@ -32,6 +32,7 @@ enum Verb {
     Attach,
     Detach,
     Clone,
+    CloneTo,
     Count,
     Offer,
     Take,
@@ -64,6 +65,8 @@ fn verb_of(word: &[u8]) -> Option<Verb>
         Some(Verb::Detach)
     } else if word == b"clone".as_slice() {
         Some(Verb::Clone)
+    } else if word == b"cloneto".as_slice() {
+        Some(Verb::CloneTo)
     } else if word == b"count".as_slice() {
         Some(Verb::Count)
     } else if word == b"offer".as_slice() {
@@ -235,6 +238,10 @@ fn command_with(alloc: Global, verb: Verb, rest: &[u8]) -> Result<Option<Command
             Some((packet, made)) => Ok(Some(Command::Clone(packet, made))),
             None => Ok(None),
         },
+        Verb::CloneTo => match two_names(alloc, rest)? {
+            Some((packet, made)) => Ok(Some(Command::CloneTo(packet, made))),
+            None => Ok(None),
+        },
         Verb::Count => match copied_name(alloc, rest)? {
             Some(name) => Ok(Some(Command::Count(name))),
             None => Ok(None),
@@ -269,7 +276,15 @@ impl Spelled for Command {
         command_with(alloc, verb, rest)
     }
 
+    fn knows_second() -> bool {
+        true
+    }
+
     fn names_made(&self) -> &[Name] {
         self.names_made()
+    }
+
+    fn needs_second(&self) -> bool {
+        self.needs_second()
     }
 }

@@ -1,6 +1,7 @@
 //! The commands of a script.
 
 use crate::lines;
+pub use crate::lines::Pools;
 use commons::change::Change;
 use commons::seq::Seq;
 use std::slice;
@@ -27,6 +28,8 @@ pub enum Command {
     Detach(Name),
     /// Makes a clone of the first packet, under the second name.
     Clone(Name, Name),
+    /// Makes a clone of the first packet in the second pool, under the second name.
+    CloneTo(Name, Name),
     /// Tells the reference count of a packet's first segment's element.
     Count(Name),
     /// Leaves a packet on the desk of this number.
@@ -39,16 +42,17 @@ pub enum Command {
 
 impl Command {
     ghost use Rattle.std.specs.Prelude.{◌≡◌};
-    ghost use Rattle.script_text.specs.Commands.{names_made};
+    ghost use Rattle.script_text.specs.Commands.{names_made, needs_second};
 
     /// The names that the command makes.
     pub fn names_made(&self) -> &[Name]
         ensures { result.now ≡ names_made self.now }
     {
         match self {
-            Command::Alloc(name) | Command::Clone(_, name) | Command::Take(_, name) => {
-                slice::from_ref(name)
-            }
+            Command::Alloc(name)
+            | Command::Clone(_, name)
+            | Command::CloneTo(_, name)
+            | Command::Take(_, name) => slice::from_ref(name),
             Command::Bulk(names) => names.as_slice(),
             Command::Free(_)
             | Command::Resize(_, _)
@@ -59,6 +63,13 @@ impl Command {
             | Command::Offer(_, _)
             | Command::Flush => &[],
         }
+    }
+
+    /// Whether the command is one of a second pool.
+    pub fn needs_second(&self) -> bool
+        ensures { result ≡ needs_second self.now }
+    {
+        matches!(self, Command::CloneTo(_, _))
     }
 }
 
@@ -87,4 +98,8 @@ pub enum Key {
     Start,
     /// The number of the put rule.
     Rule,
+    /// How many elements a second pool has.
+    Second,
+    /// How many of its elements a worker's cache keeps.
+    SecondCache,
 }

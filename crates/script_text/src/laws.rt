@@ -2,6 +2,7 @@
 
 ghost use Rattle.std.specs.Prelude.{◌≡◌, ℕ, ◌⊎◌, List};
 ghost use Rattle.commons.specs.declared.limits.Limits.{Limits};
+ghost use Rattle.script_text.specs.declared.lines.Pools.{Pools};
 ghost use Rattle.script_text.specs.Commands.{Line};
 ghost use Rattle.script_text.specs.StepGrammar.{IsStepScript, IsFirstStepFault, HasBadStepPool, IsSomeStepScript, HasSomeStepFault};
 ghost use Rattle.script_text.specs.StepLine.{StepLine};
@@ -9,9 +10,9 @@ ghost use Rattle.script_text.specs.Grammar.{IsScript, IsFirstFault, HasBadPool, 
 
 /// No text is two scripts.
 pub fn one_reading()
-    ensures { (bytes : List ℕ) (limits other_limits : Limits) (lines other_lines : List Line) →
-        IsScript bytes limits lines → IsScript bytes other_limits other_lines →
-        (limits ≡ other_limits) × (lines ≡ other_lines) }
+    ensures { (bytes : List ℕ) (pools other_pools : Pools) (lines other_lines : List Line) →
+        IsScript bytes pools lines → IsScript bytes other_pools other_lines →
+        (pools ≡ other_pools) × (lines ≡ other_lines) }
 {}
 
 /// No text has two first faulty lines, and none has both a faulty line and a bad pool.
@@ -24,10 +25,10 @@ pub fn one_fault()
 
 /// No text with a faulty line or a bad pool is a script.
 pub fn no_faulty_script()
-    ensures line { (bytes : List ℕ) (number : ℕ) (limits : Limits) (lines : List Line) →
-        IsFirstFault bytes number → IsScript bytes limits lines → ⊥ }
-    ensures pool { (bytes : List ℕ) (limits : Limits) (lines : List Line) →
-        HasBadPool bytes → IsScript bytes limits lines → ⊥ }
+    ensures line { (bytes : List ℕ) (number : ℕ) (pools : Pools) (lines : List Line) →
+        IsFirstFault bytes number → IsScript bytes pools lines → ⊥ }
+    ensures pool { (bytes : List ℕ) (pools : Pools) (lines : List Line) →
+        HasBadPool bytes → IsScript bytes pools lines → ⊥ }
 {}
 
 /// Every text is a script, or has a first faulty line, or has a bad pool.

@@ -1,6 +1,6 @@
 //! A script, whatever its lines tell workers to do.
 
-ghost use Rattle.commons.specs.Bounds.{IsPool};
+ghost use Rattle.script_text.specs.PoolLine.{ArePools};
 ghost use Rattle.script_text.specs.Scripts.{AreOfPool};
 
 use commons::limits::Limits;
@@ -17,14 +17,24 @@ pub struct Line<C> {
     pub command: C,
 }
 
-/// A script: the limits of its pool, which can be made, and its commands in the order of the lines,
-/// each by a worker of the pool.
+/// The limits of a script's pool, and of a second one, for clones of its packets, where the script
+/// has one.
+#[derive(Clone, Copy, PartialEq, Eq, Debug)]
+pub struct Pools {
+    /// The limits of the pool that a script always has.
+    pub first: Limits,
+    /// Those of the second, which has as many workers and no desks.
+    pub second: Option<Limits>,
+}
+
+/// A script: the limits of its pools, which can be made, and its commands in the order of the
+/// lines, each by a worker of the pools.
 #[derive(Debug, Drop)]
 pub struct Script<C> {
     /// The limits that the pool line gives.
-    pub limits: Limits,
+    pub pools: Pools,
     /// The command lines in order.
     pub lines: Seq<Line<C>>,
-    pub ghost pool: { IsPool limits },
-    pub ghost workers: { AreOfPool limits.workers lines },
+    pub ghost made: { ArePools pools },
+    pub ghost workers: { AreOfPool pools.first.workers lines },
 }

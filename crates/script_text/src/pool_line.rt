@@ -1,12 +1,13 @@
 //! The pool line.
 
-ghost use Rattle.std.specs.Prelude.{◌≡◌, ◌<◌, MatchOption, codes};
+ghost use Rattle.std.specs.Prelude.{◌≡◌, ◌<◌, false, MatchOption, codes};
 ghost use Rattle.std.specs.Str.{bytes_eq};
-ghost use Rattle.script_text.specs.inside.Reading.{words_of, key_at, add_value, value_of, settings_from, none_given, numbers_by, numbers_from};
-ghost use Rattle.script_text.specs.PoolLine.{rule_number, numbers_of};
+ghost use Rattle.script_text.specs.inside.Reading.{words_of, key_at, add_value, value_of, settings_from, none_given, numbers_by, line_numbers_by, numbers_from, are_pools};
+ghost use Rattle.script_text.specs.PoolLine.{rule_number, numbers_of, numbers_of_pools, second_beside};
 
 use crate::commands::Key;
 use crate::line::next_word;
+use crate::lines::Pools;
 use crate::number::number_of;
 use commons::limits::{Limits, MAX_REFS, PutRule};
 
@@ -30,6 +31,10 @@ fn key_of(word: &[u8]) -> Option<Key>
         Some(Key::Start)
     } else if word == b"putrule".as_slice() {
         Some(Key::Rule)
+    } else if word == b"second".as_slice() {
+        Some(Key::Second)
+    } else if word == b"secondcache".as_slice() {
+        Some(Key::SecondCache)
     } else {
         None
     }
@@ -46,6 +51,8 @@ pub(crate) struct Settings {
     tries: Option<u64>,
     start: Option<u64>,
     rule: Option<u64>,
+    second: Option<u64>,
+    second_cache: Option<u64>,
 }
 
 /// No key was given a value.
@@ -58,6 +65,8 @@ const NONE_GIVEN: Settings = Settings {
     tries: None,
     start: None,
     rule: None,
+    second: None,
+    second_cache: None,
 };
 
 impl Settings {
@@ -74,6 +83,8 @@ impl Settings {
             Key::Tries => self.tries,
             Key::Start => self.start,
             Key::Rule => self.rule,
+            Key::Second => self.second,
+            Key::SecondCache => self.second_cache,
         }
     }
 
@@ -95,6 +106,8 @@ impl Settings {
             Key::Tries => settings.tries = value,
             Key::Start => settings.start = value,
             Key::Rule => settings.rule = value,
+            Key::Second => settings.second = value,
+            Key::SecondCache => settings.second_cache = value,
         }
         Some(settings)
     }
@@ -115,9 +128,28 @@ impl Settings {
             put_rule: self.rule.unwrap_or(0),
         }
     }
+
+    /// The numbers of a pool line with this many elements and these settings, or `None` where they
+    /// name a second pool that isn't known, or a second pool's cache and no second pool.
+    fn line_numbers(&self, knows_second: bool, population: u64) -> Option<LineNumbers>
+        ensures { result ≡ line_numbers_by knows_second population self.now }
+    {
+        let first = self.numbers(population);
+        let second = match (self.second, self.second_cache) {
+            (None, None) => None,
+            (None, Some(_)) => return None,
+            (Some(population), cache) => {
+                if !knows_second {
+                    return None;
+                }
+                Some(first.second_beside(population, cache.unwrap_or(0)))
+            }
+        };
+        Some(LineNumbers { first, second })
+    }
 }
 
-/// The numbers that a pool line gives: those that stand there, and the defaults.
+/// The numbers that a pool line gives to one pool: those that stand there, and the defaults.
 #[derive(Clone, Copy, PartialEq, Eq, Debug)]
 pub(crate) struct PoolNumbers {
     population: u64,
@@ -143,9 +175,22 @@ fn rule_of(number: u64) -> Option<PutRule>
 }
 
 impl PoolNumbers {
+    /// The numbers of a second pool beside one with these: it has no buffers and no desks.
+    fn second_beside(&self, population: u64, cache: u64) -> PoolNumbers
+        ensures { result ≡ second_beside self.now population cache }
+    {
+        PoolNumbers {
+            population,
+            cache,
+            desks: 0,
+            buf: 0,
+            ..*self
+        }
+    }
+
     /// The limits with these numbers, or `None` where no put rule has the number that is given for
     /// it.
-    pub(crate) fn limits(&self) -> Option<Limits>
+    fn limits(&self) -> Option<Limits>
         ensures { MatchOption result (1 < self.now.put_rule) (λ limits. self.now ≡ numbers_of limits) }
     {
         let put_rule = rule_of(self.put_rule)?;
@@ -160,6 +205,38 @@ impl PoolNumbers {
             start_count: self.start_count,
             put_rule,
         })
+    }
+}
+
+/// The numbers that a pool line gives to each pool.
+#[derive(Clone, Copy, PartialEq, Eq, Debug)]
+pub(crate) struct LineNumbers {
+    first: PoolNumbers,
+    second: Option<PoolNumbers>,
+}
+
+impl LineNumbers {
+    /// The limits with these numbers, or `None` where no put rule has a number that is given for
+    /// it.
+    pub(crate) fn pools(&self) -> Option<Pools>
+        ensures { MatchOption result
+            (are_pools self.now ≡ false)
+            (λ pools. self.now ≡ numbers_of_pools pools) }
+    {
+        let first = self.first.limits()?;
+        match self.second {
+            None => Some(Pools {
+                first,
+                second: None,
+            }),
+            Some(numbers) => {
+                let second = numbers.limits()?;
+                Some(Pools {
+                    first,
+                    second: Some(second),
+                })
+            }
+        }
     }
 }
 
@@ -186,9 +263,10 @@ fn is_pool_word(word: &[u8]) -> bool
     word == b"pool".as_slice()
 }
 
-/// The numbers that a pool line spells, or `None` where it spells none.
-pub(crate) fn pool_numbers_of(line: &[u8]) -> Option<PoolNumbers>
-    ensures { result ≡ numbers_from (words_of line.now) }
+/// The numbers that a pool line spells, or `None` where it spells none. A second pool is one of
+/// them only where it is known.
+pub(crate) fn line_numbers_of(knows_second: bool, line: &[u8]) -> Option<LineNumbers>
+    ensures { result ≡ numbers_from knows_second (words_of line.now) }
 {
     let (word, rest) = next_word(line)?;
     if !is_pool_word(word) {
@@ -197,5 +275,5 @@ pub(crate) fn pool_numbers_of(line: &[u8]) -> Option<PoolNumbers>
     let (word, rest) = next_word(rest)?;
     let population = number_of(word)?;
     let settings = settings_of(rest)?;
-    Some(settings.numbers(population))
+    settings.line_numbers(knows_second, population)
 }

@@ -1,20 +1,19 @@
 //! Reading the lines of a script one after another.
 
-ghost use Rattle.std.specs.Prelude.{◌≡◌, None, Some, Ok, OnOk, MatchOption, MatchResult, true};
+ghost use Rattle.std.specs.Prelude.{◌≡◌, None, Some, IfSome, Ok, OnOk, MatchOption, MatchResult, true};
 ghost use Rattle.script_text.specs.inside.Agreement.{StopsPool};
-ghost use Rattle.script_text.specs.PoolLine.{numbers_of};
+ghost use Rattle.script_text.specs.PoolLine.{IsBeside, numbers_of_pools};
 ghost use Rattle.script_text.specs.Scripts.{start};
-ghost use Rattle.script_text.specs.inside.Reading.{words_of, numbers_from, is_pool};
-ghost use Rattle.script_text.specs.inside.ScriptReading.{read_command as read_command_line, judged};
+ghost use Rattle.script_text.specs.inside.Reading.{words_of, numbers_from, are_pools};
+ghost use Rattle.script_text.specs.inside.ScriptReading.{lacks_second, read_command as read_command_line, judged};
 ghost use Rattle.script_text.specs.declared.reader.Stop.TheVariants.{OutOfMemory};
 
 use crate::line::{is_plain, is_skipped};
-use crate::lines::{Line, Script};
+use crate::lines::{Line, Pools, Script};
 use crate::made_names::MadeNames;
 use crate::order::order_of;
-use crate::pool_line::pool_numbers_of;
+use crate::pool_line::line_numbers_of;
 use crate::spelled::Spelled;
-use commons::limits::Limits;
 use commons::seq::Seq;
 use std::alloc::{AllocError, AllocFailed, Global};
 
@@ -51,27 +50,47 @@ impl<T: Drop> From<AllocFailed<T>> for Stop {
 /// What the lines so far have told.
 #[derive(Drop)]
 pub(crate) struct Reader<C> {
-    limits: Option<Limits>,
+    pools: Option<Pools>,
     made: MadeNames,
     lines: Vec<Line<C>>,
 }
 
-/// The limits that a pool line gives, within which a pool can be made.
-fn pool_of(line: &[u8]) -> Result<Limits, Stop>
-    ensures { MatchResult result
-        (λ limits. (numbers_from (words_of line.now) ≡ Some (numbers_of limits)) × (is_pool (numbers_of limits) ≡ true))
-        (λ stop. StopsPool stop (numbers_from (words_of line.now))) }
+/// Whether pools can be made within these limits.
+fn can_be_made(pools: &Pools) -> bool
+    requires { IfSome pools.now.second (IsBeside pools.now.first) }
+    ensures { result ≡ are_pools (numbers_of_pools pools.now) }
 {
-    let Some(numbers) = pool_numbers_of(line) else {
+    match &pools.second {
+        None => pools.first.check().is_ok(),
+        Some(second) => pools.first.check().is_ok() && second.check().is_ok(),
+    }
+}
+
+/// The limits that a pool line gives, within which pools can be made.
+fn made_pools(knows_second: bool, line: &[u8]) -> Result<Pools, Stop>
+    ensures { MatchResult result
+        (λ pools. (numbers_from knows_second (words_of line.now) ≡ Some (numbers_of_pools pools))
+        × (are_pools (numbers_of_pools pools) ≡ true))
+        (λ stop. StopsPool stop (numbers_from knows_second (words_of line.now))) }
+{
+    let Some(numbers) = line_numbers_of(knows_second, line) else {
         return Err(Stop::Fault);
     };
-    let Some(limits) = numbers.limits() else {
+    let Some(pools) = numbers.pools() else {
         return Err(Stop::BadPool);
     };
-    match limits.check() {
-        Ok(()) => Ok(limits),
-        Err(_) => Err(Stop::BadPool),
+    if can_be_made(&pools) {
+        Ok(pools)
+    } else {
+        Err(Stop::BadPool)
     }
+}
+
+/// Whether a command is of a second pool that isn't there.
+fn lacks_second<C: Spelled>(pools: &Pools, command: &C) -> bool
+    ensures { result ≡ lacks_second C.lexicon (numbers_of_pools pools.now) command.now }
+{
+    command.needs_second() && pools.second.is_none()
 }
 
 impl<C: Spelled> Reader<C> {
@@ -83,7 +102,7 @@ impl<C: Spelled> Reader<C> {
         ensures kept { IsKept C.lexicon result }
     {
         Reader {
-            limits: None,
+            pools: None,
             made: MadeNames::new(alloc),
             lines: Vec::new(alloc),
         }
@@ -103,40 +122,43 @@ impl<C: Spelled> Reader<C> {
         if is_skipped(line) {
             return Ok(());
         }
-        match self.limits {
+        match self.pools {
             None => {
-                self.limits = Some(pool_of(line)?);
+                self.pools = Some(made_pools(C::knows_second(), line)?);
                 Ok(())
             }
-            Some(limits) => self.read_command(alloc, &limits, number, line),
+            Some(pools) => self.read_command(alloc, &pools, number, line),
         }
     }
 
-    /// Reads a command line, which has this number, of a pool within these limits.
+    /// Reads a command line, which has this number, of pools within these limits.
     fn read_command(
         &mut self,
         alloc: Global,
-        limits: &Limits,
+        pools: &Pools,
         number: u32,
         line: &[u8],
     ) -> Result<(), Stop>
         requires kept { IsKept C.lexicon self.old }
-        requires told { self.old.limits ≡ Some limits.now }
+        requires told { self.old.pools ≡ Some pools.now }
         ensures read { MatchResult result
-            (λ _. read_command_line C.lexicon limits.now.workers (state_of self.old) number
-            (words_of line.now) ≡ Some (state_of self.new))
+            (λ _. read_command_line C.lexicon (numbers_of_pools pools.now) (state_of self.old)
+            number (words_of line.now) ≡ Some (state_of self.new))
             (λ stop. StopsCommand stop
-            (read_command_line C.lexicon limits.now.workers (state_of self.old) number
+            (read_command_line C.lexicon (numbers_of_pools pools.now) (state_of self.old) number
             (words_of line.now))) }
-        ensures limits { self.new.limits ≡ self.old.limits }
+        ensures pools { self.new.pools ≡ self.old.pools }
         ensures kept { OnOk result (IsKept C.lexicon self.new) }
     {
         if self.lines.len() >= MAX_COMMANDS {
             return Err(Stop::Fault);
         }
-        let Some((worker, command)) = order_of::<C>(alloc, limits.workers, line)? else {
+        let Some((worker, command)) = order_of::<C>(alloc, pools.first.workers, line)? else {
             return Err(Stop::Fault);
         };
+        if lacks_second(pools, &command) {
+            return Err(Stop::Fault);
+        }
         if !self.made.claim(worker, command.names_made())? {
             return Err(Stop::Fault);
         }
@@ -152,17 +174,17 @@ impl<C: Spelled> Reader<C> {
     pub(crate) fn finish(self) -> Option<Script<C>>
         requires { IsKept C.lexicon self }
         ensures { MatchOption result
-            (self.limits ≡ None)
-            (λ script. (self.limits ≡ Some script.limits) × (script.lines ≡ self.lines.items)) }
+            (self.pools ≡ None)
+            (λ script. (self.pools ≡ Some script.pools) × (script.lines ≡ self.lines.items)) }
     {
         let Reader {
-            limits,
+            pools,
             made: _,
             lines,
         } = self;
-        let limits = limits?;
+        let pools = pools?;
         Some(Script {
-            limits,
+            pools,
             lines: Seq::new(lines),
         })
     }

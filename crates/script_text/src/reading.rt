@@ -5,13 +5,16 @@
 //! only and lines whose first word begins with `#` are skipped. The first other line is the pool
 //! line, `pool` with the number of elements and then, in any order, keys with their numbers:
 //! `cache`, `workers`, `desks`, `buf`, `refs`, `tries`, `start` and `putrule`, each at most once.
-//! After it come at most 10,000 lines with a command each, or with a step each. A line is the first
-//! worker's, or that of the one whose number stands in front with a colon after it, as `2: flush`.
-//! A number is 1 to 20 digits with a value below 2^64.
+//! In a script of commands `second` may stand there too, a second pool's number of elements, and
+//! beside it `secondcache`, that pool's cache. After the pool line come at most 10,000 lines with a
+//! command each, or with a step each. A line is the first worker's, or that of the one whose number
+//! stands in front with a colon after it, as `2: flush`. A number is 1 to 20 digits with a value
+//! below 2^64.
 //!
 //! In a script of commands the lines are:
 //!
-//! - `alloc P`, `bulk P ..` of 1 to 256 names, `clone Q P` and `take D P` make the names P;
+//! - `alloc P`, `bulk P ..` of 1 to 256 names, `clone Q P`, `take D P` and, where there is a second
+//!   pool, `cloneto Q P` make the names P;
 //! - `free P`, `append P L`, `prepend P L`, `adj P L`, `trim P L`, `chain P Q`, `attach P Q`,
 //!   `detach P`, `count P` and `offer P D` name any packets, with a length L or a desk D of at
 //!   most 65,535;
@@ -32,11 +35,13 @@
 //!
 //! A step makes no names, and its elements and desk need not be in the pool's range.
 
-ghost use Rattle.std.specs.Prelude.{◌≡◌, List, IfOk, IfErr, MatchResult};
+ghost use Rattle.std.specs.Prelude.{◌≡◌, List, None, IfOk, IfErr, MatchResult};
 ghost use Rattle.commons.specs.declared.limits.Limits.{Limits};
+ghost use Rattle.script_text.specs.declared.lines.Pools.{Pools};
 ghost use Rattle.commons.specs.declared.refusal.Refusal.{Refusal};
 ghost use Rattle.script_text.specs.Commands.{Line};
 ghost use Rattle.script_text.specs.Grammar.{IsScript, IsCause};
+ghost use Rattle.script_text.specs.PoolLine.{one_pool};
 ghost use Rattle.script_text.specs.StepGrammar.{IsStepScript, IsStepCause};
 ghost use Rattle.script_text.specs.StepLine.{StepLine};
 ghost use Rattle.script_text.specs.inside.ScriptReading.{read_text};
@@ -98,15 +103,15 @@ fn script_of<C: Spelled>(alloc: Global, bytes: &[u8]) -> Result<lines::Script<C>
 /// `MAX_BYTES` bytes. `OutOfMemory` comes only where memory was refused.
 pub fn parse(alloc: Global, bytes: &[u8]) -> Result<Script, Refusal>
     // What is read is in the grammar.
-    ensures read { IfOk result (λ script. IsScript bytes.now script.limits script.lines) }
+    ensures read { IfOk result (λ script. IsScript bytes.now script.pools script.lines) }
 
     // Why nothing is read.
     ensures faults { IfErr result (λ refusal. IsCause bytes.now refusal) }
 
     // What is in the grammar is read as that script and no other, unless memory is refused.
-    ensures only { (limits : Limits) (lines : List Line) → IsScript bytes.now limits lines →
+    ensures only { (pools : Pools) (lines : List Line) → IsScript bytes.now pools lines →
         MatchResult result
-        (λ script. (script.limits ≡ limits) × (script.lines ≡ lines))
+        (λ script. (script.pools ≡ pools) × (script.lines ≡ lines))
         (λ refusal. refusal ≡ Refusal.OutOfMemory) }
 {
     script_of::<Command>(alloc, bytes)
@@ -121,7 +126,11 @@ pub fn parse(alloc: Global, bytes: &[u8]) -> Result<Script, Refusal>
 /// the pool doesn't have is not a fault of its line.
 pub fn parse_steps(alloc: Global, bytes: &[u8]) -> Result<StepScript, Refusal>
     // What is read is in the grammar.
-    ensures read { IfOk result (λ script. IsStepScript bytes.now script.limits script.lines) }
+    ensures read { IfOk result (λ script.
+        IsStepScript bytes.now script.pools.first script.lines) }
+
+    // There is no second pool.
+    ensures alone { IfOk result (λ script. script.pools.second ≡ None) }
 
     // Why nothing is read.
     ensures faults { IfErr result (λ refusal. IsStepCause bytes.now refusal) }
@@ -129,7 +138,7 @@ pub fn parse_steps(alloc: Global, bytes: &[u8]) -> Result<StepScript, Refusal>
     // What is in the grammar is read as that script and no other, unless memory is refused.
     ensures only { (limits : Limits) (lines : List StepLine) → IsStepScript bytes.now limits lines →
         MatchResult result
-        (λ script. (script.limits ≡ limits) × (script.lines ≡ lines))
+        (λ script. (script.pools ≡ one_pool limits) × (script.lines ≡ lines))
         (λ refusal. refusal ≡ Refusal.OutOfMemory) }
 {
     script_of::<Step>(alloc, bytes)

@@ -22,7 +22,15 @@ pub(crate) trait Spelled: Drop {
         ensures named { IfOk result (λ command.
             IfSome command (λ c. AllByRecursion IsName (lexicon.language.names_made c))) };
 
+    /// Whether the pool line may give a second pool.
+    fn knows_second() -> bool
+        ensures { result ≡ lexicon.language.knows_second };
+
     /// The names that the command makes.
     fn names_made(&self) -> &[Name]
         ensures { result.now ≡ lexicon.language.names_made self.now };
+
+    /// Whether the command is one of a second pool.
+    fn needs_second(&self) -> bool
+        ensures { result ≡ lexicon.language.needs_second self.now };
 }

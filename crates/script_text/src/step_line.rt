@@ -271,7 +271,15 @@ impl Spelled for Step {
         Ok(step_with(verb, rest))
     }
 
+    fn knows_second() -> bool {
+        false
+    }
+
     fn names_made(&self) -> &[Name] {
         &[]
+    }
+
+    fn needs_second(&self) -> bool {
+        false
     }
 }

@@ -75,7 +75,7 @@ counts_less places e place es others less h i = elim (cases_eq i e) [
 ]
 
 -- the end of one hold is the model's, and leaves the counts of the others
-end_one : (w : ℕ) (l : Limits) (others : ℕ → ℕ) (e : ℕ) (es : List ℕ) (s t : Lists) (cache : List ℕ)
+pub end_one : (w : ℕ) (l : Limits) (others : ℕ → ℕ) (e : ℕ) (es : List ℕ) (s t : Lists) (cache : List ℕ)
     (freed : Freed) (calls : List Call) (left : List ℕ) (done : Freed) →
     EndsHold l e cache freed calls left done → LeadsPlain w s calls t → Counts s (e ∷ es) others →
     ((done, left, shared_of t) ≡ next_hold l others e es (freed, cache, shared_of s)) × Counts t es others

@@ -80,7 +80,7 @@ elsewhere s members n t l each b slot segs there i =
     let outer = sum_by-set (λ (x : Member). held_in x.table i) members n (without_packet slot m) (nobody s.limits) b in
     omega (arith, counts_are_holds s members t l each i, inner, outer, bag-nil i)
 
-in_pool : (w n : ℕ) → 1 ≤ w → w ≤ n → (nat_le 1 w && nat_le w n) ≡ true
+pub in_pool : (w n : ℕ) → 1 ≤ w → w ≤ n → (nat_le 1 w && nat_le w n) ≡ true
 in_pool w n l b = grind (arith, nat_tests)
 
 -- what a worker did is what the model does

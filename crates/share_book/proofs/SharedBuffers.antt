@@ -45,7 +45,7 @@ not_counted : (s : Lists) (w e : ℕ) → 0 < hand_of s w e → held_count (plac
 not_counted s w e h = ap held_count (is_hand w (place_of s e) h)
 
 -- the counts once an element is claimed
-counts_claimed : (s : Lists) (w e : ℕ) (es : List ℕ) (others : ℕ → ℕ) → 0 < hand_of s w e →
+pub counts_claimed : (s : Lists) (w e : ℕ) (es : List ℕ) (others : ℕ → ℕ) → 0 < hand_of s w e →
     Counts s es others → Counts (after_claim w e s) (es ++ e ∷ []) others
 counts_claimed s w e es others h counts i = elim (cases_eq i e) [
   | inl same ↦
@@ -64,7 +64,7 @@ counts_claimed s w e es others h counts i = elim (cases_eq i e) [
 ]
 
 -- and once one has a hold more
-count_raised : (s : Lists) (w b i : ℕ) → 0 < held_count (place_of s b) →
+pub count_raised : (s : Lists) (w b i : ℕ) → 0 < held_count (place_of s b) →
     held_count (place_of (after_raise w b s) i) ≡ held_count (place_of s i) + one b i
 count_raised s w b i h = elim (cases_eq i b) [
   | inl same ↦
@@ -82,7 +82,7 @@ count_raised s w b i h = elim (cases_eq i b) [
 ]
 
 -- a raise is refused on the lists where the count is at its limit
-raise_refused : (w : ℕ) (s : Lists) (b : ℕ) (cause : Refusal) (t : Lists) →
+pub raise_refused : (w : ℕ) (s : Lists) (b : ℕ) (cause : Refusal) (t : Lists) →
     DidRaise w s b (Err cause) t →
     (cause ≡ RefSpent) × (held_count (place_of s b) ≡ s.limits.ref_limit) × (t ≡ s)
 raise_refused w s b RefSpent t d = (refl, d.0, d.1)

@@ -1,11 +1,11 @@
 -- Lists that show a table, each worker of which owns its part of them, leave a lawful snapshot,
 -- whatever bases are foreign and whatever guests there are.
-use Rattle.std.proofs.Common.{ℕ, ◌≡◌, ◌+◌, ◌-◌, ◌<◌, ◌≤◌, inl, inr, Bool, List, [], ◌∷◌, length, get_or, map, None, refl, sym, ap, ◌∙◌, arith}
+use Rattle.std.proofs.Common.{ℕ, ◌≡◌, ◌+◌, ◌<◌, ◌≤◌, inl, inr, Bool, List, [], ◌∷◌, length, get_or, map, None, refl, sym, ap, ◌∙◌, arith}
 use Rattle.std.specs.Prelude.{max, min, slice_index, sum_by}
 use Rattle.std.specs.List.{range_with_len}
 use Rattle.std.proofs.lemmas.Bool.{cases_lt}
 use Rattle.std.proofs.lemmas.Bool.Decides.{nat_tests}
-use Rattle.std.proofs.lemmas.List.{get_or-map, get_or_past, length-map}
+use Rattle.std.proofs.lemmas.List.{get_or_past}
 use Rattle.std.proofs.lemmas.List.FromFn.{get_or-map-range_with_len, length-map-range_with_len}
 use Rattle.commons.specs.Bag.{bag}
 use Rattle.commons.specs.Closing.{closed_of, link_in}
@@ -20,9 +20,9 @@ use Rattle.pool_model.proofs.Listed.{sum_by-map}
 use Rattle.snapshot.specs.Closing.{share_of, snapshot_of}
 use Rattle.snapshot.specs.declared.snapshot.ShareData.{ShareData}
 use Rattle.snapshot.specs.declared.snapshot.Snapshot.{Snapshot}
-use Rattle.snapshot.specs.Snapshots.{IsLawful, times_held, times_own}
+use Rattle.snapshot.specs.Snapshots.{IsLawful, times_held, times_own, walk}
 use Rattle.book.specs.TwinSettling.{AreOfPackets}
-use Rattle.book.proofs.Spelled.{IsPlaced, below, lawful, placed_linked}
+use Rattle.book.proofs.Spelled.{IsPlaced, Shows, below, lawful, placed_linked, walk_is}
 use Rattle.share_book.proofs.ListSums.{hands_summed, headers_summed, in_hands, no_hands}
 
 -- a worker's number, its hand and its headers are those of its place in the lists
@@ -118,9 +118,10 @@ module _ (s : Lists) (members : List Member) (guests : List Guest) (foreign : Bo
   numbers_again [] = refl
   numbers_again (m ∷ ms) = ap (λ (ns : List ℕ). m.number ∷ ns) (numbers_again ms)
 
-  pub lists_lawful : map (λ (m : Member). m.number) members ≡ range_with_len 1 s.limits.workers →
-      AreOfWorkers s.limits.workers guests → AreOfPackets snap → IsLawful snap
-  lists_lawful numbers of_workers = lawful snap s.common (record {
+  -- links, counts and shares show the lists
+  spelled : map (λ (m : Member). m.number) members ≡ range_with_len 1 s.limits.workers →
+      AreOfWorkers s.limits.workers guests → Shows snap s.common
+  spelled numbers of_workers = record {
     links = length-map-range_with_len (link_in s.common) 0 s.limits.population;
     counts = length-map-range_with_len (λ k. max 1 (held_count (place_of s k))) 0 s.limits.population;
     desks = t.desks;
@@ -132,4 +133,13 @@ module _ (s : Lists) (members : List Member) (guests : List Guest) (foreign : Bo
     placed = placed;
     own = own_once;
     counted = counted;
-  })
+  }
+
+  pub lists_lawful : map (λ (m : Member). m.number) members ≡ range_with_len 1 s.limits.workers →
+      AreOfWorkers s.limits.workers guests → AreOfPackets snap → IsLawful snap
+  lists_lawful numbers of_workers = lawful snap s.common (spelled numbers of_workers)
+
+  -- its walk is the common list
+  pub lists_walk : map (λ (m : Member). m.number) members ≡ range_with_len 1 s.limits.workers →
+      AreOfWorkers s.limits.workers guests → walk snap ≡ s.common
+  lists_walk numbers of_workers = walk_is snap s.common (spelled numbers of_workers)

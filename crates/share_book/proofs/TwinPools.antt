@@ -1,4 +1,4 @@
--- Two pools on the lists, each of which is lawful by itself.
+-- Two pools on the lists, each of which is lawful by itself, with the statement of the model's pool.
 use Rattle.std.proofs.Common.{ℕ, ◌≡◌, ◌+◌, ◌-◌, ◌<◌, true, false, List, [], length, get_or, map, Option, refl, sym, ap, ◌∙◌, arith}
 use Rattle.std.specs.Prelude.{flat_map, sum_by}
 use Rattle.std.specs.List.{range_with_len}
@@ -9,19 +9,22 @@ use Rattle.commons.specs.Packets.{held_in, own_in}
 use Rattle.mbuf.specs.Foreign.{bases_in}
 use Rattle.mbuf.specs.Members.{Member}
 use Rattle.mbuf.specs.Twins.{TwinMember}
-use Rattle.pool_model.specs.Guests.{guests_by, local_table}
+use Rattle.pool_model.specs.Guests.{AreOfWorkers, guests_by, local_table}
+use Rattle.pool_model.specs.TwinModel.{first_statement, second_statement}
 use Rattle.pool_model.proofs.Listed.{sum_by-map}
 use Rattle.snapshot.specs.Closing.{share_of}
 use Rattle.snapshot.specs.declared.snapshot.ShareData.{ShareData}
-use Rattle.snapshot.specs.Snapshots.{times_held}
+use Rattle.snapshot.specs.Snapshots.{statement_in, times_held}
 use Rattle.snapshot.proofs.Times.{held-is}
 use Rattle.book.specs.TwinSettling.{IsLawfulByTypes}
+use Rattle.share_book.specs.AsModel.{pools_of}
 use Rattle.share_book.specs.TwinSites.{TwinLists, first_snapshot, second_snapshot, twin_at}
 use Rattle.share_book.specs.inside.TwinSite.{AreTables}
 use Rattle.share_book.proofs.Counts.{sums_agree}
 use Rattle.book.proofs.TwinGuests.{guests_are_bases, guests_of_workers, local_holds, sum_both, sum_same}
-use Rattle.share_book.proofs.TwinLawful.{IsPart, lists_lawful}
+use Rattle.share_book.proofs.TwinLawful.{IsPart, lists_lawful, lists_walk}
 use Rattle.share_book.proofs.TwinMembers.{first_numbers, second_numbers}
+use Rattle.share_book.proofs.TwinStatements.{lists_stated}
 
 abbrev firsts : List TwinMember → List Member
 firsts ms = map (λ m. m.first) ms
@@ -46,7 +49,7 @@ module _ (s : TwinLists) (t : AreTables s) where
       rw (get_or-map (λ (m : TwinMember). m.first) s.members n nobody nobody.first within)
       (record { cached = own.cached; headed = own.headed })
 
-  first_rows : (i : ℕ) →
+  pub first_rows : (i : ℕ) →
       holds_of_all s.first i ≡ sum_by (λ (m : TwinMember). held_in m.first.table i + bases_in m.second.table i) s.members
   first_rows i =
       sums_agree (λ row. get_or row i 0) (λ (m : TwinMember). held_in m.first.table i + bases_in m.second.table i)
@@ -80,16 +83,36 @@ module _ (s : TwinLists) (t : AreTables s) where
       second_numbers s.first s.second s.members nobody t.each
       ∙ ap (range_with_len 1) (sym (length-map s.members (λ (m : TwinMember). m.second)))
 
+  -- foreign clones are of workers of the first pool
+  of_workers : AreOfWorkers s.first.limits.workers (flat_map guests_by (seconds s.members))
+  of_workers =
+      guests_of_workers s.first.limits.workers 1 (seconds s.members) (omega arith)
+      (omega (arith, many_second, t.pools.twins.workers)) numbers_second
+
   pub first_lawful : IsLawfulByTypes (first_snapshot s)
   first_lawful =
       lists_lawful s.first (firsts s.members) (flat_map guests_by (seconds s.members)) false nobody.first t.first many_first
-      first_parts first_held numbers_first
-      (guests_of_workers s.first.limits.workers 1 (seconds s.members) (omega arith)
-      (omega (arith, many_second, t.pools.twins.workers)) numbers_second)
+      first_parts first_held numbers_first of_workers
+
+  -- its workers are of it
+  first_limited : (n : ℕ) → n < length (firsts s.members) →
+      (get_or (firsts s.members) n nobody.first).limits ≡ s.first.limits
+  first_limited n l =
+      let within : n < length s.members = omega (arith, l, length-map s.members (λ (m : TwinMember). m.first)) in
+      rw (get_or-map (λ (m : TwinMember). m.first) s.members n nobody nobody.first within)
+      (t.each n within).own.first.limits
+
+  -- what the first pool leaves has the statement of the model's first pool
+  pub first_stated : statement_in (first_snapshot s) ≡ first_statement (pools_of s)
+  first_stated =
+      let guests = flat_map guests_by (seconds s.members) in
+      lists_stated s.first (firsts s.members) guests false nobody.first first_limited
+      (lists_walk s.first (firsts s.members) guests false nobody.first t.first many_first first_parts first_held
+      numbers_first of_workers)
 
   -- ---- the second
 
-  no_desks : s.second.desks ≡ []
+  pub no_desks : s.second.desks ≡ []
   no_desks = nil_from_length s.second.desks (t.second.desks ∙ t.pools.no_desks)
 
   second_parts : (n : ℕ) → n < length (seconds s.members) → IsPart s.second n (get_or (seconds s.members) n nobody.second)
@@ -99,7 +122,7 @@ module _ (s : TwinLists) (t : AreTables s) where
       rw (get_or-map (λ (m : TwinMember). m.second) s.members n nobody nobody.second within)
       (record { cached = own.cached; headed = own.headed })
 
-  second_rows : (i : ℕ) → holds_of_all s.second i ≡ sum_by (λ (m : TwinMember). own_in m.second.table i) s.members
+  pub second_rows : (i : ℕ) → holds_of_all s.second i ≡ sum_by (λ (m : TwinMember). own_in m.second.table i) s.members
   second_rows i =
       sums_agree (λ row. get_or row i 0) (λ (m : TwinMember). own_in m.second.table i)
       s.second.holds s.members [] nobody (t.second.workers ∙ t.pools.twins.workers ∙ sym t.workers)
@@ -119,8 +142,28 @@ module _ (s : TwinLists) (t : AreTables s) where
     t.second.counted i,
   )
 
+  -- it has no guests
+  of_nobody : AreOfWorkers s.second.limits.workers []
+  of_nobody = guests_of_workers s.second.limits.workers 1 [] (omega arith) (omega arith) refl
+
+  numbered_second : map (λ (m : Member). m.number) (seconds s.members) ≡ range_with_len 1 s.second.limits.workers
+  numbered_second = numbers_second ∙ ap (range_with_len 1) many_second
+
   pub second_lawful : IsLawfulByTypes (second_snapshot s)
   second_lawful =
       lists_lawful s.second (seconds s.members) [] true nobody.second t.second many_second
-      second_parts second_held (numbers_second ∙ ap (range_with_len 1) many_second)
-      (guests_of_workers s.second.limits.workers 1 [] (omega arith) (omega arith) refl)
+      second_parts second_held numbered_second of_nobody
+
+  second_limited : (n : ℕ) → n < length (seconds s.members) →
+      (get_or (seconds s.members) n nobody.second).limits ≡ s.second.limits
+  second_limited n l =
+      let within : n < length s.members = omega (arith, l, length-map s.members (λ (m : TwinMember). m.second)) in
+      rw (get_or-map (λ (m : TwinMember). m.second) s.members n nobody nobody.second within)
+      (t.each n within).own.second.limits
+
+  -- and what the second leaves that of the second
+  pub second_stated : statement_in (second_snapshot s) ≡ second_statement (pools_of s)
+  second_stated =
+      lists_stated s.second (seconds s.members) [] true nobody.second second_limited
+      (lists_walk s.second (seconds s.members) [] true nobody.second t.second many_second second_parts second_held
+      numbered_second of_nobody)

@@ -1,3 +1,4 @@
+pub mod AsModel
 pub mod Locked
 pub mod TwinSites
 pub mod inside

@@ -2,3 +2,4 @@
 pub mod Own
 pub mod SitePool
 pub mod TwinSite
+pub mod TwinStates

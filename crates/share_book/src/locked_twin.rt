@@ -1,9 +1,11 @@
 //! Two pools that threads share under one lock.
 
-ghost use Rattle.std.specs.Prelude.{◌≡◌, map, IfOk, IfErr};
+ghost use Rattle.std.specs.Prelude.{ℕ, ◌≡◌, List, map, IfOk, IfErr};
 ghost use Rattle.std.specs.List.{range_with_len};
 ghost use Rattle.book.specs.TwinSettling.{IsLawfulByTypes, first_of, second_of};
 ghost use Rattle.twin_acts.specs.TwinActs.{HasTwinRoom};
+ghost use Rattle.twin_acts.specs.declared.acts.TwinAct.{TwinAct};
+ghost use Rattle.share_book.specs.Locked.{AreTwinsLeftBy};
 ghost use Rattle.share_book.specs.TwinSites.{AreTwinPools, IsTwinMakeCause, TwinLists};
 
 use crate::locked_site::{AnyLimits, OfLimits};
@@ -54,7 +56,8 @@ impl<K: OfLimits, L: OfLimits> KeptTwin<K, L> {
 }
 
 /// Two pools as lists under one lock, for threads, each of which lets its worker act. Whenever the
-/// lock is free, each pool is lawful by itself. It can't be dropped: `close` or `lose` ends it.
+/// lock is free, some acts, one after another, made the pools of new ones of their limits, and each
+/// is lawful by itself. It can't be dropped: `close` or `lose` ends it.
 pub struct LockedTwins<K: OfLimits, L: OfLimits> {
     site: Mutex<KeptTwin<K, L>>,
 }
@@ -110,7 +113,8 @@ impl<K: OfLimits, L: OfLimits> LockedTwins<K, L> {
 
     /// Takes the pools out of the lock and closes them, as `TwinSite::close` does: of each its
     /// limits and what its shared part leaves, and the share of each worker, from the first to the
-    /// last. They are two lawful snapshots.
+    /// last. They are two lawful snapshots, and are what some acts leave of new pools of these
+    /// limits.
     ///
     /// Refused `OutOfMemory` where memory was refused. Pools of limits that `K` and `L` allow come
     /// back then; that they are the same is seen by reading.
@@ -118,6 +122,7 @@ impl<K: OfLimits, L: OfLimits> LockedTwins<K, L> {
         ensures first_allowed { IfOk result (λ c. K.allows c.first_limits) }
         ensures second_allowed { IfOk result (λ c. L.allows c.second_limits) }
         ensures pools { IfOk result (λ c. AreTwinPools c.first_limits c.second_limits) }
+        ensures reached { IfOk result (λ c. (acts : List (ℕ × TwinAct)) × AreTwinsLeftBy acts c.first_limits c.second_limits c.first c.second c.shares.items) }
         ensures first_numbers { IfOk result (λ c. map (λ m. m.number) (map (λ m. m.first) c.shares.items) ≡ range_with_len 1 c.first_limits.workers) }
         ensures second_numbers { IfOk result (λ c. map (λ m. m.number) (map (λ m. m.second) c.shares.items) ≡ range_with_len 1 c.second_limits.workers) }
         ensures first_lawful { IfOk result (λ c. IsLawfulByTypes (first_of c.first_limits c.first c.shares.items)) }
@@ -128,6 +133,7 @@ impl<K: OfLimits, L: OfLimits> LockedTwins<K, L> {
     {
         let LockedTwins { site } = self;
         let site = site.into_inner().into_site();
+        site.comes_of_acts();
         site.close(alloc)
     }
 

@@ -1,7 +1,8 @@
 //! Two pools of all workers on the lists. Direct packets are of the first, and foreign clones, whose
 //! bases are elements of it, of the second. `first` and `second` are what the workers share, and
 //! `members` has the packets, the clones and both caches of each, by number: `perform` lets one
-//! worker act on all of these, and writes no other member; `close` ends them.
+//! worker act on all of these, and writes no other member; `close` ends them. They are two pools of
+//! the reference model, and each act is the model's.
 
 ghost use Rattle.std.specs.Prelude.{ℕ, ◌≡◌, ◌<◌, ◌≤◌, ◌+◌, List, [], length, map, vec_capacity, vec_len, IfOk, IfErr};
 ghost use Rattle.std.specs.List.{range_with_len};
@@ -11,8 +12,12 @@ ghost use Rattle.commons.specs.Lists.{side_of};
 ghost use Rattle.mbuf.specs.Acts.{as_reply};
 ghost use Rattle.mbuf.specs.Twins.{OwnTwin};
 ghost use Rattle.mbuf.specs.declared.acts.Answer.TheVariants.{Refused};
+ghost use Rattle.pool_model.specs.TwinModel.{after_twin_acts, first_statement, new_twin_pool, perform_twin, second_statement};
+ghost use Rattle.snapshot.specs.Snapshots.{statement_in};
 ghost use Rattle.book.specs.TwinSettling.{IsLawfulByTypes, first_of, second_of};
 ghost use Rattle.twin_acts.specs.TwinActs.{HasTwinRoom, KeepsTwin};
+ghost use Rattle.twin_acts.specs.declared.acts.TwinAct.{TwinAct};
+ghost use Rattle.share_book.specs.AsModel.{pools_of};
 ghost use Rattle.share_book.specs.TwinSites.{ActsAlone, ActsOn, AreTwinPools, HasWorker, IsTwinMakeCause, first_snapshot, new_twin, new_twin_lists, second_snapshot, twin_at};
 
 use crate::deskless::left_without_desks;
@@ -71,6 +76,7 @@ impl TwinSite {
     /// workers, or where the second has desks, and `OutOfMemory` where memory was refused.
     pub fn make(alloc: Global, first: &Limits, second: &Limits) -> Result<TwinSite, Refusal>
         ensures ok { IfOk result (λ t. t ≡ new_twin_lists first.now second.now) }
+        ensures model { IfOk result (λ t. pools_of t ≡ new_twin_pool first.now second.now) }
         ensures pools { IfOk result (λ _. AreTwinPools first.now second.now) }
         ensures cause { IfErr result (IsTwinMakeCause first.now second.now) }
     {
@@ -106,6 +112,23 @@ impl TwinSite {
         let _known = &self.members;
     }
 
+    /// A law of any two pools: some acts, one after another, made them of new ones. It does
+    /// nothing.
+    pub fn comes_of_acts(&self)
+        ensures { (acts : List (ℕ × TwinAct)) × (pools_of self.now ≡ after_twin_acts acts (new_twin_pool self.now.first.limits self.now.second.limits)) }
+    {
+        let _known = &self.members;
+    }
+
+    /// A law of any two pools: what they leave has the statements that the model's pools have. It
+    /// does nothing.
+    pub fn leaves_its_statements(&self)
+        ensures first { statement_in (first_snapshot self.now) ≡ first_statement (pools_of self.now) }
+        ensures second { statement_in (second_snapshot self.now) ≡ second_statement (pools_of self.now) }
+    {
+        let _known = &self.members;
+    }
+
     /// Ends both pools and gives nothing back.
     pub fn lose(self) {
         let TwinSite {
@@ -117,12 +140,13 @@ impl TwinSite {
     }
 
     /// Lets a worker, numbered from 1, do this with its packets, its clones and its caches, and
-    /// answers what came of it. It does so by calls on the lists of both pools, and leaves the
-    /// other workers what they have.
+    /// answers what came of it, as the reference model does. It does so by calls on the lists of
+    /// both pools, and leaves the other workers what they have.
     ///
     /// Refused `StrangerShare` for a worker outside the pools, and nothing changes then; else as
     /// the call of `mbuf::twin::Twin` is that the act names.
     pub fn perform(&mut self, worker: u32, act: TwinAct) -> Reply
+        ensures modelled { (result, pools_of self.new) ≡ perform_twin (pools_of self.old) worker act }
         ensures done { HasWorker self.old worker → ActsOn worker act self.old result self.new }
         ensures stranger { ¬ (HasWorker self.old worker) → (result ≡ Refused Refusal.StrangerShare) × (self.new ≡ self.old) }
         ensures first_limits { self.new.first.limits ≡ self.old.first.limits }
@@ -135,6 +159,7 @@ impl TwinSite {
     /// a bulk asks for where it asks for 256 at most: with none the answer is small.
     pub fn perform_in<const ROOM: usize>(&mut self, worker: u32, act: TwinAct) -> Answer<ROOM>
         requires room { HasTwinRoom ROOM act }
+        ensures modelled { (as_reply result, pools_of self.new) ≡ perform_twin (pools_of self.old) worker act }
         ensures done { HasWorker self.old worker → ActsOn worker act self.old (as_reply result) self.new }
         ensures stranger { ¬ (HasWorker self.old worker) → (as_reply result ≡ Refused Refusal.StrangerShare) × (self.new ≡ self.old) }
         ensures first_limits { self.new.first.limits ≡ self.old.first.limits }
@@ -148,7 +173,8 @@ impl TwinSite {
     }
 
     /// Ends both pools, and gives of each its limits and what its shared part leaves, and the share
-    /// of each worker, from the first to the last. Together they are two lawful snapshots.
+    /// of each worker, from the first to the last. Together they are two lawful snapshots, with the
+    /// statements that the model's pools have.
     ///
     /// Refused `OutOfMemory` where memory was refused. The pools come back then, as they were.
     pub fn close(self, alloc: Global) -> Result<ClosedTwin, (Refusal, TwinSite)>
@@ -162,6 +188,8 @@ impl TwinSite {
         ensures second_numbers { IfOk result (λ c. map (λ m. m.number) (map (λ m. m.second) c.shares.items) ≡ range_with_len 1 c.second_limits.workers) }
         ensures first_lawful { IfOk result (λ c. IsLawfulByTypes (first_of c.first_limits c.first c.shares.items)) }
         ensures second_lawful { IfOk result (λ c. IsLawfulByTypes (second_of c.second_limits c.second c.shares.items)) }
+        ensures first_model { IfOk result (λ c. statement_in (first_of c.first_limits c.first c.shares.items) ≡ first_statement (pools_of self)) }
+        ensures second_model { IfOk result (λ c. statement_in (second_of c.second_limits c.second c.shares.items) ≡ second_statement (pools_of self)) }
         ensures memory { IfErr result (λ refused. refused.0 ≡ Refusal.OutOfMemory) }
         ensures back { IfErr result (λ refused. refused.1 ≡ self) }
     {
@@ -170,6 +198,7 @@ impl TwinSite {
         };
         self.fits_its_limits();
         self.each_pool_is_lawful();
+        self.leaves_its_statements();
         let Ok(left) = left_without_desks(alloc, &self.second) else {
             shares.destroy_empty();
             return Err((Refusal::OutOfMemory, self));

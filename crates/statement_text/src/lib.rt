@@ -1,4 +1,4 @@
-//! The text of a pool's statement.
+//! The text of statements: of one pool, and of two.
 #![tactic(auto)]
 
 mod caches;
@@ -6,4 +6,4 @@ mod held;
 mod segments;
 mod whole;
 
-pub use whole::{settled_text, statement_text};
+pub use whole::{pool_text, statement_text};

@@ -13,11 +13,11 @@ use std::alloc::Global;
 use std::io;
 use std::io::Write;
 
-/// The text of a statement: its totals, the common list from the top, and then a line for each
-/// cache, packet, desk with a packet, and held element.
+/// The text of one pool's statement: its totals, the common list from the top, and then a line for
+/// each cache, packet, desk with a packet, and held element.
 ///
 /// Refused `OutOfMemory` where there is no room for it.
-pub fn statement_text(alloc: Global, statement: &Statement) -> Result<Vec<u8>, Refusal>
+pub fn pool_text(alloc: Global, statement: &Statement) -> Result<Vec<u8>, Refusal>
     ensures text { IfOk result (λ v. v.items ≡ text_of statement.now) }
     ensures memory { IfErr result (λ e. e ≡ Refusal.OutOfMemory) }
 {
@@ -32,7 +32,7 @@ pub fn statement_text(alloc: Global, statement: &Statement) -> Result<Vec<u8>, R
 /// second pool, the line `second` and its statement.
 ///
 /// Refused `OutOfMemory` where there is no room for it.
-pub fn settled_text(alloc: Global, settled: &Settled) -> Result<Vec<u8>, Refusal>
+pub fn statement_text(alloc: Global, settled: &Settled) -> Result<Vec<u8>, Refusal>
     ensures text { IfOk result (λ v. v.items ≡ text_of_settled settled.now) }
     ensures memory { IfErr result (λ e. e ≡ Refusal.OutOfMemory) }
 {

@@ -46,10 +46,11 @@ pub fn run_steps(alloc: Global, bytes: &[u8]) -> Result<Vec<u8>, Refusal>
 
 /// What is printed for a script.
 fn printed(alloc: Global, script: &StepScript) -> Result<Vec<u8>, Refusal>
-    ensures text { IfOk result (λ out. IsPrintedFor script.now.limits script.now.lines out.items) }
+    ensures text { IfOk result (λ out.
+        IsPrintedFor script.now.pools.first script.now.lines out.items) }
     ensures memory { IfErr result (λ refusal. refusal ≡ Refusal.OutOfMemory) }
 {
-    let world = World::open(alloc, &script.limits)?;
+    let world = World::open(alloc, &script.pools.first)?;
     printed_from(alloc, world, script.lines.as_slice())
 }
 

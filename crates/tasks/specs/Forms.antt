@@ -1,13 +1,13 @@
 -- What is printed in each form, and for each task.
 use Rattle.std.specs.Prelude.{ℕ, ◌≡◌, List, ◌++◌, codes}
 use Rattle.commons.specs.declared.refusal.Refusal.{Refusal}
-use Rattle.json_text.specs.StatementData.{json_of, numbers_of}
-use Rattle.pool_model.specs.declared.statement.Statement.{Statement}
+use Rattle.json_text.specs.StatementData.{json_of_settled, numbers_of}
+use Rattle.pool_model.specs.declared.settled.Settled.{Settled}
 use Rattle.script.specs.Losing.{IsCauseWithout, LosesFrom, lost_text}
 use Rattle.script.specs.Printed.{IsJsonFor, IsPrintedFor}
 use Rattle.script.specs.Running.{RunsTo}
 use Rattle.script.specs.declared.threaded.Grounds.{Grounds}
-use Rattle.statement_text.specs.StatementText.{text_of}
+use Rattle.statement_text.specs.StatementText.{text_of_settled}
 use Rattle.script_text.specs.Grammar.{IsCause}
 use Rattle.script_text.specs.StepGrammar.{IsStepCause}
 use Rattle.step_text.specs.Printed.{IsStepsPrint}
@@ -21,16 +21,16 @@ abbrev pub IsPrintedAs : Form → List ℕ → List ℕ → Type 0
 IsPrintedAs Text = IsPrintedFor
 IsPrintedAs Json = IsJsonFor
 
--- this is the statement in this form
-abbrev pub IsStatementAs : Form → Statement → List ℕ → Type 0
-IsStatementAs Text s out = out ≡ text_of s
-IsStatementAs Json s out = out ≡ json_of s ++ codes "\n"
+-- this is what a script's pools come to in this form
+abbrev pub IsSettledAs : Form → Settled → List ℕ → Type 0
+IsSettledAs Text s out = out ≡ text_of_settled s
+IsSettledAs Json s out = out ≡ json_of_settled s ++ codes "\n"
 
 -- the bytes are a script, and this is printed for its run in threads on such a ground in this form
 pub record IsRunPrintedAs (grounds : Grounds) (form : Form) (bytes out : List ℕ) : Type 0 where
-  pub statement : Statement
-  pub runs : RunsTo grounds bytes statement
-  pub written : IsStatementAs form statement out
+  pub settled : Settled
+  pub runs : RunsTo grounds bytes settled
+  pub written : IsSettledAs form settled out
 
 -- these are the lost elements in this form
 abbrev pub AreElementsAs : Form → List ℕ → List ℕ → Type 0

@@ -14,9 +14,9 @@ use std::thread::Threads;
 /// What a run of these bytes with a thread for each worker prints in a form, where this worker is
 /// lost at its end.
 ///
-/// `ScriptFault` where they aren't a script, `BadPool` where no pool can be made within the
-/// script's limits, `StrangerShare` where the pool doesn't have the worker, and `OutOfMemory` where
-/// memory was refused, or under the lock a thread.
+/// `ScriptFault` where they aren't a script, `BadPool` where no pools can be made within the
+/// script's limits, `Foreign` where it has a second pool, `StrangerShare` where the pool doesn't have
+/// the worker, and `OutOfMemory` where memory was refused, or under the lock a thread.
 pub fn text<R: Threads + Wait + Sync>(
     rt: &R,
     alloc: Global,

@@ -81,10 +81,11 @@ pub fn print<R: Threads + Wait + Sync, S: Scripts, O: Write, E: Write>(
 
 /// What is printed of the script that a request names.
 ///
-/// `Unreadable` where the file isn't found or the device failed, `Fault` with `OutOfMemory` where memory
-/// was refused, else `Fault` where the bytes aren't a script (`ScriptFault`), where no pool can be
-/// made within the script's limits (`BadPool`), where a worker is to be lost that its pool doesn't
-/// have (`StrangerShare`), or of a run under the lock where a thread was refused (`OutOfMemory`).
+/// `Unreadable` where the file isn't found or the device failed, `Fault` with `OutOfMemory` where
+/// memory was refused, else `Fault` where the bytes aren't a script (`ScriptFault`), where no pools
+/// can be made within the script's limits (`BadPool`), where a worker is to be lost of two pools
+/// (`Foreign`) or one that its pool doesn't have (`StrangerShare`), or of a run under the lock where a
+/// thread was refused (`OutOfMemory`).
 pub fn printed<'a, R: Threads + Wait + Sync, S: Scripts>(
     rt: &R,
     alloc: Global,

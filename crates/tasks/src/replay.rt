@@ -14,9 +14,10 @@ use std::thread::Threads;
 
 /// What is printed of these bytes for a task.
 ///
-/// `ScriptFault` where they aren't a script, `BadPool` where no pool can be made within the
-/// script's limits, `StrangerShare` where a worker is to be lost that its pool doesn't have, and
-/// `OutOfMemory` where memory was refused, or of a run under the lock a thread.
+/// `ScriptFault` where they aren't a script, and `BadPool` where no pools can be made within the
+/// script's limits. Where a worker is to be lost, `Foreign` of a script with a second pool, and
+/// `StrangerShare` where the pool doesn't have that worker. `OutOfMemory` where memory was refused,
+/// or of a run under the lock a thread.
 pub fn done<R: Threads + Wait + Sync>(
     rt: &R,
     alloc: Global,

@@ -1,11 +1,12 @@
 //! The end of two pools on words: each ground is closed by the one seat of it that is left, the
 //! shares of all workers are put in a book, and both are settled.
 
-ghost use Rattle.std.specs.Prelude.{◌≡◌, ◌+◌, IfOk, IfErr, map};
+ghost use Rattle.std.specs.Prelude.{◌≡◌, ◌+◌, IfOk, IfErr, map, true};
 ghost use Rattle.std.specs.List.{range_with_len};
 ghost use Rattle.commons.specs.declared.closed.Closed.{Closed};
+ghost use Rattle.pool_model.specs.Guests.{ListsEachOnceWith, guests_listed, local_statement};
 ghost use Rattle.pool_model.specs.Sound.{ListsOnlyPackets};
-ghost use Rattle.pool_model.specs.Statements.{PlacesEachOnce};
+ghost use Rattle.pool_model.specs.Statements.{ListsEachOnce, PlacesEachOnce};
 ghost use Rattle.book.specs.TwinBooks.{AreTwins};
 ghost use Rattle.ground.specs.Own.{AtRest};
 ghost use Rattle.ground.specs.Seats.{IsOf};
@@ -46,6 +47,8 @@ pub fn settled(
     requires second_workers { map (λ m. m.number) (map (λ share. share.second) shares.items) ≡ range_with_len 1 grounds.1.limits.workers }
     requires shares { AreTwinShares shares.items seats.0.known.view seats.1.known.view }
     ensures statements { IfOk result (AreStatementsOf grounds.0.limits grounds.1.limits seats.0.known.view seats.1.known.view shares.items) }
+    // That each lists its elements once is read off both statements alone.
+    ensures each { IfOk result (λ s. ListsEachOnceWith (guests_listed s.1) s.0 × ListsEachOnce (local_statement true s.1)) }
     ensures places { IfOk result (λ s. PlacesEachOnce grounds.0.limits s.0 × PlacesEachOnce grounds.1.limits s.1) }
     ensures sound { IfOk result (λ s. ListsOnlyPackets s.0 × ListsOnlyPackets s.1) }
     ensures whole { IfOk result (λ s. (s.0.available + s.0.in_use ≡ grounds.0.limits.population)

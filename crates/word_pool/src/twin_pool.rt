@@ -1,14 +1,15 @@
 //! Two pools of all workers on words, each on a ground of its own. Direct packets are of the first,
 //! and foreign clones, whose bases are elements of it, of the second.
 
-ghost use Rattle.std.specs.Prelude.{◌≡◌, ◌+◌, ◌<◌, ◌≤◌, ◌++◌, ◌∷◌, [], All, IfOk, IfErr, length, vec_len, vec_capacity};
+ghost use Rattle.std.specs.Prelude.{◌≡◌, ◌+◌, ◌<◌, ◌≤◌, ◌++◌, ◌∷◌, [], All, IfOk, IfErr, length, true, vec_len, vec_capacity};
 ghost use Rattle.ground.specs.Own.{AtRest};
 ghost use Rattle.ground.specs.Parting.{IsBoth};
 ghost use Rattle.ground.specs.Rule.{first_known};
 ghost use Rattle.ground.specs.Seats.{IsOf};
 ghost use Rattle.mbuf.specs.Twins.{TwinMember};
+ghost use Rattle.pool_model.specs.Guests.{ListsEachOnceWith, guests_listed, local_statement};
 ghost use Rattle.pool_model.specs.Sound.{ListsOnlyPackets};
-ghost use Rattle.pool_model.specs.Statements.{PlacesEachOnce};
+ghost use Rattle.pool_model.specs.Statements.{ListsEachOnce, PlacesEachOnce};
 ghost use Rattle.word_book.specs.TwinShares.{AreTwinShares};
 ghost use Rattle.word_pool.specs.inside.Crews.{IsUnused, new_member};
 ghost use Rattle.word_pool.specs.inside.TwinCrews.{IsWhole};
@@ -212,6 +213,8 @@ pub fn settled(
 ) -> Result<(Statement, Statement), Refusal>
     requires { AreTwinWorkers first second workers.items }
     ensures statements { IfOk result (AreStatementsOfTwins first second workers.items) }
+    // That each lists its elements once is read off both statements alone.
+    ensures each { IfOk result (λ s. ListsEachOnceWith (guests_listed s.1) s.0 × ListsEachOnce (local_statement true s.1)) }
     ensures places { IfOk result (λ s. PlacesEachOnce first.limits s.0 × PlacesEachOnce second.limits s.1) }
     ensures sound { IfOk result (λ s. ListsOnlyPackets s.0 × ListsOnlyPackets s.1) }
     ensures whole { IfOk result (λ s. (s.0.available + s.0.in_use ≡ first.limits.population)

@@ -4,11 +4,12 @@ use commons::limits::{Limits, PutRule};
 use commons::packet::Seg;
 use mbuf::acts::Reply;
 use pool_model::statement::Statement;
-use script::{replay, statement_text};
+use script::replay;
 use script_rows::parts::written;
 use script_rows::{BuiltRow, Row, built, caches, desks, packets, pools, sharing};
 use script_text::commands::Script;
 use script_text::parse;
+use statement_text::pool_text;
 use std::alloc::{AllocError, Global};
 use std::fmt::Debug;
 use std::process::Abort;
@@ -50,7 +51,7 @@ fn same<R: Abort, T: PartialEq + Debug>(rt: &R, given: &T, wanted: &T, what: &st
 
 /// The text of a statement.
 fn text_of(alloc: Global, statement: &Statement) -> Result<String, Fail> {
-    Ok(String::from_utf8(statement_text(alloc, statement)?)?)
+    Ok(String::from_utf8(pool_text(alloc, statement)?)?)
 }
 
 /// The segments of all packets, of the workers and on desks.
@@ -249,7 +250,8 @@ fn assert_same<R: Abort>(
     script: &Script,
     name: &str,
 ) -> Result<(Vec<(u32, Reply)>, Statement), Fail> {
-    let (told, wanted) = replay(alloc, script)?;
+    let (told, settled) = replay(alloc, script)?;
+    let wanted = settled.first;
     let (replies, end) = play(alloc, script)?;
     assert_replies(rt, replies.as_slice(), told.as_slice(), name);
     match end {
@@ -267,7 +269,7 @@ fn assert_same_on_words<R: Abort>(
     name: &str,
 ) -> Result<u32, Fail> {
     let script = parse(alloc, text.as_bytes())?;
-    if script.limits.workers > 2 {
+    if script.pools.first.workers > 2 {
         return Ok(0);
     }
     assert_same(rt, alloc, &script, name)?;

@@ -2,13 +2,14 @@
 
 ghost use Rattle.std.specs.Prelude.{◌≤◌};
 
-use super::threads::{GROUNDS, Handover, TURNS, run};
-use super::{assert_given, json, same, text_of};
+use super::threads::{GROUNDS, Handover, TURNS, run, run_pools};
+use super::{assert_given, json, same, text_of, text_of_end};
 use commons::refusal::Refusal;
 use script::{Grounds, OpenGate, replay, run_script, statement_text};
 use script_rows::parts::written;
 use script_rows::pools::FIRST_RUN;
-use script_rows::{BuiltRow, Row, built, caches, desks, packets, pools, sharing};
+use script_rows::twins::{FOREIGN_CLONE, FOREIGN_CLONE_END};
+use script_rows::{BuiltRow, Row, built, caches, desks, packets, pools, sharing, twins as foreign};
 use script_text::parse;
 use std::alloc::Global;
 use std::process::Abort;
@@ -35,6 +36,7 @@ const ALIKE: &[&str] = &[
     "a packet on a desk keeps its base as its clone is freed",
     "a clone on a desk keeps its base as its packet is freed",
     "a chain of two lengths in buffers of 300 bytes",
+    "a header of one worker and a body of another",
 ];
 
 /// A name, a script, the line of worker 1 for whose end a gate makes worker 2 wait ahead of its first line, counted from
@@ -116,14 +118,14 @@ fn a_refusal_at_the_last_turn_stands(rt: HostRuntime) -> Result<(), Fail> {
 /// Where each element is at the end of a script's replay.
 fn end_of_replay(alloc: Global, text: &str) -> Result<String, Fail> {
     let script = parse(alloc, text.as_bytes())?;
-    let (_replies, statement) = replay(alloc, &script)?;
-    text_of(alloc, &statement)
+    let (_replies, settled) = replay(alloc, &script)?;
+    text_of_end(alloc, &settled)
 }
 
 /// How many workers a script has.
 fn workers_of(alloc: Global, text: &str) -> Result<u64, Fail> {
     let script = parse(alloc, text.as_bytes())?;
-    Ok(script.limits.workers)
+    Ok(script.pools.first.workers)
 }
 
 /// A script's run on this ground ends so.
@@ -137,8 +139,8 @@ fn assert_ends_on<R: Threads + Wait + Sync + Abort + AllocGlobal>(
 ) -> Result<(), Fail>
     requires turns { 1 ≤ turns }
 {
-    let statement = run(rt, text, grounds, turns, &OpenGate)?;
-    let end = text_of(rt.alloc(), &statement)?;
+    let settled = run_pools(rt, text, grounds, turns, &OpenGate)?;
+    let end = text_of_end(rt.alloc(), &settled)?;
     same(rt, &(grounds, end.as_str()), &(grounds, wanted), name);
     Ok(())
 }
@@ -199,10 +201,11 @@ fn a_script_of_one_worker_ends_on_either_ground_as_its_replay(rt: HostRuntime) -
         packets::ROWS,
         sharing::ROWS,
         desks::ROWS,
+        foreign::ROWS,
     ] {
         ended = ended.saturating_add(end_rows(&rt, rows)?);
     }
-    assert!(rt; ended > 30, "{ended} rows have one worker");
+    assert!(rt; ended > 36, "{ended} rows have one worker");
     Ok(())
 }
 
@@ -230,7 +233,7 @@ fn a_script_that_ends_alike_in_each_order_ends_on_either_ground_as_its_replay(
     rt: HostRuntime,
 ) -> Result<(), Fail> {
     let mut ended = 0usize;
-    for rows in [pools::ROWS, caches::ROWS, desks::ROWS] {
+    for rows in [pools::ROWS, caches::ROWS, desks::ROWS, foreign::ROWS] {
         for (name, text, _) in rows {
             if assert_ends_alike(&rt, text, name)? {
                 ended = ended.saturating_add(1);
@@ -246,22 +249,31 @@ fn a_script_that_ends_alike_in_each_order_ends_on_either_ground_as_its_replay(
     Ok(())
 }
 
-/// Where each element is at the end of the first run, or why it wasn't run.
-fn first_end<R: Threads + Wait + Sync>(
+/// Where each element is at the end of a script's run, or why it wasn't run.
+fn end_of_run<R: Threads + Wait + Sync>(
     rt: &R,
     alloc: Global,
+    script: &str,
     grounds: Grounds,
 ) -> Result<Vec<u8>, Refusal> {
-    let statement = run_script(rt, alloc, FIRST_RUN.as_bytes(), grounds, 1)?;
-    statement_text(alloc, &statement)
+    let settled = run_script(rt, alloc, script.as_bytes(), grounds, 1)?;
+    statement_text(alloc, &settled)
 }
 
-/// Whichever request for memory is refused, a run of one worker comes to the same statement, or to
-/// none.
+/// Whichever request for memory is refused, a run of one worker comes to the same end, or to none.
 #[test]
 fn refused_memory_changes_no_run(rt: HostRuntime) {
     for grounds in GROUNDS {
-        let end = first_end(&rt, rt.alloc(), grounds);
+        let end = end_of_run(&rt, rt.alloc(), FIRST_RUN, grounds);
         assert_given(&rt, end, FIRST_END, "the end of the first run");
+    }
+}
+
+/// Whichever request for memory is refused, a run of two pools comes to the same end, or to none.
+#[test]
+fn refused_memory_changes_no_run_of_two_pools(rt: HostRuntime) {
+    for grounds in GROUNDS {
+        let end = end_of_run(&rt, rt.alloc(), FOREIGN_CLONE, grounds);
+        assert_given(&rt, end, FOREIGN_CLONE_END, "the end of two pools");
     }
 }

@@ -1,6 +1,7 @@
 //! Statements as JSON.
 
 use super::JsonRow;
+use script_rows::twins::FOREIGN_CLONE;
 
 /// The end of the first run, whose element 1 alone is held.
 pub(super) const FIRST_RUN_JSON: &str = "{\"available\":2,\"caches\":[[]],\"common\":[0,2],\
@@ -29,6 +30,12 @@ pub(super) const ROWS: &[JsonRow] = &[
         2: alloc d\n2: offer d 0\n",
         r#"{"available":2,"caches":[[],[]],"common":[4,5],"desks":[{"desk":0,"segs":[{"base":null,"buf":2048,"elem":3,"len":0,"off":128}]},{"desk":2,"segs":[{"base":0,"buf":2048,"elem":1,"len":0,"off":128},{"base":0,"buf":2048,"elem":2,"len":0,"off":128}]}],"held":[{"count":3,"elem":0,"holders":["1","d2","d2"]},{"count":1,"elem":1,"holders":["d2"]},{"count":1,"elem":2,"holders":["d2"]},{"count":1,"elem":3,"holders":["d0"]}],"in_use":4,"packets":[{"segs":[{"base":null,"buf":2048,"elem":0,"len":0,"off":128}],"slot":0,"worker":1}],"population":6}"#,
         6,
+    ),
+    (
+        "foreign clone",
+        FOREIGN_CLONE,
+        r#"{"first":{"available":3,"caches":[[]],"common":[1,2,3],"desks":[],"held":[{"count":1,"elem":0,"holders":["1"]}],"in_use":1,"packets":[],"population":4},"second":{"available":1,"caches":[[]],"common":[1],"desks":[],"held":[{"count":1,"elem":0,"holders":["1"]}],"in_use":1,"packets":[{"segs":[{"base":0,"buf":2048,"elem":0,"len":100,"off":128}],"slot":0,"worker":1}],"population":2}}"#,
+        4,
     ),
     (
         "a chain of two lengths in buffers of 300 bytes",

@@ -95,18 +95,49 @@ fn what_a_lost_worker_alone_has_is_lost(rt: HostRuntime) -> Result<(), Fail> {
     Ok(())
 }
 
+/// A name, a script, a worker to be lost, and why it isn't said what is lost with it.
+type RefusedRow = (&'static str, &'static str, u32, Refusal);
+
+/// That a script is of two pools is told before that none of them has the worker.
+const REFUSED: &[RefusedRow] = &[
+    (
+        "a worker 0",
+        "pool 8 cache 4 workers 2\n2: alloc a\n",
+        0,
+        Refusal::StrangerShare,
+    ),
+    (
+        "a worker too many",
+        "pool 8 cache 4 workers 2\n2: alloc a\n",
+        3,
+        Refusal::StrangerShare,
+    ),
+    (
+        "the last number",
+        "pool 8 cache 4 workers 2\n2: alloc a\n",
+        u32::MAX,
+        Refusal::StrangerShare,
+    ),
+    (
+        "a worker of two pools",
+        "pool 8 second 2\nalloc a\ncloneto a b\n",
+        1,
+        Refusal::Foreign,
+    ),
+    (
+        "a stranger to two pools",
+        "pool 8 second 2\nalloc a\ncloneto a b\n",
+        2,
+        Refusal::Foreign,
+    ),
+];
+
 #[test]
-fn a_worker_whom_the_pool_doesnt_have_is_a_stranger(rt: HostRuntime) -> Result<(), Fail> {
-    let text = "pool 8 cache 4 workers 2\n2: alloc a\n";
-    for grounds in GROUNDS {
-        for lose in [0, 3, u32::MAX] {
-            let lost = lost_by(&rt, text, grounds, lose, &OpenGate)?;
-            same(
-                &rt,
-                &lost.err(),
-                &Some(Refusal::StrangerShare),
-                "a stranger",
-            );
+fn a_stranger_is_not_lost_and_nobody_of_two_pools_is(rt: HostRuntime) -> Result<(), Fail> {
+    for (name, text, lose, refusal) in REFUSED {
+        for grounds in GROUNDS {
+            let lost = lost_by(&rt, text, grounds, *lose, &OpenGate)?;
+            same(&rt, &lost.err(), &Some(*refusal), name);
         }
     }
     Ok(())
@@ -149,7 +180,7 @@ fn the_gate_is_called_around_the_lines_of_a_lost_worker_too(rt: HostRuntime) -> 
 /// book without the share of worker 2, and with these workers listed.
 fn lost_without_second(alloc: Global, listed: &[u32]) -> Result<Result<Vec<u32>, Unsettled>, Fail> {
     let script = parse(alloc, "pool 8 cache 4 workers 2\n".as_bytes())?;
-    let mut pool = SitePool::make(alloc, &script.limits)?;
+    let mut pool = SitePool::make(alloc, &script.pools.first)?;
     let _ = pool.perform(1, Act::Alloc);
     let _ = pool.perform(2, Act::Alloc);
     let (limits, closed, mut shares) = match pool.close(alloc) {

@@ -1,9 +1,10 @@
 //! What is read and replayed where memory is refused.
 
-use super::{assert_first_end, assert_first_replies, same};
+use super::{assert_first_end, assert_first_replies, assert_given, same};
 use commons::refusal::Refusal;
-use script::replay;
+use script::{replay, run_replay, run_replay_json};
 use script_rows::pools::FIRST_RUN;
+use script_rows::twins::{FOREIGN_CLONE, FOREIGN_CLONE_JSON, FOREIGN_CLONE_TEXT};
 use script_text::{parse, parse_steps};
 use std::alloc::Global;
 use std::process::Abort;
@@ -76,6 +77,16 @@ fn refused_memory_changes_no_reading(rt: HostRuntime) {
     }
 }
 
+/// Whichever request for memory is refused, of two pools the same is printed or nothing, as text and
+/// as JSON.
+#[test]
+fn refused_memory_changes_no_replay_of_two_pools(rt: HostRuntime) {
+    let text = run_replay(rt.alloc(), FOREIGN_CLONE.as_bytes());
+    assert_given(&rt, text, FOREIGN_CLONE_TEXT, "two pools");
+    let json = run_replay_json(rt.alloc(), FOREIGN_CLONE.as_bytes());
+    assert_given(&rt, json, FOREIGN_CLONE_JSON, "two pools as JSON");
+}
+
 /// Whichever request for memory is refused, the first run has its replies and its end, or neither.
 #[test]
 fn refused_memory_changes_no_replay(rt: HostRuntime) {
@@ -84,9 +95,9 @@ fn refused_memory_changes_no_replay(rt: HostRuntime) {
         Err(cause) => Err(cause),
     };
     match replayed {
-        Ok((replies, statement)) => {
+        Ok((replies, settled)) => {
             assert_first_replies(&rt, replies.as_slice());
-            assert_first_end(&rt, &statement);
+            assert_first_end(&rt, &settled.first);
         }
         Err(cause) => same(&rt, &cause, &Refusal::OutOfMemory, "the first run"),
     }

@@ -16,6 +16,7 @@ pub(super) const ROWS: &[ReadRow] = &[
             population: 3,
             ..DEFAULTS
         },
+        None,
         "2 1 alloc a; 3 1 alloc b; 4 1 free a; ",
     ),
     (
@@ -33,12 +34,42 @@ pub(super) const ROWS: &[ReadRow] = &[
             start_count: 3,
             put_rule: PutRule::Whole,
         },
+        None,
         "5 1 alloc a; 6 1 free b9; 8 1 alloc b9; 9 2 free a; 10 2 flush; 11 1 alloc c; ",
+    ),
+    (
+        "the second pool has all of the first but its size, its cache, its buffers and its desks",
+        "pool 12 second 20 tries 7 buf 100 start 3 putrule 1 workers 2 refs 9 desks 4 cache 8 \
+        secondcache 5\n2: cloneto a b\n",
+        Limits {
+            population: 12,
+            cache: 8,
+            workers: 2,
+            desks: 4,
+            buf: 100,
+            ref_limit: 9,
+            tries: 7,
+            start_count: 3,
+            put_rule: PutRule::Whole,
+        },
+        Some(Limits {
+            population: 20,
+            cache: 5,
+            workers: 2,
+            desks: 0,
+            buf: 0,
+            ref_limit: 9,
+            tries: 7,
+            start_count: 3,
+            put_rule: PutRule::Whole,
+        }),
+        "2 2 cloneto a b; ",
     ),
     (
         "the commands of packets are read",
         "pool 9\nbulk a b  c\nappend a 7\nprepend a 65535\n adj b 00 \ntrim c 1\nchain a b\n",
         OF_NINE,
+        None,
         "2 1 bulk a b c; 3 1 append 7 of a; 4 1 prepend 65535 of a; 5 1 adj 0 of b; \
         6 1 trim 1 of c; 7 1 chain a b; ",
     ),
@@ -46,6 +77,7 @@ pub(super) const ROWS: &[ReadRow] = &[
         "the commands of shared buffers are read",
         "pool 9\nattach a b\ndetach  a\nclone b c\ncount c\n 1:  attach d d \n1: clone a1 b2\n",
         OF_NINE,
+        None,
         "2 1 attach a b; 3 1 detach a; 4 1 clone b c; 5 1 count c; 6 1 attach d d; \
         7 1 clone a1 b2; ",
     ),
@@ -58,6 +90,7 @@ pub(super) const ROWS: &[ReadRow] = &[
             workers: 2,
             ..OF_NINE
         },
+        None,
         "2 1 offer a 0; 3 1 take 0 b; 4 2 offer a1 7; 5 2 take 65535 a; 6 1 offer b 65535; ",
     ),
     (
@@ -74,6 +107,7 @@ pub(super) const ROWS: &[ReadRow] = &[
             start_count: 0,
             put_rule: PutRule::Keep,
         },
+        None,
         "",
     ),
     (
@@ -84,6 +118,7 @@ pub(super) const ROWS: &[ReadRow] = &[
             desks: 64,
             ..DEFAULTS
         },
+        None,
         "",
     ),
 ];

@@ -6,11 +6,11 @@ use commons::limits::Limits;
 use commons::refusal::Refusal;
 use mbuf::acts::Act;
 use pool_model::statement::Statement;
-use script::statement_text;
 use script_rows::parts::{Field, Part, written};
 use share_book::locked_site::LockedSite;
 use share_book::site_pool::SitePool;
 use share_book::{Book, Share, Unsettled, lose_all, settle};
+use statement_text::pool_text;
 use std::alloc::Global;
 use std::process::Abort;
 use std::sync::Wait;
@@ -243,7 +243,7 @@ const FOUR_TEXT: &str = "population 16\navailable 12\nin use 4\n\
 
 /// Whether the statement is that of the four workers' pool, where there is memory to print it.
 fn assert_end<R: Abort + AllocGlobal>(rt: &R, statement: &Statement) {
-    let text = statement_text(rt.alloc(), statement);
+    let text = pool_text(rt.alloc(), statement);
     assert_given(rt, text, FOUR_TEXT, "the statement of the four workers");
 }
 

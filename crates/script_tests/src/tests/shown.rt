@@ -67,6 +67,7 @@ fn push_command(text: &mut String, command: &Command) -> Result<(), AllocError> 
         Command::Attach(first, second) => push_words(text, "attach", &[first, second]),
         Command::Detach(name) => push_words(text, "detach", &[name]),
         Command::Clone(packet, made) => push_words(text, "clone", &[packet, made]),
+        Command::CloneTo(packet, made) => push_words(text, "cloneto", &[packet, made]),
         Command::Count(name) => push_words(text, "count", &[name]),
         Command::Offer(packet, desk) => push_offer(text, packet, *desk),
         Command::Take(desk, made) => push_take(text, *desk, made),

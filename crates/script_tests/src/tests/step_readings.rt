@@ -14,6 +14,7 @@ pub(super) const ROWS: &[ReadRow] = &[
         "pool 9\nloadlength\nreserve 9 1\nloadhead\nloadlink 0\ncut\nstorelink 0 -\nstorelink 1 0\n\
         push\nadd 1\n",
         OF_NINE,
+        None,
         "2 1 LoadLength; 3 1 Reserve { old: 9, n: 1 }; 4 1 LoadHead; \
         5 1 LoadLink { element: Some(0) }; 6 1 Cut; \
         7 1 StoreLink { element: Some(0), next: None }; \
@@ -26,6 +27,7 @@ pub(super) const ROWS: &[ReadRow] = &[
             workers: 2,
             ..OF_NINE
         },
+        None,
         "2 1 Claim { element: Some(3) }; 3 1 Sole { element: Some(3), free: false }; \
         4 1 Sole { element: Some(3), free: true }; 5 1 Raise { element: Some(3), old: 1 }; \
         6 2 Lower { element: Some(3) }; 7 2 Reset { element: Some(3) }; ",
@@ -35,6 +37,7 @@ pub(super) const ROWS: &[ReadRow] = &[
         "pool 9\nhold 65535\nputin 0 3\n# the base of 4 is 7\nputin 1 4>7 007 2\nopen 1\nseize 1\n\
         takeout 1\nclear 1\n",
         OF_NINE,
+        None,
         "2 1 Hold { desk: 65535 }; \
         3 1 PutIn { desk: 0, segments: Seq { items: [StepSegment { element: 3, base: None }] } }; \
         5 1 PutIn { desk: 1, segments: Seq { items: [StepSegment { element: 4, base: Some(7) }, \
@@ -48,6 +51,7 @@ pub(super) const ROWS: &[ReadRow] = &[
         "pool 9\nloadlink -\nclaim 18446744073709551615\nraise - 18446744073709551615\n\
         reserve 0 0\nputin 64 18446744073709551615>9\n",
         OF_NINE,
+        None,
         "2 1 LoadLink { element: None }; 3 1 Claim { element: Some(18446744073709551615) }; \
         4 1 Raise { element: None, old: 18446744073709551615 }; 5 1 Reserve { old: 0, n: 0 }; \
         6 1 PutIn { desk: 64, segments: Seq { items: \

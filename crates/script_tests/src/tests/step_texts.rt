@@ -5,6 +5,14 @@ use commons::refusal::Refusal::{BadPool, ScriptFault};
 
 pub(super) const ROWS: &[TextsRow] = &[
     (
+        "steps are of one pool",
+        &[
+            ("pool 3 second 2\nloadlength\n", Some(ScriptFault(1))),
+            ("pool 3 secondcache 2\n", Some(ScriptFault(1))),
+            ("pool 0 second 2\n", Some(ScriptFault(1))),
+        ],
+    ),
+    (
         "an element is a number below 2^64, or the end",
         &[
             ("pool 3\nloadlink 18446744073709551615\n", None),

@@ -9,6 +9,7 @@ use commons::closed::Closed;
 use commons::refusal::Refusal;
 use commons::seq::Seq;
 use crossbeam_utils::Backoff;
+use pool_model::settled::Settled;
 use pool_model::statement::{Held, Statement};
 use script::{Gate, Grounds, OpenGate, run_threads};
 use script_rows::parts::{Field, Part, written};
@@ -213,7 +214,21 @@ fn assert_four<R: Abort>(rt: &R, alloc: Global, statement: &Statement) -> Result
     assert_each_once(rt, alloc, statement, 16)
 }
 
-/// The statement of a text's script, with a thread for each worker.
+/// What the pools of a text's script come to, with a thread for each worker.
+pub fn run_pools<G: Gate, R: Threads + Wait + Sync + AllocGlobal>(
+    rt: &R,
+    text: &str,
+    grounds: Grounds,
+    turns: u32,
+    gate: &G,
+) -> Result<Settled, Fail>
+    requires turns { 1 ≤ turns }
+{
+    let script = parse(rt.alloc(), text.as_bytes())?;
+    Ok(run_threads(rt, rt.alloc(), &script, grounds, turns, gate)?)
+}
+
+/// The statement of a text's script of one pool, with a thread for each worker.
 pub fn run<G: Gate, R: Threads + Wait + Sync + AllocGlobal>(
     rt: &R,
     text: &str,
@@ -223,8 +238,8 @@ pub fn run<G: Gate, R: Threads + Wait + Sync + AllocGlobal>(
 ) -> Result<Statement, Fail>
     requires turns { 1 ≤ turns }
 {
-    let script = parse(rt.alloc(), text.as_bytes())?;
-    Ok(run_threads(rt, rt.alloc(), &script, grounds, turns, gate)?)
+    let settled = run_pools(rt, text, grounds, turns, gate)?;
+    Ok(settled.first)
 }
 
 /// The row "four workers".

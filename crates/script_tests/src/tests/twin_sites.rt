@@ -7,7 +7,7 @@ use commons::refusal::Refusal;
 use mbuf::acts::{Act, Reply};
 use mbuf::freed::Freed;
 use pool_model::settled::Settled;
-use script::settled_text;
+use script::statement_text;
 use share_book::TwinAct;
 use share_book::locked_twin::LockedTwinSite;
 use share_book::twin_ending::{settled, settled_parts};
@@ -290,7 +290,7 @@ fn settled_after<R: Abort>(rt: &R, alloc: Global, row: &TwinRow) -> Result<Settl
 fn assert_texts<R: Abort + AllocGlobal>(rt: &R, rows: &[TwinRow]) -> Result<(), Fail> {
     for row in rows {
         let settled = settled_after(rt, rt.alloc(), row)?;
-        let text = settled_text(rt.alloc(), &settled)?;
+        let text = statement_text(rt.alloc(), &settled)?;
         same(rt, &text.as_slice(), &row.4.as_bytes(), row.0);
     }
     Ok(())
@@ -371,7 +371,7 @@ const LOCKED_TEXT: &str = "population 4\navailable 2\nin use 2\ncommon 2: 2 3\nc
 #[test]
 fn two_pools_under_one_lock_settle(rt: HostRuntime) -> Result<(), Fail> {
     let settled = settled_locked(&rt, rt.alloc())?;
-    let text = settled_text(rt.alloc(), &settled)?;
+    let text = statement_text(rt.alloc(), &settled)?;
     same(
         &rt,
         &text.as_slice(),

@@ -7,7 +7,7 @@ use commons::limits::Limits;
 use commons::refusal::Refusal;
 use mbuf::acts::Act;
 use pool_model::settled::Settled;
-use script::{settled_json, settled_text};
+use script::{statement_json, statement_text};
 use share_book::site_pool::SitePool;
 use share_book::{Fault, Share, TwinBook, TwinShare, TwinUnsettled, lose_all, settle_twin};
 use std::alloc::Global;
@@ -201,9 +201,9 @@ fn assert_ended<R: Abort + AllocGlobal>(rt: &R, ended: Ended, wanted: &[TwinUnse
     same(rt, &causes.as_slice(), &wanted, "the causes");
     match settled {
         Some(settled) => {
-            let text = settled_text(rt.alloc(), &settled);
+            let text = statement_text(rt.alloc(), &settled);
             assert_given(rt, text, TEXT, "both statements");
-            let json = settled_json(rt.alloc(), &settled);
+            let json = statement_json(rt.alloc(), &settled);
             assert_given(rt, json, JSON, "both statements as JSON");
         }
         None => {

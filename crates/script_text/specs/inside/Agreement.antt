@@ -4,20 +4,20 @@ use Rattle.std.specs.Prelude.{◌≡◌, ◌≤◌, ℕ, zero, suc, Bool, true, 
 use Rattle.std.specs.List.{AllByRecursion}
 use Rattle.std.specs.Cmp.Lexicographic.{pointwise}
 use Rattle.std.specs.HashSet.{contains}
-use Rattle.commons.specs.declared.limits.Limits.{Limits}
+use Rattle.script_text.specs.declared.lines.Pools.{Pools}
 use Rattle.commons.specs.declared.refusal.Refusal.{Refusal}
 use Rattle.commons.specs.declared.refusal.Refusal.TheVariants as refusals
 use Rattle.script_text.specs.declared.lines.Line.{Line}
 use Rattle.script_text.specs.declared.lines.Script.{Script}
 use Rattle.script_text.specs.declared.made_names.MadeNames.{MadeNames}
-use Rattle.script_text.specs.declared.pool_line.PoolNumbers.{PoolNumbers}
+use Rattle.script_text.specs.declared.pool_line.LineNumbers.{LineNumbers}
 use Rattle.script_text.specs.declared.reader.Reader.{Reader}
 use Rattle.script_text.specs.declared.reader.Stop.{Stop}
 use Rattle.script_text.specs.declared.reader.Stop.TheVariants.{Fault, BadPool, OutOfMemory}
 use Rattle.script_text.specs.Names.{IsName}
-use Rattle.script_text.specs.PoolLine.{numbers_of}
+use Rattle.script_text.specs.PoolLine.{numbers_of_pools}
 use Rattle.script_text.specs.Scripts.{State}
-use Rattle.script_text.specs.inside.Reading.{is_pool}
+use Rattle.script_text.specs.inside.Reading.{are_pools}
 use Rattle.script_text.specs.inside.ScriptReading.{Lexicon, is_made, are_ready}
 
 -- ---- names that were made
@@ -46,27 +46,32 @@ AreMade lexicon made lines =
 
 -- what the lines so far have told
 abbrev pub state_of : {C : Type 0} → Reader C → State C
-state_of reader = record { numbers = option_map numbers_of reader.limits; lines = reader.lines.items }
+state_of reader = record {
+  numbers = option_map numbers_of_pools reader.pools;
+  lines = reader.lines.items;
+}
 
 -- the worker is one of this many
 abbrev pub IsAmong : ℕ → ℕ → Type 0
 IsAmong workers worker = (1 ≤ worker) × (worker ≤ workers)
 
--- no line comes before the limits, and then each is of one of their workers
-abbrev pub AreWithin : {C : Type 0} → Option Limits → List (Line C) → Type 0
+-- no line comes before the pools, and then each is of one of their workers
+abbrev pub AreWithin : {C : Type 0} → Option Pools → List (Line C) → Type 0
 AreWithin None lines = lines ≡ []
-AreWithin (Some limits) lines = AllByRecursion (λ line. IsAmong limits.workers line.worker) lines
+AreWithin (Some pools) lines =
+    AllByRecursion (λ line. IsAmong pools.first.workers line.worker) lines
 
 -- what each reader keeps
 pub record IsKept {C : Type 0} (lexicon : Lexicon C) (reader : Reader C) : Type 0 where
-  pub ready : are_ready (option_map numbers_of reader.limits) ≡ true
-  pub workers : AreWithin reader.limits reader.lines.items
+  pub ready : are_ready (option_map numbers_of_pools reader.pools) ≡ true
+  pub workers : AreWithin reader.pools reader.lines.items
   pub made : AreMade lexicon reader.made reader.lines.items
 
 -- why a pool line wasn't read
-abbrev pub StopsPool : Stop → Option PoolNumbers → Type 0
+abbrev pub StopsPool : Stop → Option LineNumbers → Type 0
 StopsPool Fault read = read ≡ None
-StopsPool BadPool read = (numbers : PoolNumbers) × (read ≡ Some numbers) × (is_pool numbers ≡ false)
+StopsPool BadPool read =
+    (numbers : LineNumbers) × (read ≡ Some numbers) × (are_pools numbers ≡ false)
 StopsPool OutOfMemory read = ⊥
 
 -- why a command line wasn't read
@@ -96,5 +101,6 @@ Fails refusal read = read ≡ Err refusal
 
 -- what was returned is what the bytes are read as, unless memory was refused
 abbrev pub Gives : {C : Type 0} → Result (Script C) Refusal → Result (State C) Refusal → Type 0
-Gives (Ok script) read = read ≡ Ok (record { numbers = Some (numbers_of script.limits); lines = script.lines })
+Gives (Ok script) read =
+    read ≡ Ok (record { numbers = Some (numbers_of_pools script.pools); lines = script.lines })
 Gives (Err refusal) read = Fails refusal read

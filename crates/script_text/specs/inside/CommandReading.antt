@@ -6,7 +6,7 @@ use Rattle.std.specs.Str.{bytes_eq}
 use Rattle.commons.specs.declared.change.Change.{Change}
 use Rattle.commons.specs.declared.change.Change.TheVariants.{Append, Prepend, Adj, Trim}
 use Rattle.script_text.specs.declared.commands.Command.{Command}
-use Rattle.script_text.specs.declared.commands.Command.TheVariants.{Alloc, Bulk, Free, Resize, Chain, Attach, Detach, Clone, Count, Offer, Take, Flush}
+use Rattle.script_text.specs.declared.commands.Command.TheVariants.{Alloc, Bulk, Free, Resize, Chain, Attach, Detach, Clone, CloneTo, Count, Offer, Take, Flush}
 use Rattle.script_text.specs.declared.command_line.Verb.{Verb}
 use Rattle.script_text.specs.declared.command_line.Verb.TheVariants as verbs
 use Rattle.script_text.specs.Grammar.{commands}
@@ -26,6 +26,7 @@ verb_word verbs.Chain = codes "chain"
 verb_word verbs.Attach = codes "attach"
 verb_word verbs.Detach = codes "detach"
 verb_word verbs.Clone = codes "clone"
+verb_word verbs.CloneTo = codes "cloneto"
 verb_word verbs.Count = codes "count"
 verb_word verbs.Offer = codes "offer"
 verb_word verbs.Take = codes "take"
@@ -35,8 +36,8 @@ verb_word verbs.Flush = codes "flush"
 abbrev pub all_verbs : List Verb
 all_verbs =
     verbs.Alloc ∷ verbs.Bulk ∷ verbs.Free ∷ verbs.Append ∷ verbs.Prepend ∷ verbs.Adj ∷ verbs.Trim
-    ∷ verbs.Chain ∷ verbs.Attach ∷ verbs.Detach ∷ verbs.Clone ∷ verbs.Count ∷ verbs.Offer
-    ∷ verbs.Take ∷ verbs.Flush ∷ []
+    ∷ verbs.Chain ∷ verbs.Attach ∷ verbs.Detach ∷ verbs.Clone ∷ verbs.CloneTo ∷ verbs.Count
+    ∷ verbs.Offer ∷ verbs.Take ∷ verbs.Flush ∷ []
 
 -- the verb that a word spells
 abbrev pub verb_at : List ℕ → Option Verb
@@ -111,6 +112,7 @@ command_with verbs.Chain words = both_with Chain words
 command_with verbs.Attach words = both_with Attach words
 command_with verbs.Detach words = name_with Detach words
 command_with verbs.Clone words = both_with Clone words
+command_with verbs.CloneTo words = both_with CloneTo words
 command_with verbs.Count words = name_with Count words
 command_with verbs.Offer words = numbered_with Offer (name_and_number words)
 command_with verbs.Take words = numbered_with (λ made desk. Take desk made) (number_and_name words)

@@ -6,11 +6,12 @@ use Rattle.std.specs.Str.{bytes_eq}
 use Rattle.commons.specs.Bounds.{max_buf, max_cache, max_desks, max_population, max_refs, max_tries, max_workers}
 use Rattle.commons.specs.Calls.{spent}
 use Rattle.script_text.specs.declared.commands.Key.{Key}
-use Rattle.script_text.specs.declared.commands.Key.TheVariants.{Cache, Workers, Desks, Buf, Refs, Tries, Start, Rule}
+use Rattle.script_text.specs.declared.commands.Key.TheVariants.{Cache, Workers, Desks, Buf, Refs, Tries, Start, Rule, Second, SecondCache}
+use Rattle.script_text.specs.declared.pool_line.LineNumbers.{LineNumbers}
 use Rattle.script_text.specs.declared.pool_line.PoolNumbers.{PoolNumbers}
 use Rattle.script_text.specs.declared.pool_line.Settings.{Settings}
 use Rattle.script_text.specs.Numbers.{digits_value}
-use Rattle.script_text.specs.PoolLine.{key_word, same_key}
+use Rattle.script_text.specs.PoolLine.{key_word, same_key, second_beside}
 
 -- ---- lines
 
@@ -126,7 +127,8 @@ is_name_word word =
 
 -- all keys
 abbrev pub keys : List Key
-keys = Cache ∷ Workers ∷ Desks ∷ Buf ∷ Refs ∷ Tries ∷ Start ∷ Rule ∷ []
+keys =
+    Cache ∷ Workers ∷ Desks ∷ Buf ∷ Refs ∷ Tries ∷ Start ∷ Rule ∷ Second ∷ SecondCache ∷ []
 
 -- the key that a word spells
 abbrev pub key_at : List ℕ → Option Key
@@ -142,6 +144,8 @@ value_of settings Refs = settings.refs
 value_of settings Tries = settings.tries
 value_of settings Start = settings.start
 value_of settings Rule = settings.rule
+value_of settings Second = settings.second
+value_of settings SecondCache = settings.second_cache
 
 -- the value of one key once another was given this one
 abbrev pub value_with : Settings → Key → ℕ → Key → Option ℕ
@@ -159,6 +163,8 @@ with_value settings key value = record {
   tries = value_with settings key value Tries;
   start = value_with settings key value Start;
   rule = value_with settings key value Rule;
+  second = value_with settings key value Second;
+  second_cache = value_with settings key value SecondCache;
 }
 
 -- no key was given a value
@@ -172,6 +178,8 @@ none_given = record {
   tries = None;
   start = None;
   rule = None;
+  second = None;
+  second_cache = None;
 }
 
 -- a new value of a key
@@ -206,18 +214,34 @@ numbers_by population settings = record {
   put_rule = unwrap_or settings.rule 0;
 }
 
+-- the numbers of the first pool and of a second one, where it has this population and this cache,
+-- if they were given
+abbrev pub with_second : Bool → PoolNumbers → Option ℕ → Option ℕ → Option LineNumbers
+with_second knows first None None = Some (record { first = first; second = None })
+with_second knows first None (Some cache) = None
+with_second knows first (Some population) cache = if knows then Some (record {
+  first = first;
+  second = Some (second_beside first population (unwrap_or cache 0));
+}) else None
+
+-- the numbers of a pool line with this many elements and these settings
+abbrev pub line_numbers_by : Bool → ℕ → Settings → Option LineNumbers
+line_numbers_by knows population settings =
+    with_second knows (numbers_by population settings) settings.second settings.second_cache
+
 -- the numbers, from the words after `pool`
-abbrev pub pool_with : List (List ℕ) → Option PoolNumbers
-pool_with [] = None
-pool_with (number ∷ words) =
+abbrev pub pool_with : Bool → List (List ℕ) → Option LineNumbers
+pool_with knows [] = None
+pool_with knows (number ∷ words) =
     option_and_then (λ population.
-    option_and_then (λ settings. Some (numbers_by population settings))
+    option_and_then (λ settings. line_numbers_by knows population settings)
     (settings_from none_given words)) (number_at number)
 
 -- the numbers that the words of a pool line give
-abbrev pub numbers_from : List (List ℕ) → Option PoolNumbers
-numbers_from [] = None
-numbers_from (word ∷ words) = if bytes_eq word (codes "pool") then pool_with words else None
+abbrev pub numbers_from : Bool → List (List ℕ) → Option LineNumbers
+numbers_from knows [] = None
+numbers_from knows (word ∷ words) =
+    if bytes_eq word (codes "pool") then pool_with knows words else None
 
 -- of each two numbers the first is at most the second where a pool has them
 abbrev pub pool_bounds : PoolNumbers → List (ℕ × ℕ)
@@ -231,3 +255,13 @@ pool_bounds n =
 -- whether a pool has the numbers
 abbrev pub is_pool : PoolNumbers → Bool
 is_pool n = list_all (λ bound. nat_le bound.0 bound.1) (pool_bounds n)
+
+-- whether a second pool has the numbers, if they were given, beside a first that has these
+abbrev pub is_second : PoolNumbers → Option PoolNumbers → Bool
+is_second first None = true
+is_second first (Some second) =
+    is_pool second && second.workers == first.workers && second.desks == 0
+
+-- whether pools have the numbers
+abbrev pub are_pools : LineNumbers → Bool
+are_pools numbers = is_pool numbers.first && is_second numbers.first numbers.second

@@ -1,13 +1,13 @@
 -- How a script is read, as functions on lists, for the crate's own functions.
 -- No public clause cites this module.
-use Rattle.std.specs.Prelude.{ℕ, ◌+◌, ◌-◌, max, Bool, true, false, ◌&&◌, ◌||◌, if◌then◌else◌, ◌==◌, nat_le, nat_lt, List, [], ◌∷◌, length, Option, Some, None, option_and_then, Result, Ok, Err, take, drop, codes}
+use Rattle.std.specs.Prelude.{ℕ, ◌+◌, ◌-◌, max, Bool, true, false, ◌&&◌, ◌||◌, if◌then◌else◌, ◌==◌, nat_le, nat_lt, List, [], ◌∷◌, length, Option, Some, None, is_none, option_and_then, Result, Ok, Err, take, drop, codes}
 use Rattle.std.specs.Str.{bytes_eq}
 use Rattle.commons.specs.declared.refusal.Refusal.{Refusal}
 use Rattle.commons.specs.declared.refusal.Refusal.TheVariants.{BadPool, ScriptFault}
 use Rattle.script_text.specs.declared.lines.Line.{Line}
-use Rattle.script_text.specs.declared.pool_line.PoolNumbers.{PoolNumbers}
+use Rattle.script_text.specs.declared.pool_line.LineNumbers.{LineNumbers}
 use Rattle.script_text.specs.Scripts.{Language, State, start, with_command}
-use Rattle.script_text.specs.inside.Reading.{parts, is_plain, words_of, is_skipped, number_at, numbers_from, is_pool}
+use Rattle.script_text.specs.inside.Reading.{parts, is_plain, words_of, is_skipped, number_at, numbers_from, are_pools}
 
 -- one kind of script, and how the words of its commands are read
 pub record Lexicon (C : Type 0) : Type 1 where
@@ -48,30 +48,30 @@ abbrev pub is_one_of : List (List ℕ) → List ℕ → Bool
 is_one_of [] name = false
 is_one_of (first ∷ names) name = bytes_eq name first || is_one_of names name
 
--- ---- a pool's numbers and refusals
+-- ---- the pools' numbers and refusals
 
--- whether a pool has the numbers, if they are told
-abbrev pub are_ready : Option PoolNumbers → Bool
+-- whether pools have the numbers, if they are told
+abbrev pub are_ready : Option LineNumbers → Bool
 are_ready None = true
-are_ready (Some numbers) = is_pool numbers
+are_ready (Some numbers) = are_pools numbers
 
 module _ {C : Type 0} where
   -- what is told after a pool line with these numbers
-  abbrev pub with_numbers : State C → PoolNumbers → State C
+  abbrev pub with_numbers : State C → LineNumbers → State C
   with_numbers state numbers = record { numbers = Some numbers; lines = state.lines }
 
-  -- what is told after these words, where no numbers are told
-  abbrev pub read_pool : State C → List (List ℕ) → Option (State C)
-  read_pool state words = option_and_then (λ numbers. Some (with_numbers state numbers))
-      (numbers_from words)
+  -- what is told after these words, where no numbers are told, and a second pool is known or not
+  abbrev pub read_pool : Bool → State C → List (List ℕ) → Option (State C)
+  read_pool knows state words = option_and_then (λ numbers. Some (with_numbers state numbers))
+      (numbers_from knows words)
 
-  -- a line's reading, where a pool has the numbers that it tells, or its refusal
+  -- a line's reading, where pools have the numbers that it tells, or its refusal
   abbrev pub judged_as : ℕ → Option (State C) → Result (State C) Refusal
   judged_as number None = Err (ScriptFault number)
   judged_as number (Some next) = if are_ready next.numbers then Ok next else Err BadPool
 
   -- what is told once there is no line left
-  abbrev pub finish : Option PoolNumbers → State C → ℕ → List ℕ → Result (State C) Refusal
+  abbrev pub finish : Option LineNumbers → State C → ℕ → List ℕ → Result (State C) Refusal
   finish numbers state number (byte ∷ bytes) = Err (ScriptFault number)
   finish None state number [] = Err (ScriptFault (max 1 (number - 1)))
   finish (Some numbers) state number [] = Ok state
@@ -108,23 +108,34 @@ module _ {C : Type 0} (lexicon : Lexicon C) where
       (worker == line.worker && is_one_of (lexicon.language.names_made line.command) name)
       || is_made lines worker name
 
+  -- whether a command is of a second pool that isn't there
+  abbrev pub lacks_second : LineNumbers → C → Bool
+  lacks_second numbers command = lexicon.language.needs_second command && is_none numbers.second
+
   -- what is told after the worker's command on the line with this number,
   -- if it makes no name that was made before
-  abbrev pub add_command : State C → ℕ → ℕ × C → Option (State C)
-  add_command state number order =
+  abbrev pub add_made : State C → ℕ → ℕ × C → Option (State C)
+  add_made state number order =
       if repeats (is_made state.lines) order.0 (lexicon.language.names_made order.1) then None
       else Some (with_command state number order.0 order.1)
 
-  -- what is told after these words, where a pool's numbers are told and it has this many workers
-  abbrev pub read_command : ℕ → State C → ℕ → List (List ℕ) → Option (State C)
-  read_command workers state number words =
-      if nat_lt (length state.lines) 10000
-      then option_and_then (add_command state number) (order_from workers words) else None
+  -- the same, if the pools have what it needs
+  abbrev pub add_command : LineNumbers → State C → ℕ → ℕ × C → Option (State C)
+  add_command numbers state number order =
+      if lacks_second numbers order.1 then None else add_made state number order
 
-  -- a line that isn't skipped, by whether a pool's numbers are told
-  abbrev pub read_words : Option PoolNumbers → State C → ℕ → List (List ℕ) → Option (State C)
-  read_words None state number words = read_pool state words
-  read_words (Some numbers) state number words = read_command numbers.workers state number words
+  -- what is told after these words, where the pools' numbers are told
+  abbrev pub read_command : LineNumbers → State C → ℕ → List (List ℕ) → Option (State C)
+  read_command numbers state number words =
+      if nat_lt (length state.lines) 10000
+      then option_and_then (add_command numbers state number)
+      (order_from numbers.first.workers words)
+      else None
+
+  -- a line that isn't skipped, by whether the pools' numbers are told
+  abbrev pub read_words : Option LineNumbers → State C → ℕ → List (List ℕ) → Option (State C)
+  read_words None state number words = read_pool lexicon.language.knows_second state words
+  read_words (Some numbers) state number words = read_command numbers state number words
 
   -- what is told after a line, if it has a reading
   unfoldable pub read_line : State C → ℕ → List ℕ → Option (State C)

@@ -4,11 +4,7 @@ use Rattle.std.specs.Prelude.{ℕ, ◌≤◌}
 use Rattle.commons.specs.Lists.{Lists, side_of}
 use Rattle.mbuf.specs.Members.{Member}
 use Rattle.mbuf.specs.Own.{Own}
-use Rattle.pool_model.specs.Pool.{Shared}
-
--- what all workers share of the lists
-abbrev pub shared_of : Lists → Shared
-shared_of s = record { common = s.common; changes = s.changes; desks = s.desks }
+pub use Rattle.share_book.specs.AsModel.{shared_of}
 
 -- the packets are a worker's own, with that worker's part of the lists
 pub record OwnOnLists (s : Lists) (w : ℕ) (m : Member) : Type 0 where

@@ -5,13 +5,11 @@ use Rattle.mbuf.specs.declared.acts.Act.{Act}
 use Rattle.mbuf.specs.Members.{Member}
 use Rattle.pool_model.specs.PacketModel.{after_acts}
 use Rattle.pool_model.specs.Pool.{Pool, new_pool, nobody}
-use Rattle.share_book.specs.inside.Own.{shared_of, OwnOnLists}
+use Rattle.share_book.specs.inside.Own.{OwnOnLists}
+pub use Rattle.share_book.specs.AsModel.{pool_with}
 use Rattle.share_book.specs.declared.site_pool.SitePool.TheInside.{Inside}
 
--- these lists and these workers as a pool
-abbrev pub pool_with : Lists → List Member → Pool
-pool_with s members = record { limits = s.limits; shared = shared_of s; members = members }
-
+-- a `SitePool` as a pool
 abbrev pub pool_of : Inside → Pool
 pool_of p = pool_with p.site p.members.items
 

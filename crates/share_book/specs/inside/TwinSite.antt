@@ -1,7 +1,10 @@
 -- How a `TwinSite` is kept. No public clause cites this module.
-use Rattle.std.specs.Prelude.{ℕ, ◌≡◌, ◌+◌, ◌<◌, length}
+use Rattle.std.specs.Prelude.{ℕ, ◌≡◌, ◌+◌, ◌<◌, List, length}
 use Rattle.commons.specs.Lists.{Lists, IsTable, side_of}
 use Rattle.mbuf.specs.Twins.{OwnTwin, TwinMember}
+use Rattle.pool_model.specs.TwinModel.{TwinPool, after_twin_acts, new_twin_pool}
+use Rattle.twin_acts.specs.declared.acts.TwinAct.{TwinAct}
+use Rattle.share_book.specs.AsModel.{pools_of}
 use Rattle.share_book.specs.TwinSites.{AreTwinPools, TwinLists, twin_at}
 use Rattle.share_book.specs.declared.twin_site.TwinSite.TheInside.{Inside}
 
@@ -22,5 +25,13 @@ pub record AreTables (s : TwinLists) : Type 0 where
   pub workers : length s.members ≡ s.first.limits.workers
   pub each : (n : ℕ) → n < length s.members → IsTwinMember s.first s.second n (twin_at s n)
 
-abbrev pub IsTwinSite : Inside → Type 0
-IsTwinSite t = AreTables (lists_of t)
+-- some acts, one after another, make these pools of new ones
+abbrev pub IsTwinReached : TwinPool → Type 0
+IsTwinReached twins =
+    (acts : List (ℕ × TwinAct))
+    × (twins ≡ after_twin_acts acts (new_twin_pool twins.first.limits twins.second.limits))
+
+-- so the lists are kept, and both pools are such as acts reach
+pub record IsTwinSite (t : Inside) : Type 0 where
+  pub tables : AreTables (lists_of t)
+  pub reached : IsTwinReached (pools_of (lists_of t))

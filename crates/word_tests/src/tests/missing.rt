@@ -5,6 +5,7 @@ ghost use Rattle.stack_tests.specs.Idle.{IsIdle};
 ghost use Rattle.word_tests.specs.Ready.{IsReady};
 
 use super::players::{FreeSeat, Player, Retired};
+use super::playing::act_of;
 use super::settling::Ending;
 use super::{assert_each_once, assert_holds, same};
 use book::settling::Unsettled;
@@ -12,7 +13,7 @@ use commons::refusal::Refusal;
 use ground::pool::Ground;
 use pool_model::statement::Statement;
 use script::names::Names;
-use script::playing::{asked, note};
+use script::playing::note;
 use script_text::commands::{Line, Script};
 use script_text::parse;
 use std::alloc::Global;
@@ -43,7 +44,7 @@ fn play_own(
         if line.worker != number {
             continue;
         }
-        let Some(act) = asked(&names, line) else {
+        let Ok(act) = act_of(&names, line) else {
             continue;
         };
         let reply = player.act(act);
@@ -74,10 +75,10 @@ fn played(
 /// or isn't.
 fn end_of(alloc: Global, third_is_missing: bool) -> Result<Result<Statement, Unsettled>, Fail> {
     let script = parse(alloc, SCRIPT.as_bytes())?;
-    if script.limits.workers != 4 {
+    if script.pools.first.workers != 4 {
         return Err(Fail::from(Refusal::BadPool));
     }
-    let (ground, seat) = Ground::make(alloc, &script.limits)?;
+    let (ground, seat) = Ground::make(alloc, &script.pools.first)?;
     let mut first = FreeSeat { seat };
     let second = FreeSeat {
         seat: ground.split(&mut first.seat),
@@ -92,7 +93,7 @@ fn end_of(alloc: Global, third_is_missing: bool) -> Result<Result<Statement, Uns
     let second = played(alloc, &ground, &script, second, 2)?;
     let third = played(alloc, &ground, &script, third, 3)?;
     let fourth = played(alloc, &ground, &script, fourth, 4)?;
-    let mut ending = Ending::begin(alloc, &script.limits, first)?;
+    let mut ending = Ending::begin(alloc, &script.pools.first, first)?;
     ending.add(&ground, second);
     if third_is_missing {
         ending.add_without_share(&ground, third);

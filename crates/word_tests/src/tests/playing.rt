@@ -10,16 +10,26 @@ use book::settling::Unsettled;
 use commons::limits::Limits;
 use commons::refusal::Refusal;
 use ground::pool::Ground;
-use mbuf::acts::Reply;
+use mbuf::acts::{Act, Reply};
 use pool_model::statement::Statement;
+use script::asking::asked;
 use script::names::Names;
-use script::playing::{asked, note};
+use script::playing::note;
 use script_text::commands::{Line, Script};
 use std::alloc::Global;
 use std::test::Fail;
+use twin_acts::acts::TwinAct;
 
 /// The replies to a script, and the statement of its end or why there is none.
 pub(super) type Played = (Vec<Reply>, Result<Statement, Unsettled>);
+
+/// What a line asks of a pool alone, or why it is refused.
+pub(super) fn act_of<'a>(names: &Names<'a>, line: &'a Line) -> Result<Act, Refusal> {
+    match asked(names, line)? {
+        TwinAct::OnFirst(act) => Ok(act),
+        _ => Err(Refusal::Foreign),
+    }
+}
 
 /// Lets the worker of a line do what the line asks for.
 fn obey<'a>(
@@ -34,8 +44,9 @@ fn obey<'a>(
     ensures first { IsReady ground.now first.new.c.seat first.new.packets }
     ensures second { IfSome second.new (λ p. IsReady ground.now p.c.seat p.packets) }
 {
-    let Some(act) = asked(names, line) else {
-        return Reply::Refused(Refusal::NoSuchPacket);
+    let act = match act_of(names, line) {
+        Ok(act) => act,
+        Err(cause) => return Reply::Refused(cause),
     };
     if line.worker == 1 {
         return first.act(act);
@@ -84,7 +95,7 @@ fn retire(ground: &Ground, first: Player, second: Option<Player>) -> (Retired, O
 
 /// Plays a script whose pool has one worker, or two.
 pub(super) fn play(alloc: Global, script: &Script) -> Result<Played, Fail> {
-    let limits = &script.limits;
+    let limits = &script.pools.first;
     let (ground, seat) = Ground::make(alloc, limits)?;
     let mut first = FreeSeat { seat };
     let second = if limits.workers == 2 {

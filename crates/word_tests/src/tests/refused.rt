@@ -46,7 +46,7 @@ fn assert_refused<R: Abort>(
     let script = parse(alloc, text.as_bytes())?;
     let (replies, statement) = assert_same(rt, alloc, &script, name)?;
     let told = refusals(replies.as_slice(), cause);
-    let wanted = ((1, 1), script.limits.population);
+    let wanted = ((1, 1), script.pools.first.population);
     same(rt, &(told, statement.available), &wanted, name);
     Ok(())
 }

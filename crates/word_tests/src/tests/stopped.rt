@@ -6,6 +6,7 @@ ghost use Rattle.stack_tests.specs.Idle.{IsIdle};
 ghost use Rattle.word_tests.specs.Ready.{IsReady, IsUnused};
 
 use super::players::{FreeSeat, Player, Retired};
+use super::playing::act_of;
 use super::same;
 use super::settling::Ending;
 use book::book::Book;
@@ -16,7 +17,7 @@ use commons::refusal::Refusal;
 use ground::pool::Ground;
 use mbuf::packets::{Packets, SLOTS};
 use script::names::Names;
-use script::playing::{asked, note};
+use script::playing::note;
 use script_text::commands::{Line, Script};
 use script_text::parse;
 use std::alloc::{AllocError, Global};
@@ -66,12 +67,12 @@ fn play_line<'a>(
     ensures ready { IsReady ground.now player.new.c.seat player.new.packets }
 {
     let _ = ground;
-    match asked(names, line) {
-        Some(act) => {
+    match act_of(names, line) {
+        Ok(act) => {
             let reply = player.act(act);
             note(names, line, &reply)
         }
-        None => Ok(()),
+        Err(_) => Ok(()),
     }
 }
 
@@ -407,11 +408,11 @@ fn told_of<R: Threads + Sync>(
     number: u32,
     gate: Gate,
 ) -> Result<Told, Fail> {
-    if script.limits.workers != 4 {
+    if script.pools.first.workers != 4 {
         return Err(Fail::from(Refusal::BadPool));
     }
     let lines = script.lines.as_slice();
-    let (ground, seat) = Ground::make(alloc, &script.limits)?;
+    let (ground, seat) = Ground::make(alloc, &script.pools.first)?;
     let mut fourth = FreeSeat { seat };
     let first = FreeSeat {
         seat: ground.split(&mut fourth.seat),
@@ -480,7 +481,13 @@ fn what_a_stopped_worker_alone_had_is_lost(rt: HostRuntime) -> Result<(), Fail> 
         let name = format!(in alloc; "worker {number} is stopped after {lines} lines")?;
         let gate = Gate { rounds, lines };
         let told = told_of(&rt, alloc, &script, number, gate)?;
-        assert_told(&rt, alloc, script.limits.population, &told, name.as_str())?;
+        assert_told(
+            &rt,
+            alloc,
+            script.pools.first.population,
+            &told,
+            name.as_str(),
+        )?;
     }
     Ok(())
 }

@@ -9,7 +9,7 @@ use commons::refusal::Refusal;
 use ground::pool::Ground;
 use mbuf::acts::Act;
 use pool_model::settled::Settled;
-use script::settled_text;
+use script::statement_text;
 use std::alloc::Global;
 use std::test::Fail;
 use std::thread;
@@ -161,7 +161,7 @@ fn a_clone_on_words_holds_the_buffer_of_the_first_pool(rt: HostRuntime) -> Resul
         ..DEFAULTS
     };
     let settled = settled_with_clones(&rt, rt.alloc(), &first, &second)?;
-    let text = settled_text(rt.alloc(), &settled)?;
+    let text = statement_text(rt.alloc(), &settled)?;
     same(
         &rt,
         &text.as_slice(),

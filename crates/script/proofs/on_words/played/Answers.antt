@@ -1,7 +1,7 @@
 -- The workers are all those of the ground, before their threads and after.
 use Rattle.std.proofs.Common.{List, length, ap, arith}
 use Rattle.commons.specs.declared.limits.Limits.{Limits}
-use Rattle.word_pool.specs.Workers.{Manned}
+use Rattle.word_pool.specs.Workers.{AllStay, Manned}
 use Rattle.script.proofs.WordWorkers.{crew_len, crew_after}
 use Rattle.script.proofs.on_words.played.Goals as goal
 
@@ -33,6 +33,8 @@ play-requires-clause-few g c κs within =
 pub returns-clause-workers : goal.returns-clause-workers
 returns-clause-workers g c =
     let made = c.in_ok-ground in
+    let stayed : AllStay c.as_mut_slice.result.now c.play.new.workers =
+    record { as_many = c.play.ensures.stay.as_many; each = c.play.ensures.stay.each } in
     crew_after made.ground made.workers.items c.as_mut_slice.result.now c.play.new.workers made.workers.len
     (c.workers_who_stay_are_all.ensures made.ground c.as_mut_slice.result.now c.play.new.workers)
-    c.as_mut_slice.ensures.value (omega (arith, c.as_mut_slice.ensures.len)) made.ensures.workers c.play.ensures.stay
+    c.as_mut_slice.ensures.value (omega (arith, c.as_mut_slice.ensures.len)) made.ensures.workers stayed

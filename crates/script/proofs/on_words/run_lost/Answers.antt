@@ -9,7 +9,7 @@ use Rattle.script.proofs.on_words.run_lost.Goals as goal
 pub returns-clause-lost : goal.returns-clause-lost
 returns-clause-lost g c =
     let left = c.in_ok-ground in
-    let l = c.args.script.now.limits in
+    let l = c.args.limits.now in
     let w = c.args.worker in
     IfOk-weaker c.settled_without.result (λ elems. AreLostOf left.ground (w ∷ []) c.lose.new.workers.items elems.items)
     (λ elems. LosesOnWords l w elems.items)
@@ -21,7 +21,7 @@ returns-clause-lost g c =
 pub returns-clause-pool : goal.returns-clause-pool
 returns-clause-pool g c =
     let left = c.in_ok-ground in
-    let l = c.args.script.now.limits in
+    let l = c.args.limits.now in
     let w = c.args.worker in
     IfOk-weaker c.settled_without.result (λ elems. AreLostOf left.ground (w ∷ []) c.lose.new.workers.items elems.items)
     (λ elems. AreOfPool l elems.items)

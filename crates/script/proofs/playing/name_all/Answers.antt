@@ -3,6 +3,7 @@ use Rattle.std.specs.Prelude.{min}
 use Rattle.std.proofs.lemmas.List.{drop_more, length-drop}
 use Rattle.mbuf.specs.declared.acts.NewPacket.{NewPacket}
 use Rattle.script.specs.Replay.{named, all_named}
+use Rattle.script.specs.declared.names.Stand.TheVariants.{Packet}
 use Rattle.script.specs.Stands.{stands_in}
 use Rattle.script.proofs.NameLemmas.{all_named-end}
 use Rattle.script.proofs.playing.name_all.Goals as goal
@@ -20,7 +21,7 @@ loop-index-preserved c =
     let first : drop k made ≡ name ∷ drop (k + 1) made = drop_more made k name (omega (arith, within)) ∙ ap (λ (n : List ℕ). n ∷ drop (k + 1) made) (sym c.index-made-index.is) in
     let second : drop k packets ≡ packet ∷ drop (k + 1) packets = drop_more packets k nothing (omega (arith, within)) in
     let set = rw c.as_slice.ensures at c.in_ok-set.ensures in
-    let same : stands_in c.set.new.self ≡ named c.args.worker name (Some packet.slot) (stands_in c.loop-index.names) = λ i w other. set w other i in
+    let same : stands_in c.set.new.self ≡ named c.args.worker name (Some (Packet packet.slot)) (stands_in c.loop-index.names) = λ i w other. set w other i in
     ap (all_named c.args.worker (drop (k + 1) made) (drop (k + 1) packets)) same
     ∙ sym (ap (λ (ns : List (List ℕ)). all_named c.args.worker ns (packet ∷ drop (k + 1) packets) (stands_in c.loop-index.names)) first)
     ∙ sym (ap (λ (ps : List NewPacket). all_named c.args.worker (drop k made) ps (stands_in c.loop-index.names)) second)

@@ -27,25 +27,25 @@ listed l s sound = record { packets = sound_packets_are_packets l s sound; count
 -- acts of a new pool led to the end
 pub returns-clause-reached : goal.returns-clause-reached
 returns-clause-reached g c =
-    all_end_by_acts c.args.script.now.limits c.in_ok-limits.limits c.in_ok-limits.closed c.in_ok-limits.shares.items
+    all_end_by_acts c.args.limits.now c.in_ok-limits.limits c.in_ok-limits.closed c.in_ok-limits.shares.items
     c.settled_parts.result c.in_ok-limits.ensures.limits c.in_ok-limits.ensures.reached c.settled_parts.ensures.statement
 
 -- and acts leave packets sound
 pub returns-clause-sound : goal.returns-clause-sound
 returns-clause-sound g c =
-    let l = c.args.script.now.limits in
-    of_acts l (ListsSoundPackets l) (λ acts. c.acts_leave_packets_sound.ensures.stated l acts c.args.script.now.pool)
+    let l = c.args.limits.now in
+    of_acts l (ListsSoundPackets l) (λ acts. c.acts_leave_packets_sound.ensures.stated l acts c.requires.pool)
     c.settled_parts.result
-    (all_end_by_acts c.args.script.now.limits c.in_ok-limits.limits c.in_ok-limits.closed c.in_ok-limits.shares.items
+    (all_end_by_acts c.args.limits.now c.in_ok-limits.limits c.in_ok-limits.closed c.in_ok-limits.shares.items
     c.settled_parts.result c.in_ok-limits.ensures.limits c.in_ok-limits.ensures.reached c.settled_parts.ensures.statement)
 
 -- so what is listed are packets
 pub returns-clause-packets : goal.returns-clause-packets
 returns-clause-packets g c =
-    let l = c.args.script.now.limits in
+    let l = c.args.limits.now in
     of_acts l (ListsPackets l)
     (λ acts. listed l (statement_of (after_acts acts (new_pool l)))
-    (c.acts_leave_packets_sound.ensures.stated l acts c.args.script.now.pool))
+    (c.acts_leave_packets_sound.ensures.stated l acts c.requires.pool))
     c.settled_parts.result
-    (all_end_by_acts c.args.script.now.limits c.in_ok-limits.limits c.in_ok-limits.closed c.in_ok-limits.shares.items
+    (all_end_by_acts c.args.limits.now c.in_ok-limits.limits c.in_ok-limits.closed c.in_ok-limits.shares.items
     c.settled_parts.result c.in_ok-limits.ensures.limits c.in_ok-limits.ensures.reached c.settled_parts.ensures.statement)

@@ -9,7 +9,7 @@ use Rattle.script.proofs.under_lock.run_lost.Goals as goal
 pub returns-clause-lost : goal.returns-clause-lost
 returns-clause-lost g c =
     let left = c.in_ok-limits in
-    let l = c.args.script.now.limits in
+    let l = c.args.limits.now in
     let w = c.args.worker in
     IfOk-weaker c.settled_parts_without.result
     (λ elems. AreLostWith left.limits (w ∷ []) left.shares.items left.closed.desks elems.items)
@@ -22,7 +22,7 @@ returns-clause-lost g c =
 pub returns-clause-pool : goal.returns-clause-pool
 returns-clause-pool g c =
     let left = c.in_ok-limits in
-    let l = c.args.script.now.limits in
+    let l = c.args.limits.now in
     let w = c.args.worker in
     IfOk-weaker c.settled_parts_without.result
     (λ elems. AreLostWith left.limits (w ∷ []) left.shares.items left.closed.desks elems.items)

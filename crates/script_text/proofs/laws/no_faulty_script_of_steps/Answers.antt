@@ -1,10 +1,13 @@
+use Rattle.script_text.specs.PoolLine.{one_pool}
 use Rattle.script_text.specs.inside.StepReading.{step_lexicon}
 use Rattle.script_text.proofs.StepLineLemmas.{steps_are_right}
 use Rattle.script_text.proofs.ScriptLemmas.{line_or_script, pool_or_script}
 use Rattle.script_text.proofs.laws.no_faulty_script_of_steps.Goals as goal
 
 pub returns-clause-line : goal.returns-clause-line
-returns-clause-line c = line_or_script step_lexicon steps_are_right
+returns-clause-line c = λ bytes number limits.
+    line_or_script step_lexicon steps_are_right bytes number (one_pool limits)
 
 pub returns-clause-pool : goal.returns-clause-pool
-returns-clause-pool c = pool_or_script step_lexicon steps_are_right
+returns-clause-pool c = λ bytes limits.
+    pool_or_script step_lexicon steps_are_right bytes (one_pool limits)

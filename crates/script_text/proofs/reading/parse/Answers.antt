@@ -14,5 +14,5 @@ returns-clause-faults c = is_caused command_lexicon commands_are_right c.script_
 -- a script of the grammar is what the text is read as, and there is one reading
 pub returns-clause-only : goal.returns-clause-only
 returns-clause-only c =
-    λ limits lines h.
-    only_one command_lexicon commands_are_right c.script_of.result c.args.bytes.now limits lines h c.script_of.ensures
+    λ pools lines h.
+    only_one command_lexicon commands_are_right c.script_of.result c.args.bytes.now pools lines h c.script_of.ensures

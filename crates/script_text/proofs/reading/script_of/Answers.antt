@@ -3,7 +3,7 @@ use Rattle.std.specs.Prelude.{option_map}
 use Rattle.std.proofs.lemmas.Bool.{eqb-true, eqb-false}
 use Rattle.commons.specs.declared.refusal.Refusal.TheVariants.{ScriptFault}
 use Rattle.script_text.specs.inside.ScriptReading.{read_text}
-use Rattle.script_text.specs.PoolLine.{numbers_of}
+use Rattle.script_text.specs.PoolLine.{numbers_of_pools}
 use Rattle.script_text.specs.inside.Agreement.{state_of}
 use Rattle.script_text.proofs.JudgedLemmas.{read_more, stops, unfinished_rest, no_pool_line, whole_script, text_too_long, text_short, same_state}
 use Rattle.script_text.proofs.reading.script_of.Goals as goal
@@ -40,25 +40,28 @@ returns-then-not-is_empty g c =
     unfinished_rest g.C.Spelled.lexicon (state_of c.loop-line.reader) c.loop-line.number c.loop-line.rest.now
     (read_text g.C.Spelled.lexicon c.args.bytes.now) c.in_default.ensures.lines (omega (arith, some)) whole
 
--- nothing is left behind the last line and limits were told, so the text is this script
+-- nothing is left behind the last line and pools were told, so the text is this script
 pub returns-in-Some-finish : goal.returns-in-Some-finish
 returns-in-Some-finish g c =
     let whole = c.loop-line.invariant.same ∙ sym (text_short g.C.Spelled.lexicon c.args.bytes.now c.if-bytes-gt-MAX_BYTES.false) in
     let none = eqb-true (length c.loop-line.rest.now) 0 (sym c.is_empty.ensures ∙ c.if-not-is_empty.false) in
     let s = state_of c.loop-line.reader in
     let script = c.in-Some-finish.script in
-    same_state g.C.Spelled.lexicon s (numbers_of script.limits) script.lines (read_text g.C.Spelled.lexicon c.args.bytes.now) (ap (option_map numbers_of) c.in-Some-finish.ensures.0)
+    same_state g.C.Spelled.lexicon s (numbers_of_pools script.pools) script.lines
+    (read_text g.C.Spelled.lexicon c.args.bytes.now) (ap (option_map numbers_of_pools) c.in-Some-finish.ensures.0)
     c.in-Some-finish.ensures.1
-    (whole_script g.C.Spelled.lexicon s c.loop-line.number c.loop-line.rest.now (numbers_of script.limits)
-    (read_text g.C.Spelled.lexicon c.args.bytes.now) c.in_default.ensures.lines none (ap (option_map numbers_of) c.in-Some-finish.ensures.0)
+    (whole_script g.C.Spelled.lexicon s c.loop-line.number c.loop-line.rest.now (numbers_of_pools script.pools)
+    (read_text g.C.Spelled.lexicon c.args.bytes.now) c.in_default.ensures.lines none
+    (ap (option_map numbers_of_pools) c.in-Some-finish.ensures.0)
     whole)
 
--- nothing is left and no limits were told, so every line was skipped
+-- nothing is left and no pools were told, so every line was skipped
 pub returns-in-None : goal.returns-in-None
 returns-in-None g c =
     let whole = c.loop-line.invariant.same ∙ sym (text_short g.C.Spelled.lexicon c.args.bytes.now c.if-bytes-gt-MAX_BYTES.false) in
     let none = eqb-true (length c.loop-line.rest.now) 0 (sym c.is_empty.ensures ∙ c.if-not-is_empty.false) in
     let same : max 1 (c.loop-line.number - 1) ≡ c.max.result = omega (arith, c.max.ensures) in
     no_pool_line g.C.Spelled.lexicon (state_of c.loop-line.reader) c.loop-line.number c.loop-line.rest.now
-    (read_text g.C.Spelled.lexicon c.args.bytes.now) c.in_default.ensures.lines none (ap (option_map numbers_of) c.in-None.ensures) whole
+    (read_text g.C.Spelled.lexicon c.args.bytes.now) c.in_default.ensures.lines none
+    (ap (option_map numbers_of_pools) c.in-None.ensures) whole
     ∙ ap (λ (n : ℕ). Err (ScriptFault n)) same

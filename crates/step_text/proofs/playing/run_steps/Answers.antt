@@ -1,6 +1,5 @@
-use Rattle.std.proofs.Common.{◌≡◌, List, IfOk, subst}
-use Rattle.commons.specs.declared.limits.Limits.{Limits}
-use Rattle.commons.specs.declared.refusal.Refusal.TheVariants.{OutOfMemory}
+use Rattle.std.proofs.Common.{List, IfOk, subst}
+use Rattle.script_text.specs.declared.lines.Pools.{Pools}
 use Rattle.script_text.specs.StepLine.{StepLine}
 use Rattle.step_text.specs.Printed.{IsPrintedFor}
 use Rattle.step_text.proofs.Outcomes.{both_outcomes}
@@ -12,6 +11,6 @@ returns-in-Ok-clause-only c = λ limits lines is.
     let same = c.in-Ok.ensures.only limits lines is in
     both_outcomes _ _ c.printed.result
     (subst (λ (ls : List StepLine). IfOk c.printed.result (λ out. IsPrintedFor limits ls out.items)) same.1
-    (subst (λ (l : Limits). IfOk c.printed.result (λ out. IsPrintedFor l c.in-Ok.script.lines out.items)) same.0
+    (subst (λ (p : Pools). IfOk c.printed.result (λ out. IsPrintedFor p.first c.in-Ok.script.lines out.items)) same.0
     c.printed.ensures.text))
     c.printed.ensures.memory

@@ -3,4 +3,4 @@ use Rattle.script.proofs.NameLemmas.{is_named}
 use Rattle.script.proofs.names.Names.set.Goals as goal
 
 pub returns : goal.returns
-returns c = is_named c.args.self.now (record { slots = c.insert.new.self }) c.args.worker c.args.name (Some c.args.slot) c.in_ok-insert.ensures.updates.0
+returns c = is_named c.args.self.now (record { stands = c.insert.new.self }) c.args.worker c.args.name (Some c.args.stand) c.in_ok-insert.ensures.updates.0

@@ -5,7 +5,7 @@ use Rattle.share_book.proofs.TwinPools.{first_lawful, second_lawful}
 use Rattle.share_book.proofs.twin_site.TwinSite.each_pool_is_lawful.Goals as goal
 
 pub returns-clause-first : goal.returns-clause-first
-returns-clause-first c = rw (sym c.self.view_is) (first_lawful (lists_of c.self.inside) c.self.invariant)
+returns-clause-first c = rw (sym c.self.view_is) (first_lawful (lists_of c.self.inside) c.self.invariant.tables)
 
 pub returns-clause-second : goal.returns-clause-second
-returns-clause-second c = rw (sym c.self.view_is) (second_lawful (lists_of c.self.inside) c.self.invariant)
+returns-clause-second c = rw (sym c.self.view_is) (second_lawful (lists_of c.self.inside) c.self.invariant.tables)
