@@ -1,0 +1,5 @@
+pub mod Doubles
+pub mod Reading
+pub mod Readings
+pub mod Shown
+pub mod SnapshotData

@@ -1,0 +1,51 @@
+-- What a text says of a snapshot, and why it says nothing.
+use Rattle.std.specs.Prelude.{ℕ, ◌≡◌, ◌⊎◌, ◌<◌, ◌≤◌, List, None, Some, IsSomeAnd, IsUtf8, ⊤, codes, length, slice_index}
+use Rattle.json.specs.Json.{document}
+use Rattle.json.specs.Strict.{HasUniqueKeys}
+use Rattle.serde_json.specs.Data.{Data}
+use Rattle.serde_json.specs.Find.{get}
+use Rattle.serde_json.specs.Read.{read}
+use Rattle.commons.specs.Bag.{bag}
+use Rattle.json_text.specs.StatementData.{counts_data}
+use Rattle.snapshot.specs.declared.snapshot.Snapshot.{Snapshot}
+use Rattle.snapshot_json.specs.SnapshotData.{HasWords, IsSnapshotData}
+use Rattle.snapshot_json.specs.declared.fault.SnapshotFault.{SnapshotFault}
+use Rattle.snapshot_json.specs.declared.fault.SnapshotFault.TheVariants.{NotJson, Doubled}
+
+-- bytes are a text of JSON that is a snapshot's data, in which no object has a key twice
+pub record IsSnapshotText (bytes : List ℕ) (s : Snapshot) : Type 0 where
+  pub utf8 : IsUtf8 bytes
+  pub value : IsSomeAnd (read bytes) (λ d. IsSnapshotData d s)
+  pub once : IsSomeAnd (document bytes) HasUniqueKeys
+
+-- a value is the data of no snapshot whose numbers fit their types
+abbrev pub IsNoSnapshotData : Data → Type 0
+IsNoSnapshotData d = (s : Snapshot) → HasWords s → ¬ (IsSnapshotData d s)
+
+-- bytes are the text of no such snapshot
+abbrev pub IsNoSnapshotText : List ℕ → Type 0
+IsNoSnapshotText bytes = (s : Snapshot) → HasWords s → ¬ (IsSnapshotText bytes s)
+
+-- bytes are no text of JSON: not UTF-8, or not of its grammar
+abbrev pub IsNoJson : List ℕ → Type 0
+IsNoJson bytes = ¬ (IsUtf8 bytes) ⊎ ((read bytes ≡ None) ⊎ (document bytes ≡ None))
+
+-- The least element that stands twice in a list of elements, with the first two places where it
+-- stands.
+pub record IsLeastDouble (common : List ℕ) (elem first second : ℕ) : Type 0 where
+  pub order : first < second
+  pub within : second < length common
+  pub at_first : slice_index common first ≡ elem
+  pub at_second : slice_index common second ≡ elem
+  pub least : (e : ℕ) → e < elem → bag common e ≤ 1
+
+-- the same of the list that a value has as its common one
+abbrev pub HasLeastDouble : Data → ℕ → ℕ → ℕ → Type 0
+HasLeastDouble d elem first second =
+    (common : List ℕ) × (get (codes "common") d ≡ Some (counts_data common)) × IsLeastDouble common elem first second
+
+-- what a fault says beside that there is no snapshot
+abbrev pub Tells : List ℕ → SnapshotFault → Type 0
+Tells bytes (NotJson byte) = IsNoJson bytes
+Tells bytes (Doubled elem first second) = IsSomeAnd (read bytes) (λ d. HasLeastDouble d elem first second)
+Tells bytes _ = ⊤

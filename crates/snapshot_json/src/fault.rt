@@ -1,0 +1,226 @@
+//! What is wrong with a snapshot's text, and where.
+
+use std::fmt;
+use std::fmt::InlineText;
+
+/// The most steps of a path, as of `shares[3].slots[17][0].base`.
+const MOST_STEPS: usize = 6;
+
+/// The most bytes of an unknown key that are shown.
+const SHOWN: usize = 32;
+
+/// The key of a member of a snapshot's value.
+#[derive(Clone, Copy, PartialEq, Eq, Debug)]
+pub enum Key {
+    Base,
+    Buf,
+    Cache,
+    Common,
+    Counts,
+    Desks,
+    Elem,
+    Foreign,
+    Guests,
+    Len,
+    Length,
+    Limits,
+    Links,
+    Off,
+    Population,
+    Putrule,
+    Refs,
+    Shares,
+    Slots,
+    Start,
+    Top,
+    Tries,
+    Worker,
+    Workers,
+}
+
+impl Key {
+    /// The key as it stands in a text.
+    pub fn name(self) -> &'static str {
+        match self {
+            Key::Base => "base",
+            Key::Buf => "buf",
+            Key::Cache => "cache",
+            Key::Common => "common",
+            Key::Counts => "counts",
+            Key::Desks => "desks",
+            Key::Elem => "elem",
+            Key::Foreign => "foreign",
+            Key::Guests => "guests",
+            Key::Len => "len",
+            Key::Length => "length",
+            Key::Limits => "limits",
+            Key::Links => "links",
+            Key::Off => "off",
+            Key::Population => "population",
+            Key::Putrule => "putrule",
+            Key::Refs => "refs",
+            Key::Shares => "shares",
+            Key::Slots => "slots",
+            Key::Start => "start",
+            Key::Top => "top",
+            Key::Tries => "tries",
+            Key::Worker => "worker",
+            Key::Workers => "workers",
+        }
+    }
+}
+
+/// A step from a value to a part of it.
+#[derive(Clone, Copy, PartialEq, Eq, Debug)]
+pub enum Step {
+    /// A member of an object.
+    Key(Key),
+    /// An item of a list, from 0.
+    Item(u64),
+}
+
+/// The way from the whole value to a part of it.
+#[derive(Clone, Copy, PartialEq, Eq, Debug)]
+pub struct Path {
+    steps: [Option<Step>; MOST_STEPS],
+}
+
+impl Path {
+    /// The whole value.
+    pub(crate) fn whole() -> Path {
+        Path {
+            steps: [None; MOST_STEPS],
+        }
+    }
+
+    /// One step further.
+    pub(crate) fn then(self, step: Step) -> Path {
+        let mut longer = self;
+        for place in longer.steps.iter_mut() {
+            if place.is_none() {
+                *place = Some(step);
+                break;
+            }
+        }
+        longer
+    }
+}
+
+impl fmt::Display for Path {
+    fn fmt<W: fmt::Write>(&self, f: &mut fmt::Formatter<W>) -> fmt::Result {
+        let mut begun = false;
+        for step in self.steps.iter() {
+            match *step {
+                Some(Step::Key(key)) => {
+                    if begun {
+                        f.write_str(".")?;
+                    }
+                    f.write_str(key.name())?;
+                }
+                Some(Step::Item(index)) => write!(f, "[{index}]")?,
+                None => {}
+            }
+            begun = true;
+        }
+        Ok(())
+    }
+}
+
+/// What is wrong with a part of a snapshot's value.
+#[derive(Clone, Copy, Drop)]
+pub enum Cause {
+    /// It isn't there.
+    Missing,
+    /// The object has no such member. The front of its key.
+    Unknown(InlineText<SHOWN>),
+    /// The object has this member twice.
+    Twice,
+    /// It is no object.
+    NotObject,
+    /// It is no list.
+    NotList,
+    /// It is neither a list nor null.
+    NotPlace,
+    /// It is no decimal number, or one with a fraction or an exponent.
+    NotNumber,
+    /// It is neither such a number nor null.
+    NotBase,
+    /// It is neither true nor false.
+    NotFlag,
+    /// It is a number above this one, or below 0.
+    OutOfRange(u64),
+    /// It is no element of a pool with this population.
+    NoElement(u64),
+    /// The value as a whole isn't a snapshot's.
+    Other,
+}
+
+/// What is wrong, of which part, and where that stands in the text. Of a missing member the byte is
+/// that of its object.
+#[derive(Clone, Copy, Drop)]
+pub struct Flaw {
+    /// The part.
+    pub path: Path,
+    /// What is wrong with it.
+    pub cause: Cause,
+    /// The byte at which it begins, from 0.
+    pub byte: u64,
+}
+
+impl fmt::Display for Flaw {
+    fn fmt<W: fmt::Write>(&self, f: &mut fmt::Formatter<W>) -> fmt::Result {
+        let path = self.path;
+        let byte = self.byte;
+        f.write_str("snapshot")?;
+        if path != Path::whole() {
+            write!(f, " {path}")?;
+        }
+        f.write_str(": ")?;
+        match self.cause {
+            Cause::Missing => f.write_str("missing")?,
+            Cause::Unknown(key) => {
+                let key = key.as_str();
+                write!(f, "unknown member {key}")?;
+            }
+            Cause::Twice => f.write_str("twice")?,
+            Cause::NotObject => f.write_str("not an object")?,
+            Cause::NotList => f.write_str("not a list")?,
+            Cause::NotPlace => f.write_str("not a list or null")?,
+            Cause::NotNumber => f.write_str("not a whole number")?,
+            Cause::NotBase => f.write_str("not a whole number or null")?,
+            Cause::NotFlag => f.write_str("not true or false")?,
+            Cause::OutOfRange(high) => write!(f, "out of 0 to {high}")?,
+            Cause::NoElement(population) => write!(f, "not below the population, {population}")?,
+            Cause::Other => f.write_str("not a snapshot")?,
+        }
+        write!(f, ", at byte {byte}")
+    }
+}
+
+/// Why no snapshot was read from a text.
+#[derive(Clone, Copy, Drop)]
+pub enum SnapshotFault {
+    /// Memory was refused: nothing is said of the text.
+    OutOfMemory,
+    /// The text isn't JSON: it ends or goes wrong at about this byte.
+    NotJson(u64),
+    /// A part of the value is wrong.
+    Wrong(Flaw),
+    /// The least element that stands twice in the common list, and the first two places where it
+    /// stands, from 0.
+    Doubled(u32, u64, u64),
+}
+
+impl fmt::Display for SnapshotFault {
+    fn fmt<W: fmt::Write>(&self, f: &mut fmt::Formatter<W>) -> fmt::Result {
+        match *self {
+            SnapshotFault::OutOfMemory => f.write_str("out of memory"),
+            SnapshotFault::NotJson(byte) => write!(f, "snapshot: not JSON, at byte {byte}"),
+            SnapshotFault::Wrong(flaw) => write!(f, "{flaw}"),
+            SnapshotFault::Doubled(elem, first, second) => write!(
+                f,
+                "snapshot common: element {elem} stands at common[{first}] and common[{second}]"
+            ),
+        }
+    }
+}

@@ -1,0 +1,161 @@
+//! A pool's snapshot as JSON, written and read.
+#![tactic(auto)]
+
+pub mod fault;
+mod flaws;
+pub mod laws;
+mod parts;
+mod reading;
+mod stack;
+mod values;
+
+ghost use Rattle.std.specs.Prelude.{◌≡◌, ◌≢◌, ◌++◌, codes, IfErr, IfOk, IsSomeAnd, OnOk, Some};
+ghost use Rattle.json.specs.Json.{document};
+ghost use Rattle.json.specs.Strict.{HasUniqueKeys};
+ghost use Rattle.serde_json.specs.Read.{read};
+ghost use Rattle.snapshot_json.specs.Reading.{IsNoSnapshotText, IsSnapshotText, Tells};
+ghost use Rattle.snapshot_json.specs.Readings.{IsBroken, IsFlaw, IsKeyFault};
+ghost use Rattle.snapshot_json.specs.SnapshotData.{IsSnapshotData, json_of, snapshot_data};
+
+use commons::refusal::Refusal;
+use fault::SnapshotFault;
+use json::Scratch;
+use reading::Reading;
+use serde_json::{Error, Value};
+use snapshot::snapshot::Snapshot;
+use std::alloc::{AllocError, Global};
+
+/// The snapshot whose text these bytes are, else what is wrong with them, or `OutOfMemory` where
+/// memory was refused.
+pub fn read_snapshot(alloc: Global, bytes: &[u8]) -> Result<Snapshot, SnapshotFault>
+    ensures ok { IfOk result (λ s. IsSnapshotText bytes.now s) }
+    ensures none { IfErr result (λ f. f ≢ SnapshotFault.OutOfMemory → IsNoSnapshotText bytes.now) }
+    ensures tells { IfErr result (λ f. Tells bytes.now f) }
+{
+    let text = match std::str::from_utf8(bytes) {
+        Ok(text) => text,
+        Err(fault) => return Err(SnapshotFault::NotJson(fault.valid_up_to() as u64)),
+    };
+    check_keys(alloc, text)?;
+    let value = match Value::from_str(alloc, text) {
+        Ok(value) => value,
+        Err(fault) => {
+            if fault.is_memory() {
+                return Err(SnapshotFault::OutOfMemory);
+            }
+            return Err(SnapshotFault::NotJson(byte_of(bytes, &fault)));
+        }
+    };
+    match reading::read(alloc, &value) {
+        Ok(Reading::Whole(snapshot)) => Ok(snapshot),
+        Ok(Reading::Twice(double)) => Err(SnapshotFault::Doubled(
+            double.elem,
+            double.first as u64,
+            double.second as u64,
+        )),
+        Ok(Reading::Other) => Err(wrong(alloc, text)),
+        Err(_) => Err(SnapshotFault::OutOfMemory),
+    }
+}
+
+/// Tests that a text is JSON in which no object has a key twice.
+fn check_keys(alloc: Global, text: &str) -> Result<(), SnapshotFault>
+    ensures ok { OnOk result (IsSomeAnd (document text.now) HasUniqueKeys) }
+    ensures fault { IfErr result (λ f. IsKeyFault text.now f) }
+{
+    let mut scratch = Scratch::new(alloc);
+    match json::Value::parse_strict(alloc, text, &mut scratch) {
+        Ok(_) => Ok(()),
+        Err(json::Error::OutOfMemory) => Err(SnapshotFault::OutOfMemory),
+        Err(json::Error::DuplicateKey) => Err(wrong(alloc, text)),
+        Err(json::Error::Invalid) => Err(broken(alloc, text)),
+        Err(json::Error::TooLong) => unreachable!(),
+    }
+}
+
+/// What is wrong with a text that isn't JSON.
+fn broken(alloc: Global, text: &str) -> SnapshotFault
+    ensures { IsBroken result }
+{
+    match Value::from_str(alloc, text) {
+        Ok(_) => SnapshotFault::NotJson(0),
+        Err(fault) => {
+            if fault.is_memory() {
+                return SnapshotFault::OutOfMemory;
+            }
+            SnapshotFault::NotJson(byte_of(text.as_bytes(), &fault))
+        }
+    }
+}
+
+/// The byte at which the kit's reader found a fault, from its line and its column, both from 1. At
+/// the end of a text it counts no column more.
+fn byte_of(bytes: &[u8], fault: &Error) -> u64 {
+    let line = fault.line();
+    let mut begun: usize = 1;
+    let mut at: u64 = 0;
+    for byte in bytes {
+        if begun >= line {
+            break;
+        }
+        at = at.saturating_add(1);
+        if *byte == b'\n' {
+            begun = begun.saturating_add(1);
+        }
+    }
+    let end = bytes.len() as u64;
+    let byte = at.saturating_add(fault.column().saturating_sub(1) as u64);
+    if fault.is_eof() && byte.saturating_add(1) == end {
+        end
+    } else {
+        byte
+    }
+}
+
+/// What is wrong with a text of JSON.
+fn wrong(alloc: Global, text: &str) -> SnapshotFault
+    ensures { IsFlaw result }
+{
+    match flaws::first(alloc, text) {
+        Ok(flaw) => SnapshotFault::Wrong(flaw),
+        Err(_) => SnapshotFault::OutOfMemory,
+    }
+}
+
+/// The compact text of a snapshot, with its stack as words, and with a line feed at its end.
+///
+/// Refused `OutOfMemory` where memory was refused.
+pub fn snapshot_json(alloc: Global, snapshot: &Snapshot) -> Result<Vec<u8>, Refusal>
+    ensures text { IfOk result (λ out. out.items ≡ json_of snapshot.now ++ codes "\n") }
+    // A reader of JSON finds the snapshot's data in it.
+    ensures reads_back { IfOk result
+        (λ _. read (json_of snapshot.now) ≡ Some (snapshot_data snapshot.now)) }
+    ensures own { IfOk result (λ _. IsSnapshotData (snapshot_data snapshot.now) snapshot.now) }
+    ensures memory { IfErr result (λ e. e ≡ Refusal.OutOfMemory) }
+{
+    match line(alloc, snapshot) {
+        Ok(line) => Ok(line),
+        Err(_) => Err(Refusal::OutOfMemory),
+    }
+}
+
+/// The text with the line feed.
+fn line(alloc: Global, snapshot: &Snapshot) -> Result<Vec<u8>, AllocError>
+    ensures text { IfOk result (λ out. out.items ≡ json_of snapshot.now ++ codes "\n") }
+    ensures reads_back { IfOk result
+        (λ _. read (json_of snapshot.now) ≡ Some (snapshot_data snapshot.now)) }
+{
+    let mut out = compact(alloc, snapshot)?;
+    out.push(b'\n')?;
+    Ok(out)
+}
+
+/// The text without it.
+fn compact(alloc: Global, snapshot: &Snapshot) -> Result<Vec<u8>, AllocError>
+    ensures text { IfOk result (λ out. out.items ≡ json_of snapshot.now) }
+    ensures reads_back { IfOk result
+        (λ _. read (json_of snapshot.now) ≡ Some (snapshot_data snapshot.now)) }
+{
+    let text = values::snapshot(alloc, snapshot)?.to_vec(alloc)?;
+    Ok(text)
+}

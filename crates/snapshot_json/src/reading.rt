@@ -1,0 +1,144 @@
+//! A value of JSON read as a snapshot, in either of its forms: what it shows is taken, written
+//! again, and compared with the value.
+
+ghost use Rattle.std.specs.Prelude.{◌≡◌, ◌≤◌, ◌↔◌, false, IfOk, IsTrue, MatchOption};
+ghost use Rattle.serde_json.specs.Data.{depth};
+ghost use Rattle.serde_json.specs.Read.{max_depth};
+ghost use Rattle.serde_json.specs.View.{view};
+ghost use Rattle.serde_json.specs.Written.{has_float};
+ghost use Rattle.snapshot_json.specs.Readings.{IsNoCommon, IsNoWords, Reads, ReadsCommon};
+ghost use Rattle.snapshot_json.specs.SnapshotData.{common_data, snapshot_data};
+
+use crate::parts::{self, Stack};
+use crate::stack::{self, Double};
+use crate::values;
+use commons::seq::Seq;
+use serde_json::Value;
+use snapshot::snapshot::Snapshot;
+use std::alloc::{AllocError, Global};
+
+/// What a value is.
+#[derive(Drop)]
+pub(crate) enum Reading {
+    /// The data of this snapshot.
+    Whole(Snapshot),
+    /// The data of none: this element stands twice in its common list.
+    Twice(Double),
+    /// The data of none.
+    Other,
+}
+
+/// Whether a value is the wanted one.
+fn is_same(alloc: Global, value: &Value, wanted: &Value) -> Result<bool, AllocError>
+    requires low { depth (view value.now) ≤ max_depth }
+    requires wanted_low { depth (view wanted.now) ≤ max_depth }
+    requires whole { has_float (view wanted.now) ≡ false }
+    ensures { IfOk result (λ same. IsTrue same ↔ (view value.now ≡ view wanted.now)) }
+{
+    let text = value.to_vec(alloc)?;
+    let wanted_text = wanted.to_vec(alloc)?;
+    Ok(text.as_slice() == wanted_text.as_slice())
+}
+
+/// What a value is.
+pub(crate) fn read(alloc: Global, value: &Value) -> Result<Reading, AllocError>
+    requires low { depth (view value.now) ≤ max_depth }
+    ensures { IfOk result (λ reading. Reads (view value.now) reading) }
+{
+    if value.get("common").is_some() {
+        let reading = of_common(alloc, value)?;
+        return Ok(reading);
+    }
+    match of_words(alloc, value)? {
+        Some(snapshot) => Ok(Reading::Whole(snapshot)),
+        None => Ok(Reading::Other),
+    }
+}
+
+/// The snapshot whose data a value is, with its stack as words.
+fn of_words(alloc: Global, value: &Value) -> Result<Option<Snapshot>, AllocError>
+    requires low { depth (view value.now) ≤ max_depth }
+    ensures { IfOk result (λ found. MatchOption found (IsNoWords (view value.now))
+        (λ s. view value.now ≡ snapshot_data s)) }
+{
+    let stack = Stack {
+        top: parts::number32(value, "top"),
+        length: parts::number(value, "length"),
+        links: parts::numbers(alloc, value, "links")?,
+    };
+    let snapshot = parts::snapshot(alloc, value, stack)?;
+    let written = values::snapshot(alloc, &snapshot)?;
+    if is_same(alloc, value, &written)? {
+        Ok(Some(snapshot))
+    } else {
+        Ok(None)
+    }
+}
+
+/// What a value is, as one with its stack as a list.
+fn of_common(alloc: Global, value: &Value) -> Result<Reading, AllocError>
+    requires low { depth (view value.now) ≤ max_depth }
+    ensures { IfOk result (λ reading. ReadsCommon (view value.now) reading) }
+{
+    match list_form(alloc, value)? {
+        Some(found) => with_words(alloc, found),
+        None => Ok(Reading::Other),
+    }
+}
+
+/// A snapshot without its stack, and the list of elements that stands for it.
+#[derive(Drop)]
+struct Listed {
+    shown: Snapshot,
+    common: Vec<u32>,
+}
+
+/// The snapshot whose data a value is, with its stack as a list.
+fn list_form(alloc: Global, value: &Value) -> Result<Option<Listed>, AllocError>
+    requires low { depth (view value.now) ≤ max_depth }
+    ensures { IfOk result (λ found. MatchOption found (IsNoCommon (view value.now))
+        (λ l. view value.now ≡ common_data l.shown l.common.items)) }
+{
+    let common = parts::numbers(alloc, value, "common")?;
+    let no_stack = Stack {
+        top: 0,
+        length: 0,
+        links: Vec::new(alloc),
+    };
+    let shown = parts::snapshot(alloc, value, no_stack)?;
+    let written = values::with_common(alloc, &shown, common.as_slice())?;
+    if is_same(alloc, value, &written)? {
+        Ok(Some(Listed { shown, common }))
+    } else {
+        Ok(None)
+    }
+}
+
+/// The snapshot with the words that its list stands for, where it stands for any.
+fn with_words(alloc: Global, listed: Listed) -> Result<Reading, AllocError>
+    ensures { IfOk result
+        (λ reading. ReadsCommon (common_data listed.shown listed.common.items) reading) }
+{
+    let Listed { shown, common } = listed;
+    let population = shown.limits.population;
+    if !stack::has_words(common.as_slice(), population) {
+        return Ok(Reading::Other);
+    }
+    match stack::doubled(alloc, common.as_slice(), population as usize)? {
+        Some(double) => Ok(Reading::Twice(double)),
+        None => {
+            let links = stack::links(alloc, common.as_slice(), population as usize)?;
+            Ok(Reading::Whole(Snapshot {
+                limits: shown.limits,
+                top: stack::top(common.as_slice()),
+                length: common.len() as u64,
+                links: Seq::new(links),
+                counts: shown.counts,
+                desks: shown.desks,
+                shares: shown.shares,
+                guests: shown.guests,
+                foreign: shown.foreign,
+            }))
+        }
+    }
+}

@@ -1,0 +1,183 @@
+//! A snapshot's parts as JSON values.
+
+ghost use Rattle.std.specs.Prelude.{◌≡◌, IfOk, map};
+ghost use Rattle.serde_json.specs.View.{view};
+ghost use Rattle.json_text.specs.StatementData.{counts_data, seg_data, segs_data};
+ghost use Rattle.snapshot_json.specs.SnapshotData.{common_data, guest_data, guests_data, limits_data, place_data, places_data, rule_data, share_data, shares_data, snapshot_data};
+
+use commons::limits::{Limits, PutRule};
+use commons::packet::Seg;
+use commons::seq::Seq;
+use pool_model::guest::Guest;
+use serde_json::{Value, json};
+use snapshot::snapshot::{ShareData, Snapshot};
+use std::alloc::{AllocError, Global};
+
+/// A snapshot, with its stack as words.
+pub(crate) fn snapshot(alloc: Global, snapshot: &Snapshot) -> Result<Value, AllocError>
+    ensures { IfOk result (λ v. view v ≡ snapshot_data snapshot.now) }
+{
+    let counts = numbers(alloc, snapshot.counts.as_slice())?;
+    let desks = places(alloc, snapshot.desks.as_slice())?;
+    let guests = guests(alloc, snapshot.guests.as_slice())?;
+    let limits = limits(alloc, &snapshot.limits)?;
+    let links = numbers(alloc, snapshot.links.as_slice())?;
+    let shares = shares(alloc, snapshot.shares.as_slice())?;
+    json!(in alloc; {
+        "counts": counts,
+        "desks": desks,
+        "foreign": snapshot.foreign,
+        "guests": guests,
+        "length": snapshot.length,
+        "limits": limits,
+        "links": links,
+        "shares": shares,
+        "top": snapshot.top
+    })
+}
+
+/// A snapshot, with its stack as a list of elements.
+pub(crate) fn with_common(
+    alloc: Global,
+    snapshot: &Snapshot,
+    common: &[u32],
+) -> Result<Value, AllocError>
+    ensures { IfOk result (λ v. view v ≡ common_data snapshot.now common.now) }
+{
+    let common = numbers(alloc, common)?;
+    let counts = numbers(alloc, snapshot.counts.as_slice())?;
+    let desks = places(alloc, snapshot.desks.as_slice())?;
+    let guests = guests(alloc, snapshot.guests.as_slice())?;
+    let limits = limits(alloc, &snapshot.limits)?;
+    let shares = shares(alloc, snapshot.shares.as_slice())?;
+    json!(in alloc; {
+        "common": common,
+        "counts": counts,
+        "desks": desks,
+        "foreign": snapshot.foreign,
+        "guests": guests,
+        "limits": limits,
+        "shares": shares
+    })
+}
+
+/// Limits.
+fn limits(alloc: Global, limits: &Limits) -> Result<Value, AllocError>
+    ensures { IfOk result (λ v. view v ≡ limits_data limits.now) }
+{
+    json!(in alloc; {
+        "buf": limits.buf,
+        "cache": limits.cache,
+        "desks": limits.desks,
+        "population": limits.population,
+        "putrule": rule(limits.put_rule),
+        "refs": limits.ref_limit,
+        "start": limits.start_count,
+        "tries": limits.tries,
+        "workers": limits.workers
+    })
+}
+
+/// The rule of puts.
+fn rule(rule: PutRule) -> Value
+    ensures { view result ≡ rule_data rule }
+{
+    match rule {
+        PutRule::Keep => Value::from(0u64),
+        PutRule::Whole => Value::from(1u64),
+    }
+}
+
+/// A list of numbers.
+fn numbers(alloc: Global, numbers: &[u32]) -> Result<Value, AllocError>
+    ensures { IfOk result (λ v. view v ≡ counts_data numbers.now) }
+{
+    let mut values = Vec::with_capacity(alloc, numbers.len())?;
+    for number in numbers {
+        values.push(Value::from(*number))?;
+    }
+    Ok(Value::from(values))
+}
+
+/// The places of a table, or desks.
+fn places(alloc: Global, places: &[Option<Seq<Seg>>]) -> Result<Value, AllocError>
+    ensures { IfOk result (λ v. view v ≡ places_data places.now) }
+{
+    let mut values = Vec::with_capacity(alloc, places.len())?;
+    for place in places {
+        values.push(a_place(alloc, place)?)?;
+    }
+    Ok(Value::from(values))
+}
+
+/// A place.
+fn a_place(alloc: Global, place: &Option<Seq<Seg>>) -> Result<Value, AllocError>
+    ensures { IfOk result (λ v. view v ≡ place_data place.now) }
+{
+    match place {
+        None => Ok(Value::Null),
+        Some(packet) => segs(alloc, packet.as_slice()),
+    }
+}
+
+/// The segments of a packet.
+fn segs(alloc: Global, segs: &[Seg]) -> Result<Value, AllocError>
+    ensures { IfOk result (λ v. view v ≡ segs_data segs.now) }
+{
+    let mut values = Vec::with_capacity(alloc, segs.len())?;
+    for seg in segs {
+        values.push(segment(alloc, *seg)?)?;
+    }
+    Ok(Value::from(values))
+}
+
+/// A segment.
+fn segment(alloc: Global, seg: Seg) -> Result<Value, AllocError>
+    ensures { IfOk result (λ v. view v ≡ seg_data seg) }
+{
+    json!(in alloc; {
+        "base": seg.base,
+        "buf": seg.buf_len,
+        "elem": seg.elem,
+        "len": seg.data_len,
+        "off": seg.data_off
+    })
+}
+
+/// The shares.
+fn shares(alloc: Global, shares: &[ShareData]) -> Result<Value, AllocError>
+    ensures { IfOk result (λ v. view v ≡ shares_data shares.now) }
+{
+    let mut values = Vec::with_capacity(alloc, shares.len())?;
+    for share in shares {
+        values.push(a_share(alloc, share)?)?;
+    }
+    Ok(Value::from(values))
+}
+
+/// A share.
+fn a_share(alloc: Global, share: &ShareData) -> Result<Value, AllocError>
+    ensures { IfOk result (λ v. view v ≡ share_data share.now) }
+{
+    let cache = numbers(alloc, share.cache.as_slice())?;
+    let slots = places(alloc, share.slots.as_slice())?;
+    json!(in alloc; {"cache": cache, "slots": slots, "worker": share.worker})
+}
+
+/// The guests.
+fn guests(alloc: Global, guests: &[Guest]) -> Result<Value, AllocError>
+    ensures { IfOk result (λ v. view v ≡ guests_data guests.now) }
+{
+    let mut values = Vec::with_capacity(alloc, guests.len())?;
+    for guest in guests {
+        values.push(a_guest(alloc, *guest)?)?;
+    }
+    Ok(Value::from(values))
+}
+
+/// A guest.
+fn a_guest(alloc: Global, guest: Guest) -> Result<Value, AllocError>
+    ensures { IfOk result (λ v. view v ≡ guest_data guest) }
+{
+    json!(in alloc; {"elem": guest.elem, "worker": guest.worker})
+}

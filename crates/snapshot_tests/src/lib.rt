@@ -1,0 +1,5 @@
+//! Tests of a snapshot's JSON, and nothing else.
+#![tactic(auto)]
+
+#[cfg(test)]
+mod tests;
