@@ -1,6 +1,9 @@
 //! The functions that walk the tables. A row that fails is named.
 
+use audit_text::fault_line;
+use commons::refusal::Refusal;
 use snapshot::audit::audit;
+use snapshot::fault::Fault;
 use snapshot::snapshot::Snapshot;
 use snapshot_json::{read_snapshot, snapshot_json};
 use std::alloc::{AllocError, Global};
@@ -10,10 +13,12 @@ use std::test::Fail;
 mod calling;
 mod damaged;
 mod drawn;
+mod faulty;
 
 use calling::with_length;
 use damaged::{LIST, OF_LIST, OF_WORDS, WHOLE, WORDS};
 use drawn::{Source, drawn};
+use faulty::{FAULTS, LIMITS};
 
 /// A name, what is replaced in a text, by what, and what is printed of the text. Where `^` stands
 /// in the replacement, `, at byte` and its place are printed behind that.
@@ -264,5 +269,56 @@ fn both_forms_in(rt: &impl Abort, alloc: Global) {
     }
     if let Ok((list, _)) = shown(rt, alloc, LIST.as_bytes(), "a list") {
         assert!(rt; list.len() == BOTH.len(), "a list");
+    }
+}
+
+/// The line of a snapshot's first fault, or `Ok(None)` where it has none.
+fn line_of(alloc: Global, snapshot: &Snapshot) -> Result<Option<Vec<u8>>, Refusal> {
+    snapshot.limits.check()?;
+    match audit(alloc, snapshot) {
+        Ok(_) => Ok(None),
+        Err(Fault::OutOfMemory) => Err(Refusal::OutOfMemory),
+        Err(fault) => Ok(Some(fault_line(alloc, snapshot, fault)?)),
+    }
+}
+
+/// The line of the first fault of a text's snapshot, where it is one that has a fault.
+fn line_of_text(alloc: Global, members: &str) -> Result<Option<Vec<u8>>, Refusal> {
+    let Ok(text) = format!(in alloc; "{LIMITS}{members}") else {
+        return Err(Refusal::OutOfMemory);
+    };
+    match read_snapshot(alloc, text.as_bytes()) {
+        Ok(snapshot) => line_of(alloc, &snapshot),
+        Err(_) => Err(Refusal::OutOfMemory),
+    }
+}
+
+/// Each snapshot with a fault has the line that says which, and where.
+#[test]
+fn each_fault_has_its_line(rt: HostRuntime) {
+    for row in FAULTS {
+        let told = line_of_text(rt.alloc(), row.members);
+        let line = row.line;
+        let is = match &told {
+            Ok(Some(told)) => told.as_slice() == line.as_bytes(),
+            Ok(None) => false,
+            Err(_) => false,
+        };
+        assert!(&rt; is, "not told: {line}");
+    }
+}
+
+/// Whichever request for memory is refused, the first fault has its line, or memory was refused.
+#[test]
+fn refused_memory_changes_no_line(rt: HostRuntime) {
+    if let Some(row) = FAULTS.last() {
+        let told = line_of_text(rt.alloc(), row.members);
+        let line = row.line;
+        let is = match &told {
+            Ok(Some(told)) => told.as_slice() == line.as_bytes(),
+            Ok(None) => false,
+            Err(cause) => *cause == Refusal::OutOfMemory,
+        };
+        assert!(&rt; is, "told otherwise: {line}");
     }
 }

@@ -1,0 +1,123 @@
+-- The line that tells of a fault of a snapshot, without its end.
+use Rattle.std.specs.Prelude.{ℕ, ◌+◌, ◌==◌, Bool, true, false, if◌then◌else◌, nat_le, List, [], ◌∷◌, ◌++◌, codes, decimal, length}
+use Rattle.audit_text.specs.Places.{others_of, owners_of, places_of}
+use Rattle.audit_text.specs.declared.place.FreeList.TheVariants.{Stack, Cache}
+use Rattle.audit_text.specs.declared.place.Place.{Place}
+use Rattle.audit_text.specs.declared.place.Place.TheVariants.{Free, Packet, Own, Base, Hosted}
+use Rattle.audit_text.specs.declared.place.Table.{Table}
+use Rattle.audit_text.specs.declared.place.Table.TheVariants.{Slots, Desks}
+use Rattle.snapshot.specs.declared.fault.Fault.{Fault}
+use Rattle.snapshot.specs.declared.fault.Fault.TheVariants.{BadShape, BadTop, Loop, BadLength, BadElem, BadPacket, DoubleHeader, Doubled, Lost, BadCount, OutOfMemory}
+use Rattle.snapshot.specs.declared.snapshot.ShareData.{ShareData}
+use Rattle.snapshot.specs.declared.snapshot.Snapshot.{Snapshot}
+use Rattle.snapshot.specs.Snapshots.{most_places}
+
+-- a packet of a table: its worker and slot, or its desk
+unfoldable pub packet_text : Table → ℕ → List ℕ
+packet_text (Slots worker) i = codes "packet " ++ decimal worker ++ codes " " ++ decimal i
+packet_text Desks i = codes "desk " ++ decimal i
+
+-- an element of a cache
+unfoldable pub cache_text : ℕ → ℕ → List ℕ
+cache_text worker k = codes "at " ++ decimal k ++ codes " in the cache of worker " ++ decimal worker
+
+-- a segment as an own one, and as one with a base
+unfoldable pub own_text : Table → ℕ → ℕ → List ℕ
+own_text table i k = codes "segment " ++ decimal k ++ codes " of " ++ packet_text table i
+
+unfoldable pub base_text : Table → ℕ → ℕ → List ℕ
+base_text table i k = codes "base of " ++ own_text table i k
+
+-- a place
+abbrev pub place_text : Place → List ℕ
+place_text (Free Stack k) = codes "at " ++ decimal k ++ codes " on the stack"
+place_text (Free (Cache worker) k) = cache_text worker k
+place_text (Packet table i) = packet_text table i
+place_text (Own table i k) = own_text table i k
+place_text (Base table i k) = base_text table i k
+place_text (Hosted worker) = codes "guest of worker " ++ decimal worker
+
+-- the first of places
+abbrev pub first_text : List Place → List ℕ
+first_text [] = []
+first_text (a ∷ more) = codes ": " ++ place_text a
+
+-- the second of them
+abbrev pub second_text : List Place → List ℕ
+second_text [] = []
+second_text (a ∷ []) = []
+second_text (a ∷ b ∷ more) = codes ", " ++ place_text b
+
+-- both
+abbrev pub two_text : List Place → List ℕ
+two_text places = first_text places ++ second_text places
+
+-- shares are of the workers from this one on, in order, each with no more places than have a number
+abbrev pub are_in_order : ℕ → List ShareData → Bool
+are_in_order worker [] = true
+are_in_order worker (share ∷ shares) =
+    if share.worker == worker
+    then (if nat_le (length share.slots) most_places then are_in_order (worker + 1) shares else false)
+    else false
+
+-- of what a snapshot hasn't one for each
+abbrev pub shape_text : Snapshot → List ℕ
+shape_text s =
+    if length s.links == s.limits.population
+    then (if length s.counts == s.limits.population
+    then (if length s.desks == s.limits.desks
+    then (if length s.shares == s.limits.workers
+    then (if are_in_order 1 s.shares
+    then codes "guests of no worker, or too many"
+    else codes "shares out of order, or of too many slots")
+    else codes "not a share for each worker")
+    else codes "not a place for each desk")
+    else codes "not a count for each element")
+    else codes "not a link for each element"
+
+-- how a fault's line begins: with its number and name
+unfoldable pub front_text : ℕ → List ℕ → List ℕ
+front_text number name = codes "fault " ++ decimal number ++ codes " " ++ name
+
+-- an element after that
+unfoldable pub element_text : ℕ → List ℕ → ℕ → List ℕ
+element_text number name e = front_text number name ++ codes " element " ++ decimal e
+
+-- the length word, and how long the walk is
+unfoldable pub length_text : ℕ → ℕ → List ℕ
+length_text word found = front_text 4 (codes "BadLength") ++ codes " word " ++ decimal word ++ codes ", walk " ++ decimal found
+
+-- an element that the pool doesn't have, and where it is named
+unfoldable pub stranger_text : ℕ → List Place → List ℕ
+stranger_text e places = front_text 5 (codes "BadElem") ++ codes " " ++ decimal e ++ first_text places
+
+-- where what is no packet stands
+unfoldable pub other_text : List Place → List ℕ
+other_text places = front_text 6 (codes "BadPacket") ++ first_text places
+
+-- an element, and two segments whose own one it is
+unfoldable pub header_text : ℕ → List Place → List ℕ
+header_text e places = element_text 7 (codes "DoubleHeader") e ++ two_text places
+
+-- an element, and two places where it stands
+unfoldable pub doubled_text : ℕ → List Place → List ℕ
+doubled_text e places = element_text 8 (codes "Doubled") e ++ two_text places
+
+-- an element, its count, and how often it is held
+unfoldable pub count_text : ℕ → ℕ → ℕ → List ℕ
+count_text e word holds =
+    element_text 10 (codes "BadCount") e ++ codes ": count " ++ decimal word ++ codes ", held " ++ decimal holds
+
+-- the line of a fault
+abbrev pub fault_text : Snapshot → Fault → List ℕ
+fault_text s BadShape = codes "fault 1 BadShape: " ++ shape_text s
+fault_text s (BadTop word) = codes "fault 2 BadTop " ++ decimal word
+fault_text s Loop = codes "fault 3 Loop"
+fault_text s (BadLength word found) = length_text word found
+fault_text s (BadElem e) = stranger_text e (places_of s e)
+fault_text s BadPacket = other_text (others_of s)
+fault_text s (DoubleHeader e) = header_text e (owners_of s e)
+fault_text s (Doubled e) = doubled_text e (places_of s e)
+fault_text s (Lost e) = codes "fault 9 Lost element " ++ decimal e
+fault_text s (BadCount e word holds) = count_text e word holds
+fault_text s OutOfMemory = codes "fault 2 OutOfMemory"

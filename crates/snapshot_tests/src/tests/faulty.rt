@@ -1,0 +1,186 @@
+//! Snapshots with a fault, and the line that tells of it.
+
+/// A snapshot's members after its limits, and the line of its first fault.
+pub(super) struct Row {
+    pub(super) members: &'static str,
+    pub(super) line: &'static str,
+}
+
+/// The limits: 8 elements, 2 workers and 1 desk. Where nothing is wrong, the elements 0 to 3 are on
+/// the stack, 4 in the first cache, 5 and 6 in a packet, 7 on the desk.
+pub(super) const LIMITS: &str =
+    "{\"limits\":{\"population\":8,\"cache\":2,\"workers\":2,\"desks\":1,\
+    \"buf\":2048,\"refs\":65535,\"tries\":64,\"start\":0,\"putrule\":0},";
+
+pub(super) static FAULTS: &[Row] = &[
+    Row {
+        members: "\"top\":4,\"length\":4,\"links\":[0,1,2,3],\"counts\":[1,1,1,1,1,1,1,1],\
+            \"desks\":[[{\"elem\":7,\"base\":null,\"off\":128,\"len\":0,\"buf\":2048}]],\
+            \"shares\":[{\"worker\":1,\"cache\":[4],\"slots\":[]},{\"worker\":2,\
+            \"cache\":[],\"slots\":[null,[{\"elem\":5,\"base\":null,\"off\":128,\"len\":9,\
+            \"buf\":2048},{\"elem\":6,\"base\":null,\"off\":0,\"len\":1,\"buf\":2048}]]}],\
+            \"guests\":[],\"foreign\":false}",
+        line: "fault 1 BadShape: not a link for each element",
+    },
+    Row {
+        members: "\"common\":[3,2,1,0],\"counts\":[1,1,1,1,1,1,1],\"desks\":[[{\"elem\":7,\
+            \"base\":null,\"off\":128,\"len\":0,\"buf\":2048}]],\"shares\":[{\"worker\":1,\
+            \"cache\":[4],\"slots\":[]},{\"worker\":2,\"cache\":[],\"slots\":[null,\
+            [{\"elem\":5,\"base\":null,\"off\":128,\"len\":9,\"buf\":2048},{\"elem\":6,\
+            \"base\":null,\"off\":0,\"len\":1,\"buf\":2048}]]}],\"guests\":[],\
+            \"foreign\":false}",
+        line: "fault 1 BadShape: not a count for each element",
+    },
+    Row {
+        members: "\"common\":[3,2,1,0],\"counts\":[1,1,1,1,1,1,1,1],\"desks\":[],\
+            \"shares\":[{\"worker\":1,\"cache\":[4],\"slots\":[]},{\"worker\":2,\
+            \"cache\":[],\"slots\":[null,[{\"elem\":5,\"base\":null,\"off\":128,\"len\":9,\
+            \"buf\":2048},{\"elem\":6,\"base\":null,\"off\":0,\"len\":1,\"buf\":2048}]]}],\
+            \"guests\":[],\"foreign\":false}",
+        line: "fault 1 BadShape: not a place for each desk",
+    },
+    Row {
+        members: "\"common\":[3,2,1,0],\"counts\":[1,1,1,1,1,1,1,1],\"desks\":[[{\"elem\":7,\
+            \"base\":null,\"off\":128,\"len\":0,\"buf\":2048}]],\"shares\":[{\"worker\":1,\
+            \"cache\":[4],\"slots\":[]}],\"guests\":[],\"foreign\":false}",
+        line: "fault 1 BadShape: not a share for each worker",
+    },
+    Row {
+        members: "\"common\":[3,2,1,0],\"counts\":[1,1,1,1,1,1,1,1],\"desks\":[[{\"elem\":7,\
+            \"base\":null,\"off\":128,\"len\":0,\"buf\":2048}]],\"shares\":[{\"worker\":1,\
+            \"cache\":[4],\"slots\":[]},{\"worker\":1,\"cache\":[],\"slots\":[]}],\
+            \"guests\":[],\"foreign\":false}",
+        line: "fault 1 BadShape: shares out of order, or of too many slots",
+    },
+    Row {
+        members: "\"common\":[3,2,1,0],\"counts\":[1,1,1,1,1,1,1,1],\"desks\":[[{\"elem\":7,\
+            \"base\":null,\"off\":128,\"len\":0,\"buf\":2048}]],\"shares\":[{\"worker\":1,\
+            \"cache\":[4],\"slots\":[]},{\"worker\":2,\"cache\":[],\"slots\":[null,\
+            [{\"elem\":5,\"base\":null,\"off\":128,\"len\":9,\"buf\":2048},{\"elem\":6,\
+            \"base\":null,\"off\":0,\"len\":1,\"buf\":2048}]]}],\"guests\":[{\"worker\":3,\
+            \"elem\":1}],\"foreign\":false}",
+        line: "fault 1 BadShape: guests of no worker, or too many",
+    },
+    Row {
+        members: "\"top\":99,\"length\":4,\"links\":[0,1,2,3,0,0,0,0],\"counts\":[1,1,1,1,1,1,1,\
+            1],\"desks\":[[{\"elem\":7,\"base\":null,\"off\":128,\"len\":0,\"buf\":2048}]],\
+            \"shares\":[{\"worker\":1,\"cache\":[4],\"slots\":[]},{\"worker\":2,\
+            \"cache\":[],\"slots\":[null,[{\"elem\":5,\"base\":null,\"off\":128,\"len\":9,\
+            \"buf\":2048},{\"elem\":6,\"base\":null,\"off\":0,\"len\":1,\"buf\":2048}]]}],\
+            \"guests\":[],\"foreign\":false}",
+        line: "fault 2 BadTop 99",
+    },
+    Row {
+        members: "\"top\":4,\"length\":4,\"links\":[4,1,2,3,0,0,0,0],\"counts\":[1,1,1,1,1,1,1,1],\
+            \"desks\":[[{\"elem\":7,\"base\":null,\"off\":128,\"len\":0,\"buf\":2048}]],\
+            \"shares\":[{\"worker\":1,\"cache\":[4],\"slots\":[]},{\"worker\":2,\
+            \"cache\":[],\"slots\":[null,[{\"elem\":5,\"base\":null,\"off\":128,\"len\":9,\
+            \"buf\":2048},{\"elem\":6,\"base\":null,\"off\":0,\"len\":1,\"buf\":2048}]]}],\
+            \"guests\":[],\"foreign\":false}",
+        line: "fault 3 Loop",
+    },
+    Row {
+        members: "\"top\":4,\"length\":5,\"links\":[0,1,2,3,0,0,0,0],\"counts\":[1,1,1,1,1,1,1,1],\
+            \"desks\":[[{\"elem\":7,\"base\":null,\"off\":128,\"len\":0,\"buf\":2048}]],\
+            \"shares\":[{\"worker\":1,\"cache\":[4],\"slots\":[]},{\"worker\":2,\
+            \"cache\":[],\"slots\":[null,[{\"elem\":5,\"base\":null,\"off\":128,\"len\":9,\
+            \"buf\":2048},{\"elem\":6,\"base\":null,\"off\":0,\"len\":1,\"buf\":2048}]]}],\
+            \"guests\":[],\"foreign\":false}",
+        line: "fault 4 BadLength word 5, walk 4",
+    },
+    Row {
+        members: "\"common\":[3,2,1,0],\"counts\":[1,1,1,1,1,1,1,1],\"desks\":[[{\"elem\":7,\
+            \"base\":null,\"off\":128,\"len\":0,\"buf\":2048}]],\"shares\":[{\"worker\":1,\
+            \"cache\":[4],\"slots\":[]},{\"worker\":2,\"cache\":[99],\"slots\":[null,\
+            [{\"elem\":5,\"base\":null,\"off\":128,\"len\":0,\"buf\":2048},{\"elem\":6,\
+            \"base\":null,\"off\":128,\"len\":0,\"buf\":2048}]]}],\"guests\":[],\
+            \"foreign\":false}",
+        line: "fault 5 BadElem 99: at 0 in the cache of worker 2",
+    },
+    Row {
+        members: "\"common\":[3,2,1,0],\"counts\":[1,1,1,1,1,1,1,1],\"desks\":[[{\"elem\":7,\
+            \"base\":null,\"off\":128,\"len\":0,\"buf\":2048}]],\"shares\":[{\"worker\":1,\
+            \"cache\":[4],\"slots\":[]},{\"worker\":2,\"cache\":[],\"slots\":[[{\"elem\":5,\
+            \"base\":8,\"off\":128,\"len\":0,\"buf\":2048},{\"elem\":6,\"base\":null,\
+            \"off\":128,\"len\":0,\"buf\":2048}]]}],\"guests\":[],\"foreign\":false}",
+        line: "fault 5 BadElem 8: base of segment 0 of packet 2 0",
+    },
+    Row {
+        members: "\"common\":[3,2,1,0],\"counts\":[1,1,1,1,1,1,1,1],\"desks\":[[{\"elem\":7,\
+            \"base\":null,\"off\":128,\"len\":0,\"buf\":2048}]],\"shares\":[{\"worker\":1,\
+            \"cache\":[4],\"slots\":[[{\"elem\":5,\"base\":null,\"off\":2000,\"len\":49,\
+            \"buf\":2048}]]},{\"worker\":2,\"cache\":[],\"slots\":[[{\"elem\":6,\
+            \"base\":null,\"off\":128,\"len\":0,\"buf\":2048}]]}],\"guests\":[],\
+            \"foreign\":false}",
+        line: "fault 6 BadPacket: packet 1 0",
+    },
+    Row {
+        members: "\"common\":[3,2,1,0],\"counts\":[1,1,1,1,1,1,1,1],\"desks\":[[]],\
+            \"shares\":[{\"worker\":1,\"cache\":[4],\"slots\":[]},{\"worker\":2,\
+            \"cache\":[],\"slots\":[null,[{\"elem\":5,\"base\":null,\"off\":128,\"len\":9,\
+            \"buf\":2048},{\"elem\":6,\"base\":null,\"off\":0,\"len\":1,\"buf\":2048}]]}],\
+            \"guests\":[],\"foreign\":false}",
+        line: "fault 6 BadPacket: desk 0",
+    },
+    Row {
+        members: "\"common\":[3,2,1,0],\"counts\":[1,1,1,1,1,1,1,1],\"desks\":[[{\"elem\":7,\
+            \"base\":null,\"off\":128,\"len\":0,\"buf\":2048}]],\"shares\":[{\"worker\":1,\
+            \"cache\":[4],\"slots\":[[{\"elem\":5,\"base\":null,\"off\":128,\"len\":0,\
+            \"buf\":2048}]]},{\"worker\":2,\"cache\":[],\"slots\":[null,[{\"elem\":6,\
+            \"base\":null,\"off\":128,\"len\":0,\"buf\":2048},{\"elem\":5,\"base\":null,\
+            \"off\":128,\"len\":0,\"buf\":2048}]]}],\"guests\":[],\"foreign\":false}",
+        line: "fault 7 DoubleHeader element 5: segment 0 of packet 1 0, segment 1 of packet 2 1",
+    },
+    Row {
+        members: "\"common\":[3,2,1,0],\"counts\":[1,1,1,1,1,1,1,1],\"desks\":[[{\"elem\":7,\
+            \"base\":null,\"off\":128,\"len\":0,\"buf\":2048}]],\"shares\":[{\"worker\":1,\
+            \"cache\":[4,1],\"slots\":[]},{\"worker\":2,\"cache\":[],\
+            \"slots\":[[{\"elem\":5,\"base\":null,\"off\":128,\"len\":0,\"buf\":2048},\
+            {\"elem\":6,\"base\":null,\"off\":128,\"len\":0,\"buf\":2048}]]}],\"guests\":[],\
+            \"foreign\":false}",
+        line: "fault 8 Doubled element 1: at 2 on the stack, at 1 in the cache of worker 1",
+    },
+    Row {
+        members: "\"common\":[3,2,1,0],\"counts\":[1,1,1,1,1,1,1,1],\"desks\":[[{\"elem\":7,\
+            \"base\":null,\"off\":128,\"len\":0,\"buf\":2048}]],\"shares\":[{\"worker\":1,\
+            \"cache\":[4],\"slots\":[]},{\"worker\":2,\"cache\":[],\"slots\":[[{\"elem\":5,\
+            \"base\":3,\"off\":128,\"len\":0,\"buf\":2048},{\"elem\":6,\"base\":null,\
+            \"off\":128,\"len\":0,\"buf\":2048}]]}],\"guests\":[],\"foreign\":false}",
+        line: "fault 8 Doubled element 3: at 0 on the stack, base of segment 0 of packet 2 0",
+    },
+    Row {
+        members: "\"common\":[3,2,1,0],\"counts\":[1,1,1,1,1,1,1,1],\"desks\":[[{\"elem\":7,\
+            \"base\":null,\"off\":128,\"len\":0,\"buf\":2048}]],\"shares\":[{\"worker\":1,\
+            \"cache\":[4],\"slots\":[]},{\"worker\":2,\"cache\":[],\"slots\":[null,\
+            [{\"elem\":5,\"base\":null,\"off\":128,\"len\":9,\"buf\":2048},{\"elem\":6,\
+            \"base\":null,\"off\":0,\"len\":1,\"buf\":2048}]]}],\"guests\":[{\"worker\":2,\
+            \"elem\":4}],\"foreign\":false}",
+        line: "fault 8 Doubled element 4: at 0 in the cache of worker 1, guest of worker 2",
+    },
+    Row {
+        members: "\"common\":[3,2,1,0],\"counts\":[1,1,1,1,1,1,1,1],\"desks\":[null],\
+            \"shares\":[{\"worker\":1,\"cache\":[4],\"slots\":[]},{\"worker\":2,\
+            \"cache\":[],\"slots\":[null,[{\"elem\":5,\"base\":null,\"off\":128,\"len\":9,\
+            \"buf\":2048},{\"elem\":6,\"base\":null,\"off\":0,\"len\":1,\"buf\":2048}]]}],\
+            \"guests\":[],\"foreign\":false}",
+        line: "fault 9 Lost element 7",
+    },
+    Row {
+        members: "\"common\":[3,2,1,0],\"counts\":[1,1,1,1,2,1,1,1],\"desks\":[[{\"elem\":7,\
+            \"base\":null,\"off\":128,\"len\":0,\"buf\":2048}]],\"shares\":[{\"worker\":1,\
+            \"cache\":[4],\"slots\":[]},{\"worker\":2,\"cache\":[],\"slots\":[null,\
+            [{\"elem\":5,\"base\":null,\"off\":128,\"len\":9,\"buf\":2048},{\"elem\":6,\
+            \"base\":null,\"off\":0,\"len\":1,\"buf\":2048}]]}],\"guests\":[],\
+            \"foreign\":false}",
+        line: "fault 10 BadCount element 4: count 2, held 0",
+    },
+    Row {
+        members: "\"common\":[3,2,1,0],\"counts\":[1,1,1,1,1,2,1,1],\"desks\":[[{\"elem\":7,\
+            \"base\":null,\"off\":128,\"len\":0,\"buf\":2048}]],\"shares\":[{\"worker\":1,\
+            \"cache\":[4],\"slots\":[]},{\"worker\":2,\"cache\":[],\"slots\":[null,\
+            [{\"elem\":5,\"base\":null,\"off\":128,\"len\":9,\"buf\":2048},{\"elem\":6,\
+            \"base\":null,\"off\":0,\"len\":1,\"buf\":2048}]]}],\"guests\":[],\
+            \"foreign\":false}",
+        line: "fault 10 BadCount element 5: count 2, held 1",
+    },
+];
