@@ -4,18 +4,20 @@ use Rattle.command_line.specs.Statuses.{IsToldWith, status_of}
 use Rattle.command_line.specs.declared.unasked.Unasked.{Unasked}
 use Rattle.script_io.specs.declared.reading.ReadFault.{ReadFault}
 use Rattle.tasks.specs.Ends.{status_of_end}
+use Rattle.tasks.specs.Forms.{kind_of}
 use Rattle.tasks.specs.Replays.{EndsAs}
+use Rattle.tasks.specs.declared.kind.Kind.{Kind}
 use Rattle.tasks.specs.declared.printing.End.{End}
 use Rattle.tasks.specs.declared.task.Task.{Task}
 
 -- A task with a file was asked for. It ended so, on the output and on the errors, and the status is
 -- that of this end: 0 where the whole print was written, else 1.
-pub record RunsTask (Gives : List ℕ → List ℕ → Type 0) (Fails : List ℕ → ReadFault → Type 0)
+pub record RunsTask (Gives : Kind → List ℕ → List ℕ → Type 0) (Fails : Kind → List ℕ → ReadFault → Type 0)
     (output output' errors errors' : Option (List ℕ)) (status : ℕ) : Type 0 where
   pub file : List ℕ
   pub task : Task
   pub end : End
-  pub ends : EndsAs (Gives file) (Fails file) file task output output' errors errors' end
+  pub ends : EndsAs (Gives (kind_of task) file) (Fails (kind_of task) file) file task output output' errors errors' end
   pub tells : status ≡ status_of_end end
 
 -- nothing was asked for that can be done, and the status says why: 2 where the words are wrong, 1
@@ -25,6 +27,6 @@ pub record TellsWhy (status : ℕ) : Type 0 where
   pub tells : IsToldWith (status_of unasked) status
 
 -- one of these two
-abbrev pub RunsSo : (List ℕ → List ℕ → Type 0) → (List ℕ → ReadFault → Type 0)
+abbrev pub RunsSo : (Kind → List ℕ → List ℕ → Type 0) → (Kind → List ℕ → ReadFault → Type 0)
     → Option (List ℕ) → Option (List ℕ) → Option (List ℕ) → Option (List ℕ) → ℕ → Type 0
 RunsSo Gives Fails output output' errors errors' status = RunsTask Gives Fails output output' errors errors' status ⊎ TellsWhy status

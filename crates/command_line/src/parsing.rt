@@ -29,7 +29,7 @@ pub fn words<R: Env + AllocGlobal>(rt: &R) -> Result<Vec<String>, Unasked> {
     }
 }
 
-/// The file that the words name, and what is to be done with its script.
+/// The file that the words name, and what is to be done with its script or its snapshot.
 ///
 /// `Said` where the words are wrong, or ask for help or the version, and `Memory` where memory was
 /// refused.
@@ -50,6 +50,10 @@ fn requested<'a>(alloc: Global, words: &'a [String]) -> Result<Option<Request<'a
     if let Some(steps) = matches.subcommand_matches("steps") {
         let task = Task::Steps;
         return Ok(steps.get_str("FILE").map(|file| Request { file, task }));
+    }
+    if let Some(audit) = matches.subcommand_matches("audit") {
+        let task = Task::Audit(form_of(audit.get_flag("json")));
+        return Ok(audit.get_str("FILE").map(|file| Request { file, task }));
     }
     let Some(run) = matches.subcommand_matches("run") else {
         return Ok(None);
@@ -108,7 +112,7 @@ fn wrong_words(alloc: Global, message: &str) -> Result<Error, Error> {
 }
 
 /// `mbufpool replay FILE [--json]`, `mbufpool run FILE [--ground words|locked] [--turns T] [--lose
-/// W] [--json]` and `mbufpool steps FILE`.
+/// W] [--json]`, `mbufpool steps FILE` and `mbufpool audit FILE [--json]`.
 fn command<'a>(alloc: Global) -> Result<Command<'a>, Error> {
     let replay = Command::new(alloc, "replay")
         .about("Replays a script, and prints each reply and where each element is at the end")
@@ -147,6 +151,14 @@ fn command<'a>(alloc: Global) -> Result<Command<'a>, Error> {
             "Plays a script of steps on the words of the stack, and prints what each saw and the words",
         )
         .arg(script_file(alloc))?;
+    let audit = Command::new(alloc, "audit")
+        .about("Audits a snapshot of a pool, and prints where each element is, or its first fault")
+        .arg(
+            Arg::new(alloc, "FILE")
+                .required(true)
+                .help("The snapshot, as JSON; - is the standard input"),
+        )?
+        .arg(json(alloc).help("Print it as one line of JSON"))?;
     Ok(
         Command::new(alloc, "mbufpool")
             .about("A pool of packet buffers")
@@ -154,7 +166,8 @@ fn command<'a>(alloc: Global) -> Result<Command<'a>, Error> {
             .subcommand_required(true)
             .subcommand(replay)?
             .subcommand(run)?
-            .subcommand(steps)?,
+            .subcommand(steps)?
+            .subcommand(audit)?,
     )
 }
 

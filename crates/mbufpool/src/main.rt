@@ -1,5 +1,5 @@
-//! Replays and runs scripts of a packet pool, and plays scripts of steps: `mbufpool replay FILE`,
-//! `mbufpool run FILE` and `mbufpool steps FILE`.
+//! Replays and runs scripts of a packet pool, plays scripts of steps, and audits snapshots:
+//! `mbufpool replay FILE`, `mbufpool run FILE`, `mbufpool steps FILE` and `mbufpool audit FILE`.
 #![tactic(auto)]
 
 use script_io::{Retrying, Tally};

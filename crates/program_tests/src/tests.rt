@@ -2,6 +2,7 @@
 use std::fmt::Debug;
 use std::process::Abort;
 
+mod audits;
 mod faults;
 mod files;
 mod screen;

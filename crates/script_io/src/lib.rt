@@ -1,4 +1,4 @@
-//! How a script is read and a text is written, so that a reader or a writer that fails is told.
+//! How bytes are read and a text is written, so that a reader or a writer that fails is told.
 #![tactic(auto)]
 
 pub mod reading;
@@ -6,7 +6,7 @@ pub mod retrying;
 pub mod tally;
 pub mod writing;
 
-pub use reading::{BYTES_READ, ReadFault, read_script};
+pub use reading::{BYTES_READ, ReadFault, read_bytes, read_script};
 pub use retrying::Retrying;
 pub use tally::Tally;
 pub use writing::write_out;

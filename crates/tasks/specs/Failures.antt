@@ -1,5 +1,5 @@
 -- What the program says of a failure.
-use Rattle.std.specs.Prelude.{◌≡◌, ℕ, List, [], ◌++◌, codes, decimal}
+use Rattle.std.specs.Prelude.{◌≡◌, ℕ, List, [], ◌++◌, codes, decimal, string_bytes}
 use Rattle.commons.specs.declared.refusal.Refusal.{Refusal}
 use Rattle.commons.specs.declared.refusal.Refusal.TheVariants.{MissingShare, ScriptFault}
 use Rattle.commons.specs.declared.refusal.Refusal.TheVariants as refusals
@@ -7,12 +7,12 @@ use Rattle.commons.specs.Refusals.{name_of, number_of}
 use Rattle.script_io.specs.declared.reading.ReadFault.{ReadFault}
 use Rattle.script_io.specs.declared.reading.ReadFault.TheVariants.{Device, Memory}
 use Rattle.tasks.specs.declared.failures.Failure.{Failure}
-use Rattle.tasks.specs.declared.failures.Failure.TheVariants.{Unreadable, Fault}
+use Rattle.tasks.specs.declared.failures.Failure.TheVariants.{Unreadable, Fault, Misread, Audited}
 
 -- this file can't be read
 abbrev pub IsUnreadable : List ℕ → Failure → Type 0
 IsUnreadable file (Unreadable named) = named.now ≡ file
-IsUnreadable file (Fault refusal) = ⊥
+IsUnreadable file _ = ⊥
 
 -- how a fault of reading this file is reported: a lack of memory as that, and a device that fails
 -- as a file that can't be read
@@ -22,8 +22,8 @@ IsUnread file Memory failure = failure ≡ Fault refusals.OutOfMemory
 
 -- a failure that is a refusal with such a cause
 abbrev pub IsFaultOf : (Refusal → Type 0) → Failure → Type 0
-IsFaultOf Cause (Unreadable named) = ⊥
 IsFaultOf Cause (Fault refusal) = Cause refusal
+IsFaultOf Cause _ = ⊥
 
 -- the worker or the line that a refusal tells
 abbrev pub place_text : Refusal → List ℕ
@@ -40,3 +40,5 @@ fault_text refusal =
 abbrev pub line_of : Failure → List ℕ
 line_of (Unreadable file) = codes "cannot read " ++ file.now ++ codes "\n"
 line_of (Fault refusal) = fault_text refusal ++ codes "\n"
+line_of (Misread fault text) = string_bytes text ++ codes "\n"
+line_of (Audited line) = line.items ++ codes "\n"

@@ -1,6 +1,5 @@
 -- What is printed in each form, and for each task.
 use Rattle.std.specs.Prelude.{ℕ, ◌≡◌, List, ◌++◌, codes}
-use Rattle.commons.specs.declared.refusal.Refusal.{Refusal}
 use Rattle.json_text.specs.StatementData.{json_of_settled, numbers_of}
 use Rattle.pool_model.specs.declared.settled.Settled.{Settled}
 use Rattle.script.specs.Losing.{IsCauseWithout, LosesFrom, lost_text}
@@ -11,10 +10,15 @@ use Rattle.statement_text.specs.StatementText.{text_of_settled}
 use Rattle.script_text.specs.Grammar.{IsCause}
 use Rattle.script_text.specs.StepGrammar.{IsStepCause}
 use Rattle.step_text.specs.Printed.{IsStepsPrint}
+use Rattle.tasks.specs.Audits.{IsAuditCause, IsAuditPrintedAs}
+use Rattle.tasks.specs.Failures.{IsFaultOf}
+use Rattle.tasks.specs.declared.failures.Failure.{Failure}
+use Rattle.tasks.specs.declared.kind.Kind.{Kind}
+use Rattle.tasks.specs.declared.kind.Kind.TheVariants.{Script, Snapshot}
 use Rattle.tasks.specs.declared.task.Form.{Form}
 use Rattle.tasks.specs.declared.task.Form.TheVariants.{Text, Json}
 use Rattle.tasks.specs.declared.task.Task.{Task}
-use Rattle.tasks.specs.declared.task.Task.TheVariants.{Replay, Run, RunLost, Steps}
+use Rattle.tasks.specs.declared.task.Task.TheVariants.{Replay, Run, RunLost, Steps, Audit}
 
 -- the bytes are a script, and this is printed for its replay in this form
 abbrev pub IsPrintedAs : Form → List ℕ → List ℕ → Type 0
@@ -44,16 +48,23 @@ pub record IsLostPrintedAs (grounds : Grounds) (lose : ℕ) (form : Form) (bytes
   pub loses : LosesFrom grounds lose bytes elems
   pub written : AreElementsAs form elems out
 
--- the bytes are a script, and this is printed for what is done with it
+-- the bytes are a script or a snapshot, and this is printed for what is done with it
 abbrev pub IsDoneAs : Task → List ℕ → List ℕ → Type 0
 IsDoneAs (Replay form) = IsPrintedAs form
 IsDoneAs (Run grounds turns form) = IsRunPrintedAs grounds form
 IsDoneAs (RunLost grounds turns lose form) = IsLostPrintedAs grounds lose form
 IsDoneAs Steps = IsStepsPrint
+IsDoneAs (Audit form) = IsAuditPrintedAs form
 
--- why nothing is printed for what is to be done with these bytes
-abbrev pub IsCauseFor : Task → List ℕ → Refusal → Type 0
-IsCauseFor (Replay form) = IsCause
-IsCauseFor (Run grounds turns form) = IsCause
-IsCauseFor (RunLost grounds turns lose form) = IsCauseWithout lose
-IsCauseFor Steps = IsStepCause
+-- the failure that comes of what is to be done with these bytes
+abbrev pub IsCauseFor : Task → List ℕ → Failure → Type 0
+IsCauseFor (Replay form) bytes = IsFaultOf (IsCause bytes)
+IsCauseFor (Run grounds turns form) bytes = IsFaultOf (IsCause bytes)
+IsCauseFor (RunLost grounds turns lose form) bytes = IsFaultOf (IsCauseWithout lose bytes)
+IsCauseFor Steps bytes = IsFaultOf (IsStepCause bytes)
+IsCauseFor (Audit form) bytes = IsAuditCause bytes
+
+-- what it is done with: a snapshot, or a script
+abbrev pub kind_of : Task → Kind
+kind_of (Audit form) = Snapshot
+kind_of _ = Script

@@ -1,3 +1,4 @@
+pub mod Audits
 pub mod Ends
 pub mod Failures
 pub mod Forms

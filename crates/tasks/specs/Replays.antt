@@ -6,7 +6,7 @@ use Rattle.tasks.specs.declared.failures.Failure.{Failure}
 use Rattle.tasks.specs.declared.printing.End.{End}
 use Rattle.tasks.specs.declared.printing.End.TheVariants.{BrokenOff, Printed, Told, Untold}
 use Rattle.tasks.specs.declared.task.Task.{Task}
-use Rattle.tasks.specs.Failures.{IsFaultOf, IsUnread, line_of}
+use Rattle.tasks.specs.Failures.{IsUnread, line_of}
 use Rattle.tasks.specs.Forms.{IsCauseFor, IsDoneAs}
 
 -- a reading gave bytes, and this is printed for them for this task
@@ -19,7 +19,7 @@ pub record PrintsReading (Gives : List ℕ → Type 0) (task : Task) (out : List
 pub record FailsTask (Gives : List ℕ → Type 0) (task : Task) (failure : Failure) : Type 0 where
   pub bytes : List ℕ
   pub given : Gives bytes
-  pub cause : IsFaultOf (IsCauseFor task bytes) failure
+  pub cause : IsCauseFor task bytes failure
 
 -- a reading of this file failed, and this failure tells of it
 pub record FailsReading (Fails : ReadFault → Type 0) (file : List ℕ) (failure : Failure) : Type 0 where

@@ -2,6 +2,7 @@
 ghost use Rattle.std.specs.Prelude.{◌≡◌, ◌↔◌, IfErr, IfOk, false, true};
 ghost use Rattle.tasks.specs.Ends.{IsBrokenOff, status_of_end};
 ghost use Rattle.tasks.specs.Failures.{IsUnread};
+ghost use Rattle.tasks.specs.Forms.{kind_of};
 ghost use Rattle.tasks.specs.Replays.{EndsAs, FailsAt, PrintsReading};
 
 use crate::failures::{Failure, tell};
@@ -54,8 +55,8 @@ pub fn print<R: Threads + Wait + Sync, S: Scripts, O: Write, E: Write>(
     requires { screen.old.failed ≡ false }
     // It is the print for bytes that the reading of this file gave, or the failure that came.
     ensures ends { EndsAs
-        (S.gives scripts.now request.now.file.now)
-        (S.fails scripts.now request.now.file.now)
+        (S.gives scripts.now (kind_of request.now.task) request.now.file.now)
+        (S.fails scripts.now (kind_of request.now.task) request.now.file.now)
         request.now.file.now
         request.now.task
         (O.contents screen.old.inner)
@@ -94,18 +95,18 @@ pub fn printed<'a, R: Threads + Wait + Sync, S: Scripts>(
 ) -> Result<Vec<u8>, Failure<'a>>
     // It is the print for bytes that the reading of the file gave,
     ensures printed { IfOk result (λ out.
-        PrintsReading (S.gives scripts.now request.now.file.now) request.now.task out.items) }
+        PrintsReading (S.gives scripts.now (kind_of request.now.task) request.now.file.now) request.now.task out.items) }
     // or the failure that came: of that reading, or of the bytes that it gave.
     ensures cause { IfErr result (FailsAt
-        (S.gives scripts.now request.now.file.now)
-        (S.fails scripts.now request.now.file.now)
+        (S.gives scripts.now (kind_of request.now.task) request.now.file.now)
+        (S.fails scripts.now (kind_of request.now.task) request.now.file.now)
         request.now.file.now
         request.now.task) }
 {
-    match scripts.read(alloc, request.file) {
+    match scripts.read(alloc, request.task.kind(), request.file) {
         Ok(script) => match replay::done(rt, alloc, script.as_slice(), request.task) {
             Ok(text) => Ok(text),
-            Err(refusal) => Err(Failure::Fault(refusal)),
+            Err(failure) => Err(failure),
         },
         Err(fault) => Err(unread(request.file, fault)),
     }

@@ -1,11 +1,12 @@
 //! What is printed of a script: its replay, what its run comes to or loses, or its steps, in the
-//! form that is asked for.
+//! form that is asked for; or of a snapshot, its audit.
 ghost use Rattle.std.specs.Prelude.{IfErr, IfOk};
 ghost use Rattle.script_text.specs.Grammar.{IsCause};
 ghost use Rattle.tasks.specs.Forms.{IsCauseFor, IsDoneAs, IsPrintedAs};
 
+use crate::failures::Failure;
 use crate::task::{Form, Task};
-use crate::{losing, running};
+use crate::{auditing, losing, running};
 use commons::refusal::Refusal;
 use script::{run_replay, run_replay_json, run_steps};
 use std::alloc::Global;
@@ -14,26 +15,29 @@ use std::thread::Threads;
 
 /// What is printed of these bytes for a task.
 ///
-/// `ScriptFault` where they aren't a script, and `BadPool` where no pools can be made within the
+/// Of a snapshot the failures are those of `auditing::text`. Of a script: `ScriptFault` where they aren't a script, and `BadPool` where no pools can be made within the
 /// script's limits. Where a worker is to be lost, `Foreign` of a script with a second pool, and
 /// `StrangerShare` where the pool doesn't have that worker. `OutOfMemory` where memory was refused,
 /// or of a run under the lock a thread.
-pub fn done<R: Threads + Wait + Sync>(
+pub fn done<'a, R: Threads + Wait + Sync>(
     rt: &R,
     alloc: Global,
     script: &[u8],
     task: Task,
-) -> Result<Vec<u8>, Refusal>
+) -> Result<Vec<u8>, Failure<'a>>
     ensures printed { IfOk result (λ out. IsDoneAs task script.now out.items) }
     ensures cause { IfErr result (IsCauseFor task script.now) }
 {
     match task {
-        Task::Replay(form) => replayed(alloc, script, form),
-        Task::Run(grounds, turns, form) => running::text(rt, alloc, script, grounds, turns, form),
-        Task::RunLost(grounds, turns, lose, form) => {
-            losing::text(rt, alloc, script, grounds, turns, lose, form)
-        }
-        Task::Steps => run_steps(alloc, script),
+        Task::Replay(form) => Ok(replayed(alloc, script, form)?),
+        Task::Run(grounds, turns, form) => Ok(running::text(
+            rt, alloc, script, grounds, turns, form,
+        )?),
+        Task::RunLost(grounds, turns, lose, form) => Ok(losing::text(
+            rt, alloc, script, grounds, turns, lose, form,
+        )?),
+        Task::Steps => Ok(run_steps(alloc, script)?),
+        Task::Audit(form) => auditing::text(alloc, script, form),
     }
 }
 

@@ -1,38 +1,54 @@
-//! Where scripts come from.
+//! Where scripts and snapshots come from.
 ghost use Rattle.std.specs.Prelude.{ℕ, List, IfErr, IfOk};
 ghost use Rattle.script_io.specs.declared.reading.ReadFault.{ReadFault};
+ghost use Rattle.tasks.specs.declared.kind.Kind.{Kind};
 
-use script_io::{ReadFault, Retrying, Tally, read_script};
+use crate::kind::Kind;
+use script_io::{ReadFault, Retrying, Tally, read_bytes, read_script};
 use std::alloc::Global;
 use std::fs::File;
+use std::io::{Input, Read};
 use std::rt::Files;
 
-/// What finds the script that a name stands for.
+/// What finds the script or the snapshot that a name stands for.
 pub trait Scripts {
     /// The bytes that a reading of this name may give. By default nothing is said of them.
-    ghost gives: { Self → List ℕ → List ℕ → Type 0 } = { λ _ _ _. Unit {0} };
+    ghost gives: { Self → Kind → List ℕ → List ℕ → Type 0 } = { λ _ _ _ _. Unit {0} };
 
     /// The faults with which a reading of this name may fail.
-    ghost fails: { Self → List ℕ → ReadFault → Type 0 } = { λ _ _ _. Unit {0} };
+    ghost fails: { Self → Kind → List ℕ → ReadFault → Type 0 } = { λ _ _ _ _. Unit {0} };
 
-    /// The bytes of the script with this name, or as many of them as show that they are too many.
+    /// The bytes of the file of this kind with this name; of a script that is too long, as many as
+    /// show that.
     ///
     /// `Device` where it isn't found or can't be read, and `Memory` where memory was refused.
-    fn read(&self, alloc: Global, name: &str) -> Result<Vec<u8>, ReadFault>
-        ensures gives { IfOk result (λ bytes. gives self.now name.entry.now bytes.items) }
-        ensures fails { IfErr result (λ fault. fails self.now name.entry.now fault) };
+    fn read(&self, alloc: Global, kind: Kind, name: &str) -> Result<Vec<u8>, ReadFault>
+        ensures gives { IfOk result (λ bytes. gives self.now kind name.entry.now bytes.items) }
+        ensures fails { IfErr result (λ fault. fails self.now kind name.entry.now fault) };
 }
 
-/// The files of a runtime: a script is named by its path.
+/// The files of a runtime, named by their paths. The snapshot `-` is the standard input.
 #[derive(Clone, Copy)]
 pub struct Disk<'a, R>(pub &'a R);
 
-impl<R: Files> Scripts for Disk<'_, R> {
+impl<R: Files + Input> Scripts for Disk<'_, R> {
     /// Opening takes no memory of the program's, so that each error of it is the device's.
-    fn read(&self, alloc: Global, name: &str) -> Result<Vec<u8>, ReadFault> {
+    fn read(&self, alloc: Global, kind: Kind, name: &str) -> Result<Vec<u8>, ReadFault> {
+        if kind == Kind::Snapshot && name == "-" {
+            return whole(alloc, kind, self.0.reader());
+        }
         match File::open(self.0, name) {
-            Ok(file) => read_script(alloc, &mut Tally::new(Retrying(file))),
+            Ok(file) => whole(alloc, kind, file),
             Err(_) => Err(ReadFault::Device),
         }
+    }
+}
+
+/// The bytes of a file of this kind.
+fn whole<F: Read + Drop>(alloc: Global, kind: Kind, file: F) -> Result<Vec<u8>, ReadFault> {
+    let mut source = Tally::new(Retrying(file));
+    match kind {
+        Kind::Script => read_script(alloc, &mut source),
+        Kind::Snapshot => read_bytes(alloc, &mut source, usize::MAX),
     }
 }

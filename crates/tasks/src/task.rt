@@ -1,4 +1,4 @@
-//! What is to be done with a script, and in which form it is printed.
+//! What is to be done with a script or a snapshot, and in which form it is printed.
 
 ghost use Rattle.std.specs.Prelude.{◌≡◌, ◌≤◌, MatchOption};
 
@@ -41,7 +41,7 @@ impl Turns {
     }
 }
 
-/// What is to be done with a script.
+/// What is to be done with a script or a snapshot.
 #[derive(Clone, Copy, PartialEq, Eq, Debug)]
 pub enum Task {
     /// Its replay in one thread.
@@ -52,6 +52,8 @@ pub enum Task {
     RunLost(Grounds, Turns, u32, Form),
     /// Its steps, each on one word or slot.
     Steps,
+    /// Of a snapshot, its audit.
+    Audit(Form),
 }
 
 /// What is asked for: what is to be done with a file.

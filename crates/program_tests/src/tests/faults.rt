@@ -43,7 +43,7 @@ fn a_fault_line_has_the_number_and_what_the_refusal_displays(rt: HostRuntime) ->
     Ok(())
 }
 
-static LINES: [(Failure<'static>, &str); 4] = [
+const LINES: [(Failure<'static>, &str); 4] = [
     (
         Failure::Fault(Refusal::OutOfMemory),
         "fault 2 OutOfMemory\n",

@@ -4,13 +4,14 @@ use super::screen::{Full, Narrow, Screen};
 use script::Grounds;
 use script_io::{ReadFault, Tally, read_script};
 use std::alloc::Global;
-use std::io::Read;
+use std::io::{Input, Read};
 use std::process::Abort;
 use std::rt::Files;
 use std::sync::Wait;
 use std::test::Fail;
 use std::thread::Threads;
 use std::{env, fs, io, process};
+use tasks::kind::Kind;
 use tasks::scripts::{Disk, Scripts};
 use tasks::task::{Form, Request, Task, Turns};
 use tasks::{End, print, printed, tell};
@@ -54,7 +55,7 @@ pub(super) fn outcome<R: Threads + Wait + Sync, S: Scripts>(
 }
 
 /// What comes of a task with a file, which is removed afterwards.
-fn outcome_of<R: Threads + Wait + Sync + Files + AllocGlobal>(
+fn outcome_of<R: Threads + Wait + Sync + Files + Input + AllocGlobal>(
     rt: &R,
     path: &str,
     script: &str,
@@ -158,7 +159,7 @@ fn steps_print_what_each_saw_and_the_words(rt: HostRuntime) -> Result<(), Fail> 
 }
 
 /// What a replay of a file tells, and what it ought to tell where it can't be read.
-fn told_unread<R: Threads + Wait + Sync + Files + AllocGlobal>(
+fn told_unread<R: Threads + Wait + Sync + Files + Input + AllocGlobal>(
     rt: &R,
     file: &str,
 ) -> Result<(String, String), Fail> {
@@ -188,7 +189,7 @@ static ENDED: [EndRow; 2] = [
 ];
 
 /// What is printed of a file's replay, what is reported, and the status.
-fn ended<R: Threads + Wait + Sync + Files + AllocGlobal>(
+fn ended<R: Threads + Wait + Sync + Files + Input + AllocGlobal>(
     rt: &R,
     file: &str,
 ) -> Result<(String, String, u8), Fail> {
@@ -215,7 +216,10 @@ fn a_print_goes_to_the_output_and_a_failure_to_the_errors(rt: HostRuntime) -> Re
 }
 
 /// How a print ends on writers that take nothing, and the status then.
-fn unwritten<R: Threads + Wait + Sync + Files + AllocGlobal>(rt: &R, file: &str) -> (End, u8) {
+fn unwritten<R: Threads + Wait + Sync + Files + Input + AllocGlobal>(
+    rt: &R,
+    file: &str,
+) -> (End, u8) {
     let task = Task::Replay(Form::Text);
     let request = Request { file, task };
     let mut screen = Tally::new(Full);
@@ -286,7 +290,7 @@ fn of_a_file_that_is_too_long_one_byte_too_many_is_read(rt: HostRuntime) -> Resu
     let path = path(&rt, "long")?;
     let long = vec![in rt.alloc(); b'#'; 1_048_580]?;
     fs::write(&rt, path.as_str(), long.as_slice())?;
-    let script = Disk(&rt).read(rt.alloc(), path.as_str());
+    let script = Disk(&rt).read(rt.alloc(), Kind::Script, path.as_str());
     fs::remove_file(&rt, path.as_str())?;
     let len = script.map(|bytes| bytes.len()).ok();
     same(&rt, &len, &Some(1_048_577), "how many bytes are read");
@@ -298,7 +302,7 @@ fn of_a_file_that_is_too_long_one_byte_too_many_is_read(rt: HostRuntime) -> Resu
 struct Fails(ReadFault);
 
 impl Scripts for Fails {
-    fn read(&self, _alloc: Global, _name: &str) -> Result<Vec<u8>, ReadFault> {
+    fn read(&self, _alloc: Global, _kind: Kind, _name: &str) -> Result<Vec<u8>, ReadFault> {
         Err(self.0)
     }
 }
@@ -314,6 +318,7 @@ fn assert_told<R: Threads + Wait + Sync + Abort + AllocGlobal, S: Scripts>(
         Task::Replay(Form::Text),
         Task::Replay(Form::Json),
         Task::Steps,
+        Task::Audit(Form::Text),
     ] {
         let found = outcome(rt, rt.alloc(), scripts, &Request { file, task })?;
         same(rt, &found.as_str(), &line, "a reading that fails");
@@ -352,7 +357,7 @@ impl Read for Breaks {
 struct Broken(io::ErrorKind);
 
 impl Scripts for Broken {
-    fn read(&self, alloc: Global, _name: &str) -> Result<Vec<u8>, ReadFault> {
+    fn read(&self, alloc: Global, _kind: Kind, _name: &str) -> Result<Vec<u8>, ReadFault> {
         let source = Breaks {
             is_begun: false,
             kind: self.0,

@@ -9,6 +9,7 @@ use std::process::Abort;
 use std::sync::Wait;
 use std::test::Fail;
 use std::thread::Threads;
+use tasks::kind::Kind;
 use tasks::scripts::Scripts;
 use tasks::task::{Form, Request, Task, Turns};
 
@@ -17,7 +18,7 @@ use tasks::task::{Form, Request, Task, Turns};
 struct Only<'a>(&'a str);
 
 impl Scripts for Only<'_> {
-    fn read(&self, alloc: Global, _name: &str) -> Result<Vec<u8>, ReadFault> {
+    fn read(&self, alloc: Global, _kind: Kind, _name: &str) -> Result<Vec<u8>, ReadFault> {
         Vec::from_slice(alloc, self.0.as_bytes()).map_err(|_| ReadFault::Memory)
     }
 }

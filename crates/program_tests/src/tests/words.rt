@@ -82,9 +82,23 @@ static NAMED: &[NamedRow] = &[
         ("steps", 0, None, Form::Text),
     ),
     (&["steps", "--", "-"], "-", ("steps", 0, None, Form::Text)),
+    (
+        &["audit", "a.json"],
+        "a.json",
+        ("audit", 0, None, Form::Text),
+    ),
+    (&["audit", "-"], "-", ("audit", 0, None, Form::Text)),
+    (
+        &["audit", "--json", "a"],
+        "a",
+        ("audit", 0, None, Form::Json),
+    ),
 ];
 
 static WRONG: &[&[&str]] = &[
+    &["audit"],
+    &["audit", "a", "b"],
+    &["audit", "a", "--turns", "5"],
     &["steps"],
     &["steps", "a", "--json"],
     &["steps", "a", "b"],
@@ -122,6 +136,11 @@ static ASKED: &[(&[&str], &str)] = &[
         "Usage: mbufpool replay [OPTIONS] <FILE>",
     ),
     (&["replay", "--help"], "--json"),
+    (
+        &["audit", "--help"],
+        "Usage: mbufpool audit [OPTIONS] <FILE>",
+    ),
+    (&["audit", "--help"], "- is the standard input"),
     (&["--help"], "Usage: mbufpool"),
     (&["--version"], "mbufpool 0.1.0\n"),
 ];
@@ -143,6 +162,7 @@ fn asked_by(task: Task) -> Asked {
             (name_of(grounds), turns.count(), Some(lose), form)
         }
         Task::Steps => ("steps", 0, None, Form::Text),
+        Task::Audit(form) => ("audit", 0, None, form),
     }
 }
 

@@ -1,0 +1,83 @@
+//! What is printed of a snapshot: the statement that places each element, in the form that is asked
+//! for; or its first fault.
+ghost use Rattle.std.specs.Prelude.{◌≡◌, ◌≢◌, IfErr, IfOk};
+ghost use Rattle.pool_model.specs.declared.statement.Statement.{Statement};
+ghost use Rattle.snapshot.specs.Faults.{IsFirstFault};
+ghost use Rattle.snapshot_json.specs.Reading.{IsNoSnapshotText, Tells};
+ghost use Rattle.tasks.specs.Audits.{IsAuditCause, IsAuditPrintedAs, IsFailureIn, IsFaultIn, IsMisread, IsPlacedAs, IsStatementAs};
+
+use crate::failures::Failure;
+use crate::task::Form;
+use audit_text::fault_line;
+use commons::refusal::Refusal;
+use json_text::pool_json;
+use pool_model::statement::Statement;
+use snapshot::audit::audit;
+use snapshot::fault::Fault;
+use snapshot::snapshot::Snapshot;
+use snapshot_json::fault::SnapshotFault;
+use snapshot_json::read_snapshot;
+use statement_text::pool_text;
+use std::alloc::Global;
+
+/// What the audit of the snapshot that these bytes are prints in a form.
+///
+/// `Misread` where they are no snapshot's, `Fault` with `BadPool` where its limits are those of no
+/// pool, `Audited` with the line of the first fault that it has, and `Fault` with `OutOfMemory`
+/// where memory was refused.
+pub fn text<'a>(alloc: Global, bytes: &[u8], form: Form) -> Result<Vec<u8>, Failure<'a>>
+    ensures printed { IfOk result (λ out. IsAuditPrintedAs form bytes.now out.items) }
+    ensures cause { IfErr result (IsAuditCause bytes.now) }
+{
+    match read_snapshot(alloc, bytes) {
+        Ok(snapshot) => placed(alloc, &snapshot, form),
+        Err(fault) => Err(misread(alloc, fault)),
+    }
+}
+
+/// What is reported of bytes that are no snapshot's.
+fn misread<'a>(alloc: Global, fault: SnapshotFault) -> Failure<'a>
+    ensures { IsMisread fault result }
+{
+    if let SnapshotFault::OutOfMemory = fault {
+        return Failure::Fault(Refusal::OutOfMemory);
+    }
+    match format!(in alloc; "{fault}") {
+        Ok(text) => Failure::Misread(fault, text),
+        Err(_) => Failure::Fault(Refusal::OutOfMemory),
+    }
+}
+
+/// What the audit of a snapshot prints in a form.
+fn placed<'a>(alloc: Global, snapshot: &Snapshot, form: Form) -> Result<Vec<u8>, Failure<'a>>
+    ensures printed { IfOk result (λ out. IsPlacedAs form snapshot.now out.items) }
+    ensures cause { IfErr result (IsFailureIn snapshot.now) }
+{
+    snapshot.limits.check()?;
+    match audit(alloc, snapshot) {
+        Ok(statement) => Ok(written(alloc, &statement, form)?),
+        Err(Fault::OutOfMemory) => Err(Failure::Fault(Refusal::OutOfMemory)),
+        Err(fault) => Err(faulty(alloc, snapshot, fault)),
+    }
+}
+
+/// What is reported of a snapshot's fault.
+fn faulty<'a>(alloc: Global, snapshot: &Snapshot, fault: Fault) -> Failure<'a>
+    ensures { IsFaultIn snapshot.now fault result }
+{
+    match fault_line(alloc, snapshot, fault) {
+        Ok(line) => Failure::Audited(line),
+        Err(refusal) => Failure::Fault(refusal),
+    }
+}
+
+/// A statement in a form.
+fn written(alloc: Global, statement: &Statement, form: Form) -> Result<Vec<u8>, Refusal>
+    ensures text { IfOk result (λ out. IsStatementAs form statement.now out.items) }
+    ensures memory { IfErr result (λ refusal. refusal ≡ Refusal.OutOfMemory) }
+{
+    match form {
+        Form::Text => pool_text(alloc, statement),
+        Form::Json => pool_json(alloc, statement),
+    }
+}
