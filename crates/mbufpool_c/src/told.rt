@@ -1,16 +1,15 @@
 //! What C is told of a pool that was closed.
 
 ghost use Rattle.std.specs.Prelude.{◌≡◌, ◌++◌, None, codes, length};
-ghost use Rattle.json_text.specs.StatementData.{json_of};
+ghost use Rattle.statement_text.specs.StatementData.{json_of};
 ghost use Rattle.statement_text.specs.StatementText.{text_of};
 ghost use Rattle.mbufpool_c.specs.Told.{Fills, ShowsCounts, ShowsCountsOf, TellsLost, TellsText, TellsTextOf, counts_in, statement_in};
 
 use crate::ending::Ending;
 use crate::ending_handle::EndingHandle;
 use commons::refusal::Refusal;
-use json_text::pool_json;
 use pool_model::statement::Statement;
-use statement_text::pool_text;
+use statement_text::{pool_json, pool_text};
 use std::alloc::Global;
 
 /// How many elements a pool has, how many are available, and how many are in use.

@@ -1,6 +1,6 @@
 -- All that the replay of a script prints.
 use Rattle.std.specs.Prelude.{ℕ, ◌≡◌, List, ◌++◌, codes, flat_map}
-use Rattle.json_text.specs.StatementData.{json_of_settled}
+use Rattle.statement_text.specs.StatementData.{json_of_settled}
 use Rattle.script_text.specs.declared.lines.Pools.{Pools}
 use Rattle.script_text.specs.Commands.{Line}
 use Rattle.script_text.specs.Grammar.{IsScript}

@@ -7,9 +7,9 @@ ghost use Rattle.script.specs.Printed.{json_for, IsJsonFor};
 
 use crate::playing::replay;
 use commons::refusal::Refusal;
-use json_text::statement_json;
 use script_text::commands::Script;
 use script_text::parse;
+use statement_text::statement_json;
 use std::alloc::Global;
 
 /// All that the replay of a script prints as JSON: the statement that places every element, or with

@@ -22,13 +22,12 @@ mod under_lock;
 
 pub use gate::{Gate, OpenGate};
 pub use json::run_replay_json;
-pub use json_text::{numbers_json, statement_json};
 pub use playing::replay;
 pub use printing::run_replay;
 pub use running::{run_script, run_script_lost};
 pub use script_io::{ReadFault, Tally, read_script, write_out};
 pub use script_text::{MAX_BYTES, parse};
-pub use statement_text::statement_text;
+pub use statement_text::{numbers_json, statement_json, statement_text};
 pub use step_text::{run_steps, world_text};
 pub use texts::lost_text;
 pub use threaded::{Grounds, run_lost, run_threads};

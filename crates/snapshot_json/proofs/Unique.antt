@@ -2,7 +2,7 @@
 use Rattle.std.proofs.Common.{ℕ, ◌≡◌, List, Option, None, Some, codes, length, inl, inr, sym, ap, ◌∙◌}
 use Rattle.std.specs.Prelude.{IsSomeAnd}
 use Rattle.commons.specs.declared.limits.Limits.{Limits}
-use Rattle.json_text.specs.StatementData.{counts_data}
+use Rattle.statement_text.specs.StatementData.{counts_data}
 use Rattle.serde_json.specs.Data.{Data}
 use Rattle.serde_json.specs.Find.{get}
 use Rattle.serde_json.specs.Read.{read}

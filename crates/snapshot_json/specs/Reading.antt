@@ -6,7 +6,7 @@ use Rattle.serde_json.specs.Data.{Data}
 use Rattle.serde_json.specs.Find.{get}
 use Rattle.serde_json.specs.Read.{read}
 use Rattle.commons.specs.Bag.{bag}
-use Rattle.json_text.specs.StatementData.{counts_data}
+use Rattle.statement_text.specs.StatementData.{counts_data}
 use Rattle.snapshot.specs.declared.snapshot.Snapshot.{Snapshot}
 use Rattle.snapshot_json.specs.SnapshotData.{HasWords, IsSnapshotData}
 use Rattle.snapshot_json.specs.declared.fault.SnapshotFault.{SnapshotFault}

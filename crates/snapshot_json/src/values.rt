@@ -2,7 +2,7 @@
 
 ghost use Rattle.std.specs.Prelude.{◌≡◌, IfOk, map};
 ghost use Rattle.serde_json.specs.View.{view};
-ghost use Rattle.json_text.specs.StatementData.{counts_data, seg_data, segs_data};
+ghost use Rattle.statement_text.specs.StatementData.{counts_data, seg_data, segs_data};
 ghost use Rattle.snapshot_json.specs.SnapshotData.{common_data, guest_data, guests_data, limits_data, place_data, places_data, rule_data, share_data, shares_data, snapshot_data};
 
 use commons::limits::{Limits, PutRule};

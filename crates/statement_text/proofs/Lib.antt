@@ -1,0 +1,3 @@
+mod Depths
+mod Distinct
+mod NoFloats

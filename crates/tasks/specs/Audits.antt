@@ -5,7 +5,7 @@ use Rattle.commons.specs.Bounds.{IsPool}
 use Rattle.commons.specs.declared.refusal.Refusal.{Refusal}
 use Rattle.commons.specs.declared.refusal.Refusal.TheVariants.{BadPool}
 use Rattle.commons.specs.declared.refusal.Refusal.TheVariants as refusals
-use Rattle.json_text.specs.StatementData.{json_of}
+use Rattle.statement_text.specs.StatementData.{json_of}
 use Rattle.pool_model.specs.declared.statement.Statement.{Statement}
 use Rattle.snapshot.specs.declared.snapshot.Snapshot.{Snapshot}
 use Rattle.snapshot.specs.Faults.{IsFirstFault}

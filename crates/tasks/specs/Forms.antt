@@ -1,6 +1,6 @@
 -- What is printed in each form, and for each task.
 use Rattle.std.specs.Prelude.{ℕ, ◌≡◌, List, ◌++◌, codes}
-use Rattle.json_text.specs.StatementData.{json_of_settled, numbers_of}
+use Rattle.statement_text.specs.StatementData.{json_of_settled, numbers_of}
 use Rattle.pool_model.specs.declared.settled.Settled.{Settled}
 use Rattle.script.specs.Losing.{IsCauseWithout, LosesFrom, lost_text}
 use Rattle.script.specs.Printed.{IsJsonFor, IsPrintedFor}

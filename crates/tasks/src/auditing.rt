@@ -10,14 +10,13 @@ use crate::failures::Failure;
 use crate::task::Form;
 use audit_text::fault_line;
 use commons::refusal::Refusal;
-use json_text::pool_json;
 use pool_model::statement::Statement;
 use snapshot::audit::audit;
 use snapshot::fault::Fault;
 use snapshot::snapshot::Snapshot;
 use snapshot_json::fault::SnapshotFault;
 use snapshot_json::read_snapshot;
-use statement_text::pool_text;
+use statement_text::{pool_json, pool_text};
 use std::alloc::Global;
 
 /// What the audit of the snapshot that these bytes are prints in a form.

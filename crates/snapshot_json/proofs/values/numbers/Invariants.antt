@@ -1,6 +1,6 @@
 use Rattle.std.proofs.Common.{◌≡◌, map, take}
 use Rattle.serde_json.specs.View.{view}
-use Rattle.json_text.specs.StatementData.{count_data}
+use Rattle.statement_text.specs.StatementData.{count_data}
 use Rattle.snapshot_json.proofs.values.numbers.Given as goal
 
 -- the values so far

@@ -1,3 +1,0 @@
-mod Depths
-mod Distinct
-mod NoFloats
