@@ -4,5 +4,6 @@ pub mod Replay
 pub mod ReplyText
 pub mod Running
 pub mod Settling
+pub mod Snapshots
 pub mod Stands
 pub mod inside

@@ -35,8 +35,11 @@ ListsEachPoolOnce = OfPools (λ l s. ListsEachOnce s) (λ l k s t. ListsBothOnce
 abbrev pub PlacesInEach : Pools → Settled → Type 0
 PlacesInEach = OfPools PlacesEachOnce (λ l k s t. PlacesEachOnce l s × PlacesEachOnce k t)
 
--- Each packet has 1 to 32 segments, each with its data within its buffer; no count of a pool alone
--- is above the reference limit.
+-- each packet has 1 to 32 segments, each with its data within its buffer
+abbrev pub ListsOnlyPacketsInEach : Pools → Settled → Type 0
+ListsOnlyPacketsInEach = OfPools (λ l s. ListsOnlyPackets s) (λ l k s t. ListsOnlyPackets s × ListsOnlyPackets t)
+
+-- so, and no count of a pool alone is above the reference limit
 abbrev pub ListsPacketsInEach : Pools → Settled → Type 0
 ListsPacketsInEach = OfPools ListsPackets (λ l k s t. ListsOnlyPackets s × ListsOnlyPackets t)
 

@@ -1,29 +1,29 @@
 //! A run in threads on a pool alone, on the words of a ground, without a lock.
 
-ghost use Rattle.std.specs.Prelude.{All, ◌≡◌, ◌<◌, ◌≤◌, length, IfOk, IfErr};
+ghost use Rattle.std.specs.Prelude.{All, ◌≡◌, ◌<◌, ◌≤◌, length, IfOk, IfErr, None};
 ghost use Rattle.commons.specs.Bounds.{IsPool};
 ghost use Rattle.ground.specs.Seats.{IsOf};
-ghost use Rattle.pool_model.specs.Statements.{ListsEachOnce, PlacesEachOnce};
 ghost use Rattle.book.specs.Lost.{IsOf as IsWorkerOf};
 ghost use Rattle.script.specs.Losing.{AreOfPool, LosesOnWords};
-ghost use Rattle.script.specs.Running.{EndsOnWords};
-ghost use Rattle.word_book.specs.Listing.{ListsPackets};
+ghost use Rattle.script.specs.Running.{LeftOnWords};
+ghost use Rattle.script.specs.Snapshots.{settled_in};
+ghost use Rattle.script.specs.inside.Leaving.{AreWhole, CountsAreWithin, limits_left, snapshots_of};
 ghost use Rattle.word_pool.specs.Workers.{AllStay, AreWorkers, Stays};
 
 use crate::acting::{Actor, Worker};
 use crate::crew::play;
 use crate::gate::Gate;
+use crate::left::Left;
 use commons::limits::Limits;
 use commons::refusal::Refusal;
 use ground::pool::Ground;
 use mbuf::acts::Answer;
-use pool_model::statement::Statement;
 use script_text::commands::Line;
 use std::alloc::Global;
 use std::thread::Threads;
 use twin_acts::acts::TwinAct;
 use word_pool::laws;
-use word_pool::pool::{lose, make, settled, settled_without};
+use word_pool::pool::{close, lose, make, settled_without};
 use word_pool::worker::WordWorker;
 
 impl Worker<Ground> for WordWorker {
@@ -42,7 +42,7 @@ impl<const ROOM: usize> Actor<Ground, ROOM> for WordWorker {
 }
 
 /// Plays a script's lines with a thread for each worker, on the words of a new ground within these
-/// limits: no act waits for another. Ends the pool once all have ended, and settles it.
+/// limits: no act waits for another. Closes the pool once all have ended, and gives what it leaves.
 ///
 /// Refused `OutOfMemory` where memory was refused, and for no other cause. The lines of a thread
 /// that can't be started are played by the one that would have started it.
@@ -53,17 +53,19 @@ pub(crate) fn run<G: Gate, R: Threads + Sync>(
     lines: &[Line],
     turns: u32,
     gate: &G,
-) -> Result<Statement, Refusal>
+) -> Result<Left, Refusal>
     requires turns { 1 ≤ turns }
     requires pool { IsPool limits.now }
-    ensures ended { IfOk result (EndsOnWords limits.now) }
-    ensures once { IfOk result (λ s. ListsEachOnce s) }
-    ensures places { IfOk result (λ s. PlacesEachOnce limits.now s) }
-    ensures packets { IfOk result (λ s. ListsPackets limits.now s) }
+    ensures limits { IfOk result (λ left. limits_left left ≡ record { first = limits.now; second = None }) }
+    ensures whole { IfOk result (λ left. AreWhole left) }
+    ensures ended { IfOk result (λ left.
+        LeftOnWords (record { first = limits.now; second = None }) (settled_in (snapshots_of left))) }
+    ensures counts { IfOk result (λ left. CountsAreWithin left) }
     ensures memory { IfErr result (λ e. e ≡ Refusal.OutOfMemory) }
 {
     let (ground, workers) = played(rt, alloc, limits, lines, turns, gate)?;
-    settled(alloc, ground, workers)
+    let (limits, closed, shares) = close(alloc, ground, workers)?;
+    Ok(Left::One(limits, closed, shares))
 }
 
 /// Plays lines as `run` does, and then ends a worker, as one who died. Ends the pool, and

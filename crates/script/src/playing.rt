@@ -61,7 +61,11 @@ fn play_to_end(
 }
 
 /// Performs each line in turn, and lists the replies with the lines' numbers.
-fn play(alloc: Global, sites: &mut Sites, lines: &[Line]) -> Result<Vec<(u32, Reply)>, AllocError>
+pub(crate) fn play(
+    alloc: Global,
+    sites: &mut Sites,
+    lines: &[Line],
+) -> Result<Vec<(u32, Reply)>, AllocError>
     ensures replies { IfOk result (λ v. v.items ≡ replies_to lines.now (fresh_run sites.old)) }
     ensures sites { OnOk result (stock_of sites.new ≡ (end_of lines.now (fresh_run sites.old)).stock) }
     ensures limits { OnOk result (limits_in (stock_of sites.new) ≡ limits_in (stock_of sites.old)) }

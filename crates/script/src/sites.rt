@@ -4,10 +4,14 @@ ghost use Rattle.std.specs.Prelude.{◌≡◌, IfErr, IfOk};
 ghost use Rattle.mbuf.specs.Acts.{as_reply};
 ghost use Rattle.script.specs.Replay.{new_stock, perform_on, settled_of};
 ghost use Rattle.script.specs.Settling.{ListsEachPoolOnce, ListsSoundInEach, PlacesInEach};
+ghost use Rattle.script.specs.Snapshots.{IsOfOne, Leaves, settled_in};
+ghost use Rattle.script.specs.inside.Leaving.{AreWhole, snapshots_of};
 ghost use Rattle.script.specs.inside.Standing.{limits_in, stock_of};
 ghost use Rattle.script_text.specs.PoolLine.{ArePools};
 ghost use Rattle.twin_acts.specs.TwinActs.{HasTwinRoom};
 
+use crate::left::Left;
+use crate::snapshots::Snapshots;
 use commons::refusal::Refusal;
 use mbuf::acts::Answer;
 use pool_model::settled::Settled;
@@ -18,7 +22,7 @@ use share_book::{ending, twin_ending};
 use std::alloc::Global;
 use twin_acts::acts::TwinAct;
 
-/// Pools on lists. They can't be dropped: `settled` or `lose` ends them.
+/// Pools on lists. They can't be dropped: `settled`, `snapshots` or `lose` ends them.
 pub(crate) enum Sites {
     /// A pool alone.
     One(SitePool),
@@ -81,6 +85,44 @@ impl Sites {
                     second: Some(second),
                 })
             }
+        }
+    }
+
+    /// Closes the pools and gives their snapshots with the shares of all their workers.
+    ///
+    /// Refused `OutOfMemory` where memory was refused. The pools are ended then too.
+    pub(crate) fn snapshots(self, alloc: Global) -> Result<Snapshots, Refusal>
+        ensures left { IfOk result (λ s. Leaves (stock_of self) s) }
+        ensures memory { IfErr result (λ e. e ≡ Refusal.OutOfMemory) }
+    {
+        let left = self.close(alloc)?;
+        left.snapshots(alloc)
+    }
+
+    /// Closes the pools.
+    ///
+    /// Refused `OutOfMemory` where memory was refused. The pools are ended then too.
+    fn close(self, alloc: Global) -> Result<Left, Refusal>
+        ensures whole { IfOk result (λ left. AreWhole left) }
+        ensures settled { IfOk result (λ left. settled_in (snapshots_of left) ≡ settled_of (stock_of self)) }
+        ensures of_one { IfOk result (λ left. IsOfOne (stock_of self) (snapshots_of left)) }
+        ensures memory { IfErr result (λ e. e ≡ Refusal.OutOfMemory) }
+    {
+        match self {
+            Sites::One(pool) => match pool.close(alloc) {
+                Ok((limits, closed, shares)) => Ok(Left::One(limits, closed, shares)),
+                Err((cause, pool)) => {
+                    pool.lose();
+                    Err(cause)
+                }
+            },
+            Sites::Two(twins) => match twins.close(alloc) {
+                Ok(closed) => Ok(Left::Two(closed)),
+                Err((cause, twins)) => {
+                    twins.lose();
+                    Err(cause)
+                }
+            },
         }
     }
 

@@ -1,21 +1,19 @@
 //! Scripts whose workers act in threads of their own.
 
-ghost use Rattle.std.specs.Prelude.{◌≡◌, ◌≤◌, None, Some, IfOk, IfErr};
-ghost use Rattle.commons.specs.Bounds.{IsPool};
-ghost use Rattle.pool_model.specs.Sound.{ListsSoundPackets};
-ghost use Rattle.pool_model.specs.Statements.{ListsEachOnce, PlacesEachOnce};
+ghost use Rattle.std.specs.Prelude.{◌≡◌, ◌≤◌, None, IfOk, IfErr};
 ghost use Rattle.script.specs.Losing.{IsLostCause, Loses};
-ghost use Rattle.script.specs.Running.{EndsByActs, EndsOnWords, LeftOnWords, ReachedByActs};
+ghost use Rattle.script.specs.Running.{LeftOnWords, ReachedByActs};
 ghost use Rattle.script.specs.Settling.{ListsEachPoolOnce, ListsPacketsInEach, ListsSoundInEach, PlacesInEach};
-ghost use Rattle.word_book.specs.Listing.{ListsPackets};
+ghost use Rattle.script.specs.Snapshots.{AreLawful, settled_in};
+ghost use Rattle.script.specs.inside.Leaving.{AreWhole, CountsAreWithin, limits_left, snapshots_of};
 
 use crate::gate::Gate;
+use crate::left::Left;
 use crate::{on_words, twins_on_words, twins_under_lock, under_lock};
-use commons::limits::Limits;
 use commons::refusal::Refusal;
+use pool_model::laws;
 use pool_model::settled::Settled;
-use pool_model::statement::Statement;
-use script_text::commands::{Line, Script};
+use script_text::commands::Script;
 use std::alloc::Global;
 use std::sync::Wait;
 use std::thread::Threads;
@@ -65,63 +63,44 @@ pub fn run_threads<G: Gate, R: Threads + Wait + Sync>(
     ensures sound { grounds ≡ Grounds.Locked → IfOk result (λ s. ListsSoundInEach script.now.pools s) }
     ensures memory { IfErr result (λ e. e ≡ Refusal.OutOfMemory) }
 {
-    let first = &script.pools.first;
-    let lines = script.lines.as_slice();
-    match &script.pools.second {
-        None => {
-            let statement = run_one(rt, alloc, first, lines, grounds, turns, gate)?;
-            Ok(Settled {
-                first: statement,
-                second: None,
-            })
-        }
-        Some(second) => match grounds {
-            Grounds::Words => {
-                let ended = twins_on_words::run(rt, alloc, first, second, lines, turns, gate)?;
-                Ok(of_two(ended))
-            }
-            Grounds::Locked => {
-                let ended = twins_under_lock::run(rt, alloc, first, second, lines, turns, gate)?;
-                Ok(of_two(ended))
-            }
-        },
-    }
+    laws::acts_leave_packets_sound();
+    let left = run_to_end(rt, alloc, script, grounds, turns, gate)?;
+    left.settled(alloc)
 }
 
-/// What two pools come to, by their statements.
-fn of_two(statements: (Statement, Statement)) -> Settled
-    ensures { result ≡ record { first = statements.0; second = Some statements.1 } }
-{
-    let (first, second) = statements;
-    Settled {
-        first,
-        second: Some(second),
-    }
-}
-
-/// Plays lines on a pool alone.
-fn run_one<G: Gate, R: Threads + Wait + Sync>(
+/// Plays a script as `run_threads` does, and gives what its pools leave once all threads have ended.
+///
+/// Refused as `run_threads` is.
+pub(crate) fn run_to_end<G: Gate, R: Threads + Wait + Sync>(
     rt: &R,
     alloc: Global,
-    limits: &Limits,
-    lines: &[Line],
+    script: &Script,
     grounds: Grounds,
     turns: u32,
     gate: &G,
-) -> Result<Statement, Refusal>
+) -> Result<Left, Refusal>
     requires turns { 1 ≤ turns }
-    requires pool { IsPool limits.now }
-    ensures reached { grounds ≡ Grounds.Locked → IfOk result (EndsByActs limits.now) }
-    ensures ended { grounds ≡ Grounds.Words → IfOk result (EndsOnWords limits.now) }
-    ensures once { IfOk result (λ s. ListsEachOnce s) }
-    ensures places { IfOk result (λ s. PlacesEachOnce limits.now s) }
-    ensures packets { IfOk result (λ s. ListsPackets limits.now s) }
-    ensures sound { grounds ≡ Grounds.Locked → IfOk result (λ s. ListsSoundPackets limits.now s) }
+    ensures limits { IfOk result (λ left. limits_left left ≡ script.now.pools) }
+    ensures whole { IfOk result (λ left. AreWhole left) }
+    ensures reached { grounds ≡ Grounds.Locked → IfOk result (λ left. ReachedByActs script.now.pools (settled_in (snapshots_of left))) }
+    ensures ended { grounds ≡ Grounds.Words → IfOk result (λ left. AreLawful (snapshots_of left) →
+        LeftOnWords script.now.pools (settled_in (snapshots_of left))) }
+    ensures counts { IfOk result (λ left. CountsAreWithin left) }
     ensures memory { IfErr result (λ e. e ≡ Refusal.OutOfMemory) }
 {
-    match grounds {
-        Grounds::Words => on_words::run(rt, alloc, limits, lines, turns, gate),
-        Grounds::Locked => under_lock::run(rt, alloc, limits, lines, turns, gate),
+    let first = &script.pools.first;
+    let lines = script.lines.as_slice();
+    match &script.pools.second {
+        None => match grounds {
+            Grounds::Words => on_words::run(rt, alloc, first, lines, turns, gate),
+            Grounds::Locked => under_lock::run(rt, alloc, first, lines, turns, gate),
+        },
+        Some(second) => match grounds {
+            Grounds::Words => twins_on_words::run(rt, alloc, first, second, lines, turns, gate),
+            Grounds::Locked => {
+                twins_under_lock::run(rt, alloc, first, second, lines, turns, gate)
+            }
+        },
     }
 }
 

@@ -1,27 +1,27 @@
 //! A run in threads on two pools on the words of a ground each, without a lock.
 
-ghost use Rattle.std.specs.Prelude.{◌≡◌, ◌≤◌, IfOk, IfErr};
+ghost use Rattle.std.specs.Prelude.{◌≡◌, ◌≤◌, IfOk, IfErr, Some};
 ghost use Rattle.ground.specs.Seats.{IsOf};
-ghost use Rattle.pool_model.specs.Sound.{ListsOnlyPackets};
-ghost use Rattle.pool_model.specs.Statements.{PlacesEachOnce};
-ghost use Rattle.script.specs.Running.{EndOnWords};
-ghost use Rattle.script.specs.Settling.{ListsBothOnce};
+ghost use Rattle.script.specs.Running.{LeftOnWords};
+ghost use Rattle.script.specs.Snapshots.{AreLawful, settled_in};
+ghost use Rattle.script.specs.inside.Leaving.{AreWhole, CountsAreWithin, limits_left, snapshots_of};
 ghost use Rattle.word_pool.specs.TwinWorkers.{AreTwinPools, AreTwinWorkers, TwinStays};
 
 use crate::acting::{Actor, Worker};
 use crate::crew::play;
 use crate::gate::Gate;
+use crate::left::Left;
 use commons::limits::Limits;
 use commons::refusal::Refusal;
 use ground::pool::Ground;
 use mbuf::acts::Answer;
-use pool_model::statement::Statement;
 use script_text::commands::Line;
+use snapshot::laws::a_lawful_snapshot_lists_each_element_once;
 use std::alloc::Global;
 use std::thread::Threads;
 use twin_acts::acts::TwinAct;
 use word_pool::laws;
-use word_pool::twin_pool::{make, settled};
+use word_pool::twin_pool::{close, make};
 use word_pool::twin_worker::WordTwin;
 
 /// The words of either pool.
@@ -44,7 +44,8 @@ impl<const ROOM: usize> Actor<TwinGrounds, ROOM> for WordTwin {
 }
 
 /// Plays a script's lines with a thread for each worker, on the words of two new grounds within
-/// these limits: no act waits for another. Ends the pools once all have ended, and settles them.
+/// these limits: no act waits for another. Closes the pools once all have ended, and gives what they
+/// leave.
 ///
 /// Refused `OutOfMemory` where memory was refused, and for no other cause. The lines of a thread
 /// that can't be started are played by the one that would have started it.
@@ -56,21 +57,24 @@ pub(crate) fn run<G: Gate, R: Threads + Sync>(
     lines: &[Line],
     turns: u32,
     gate: &G,
-) -> Result<(Statement, Statement), Refusal>
+) -> Result<Left, Refusal>
     requires turns { 1 ≤ turns }
     requires pools { AreTwinPools first.now second.now }
-    ensures ended { IfOk result (λ s. EndOnWords first.now second.now s.0 s.1) }
-    ensures once { IfOk result (λ s. ListsBothOnce s.0 s.1) }
-    ensures places { IfOk result (λ s. PlacesEachOnce first.now s.0 × PlacesEachOnce second.now s.1) }
-    ensures packets { IfOk result (λ s. ListsOnlyPackets s.0 × ListsOnlyPackets s.1) }
+    ensures limits { IfOk result (λ left. limits_left left ≡ record { first = first.now; second = Some second.now }) }
+    ensures whole { IfOk result (λ left. AreWhole left) }
+    ensures ended { IfOk result (λ left. AreLawful (snapshots_of left) →
+        LeftOnWords (record { first = first.now; second = Some second.now }) (settled_in (snapshots_of left))) }
+    ensures counts { IfOk result (λ left. CountsAreWithin left) }
     ensures memory { IfErr result (λ e. e ≡ Refusal.OutOfMemory) }
 {
+    a_lawful_snapshot_lists_each_element_once();
     let (grounds, workers) = played(rt, alloc, first, second, lines, turns, gate)?;
     let TwinGrounds {
         first: first_ground,
         second: second_ground,
     } = grounds;
-    settled(alloc, first_ground, second_ground, workers)
+    let closed = close(alloc, first_ground, second_ground, workers)?;
+    Ok(Left::Two(closed))
 }
 
 /// Plays lines with a thread for each worker, and gives both grounds with all their workers once

@@ -1,28 +1,25 @@
 //! A run in threads on two pools under one lock.
 
-ghost use Rattle.std.specs.Prelude.{ℕ, ◌≡◌, ◌≤◌, List, IfOk, IfErr, map};
-ghost use Rattle.std.specs.List.{range_with_len};
-ghost use Rattle.book.specs.TwinSettling.{IsLawfulByTypes, first_of, second_of};
+ghost use Rattle.std.specs.Prelude.{ℕ, ◌≡◌, ◌≤◌, List, IfOk, IfErr, Some};
+ghost use Rattle.book.specs.Left.{AreLeftWhole};
 ghost use Rattle.commons.specs.declared.limits.Limits.{Limits};
-ghost use Rattle.pool_model.specs.Sound.{ListsOnlyPackets};
-ghost use Rattle.pool_model.specs.Statements.{PlacesEachOnce};
-ghost use Rattle.script.specs.Running.{EndByActs};
-ghost use Rattle.script.specs.Settling.{ListsBothOnce};
+ghost use Rattle.script.specs.Running.{ReachedByActs};
+ghost use Rattle.script.specs.Snapshots.{settled_in};
+ghost use Rattle.script.specs.inside.Leaving.{AreWhole, CountsAreWithin, limits_left, snapshots_of};
 ghost use Rattle.share_book.specs.Locked.{AreTwinsLeftBy};
 ghost use Rattle.share_book.specs.TwinSites.{AreTwinPools};
 ghost use Rattle.twin_acts.specs.declared.acts.TwinAct.{TwinAct};
 
 use crate::gate::Gate;
+use crate::left::Left;
 use crate::locked::{Locked, play};
 use commons::limits::Limits;
 use commons::refusal::Refusal;
 use mbuf::acts::Answer;
-use pool_model::statement::Statement;
 use script_text::commands::Line;
+use share_book::ClosedTwin;
 use share_book::locked_site::OfLimits;
 use share_book::locked_twin::LockedTwins;
-use share_book::twin_ending::settled_parts;
-use share_book::twin_site::ClosedTwin;
 use std::alloc::Global;
 use std::marker::Brand;
 use std::sync::Wait;
@@ -37,7 +34,7 @@ impl<K: OfLimits, L: OfLimits, const ROOM: usize> Locked<ROOM> for LockedTwins<K
 
 /// Plays a script's lines with a thread for each worker, on two new pools of lists within these
 /// limits, under one lock: the acts come one after another. Closes the pools once all have ended,
-/// and settles them with the shares of all workers.
+/// and gives what they leave.
 ///
 /// Refused `OutOfMemory` where memory was refused or a thread couldn't be started, and for no
 /// other cause.
@@ -49,17 +46,18 @@ pub(crate) fn run<G: Gate, R: Threads + Wait + Sync>(
     lines: &[Line],
     turns: u32,
     gate: &G,
-) -> Result<(Statement, Statement), Refusal>
+) -> Result<Left, Refusal>
     requires turns { 1 ≤ turns }
     requires pools { AreTwinPools first.now second.now }
-    ensures reached { IfOk result (λ s. EndByActs first.now second.now s.0 s.1) }
-    ensures once { IfOk result (λ s. ListsBothOnce s.0 s.1) }
-    ensures places { IfOk result (λ s. PlacesEachOnce first.now s.0 × PlacesEachOnce second.now s.1) }
-    ensures packets { IfOk result (λ s. ListsOnlyPackets s.0 × ListsOnlyPackets s.1) }
+    ensures limits { IfOk result (λ left. limits_left left ≡ record { first = first.now; second = Some second.now }) }
+    ensures whole { IfOk result (λ left. AreWhole left) }
+    ensures reached { IfOk result (λ left.
+        ReachedByActs (record { first = first.now; second = Some second.now }) (settled_in (snapshots_of left))) }
+    ensures counts { IfOk result (λ left. CountsAreWithin left) }
     ensures memory { IfErr result (λ e. e ≡ Refusal.OutOfMemory) }
 {
     let closed = played::<Brand, Brand, G, R>(rt, alloc, first, second, lines, turns, gate)?;
-    settled_parts(alloc, closed)
+    Ok(Left::Two(closed))
 }
 
 /// Plays lines under a lock whose type knows the limits of both pools, and gives what these left
@@ -86,12 +84,8 @@ where
     requires second_only { (l : Limits) → L.allows l → l ≡ second.now }
     ensures first_limits { IfOk result (λ c. c.first_limits ≡ first.now) }
     ensures second_limits { IfOk result (λ c. c.second_limits ≡ second.now) }
-    ensures pools { IfOk result (λ c. AreTwinPools c.first_limits c.second_limits) }
     ensures reached { IfOk result (λ c. (acts : List (ℕ × TwinAct)) × AreTwinsLeftBy acts c.first_limits c.second_limits c.first c.second c.shares.items) }
-    ensures first_numbers { IfOk result (λ c. map (λ m. m.number) (map (λ m. m.first) c.shares.items) ≡ range_with_len 1 c.first_limits.workers) }
-    ensures second_numbers { IfOk result (λ c. map (λ m. m.number) (map (λ m. m.second) c.shares.items) ≡ range_with_len 1 c.second_limits.workers) }
-    ensures first_lawful { IfOk result (λ c. IsLawfulByTypes (first_of c.first_limits c.first c.shares.items)) }
-    ensures second_lawful { IfOk result (λ c. IsLawfulByTypes (second_of c.second_limits c.second c.shares.items)) }
+    ensures whole { IfOk result (λ c. AreLeftWhole c) }
     ensures memory { IfErr result (λ e. e ≡ Refusal.OutOfMemory) }
 {
     let site = LockedTwins::<K, L>::make(alloc, first, second)?;

@@ -1,30 +1,27 @@
 //! A run in threads on a pool alone, under one lock.
 
-ghost use Rattle.std.specs.Prelude.{ℕ, ◌≡◌, ◌≤◌, List, IfOk, IfErr, map};
-ghost use Rattle.std.specs.List.{range_with_len};
+ghost use Rattle.std.specs.Prelude.{ℕ, ◌≡◌, ◌≤◌, List, IfOk, IfErr, None};
+ghost use Rattle.book.specs.Left.{IsLeftWhole};
 ghost use Rattle.commons.specs.Bounds.{IsPool};
 ghost use Rattle.commons.specs.declared.limits.Limits.{Limits};
 ghost use Rattle.mbuf.specs.declared.acts.Act.{Act};
-ghost use Rattle.pool_model.specs.Sound.{ListsSoundPackets};
-ghost use Rattle.pool_model.specs.Statements.{ListsEachOnce, PlacesEachOnce};
 ghost use Rattle.script.specs.Losing.{AreOfPool, LosesByActs};
-ghost use Rattle.script.specs.Running.{EndsByActs};
+ghost use Rattle.script.specs.Running.{ReachedByActs};
+ghost use Rattle.script.specs.Snapshots.{settled_in};
+ghost use Rattle.script.specs.inside.Leaving.{AreWhole, CountsAreWithin, limits_left, snapshots_of};
 ghost use Rattle.share_book.specs.Locked.{AreLeftBy};
-ghost use Rattle.snapshot.specs.Closing.{snapshot_of};
-ghost use Rattle.snapshot.specs.Snapshots.{IsLawful};
-ghost use Rattle.word_book.specs.Listing.{ListsPackets};
 
 use crate::gate::Gate;
+use crate::left::Left;
 use crate::locked::{Locked, play};
 use commons::closed::Closed;
 use commons::limits::Limits;
 use commons::refusal::Refusal;
 use mbuf::acts::Answer;
 use pool_model::laws;
-use pool_model::statement::Statement;
 use script_text::commands::Line;
 use share_book::Share;
-use share_book::ending::{settled_parts, settled_parts_without};
+use share_book::ending::settled_parts_without;
 use share_book::locked_site::{LockedPool, OfLimits};
 use std::alloc::Global;
 use std::marker::Brand;
@@ -42,7 +39,8 @@ impl<K: OfLimits, const ROOM: usize> Locked<ROOM> for LockedPool<K> {
 }
 
 /// Plays a script's lines with a thread for each worker, on a new pool of lists within these limits,
-/// under one lock: the acts come one after another. Closes the pool once all have ended, and settles it with the shares of all workers.
+/// under one lock: the acts come one after another. Closes the pool once all have ended, and gives
+/// what it leaves.
 ///
 /// Refused `OutOfMemory` where memory was refused or a thread couldn't be started, and for no
 /// other cause.
@@ -53,19 +51,19 @@ pub(crate) fn run<G: Gate, R: Threads + Wait + Sync>(
     lines: &[Line],
     turns: u32,
     gate: &G,
-) -> Result<Statement, Refusal>
+) -> Result<Left, Refusal>
     requires turns { 1 ≤ turns }
     requires pool { IsPool limits.now }
-    ensures reached { IfOk result (EndsByActs limits.now) }
-    ensures once { IfOk result (λ s. ListsEachOnce s) }
-    ensures places { IfOk result (λ s. PlacesEachOnce limits.now s) }
-    ensures packets { IfOk result (λ s. ListsPackets limits.now s) }
-    ensures sound { IfOk result (λ s. ListsSoundPackets limits.now s) }
+    ensures limits { IfOk result (λ left. limits_left left ≡ record { first = limits.now; second = None }) }
+    ensures whole { IfOk result (λ left. AreWhole left) }
+    ensures reached { IfOk result (λ left.
+        ReachedByActs (record { first = limits.now; second = None }) (settled_in (snapshots_of left))) }
+    ensures counts { IfOk result (λ left. CountsAreWithin left) }
     ensures memory { IfErr result (λ e. e ≡ Refusal.OutOfMemory) }
 {
     laws::acts_leave_packets_sound();
     let (limits, closed, shares) = played::<Brand, G, R>(rt, alloc, limits, lines, turns, gate)?;
-    settled_parts(alloc, &limits, closed, shares)
+    Ok(Left::One(limits, closed, shares))
 }
 
 /// Plays lines as `run` does, and then loses the share of a worker, as of one who died. Answers
@@ -106,10 +104,8 @@ fn played<K: OfLimits + Send + Sync, G: Gate, R: Threads + Wait + Sync>(
     requires allowed { K.allows limits.now }
     requires only { (l : Limits) → K.allows l → l ≡ limits.now }
     ensures limits { IfOk result (λ left. left.0 ≡ limits.now) }
-    ensures range { IfOk result (λ left. IsPool left.0) }
     ensures reached { IfOk result (λ left. (acts : List (ℕ × Act)) × AreLeftBy acts left.0 left.1 left.2.items) }
-    ensures numbers { IfOk result (λ left. map (λ share. share.number) left.2.items ≡ range_with_len 1 left.0.workers) }
-    ensures lawful { IfOk result (λ left. IsLawful (snapshot_of left.0 left.1 left.2.items)) }
+    ensures whole { IfOk result (λ left. IsLeftWhole left.0 left.1 left.2.items) }
     ensures memory { IfErr result (λ e. e ≡ Refusal.OutOfMemory) }
 {
     let site = LockedPool::<K>::make(alloc, limits)?;
