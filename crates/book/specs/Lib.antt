@@ -1,4 +1,6 @@
 pub mod Books
+pub mod Left
+pub mod Listing
 pub mod Lost
 pub mod Places
 pub mod Settling

@@ -1,13 +1,17 @@
-//! A closed pool and its shares as plain data.
+//! A closed pool and its shares as plain data, and each of two pools.
 
 ghost use Rattle.std.specs.Prelude.{◌≡◌, IfOk, None, map, slice_index_or};
 ghost use Rattle.book.specs.Books.{shares_in};
+ghost use Rattle.book.specs.Left.{AreOfPackets};
 ghost use Rattle.book.specs.Settling.{snapshot_with};
+ghost use Rattle.book.specs.TwinSettling.{first_with, second_with};
 ghost use Rattle.snapshot.specs.Closing.{share_of};
 ghost use Rattle.snapshot.specs.inside.Checked.{HasPackets, HavePackets, IsPacketIn};
 
 use crate::book::Book;
+use crate::guests::guests;
 use crate::share::Share;
+use crate::twin_book::TwinBook;
 use commons::closed::Closed;
 use commons::packet::{Packet, Seg};
 use commons::seq::Seq;
@@ -21,7 +25,9 @@ pub(crate) fn snapshot(alloc: Global, closed: &Closed, book: &Book) -> Result<Sn
     ensures same { IfOk result (λ s. s ≡ snapshot_with book.now closed.now) }
     ensures on_desks { IfOk result (λ s. HasPackets s.desks) }
     ensures in_slots { IfOk result (λ s. HavePackets s.shares) }
+    ensures typed { IfOk result (λ _. AreOfPackets (snapshot_with book.now closed.now)) }
 {
+    book.fits_its_limits();
     Ok(Snapshot {
         limits: *book.limits(),
         top: closed.top,
@@ -33,6 +39,42 @@ pub(crate) fn snapshot(alloc: Global, closed: &Closed, book: &Book) -> Result<Sn
         guests: Seq::new(Vec::new(alloc)),
         foreign: false,
     })
+}
+
+/// The snapshot of the first of two closed pools: its guests are the bases of the second one's
+/// packets.
+pub(crate) fn first_snapshot(
+    alloc: Global,
+    closed: &Closed,
+    book: &TwinBook,
+) -> Result<Snapshot, AllocError>
+    ensures same { IfOk result (λ s. s ≡ first_with book.now closed.now) }
+    ensures on_desks { IfOk result (λ s. HasPackets s.desks) }
+    ensures in_slots { IfOk result (λ s. HavePackets s.shares) }
+    ensures typed { IfOk result (λ _. AreOfPackets (first_with book.now closed.now)) }
+{
+    book.second().fits_its_limits();
+    book.is_filled_alike();
+    let mut snapshot = snapshot(alloc, closed, book.first())?;
+    let guests = guests(alloc, book.second().places())?;
+    snapshot.guests = guests;
+    Ok(snapshot)
+}
+
+/// The snapshot of the second, to which the bases of its packets are foreign.
+pub(crate) fn second_snapshot(
+    alloc: Global,
+    closed: &Closed,
+    book: &TwinBook,
+) -> Result<Snapshot, AllocError>
+    ensures same { IfOk result (λ s. s ≡ second_with book.now closed.now) }
+    ensures on_desks { IfOk result (λ s. HasPackets s.desks) }
+    ensures in_slots { IfOk result (λ s. HavePackets s.shares) }
+    ensures typed { IfOk result (λ _. AreOfPackets (second_with book.now closed.now)) }
+{
+    let mut snapshot = snapshot(alloc, closed, book.second())?;
+    snapshot.foreign = true;
+    Ok(snapshot)
 }
 
 /// A copy of these values.

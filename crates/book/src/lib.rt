@@ -2,6 +2,7 @@
 #![tactic(auto)]
 
 pub mod book;
+pub mod closed_twin;
 mod copies;
 pub mod deposits;
 pub mod ending;
@@ -10,6 +11,7 @@ pub mod laws;
 pub mod losing;
 pub mod settling;
 pub mod share;
+pub mod snapshots;
 pub mod twin_book;
 pub mod twin_deposits;
 pub mod twin_ending;

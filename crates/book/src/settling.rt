@@ -5,6 +5,7 @@ ghost use Rattle.pool_model.specs.Sound.{ListsOnlyPackets};
 ghost use Rattle.pool_model.specs.Statements.{ListsEachOnce, PlacesEachOnce};
 ghost use Rattle.snapshot.specs.Snapshots.{IsLawful, statement_in};
 ghost use Rattle.book.specs.Books.{IsFull, IsLeastMissing};
+ghost use Rattle.book.specs.Left.{IsLawfulByTypes};
 ghost use Rattle.book.specs.Settling.{IsUnsettled, snapshot_with};
 ghost use Rattle.book.specs.inside.Causes.{cause_of};
 
@@ -51,7 +52,8 @@ pub fn settle(
     ensures unsettled { IfErr result (λ e. IsUnsettled book closed e.0) }
     // What stands in a slot of a share or lies on a desk is a packet.
     ensures packets { IfErr result (λ e. e.0 ≢ Unsettled.Fault Fault.BadPacket) }
-    // What a whole pool leaves at rest has no fault.
+    // What a whole pool leaves at rest has no fault; of packets, types know that they are.
+    ensures faultless { IsFull book → IsLawfulByTypes (snapshot_with book closed) → IfErr result (λ e. e.0 ≡ Unsettled.OutOfMemory) }
     ensures memory { IsFull book → IsLawful (snapshot_with book closed) → IfErr result (λ e. e.0 ≡ Unsettled.OutOfMemory) }
     ensures back { IfErr result (λ e. (e.1 ≡ closed) × (e.2 ≡ book)) }
 {

@@ -7,11 +7,11 @@ ghost use Rattle.pool_model.specs.Statements.{PlacesEachOnce};
 ghost use Rattle.snapshot.specs.Snapshots.{IsLawful, ListsItsElements, statement_in};
 ghost use Rattle.book.specs.Books.{IsFull, IsLeastMissing};
 ghost use Rattle.snapshot.specs.Faults.{IsFirstFault};
-ghost use Rattle.book.specs.TwinSettling.{AreOfPackets, IsLawfulByTypes, IsTwinUnsettled, first_with, second_with};
+ghost use Rattle.book.specs.Left.{AreOfPackets, IsLawfulByTypes};
+ghost use Rattle.book.specs.TwinSettling.{IsTwinUnsettled, first_with, second_with};
 ghost use Rattle.book.specs.inside.Causes.{first_cause_of, second_cause_of};
 
-use crate::copies;
-use crate::guests::guests;
+use crate::copies::{first_snapshot, second_snapshot};
 use crate::twin_book::TwinBook;
 use commons::closed::Closed;
 use pool_model::statement::Statement;
@@ -125,16 +125,10 @@ fn first_statement(alloc: Global, closed: &Closed, book: &TwinBook) -> Result<St
     ensures packets { IfErr result (λ f. f ≢ Fault.BadPacket) }
 {
     book.first().fits_its_limits();
-    book.second().fits_its_limits();
-    book.is_filled_alike();
-    let Ok(mut snapshot) = copies::snapshot(alloc, closed, book.first()) else {
-        return Err(Fault::OutOfMemory);
-    };
-    let Ok(guests) = guests(alloc, book.second().places()) else {
-        return Err(Fault::OutOfMemory);
-    };
-    snapshot.guests = guests;
-    audit(alloc, &snapshot)
+    match first_snapshot(alloc, closed, book) {
+        Ok(snapshot) => audit(alloc, &snapshot),
+        Err(_) => Err(Fault::OutOfMemory),
+    }
 }
 
 /// The statement of the second pool, or its first fault, or `OutOfMemory` where memory was refused.
@@ -148,11 +142,10 @@ fn second_statement(alloc: Global, closed: &Closed, book: &TwinBook) -> Result<S
     ensures packets { IfErr result (λ f. f ≢ Fault.BadPacket) }
 {
     book.second().fits_its_limits();
-    let Ok(mut snapshot) = copies::snapshot(alloc, closed, book.second()) else {
-        return Err(Fault::OutOfMemory);
-    };
-    snapshot.foreign = true;
-    audit(alloc, &snapshot)
+    match second_snapshot(alloc, closed, book) {
+        Ok(snapshot) => audit(alloc, &snapshot),
+        Err(_) => Err(Fault::OutOfMemory),
+    }
 }
 
 /// Why two pools aren't settled where the audit of the first answers this.

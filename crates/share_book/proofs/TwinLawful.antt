@@ -21,7 +21,7 @@ use Rattle.snapshot.specs.Closing.{share_of, snapshot_of}
 use Rattle.snapshot.specs.declared.snapshot.ShareData.{ShareData}
 use Rattle.snapshot.specs.declared.snapshot.Snapshot.{Snapshot}
 use Rattle.snapshot.specs.Snapshots.{IsLawful, times_held, times_own, walk}
-use Rattle.book.specs.TwinSettling.{AreOfPackets}
+use Rattle.book.specs.Left.{AreOfPackets}
 use Rattle.book.proofs.Spelled.{IsPlaced, Shows, below, lawful, placed_linked, walk_is}
 use Rattle.share_book.proofs.ListSums.{hands_summed, headers_summed, in_hands, no_hands}
 

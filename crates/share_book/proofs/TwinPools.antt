@@ -16,7 +16,7 @@ use Rattle.snapshot.specs.Closing.{share_of}
 use Rattle.snapshot.specs.declared.snapshot.ShareData.{ShareData}
 use Rattle.snapshot.specs.Snapshots.{statement_in, times_held}
 use Rattle.snapshot.proofs.Times.{held-is}
-use Rattle.book.specs.TwinSettling.{IsLawfulByTypes}
+use Rattle.book.specs.Left.{IsLawfulByTypes}
 use Rattle.share_book.specs.AsModel.{pools_of}
 use Rattle.share_book.specs.TwinSites.{TwinLists, first_snapshot, second_snapshot, twin_at}
 use Rattle.share_book.specs.inside.TwinSite.{AreTables}

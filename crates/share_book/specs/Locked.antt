@@ -11,7 +11,7 @@ use Rattle.pool_model.specs.Statements.{statement_of}
 use Rattle.pool_model.specs.TwinModel.{after_twin_acts, first_statement, new_twin_pool, second_statement}
 use Rattle.snapshot.specs.Closing.{closed_pool, snapshot_of}
 use Rattle.snapshot.specs.Snapshots.{statement_in}
-use Rattle.book.specs.TwinSettling.{first_of, second_of}
+use Rattle.book.specs.Left.{first_of, second_of}
 use Rattle.twin_acts.specs.declared.acts.TwinAct.{TwinAct}
 
 -- What these acts, one after another, leave of a new pool of these limits: what its shared part

@@ -14,7 +14,7 @@ use Rattle.mbuf.specs.Twins.{TwinMember}
 use Rattle.pool_model.specs.Pool.{nobody}
 use Rattle.snapshot.specs.declared.snapshot.Snapshot.{Snapshot}
 pub use Rattle.book.specs.TwinBooks.{AreTwinPools, IsTwinMakeCause}
-use Rattle.book.specs.TwinSettling.{first_of, second_of}
+use Rattle.book.specs.Left.{first_of, second_of}
 use Rattle.twin_acts.specs.TwinActs.{AreFreshByAct, PerformsTwin, TwinAsBefore}
 use Rattle.twin_acts.specs.declared.acts.TwinAct.{TwinAct}
 

@@ -3,22 +3,17 @@
 ghost use Rattle.std.specs.Prelude.{◌≡◌, IfOk, IfErr, map};
 ghost use Rattle.std.specs.List.{range_with_len};
 ghost use Rattle.commons.specs.Bounds.{IsPool};
-ghost use Rattle.pool_model.specs.Sound.{ListsOnlyPackets, ListsSoundPackets};
+ghost use Rattle.pool_model.specs.Sound.{ListsSoundPackets};
 ghost use Rattle.pool_model.specs.Statements.{ListsEachOnce, PlacesEachOnce, statement_of};
-ghost use Rattle.snapshot.specs.Lost.{AreLost};
-ghost use Rattle.book.specs.Books.{IsFull};
-ghost use Rattle.book.specs.Lost.{AreLostWith, unlisted_of};
-ghost use Rattle.book.specs.Settling.{snapshot_with};
 ghost use Rattle.snapshot.specs.Closing.{snapshot_of};
-ghost use Rattle.snapshot.specs.Snapshots.{IsLawful, statement_in};
+ghost use Rattle.snapshot.specs.Lost.{AreLost};
+ghost use Rattle.snapshot.specs.Snapshots.{IsLawful};
+ghost use Rattle.book.specs.Lost.{AreLostWith, unlisted_of};
 
 use crate::site_pool::SitePool;
-use book::book::Book;
-use book::deposits::deposit_all;
-use book::ending::elements_lost;
+use book::ending::{elements_lost, settled_parts};
 use book::laws;
-use book::settling::{Unsettled, settle};
-use book::share::{Share, lose_all};
+use book::share::Share;
 use commons::closed::Closed;
 use commons::limits::Limits;
 use commons::refusal::Refusal;
@@ -46,60 +41,6 @@ pub fn settled(alloc: Global, pool: SitePool) -> Result<Statement, Refusal>
         Err((cause, pool)) => {
             pool.lose();
             Err(cause)
-        }
-    }
-}
-
-/// Settles what a pool within these limits left, when it was closed, with the shares of all its
-/// workers. The statement is that of the snapshot that they make. Each packet that it lists has 1
-/// to 32 segments, each with its data within its buffer.
-///
-/// Refused `OutOfMemory` where memory was refused. Nothing is left of the pool then either.
-pub fn settled_parts(
-    alloc: Global,
-    limits: &Limits,
-    closed: Closed,
-    shares: Vec<Share>,
-) -> Result<Statement, Refusal>
-    requires range { IsPool limits.now }
-    requires workers { map (λ share. share.number) shares.items ≡ range_with_len 1 limits.now.workers }
-    requires lawful { IsLawful (snapshot_of limits.now closed shares.items) }
-    ensures statement { IfOk result (λ s. s ≡ statement_in (snapshot_of limits.now closed shares.items)) }
-    ensures once { IfOk result (λ s. ListsEachOnce s) }
-    ensures places { IfOk result (λ s. PlacesEachOnce limits.now s) }
-    ensures sound { IfOk result (λ s. ListsOnlyPackets s) }
-    ensures memory { IfErr result (λ e. e ≡ Refusal.OutOfMemory) }
-{
-    match Book::make(alloc, limits) {
-        Ok(mut book) => {
-            deposit_all(&mut book, shares);
-            settled_book(alloc, closed, book)
-        }
-        Err(cause) => {
-            lose_all(shares);
-            Err(cause)
-        }
-    }
-}
-
-/// Settles what a pool left with a book that has the shares of all its workers.
-fn settled_book(alloc: Global, closed: Closed, book: Book) -> Result<Statement, Refusal>
-    requires full { IsFull book }
-    requires lawful { IsLawful (snapshot_with book closed) }
-    ensures statement { IfOk result (λ s. s ≡ statement_in (snapshot_with book closed)) }
-    ensures once { IfOk result (λ s. ListsEachOnce s) }
-    ensures places { IfOk result (λ s. PlacesEachOnce book.limits s) }
-    ensures sound { IfOk result (λ s. ListsOnlyPackets s) }
-    ensures memory { IfErr result (λ e. e ≡ Refusal.OutOfMemory) }
-{
-    match settle(alloc, closed, book) {
-        Ok(statement) => Ok(statement),
-        Err((cause, _, book)) => {
-            book.lose();
-            match cause {
-                Unsettled::OutOfMemory => Err(Refusal::OutOfMemory),
-                _ => unreachable!(),
-            }
         }
     }
 }

@@ -11,6 +11,7 @@ pub mod twin_ending;
 pub mod twin_site;
 
 pub use book::book::{Book, deposit};
+pub use book::closed_twin::ClosedTwin;
 pub use book::losing::settle_without;
 pub use book::settling::{Unsettled, settle};
 pub use book::share::{Share, hand_in, lose_all};

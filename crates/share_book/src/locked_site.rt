@@ -2,6 +2,7 @@
 
 ghost use Rattle.std.specs.Prelude.{ℕ, ◌≡◌, List, map, IfOk, IfErr};
 ghost use Rattle.std.specs.List.{range_with_len};
+ghost use Rattle.book.specs.Left.{IsLeftWhole};
 ghost use Rattle.commons.specs.Bounds.{IsPool};
 ghost use Rattle.commons.specs.Lists.{IsMakeCause};
 ghost use Rattle.commons.specs.declared.limits.Limits.{Limits};
@@ -130,6 +131,7 @@ impl<K: OfLimits> LockedPool<K> {
         ensures range { IfOk result (λ parts. IsPool parts.0) }
         ensures reached { IfOk result (λ parts. (acts : List (ℕ × Act)) × AreLeftBy acts parts.0 parts.1 parts.2.items) }
         ensures numbers { IfOk result (λ parts. map (λ share. share.number) parts.2.items ≡ range_with_len 1 parts.0.workers) }
+        ensures whole { IfOk result (λ left. IsLeftWhole left.0 left.1 left.2.items) }
         ensures lawful { IfOk result (λ parts. IsLawful (snapshot_of parts.0 parts.1 parts.2.items)) }
         ensures slots { IfOk result (λ parts. HasSlots (snapshot_of parts.0 parts.1 parts.2.items)) }
         ensures memory { IfErr result (λ refused. refused.0 ≡ Refusal.OutOfMemory) }

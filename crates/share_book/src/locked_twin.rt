@@ -1,15 +1,15 @@
 //! Two pools that threads share under one lock.
 
-ghost use Rattle.std.specs.Prelude.{ℕ, ◌≡◌, List, map, IfOk, IfErr};
-ghost use Rattle.std.specs.List.{range_with_len};
-ghost use Rattle.book.specs.TwinSettling.{IsLawfulByTypes, first_of, second_of};
+ghost use Rattle.std.specs.Prelude.{ℕ, ◌≡◌, List, IfOk, IfErr};
+ghost use Rattle.book.specs.Left.{AreLeftWhole};
 ghost use Rattle.twin_acts.specs.TwinActs.{HasTwinRoom};
 ghost use Rattle.twin_acts.specs.declared.acts.TwinAct.{TwinAct};
 ghost use Rattle.share_book.specs.Locked.{AreTwinsLeftBy};
 ghost use Rattle.share_book.specs.TwinSites.{AreTwinPools, IsTwinMakeCause, TwinLists};
 
 use crate::locked_site::{AnyLimits, OfLimits};
-use crate::twin_site::{ClosedTwin, TwinSite};
+use crate::twin_site::TwinSite;
+use book::closed_twin::ClosedTwin;
 use commons::limits::Limits;
 use commons::refusal::Refusal;
 use mbuf::acts::{Answer, Reply};
@@ -113,8 +113,8 @@ impl<K: OfLimits, L: OfLimits> LockedTwins<K, L> {
 
     /// Takes the pools out of the lock and closes them, as `TwinSite::close` does: of each its
     /// limits and what its shared part leaves, and the share of each worker, from the first to the
-    /// last. They are two lawful snapshots, and are what some acts leave of new pools of these
-    /// limits.
+    /// last. They are those of two whole pools at rest, and are what some acts leave of new pools of
+    /// these limits.
     ///
     /// Refused `OutOfMemory` where memory was refused. Pools of limits that `K` and `L` allow come
     /// back then; that they are the same is seen by reading.
@@ -123,10 +123,7 @@ impl<K: OfLimits, L: OfLimits> LockedTwins<K, L> {
         ensures second_allowed { IfOk result (λ c. L.allows c.second_limits) }
         ensures pools { IfOk result (λ c. AreTwinPools c.first_limits c.second_limits) }
         ensures reached { IfOk result (λ c. (acts : List (ℕ × TwinAct)) × AreTwinsLeftBy acts c.first_limits c.second_limits c.first c.second c.shares.items) }
-        ensures first_numbers { IfOk result (λ c. map (λ m. m.number) (map (λ m. m.first) c.shares.items) ≡ range_with_len 1 c.first_limits.workers) }
-        ensures second_numbers { IfOk result (λ c. map (λ m. m.number) (map (λ m. m.second) c.shares.items) ≡ range_with_len 1 c.second_limits.workers) }
-        ensures first_lawful { IfOk result (λ c. IsLawfulByTypes (first_of c.first_limits c.first c.shares.items)) }
-        ensures second_lawful { IfOk result (λ c. IsLawfulByTypes (second_of c.second_limits c.second c.shares.items)) }
+        ensures whole { IfOk result (λ c. AreLeftWhole c) }
         ensures memory { IfErr result (λ refused. refused.0 ≡ Refusal.OutOfMemory) }
         ensures first_back { IfErr result (λ refused. K.allows refused.1.first.limits) }
         ensures second_back { IfErr result (λ refused. L.allows refused.1.second.limits) }

@@ -57,6 +57,7 @@ impl SitePool {
     ghost use Rattle.pool_model.specs.Standing.{GaveOnly, PoolAsBefore};
     ghost use Rattle.pool_model.specs.Statements.{statement_of};
     ghost use Rattle.snapshot.specs.Closing.{closed_pool, snapshot_of};
+    ghost use Rattle.book.specs.Left.{IsLeftWhole};
     ghost use Rattle.snapshot.specs.Snapshots.{HasSlots, IsLawful, statement_in};
 
     /// A new pool: all elements in the common list; its workers have nothing, and its desks are
@@ -157,8 +158,8 @@ impl SitePool {
     }
 
     /// Ends the pool, and gives its limits, what its shared part leaves, and the share of each
-    /// worker, from the first to the last. Together they are a lawful snapshot, with the statement
-    /// that the pool had.
+    /// worker, from the first to the last: those of a whole pool at rest. Together they are a lawful
+    /// snapshot, with the statement that the pool had.
     ///
     /// Refused `OutOfMemory` where memory was refused. The pool comes back then, as it was.
     pub fn close(self, alloc: Global) -> Result<(Limits, Closed, Vec<Share>), (Refusal, SitePool)>
@@ -166,6 +167,7 @@ impl SitePool {
         ensures closed { IfOk result (λ parts. parts.1 ≡ closed_pool self) }
         ensures shares { IfOk result (λ parts. parts.2.items ≡ self.members) }
         ensures numbers { IfOk result (λ parts. map (λ share. share.number) parts.2.items ≡ range_with_len 1 self.limits.workers) }
+        ensures whole { IfOk result (λ left. IsLeftWhole left.0 left.1 left.2.items) }
         ensures lawful { IfOk result (λ parts. IsLawful (snapshot_of parts.0 parts.1 parts.2.items)) }
         ensures slots { IfOk result (λ parts. HasSlots (snapshot_of parts.0 parts.1 parts.2.items)) }
         ensures statement { IfOk result (λ parts. statement_in (snapshot_of parts.0 parts.1 parts.2.items) ≡ statement_of self) }

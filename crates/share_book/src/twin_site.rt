@@ -14,15 +14,15 @@ ghost use Rattle.mbuf.specs.Twins.{OwnTwin};
 ghost use Rattle.mbuf.specs.declared.acts.Answer.TheVariants.{Refused};
 ghost use Rattle.pool_model.specs.TwinModel.{after_twin_acts, first_statement, new_twin_pool, perform_twin, second_statement};
 ghost use Rattle.snapshot.specs.Snapshots.{statement_in};
-ghost use Rattle.book.specs.TwinSettling.{IsLawfulByTypes, first_of, second_of};
+ghost use Rattle.book.specs.Left.{AreLeftWhole, IsLawfulByTypes, first_of, second_of};
 ghost use Rattle.twin_acts.specs.TwinActs.{HasTwinRoom, KeepsTwin};
 ghost use Rattle.twin_acts.specs.declared.acts.TwinAct.{TwinAct};
 ghost use Rattle.share_book.specs.AsModel.{pools_of};
 ghost use Rattle.share_book.specs.TwinSites.{ActsAlone, ActsOn, AreTwinPools, HasWorker, IsTwinMakeCause, first_snapshot, new_twin, new_twin_lists, second_snapshot, twin_at};
 
 use crate::deskless::left_without_desks;
+use book::closed_twin::ClosedTwin;
 use book::twin_share::{TwinShare, hand_in_twin};
-use commons::closed::Closed;
 use commons::limits::Limits;
 use commons::plain::PlainCommons;
 use commons::refusal::Refusal;
@@ -51,21 +51,6 @@ impl Model for TwinSite {
     ghost view = { lists_of };
 
     ghost invariant = { IsTwinSite };
-}
-
-/// What two pools leave that were closed: of each its limits and what its shared part leaves, and
-/// the share of each worker, from the first to the last. It can't be dropped, as a share can't.
-pub struct ClosedTwin {
-    /// The limits of the first pool.
-    pub first_limits: Limits,
-    /// What the shared part of the first pool leaves.
-    pub first: Closed,
-    /// The limits of the second pool.
-    pub second_limits: Limits,
-    /// What the shared part of the second pool leaves.
-    pub second: Closed,
-    /// The share of each worker.
-    pub shares: Vec<TwinShare>,
 }
 
 impl TwinSite {
@@ -173,8 +158,8 @@ impl TwinSite {
     }
 
     /// Ends both pools, and gives of each its limits and what its shared part leaves, and the share
-    /// of each worker, from the first to the last. Together they are two lawful snapshots, with the
-    /// statements that the model's pools have.
+    /// of each worker, from the first to the last: those of two whole pools at rest. Together they
+    /// are two lawful snapshots, with the statements that the model's pools have.
     ///
     /// Refused `OutOfMemory` where memory was refused. The pools come back then, as they were.
     pub fn close(self, alloc: Global) -> Result<ClosedTwin, (Refusal, TwinSite)>
@@ -184,10 +169,7 @@ impl TwinSite {
         ensures second { IfOk result (λ c. c.second ≡ closed_of self.second) }
         ensures shares { IfOk result (λ c. c.shares.items ≡ self.members) }
         ensures pools { IfOk result (λ c. AreTwinPools c.first_limits c.second_limits) }
-        ensures first_numbers { IfOk result (λ c. map (λ m. m.number) (map (λ m. m.first) c.shares.items) ≡ range_with_len 1 c.first_limits.workers) }
-        ensures second_numbers { IfOk result (λ c. map (λ m. m.number) (map (λ m. m.second) c.shares.items) ≡ range_with_len 1 c.second_limits.workers) }
-        ensures first_lawful { IfOk result (λ c. IsLawfulByTypes (first_of c.first_limits c.first c.shares.items)) }
-        ensures second_lawful { IfOk result (λ c. IsLawfulByTypes (second_of c.second_limits c.second c.shares.items)) }
+        ensures whole { IfOk result (λ c. AreLeftWhole c) }
         ensures first_model { IfOk result (λ c. statement_in (first_of c.first_limits c.first c.shares.items) ≡ first_statement (pools_of self)) }
         ensures second_model { IfOk result (λ c. statement_in (second_of c.second_limits c.second c.shares.items) ≡ second_statement (pools_of self)) }
         ensures memory { IfErr result (λ refused. refused.0 ≡ Refusal.OutOfMemory) }
