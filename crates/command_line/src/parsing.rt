@@ -44,7 +44,11 @@ pub fn request_of<'a>(alloc: Global, words: &'a [String]) -> Result<Request<'a>,
 fn requested<'a>(alloc: Global, words: &'a [String]) -> Result<Option<Request<'a>>, Error> {
     let matches = command(alloc)?.try_get_matches_from(words)?;
     if let Some(replay) = matches.subcommand_matches("replay") {
-        let task = Task::Replay(form_of(replay.get_flag("json")));
+        let task = if replay.get_flag("snapshot") {
+            Task::ReplaySnapshot
+        } else {
+            Task::Replay(form_of(replay.get_flag("json")))
+        };
         return Ok(replay.get_str("FILE").map(|file| Request { file, task }));
     }
     if let Some(steps) = matches.subcommand_matches("steps") {
@@ -71,7 +75,11 @@ fn requested<'a>(alloc: Global, words: &'a [String]) -> Result<Option<Request<'a
         (Some(file), Some(grounds), Some(turns)) => {
             let lose = run.get_str("lose").and_then(|word| word.parse().ok());
             let form = form_of(run.get_flag("json"));
-            let task = task_of(grounds, turns, lose, form);
+            let task = if run.get_flag("snapshot") {
+                Task::RunSnapshot(grounds, turns)
+            } else {
+                task_of(grounds, turns, lose, form)
+            };
             Ok(Some(Request { file, task }))
         }
         _ => Ok(None),
@@ -111,15 +119,23 @@ fn wrong_words(alloc: Global, message: &str) -> Result<Error, Error> {
     Ok(command(alloc)?.error(ErrorKind::InvalidValue, message)?)
 }
 
-/// `mbufpool replay FILE [--json]`, `mbufpool run FILE [--ground words|locked] [--turns T] [--lose
-/// W] [--json]`, `mbufpool steps FILE` and `mbufpool audit FILE [--json]`.
+/// `mbufpool replay FILE [--json | --snapshot]`, `mbufpool run FILE [--ground words|locked] [--turns
+/// T] [--lose W] [--json | --snapshot]`, where `--lose` and `--snapshot` go together neither,
+/// `mbufpool steps FILE` and `mbufpool audit FILE [--json]`.
 fn command<'a>(alloc: Global) -> Result<Command<'a>, Error> {
     let replay = Command::new(alloc, "replay")
         .about("Replays a script, and prints each reply and where each element is at the end")
         .arg(script_file(alloc))?
         .arg(json(alloc).help(
             "Print where each element is at the end as one line of JSON, and no replies",
-        ))?;
+        ))?
+        .arg(
+            snapshot(alloc)
+                .help(
+                    "Print what the pool leaves at the end as a snapshot, for audit, and no replies",
+                )
+                .conflicts_with("json")?,
+        )?;
     let ground = Arg::new(alloc, "ground")
         .long("ground")
         .value_name("GROUND")
@@ -145,7 +161,12 @@ fn command<'a>(alloc: Global) -> Result<Command<'a>, Error> {
         .arg(ground)?
         .arg(turns)?
         .arg(lose)?
-        .arg(json(alloc).help("Print it as one line of JSON"))?;
+        .arg(json(alloc).help("Print it as one line of JSON"))?
+        .arg(
+            snapshot(alloc)
+                .help("Print what the pool leaves at the end as a snapshot, for audit")
+                .conflicts_with_all(&["json", "lose"])?,
+        )?;
     let steps = Command::new(alloc, "steps")
         .about(
             "Plays a script of steps on the words of the stack, and prints what each saw and the words",
@@ -174,6 +195,13 @@ fn command<'a>(alloc: Global) -> Result<Command<'a>, Error> {
 /// The file that is named.
 fn script_file<'a>(alloc: Global) -> Arg<'a> {
     Arg::new(alloc, "FILE").required(true).help("The script")
+}
+
+/// The flag that asks for snapshots.
+fn snapshot<'a>(alloc: Global) -> Arg<'a> {
+    Arg::new(alloc, "snapshot")
+        .long("snapshot")
+        .action(ArgAction::SetTrue)
 }
 
 /// The flag that asks for JSON.

@@ -6,6 +6,7 @@ mod audits;
 mod faults;
 mod files;
 mod screen;
+mod snapshots;
 mod turns;
 mod words;
 

@@ -1,4 +1,5 @@
 mod CommandsKeep
+mod Ends
 mod Losses
 mod NameLemmas
 mod Outcomes

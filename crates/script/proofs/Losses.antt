@@ -1,24 +1,19 @@
 -- What is lost with a worker at the end of a run.
-use Rattle.std.proofs.Common.{ℕ, ◌≡◌, ◌<◌, List, [], ◌∷◌, Option, Result, Ok, Err, IfOk, get_or, ap, ◌∙◌, subst}
+use Rattle.std.proofs.Common.{ℕ, ◌≡◌, ◌<◌, List, [], ◌∷◌, Option, get_or, ap, ◌∙◌, subst}
 use Rattle.std.specs.Prelude.{Contains}
 use Rattle.std.proofs.lemmas.List.Elements.{Contains-get_or}
 use Rattle.book.specs.Lost.{AreLostWith}
 use Rattle.commons.specs.declared.closed.Closed.{Closed}
 use Rattle.commons.specs.declared.limits.Limits.{Limits}
 use Rattle.commons.specs.declared.packet.Seg.{Seg}
-use Rattle.commons.specs.declared.refusal.Refusal.{Refusal}
 use Rattle.ground.specs.Seats.{Grounded}
 use Rattle.mbuf.specs.declared.acts.Act.{Act}
 use Rattle.mbuf.specs.Members.{Member}
 use Rattle.pool_model.specs.PacketModel.{after_acts}
 use Rattle.pool_model.specs.Pool.{new_pool}
-use Rattle.pool_model.specs.declared.statement.Statement.{Statement}
 use Rattle.script.specs.Losing.{AreOfPool, LosesByActs, LosesOnWords}
-use Rattle.script.specs.Running.{EndsByActs}
 use Rattle.share_book.specs.Locked.{AreLeftBy}
-use Rattle.snapshot.specs.Closing.{snapshot_of}
 use Rattle.snapshot.specs.Lost.{IsAscending}
-use Rattle.snapshot.specs.Snapshots.{statement_in}
 use Rattle.word_pool.specs.Lost.{AreLostOf, left_of}
 use Rattle.word_pool.specs.Workers.{Manned, AreWorkers}
 
@@ -68,16 +63,3 @@ loses_by_acts l limits closed shares w elems same reached are =
       subst (λ (ds : List (Option (List Seg))). AreLostWith limits (w ∷ []) pool.members ds elems) desks
           (subst (λ (ms : List Member). AreLostWith limits (w ∷ []) ms closed.desks elems) left.shares are),
     )
-
--- a statement of what acts left is the one that they come to
-ends_by_acts : (l limits : Limits) (closed : Closed) (shares : List Member) (s : Statement) → limits ≡ l →
-    (acts : List (ℕ × Act)) × AreLeftBy acts limits closed shares → s ≡ statement_in (snapshot_of limits closed shares) →
-    EndsByActs l s
-ends_by_acts l limits closed shares s same reached is =
-    subst (λ (k : Limits). EndsByActs k s) same (reached.0, is ∙ reached.1.statement)
-
-pub all_end_by_acts : (l limits : Limits) (closed : Closed) (shares : List Member) (r : Result Statement Refusal) →
-    limits ≡ l → (acts : List (ℕ × Act)) × AreLeftBy acts limits closed shares →
-    IfOk r (λ s. s ≡ statement_in (snapshot_of limits closed shares)) → IfOk r (EndsByActs l)
-all_end_by_acts l limits closed shares (Ok s) same reached is = ends_by_acts l limits closed shares s same reached is
-all_end_by_acts l limits closed shares (Err e) same reached is = tt

@@ -1,38 +1,34 @@
 -- What runs of two pools come to.
-use Rattle.std.proofs.Common.{ℕ, ◌≡◌, ◌++◌, List, take, drop, length, Result, Ok, Err, IfOk, sym, ap, ◌∙◌, subst}
+use Rattle.std.proofs.Common.{ℕ, ◌≡◌, ◌++◌, List, take, drop, length, sym, ap, ◌∙◌, subst}
 use Rattle.std.specs.Prelude.{map}
 use Rattle.std.proofs.lemmas.List.{length-map, take_at}
 use Rattle.std.proofs.lemmas.List.FromFn.{length-range_with_len}
 use Rattle.commons.specs.declared.limits.Limits.{Limits}
-use Rattle.commons.specs.declared.refusal.Refusal.{Refusal}
 use Rattle.ground.specs.Seats.{Grounded}
 use Rattle.mbuf.specs.Members.{Member}
 use Rattle.mbuf.specs.Twins.{TwinMember}
-use Rattle.pool_model.specs.declared.statement.Statement.{Statement}
-use Rattle.book.specs.TwinSettling.{first_of, second_of}
+use Rattle.book.specs.Left.{first_of, second_of}
 use Rattle.snapshot.specs.Snapshots.{statement_in}
 use Rattle.share_book.specs.Locked.{AreTwinsLeftBy}
-use Rattle.share_book.specs.declared.twin_site.ClosedTwin.{ClosedTwin}
+use Rattle.book.specs.declared.closed_twin.ClosedTwin.{ClosedTwin}
 use Rattle.twin_acts.specs.declared.acts.TwinAct.{TwinAct}
 use Rattle.word_pool.specs.TwinWorkers.{AllTwinsStay, AreTwinWorkers, TwinManned, firsts_of, twins_of}
 use Rattle.script.specs.Running.{EndByActs}
 
 -- both statements are those of the pools that acts made of new ones
-pub all_end_by_acts : (l k : Limits) (c : ClosedTwin) (r : Result (Statement × Statement) Refusal) →
-    c.first_limits ≡ l → c.second_limits ≡ k →
+pub end_by_acts : (l k : Limits) (c : ClosedTwin) → c.first_limits ≡ l → c.second_limits ≡ k →
     (acts : List (ℕ × TwinAct)) × AreTwinsLeftBy acts c.first_limits c.second_limits c.first c.second c.shares.items →
-    IfOk r (λ s. s.0 ≡ statement_in (first_of c.first_limits c.first c.shares.items)) →
-    IfOk r (λ s. s.1 ≡ statement_in (second_of c.second_limits c.second c.shares.items)) →
-    IfOk r (λ s. EndByActs l k s.0 s.1)
-all_end_by_acts l k c (Ok s) first second reached is_first is_second =
-    let ends : EndByActs c.first_limits c.second_limits s.0 s.1 = record {
+    EndByActs l k (statement_in (first_of c.first_limits c.first c.shares.items))
+    (statement_in (second_of c.second_limits c.second c.shares.items))
+end_by_acts l k c first second reached =
+    let s = statement_in (first_of c.first_limits c.first c.shares.items) in
+    let t = statement_in (second_of c.second_limits c.second c.shares.items) in
+    let ends : EndByActs c.first_limits c.second_limits s t = record {
       acts = reached.0;
-      first = is_first ∙ reached.1.first;
-      second = is_second ∙ reached.1.second;
+      first = reached.1.first;
+      second = reached.1.second;
     } in
-    subst (λ (x : Limits). EndByActs l x s.0 s.1) second
-    (subst (λ (x : Limits). EndByActs x c.second_limits s.0 s.1) first ends)
-all_end_by_acts l k c (Err e) first second reached is_first is_second = tt
+    subst (λ (x : Limits). EndByActs l x s t) second (subst (λ (x : Limits). EndByActs x c.second_limits s t) first ends)
 
 -- the workers of two grounds are as many as these have
 pub twins_len : (g h : Grounded) (ms : List TwinManned) → AreTwinWorkers g h ms → length ms ≡ g.limits.workers

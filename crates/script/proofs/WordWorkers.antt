@@ -1,15 +1,10 @@
--- The workers of a run on words: how many they are, that they are all after it, and what settles
--- them.
-use Rattle.std.proofs.Common.{ℕ, ◌≡◌, ◌++◌, List, take, drop, length, Result, Ok, Err, IfOk, sym, ap, ◌∙◌, subst}
+-- The workers of a run on words: how many they are, and that they are all after it.
+use Rattle.std.proofs.Common.{ℕ, ◌≡◌, ◌++◌, List, take, drop, length, sym, ap, ◌∙◌, subst}
 use Rattle.std.proofs.lemmas.List.{length-map, take_at}
 use Rattle.std.proofs.lemmas.List.FromFn.{length-range_with_len}
-use Rattle.commons.specs.declared.limits.Limits.{Limits}
-use Rattle.commons.specs.declared.refusal.Refusal.{Refusal}
 use Rattle.ground.specs.Seats.{Grounded}
 use Rattle.mbuf.specs.Members.{Member}
-use Rattle.pool_model.specs.declared.statement.Statement.{Statement}
-use Rattle.script.specs.Running.{EndsOnWords}
-use Rattle.word_pool.specs.Workers.{Manned, AllStay, AreWorkers, IsStatementOfWorkers, members_of}
+use Rattle.word_pool.specs.Workers.{Manned, AllStay, AreWorkers, members_of}
 
 -- they are numbered from 1 to the number that the pool has
 pub crew_len : (g : Grounded) (ms : List Manned) → AreWorkers g ms → length ms ≡ g.limits.workers
@@ -27,10 +22,3 @@ crew_after g items lent new len law same long all stay =
     subst (AreWorkers g)
     (sym (take_at new (drop (length new) items) len (stay.as_many ∙ long)))
     (law (subst (AreWorkers g) (sym same) all) stay)
-
--- the statement of them all is that of a run on words
-pub ends_on_words : (l : Limits) (g : Grounded) (ms : List Manned) (r : Result Statement Refusal) →
-    g.limits ≡ l → AreWorkers g ms → IfOk r (IsStatementOfWorkers g ms) → IfOk r (EndsOnWords l)
-ends_on_words l g ms (Ok s) limits all is =
-    record { shared = g; workers = ms; limits = limits; all = all; statement = is }
-ends_on_words l g ms (Err e) limits all is = tt

@@ -69,11 +69,15 @@ pub record AreLeftByRun (grounds : Grounds) (pools : Pools) (s : Snapshots) : Ty
   pub reached : grounds ≡ Locked → ReachedByActs pools (settled_in s)
   pub ended : grounds ≡ Words → LeftOnWords pools (settled_in s)
 
+-- this is the text of what a script's pools leave at the end of such a run
+pub record IsTextOfRun (grounds : Grounds) (pools : Pools) (out : List ℕ) : Type 0 where
+  pub snapshots : Snapshots
+  pub left : AreLeftByRun grounds pools snapshots
+  pub printed : out ≡ text_of snapshots
+
 -- the bytes are a script, and this is the text of what its pools leave at the end of such a run
 pub record IsRunSnapshotFor (grounds : Grounds) (bytes out : List ℕ) : Type 0 where
   pub pools : Pools
   pub lines : List Line
   pub script : IsScript bytes pools lines
-  pub snapshots : Snapshots
-  pub left : AreLeftByRun grounds pools snapshots
-  pub printed : out ≡ text_of snapshots
+  pub ended : IsTextOfRun grounds pools out

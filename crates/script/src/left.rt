@@ -6,12 +6,14 @@ ghost use Rattle.script.specs.Snapshots.{AreLawful, settled_in};
 ghost use Rattle.script.specs.inside.Leaving.{AreWhole, limits_left, snapshots_of};
 
 use crate::snapshots::Snapshots;
+use book::ending::settled_parts;
+use book::snapshots::{snapshot_of_parts, snapshots_of_twins};
+use book::twin_ending::settled_twins;
 use commons::closed::Closed;
 use commons::limits::Limits;
 use commons::refusal::Refusal;
 use pool_model::settled::Settled;
-use share_book::{ClosedTwin, Share, settled_parts, settled_twins};
-use share_book::{snapshot_of_parts, snapshots_of_twins};
+use share_book::{ClosedTwin, Share};
 use std::alloc::Global;
 
 /// What closed pools leave, with the shares of all their workers. It can't be dropped: `settled` or

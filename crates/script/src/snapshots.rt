@@ -5,7 +5,7 @@ ghost use Rattle.script_text.specs.declared.lines.Pools.{Pools};
 ghost use Rattle.script_text.specs.Commands.{Line};
 ghost use Rattle.script_text.specs.Grammar.{IsCause, IsScript};
 ghost use Rattle.script.specs.Replay.{end_of, new_run};
-ghost use Rattle.script.specs.Snapshots.{AreLeftByRun, IsRunSnapshotFor, IsSnapshotFor, IsTextOfEnd, Leaves, text_of};
+ghost use Rattle.script.specs.Snapshots.{AreLeftByRun, IsRunSnapshotFor, IsSnapshotFor, IsTextOfEnd, IsTextOfRun, Leaves, text_of};
 ghost use Rattle.script.specs.inside.Standing.{fresh_run};
 ghost use Rattle.snapshot_json.specs.SnapshotData.{json_of};
 
@@ -71,12 +71,28 @@ pub fn run_script_snapshot<R: Threads + Wait + Sync>(
     ensures faults { IfErr result (IsCause bytes.now) }
 {
     match parse(alloc, bytes) {
-        Ok(script) => match left_by_run(rt, alloc, &script, grounds, turns) {
-            Ok(snapshots) => Ok(text(alloc, &snapshots)?),
+        Ok(script) => match run(rt, alloc, &script, grounds, turns) {
+            Ok(text) => Ok(text),
             Err(cause) => Err(cause),
         },
         Err(refusal) => Err(refusal),
     }
+}
+
+/// The text of what a script's pools leave at the end of a run in threads.
+fn run<R: Threads + Wait + Sync>(
+    rt: &R,
+    alloc: Global,
+    script: &Script,
+    grounds: Grounds,
+    turns: u32,
+) -> Result<Vec<u8>, Refusal>
+    requires turns { 1 ≤ turns }
+    ensures text { IfOk result (λ out. IsTextOfRun grounds script.now.pools out.items) }
+    ensures memory { IfErr result (λ refusal. refusal ≡ Refusal.OutOfMemory) }
+{
+    let snapshots = left_by_run(rt, alloc, script, grounds, turns)?;
+    text(alloc, &snapshots)
 }
 
 /// The snapshots of what a script's pools leave at the end of a run in threads.

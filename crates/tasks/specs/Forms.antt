@@ -5,6 +5,7 @@ use Rattle.pool_model.specs.declared.settled.Settled.{Settled}
 use Rattle.script.specs.Losing.{IsCauseWithout, LosesFrom, lost_text}
 use Rattle.script.specs.Printed.{IsJsonFor, IsPrintedFor}
 use Rattle.script.specs.Running.{RunsTo}
+use Rattle.script.specs.Snapshots.{IsRunSnapshotFor, IsSnapshotFor}
 use Rattle.script.specs.declared.threaded.Grounds.{Grounds}
 use Rattle.statement_text.specs.StatementText.{text_of_settled}
 use Rattle.script_text.specs.Grammar.{IsCause}
@@ -18,7 +19,7 @@ use Rattle.tasks.specs.declared.kind.Kind.TheVariants.{Script, Snapshot}
 use Rattle.tasks.specs.declared.task.Form.{Form}
 use Rattle.tasks.specs.declared.task.Form.TheVariants.{Text, Json}
 use Rattle.tasks.specs.declared.task.Task.{Task}
-use Rattle.tasks.specs.declared.task.Task.TheVariants.{Replay, Run, RunLost, Steps, Audit}
+use Rattle.tasks.specs.declared.task.Task.TheVariants.{Replay, ReplaySnapshot, Run, RunSnapshot, RunLost, Steps, Audit}
 
 -- the bytes are a script, and this is printed for its replay in this form
 abbrev pub IsPrintedAs : Form → List ℕ → List ℕ → Type 0
@@ -51,7 +52,9 @@ pub record IsLostPrintedAs (grounds : Grounds) (lose : ℕ) (form : Form) (bytes
 -- the bytes are a script or a snapshot, and this is printed for what is done with it
 abbrev pub IsDoneAs : Task → List ℕ → List ℕ → Type 0
 IsDoneAs (Replay form) = IsPrintedAs form
+IsDoneAs ReplaySnapshot = IsSnapshotFor
 IsDoneAs (Run grounds turns form) = IsRunPrintedAs grounds form
+IsDoneAs (RunSnapshot grounds turns) = IsRunSnapshotFor grounds
 IsDoneAs (RunLost grounds turns lose form) = IsLostPrintedAs grounds lose form
 IsDoneAs Steps = IsStepsPrint
 IsDoneAs (Audit form) = IsAuditPrintedAs form
@@ -59,7 +62,9 @@ IsDoneAs (Audit form) = IsAuditPrintedAs form
 -- the failure that comes of what is to be done with these bytes
 abbrev pub IsCauseFor : Task → List ℕ → Failure → Type 0
 IsCauseFor (Replay form) bytes = IsFaultOf (IsCause bytes)
+IsCauseFor ReplaySnapshot bytes = IsFaultOf (IsCause bytes)
 IsCauseFor (Run grounds turns form) bytes = IsFaultOf (IsCause bytes)
+IsCauseFor (RunSnapshot grounds turns) bytes = IsFaultOf (IsCause bytes)
 IsCauseFor (RunLost grounds turns lose form) bytes = IsFaultOf (IsCauseWithout lose bytes)
 IsCauseFor Steps bytes = IsFaultOf (IsStepCause bytes)
 IsCauseFor (Audit form) bytes = IsAuditCause bytes

@@ -46,8 +46,12 @@ impl Turns {
 pub enum Task {
     /// Its replay in one thread.
     Replay(Form),
+    /// What its pools leave at the end of such a replay, as snapshots.
+    ReplaySnapshot,
     /// Its run with a thread for each worker, on a pool that rests on this.
     Run(Grounds, Turns, Form),
+    /// What its pools leave at the end of such a run, as snapshots.
+    RunSnapshot(Grounds, Turns),
     /// Such a run at whose end this worker is lost: what is lost with it.
     RunLost(Grounds, Turns, u32, Form),
     /// Its steps, each on one word or slot.

@@ -17,19 +17,20 @@ use tasks::task::{Form, Request, Task, Turns};
 use tasks::{End, print, printed, tell};
 
 /// The path of a file of this test in the folder for such files.
-fn path(rt: &HostRuntime, name: &str) -> Result<String, Fail> {
+pub(super) fn path(rt: &HostRuntime, name: &str) -> Result<String, Fail> {
     let folder = env::temp_dir(rt)?;
     let process = process::id(rt.process());
     Ok(format!(in rt.alloc(); "{}/mbufpool-{process}-{name}", folder.display())?)
 }
 
-const FIRST_RUN: &str = "pool 3\nalloc a\nalloc b\nfree a\n";
+pub(super) const FIRST_RUN: &str = "pool 3\nalloc a\nalloc b\nfree a\n";
 
 const FIRST_RUN_TEXT: &str = "2: ok 0\n3: ok 1\n4: ok back 1 flushed 1\n\
     population 3\navailable 2\nin use 1\ncommon 2: 0 2\ncache 1 0:\n\
     packet 1 1 segs 1 len 0: 1@128+0/2048\nheld 1 count 1: 1\n";
 
-const FIRST_RUN_STATEMENT: &str = "population 3\navailable 2\nin use 1\ncommon 2: 0 2\ncache 1 0:\n\
+pub(super) const FIRST_RUN_STATEMENT: &str =
+    "population 3\navailable 2\nin use 1\ncommon 2: 0 2\ncache 1 0:\n\
     packet 1 1 segs 1 len 0: 1@128+0/2048\nheld 1 count 1: 1\n";
 
 const FIRST_RUN_JSON: &str = "{\"available\":2,\"caches\":[[]],\"common\":[0,2],\"desks\":[],\
@@ -55,7 +56,7 @@ pub(super) fn outcome<R: Threads + Wait + Sync, S: Scripts>(
 }
 
 /// What comes of a task with a file, which is removed afterwards.
-fn outcome_of<R: Threads + Wait + Sync + Files + Input + AllocGlobal>(
+pub(super) fn outcome_of<R: Threads + Wait + Sync + Files + Input + AllocGlobal>(
     rt: &R,
     path: &str,
     script: &str,

@@ -37,6 +37,29 @@ static NAMED: &[NamedRow] = &[
         ("replay", 0, None, Form::Text),
     ),
     (
+        &["replay", "a", "--snapshot"],
+        "a",
+        ("snapshot of a replay", 0, None, Form::Json),
+    ),
+    (
+        &["run", "--snapshot", "a"],
+        "a",
+        ("snapshot of a run on words", 1_000, None, Form::Json),
+    ),
+    (
+        &[
+            "run",
+            "a",
+            "--ground",
+            "locked",
+            "--turns",
+            "5",
+            "--snapshot",
+        ],
+        "a",
+        ("snapshot of a run under a lock", 5, None, Form::Json),
+    ),
+    (
         &["run", "a"],
         "a",
         ("run on words", 1_000, None, Form::Text),
@@ -113,6 +136,11 @@ static WRONG: &[&[&str]] = &[
     &["run", "a", "--lose", "all"],
     &["run", "a", "--lose", "1", "--lose", "2"],
     &["replay", "a", "--lose", "1"],
+    &["replay", "a", "--json", "--snapshot"],
+    &["run", "a", "--snapshot", "--json"],
+    &["run", "a", "--snapshot", "--lose", "1"],
+    &["audit", "a", "--snapshot"],
+    &["steps", "a", "--snapshot"],
     &["run", "a", "--ground", "lists"],
     &["run", "a", "--ground", ""],
     &["run", "a", "--ground"],
@@ -136,6 +164,7 @@ static ASKED: &[(&[&str], &str)] = &[
         "Usage: mbufpool replay [OPTIONS] <FILE>",
     ),
     (&["replay", "--help"], "--json"),
+    (&["run", "--help"], "--snapshot"),
     (
         &["audit", "--help"],
         "Usage: mbufpool audit [OPTIONS] <FILE>",
@@ -157,7 +186,22 @@ fn line(alloc: Global, words: &[&str]) -> Result<Vec<String>, AllocError> {
 fn asked_by(task: Task) -> Asked {
     match task {
         Task::Replay(form) => ("replay", 0, None, form),
+        Task::ReplaySnapshot => ("snapshot of a replay", 0, None, Form::Json),
         Task::Run(grounds, turns, form) => (name_of(grounds), turns.count(), None, form),
+        Task::RunSnapshot(Grounds::Words, turns) => {
+            (
+                "snapshot of a run on words",
+                turns.count(),
+                None,
+                Form::Json,
+            )
+        }
+        Task::RunSnapshot(Grounds::Locked, turns) => (
+            "snapshot of a run under a lock",
+            turns.count(),
+            None,
+            Form::Json,
+        ),
         Task::RunLost(grounds, turns, lose, form) => {
             (name_of(grounds), turns.count(), Some(lose), form)
         }
