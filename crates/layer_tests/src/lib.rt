@@ -5,8 +5,6 @@
 #[cfg(test)]
 mod caches;
 #[cfg(test)]
-mod equal;
-#[cfg(test)]
 mod lists;
 #[cfg(test)]
 mod memory;

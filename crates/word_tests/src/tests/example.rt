@@ -4,9 +4,10 @@
 ghost use Rattle.ground.specs.Seats.{IsOf};
 ghost use Rattle.word_pool.specs.Workers.{AreWorkers, Stays};
 
-use super::{DEFAULTS, same};
+use super::DEFAULTS;
 use commons::limits::Limits;
 use commons::refusal::Refusal;
+use equal::same;
 use ground::pool::Ground;
 use mbuf::acts::{Act, Reply};
 use std::alloc::Global;

@@ -4,9 +4,10 @@ ghost use Rattle.ground.specs.Seats.{IsOf};
 ghost use Rattle.word_pool.specs.Workers.{AreWorkers, Stays};
 
 use super::crews::{Tallies, Tally, act, free, free_any, make};
-use super::{DEFAULTS, assert_all_free, same};
+use super::{DEFAULTS, assert_all_free};
 use commons::limits::Limits;
 use commons::refusal::Refusal;
+use equal::same;
 use ground::pool::Ground;
 use mbuf::acts::{Act, Reply};
 use mbuf::packets::Pid;
