@@ -7,22 +7,23 @@ use Rattle.commons.specs.declared.closed.Closed.{Closed}
 use Rattle.book.specs.declared.settling.Unsettled.{Unsettled}
 use Rattle.book.specs.declared.settling.Unsettled.TheVariants.{MissingShare, OutOfMemory as NoMemory, Fault as HasFault}
 use Rattle.book.specs.Books.{IsFull}
+use Rattle.book.specs.Left.{AreOfPackets, IsLawfulByTypes}
 use Rattle.book.specs.Places.{Places}
 use Rattle.book.specs.Settling.{IsUnsettled, snapshot_with}
 use Rattle.book.specs.declared.twin_settling.TwinUnsettled.{TwinUnsettled}
 use Rattle.book.specs.declared.twin_settling.TwinUnsettled.TheVariants as twin
 use Rattle.book.specs.TwinPlaces.{TwinPlaces}
-use Rattle.book.specs.TwinSettling.{IsLawfulByTypes, IsTwinUnsettled, first_with, second_with}
+use Rattle.book.specs.TwinSettling.{IsTwinUnsettled, first_with, second_with}
 use Rattle.snapshot.specs.Snapshots.{IsLawful}
 use Rattle.snapshot.specs.declared.snapshot.Snapshot.{Snapshot}
 use Rattle.book.specs.inside.Causes.{cause_of}
 
--- what an audit answers where no share is missing
-pub unsettled_is : (b : Places) (closed : Closed) (f : Fault) → IsFull b →
+-- what an audit answers where no share is missing, of what types keep packets in
+pub unsettled_is : (b : Places) (closed : Closed) (f : Fault) → IsFull b → AreOfPackets (snapshot_with b closed) →
     (f ≡ OutOfMemory) ⊎ IsFirstFault (snapshot_with b closed) f → IsUnsettled b closed (cause_of f)
-unsettled_is b closed f full (inl e) = subst (λ g. IsUnsettled b closed (cause_of g)) (sym e) full
-unsettled_is b closed OutOfMemory full (inr first) = absurd first.0
-unsettled_is b closed f full (inr first) = (full, first)
+unsettled_is b closed f full typed (inl e) = subst (λ g. IsUnsettled b closed (cause_of g)) (sym e) full
+unsettled_is b closed OutOfMemory full typed (inr first) = absurd first.0
+unsettled_is b closed f full typed (inr first) = (full, first, typed)
 
 -- only memory was missing where no share is missing and there is no fault
 pub memory_alone : (b : Places) (closed : Closed) (cause : Unsettled) → IsFull b → ((f : Fault) → ¬ (IsFault (snapshot_with b closed) f)) →
@@ -30,6 +31,13 @@ pub memory_alone : (b : Places) (closed : Closed) (cause : Unsettled) → IsFull
 memory_alone b closed (MissingShare w) full sound is = absurd (full w is.missing)
 memory_alone b closed NoMemory full sound is = refl
 memory_alone b closed (HasFault f) full sound is = absurd (sound f is.1.0)
+
+-- and where it is lawful, given what types keep, which is told beside a fault
+pub memory_typed : (b : Places) (closed : Closed) (cause : Unsettled) → IsFull b → IsLawfulByTypes (snapshot_with b closed) →
+    ((s : Snapshot) → IsLawful s → (f : Fault) → ¬ (IsFault s f)) → IsUnsettled b closed cause → cause ≡ NoMemory
+memory_typed b closed (MissingShare w) full lawful sound is = absurd (full w is.missing)
+memory_typed b closed NoMemory full lawful sound is = refl
+memory_typed b closed (HasFault f) full lawful sound is = absurd (sound (snapshot_with b closed) (lawful is.2) f is.1.0)
 
 -- so it is with two pools
 pub twin_memory_alone : (b : TwinPlaces) (one two : Closed) (cause : TwinUnsettled) → IsFull b.first →

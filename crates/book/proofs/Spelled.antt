@@ -15,7 +15,7 @@ use Rattle.snapshot.specs.declared.snapshot.Snapshot.{Snapshot}
 use Rattle.snapshot.specs.Snapshots.{elements_of, IsLawful, times_held, times_own, walk, words_from, words_met}
 use Rattle.snapshot.proofs.FollowedLinks.{AreLinked, linked, words_linked}
 use Rattle.snapshot.proofs.Walks.{IsBelow, elements_after, words_and, words_of}
-use Rattle.book.specs.TwinSettling.{AreOfPackets}
+use Rattle.book.specs.Left.{AreOfPackets}
 
 -- 1 below the population, and 0 from there on
 abbrev pub below : ℕ → ℕ → ℕ

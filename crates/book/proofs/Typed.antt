@@ -13,7 +13,7 @@ use Rattle.snapshot.specs.declared.snapshot.Snapshot.{Snapshot}
 use Rattle.snapshot.specs.Faults.{IsFirstFault}
 use Rattle.snapshot.specs.Snapshots.{HasPacket, most_places}
 use Rattle.snapshot.specs.inside.Checked.{HasPackets, HavePackets, IsPacketIn}
-use Rattle.book.specs.TwinSettling.{AreOfPackets}
+use Rattle.book.specs.Left.{AreOfPackets}
 
 -- what stands in slots and lies on desks
 pub packets_there : (s : Snapshot) → HasPackets s.desks → HavePackets s.shares → (segs : List Seg) → HasPacket s segs →

@@ -14,4 +14,5 @@ returns-in-Ok-audit-clause-places c =
 pub returns-clause-unsettled : goal.returns-clause-unsettled
 returns-clause-unsettled c =
     let first = rw c.in-Ok.ensures.same at c.in-Err.ensures.first in
-    rw c.cause.ensures (unsettled_is c.args.book.now c.args.closed.now c.in-Err.fault c.in_default.ensures first)
+    rw c.cause.ensures
+    (unsettled_is c.args.book.now c.args.closed.now c.in-Err.fault c.in_default.ensures c.in-Ok.ensures.typed first)

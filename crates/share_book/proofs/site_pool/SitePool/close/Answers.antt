@@ -1,7 +1,8 @@
 -- What is left is the pool's snapshot, and acts reach the pool, so the law of closed pools is one
 -- of this.
-use Rattle.std.proofs.Common.{◌≡◌, refl, sym, ap, subst, ◌∙◌}
+use Rattle.std.proofs.Common.{◌≡◌, map, refl, sym, ap, subst, ◌∙◌}
 use Rattle.std.specs.List.{range_with_len}
+use Rattle.mbuf.specs.Members.{Member}
 use Rattle.pool_model.specs.Pool.{Pool}
 use Rattle.pool_model.specs.Statements.{statement_of}
 use Rattle.share_book.specs.inside.SitePool.{pool_of}
@@ -21,18 +22,32 @@ whole c = rw (c.limits-limits.ensures.limits, closed c, c.handed_in.ensures) ref
 pub returns-in-Ok-close-clause-closed : goal.returns-in-Ok-close-clause-closed
 returns-in-Ok-close-clause-closed c = closed c ∙ ap closed_pool c.self.view_is
 
--- workers are numbered from 1 in a pool that acts reach, and the shares are in their order
-pub returns-in-Ok-close-clause-numbers : goal.returns-in-Ok-close-clause-numbers
-returns-in-Ok-close-clause-numbers c =
-    let members = c.self.inside.members.items in
+-- workers are numbered from 1 in a pool that acts reach
+in_order : (c : goal.After-handed_in) → map (λ (m : Member). m.number) c.self.inside.members.items ≡ range_with_len 1 c.self.inside.site.limits.workers
+in_order c =
     let numbers = (reached_numbered (pool_of c.self.inside) c.self.invariant.reached).numbers in
-    rw (sym c.self.view_is, c.handed_in.ensures) (row_of_numbers 1 members numbers ∙ ap (range_with_len 1) c.self.invariant.workers)
+    row_of_numbers 1 c.self.inside.members.items numbers ∙ ap (range_with_len 1) c.self.invariant.workers
+
+-- and the shares are in their order
+pub returns-in-Ok-close-clause-numbers : goal.returns-in-Ok-close-clause-numbers
+returns-in-Ok-close-clause-numbers c = rw (sym c.self.view_is, c.handed_in.ensures) (in_order c)
 
 -- the snapshot of the parts is that of a pool that acts reach, and those are lawful
-pub returns-in-Ok-close-clause-lawful : goal.returns-in-Ok-close-clause-lawful
-returns-in-Ok-close-clause-lawful c =
+lawful : (c : goal.After-handed_in) → IsLawful (snapshot_of c.limits-limits.result c.in-Ok-close.closed c.handed_in.result.items)
+lawful c =
     let law = c.a_closed_pool_is_lawful.ensures.lawful in
     subst IsLawful (sym (whole c)) (of_reached (λ (p : Pool). IsLawful (snapshot_in p)) (pool_of c.self.inside) c.self.invariant.reached (law c.self.inside.site.limits))
+
+pub returns-in-Ok-close-clause-lawful : goal.returns-in-Ok-close-clause-lawful
+returns-in-Ok-close-clause-lawful c = lawful c
+
+-- so a whole pool at rest left them
+pub returns-in-Ok-close-clause-whole : goal.returns-in-Ok-close-clause-whole
+returns-in-Ok-close-clause-whole c = record {
+  range = rw c.limits-limits.ensures.limits c.self.invariant.table.pool;
+  numbers = rw (c.limits-limits.ensures.limits, c.handed_in.ensures) (in_order c);
+  lawful = λ typed. lawful c;
+}
 
 -- walk and shares show the common stack and the workers again, so the statement is the pool's
 pub returns-in-Ok-close-clause-statement : goal.returns-in-Ok-close-clause-statement
