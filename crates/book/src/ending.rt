@@ -7,7 +7,7 @@ ghost use Rattle.pool_model.specs.Sound.{ListsOnlyPackets};
 ghost use Rattle.pool_model.specs.Statements.{ListsEachOnce, PlacesEachOnce};
 ghost use Rattle.snapshot.specs.Closing.{snapshot_of};
 ghost use Rattle.snapshot.specs.Lost.{AreLost};
-ghost use Rattle.snapshot.specs.Snapshots.{statement_in};
+ghost use Rattle.snapshot.specs.Snapshots.{IsLawful, statement_in};
 ghost use Rattle.book.specs.Books.{IsFull};
 ghost use Rattle.book.specs.Left.{IsLawfulByTypes, IsLeftWhole};
 ghost use Rattle.book.specs.Lost.{AreOrdered, IsFullBut, unlisted_of};
@@ -37,6 +37,7 @@ pub fn settled_parts(
     shares: Vec<Share>,
 ) -> Result<Statement, Refusal>
     requires { IsLeftWhole limits.now closed shares.items }
+    ensures lawful { IfOk result (λ _. IsLawful (snapshot_of limits.now closed shares.items)) }
     ensures statement { IfOk result (λ s. s ≡ statement_in (snapshot_of limits.now closed shares.items)) }
     ensures once { IfOk result (λ s. ListsEachOnce s) }
     ensures places { IfOk result (λ s. PlacesEachOnce limits.now s) }
@@ -60,6 +61,7 @@ pub fn settled_parts(
 fn settled_book(alloc: Global, closed: Closed, book: Book) -> Result<Statement, Refusal>
     requires full { IsFull book }
     requires lawful { IsLawfulByTypes (snapshot_with book closed) }
+    ensures lawful { IfOk result (λ _. IsLawful (snapshot_with book closed)) }
     ensures statement { IfOk result (λ s. s ≡ statement_in (snapshot_with book closed)) }
     ensures once { IfOk result (λ s. ListsEachOnce s) }
     ensures places { IfOk result (λ s. PlacesEachOnce book.limits s) }
