@@ -5,29 +5,17 @@ use Rattle.std.proofs.lemmas.List.{append-nil, length-map, reverse-append}
 use Rattle.std.proofs.lemmas.List.Elements.{All-cons, All-nil, All-pop}
 use Rattle.std.proofs.lemmas.List.FromFn.{length-range_with_len}
 use Rattle.std.specs.Prelude.{Option, Some}
-use Rattle.commons.specs.declared.limits.Limits.{Limits}
 use Rattle.commons.specs.declared.packet.Seg.{Seg}
 use Rattle.ground.specs.declared.known.Known.{Known}
 use Rattle.ground.specs.Changing.{IsUnmoved}
 use Rattle.ground.specs.Parting.{both_with, both_views, IsBoth}
 use Rattle.ground.specs.Seats.{Grounded, Note, Seated, IsOf}
 use Rattle.mbuf.specs.Members.{Member}
-use Rattle.mbuf.specs.Own.{Own}
 use Rattle.step_core.specs.declared.view.View.{View}
-use Rattle.pool_model.specs.declared.statement.Statement.{Statement}
-use Rattle.word_book.specs.Leaving.{IsStatementOf}
-use Rattle.word_book.specs.Shares.{AreSharesOf, side_in}
-use Rattle.word_pool.specs.Workers.{Manned, AreWorkers, HasNotActed, IsIdle, IsSeatOf, IsStatementOfWorkers, IsWorker, members_of}
+use Rattle.word_pool.specs.Shares.{AreSharesOf}
+use Rattle.word_pool.specs.Workers.{Manned, AreWorkers, HasNotActed, IsIdle, IsSeatOf, IsWorker, members_of}
 use Rattle.word_pool.specs.inside.Joins.{AreJoined}
-
--- the two laws of shares
-abbrev OneShare : Type 0
-OneShare = (l : Limits) (v : View) (m : Member) → Own m (side_in l v) → AreSharesOf (m ∷ []) v
-
-abbrev BothShares : Type 0
-BothShares =
-    (v u : View) (first second : List Member) → AreSharesOf first v → AreSharesOf second u →
-    AreSharesOf (first ++ second) (both_views v u)
+use Rattle.word_pool.proofs.Joined.{both_shares, one_share}
 
 -- all workers are as many as the pool has
 pub count_of_workers : (g : Grounded) (ms : List Manned) → AreWorkers g ms → length ms ≡ g.limits.workers
@@ -37,10 +25,10 @@ count_of_workers g ms all =
     ∙ ap length all.numbers ∙ length-range_with_len 1 g.limits.workers
 
 -- the last worker's seat is the first of them
-pub last_joined : OneShare → (g : Grounded) (all left : List Manned) (m : Manned) (s : Seated) (p : Member) (handed : List Member) →
+pub last_joined : (g : Grounded) (all left : List Manned) (m : Manned) (s : Seated) (p : Member) (handed : List Member) →
     All (IsWorker g) all → all ≡ left ++ m ∷ [] → IsIdle m → s ≡ m.seat → p ≡ m.member → handed ≡ p ∷ [] →
     AreJoined g all left s handed
-last_joined one g all left m s p handed each e idle seat packets shares =
+last_joined g all left m s p handed each e idle seat packets shares =
     let split = All-pop (IsWorker g) all left (Some m) e each in
     let part : m.seat.known.view.part ≡ 1 = split.1.part in
     rw (seat, shares, packets) (record {
@@ -61,7 +49,7 @@ last_joined one g all left m s p handed each e idle seat packets shares =
         rest = idle.rest;
       };
       members = refl;
-      shares = one m.seat.known.limits m.seat.known.view m.member idle.own;
+      shares = one_share m.seat.known.limits m.seat.known.view m.member idle.own;
       unmoved = λ none. All-pop HasNotActed all left (Some m) e none;
     })
 
@@ -81,12 +69,12 @@ both_notes n o lying notes same =
     ∙ ap (λ (xs : List Note). (n.steps ++ n.joined) ++ xs) same
 
 -- and each seat that is joined to those behind it has what all of them have
-pub next_joined : OneShare → BothShares → (g : Grounded) (all before left : List Manned) (m : Manned)
+pub next_joined : (g : Grounded) (all before left : List Manned) (m : Manned)
     (s o t : Seated) (p : Member) (handed more : List Member) →
     AreJoined g all before s handed → before ≡ left ++ m ∷ [] → IsIdle m → o ≡ m.seat → p ≡ m.member →
     IsBoth o s.known t → more ≡ handed ++ p ∷ [] →
     AreJoined g all left t more
-next_joined one two g all before left m s o t p handed more joined e idle seat packets join shares =
+next_joined g all before left m s o t p handed more joined e idle seat packets join shares =
     let split = All-pop (IsWorker g) before left (Some m) e joined.each in
     let part : m.seat.known.view.part ≡ 1 = split.1.part in
     let total = joined.part in
@@ -120,8 +108,8 @@ next_joined one two g all before left m s o t p handed more joined e idle seat p
       members = turned ∙ ap (λ (xs : List Member). m.member ∷ xs) joined.members;
       shares =
           subst (λ (xs : List Member). AreSharesOf xs (both_views m.seat.known.view s.known.view)) (sym turned)
-          (two m.seat.known.view s.known.view (m.member ∷ []) (reverse handed)
-          (one m.seat.known.limits m.seat.known.view m.member idle.own) joined.shares);
+          (both_shares m.seat.known.view s.known.view (m.member ∷ []) (reverse handed)
+          (one_share m.seat.known.limits m.seat.known.view m.member idle.own) joined.shares);
       unmoved = λ none.
           let rest = joined.unmoved none in
           let mine = All-pop HasNotActed before left (Some m) e rest.0 in
@@ -135,20 +123,6 @@ pub all_done : (g : Grounded) (all left : List Manned) (s : Seated) (handed : Li
     (joined : AreJoined g all left s handed) → length left ≡ 0 → joined.done ≡ all
 all_done g all [] s handed joined none = sym joined.split
 all_done g all (m ∷ left) s handed joined none = absurd (omega arith)
-
--- the statement of what the one seat left is that of these workers
-pub statement_of_workers : (g : Grounded) (ms : List Manned) (n : Known) (handed : List Member) (s : Statement) →
-    IsSeatOf ms n → n.limits ≡ g.limits → n.view.part ≡ g.limits.workers → All IsIdle ms → handed ≡ members_of ms →
-    AreSharesOf handed n.view → IsStatementOf g.limits n handed s → IsStatementOfWorkers g ms s
-statement_of_workers g ms n handed s one limits whole idle same shares is = record {
-  known = n;
-  seat = one;
-  limits = limits;
-  whole = whole;
-  idle = idle;
-  shares = subst (λ (xs : List Member). AreSharesOf xs n.view) same shares;
-  statement = subst (λ (xs : List Member). IsStatementOf g.limits n xs s) same is;
-}
 
 -- the last of some workers is one of the ground
 pub last_is_of : (g : Grounded) (before left : List Manned) (m : Manned) (s : Seated) → All (IsWorker g) before →

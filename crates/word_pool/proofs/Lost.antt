@@ -21,10 +21,12 @@ use Rattle.snapshot.specs.Lost.{AreLost}
 use Rattle.step_core.specs.declared.view.View.{View}
 use Rattle.step_core.specs.World.{all_zeros, empty_view}
 use Rattle.step_core.proofs.Bags.{times-nil}
-use Rattle.word_book.specs.Lost.{AreLeftOut, AreLostBy, IsLeftWithout, others}
-use Rattle.word_book.specs.Shares.{AreSharesOf}
+use Rattle.word_pool.specs.LostViews.{IsLeftWithout, others}
+use Rattle.word_pool.specs.Shares.{AreSharesOf}
 use Rattle.word_pool.specs.Lost.{AreLostOf, views_listed}
 use Rattle.word_pool.specs.Workers.{Manned, IsIdle, IsSeatOf, members_of}
+use Rattle.word_pool.specs.inside.Closing.{IsClosedBy}
+use Rattle.word_pool.proofs.LostViews.{lost_by}
 
 -- what the views of listed workers have, their caches and packets have
 listed_part : (listed : List ℕ) (of_view : View → ℕ) (of_member : Member → ℕ) →
@@ -114,25 +116,25 @@ module _ (g : Grounded) (listed : List ℕ) (ms : List Manned) (v : View) (c : C
         omega (arith, with_others f (times-nil i), shares.packets i);
   }
 
--- what the one seat left of the ground, with the laws of what is lost, is what these workers left
-pub lost_of_workers : (g : Grounded) (listed : List ℕ) (ms : List Manned) (n : Known) (handed : List Member) (elems : List ℕ) →
-    IsSeatOf ms n → All IsIdle ms → handed ≡ members_of ms → AreSharesOf handed n.view →
-    ((l : Limits) (lost : List View) (members : List Member) (c : Closed) (elems : List ℕ) →
-    IsLeftWithout l lost members c → AreLost (snapshot_of l c members) elems → AreLostBy l lost members c elems) →
-    AreLeftOut g.limits n.view (unlisted_of listed handed) elems → AreLostOf g listed ms elems
-lost_of_workers g listed ms n handed elems one idle same shares law out =
+-- what is lost beside the one seat that closed the ground is what these workers leave lost
+pub lost_of_workers : (g : Grounded) (listed : List ℕ) (ms : List Manned) (n : Known) (handed : List Member) (elems : List ℕ)
+    (l : Limits) (c : Closed) → IsSeatOf ms n → All IsIdle ms → handed ≡ members_of ms → AreSharesOf handed n.view →
+    IsClosedBy g n l c → AreLost (snapshot_of l c (unlisted_of listed handed)) elems → AreLostOf g listed ms elems
+lost_of_workers g listed ms n handed elems l c one idle same shares closed out =
     let own = subst (λ (xs : List Member). AreSharesOf xs n.view) same shares in
-    let nowhere : AreLost (snapshot_of g.limits out.closed (unlisted_of listed (members_of ms))) elems =
-    subst (λ (xs : List Member). AreLost (snapshot_of g.limits out.closed (unlisted_of listed xs)) elems) same out.lost in
+    let there : AreLost (snapshot_of l c (unlisted_of listed (members_of ms))) elems =
+    subst (λ (xs : List Member). AreLost (snapshot_of l c (unlisted_of listed xs)) elems) same out in
+    let nowhere : AreLost (snapshot_of g.limits c (unlisted_of listed (members_of ms))) elems =
+    subst (λ (k : Limits). AreLost (snapshot_of k c (unlisted_of listed (members_of ms))) elems) closed.limits there in
     record {
       known = n;
       seat = one;
       shares = own;
-      closed = out.closed;
-      left = out.left;
+      closed = c;
+      left = closed.left;
       settled = nowhere;
       lost =
-          law g.limits (others out.left.world.views out.left.id ++ views_listed listed ms)
-          (unlisted_of listed (members_of ms)) out.closed elems
-          (left_without g listed ms n.view out.closed out.left one.rest idle own) nowhere;
+          lost_by g.limits (others closed.left.world.views closed.left.id ++ views_listed listed ms)
+          (unlisted_of listed (members_of ms)) c (left_without g listed ms n.view c closed.left one.rest idle own) elems
+          nowhere;
     }

@@ -5,25 +5,13 @@ use Rattle.std.specs.Prelude.{All, Some}
 use Rattle.std.proofs.lemmas.List.{length-map, reverse-append}
 use Rattle.std.proofs.lemmas.List.Elements.{All-cons, All-nil, All-pop}
 use Rattle.std.proofs.lemmas.List.FromFn.{length-range_with_len}
-use Rattle.commons.specs.declared.limits.Limits.{Limits}
 use Rattle.ground.specs.Parting.{both_with, both_views, IsBoth}
 use Rattle.ground.specs.Seats.{Grounded, Seated, IsOf}
 use Rattle.mbuf.specs.Members.{Member}
-use Rattle.mbuf.specs.Twins.{OwnTwin, TwinMember}
-use Rattle.step_core.specs.declared.view.View.{View}
-use Rattle.word_book.specs.Shares.{side_in}
-use Rattle.word_book.specs.TwinShares.{AreTwinShares}
+use Rattle.mbuf.specs.Twins.{TwinMember}
 use Rattle.word_pool.specs.TwinWorkers.{TwinManned, AreTwinWorkers, IsTwinIdle, IsTwinWorker, firsts_of, twins_of}
 use Rattle.word_pool.specs.inside.TwinCrews.{AreTwinsJoined, IsWhole}
-
--- the two laws of shares
-abbrev OneShare : Type 0
-OneShare = (l k : Limits) (v u : View) (t : TwinMember) → OwnTwin t (side_in l v) (side_in k u) → AreTwinShares (t ∷ []) v u
-
-abbrev BothShares : Type 0
-BothShares =
-    (v w u x : View) (first second : List TwinMember) → AreTwinShares first v u → AreTwinShares second w x →
-    AreTwinShares (first ++ second) (both_views v w) (both_views u x)
+use Rattle.word_pool.proofs.TwinJoined.{both_twin_shares, one_twin_share}
 
 -- all workers are as many as the pools have
 pub count_of_twins : (g h : Grounded) (ms : List TwinManned) → AreTwinWorkers g h ms → length ms ≡ g.limits.workers
@@ -34,10 +22,10 @@ count_of_twins g h ms all =
     ∙ ap length all.first_numbers ∙ length-range_with_len 1 g.limits.workers
 
 -- the last worker's seats are the first of them
-pub last_twin_joined : OneShare → (g h : Grounded) (all left : List TwinManned) (m : TwinManned) (s u : Seated)
+pub last_twin_joined : (g h : Grounded) (all left : List TwinManned) (m : TwinManned) (s u : Seated)
     (t : TwinMember) (handed : List TwinMember) → All (IsTwinWorker g h) all → all ≡ left ++ m ∷ [] → IsTwinIdle m →
     s ≡ m.first → u ≡ m.second → t ≡ m.member → handed ≡ t ∷ [] → AreTwinsJoined g h all left s u handed
-last_twin_joined one g h all left m s u t handed each e idle first second twin shares =
+last_twin_joined g h all left m s u t handed each e idle first second twin shares =
     let split = All-pop (IsTwinWorker g h) all left (Some m) e each in
     rw (first, second, shares, twin) (record {
       each = split.0;
@@ -47,7 +35,7 @@ last_twin_joined one g h all left m s u t handed each e idle first second twin s
       first = record { of = split.1.first; rest = idle.first_rest; slots = idle.first_slots; part = split.1.first_part };
       second = record { of = split.1.second; rest = idle.second_rest; slots = idle.second_slots; part = split.1.second_part };
       members = refl;
-      shares = one m.first.known.limits m.second.known.limits m.first.known.view m.second.known.view m.member idle.own;
+      shares = one_twin_share m.first.known.limits m.second.known.limits m.first.known.view m.second.known.view m.member idle.own;
     })
 
 -- a seat that another was joined to has the parts of both
@@ -69,11 +57,11 @@ joined_view : (mine s : Seated) (other : Seated) → IsBoth mine other.known s �
 joined_view mine s other both = ap (λ (x : Seated). x.known.view) both.1
 
 -- and each pair of seats that is joined to those behind it has what all of them have
-pub next_twin_joined : OneShare → BothShares → (g h : Grounded) (all before left : List TwinManned) (m : TwinManned)
+pub next_twin_joined : (g h : Grounded) (all before left : List TwinManned) (m : TwinManned)
     (s u o p s' u' : Seated) (t : TwinMember) (handed more : List TwinMember) → AreTwinsJoined g h all before s u handed →
     before ≡ left ++ m ∷ [] → IsTwinIdle m → o ≡ m.first → p ≡ m.second → t ≡ m.member →
     IsBoth o s.known s' → IsBoth p u.known u' → more ≡ handed ++ t ∷ [] → AreTwinsJoined g h all left s' u' more
-next_twin_joined one two g h all before left m s u o p s' u' t handed more joined e idle first second twin join over shares =
+next_twin_joined g h all before left m s u o p s' u' t handed more joined e idle first second twin join over shares =
     let split = All-pop (IsTwinWorker g h) before left (Some m) e joined.each in
     let turned : reverse (handed ++ m.member ∷ []) ≡ m.member ∷ reverse handed = reverse-append handed (m.member ∷ []) in
     let more_is : more ≡ handed ++ m.member ∷ [] = shares ∙ ap (λ (x : TwinMember). handed ++ x ∷ []) twin in
@@ -96,8 +84,8 @@ next_twin_joined one two g h all before left m s u o p s' u' t handed more joine
       members = turned ∙ ap (λ (xs : List TwinMember). m.member ∷ xs) joined.members;
       shares =
           rw (turned, joined_view m.first s' s both, joined_view m.second u' u others)
-          (two m.first.known.view s.known.view m.second.known.view u.known.view (m.member ∷ []) (reverse handed)
-          (one m.first.known.limits m.second.known.limits m.first.known.view m.second.known.view m.member idle.own)
+          (both_twin_shares m.first.known.view s.known.view m.second.known.view u.known.view (m.member ∷ []) (reverse handed)
+          (one_twin_share m.first.known.limits m.second.known.limits m.first.known.view m.second.known.view m.member idle.own)
           joined.shares);
     })
 

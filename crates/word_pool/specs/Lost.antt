@@ -9,8 +9,8 @@ use Rattle.ground.specs.declared.known.Known.{Known}
 use Rattle.snapshot.specs.Closing.{snapshot_of}
 use Rattle.snapshot.specs.Lost.{AreLost}
 use Rattle.step_core.specs.declared.view.View.{View}
-use Rattle.word_book.specs.Lost.{AreLostBy, others}
-use Rattle.word_book.specs.Shares.{AreSharesOf}
+use Rattle.word_pool.specs.LostViews.{AreLostBy, others}
+use Rattle.word_pool.specs.Shares.{AreSharesOf}
 use Rattle.word_pool.specs.Workers.{Manned, IsSeatOf, IsWorker, members_of}
 
 -- Workers of this ground, one at least, in the order of their numbers; each other worker of the

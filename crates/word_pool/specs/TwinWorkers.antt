@@ -17,7 +17,7 @@ use Rattle.stack_lf.specs.Sides.{side_of}
 use Rattle.stack_lf.specs.Tries.{DidOnWords}
 use Rattle.twin_acts.specs.TwinActs.{AreFreshByAct, KeepsTwin, PerformsTwin, TwinAsBefore}
 use Rattle.twin_acts.specs.declared.acts.TwinAct.{TwinAct}
-use Rattle.word_book.specs.TwinShares.{AreStatementsOf, AreTwinShares}
+use Rattle.word_pool.specs.TwinShares.{AreStatementsOf, AreTwinShares}
 use Rattle.step_core.specs.declared.view.View.{View}
 
 -- a worker: its seat at the ground of either pool, and what it has of both

@@ -19,8 +19,8 @@ use Rattle.pool_model.specs.Pool.{new_members}
 use Rattle.stack_lf.specs.Sides.{side_of}
 use Rattle.stack_lf.specs.Tries.{DidOnWords}
 use Rattle.step_core.specs.World.{empty_view}
-use Rattle.word_book.specs.Leaving.{IsStatementOf}
-use Rattle.word_book.specs.Shares.{AreSharesOf}
+use Rattle.word_pool.specs.Leaving.{IsStatementOf}
+use Rattle.word_pool.specs.Shares.{AreSharesOf}
 
 -- a worker: its seat, and its cache and packets
 pub record Manned : Type 0 where

@@ -1,4 +1,5 @@
 -- For proofs and the inside of types only. No public clause cites these modules.
+pub mod Closing
 pub mod Crews
 pub mod Joins
 pub mod Kept

@@ -1,8 +1,21 @@
-//! Laws of the workers of a pool. Each is a function that does nothing, and its contract is the
-//! law.
+//! Laws of the workers of a pool, and of their shares and seats. Each is a function that does
+//! nothing, and its contract is the law.
 
-ghost use Rattle.std.specs.Prelude.{List};
+ghost use Rattle.std.specs.Prelude.{List, [], ◌∷◌, ◌++◌, ℕ};
+ghost use Rattle.commons.specs.declared.closed.Closed.{Closed};
+ghost use Rattle.commons.specs.declared.limits.Limits.{Limits};
+ghost use Rattle.ground.specs.Parting.{both_views};
 ghost use Rattle.ground.specs.Seats.{Grounded};
+ghost use Rattle.mbuf.specs.Members.{Member};
+ghost use Rattle.mbuf.specs.Own.{Own};
+ghost use Rattle.mbuf.specs.Twins.{OwnTwin, TwinMember};
+ghost use Rattle.snapshot.specs.Closing.{snapshot_of};
+ghost use Rattle.snapshot.specs.Lost.{AreLost};
+ghost use Rattle.step_core.specs.World.{empty_view};
+ghost use Rattle.step_core.specs.declared.view.View.{View};
+ghost use Rattle.word_pool.specs.LostViews.{AreLostBy, IsLeftWithout};
+ghost use Rattle.word_pool.specs.Shares.{AreSharesOf, side_in};
+ghost use Rattle.word_pool.specs.TwinShares.{AreTwinShares};
 ghost use Rattle.word_pool.specs.TwinWorkers.{AllTwinsStay, AreTwinWorkers, TwinManned};
 ghost use Rattle.word_pool.specs.Workers.{AllStay, AreWorkers, Manned};
 
@@ -15,4 +28,38 @@ pub fn workers_who_stay_are_all()
 /// before.
 pub fn twins_who_stay_are_all()
     ensures { (g h : Grounded) (old new : List TwinManned) → AreTwinWorkers g h old → AllTwinsStay old new → AreTwinWorkers g h new }
+{}
+
+/// A worker whose packets are its own, over the view of its seat, has a share of what that view
+/// has: all of it. A view that has nothing is no worker's share.
+pub fn own_packets_are_a_share()
+    ensures one { (l : Limits) (v : View) (m : Member) → Own m (side_in l v) → AreSharesOf (m ∷ []) v }
+    ensures none { (part : ℕ) → AreSharesOf [] (empty_view part) }
+{}
+
+/// Where two seats are joined, the shares of both together are those of the one seat.
+pub fn joined_seats_have_the_shares_of_both()
+    ensures { (v u : View) (first second : List Member) → AreSharesOf first v → AreSharesOf second u →
+        AreSharesOf (first ++ second) (both_views v u) }
+{}
+
+/// Of what a lawful world left, where some views are lost and the shares are all the others', what
+/// stands nowhere is exactly what is in a lost view's hand or held by lost views alone, wherever
+/// their workers stopped.
+pub fn what_stands_nowhere_is_lost()
+    ensures { (l : Limits) (lost : List View) (members : List Member) (c : Closed) (elems : List ℕ) →
+        IsLeftWithout l lost members c → AreLost (snapshot_of l c members) elems → AreLostBy l lost members c elems }
+{}
+
+/// A worker of two pools, whose packets and clones are its own over the views of its seats, has a
+/// share of what those views have: all of it.
+pub fn an_own_twin_is_a_share()
+    ensures { (l k : Limits) (v u : View) (t : TwinMember) → OwnTwin t (side_in l v) (side_in k u) → AreTwinShares (t ∷ []) v u }
+{}
+
+/// Where two seats are joined at the ground of either pool, the shares of both together are those of
+/// the one seat there.
+pub fn joined_seats_have_the_twin_shares_of_both()
+    ensures { (v w u x : View) (first second : List TwinMember) → AreTwinShares first v u → AreTwinShares second w x →
+        AreTwinShares (first ++ second) (both_views v w) (both_views u x) }
 {}

@@ -2,6 +2,7 @@
 //! and two pools that foreign clones join.
 #![tactic(auto)]
 
+mod closing;
 pub mod laws;
 pub mod pool;
 pub mod twin_pool;

@@ -1,6 +1,8 @@
 //! The pool of all workers on words.
 
 ghost use Rattle.std.specs.Prelude.{◌≡◌, ◌+◌, ◌<◌, ◌≤◌, ◌++◌, ◌∷◌, [], All, List, IfOk, IfErr, length, vec_len, vec_capacity};
+ghost use Rattle.book.specs.Left.{IsLeftWhole};
+ghost use Rattle.book.specs.Listing.{ListsPackets};
 ghost use Rattle.book.specs.Lost.{IsOf as IsWorkerOf};
 ghost use Rattle.commons.specs.Bounds.{IsPool};
 ghost use Rattle.ground.specs.Changing.{IsUnmoved};
@@ -9,15 +11,19 @@ ghost use Rattle.ground.specs.Own.{AtRest};
 ghost use Rattle.ground.specs.Rule.{first_known};
 ghost use Rattle.ground.specs.Seats.{IsOf};
 ghost use Rattle.pool_model.specs.Statements.{ListsEachOnce, PlacesEachOnce};
-ghost use Rattle.word_book.specs.Leaving.{statement_at_start};
-ghost use Rattle.word_book.specs.Listing.{ListsPackets};
-ghost use Rattle.word_book.specs.Shares.{AreSharesOf};
+ghost use Rattle.snapshot.specs.Closing.{snapshot_of};
+ghost use Rattle.snapshot.specs.Snapshots.{statement_in};
+ghost use Rattle.word_pool.specs.Leaving.{statement_at_start};
+ghost use Rattle.word_pool.specs.Shares.{AreSharesOf};
 ghost use Rattle.word_pool.specs.inside.Crews.{IsUnused, new_member};
 ghost use Rattle.word_pool.specs.Lost.{AreLeft, AreLostOf, left_of};
 ghost use Rattle.word_pool.specs.Workers.{AreNew, AreWorkers, HasNotActed, IsIdle, IsSeatOf, IsStatementOfWorkers, IsWorker, members_of};
 
+use crate::closing::closed_by;
 use crate::worker::WordWorker;
-use book::share::{Share, hand_in};
+use book::ending::{elements_lost, settled_parts};
+use book::share::{Share, hand_in, lose_all};
+use commons::closed::Closed;
 use commons::limits::Limits;
 use commons::refusal::Refusal;
 use ground::pool::Ground;
@@ -25,7 +31,6 @@ use ground::seat::GroundSeat;
 use mbuf::packets::Packets;
 use pool_model::statement::Statement;
 use std::alloc::Global;
-use word_book::{ending, laws};
 
 /// Makes a pool on words, and its workers, numbered from 1, each with one part of it, and none of
 /// whom has anything yet, nor has acted. The words are those of a new ground (`Ground::make`): all
@@ -131,12 +136,50 @@ impl FreeSeat {
     }
 }
 
-/// Ends a pool whose workers no longer act, and settles it: their seats become one, their packets
-/// are handed in, in the order of the workers' numbers, and the ground is closed. The statement
-/// lists each element exactly once, and each packet has a place of its own; it is that of what the
-/// ground left and of these workers' caches and packets. Each packet has 1 to 32 segments, each
-/// with its data within its buffer, and no count is above the reference limit. Where no worker has
-/// acted, all elements are in the common list, element 0 on top, and no packet is on a desk.
+/// Ends a pool whose workers no longer act: their seats become one, their packets are handed in, in
+/// the order of the workers' numbers, and the ground is closed. It gives the pool's limits, what the
+/// ground left, and the share of each worker, from the first to the last: a whole pool at rest. Its
+/// statement is that of what the ground left and of these workers' caches and packets, and no count
+/// in it is above the reference limit. Where no worker has acted, all elements are in the common
+/// list, element 0 on top, and no packet is on a desk.
+///
+/// Refused `OutOfMemory` where memory was refused. The pool is ended then too, and nothing is left
+/// of it.
+pub fn close(
+    alloc: Global,
+    ground: Ground,
+    workers: Vec<WordWorker>,
+) -> Result<(Limits, Closed, Vec<Share>), Refusal>
+    requires { AreWorkers ground workers.items }
+    ensures limits { IfOk result (λ left. left.0 ≡ ground.limits) }
+    ensures whole { IfOk result (λ left. IsLeftWhole left.0 left.1 left.2.items) }
+    ensures statement { IfOk result (λ left.
+        IsStatementOfWorkers ground workers.items (statement_in (snapshot_of left.0 left.1 left.2.items))) }
+    ensures fresh { All HasNotActed workers.items → IfOk result (λ left.
+        statement_in (snapshot_of left.0 left.1 left.2.items) ≡ statement_at_start ground.limits (members_of workers.items)) }
+    ensures counts { IfOk result (λ left.
+        All (λ held. held.count ≤ left.0.ref_limit) (statement_in (snapshot_of left.0 left.1 left.2.items)).held) }
+    ensures memory { IfErr result (λ e. e ≡ Refusal.OutOfMemory) }
+{
+    let _ = ground.limits();
+    let Ok(shares) = Vec::with_capacity(alloc, workers.len()) else {
+        return Err(Refusal::OutOfMemory);
+    };
+    let (seat, shares) = joined(&ground, workers, shares);
+    match closed_by(ground, seat) {
+        Ok((limits, closed)) => Ok((limits, closed, shares)),
+        Err(cause) => {
+            lose_all(shares);
+            Err(cause)
+        }
+    }
+}
+
+/// Ends a pool whose workers no longer act, as `close` does, and settles it. The statement lists
+/// each element exactly once, and each packet has a place of its own; it is that of what the ground
+/// left and of these workers' caches and packets. Each packet has 1 to 32 segments, each with its
+/// data within its buffer, and no count is above the reference limit. Where no worker has acted, all
+/// elements are in the common list, element 0 on top, and no packet is on a desk.
 ///
 /// Refused `OutOfMemory` where memory was refused. The pool is ended then too, and nothing is left
 /// of it.
@@ -153,12 +196,8 @@ pub fn settled(
     ensures sound { IfOk result (λ s. ListsPackets ground.limits s) }
     ensures memory { IfErr result (λ e. e ≡ Refusal.OutOfMemory) }
 {
-    let _ = ground.limits();
-    let Ok(shares) = Vec::with_capacity(alloc, workers.len()) else {
-        return Err(Refusal::OutOfMemory);
-    };
-    let (seat, shares) = joined(&ground, workers, shares);
-    ending::settled(alloc, ground, seat, shares)
+    let (limits, closed, shares) = close(alloc, ground, workers)?;
+    settled_parts(alloc, &limits, closed, shares)
 }
 
 /// Ends the worker of this number, as one who died: its seat, its cache and its packets are lost.
@@ -193,12 +232,17 @@ pub fn settled_without(
     ensures lost { IfOk result (λ elems. AreLostOf ground missing.now workers.items elems.items) }
     ensures memory { IfErr result (λ e. e ≡ Refusal.OutOfMemory) }
 {
-    laws::what_stands_nowhere_is_lost();
     let Ok(shares) = Vec::with_capacity(alloc, workers.len()) else {
         return Err(Refusal::OutOfMemory);
     };
     let (seat, shares) = joined(&ground, workers, shares);
-    ending::settled_without(alloc, ground, seat, shares, missing)
+    match closed_by(ground, seat) {
+        Ok((limits, closed)) => elements_lost(alloc, &limits, closed, shares, missing),
+        Err(cause) => {
+            lose_all(shares);
+            Err(cause)
+        }
+    }
 }
 
 /// Makes one seat of the seats of these workers, from the last to the first, and hands in their
@@ -221,8 +265,6 @@ fn joined(
     ensures shares { AreSharesOf result.1.items result.0.known.view }
     ensures unmoved { All HasNotActed workers.items → IsUnmoved result.0.known }
 {
-    laws::own_packets_are_a_share();
-    laws::joined_seats_have_the_shares_of_both();
     let Some(last) = workers.pop() else {
         unreachable!()
     };

@@ -2,6 +2,7 @@
 //! and foreign clones, whose bases are elements of it, of the second.
 
 ghost use Rattle.std.specs.Prelude.{◌≡◌, ◌+◌, ◌<◌, ◌≤◌, ◌++◌, ◌∷◌, [], All, IfOk, IfErr, length, true, vec_len, vec_capacity};
+ghost use Rattle.book.specs.Left.{AreLeftWhole, first_of, second_of};
 ghost use Rattle.ground.specs.Own.{AtRest};
 ghost use Rattle.ground.specs.Parting.{IsBoth};
 ghost use Rattle.ground.specs.Rule.{first_known};
@@ -10,20 +11,23 @@ ghost use Rattle.mbuf.specs.Twins.{TwinMember};
 ghost use Rattle.pool_model.specs.Guests.{ListsEachOnceWith, guests_listed, local_statement};
 ghost use Rattle.pool_model.specs.Sound.{ListsOnlyPackets};
 ghost use Rattle.pool_model.specs.Statements.{ListsEachOnce, PlacesEachOnce};
-ghost use Rattle.word_book.specs.TwinShares.{AreTwinShares};
+ghost use Rattle.snapshot.specs.Snapshots.{ListsItsElements, statement_in};
+ghost use Rattle.word_pool.specs.TwinShares.{AreTwinShares};
 ghost use Rattle.word_pool.specs.inside.Crews.{IsUnused, new_member};
 ghost use Rattle.word_pool.specs.inside.TwinCrews.{IsWhole};
 ghost use Rattle.word_pool.specs.TwinWorkers.{AreNewTwins, AreStatementsOfTwins, AreTwinPools, AreTwinWorkers, IsTwinIdle, IsTwinMakeCause, IsTwinWorker, twins_of};
 
+use crate::closing::closed_by;
 use crate::twin_worker::{Seats, WordTwin, lose};
-use book::twin_share::{TwinShare, hand_in_twin};
+use book::closed_twin::ClosedTwin;
+use book::twin_ending::settled_twins;
+use book::twin_share::{TwinShare, hand_in_twin, lose_all_twins};
 use commons::limits::Limits;
 use commons::refusal::Refusal;
 use ground::pool::Ground;
 use mbuf::twin::Twin;
 use pool_model::statement::Statement;
 use std::alloc::Global;
-use word_book::{laws, twin_ending};
 
 /// Makes two pools on words, and their workers, numbered from 1, each with one part of either, and
 /// none of whom has anything yet. The words are those of new grounds (`Ground::make`).
@@ -196,12 +200,69 @@ impl FreeSeats {
     }
 }
 
-/// Ends two pools whose workers no longer act, and settles them: their seats become one at either
-/// ground, what they have is handed in, in the order of their numbers, and both grounds are closed.
-/// Neither has a fault. Each statement lists each element of its pool exactly once, and is that of
-/// what the ground left and of what these workers have: the bases of foreign clones are elements of
-/// the first pool, which their workers hold, and their own elements are of the second. What is
-/// available and what is in use are the population of each.
+/// Ends two pools whose workers no longer act: their seats become one at either ground, what they
+/// have is handed in, in the order of their numbers, and both grounds are closed. It gives of each
+/// pool its limits and what its ground left, and the share of each worker, from the first to the
+/// last: two whole pools at rest. Their statements, where they list each element of their pool once,
+/// are those of what the grounds left and of what these workers have.
+///
+/// Refused `OutOfMemory` where memory was refused. The pools are ended then too, and nothing is left
+/// of them.
+pub fn close(
+    alloc: Global,
+    first: Ground,
+    second: Ground,
+    workers: Vec<WordTwin>,
+) -> Result<ClosedTwin, Refusal>
+    requires { AreTwinWorkers first second workers.items }
+    ensures first_limits { IfOk result (λ c. c.first_limits ≡ first.limits) }
+    ensures second_limits { IfOk result (λ c. c.second_limits ≡ second.limits) }
+    ensures whole { IfOk result (λ c. AreLeftWhole c) }
+    // The statement of a lawful snapshot lists each element of its pool once.
+    ensures statements { IfOk result (λ c.
+        ListsItsElements (first_of c.first_limits c.first c.shares.items) (statement_in (first_of c.first_limits c.first c.shares.items)) →
+        ListsItsElements (second_of c.second_limits c.second c.shares.items) (statement_in (second_of c.second_limits c.second c.shares.items)) →
+        AreStatementsOfTwins first second workers.items
+        (statement_in (first_of c.first_limits c.first c.shares.items), statement_in (second_of c.second_limits c.second c.shares.items))) }
+    ensures memory { IfErr result (λ e. e ≡ Refusal.OutOfMemory) }
+{
+    let _ = first.limits();
+    let Ok(shares) = Vec::with_capacity(alloc, workers.len()) else {
+        return Err(Refusal::OutOfMemory);
+    };
+    let (seats, shares) = joined(&first, &second, workers, shares);
+    let Seats {
+        first: first_seat,
+        second: second_seat,
+    } = seats;
+    let (first_limits, first) = match closed_by(first, first_seat) {
+        Ok(left) => left,
+        Err(cause) => {
+            second_seat.lose();
+            lose_all_twins(shares);
+            return Err(cause);
+        }
+    };
+    match closed_by(second, second_seat) {
+        Ok((second_limits, second)) => Ok(ClosedTwin {
+            first_limits,
+            first,
+            second_limits,
+            second,
+            shares,
+        }),
+        Err(cause) => {
+            lose_all_twins(shares);
+            Err(cause)
+        }
+    }
+}
+
+/// Ends two pools whose workers no longer act, as `close` does, and settles them. Neither has a
+/// fault. Each statement lists each element of its pool exactly once, and is that of what the ground
+/// left and of what these workers have: the bases of foreign clones are elements of the first pool,
+/// which their workers hold, and their own elements are of the second. What is available and what is
+/// in use are the population of each.
 ///
 /// Refused `OutOfMemory` where memory was refused. The pools are ended then too, and nothing is left
 /// of them.
@@ -221,16 +282,8 @@ pub fn settled(
         × (s.1.available + s.1.in_use ≡ second.limits.population)) }
     ensures memory { IfErr result (λ e. e ≡ Refusal.OutOfMemory) }
 {
-    let _ = first.limits();
-    let Ok(shares) = Vec::with_capacity(alloc, workers.len()) else {
-        return Err(Refusal::OutOfMemory);
-    };
-    let (seats, shares) = joined(&first, &second, workers, shares);
-    let Seats {
-        first: first_seat,
-        second: second_seat,
-    } = seats;
-    twin_ending::settled(alloc, (first, second), (first_seat, second_seat), shares)
+    let closed = close(alloc, first, second, workers)?;
+    settled_twins(alloc, closed)
 }
 
 /// Makes one seat at either ground of the seats of these workers, from the last to the first, and
@@ -251,8 +304,6 @@ fn joined(
     ensures members { result.1.items ≡ twins_of workers.items }
     ensures shares { AreTwinShares result.1.items result.0.first.known.view result.0.second.known.view }
 {
-    laws::an_own_twin_is_a_share();
-    laws::joined_seats_have_the_twin_shares_of_both();
     let Some(last) = workers.pop() else {
         unreachable!()
     };

@@ -4,7 +4,7 @@ use Rattle.ground.specs.Changing.{IsUnmoved}
 use Rattle.ground.specs.Own.{AtRest}
 use Rattle.ground.specs.Seats.{Grounded, Seated, IsOf}
 use Rattle.mbuf.specs.Members.{Member}
-use Rattle.word_book.specs.Shares.{AreSharesOf}
+use Rattle.word_pool.specs.Shares.{AreSharesOf}
 use Rattle.word_pool.specs.Workers.{Manned, HasNotActed, IsIdle, IsSeatOf, IsWorker, members_of}
 
 -- The seats of the last workers are one seat, which is at rest and has their parts, and their

@@ -11,7 +11,7 @@ loop-worker-init c =
     let none = ap (λ (ms : List Member). length ms) c.requires.empty in
     record {
       joined =
-          last_joined c.own_packets_are_a_share.ensures.one c.args.ground.now c.args.workers.items
+          last_joined c.args.ground.now c.args.workers.items
           c.pop.new.self.items c.in-Some.last c.into_parts-seat.result.0 c.into_parts-seat.result.1
           c.add_share.new.shares.items c.requires.each c.in-Some.ensures.items c.into_parts-seat.ensures.idle
           c.into_parts-seat.ensures.parts.0 c.into_parts-seat.ensures.parts.1
@@ -40,8 +40,7 @@ join-requires-clause-of c =
 pub loop-worker-preserved : goal.loop-worker-preserved
 loop-worker-preserved c = record {
   joined =
-      next_joined c.own_packets_are_a_share.ensures.one c.joined_seats_have_the_shares_of_both.ensures
-      c.args.ground.now c.args.workers.items c.loop-worker.workers.items
+      next_joined c.args.ground.now c.args.workers.items c.loop-worker.workers.items
       c.pop-in-loop-worker.new.self.items c.in-Some-pop.worker c.loop-worker.seat c.into_parts-first.result.0
       c.join.new.seat c.into_parts-first.result.1 c.loop-worker.shares.items
       c.add_share-in-Some-pop.new.shares.items c.loop-worker.invariant.joined c.in-Some-pop.ensures.items

@@ -1,43 +1,52 @@
--- All workers have all parts, and their shares are what the one seat has.
-use Rattle.std.proofs.Common.{◌≡◌, ◌∙◌, List, ap, sym, subst}
+-- The statement is that of what was left.
+use Rattle.std.proofs.Common.{◌≡◌, ◌≤◌, Result, Ok, Err, ◌∙◌, sym, subst}
+use Rattle.std.specs.Prelude.{All, IfOk}
 use Rattle.std.proofs.lemmas.Result.{IfOk-weaker}
-use Rattle.ground.specs.Changing.{IsFresh}
-use Rattle.mbuf.specs.Members.{Member}
-use Rattle.pool_model.specs.declared.statement.Statement.{Statement}
-use Rattle.word_book.specs.Leaving.{IsStatementOf, statement_at_start}
 use Rattle.commons.specs.declared.limits.Limits.{Limits}
+use Rattle.commons.specs.declared.refusal.Refusal.{Refusal}
+use Rattle.pool_model.specs.Sound.{ListsOnlyPackets}
+use Rattle.pool_model.specs.declared.statement.Statement.{Statement}
+use Rattle.book.specs.Listing.{ListsPackets}
+use Rattle.snapshot.specs.Closing.{snapshot_of}
+use Rattle.snapshot.specs.declared.snapshot.Snapshot.{Snapshot}
+use Rattle.snapshot.specs.Snapshots.{statement_in}
+use Rattle.word_pool.specs.Leaving.{statement_at_start}
 use Rattle.word_pool.specs.Workers.{IsStatementOfWorkers, members_of}
-use Rattle.word_pool.proofs.Joins.{count_of_workers, statement_of_workers}
 use Rattle.word_pool.proofs.pool.settled.Goals as goal
+use Rattle.word_pool.proofs.pool.settled.Goals.{After-settled_parts}
 
-pub settled-requires-clause-whole : goal.settled-requires-clause-whole
-settled-requires-clause-whole c =
-    c.joined-seat.ensures.part ∙ count_of_workers c.args.ground c.args.workers.items c.requires
+-- what was left
+abbrev left_snapshot : After-settled_parts → Snapshot
+left_snapshot c = snapshot_of c.in_ok-limits.limits c.in_ok-limits.closed c.in_ok-limits.shares.items
 
+-- its statement is that of these workers
 pub returns-clause-statement : goal.returns-clause-statement
 returns-clause-statement c =
-    let g = c.args.ground in
-    let ms = c.args.workers.items in
-    let e = c.joined-seat.ensures in
-    let n = c.joined-seat.result.0.known in
-    let handed = c.joined-seat.result.1.items in
-    IfOk-weaker c.settled.result (IsStatementOf g.limits n handed) (IsStatementOfWorkers g ms)
-    (λ s is. statement_of_workers g ms n handed s e.made e.of.limits (e.part ∙ count_of_workers g ms c.requires) e.idle
-    e.members e.shares is)
-    c.settled.ensures.statement
+    IfOk-weaker c.settled_parts.result (λ (s : Statement). s ≡ statement_in (left_snapshot c))
+    (IsStatementOfWorkers c.args.ground c.args.workers.items)
+    (λ s same. subst (IsStatementOfWorkers c.args.ground c.args.workers.items) (sym same) c.in_ok-limits.ensures.statement)
+    c.settled_parts.ensures.statement
 
--- where no worker has acted, the one seat of all is of a pool of which nobody has done anything
+-- and where no worker has acted, that of the start
 pub returns-clause-fresh : goal.returns-clause-fresh
 returns-clause-fresh c = λ none.
-    let g = c.args.ground in
-    let ms = c.args.workers.items in
-    let e = c.joined-seat.ensures in
-    let handed = c.joined-seat.result.1.items in
-    let fresh : IsFresh c.joined-seat.result.0.known = record {
-      whole = e.part ∙ count_of_workers g ms c.requires ∙ ap (λ (l : Limits). l.workers) (sym e.of.limits);
-      unmoved = e.unmoved none;
-    } in
-    IfOk-weaker c.settled.result (λ (s : Statement). s ≡ statement_at_start g.limits handed)
-    (λ (s : Statement). s ≡ statement_at_start g.limits (members_of ms))
-    (λ s is. is ∙ ap (statement_at_start g.limits) e.members)
-    (c.settled.ensures.fresh fresh)
+    IfOk-weaker c.settled_parts.result (λ (s : Statement). s ≡ statement_in (left_snapshot c))
+    (λ s. s ≡ statement_at_start c.args.ground.limits (members_of c.args.workers.items))
+    (λ s same. same ∙ c.in_ok-limits.ensures.fresh none)
+    c.settled_parts.ensures.statement
+
+-- packets that it lists, it lists within the limits
+packets_listed : (r : Result Statement Refusal) (l k : Limits) (left : Statement) → l ≡ k →
+    All (λ held. held.count ≤ l.ref_limit) left.held → IfOk r (λ s. s ≡ left) → IfOk r ListsOnlyPackets →
+    IfOk r (λ s. ListsPackets k s)
+packets_listed (Ok s) l k left limits counts same only = record {
+  packets = only;
+  counts = rw same (subst (λ (x : Limits). All (λ held. held.count ≤ x.ref_limit) left.held) limits counts);
+}
+packets_listed (Err e) l k left limits counts same only = tt
+
+pub returns-clause-sound : goal.returns-clause-sound
+returns-clause-sound c =
+    packets_listed c.settled_parts.result c.in_ok-limits.limits c.args.ground.limits (statement_in (left_snapshot c))
+    c.in_ok-limits.ensures.limits c.in_ok-limits.ensures.counts c.settled_parts.ensures.statement
+    c.settled_parts.ensures.sound

@@ -12,7 +12,7 @@ loop-worker-init c =
     let seats = c.into_parts-seats.result.0 in
     record {
       joined =
-          last_twin_joined c.an_own_twin_is_a_share.ensures c.args.first.now c.args.second.now c.args.workers.items
+          last_twin_joined c.args.first.now c.args.second.now c.args.workers.items
           c.pop.new.self.items c.in-Some.last seats.first seats.second c.into_parts-seats.result.1
           c.add_share.new.shares.items c.requires.each c.in-Some.ensures.items c.into_parts-seats.ensures.idle
           parts.0 parts.1 parts.2
@@ -37,8 +37,7 @@ loop-worker-preserved c =
     let others = c.into_parts-others.result.0 in
     record {
       joined =
-          next_twin_joined c.an_own_twin_is_a_share.ensures c.joined_seats_have_the_twin_shares_of_both.ensures
-          c.args.first.now c.args.second.now c.args.workers.items c.loop-worker.workers.items
+          next_twin_joined c.args.first.now c.args.second.now c.args.workers.items c.loop-worker.workers.items
           c.pop-in-loop-worker.new.self.items c.in-Some-pop.worker c.loop-worker.seats.first c.loop-worker.seats.second
           others.first others.second c.both-seats.result.first c.both-seats.result.second c.into_parts-others.result.1
           c.loop-worker.shares.items c.add_share-in-Some-pop.new.shares.items c.loop-worker.invariant.joined

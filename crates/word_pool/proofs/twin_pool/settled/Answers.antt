@@ -1,49 +1,26 @@
--- All workers have all parts of both grounds, and their shares are what the one seat of each has.
-use Rattle.std.proofs.Common.{◌∙◌, List, sym, subst, arith}
-use Rattle.std.proofs.lemmas.Result.{IfOk-weaker}
-use Rattle.mbuf.specs.Twins.{TwinMember}
-use Rattle.word_book.specs.TwinShares.{AreStatementsOf, AreTwinShares}
+-- The statements are those of what was left.
+use Rattle.std.proofs.Common.{◌≡◌, Result, Ok, Err, sym, subst}
+use Rattle.std.specs.Prelude.{IfOk}
+use Rattle.commons.specs.declared.refusal.Refusal.{Refusal}
+use Rattle.pool_model.specs.declared.statement.Statement.{Statement}
+use Rattle.book.specs.Left.{first_of, second_of}
+use Rattle.snapshot.specs.Snapshots.{ListsItsElements, statement_in}
 use Rattle.word_pool.specs.TwinWorkers.{AreStatementsOfTwins}
-use Rattle.word_pool.proofs.TwinJoins.{count_of_twins}
 use Rattle.word_pool.proofs.twin_pool.settled.Goals as goal
 
-pub joined-seats-requires-clause-some : goal.joined-seats-requires-clause-some
-joined-seats-requires-clause-some c =
-    omega (
-      arith,
-      count_of_twins c.args.first c.args.second c.args.workers.items c.requires,
-      c.requires.pools.twins.first.workers_low,
-    )
-
-pub settled-requires-clause-first_whole : goal.settled-requires-clause-first_whole
-settled-requires-clause-first_whole c =
-    c.joined-seats.ensures.first.part ∙ count_of_twins c.args.first c.args.second c.args.workers.items c.requires
-
-pub settled-requires-clause-second_whole : goal.settled-requires-clause-second_whole
-settled-requires-clause-second_whole c =
-    c.joined-seats.ensures.second.part ∙ count_of_twins c.args.first c.args.second c.args.workers.items c.requires
-    ∙ sym c.requires.pools.twins.workers
+-- what holds of both statements holds of these that are the same
+both_same : (r : Result (Statement × Statement) Refusal) (one two : Statement) (P Q : Statement → Type 0)
+    (R : Statement × Statement → Type 0) → (P one → Q two → R (one, two)) → IfOk r (λ s. s.0 ≡ one) →
+    IfOk r (λ s. s.1 ≡ two) → IfOk r (λ s. P s.0) → IfOk r (λ s. Q s.1) → IfOk r R
+both_same (Ok s) one two P Q R both first second p q =
+    subst R (λ i. (sym first i, sym second i)) (both (subst P first p) (subst Q second q))
+both_same (Err e) one two P Q R both first second p q = tt
 
 pub returns-clause-statements : goal.returns-clause-statements
 returns-clause-statements c =
-    let g = c.args.first in
-    let h = c.args.second in
-    let ms = c.args.workers.items in
-    let e = c.joined-seats.ensures in
-    let v = c.joined-seats.result.0.first.known.view in
-    let u = c.joined-seats.result.0.second.known.view in
-    let handed = c.joined-seats.result.1.items in
-    let count = count_of_twins g h ms c.requires in
-    IfOk-weaker c.settled.result (AreStatementsOf g.limits h.limits v u handed) (AreStatementsOfTwins g h ms)
-    (λ s is. record {
-      first_view = v;
-      second_view = u;
-      first_whole = e.first.part ∙ count;
-      second_whole = e.second.part ∙ count ∙ sym c.requires.pools.twins.workers;
-      first_rest = e.first.rest;
-      second_rest = e.second.rest;
-      idle = e.idle;
-      shares = subst (λ (xs : List TwinMember). AreTwinShares xs v u) e.members e.shares;
-      statements = subst (λ (xs : List TwinMember). AreStatementsOf g.limits h.limits v u xs s) e.members is;
-    })
-    c.settled.ensures.statements
+    let first = first_of c.in_ok-closed.closed.first_limits c.in_ok-closed.closed.first c.in_ok-closed.closed.shares.items in
+    let second = second_of c.in_ok-closed.closed.second_limits c.in_ok-closed.closed.second c.in_ok-closed.closed.shares.items in
+    let e = c.settled_twins.ensures in
+    both_same c.settled_twins.result (statement_in first) (statement_in second) (ListsItsElements first)
+    (ListsItsElements second) (AreStatementsOfTwins c.args.first c.args.second c.args.workers.items)
+    c.in_ok-closed.ensures.statements e.first_statement e.second_statement e.first_once e.second_once

@@ -1,5 +1,0 @@
-use Rattle.word_book.proofs.TwinJoined.{one_twin_share}
-use Rattle.word_book.proofs.laws.an_own_twin_is_a_share.Goals as goal
-
-pub returns : goal.returns
-returns c = one_twin_share

@@ -1,5 +1,0 @@
-use Rattle.word_book.proofs.TwinJoined.{both_twin_shares}
-use Rattle.word_book.proofs.laws.joined_seats_have_the_twin_shares_of_both.Goals as goal
-
-pub returns : goal.returns
-returns c = both_twin_shares

@@ -1,5 +1,0 @@
-pub mod Leaving
-pub mod Listing
-pub mod Lost
-pub mod Shares
-pub mod TwinShares
