@@ -27,17 +27,6 @@ use Rattle.stack_lf.proofs.Composing.{still_of}
 use Rattle.stack_lf.proofs.Storing.{bag-minus}
 use Rattle.stack_lf.proofs.Reading.{causes}
 
--- the seat went on by some steps, to a view that is at rest if it was
-abbrev pub Went : Seated → Seated → Type 0
-Went s t =
-    (a : List Note) × (v : View) × (t ≡ after s a v) × (AtRest s.known.view → AtRest v)
-
-pub went_of : (g : Grounded) (s t : Seated) → Went s t → IsOf g s → IsOf g t
-went_of g s t w h = still_of g s t w.0 w.1 h w.2
-
-pub went_rest : (s t : Seated) → Went s t → AtRest s.known.view → AtRest t.known.view
-went_rest s t w r = subst (λ (x : Seated). AtRest x.known.view) (sym w.2) (w.3 r)
-
 -- the seat with what is known to lie on the desks after the call
 abbrev pub lain : Call → Seated → Seated
 lain call s = record s { known = record s.known { lying = lying_after call s.known.lying } }
@@ -79,21 +68,6 @@ pub headers_as : (s t : Seated) (a : List Note) (v : View) → t ≡ after s a v
 headers_as s t a v e = ap {B = ℕ → ℕ} (λ (x : Seated). bag x.known.view.headers) e
 
 -- ---- a get
-
-pub get_went : (tries n : ℕ) (xs : List ℕ) (r : Result (Unit {0}) Refusal) (s t : Seated) →
-    Gets tries n xs r s t → Went s t
-get_went tries n xs (Ok _) s t g = (
-  notes_of g.0,
-  record (seen_as s.known.view g.1 g.2) { hand = s.known.view.hand ++ xs },
-  g.4,
-  λ r. record { zeros = r.zeros; credit = r.credit; chain = r.chain; work = r.work },
-)
-get_went tries n xs (Err e) s t g = (
-  notes_of g.0,
-  seen_as s.known.view g.1 g.2,
-  g.4,
-  λ r. record { zeros = r.zeros; credit = r.credit; chain = r.chain; work = r.work },
-)
 
 get_effect : (tries n : ℕ) (xs : List ℕ) (r : Result (Unit {0}) Refusal) (s t : Seated) →
     Gets tries n xs r s t → HasEffect (GetList n (with_list r xs)) (side_of s) (side_of t)
@@ -146,21 +120,6 @@ get_did n xs (Err e) s t g alone told enough =
 
 -- ---- a put
 
-pub put_went : (tries : ℕ) (xs : List ℕ) (r : Result (Unit {0}) Refusal) (s t : Seated) →
-    Puts tries xs r s t → Went s t
-put_went tries xs (Ok _) s t g = (
-  notes_of g.0,
-  put_as xs s.known.view g.1 g.2,
-  g.4,
-  λ r. record { zeros = r.zeros; credit = r.credit; chain = r.chain; work = r.work },
-)
-put_went tries xs (Err e) s t g = (
-  notes_of g.0,
-  seen_as s.known.view g.1 g.2,
-  g.4,
-  λ r. record { zeros = r.zeros; credit = r.credit; chain = r.chain; work = r.work },
-)
-
 put_effect : (tries : ℕ) (xs : List ℕ) (r : Result (Unit {0}) Refusal) (s t : Seated) →
     ((i : ℕ) → bag xs i ≤ bag s.known.view.hand i) → Puts tries xs r s t →
     HasEffect (PutList xs r) (side_of s) (side_of t)
@@ -187,9 +146,6 @@ put_did xs (Err e) s t h g alone =
     (λ whole c. alone whole (ap Err (put_contended xs e c))) tt
 
 -- ---- a count
-
-pub length_went : (n : ℕ) (s t : Seated) → Steps LoadLength (Value n) s t → Went s t
-length_went n s t g = ((LoadLength, Value n) ∷ [], s.known.view, g, λ r. r)
 
 pub length_did : (n : ℕ) (s t : Seated) → Steps LoadLength (Value n) s t →
     KnowsLength s.known n → Did DidOnWords side_of s (CommonCount n) t
@@ -235,19 +191,6 @@ kept p (x ∷ xs) i =
     omega (arith, bag-cons x xs i))
     (λ f. rest ∙ ap (λ (b : Bool). if b then bag xs i else 0) f))
 
-pub claim_went : (e : ℕ) (s t : Seated) → Steps (ClaimStep e) (Value 1) s t → Went s t
-claim_went e s t g = (
-  (ClaimStep e, Value 1) ∷ [],
-  claimed s.known.view e,
-  g,
-  λ r. record {
-    zeros = r.zeros;
-    credit = r.credit;
-    chain = ap (λ (c : Option Chain). chain_without e c) r.chain;
-    work = r.work;
-  },
-)
-
 claim_effect : (e : ℕ) (s t : Seated) → 0 < bag s.known.view.hand e →
     Steps (ClaimStep e) (Value 1) s t → HasEffect (Claim e) (side_of s) (side_of t)
 claim_effect e s t here g = record {
@@ -267,9 +210,6 @@ claim_did e s t here g =
     doing s (Claim e) t (Taken e ∷ []) (claimed s.known.view e) refl (claim_effect e s t here g) g
     refl (λ whole c. c) tt
 
-pub count_went : (e n : ℕ) (s t : Seated) → Steps (Sole e false) (Value n) s t → Went s t
-count_went e n s t g = ((Sole e false, Value n) ∷ [], s.known.view, g, λ r. r)
-
 pub count_did : (e n : ℕ) (s t : Seated) → Steps (Sole e false) (Value n) s t →
     bag s.known.view.holds e ≤ n → n ≤ s.known.limits.ref_limit →
     KnowsCount s.known e n → Did DidOnWords side_of s (CountOf e n) t
@@ -277,53 +217,29 @@ count_did e n s t g low high known =
     doing s (CountOf e n) t (Counted e n ∷ []) s.known.view refl
     (record { same = ap side_of g; own = low; limited = high }) g refl (λ whole c. c) known
 
-pub raise_went : (l : Limits) (e : ℕ) (r : Result (Unit {0}) Refusal) (s t : Seated) →
-    Raises l e r s t → Went s t
-raise_went l e (Ok _) s t g = (
-  notes_of g.0,
-  raised s.known.view e,
-  g.2,
-  λ r. record { zeros = r.zeros; credit = r.credit; chain = r.chain; work = r.work },
-)
-raise_went l e (Err _) s t g = (notes_of g.0, s.known.view, g.2, λ r. r)
-
 raise_effect : (l : Limits) (e : ℕ) (r : Result (Unit {0}) Refusal) (s t : Seated) →
     0 < bag s.known.view.holds e → Raises l e r s t →
     HasEffect (Raise e r) (side_of s) (side_of t)
 raise_effect l e (Ok _) s t held g = record {
   held = held;
-  limits = ap (λ (x : Seated). x.known.limits) g.2;
-  hand = λ i. ap (λ (x : Seated). bag x.known.view.hand i) g.2;
-  holds = λ i. ap (λ (x : Seated). bag x.known.view.holds i) g.2 ∙ bag-more e s.known.view.holds i;
-  headers = headers_as s t _ _ g.2;
+  limits = ap (λ (x : Seated). x.known.limits) g.4;
+  hand = λ i. ap (λ (x : Seated). bag x.known.view.hand i) g.4;
+  holds = λ i. ap (λ (x : Seated). bag x.known.view.holds i) g.4 ∙ bag-more e s.known.view.holds i;
+  headers = headers_as s t _ _ g.4;
 }
-raise_effect l e (Err _) s t held g = ap side_of g.2
+raise_effect l e (Err _) s t held g = ap side_of g.4
 
 pub raise_did : (e : ℕ) (r : Result (Unit {0}) Refusal) (s t : Seated) →
     0 < bag s.known.view.holds e → Raises s.known.limits e r s t →
     (IsAlone s → r ≢ Err Contended) → (r ≡ Err RefSpent → KnowsSpent e s) → IfOk r (λ _. KnowsRaised e s) →
     Did DidOnWords side_of s (Raise e r) t
 raise_did e (Ok m) s t held g alone told below =
-    doing s (Raise e (Ok m)) t g.0 _ g.1 (raise_effect s.known.limits e (Ok m) s t held g) g.2 refl
+    doing s (Raise e (Ok m)) t g.0 _ g.3 (raise_effect s.known.limits e (Ok m) s t held g) g.4 refl
     (λ whole c. c) below
 raise_did e (Err cause) s t held g alone told below =
-    doing s (Raise e (Err cause)) t g.0 _ g.1
-    (raise_effect s.known.limits e (Err cause) s t held g) g.2 refl
+    doing s (Raise e (Err cause)) t g.0 _ g.3
+    (raise_effect s.known.limits e (Err cause) s t held g) g.4 refl
     (λ whole c. alone whole (ap Err (raise_contended e cause c))) (raise_told s e cause told)
-
-pub lower_went : (e : ℕ) (answer : Answer) (s t : Seated) → Lowers e answer s t → Went s t
-lower_went e Last s t g = (
-  notes g.0,
-  freed s.known.view e,
-  g.2,
-  λ r. record { zeros = r.zeros; credit = r.credit; chain = r.chain; work = r.work },
-)
-lower_went e Still s t g = (
-  notes g.0,
-  hold_ended s.known.view e false,
-  g.2,
-  λ r. record { zeros = r.zeros; credit = r.credit; chain = r.chain; work = r.work },
-)
 
 lower_hand : (e : ℕ) (answer : Answer) (s t : Seated) → Lowers e answer s t → (i : ℕ) →
     bag t.known.view.hand i ≡ bag s.known.view.hand i + back answer e i
@@ -380,11 +296,3 @@ pub same_seat : (s : Seated) → s ≡ tried_to s [] s.known.view
 same_seat s =
     ap (λ (l : List Note). record s { known = record s.known { steps = l } })
     (sym (append-nil s.known.steps))
-
--- over a call the seat stays one of its ground
-pub did_of : (g : Grounded) (s t : Seated) (call : Call) → Did DidOnWords side_of s call t →
-    IsOf g s → IsOf g t
-did_of g s t call d h = record {
-  table = d.step.led.table ∙ h.table;
-  limits = d.step.led.limits ∙ h.limits;
-}

@@ -16,12 +16,11 @@ use Rattle.step_core.specs.declared.step.Step.TheVariants.{StoreLink, LoadHead, 
 use Rattle.step_core.specs.declared.step.Outcome.TheVariants.{Done, HeadIs, Won, LostTo}
 use Rattle.step_core.specs.declared.step.Outcome.{Outcome}
 use Rattle.commons.specs.Calls.{spent}
-use Rattle.stack_lf.specs.declared.tried.Tried.TheVariants as tried
 use Rattle.ground.specs.Seats.{Seated, Note, after, Steps, element_of}
 use Rattle.step_core.specs.Sights.{view_after, MayPush, chain_after}
 use Rattle.stack_lf.specs.Leaves.{start}
 use Rattle.stack_lf.specs.Tries.{last_of, stores, notes, Pushed, Unpushed}
-use Rattle.stack_lf.specs.Leaves.{chain_of, Stored, push_as}
+use Rattle.stack_lf.specs.Leaves.{chain_of, Stored, push_as, seen_as}
 use Rattle.stack_lf.proofs.Composing.{more, one_more}
 
 pub bag-minus : (xs ys : List ℕ) (i : ℕ) → bag (minus xs ys) i ≡ bag xs i - bag ys i
@@ -193,7 +192,7 @@ push_tried h xs o s t u w some e f d = one_more s u w ((LoadHead, HeadIs h) ∷ 
 pub push_wins : (h : Head) (xs : List ℕ) (s t u w : Seated) → 0 < length xs →
     s.known.view.chain ≡ None → Steps LoadHead (HeadIs h) s t → Stored h.top xs t u →
     Steps Push Won u w
-    → w ≡ after s (notes (Pushed h xs)) (push_as xs tried.Won s.known.view None (h.count + 1))
+    → w ≡ after s (notes (Pushed h xs)) (push_as xs s.known.view None (h.count + 1))
 push_wins h xs s t u w some none e f d =
     push_tried h xs Won s t u w some e f d
     ∙ ap (λ (z : ℕ × Option Chain). after s (notes (Pushed h xs))
@@ -211,7 +210,7 @@ pub push_loses : (h found : Head) (xs : List ℕ) (s t u w : Seated) → 0 < len
     s.known.view.chain ≡ None → Steps LoadHead (HeadIs h) s t → Stored h.top xs t u →
     Steps Push (LostTo found) u w
     → w ≡ after s (notes (Unpushed h xs found))
-    (push_as xs tried.Lost s.known.view None found.count)
+    (seen_as s.known.view None found.count)
 push_loses h found xs s t u w some none e f d =
     push_tried h xs (LostTo found) s t u w some e f d
     ∙ ap (λ (c : Option Chain). after s (notes (Unpushed h xs found))

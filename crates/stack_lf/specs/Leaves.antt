@@ -13,7 +13,7 @@ use Rattle.step_core.specs.declared.view.View.{View}
 use Rattle.step_core.specs.Bags.{minus}
 use Rattle.step_core.specs.Sights.{raised, freed, hold_ended, working, opened, seized}
 use Rattle.ground.specs.DeskSeats.{laid}
-use Rattle.ground.specs.Seats.{Seated, after, KnowsThere, KnowsEmpty, KnowsFull}
+use Rattle.ground.specs.Seats.{Seated, after, KnowsLength, KnowsCount, KnowsThere, KnowsEmpty, KnowsFull}
 use Rattle.stack_lf.specs.declared.tried.Tried.{Tried}
 use Rattle.stack_lf.specs.declared.tried.Tried.TheVariants as tried
 use Rattle.stack_lf.specs.Tries.{Try, Walk, IsWalk, Short, Reserved, notes, notes_of, elements, link_note, stores, IsMiss, IsLostCut, IsWonCut, IsLostPush, IsWonPush, IsSpent, IsGet, IsPut, Raised, Counted, IsLostRaise, IsRaise, IsLower, Unoffered, Offered, Untaken, Fetched}
@@ -57,114 +57,83 @@ abbrev pub Stored : ℕ → List ℕ → Seated → Seated → Type 0
 Stored top xs s t =
     t ≡ after s (stores top xs) (record s.known.view { chain = chain_of top xs })
 
--- ---- one try
+-- ---- tries, and a loop of them
 
--- one try to reserve n: what it came to
-abbrev pub IsReserveTry : ℕ → Tried → Try → Type 0
-IsReserveTry n tried.Won x = (v : ℕ) × (n ≤ v) × (x ≡ Reserved n v)
-IsReserveTry n tried.Lost x = IsMiss n x
-IsReserveTry n (tried.Refused NoEntries) x = (v : ℕ) × (v < n) × (x ≡ Short v)
-IsReserveTry n (tried.Refused _) x = ⊥
+-- the seat has made this many tries, which all lost, and is as before but for what it saw of the
+-- head
+abbrev pub HasLost : (Try → Type 0) → ℕ → Seated → Seated → Type 0
+HasLost P k s t = (ts : List Try) × (look : Option Look) × (seen : ℕ) × (length ts ≡ k) × All P ts
+    × (t ≡ tried_to s ts (seen_as s.known.view look seen))
 
--- and what it leaves
-abbrev pub reserved_as : ℕ → Tried → View → View
-reserved_as n tried.Won v = record v { credit = v.credit + n }
-reserved_as n tried.Lost v = v
-reserved_as n (tried.Refused _) v = v
+-- one try: it won or was refused, for another cause than lost tries, and ended so; or it lost
+abbrev pub IsOneTry : (Try → Type 0) → (Result (Unit {0}) Refusal → Seated → Seated → Type 0) → Tried → Seated → Seated → Type 0
+IsOneTry P Ends tried.Won s t = Ends (Ok tt) s t
+IsOneTry P Ends tried.Lost s t = HasLost P 1 s t
+IsOneTry P Ends (tried.Refused cause) s t = (cause ≢ Contended) × Ends (Err cause) s t
 
-abbrev pub TriesReserve : ℕ → Tried → Seated → Seated → Type 0
-TriesReserve n r s t =
-    (x : Try) × IsReserveTry n r x × (t ≡ after s (notes x) (reserved_as n r s.known.view))
+-- fewer lost tries than are allowed, and one that ended so
+abbrev pub EndsAfter : ℕ → (Try → Type 0) → (Seated → Seated → Type 0) → Seated → Seated → Type 0
+EndsAfter tries P End s t =
+    (k : ℕ) × (u : Seated) × (k < tries) × HasLost P k s u × End u t
 
--- one try to cut n off
-abbrev pub IsCutTry : ℕ → List ℕ → Tried → Try → Type 0
-IsCutTry n xs tried.Won x = (length xs ≡ n) × IsWonCut xs x
-IsCutTry n xs tried.Lost x = IsLostCut n x
-IsCutTry n xs (tried.Refused HeadSpent) x = IsSpent x
-IsCutTry n xs (tried.Refused _) x = ⊥
+-- a loop of tries, by its answer: one of them ended so, or all that are allowed lost
+abbrev pub Repeats : ℕ → (Try → Type 0) → (Result (Unit {0}) Refusal → Seated → Seated → Type 0) → Result (Unit {0}) Refusal → Seated → Seated → Type 0
+Repeats tries P Ends (Ok met) s t = EndsAfter tries P (Ends (Ok met)) s t
+Repeats tries P Ends (Err Contended) s t = HasLost P tries s t
+Repeats tries P Ends (Err cause) s t = EndsAfter tries P (Ends (Err cause)) s t
 
-abbrev pub cut_as : List ℕ → Tried → View → Option Look → ℕ → View
-cut_as xs tried.Won v look seen =
+-- ---- how a try ends that didn't lose
+
+-- a try to reserve n: a length of as many at least was read and is n less now, or one below n was
+-- read
+abbrev pub EndsReserve : ℕ → Result (Unit {0}) Refusal → Seated → Seated → Type 0
+EndsReserve n (Ok _) s t =
+    (v : ℕ) × (n ≤ v) × KnowsLength s.known v
+    × (t ≡ after s (notes (Reserved n v)) (record s.known.view { credit = s.known.view.credit + n }))
+EndsReserve n (Err NoEntries) s t =
+    (v : ℕ) × (v < n) × KnowsLength s.known v × (t ≡ after s (notes (Short v)) s.known.view)
+EndsReserve n (Err _) s t = ⊥
+
+-- a try to cut n off: these came into the hand, or the head was spent
+abbrev pub cut_as : List ℕ → View → Option Look → ℕ → View
+cut_as xs v look seen =
     record (seen_as v look seen) { hand = v.hand ++ xs; credit = v.credit - length xs }
-cut_as xs tried.Lost v look seen = seen_as v look seen
-cut_as xs (tried.Refused _) v look seen = seen_as v look seen
 
-abbrev pub TriesCut : ℕ → List ℕ → Tried → Seated → Seated → Type 0
-TriesCut n xs r s t =
-    (x : Try) × (look : Option Look) × (seen : ℕ) × IsCutTry n xs r x
-    × (t ≡ after s (notes x) (cut_as xs r s.known.view look seen))
+abbrev pub EndsCut : ℕ → List ℕ → Result (Unit {0}) Refusal → Seated → Seated → Type 0
+EndsCut n xs (Ok _) s t =
+    (x : Try) × (look : Option Look) × (seen : ℕ) × (length xs ≡ n) × IsWonCut xs x
+    × (t ≡ after s (notes x) (cut_as xs s.known.view look seen))
+EndsCut n xs (Err HeadSpent) s t =
+    (x : Try) × (look : Option Look) × (seen : ℕ) × IsSpent x
+    × (t ≡ after s (notes x) (seen_as s.known.view look seen))
+EndsCut n xs (Err _) s t = ⊥
 
--- one try to push a list
-abbrev pub IsPushTry : List ℕ → Tried → Try → Type 0
-IsPushTry xs tried.Won x = IsWonPush xs x
-IsPushTry xs tried.Lost x = IsLostPush xs x
-IsPushTry xs (tried.Refused HeadSpent) x = IsSpent x
-IsPushTry xs (tried.Refused _) x = ⊥
-
-abbrev pub push_as : List ℕ → Tried → View → Option Look → ℕ → View
-push_as xs tried.Won v look seen = record (seen_as v look seen) {
+-- a try to push a list: it has left the hand, or the head was spent
+abbrev pub push_as : List ℕ → View → Option Look → ℕ → View
+push_as xs v look seen = record (seen_as v look seen) {
   hand = minus v.hand (reverse xs);
   credit = v.credit + length xs;
 }
-push_as xs tried.Lost v look seen = seen_as v look seen
-push_as xs (tried.Refused _) v look seen = seen_as v look seen
 
-abbrev pub TriesPush : List ℕ → Tried → Seated → Seated → Type 0
-TriesPush xs r s t =
-    (x : Try) × (look : Option Look) × (seen : ℕ) × IsPushTry xs r x
-    × (t ≡ after s (notes x) (push_as xs r s.known.view look seen))
+abbrev pub EndsPush : List ℕ → Result (Unit {0}) Refusal → Seated → Seated → Type 0
+EndsPush xs (Ok _) s t =
+    (x : Try) × (look : Option Look) × (seen : ℕ) × IsWonPush xs x
+    × (t ≡ after s (notes x) (push_as xs s.known.view look seen))
+EndsPush xs (Err HeadSpent) s t =
+    (x : Try) × (look : Option Look) × (seen : ℕ) × IsSpent x
+    × (t ≡ after s (notes x) (seen_as s.known.view look seen))
+EndsPush xs (Err _) s t = ⊥
 
--- this many tries that all lost, and the seat afterwards
-abbrev pub AllLost : (Try → Type 0) → ℕ → Seated → Seated → Type 0
-AllLost P k s t = (ts : List Try) × (length ts ≡ k) × All P ts × (t ≡ tried_to s ts s.known.view)
-
--- the same, but for what the seat saw of the head
-abbrev pub LostBut : (Try → Type 0) → ℕ → Seated → Seated → Type 0
-LostBut P k s t = (ts : List Try) × (look : Option Look) × (seen : ℕ) × (length ts ≡ k) × All P ts
-    × (t ≡ tried_to s ts (seen_as s.known.view look seen))
-
--- ---- a loop, by its answer
-
-abbrev pub Reserves : ℕ → ℕ → Result (Unit {0}) Refusal → Seated → Seated → Type 0
-Reserves tries n (Ok _) s t =
-    (ts : List Try) × (v : ℕ) × (length ts < tries) × All (IsMiss n) ts × (n ≤ v)
-    × (t ≡ tried_to s (ts ++ Reserved n v ∷ []) (reserved_as n tried.Won s.known.view))
-Reserves tries n (Err NoEntries) s t =
-    (ts : List Try) × (v : ℕ) × (length ts < tries) × All (IsMiss n) ts × (v < n)
-    × (t ≡ tried_to s (ts ++ Short v ∷ []) s.known.view)
-Reserves tries n (Err Contended) s t =
-    (ts : List Try) × (length ts ≡ tries) × All (IsMiss n) ts × (t ≡ tried_to s ts s.known.view)
-Reserves tries n (Err _) s t = ⊥
-
-abbrev pub Cuts : ℕ → ℕ → List ℕ → Result (Unit {0}) Refusal → Seated → Seated → Type 0
-Cuts tries n xs (Ok _) s t =
-    (ts : List Try) × (x : Try) × (look : Option Look) × (seen : ℕ)
-    × (length ts < tries) × All (IsLostCut n) ts × (length xs ≡ n) × IsWonCut xs x
-    × (t ≡ tried_to s (ts ++ x ∷ []) (cut_as xs tried.Won s.known.view look seen))
-Cuts tries n xs (Err HeadSpent) s t =
-    (ts : List Try) × (x : Try) × (look : Option Look) × (seen : ℕ)
-    × (length ts < tries) × All (IsLostCut n) ts × IsSpent x
-    × (t ≡ tried_to s (ts ++ x ∷ []) (seen_as s.known.view look seen))
-Cuts tries n xs (Err Contended) s t =
-    (ts : List Try) × (look : Option Look) × (seen : ℕ)
-    × (length ts ≡ tries) × All (IsLostCut n) ts
-    × (t ≡ tried_to s ts (seen_as s.known.view look seen))
-Cuts tries n xs (Err _) s t = ⊥
-
-abbrev pub Pushes : ℕ → List ℕ → Result (Unit {0}) Refusal → Seated → Seated → Type 0
-Pushes tries xs (Ok _) s t =
-    (ts : List Try) × (x : Try) × (look : Option Look) × (seen : ℕ)
-    × (length ts < tries) × All (IsLostPush xs) ts × IsWonPush xs x
-    × (t ≡ tried_to s (ts ++ x ∷ []) (push_as xs tried.Won s.known.view look seen))
-Pushes tries xs (Err HeadSpent) s t =
-    (ts : List Try) × (x : Try) × (look : Option Look) × (seen : ℕ)
-    × (length ts < tries) × All (IsLostPush xs) ts × IsSpent x
-    × (t ≡ tried_to s (ts ++ x ∷ []) (seen_as s.known.view look seen))
-Pushes tries xs (Err Contended) s t =
-    (ts : List Try) × (look : Option Look) × (seen : ℕ)
-    × (length ts ≡ tries) × All (IsLostPush xs) ts
-    × (t ≡ tried_to s ts (seen_as s.known.view look seen))
-Pushes tries xs (Err _) s t = ⊥
+-- a try to raise a count: one below the reference limit was read and is one more now, or it was at
+-- the limit
+abbrev pub EndsRaise : Limits → ℕ → Result (Unit {0}) Refusal → Seated → Seated → Type 0
+EndsRaise l i (Ok _) s t =
+    (c : ℕ) × (c < l.ref_limit) × KnowsCount s.known i c
+    × (t ≡ after s (notes (Raised i c)) (raised s.known.view i))
+EndsRaise l i (Err RefSpent) s t =
+    KnowsCount s.known i l.ref_limit
+    × (t ≡ after s (notes (Counted i l.ref_limit)) s.known.view)
+EndsRaise l i (Err _) s t = ⊥
 
 -- ---- a whole call, by its answer
 
@@ -194,28 +163,14 @@ Puts tries xs (Err cause) s t =
 
 -- ---- the counts
 
--- one try to raise a count
-abbrev pub IsRaiseTry : Limits → ℕ → Tried → Try → Type 0
-IsRaiseTry l i tried.Won x = (c : ℕ) × (c < l.ref_limit) × (x ≡ Raised i c)
-IsRaiseTry l i tried.Lost x = IsLostRaise l i x
-IsRaiseTry l i (tried.Refused RefSpent) x = x ≡ Counted i l.ref_limit
-IsRaiseTry l i (tried.Refused _) x = ⊥
-
-abbrev pub raised_as : ℕ → Tried → View → View
-raised_as i tried.Won v = raised v i
-raised_as i tried.Lost v = v
-raised_as i (tried.Refused _) v = v
-
-abbrev pub TriesRaise : Limits → ℕ → Tried → Seated → Seated → Type 0
-TriesRaise l i r s t =
-    (x : Try) × IsRaiseTry l i r x × (t ≡ after s (notes x) (raised_as i r s.known.view))
-
 -- a raise, by its answer
 abbrev pub Raises : Limits → ℕ → Result (Unit {0}) Refusal → Seated → Seated → Type 0
 Raises l i (Ok met) s t =
-    (ts : List Try) × IsRaise l i (Ok met) ts × (t ≡ tried_to s ts (raised s.known.view i))
+    (ts : List Try) × (look : Option Look) × (seen : ℕ) × IsRaise l i (Ok met) ts
+    × (t ≡ tried_to s ts (raised (seen_as s.known.view look seen) i))
 Raises l i (Err cause) s t =
-    (ts : List Try) × IsRaise l i (Err cause) ts × (t ≡ tried_to s ts s.known.view)
+    (ts : List Try) × (look : Option Look) × (seen : ℕ) × IsRaise l i (Err cause) ts
+    × (t ≡ tried_to s ts (seen_as s.known.view look seen))
 
 -- a lower, by its answer: where the hold was the last, the element is in the hand
 abbrev pub lowered_as : ℕ → Answer → View → View
