@@ -1,6 +1,6 @@
 -- Steps and tries after one another.
-use Rattle.std.proofs.Common.{◌≡◌, ◌≢◌, ℕ, ◌+◌, ◌<◌, List, [], ◌∷◌, ◌++◌, length, refl, sym, ap, ◌∙◌, arith, append_assoc, append-nil, subst}
-use Rattle.std.specs.Prelude.{Result, Ok, Err, Option, None}
+use Rattle.std.proofs.Common.{◌≡◌, ◌≢◌, ℕ, ◌+◌, List, [], ◌∷◌, ◌++◌, refl, sym, ap, ◌∙◌, arith, append_assoc, append-nil, subst}
+use Rattle.std.specs.Prelude.{Result, Err, Option, None}
 use Rattle.std.proofs.lemmas.List.{length-append}
 use Rattle.std.proofs.lemmas.List.Elements.{All-append, All-cons}
 use Rattle.commons.specs.declared.refusal.Refusal.{Refusal}
@@ -14,7 +14,7 @@ use Rattle.step_core.specs.declared.step.Outcome.{Outcome}
 use Rattle.ground.specs.Seats.{Grounded, Seated, IsOf, Note, after, Steps, MayLie, KnowsLength, KnowsCount}
 use Rattle.step_core.specs.Sights.{view_after}
 use Rattle.stack_lf.specs.Tries.{Try, notes, notes_of}
-use Rattle.stack_lf.specs.Leaves.{HasLost, IsAlone, EndsAfter, Repeats, tried_to, seen_as}
+use Rattle.stack_lf.specs.Effects.{HasLost, EndsAfter, Repeats, tried_to, seen_as}
 
 -- steps after steps; the view afterwards is made of the one between
 pub more : (s t u : Seated) (a : List Note) (v : View) (b : List Note) (w : View → View) →
@@ -24,6 +24,7 @@ more s t u a v b w e f =
     ∙ ap (λ (l : List Note). record s { known = record s.known { view = w v; steps = l } })
     (append_assoc s.known.steps a b))
 
+-- steps, and one more
 pub one_more : (s t u : Seated) (a : List Note) (v : View) (st : Step) (o : Outcome) →
     t ≡ after s a v → Steps st o t u → u ≡ after s (a ++ (st, o) ∷ []) (view_after None st o v)
 one_more s t u a v st o e f = more s t u a v ((st, o) ∷ []) (view_after None st o) e f
@@ -37,6 +38,7 @@ still_of g s t a v h e = record {
       ap (λ (x : Seated). x.known.limits) e ∙ h.limits;
 }
 
+-- the steps of tries one after another, in their order
 pub notes_of-append : (xs ys : List Try) → notes_of (xs ++ ys) ≡ notes_of xs ++ notes_of ys
 notes_of-append [] ys = refl
 notes_of-append (x ∷ xs) ys = ap (λ l. notes x ++ l) (notes_of-append xs ys)
@@ -143,6 +145,7 @@ unseen l v look seen desks lie = record {
   work = lie.work;
 }
 
+-- a length that the seat knows after lost tries it knew before them
 pub knew_length : (P : Try → Type 0) (k n : ℕ) (s t : Seated) → HasLost P k s t →
     KnowsLength t.known n → KnowsLength s.known n
 knew_length P k n s t lost knows =
@@ -151,6 +154,7 @@ knew_length P k n s t lost knows =
     let lie = now whole in
     (lie.0, lie.1, unseen s.known.limits s.known.view lost.1 lost.2 lie.0 lie.2, lie.3)
 
+-- and so of a count
 pub knew_count : (P : Try → Type 0) (k i n : ℕ) (s t : Seated) → HasLost P k s t →
     KnowsCount t.known i n → KnowsCount s.known i n
 knew_count P k i n s t lost knows =

@@ -1,5 +1,5 @@
 -- A whole get, a whole put and a whole raise.
-use Rattle.std.proofs.Common.{◌≡◌, ℕ, ◌+◌, ◌-◌, inl, inr, ◌<◌, ◌≤◌, List, [], ◌∷◌, ◌++◌, length, reverse, refl, sym, ap, ◌∙◌, subst, arith, append_assoc}
+use Rattle.std.proofs.Common.{◌≡◌, ℕ, ◌+◌, ◌-◌, inl, inr, ◌<◌, List, [], ◌∷◌, ◌++◌, length, reverse, refl, sym, ap, ◌∙◌, subst, arith, append_assoc}
 use Rattle.std.specs.Prelude.{Result, Ok, Err, Option}
 use Rattle.commons.specs.declared.limits.Limits.{Limits}
 use Rattle.commons.specs.declared.refusal.Refusal.{Refusal}
@@ -10,14 +10,14 @@ use Rattle.step_core.specs.declared.step.Outcome.TheVariants.{Done}
 use Rattle.step_core.specs.Bags.{minus}
 use Rattle.step_core.specs.Sights.{raised}
 use Rattle.ground.specs.Seats.{Seated, Steps, KnowsCount}
-use Rattle.stack_lf.specs.Tries.{Try, Reserved, Short, Added, Raised, Counted, IsMiss, IsLostCut, IsLostPush, IsLostRaise, KnowsShort, KnowsEnough, KnowsSpent, KnowsRaised}
-use Rattle.stack_lf.specs.Leaves.{tried_to, seen_as, cut_as, push_as, HasLost, IsAlone, Repeats, EndsReserve, EndsCut, EndsPush, EndsRaise, Gets, Puts, Raises}
+use Rattle.stack_lf.specs.Tries.{Try, Reserved, Short, Added, Raised, Counted, IsLostReserve, IsLostCut, IsLostPush, IsLostRaise, KnowsShort, KnowsEnough, KnowsSpent, KnowsRaised}
+use Rattle.stack_lf.specs.Effects.{tried_to, seen_as, cut_as, push_as, IsAlone, Repeats, EndsReserve, EndsCut, EndsPush, EndsRaise, Gets, Puts, Raises}
 use Rattle.stack_lf.proofs.Composing.{try_more, tries_more, last_try, knew_length, knew_count}
 
 -- ---- a get
 
 abbrev pub Reserves : ℕ → ℕ → Result (Unit {0}) Refusal → Seated → Seated → Type 0
-Reserves tries n r s t = Repeats tries (IsMiss n) (EndsReserve n) r s t
+Reserves tries n r s t = Repeats tries (IsLostReserve n) (EndsReserve n) r s t
 
 abbrev pub Cuts : ℕ → ℕ → List ℕ → Result (Unit {0}) Refusal → Seated → Seated → Type 0
 Cuts tries n xs r s t = Repeats tries (IsLostCut n) (EndsCut n xs) r s t
@@ -27,9 +27,10 @@ reserved_seat : (tries n : ℕ) (s t : Seated) (r : Reserves tries n (Ok tt) s t
     t ≡ tried_to s (r.3.0 ++ Reserved n r.4.0 ∷ [])
     (record (seen_as s.known.view r.3.1 r.3.2) { credit = s.known.view.credit + n })
 reserved_seat tries n s t r =
-    last_try (IsMiss n) r.0 s r.1 t r.3 (Reserved n r.4.0)
+    last_try (IsLostReserve n) r.0 s r.1 t r.3 (Reserved n r.4.0)
     (λ v. record v { credit = v.credit + n }) r.4.3
 
+-- a seat that is the only one still is after its reservation
 pub alone_reserved : (tries n : ℕ) (s t : Seated) → Reserves tries n (Ok tt) s t → IsAlone s →
     IsAlone t
 alone_reserved tries n s t r alone = subst IsAlone (sym (reserved_seat tries n s t r)) alone
@@ -37,13 +38,14 @@ alone_reserved tries n s t r alone = subst IsAlone (sym (reserved_seat tries n s
 -- what a reservation knew of the length
 pub reserved_told : (tries n : ℕ) (s t : Seated) → Reserves tries n (Ok tt) s t → KnowsEnough n s
 reserved_told tries n s t r =
-    (r.4.0, r.4.1, knew_length (IsMiss n) r.0 r.4.0 s r.1 r.3 r.4.2)
+    (r.4.0, r.4.1, knew_length (IsLostReserve n) r.0 r.4.0 s r.1 r.3 r.4.2)
 
+-- and what a refused one knew of it
 pub unreserved_told : (tries n : ℕ) (cause : Refusal) (s t : Seated) →
     Reserves tries n (Err cause) s t → cause ≡ NoEntries → KnowsShort n s
 unreserved_told tries n cause s t r e =
     let short = subst (λ (c : Refusal). Reserves tries n (Err c) s t) e r in
-    (short.4.0, short.4.1, knew_length (IsMiss n) short.0 short.4.0 s short.1 short.3 short.4.2)
+    (short.4.0, short.4.1, knew_length (IsLostReserve n) short.0 short.4.0 s short.1 short.3 short.4.2)
 
 -- what was reserved and cut off is no credit more
 no_more : (c n : ℕ) (xs : List ℕ) → length xs ≡ n → c + n - length xs ≡ c
@@ -52,6 +54,7 @@ no_more c n xs e = omega arith
 fewer : (k tries : ℕ) (ts : List Try) → k < tries → length ts ≡ k → length ts < tries
 fewer k tries ts less e = omega arith
 
+-- a get that succeeds: a reservation and a cut that won, each behind tries that lost
 pub get_met : (tries n : ℕ) (xs : List ℕ) (s t u : Seated) → Reserves tries n (Ok tt) s t →
     Cuts tries n xs (Ok tt) t u → Gets tries n xs (Ok tt) s u
 get_met tries n xs s t u r c =
@@ -87,6 +90,7 @@ get_met tries n xs s t u r c =
           (no_more s.known.view.credit n xs won.3),
     )
 
+-- a get whose reservation is refused: a length below n was read, or all tries lost
 pub get_unreserved : (tries n : ℕ) (xs : List ℕ) (cause : Refusal) (s t : Seated) →
     Reserves tries n (Err cause) s t → Gets tries n xs (Err cause) s t
 get_unreserved tries n xs NoEntries s t r =
@@ -95,7 +99,7 @@ get_unreserved tries n xs NoEntries s t r =
       r.3.1,
       r.3.2,
       (misses, r.4.0, fewer r.0 tries misses r.2 r.3.3, r.3.4, r.4.1, refl),
-      last_try (IsMiss n) r.0 s r.1 t r.3 (Short r.4.0) (λ v. v) r.4.3,
+      last_try (IsLostReserve n) r.0 s r.1 t r.3 (Short r.4.0) (λ v. v) r.4.3,
     )
 get_unreserved tries n xs Contended s t r = (r.0, r.1, r.2, inl (r.3, r.4), r.5)
 get_unreserved tries n xs cause s t r = absurd r.4
@@ -119,6 +123,8 @@ given_back s t u w n ts cuts look before seen first e f d =
     ∙ ap (λ (m : ℕ). tried_to s ((ts ++ cuts) ++ Added n ∷ [])
     (record (seen_as s.known.view look seen) { credit = m })) (same_credit s.known.view.credit n)
 
+-- a get whose cut is refused: the head was spent, or all tries lost, and what was reserved is given
+-- back
 pub get_uncut : (tries n : ℕ) (xs : List ℕ) (cause : Refusal) (s t u w : Seated) →
     Reserves tries n (Ok tt) s t → Cuts tries n xs (Err cause) t u → Steps (Add n) Done u w →
     Gets tries n xs (Err cause) s w
@@ -179,6 +185,7 @@ get_uncut tries n xs cause s t u w r c d = absurd c.4
 abbrev pub Pushes : ℕ → List ℕ → Result (Unit {0}) Refusal → Seated → Seated → Type 0
 Pushes tries xs r s t = Repeats tries (IsLostPush xs) (EndsPush xs) r s t
 
+-- a put that succeeds: a push that won, behind tries that lost, and the addition to the length
 pub put_met : (tries : ℕ) (xs : List ℕ) (s t u : Seated) → Pushes tries xs (Ok tt) s t →
     Steps (Add (length xs)) Done t u → Puts tries xs (Ok tt) s u
 put_met tries xs s t u p d =
@@ -208,6 +215,7 @@ put_met tries xs s t u p d =
           (same_credit s.known.view.credit (length xs)),
     )
 
+-- a put whose push is refused: the head was spent, or all tries lost
 pub put_unmet : (tries : ℕ) (xs : List ℕ) (cause : Refusal) (s t : Seated) →
     Pushes tries xs (Err cause) s t → Puts tries xs (Err cause) s t
 put_unmet tries xs HeadSpent s t p =
@@ -228,6 +236,7 @@ put_unmet tries xs cause s t p = absurd p.4
 abbrev pub RaisesBy : Limits → ℕ → Result (Unit {0}) Refusal → Seated → Seated → Type 0
 RaisesBy l i r s t = Repeats l.tries (IsLostRaise l i) (EndsRaise l i) r s t
 
+-- a raise that succeeds: one that won, behind tries that lost
 pub raise_met : (l : Limits) (i : ℕ) (s t : Seated) → RaisesBy l i (Ok tt) s t →
     Raises l i (Ok tt) s t
 raise_met l i s t r =
@@ -240,6 +249,7 @@ raise_met l i s t r =
       last_try (IsLostRaise l i) r.0 s r.1 t r.3 (Raised i c) (λ v. raised v i) r.4.3,
     )
 
+-- a raise that is refused: the count was at the limit, or all tries lost
 pub raise_unmet : (l : Limits) (i : ℕ) (cause : Refusal) (s t : Seated) →
     RaisesBy l i (Err cause) s t → Raises l i (Err cause) s t
 raise_unmet l i RefSpent s t r =
@@ -262,6 +272,7 @@ raised_told l i s t same r = (
   knew_count (IsLostRaise l i) r.0 i r.4.0 s r.1 r.3 r.4.2,
 )
 
+-- and what a refused one knew of it
 pub unraised_told : (l : Limits) (i : ℕ) (cause : Refusal) (s t : Seated) → s.known.limits ≡ l →
     RaisesBy l i (Err cause) s t → cause ≡ RefSpent → KnowsSpent i s
 unraised_told l i cause s t same r e =

@@ -1,13 +1,12 @@
 //! A try at a change of the words that may lose, and the loop that repeats it.
 
-ghost use Rattle.std.specs.Prelude.{◌≡◌, ◌≢◌, ℕ, List, Option, Result, Err, length};
+ghost use Rattle.std.specs.Prelude.{◌≡◌, ◌≢◌, ℕ, List, Option, Err, length};
 ghost use Rattle.commons.specs.declared.limits.Limits.{Limits};
-ghost use Rattle.commons.specs.declared.refusal.Refusal.{Refusal};
 ghost use Rattle.step_core.specs.declared.view.Look.{Look};
 ghost use Rattle.step_core.specs.declared.view.View.{View};
 ghost use Rattle.ground.specs.Seats.{IsOf, Seated};
 ghost use Rattle.stack_lf.specs.Tries.{Try};
-ghost use Rattle.stack_lf.specs.Leaves.{HasLost, IsAlone, IsOneTry, Repeats, seen_as};
+ghost use Rattle.stack_lf.specs.Effects.{Ending, HasLost, IsAlone, IsOneTry, Repeats, seen_as};
 
 use crate::tried::Tried;
 use commons::refusal::Refusal;
@@ -25,17 +24,19 @@ pub(crate) trait Attempt: Copy {
     ghost loses: { Self → Limits → Try → Type 0 };
 
     /// What a try that wins, or is refused, leaves of the list and of the seat.
-    ghost ends: { Self → Limits → List ℕ → Result (Unit {0}) Refusal → Seated → Seated → Type 0 };
+    ghost ends: { Self → Limits → List ℕ → Ending };
 
     /// Makes one try. The only seat of a pool doesn't lose it.
     fn attempt(self, ground: &Ground, seat: &mut GroundSeat, out: &mut [u32]) -> Tried
         requires of { IsOf ground.now seat.old }
         requires may { may self (length out.old) seat.old.known.view }
-        ensures one { IsOneTry (loses self ground.now.limits) (ends self ground.now.limits out.new) result seat.old seat.new }
+        ensures one { IsOneTry (loses self ground.now.limits)
+            (ends self ground.now.limits out.new) result seat.old seat.new }
         ensures alone { IsAlone seat.old → result ≢ Tried.Lost };
 
     /// What the seat has seen of the head doesn't matter to it.
-    ghost may_again: { (a : Self) (n : ℕ) (v : View) (look : Option Look) (seen : ℕ) → may a n v → may a n (seen_as v look seen) };
+    ghost may_again: { (a : Self) (n : ℕ) (v : View) (look : Option Look) (seen : ℕ) →
+        may a n v → may a n (seen_as v look seen) };
 }
 
 /// Makes the tries after a first one that lost, until one doesn't lose or as many have lost, with
@@ -51,7 +52,8 @@ fn repeat_apart<A: Attempt>(
     requires of { IsOf ground.now seat.old }
     requires may { A.may attempt (length out.old) seat.old.known.view }
     ensures { (first : Seated) → HasLost (A.loses attempt ground.now.limits) 1 first seat.old →
-        Repeats ground.now.limits.tries (A.loses attempt ground.now.limits) (A.ends attempt ground.now.limits out.new) result first seat.new }
+        Repeats ground.now.limits.tries (A.loses attempt ground.now.limits)
+        (A.ends attempt ground.now.limits out.new) result first seat.new }
 {
     let limits = ground.limits();
     let backoff = Backoff::new();
@@ -78,7 +80,8 @@ fn repeat<A: Attempt>(
     requires of { IsOf ground.now seat.old }
     requires may { A.may attempt (length out.old) seat.old.known.view }
     ensures { (first : Seated) → HasLost (A.loses attempt ground.now.limits) 1 first seat.old →
-        Repeats ground.now.limits.tries (A.loses attempt ground.now.limits) (A.ends attempt ground.now.limits out.new) result first seat.new }
+        Repeats ground.now.limits.tries (A.loses attempt ground.now.limits)
+        (A.ends attempt ground.now.limits out.new) result first seat.new }
 {
     match repeat_apart(attempt, ground, seat, out) {
         Ok(()) => Ok(()),
@@ -97,9 +100,11 @@ pub(crate) fn by_tries<A: Attempt>(
 ) -> Result<(), Refusal>
     requires of { IsOf ground.now seat.old }
     requires may { A.may attempt (length out.old) seat.old.known.view }
-    ensures ends { Repeats ground.now.limits.tries (A.loses attempt ground.now.limits) (A.ends attempt ground.now.limits out.new) result seat.old seat.new }
+    ensures ends { Repeats ground.now.limits.tries (A.loses attempt ground.now.limits)
+        (A.ends attempt ground.now.limits out.new) result seat.old seat.new }
     ensures alone { IsAlone seat.old → result ≢ Err Refusal.Contended }
 {
+    // A pool's limits allow one try at least.
     let _limits = ground.limits();
     match attempt.attempt(ground, seat, out) {
         Tried::Won => Ok(()),

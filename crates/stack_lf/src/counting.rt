@@ -4,7 +4,7 @@ ghost use Rattle.std.specs.Prelude.{◌≡◌, ◌≢◌, ◌<◌, Err, IfOk, []
 ghost use Rattle.commons.specs.Bag.{bag};
 ghost use Rattle.ground.specs.Seats.{IsOf};
 ghost use Rattle.stack_lf.specs.Tries.{IsLostRaise, KnowsSpent, KnowsRaised, KnowsLowered};
-ghost use Rattle.stack_lf.specs.Leaves.{IsAlone, EndsRaise, Raises, Lowers};
+ghost use Rattle.stack_lf.specs.Effects.{IsAlone, EndsRaise, Raises, Lowers};
 
 use crate::attempt::{Attempt, by_tries};
 use crate::tried::Tried;

@@ -6,7 +6,7 @@ ghost use Rattle.commons.specs.Bag.{bag};
 ghost use Rattle.commons.specs.Calls.{without_packet};
 ghost use Rattle.commons.specs.Packets.{holds_of_packet, own_of_packet};
 ghost use Rattle.ground.specs.Seats.{IsOf};
-ghost use Rattle.stack_lf.specs.Leaves.{Offers, Takes};
+ghost use Rattle.stack_lf.specs.Effects.{Offers, Takes};
 
 use commons::packet::Packet;
 use commons::refusal::Refusal;

@@ -3,8 +3,8 @@
 ghost use Rattle.std.specs.Prelude.{◌≡◌, ◌≢◌, ◌<◌, ◌≤◌, Err, Some, None, length, IfOk, IfSome, IfNone};
 ghost use Rattle.commons.specs.Bounds.{max_population};
 ghost use Rattle.ground.specs.Seats.{IsOf, KnowsEnd};
-ghost use Rattle.stack_lf.specs.Tries.{Walk, elements, IsMiss, IsLostCut, KnowsShort, KnowsEnough};
-ghost use Rattle.stack_lf.specs.Leaves.{IsAlone, start, Walked, EndsReserve, EndsCut, Gets};
+ghost use Rattle.stack_lf.specs.Tries.{Walk, elements, IsLostReserve, IsLostCut, KnowsShort, KnowsEnough};
+ghost use Rattle.stack_lf.specs.Effects.{IsAlone, start, Walked, EndsReserve, EndsCut, Gets};
 
 use crate::attempt::{Attempt, by_tries};
 use crate::tried::Tried;
@@ -23,7 +23,7 @@ struct Reservation {
 impl Attempt for Reservation {
     ghost may = { λ a k v. 1 ≤ a.n };
 
-    ghost loses = { λ a l. IsMiss a.n };
+    ghost loses = { λ a l. IsLostReserve a.n };
 
     ghost ends = { λ a l xs. EndsReserve a.n };
 
@@ -43,8 +43,8 @@ impl Attempt for Reservation {
 }
 
 /// Walks one link for each place of `out`, and lists the elements there. Answers what is next, or
-/// nothing where the list ends before, as it does for no seat of every part that has reserved as
-/// many.
+/// nothing where the list ends before, as it doesn't for the only seat of a pool that has reserved
+/// as many.
 #[inline(always)]
 fn walk(ground: &Ground, seat: &mut GroundSeat, head: Head, out: &mut [u32]) -> Option<u32>
     requires of { IsOf ground.now seat.old }

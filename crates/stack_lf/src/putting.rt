@@ -4,7 +4,7 @@ ghost use Rattle.std.specs.Prelude.{◌≡◌, ◌≢◌, ◌<◌, ◌≤◌, Er
 ghost use Rattle.commons.specs.Bag.{bag};
 ghost use Rattle.commons.specs.Bounds.{max_population};
 ghost use Rattle.ground.specs.Seats.{IsOf};
-ghost use Rattle.stack_lf.specs.Leaves.{IsAlone, Stored, EndsPush, Puts};
+ghost use Rattle.stack_lf.specs.Effects.{IsAlone, Stored, EndsPush, Puts};
 ghost use Rattle.stack_lf.specs.Tries.{IsLostPush, last_of};
 
 use crate::attempt::{Attempt, by_tries};
@@ -44,7 +44,8 @@ struct Push<'a> {
 }
 
 impl Attempt for Push<'_> {
-    ghost may = { λ a k v. (1 ≤ length a.list.now) × ((i : ℕ) → bag a.list.now i ≤ bag v.hand i) × (v.chain ≡ None) };
+    ghost may = { λ a k v. (1 ≤ length a.list.now)
+        × ((i : ℕ) → bag a.list.now i ≤ bag v.hand i) × (v.chain ≡ None) };
 
     ghost loses = { λ a l. IsLostPush a.list.now };
 

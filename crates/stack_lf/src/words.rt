@@ -65,7 +65,7 @@ impl<'a> WordCommons<'a> {
 
 /// Each call takes as many steps at most as is said here, each one atomic operation on one word; an
 /// offer and a take that succeed also exchange what is in the desk's slot. The length of a list is
-/// `n`. A seat of every part is never refused `Contended`.
+/// `n`. The only seat of a pool, which has every part of it, is never refused `Contended`.
 impl<'a> Commons for WordCommons<'a> {
     ghost side = { λ c. side_of c.seat };
 
@@ -74,8 +74,8 @@ impl<'a> Commons for WordCommons<'a> {
     /// Takes `tries * (n + 4) + 1` steps at most. The elements are reserved first, so that the
     /// walk over them is of this length; what was reserved is given back before any refusal. While
     /// another worker is within a call, its elements may be in neither the length nor a hand, so
-    /// `NoEntries` doesn't say that the pool has no more. To a seat of every part it does: the
-    /// common list was shorter than `n` then.
+    /// `NoEntries` doesn't say that the pool has no more. To its only seat it does: the common list
+    /// was shorter than `n` then.
     #[inline(always)]
     fn get_list(&mut self, out: &mut [u32]) -> Result<(), Refusal> {
         let seat = &mut self.seat;
@@ -101,7 +101,7 @@ impl<'a> Commons for WordCommons<'a> {
         seat.owned();
     }
 
-    /// Takes one step. A seat of every part is told how often it and the packets on full desks
+    /// Takes one step. The only seat of a pool is told how often it and the packets on full desks
     /// hold the element.
     fn count(&mut self, element: u32) -> u32 {
         let seat = &mut self.seat;
@@ -110,7 +110,7 @@ impl<'a> Commons for WordCommons<'a> {
         count as u32
     }
 
-    /// Takes `2 * tries` steps at most. Where a seat of every part is refused `RefSpent`, it and
+    /// Takes `2 * tries` steps at most. Where the only seat of a pool is refused `RefSpent`, it and
     /// the packets on full desks have as many holds of the element as the reference limit allows.
     fn raise(&mut self, element: u32) -> Result<(), Refusal> {
         let seat = &mut self.seat;
@@ -145,7 +145,7 @@ impl<'a> Commons for WordCommons<'a> {
         answer
     }
 
-    /// Takes one step. A seat of every part is told the length of the common list: all that is
+    /// Takes one step. The only seat of a pool is told the length of the common list: all that is
     /// neither in its hand nor held by it or by packets on full desks.
     fn common_count(&mut self) -> u32 {
         let seat = &mut self.seat;

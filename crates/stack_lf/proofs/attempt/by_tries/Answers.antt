@@ -1,4 +1,4 @@
-use Rattle.std.proofs.Common.{◌≡◌, ℕ, refl, sym, subst, length}
+use Rattle.std.proofs.Common.{ℕ, refl, sym, subst, length}
 use Rattle.ground.specs.Seats.{Seated}
 use Rattle.stack_lf.proofs.Composing.{lost_none, lost_of, ends_refused}
 use Rattle.stack_lf.proofs.attempt.by_tries.Goals as goal

@@ -1,7 +1,7 @@
 use Rattle.std.proofs.Common.{◌≡◌, ◌<◌, ℕ, sym, ap, subst, length, arith}
 use Rattle.commons.specs.declared.limits.Limits.{Limits}
 use Rattle.ground.specs.Seats.{Seated}
-use Rattle.stack_lf.specs.Leaves.{HasLost}
+use Rattle.stack_lf.specs.Effects.{HasLost}
 use Rattle.stack_lf.proofs.Composing.{lost_more, lost_of, ends_refused}
 use Rattle.stack_lf.proofs.attempt.repeat_apart.Goals as goal
 

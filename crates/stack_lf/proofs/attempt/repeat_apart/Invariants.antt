@@ -1,6 +1,6 @@
 use Rattle.std.proofs.Common.{length}
 use Rattle.ground.specs.Seats.{IsOf, Seated}
-use Rattle.stack_lf.specs.Leaves.{HasLost}
+use Rattle.stack_lf.specs.Effects.{HasLost}
 use Rattle.stack_lf.proofs.attempt.repeat_apart.Given as goal
 
 -- with the first one the tries so far lost, and another may be made

@@ -4,7 +4,7 @@ use Rattle.step_core.proofs.Bags.{times-last}
 use Rattle.step_core.specs.declared.step.Step.TheVariants.{Sole}
 use Rattle.step_core.specs.declared.step.Outcome.TheVariants.{Value}
 use Rattle.ground.specs.Seats.{Seated, Steps, KnowsCount}
-use Rattle.stack_lf.specs.Tries.{Freed, Lowered, Lasted}
+use Rattle.stack_lf.specs.Tries.{Freed, Lowered, LoweredToLast}
 use Rattle.stack_lf.proofs.Tallying.{lower_still, lower_last, lower_between, sole_kept}
 use Rattle.stack_lf.proofs.counting.lower.Goals as goal
 
@@ -18,7 +18,7 @@ returns-then-sole-eq1-clause-lowered c =
           c.if-sole-eq1.true c.sole.ensures.step,
     )
 
--- which is what a seat of every part knows
+-- which is what the only seat of a pool knows
 pub returns-then-sole-eq1-clause-told : goal.returns-then-sole-eq1-clause-told
 returns-then-sole-eq1-clause-told c =
     subst (KnowsCount c.args.seat.now.known c.args.element) c.if-sole-eq1.true c.sole.ensures.known
@@ -43,7 +43,7 @@ returns-then-lower-eq1-clause-lowered c =
     let n = c.sole.result in
     let held = c.requires.held in
     let own = c.sole.ensures.own in (
-      Lasted i n,
+      LoweredToLast i n,
       inr (n, omega arith, refl),
       lower_last i n c.lower.result c.args.seat.now c.sole.new.seat c.lower.new.seat
           c.reset.new.seat c.requires.zeros c.if-sole-eq1.false c.if-lower-eq1.true
@@ -76,6 +76,7 @@ returns-clause-lowered c =
           c.if-lower-eq1.false c.sole.ensures.step c.lower.ensures.step,
     )
 
+-- whose count was above 1
 pub returns-clause-told : goal.returns-clause-told
 returns-clause-told c =
     let held = c.requires.held in

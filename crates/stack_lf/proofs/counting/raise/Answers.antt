@@ -1,5 +1,3 @@
-use Rattle.std.proofs.Common.{◌≡◌, ap, subst}
-use Rattle.commons.specs.declared.refusal.Refusal.TheVariants.{RefSpent}
 use Rattle.stack_lf.proofs.Whole.{raise_met, raise_unmet, raised_told, unraised_told}
 use Rattle.stack_lf.proofs.counting.raise.Goals as goal
 
@@ -9,6 +7,7 @@ returns-in-Ok-clause-raised c =
     raise_met c.args.ground.now.limits c.args.element c.args.seat.now c.by_tries.new.seat
     c.in-Ok.ensures.ends
 
+-- which the only seat of a pool knew before
 pub returns-in-Ok-clause-below : goal.returns-in-Ok-clause-below
 returns-in-Ok-clause-below c =
     raised_told c.args.ground.now.limits c.args.element c.args.seat.now c.by_tries.new.seat
@@ -20,6 +19,7 @@ returns-in-Err-clause-raised c =
     raise_unmet c.args.ground.now.limits c.args.element c.in-Err.cause c.args.seat.now
     c.by_tries.new.seat c.in-Err.ensures.ends
 
+-- which the only seat of a pool knew before
 pub returns-in-Err-clause-told : goal.returns-in-Err-clause-told
 returns-in-Err-clause-told c = λ e.
     unraised_told c.args.ground.now.limits c.args.element c.in-Err.cause c.args.seat.now

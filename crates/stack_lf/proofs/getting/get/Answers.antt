@@ -8,6 +8,7 @@ returns-in-Err-clause-got c =
     get_unreserved c.args.ground.now.limits.tries (length c.args.out.now) c.args.out.now
     c.in-Err.cause c.args.seat.now c.by_tries.new.seat c.in-Err.ensures.ends
 
+-- of which the only seat of a pool knew the length before
 pub returns-in-Err-clause-told : goal.returns-in-Err-clause-told
 returns-in-Err-clause-told c = λ e.
     unreserved_told c.args.ground.now.limits.tries (length c.args.out.now) c.in-Err.cause
@@ -20,6 +21,7 @@ returns-in-Ok-by_tries-clause-got c =
     c.args.seat.now c.by_tries.new.seat c.by_tries-in-Ok.new.seat c.in-Ok.ensures.ends
     c.in-Ok-by_tries.ensures.ends
 
+-- of which the only seat of a pool knew that there is enough
 pub returns-in-Ok-by_tries-clause-enough : goal.returns-in-Ok-by_tries-clause-enough
 returns-in-Ok-by_tries-clause-enough c =
     reserved_told c.args.ground.now.limits.tries (length c.args.out.now) c.args.seat.now

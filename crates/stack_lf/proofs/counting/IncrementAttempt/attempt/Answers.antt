@@ -3,8 +3,8 @@ use Rattle.commons.specs.declared.limits.Limits.{Limits}
 use Rattle.ground.specs.Seats.{Seated, Steps, KnowsCount}
 use Rattle.step_core.specs.declared.step.Step.TheVariants.{Sole, Raise}
 use Rattle.step_core.specs.declared.step.Outcome.TheVariants.{Value, Won, Lost}
-use Rattle.stack_lf.specs.Tries.{IsLostRaise, Unraised}
-use Rattle.stack_lf.proofs.Bare.{same_count}
+use Rattle.stack_lf.specs.Tries.{IsLostRaise, RaiseFailed}
+use Rattle.stack_lf.proofs.SoleSeat.{same_count}
 use Rattle.stack_lf.proofs.Composing.{one_more, lost_once, limit_other}
 use Rattle.stack_lf.proofs.counting.IncrementAttempt.attempt.Goals as goal
 
@@ -48,7 +48,7 @@ returns-in-Err-clause-one c =
     let s = c.args.seat.now in
     let n = c.sole-count.result in
     let found = c.in-Err.field-0 in
-    lost_once (IsLostRaise l i) s c.raise.new.seat (Unraised i n found) s.known.view.look
+    lost_once (IsLostRaise l i) s c.raise.new.seat (RaiseFailed i n found) s.known.view.look
     s.known.view.seen (
       n,
       found,

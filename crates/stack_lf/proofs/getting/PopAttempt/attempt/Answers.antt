@@ -1,11 +1,11 @@
-use Rattle.std.proofs.Common.{◌≡◌, ◌≤◌, ℕ, inl, inr, ◌+◌, refl, sym, ap, ◌∙◌, subst, arith, length}
+use Rattle.std.proofs.Common.{◌≡◌, inl, inr, ◌+◌, refl, sym, ap, ◌∙◌, subst, arith, length}
 use Rattle.std.proofs.lemmas.List.{length-map}
 use Rattle.std.specs.Prelude.{None, Some}
 use Rattle.commons.specs.declared.limits.Limits.{Limits}
 use Rattle.ground.specs.Seats.{Seated}
 use Rattle.step_core.specs.declared.step.Outcome.TheVariants.{LostTo}
-use Rattle.stack_lf.specs.Leaves.{IsAlone, start}
-use Rattle.stack_lf.specs.Tries.{Stopped, Ended, Beaten, Cutoff, IsLostCut, elements, element_in}
+use Rattle.stack_lf.specs.Effects.{IsAlone, start}
+use Rattle.stack_lf.specs.Tries.{Stopped, Ended, PopFailed, Popped, IsLostCut, elements, element_in}
 use Rattle.stack_lf.proofs.Composing.{lost_once, spent_other}
 use Rattle.stack_lf.proofs.Walks.{cut_tried, cut_wins, walk_ended, may_cut, walked_part}
 use Rattle.stack_lf.proofs.getting.PopAttempt.attempt.Goals as goal
@@ -36,7 +36,7 @@ pub returns-in-Ok-clause-one : goal.returns-in-Ok-clause-one
 returns-in-Ok-clause-one c =
     let h = c.load_head-head.result in
     let w = c.in-Some.ensures.some in (
-      Cutoff h w.0,
+      Popped h w.0,
       None,
       h.count + 1,
       c.walk.ensures.len ∙ c.requires.may.1,
@@ -53,7 +53,7 @@ returns-in-Err-clause-one c =
     let found = c.in-Err.field-0 in
     let len : length w.0 ≡ c.args.self.n =
     sym (length-map w.0 element_in) ∙ (sym (ap length w.2) ∙ (c.walk.ensures.len ∙ c.requires.may.1)) in
-    lost_once (IsLostCut c.args.self.n) c.args.seat.now c.cut.new.seat (Beaten h w.0 found) None
+    lost_once (IsLostCut c.args.self.n) c.args.seat.now c.cut.new.seat (PopFailed h w.0 found) None
     found.count (inr (h, found, w.0, c.in-Some.next, len, c.in-Err.ensures.later, w.1.0, refl))
     (cut_tried h w.0 c.in-Some.next (LostTo found) c.args.seat.now c.load_head-head.new.seat
     c.walk.new.seat c.cut.new.seat c.load_head-head.ensures.step w.1 c.in-Err.ensures.step)
@@ -81,6 +81,7 @@ returns-in-None-clause-alone c = λ whole _.
     let reserved = c.requires.may.2 in
     c.in-None.ensures.alone there (omega arith) refl
 
+-- and its exchange doesn't lose
 pub returns-in-Err-clause-alone : goal.returns-in-Err-clause-alone
 returns-in-Err-clause-alone c = λ whole _.
     let w = c.in-Some.ensures.some in

@@ -2,8 +2,8 @@ use Rattle.std.proofs.Common.{ℕ, subst, refl, [], ◌∷◌}
 use Rattle.ground.specs.Seats.{Seated, KnowsLength}
 use Rattle.step_core.specs.declared.step.Step.TheVariants.{LoadLength, Reserve as ReserveStep}
 use Rattle.step_core.specs.declared.step.Outcome.TheVariants.{Value, Won, Lost}
-use Rattle.stack_lf.specs.Tries.{IsMiss, Missed}
-use Rattle.stack_lf.proofs.Bare.{same_length}
+use Rattle.stack_lf.specs.Tries.{IsLostReserve, ReserveFailed}
+use Rattle.stack_lf.proofs.SoleSeat.{same_length}
 use Rattle.stack_lf.proofs.Composing.{one_more, lost_once}
 use Rattle.stack_lf.proofs.getting.ReservationAttempt.attempt.Goals as goal
 
@@ -27,7 +27,7 @@ returns-in-Err-clause-one c =
     let s = c.args.seat.now in
     let v = c.load_length-length.result in
     let found = c.in-Err.field-0 in
-    lost_once (IsMiss n) s c.reserve.new.seat (Missed n v found) s.known.view.look
+    lost_once (IsLostReserve n) s c.reserve.new.seat (ReserveFailed n v found) s.known.view.look
     s.known.view.seen (v, found, c.if-length-self.false, c.in-Err.ensures.lost, refl)
     (one_more s c.load_length-length.new.seat c.reserve.new.seat ((LoadLength, Value v) ∷ [])
     s.known.view (ReserveStep v n) (Lost found) c.load_length-length.ensures.step

@@ -1,8 +1,8 @@
 use Rattle.std.proofs.Common.{◌+◌, ◌∙◌, ap, refl, arith}
 use Rattle.std.specs.Prelude.{None, Some}
 use Rattle.commons.specs.declared.limits.Limits.{Limits}
-use Rattle.stack_lf.specs.Leaves.{start}
-use Rattle.stack_lf.specs.Tries.{Stopped, Pushed, Unpushed, IsLostPush}
+use Rattle.stack_lf.specs.Effects.{start}
+use Rattle.stack_lf.specs.Tries.{Stopped, Pushed, PushFailed, IsLostPush}
 use Rattle.stack_lf.proofs.Composing.{lost_once, spent_other}
 use Rattle.stack_lf.proofs.Storing.{may_push, push_wins, push_loses, linked_part}
 use Rattle.stack_lf.proofs.putting.PushAttempt.attempt.Goals as goal
@@ -42,7 +42,7 @@ returns-in-Err-clause-one c =
     let h = c.load_head-head.result in
     let xs = c.args.self.list.now in
     let found = c.in-Err.field-0 in
-    lost_once (IsLostPush xs) c.args.seat.now c.push.new.seat (Unpushed h xs found) None found.count
+    lost_once (IsLostPush xs) c.args.seat.now c.push.new.seat (PushFailed h xs found) None found.count
     (h, found, c.in-Err.ensures.later, refl)
     (push_loses h found xs c.args.seat.now c.load_head-head.new.seat
     c.store_links-first.new.seat c.push.new.seat c.requires.may.0 c.requires.may.2

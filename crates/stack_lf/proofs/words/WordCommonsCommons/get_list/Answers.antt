@@ -1,6 +1,6 @@
 use Rattle.std.proofs.Common.{sym, subst, length, rules}
 use Rattle.commons.specs.declared.limits.Limits.{Limits}
-use Rattle.stack_lf.specs.Leaves.{Gets}
+use Rattle.stack_lf.specs.Effects.{Gets}
 use Rattle.stack_lf.proofs.Meeting.{get_did}
 use Rattle.stack_lf.proofs.words.WordCommonsCommons.get_list.Goals as goal
 

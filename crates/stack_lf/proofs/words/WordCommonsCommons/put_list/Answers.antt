@@ -1,6 +1,6 @@
 use Rattle.std.proofs.Common.{sym, subst, rules}
 use Rattle.commons.specs.declared.limits.Limits.{Limits}
-use Rattle.stack_lf.specs.Leaves.{Puts}
+use Rattle.stack_lf.specs.Effects.{Puts}
 use Rattle.stack_lf.proofs.Meeting.{put_did}
 use Rattle.stack_lf.proofs.words.WordCommonsCommons.put_list.Goals as goal
 

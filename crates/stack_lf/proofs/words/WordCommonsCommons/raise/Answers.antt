@@ -1,6 +1,6 @@
 use Rattle.std.proofs.Common.{sym, subst, rules}
 use Rattle.commons.specs.declared.limits.Limits.{Limits}
-use Rattle.stack_lf.specs.Leaves.{Raises}
+use Rattle.stack_lf.specs.Effects.{Raises}
 use Rattle.stack_lf.proofs.Meeting.{raise_did}
 use Rattle.stack_lf.proofs.words.WordCommonsCommons.raise.Goals as goal
 

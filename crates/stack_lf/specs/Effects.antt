@@ -16,7 +16,7 @@ use Rattle.ground.specs.DeskSeats.{laid}
 use Rattle.ground.specs.Seats.{Seated, after, KnowsLength, KnowsCount, KnowsThere, KnowsEmpty, KnowsFull}
 use Rattle.stack_lf.specs.declared.tried.Tried.{Tried}
 use Rattle.stack_lf.specs.declared.tried.Tried.TheVariants as tried
-use Rattle.stack_lf.specs.Tries.{Try, Walk, IsWalk, Short, Reserved, notes, notes_of, elements, link_note, stores, IsMiss, IsLostCut, IsWonCut, IsLostPush, IsWonPush, IsSpent, IsGet, IsPut, Raised, Counted, IsLostRaise, IsRaise, IsLower, Unoffered, Offered, Untaken, Fetched}
+use Rattle.stack_lf.specs.Tries.{Try, Walk, IsWalk, Short, Reserved, notes, notes_of, elements, link_note, stores, IsWonCut, IsWonPush, IsSpent, IsGet, IsPut, Raised, Counted, IsRaise, IsLower, OfferFailed, Offered, TakeFailed, Taken}
 
 -- the seat after these tries, with this view
 abbrev pub tried_to : Seated → List Try → View → Seated
@@ -26,7 +26,7 @@ tried_to s ts v = after s (notes_of ts) v
 abbrev pub seen_as : View → Option Look → ℕ → View
 seen_as v look seen = record v { look = look; seen = seen }
 
--- the seat has every part of its pool, so that no other takes a step
+-- the seat is the only one of its pool: it has every part of it, so that no other takes a step
 abbrev pub IsAlone : Seated → Type 0
 IsAlone s = s.known.view.part ≡ s.known.limits.workers
 
@@ -65,8 +65,12 @@ abbrev pub HasLost : (Try → Type 0) → ℕ → Seated → Seated → Type 0
 HasLost P k s t = (ts : List Try) × (look : Option Look) × (seen : ℕ) × (length ts ≡ k) × All P ts
     × (t ≡ tried_to s ts (seen_as s.known.view look seen))
 
+-- what an answer says of the seat before and after
+abbrev pub Ending : Type 1
+Ending = Result (Unit {0}) Refusal → Seated → Seated → Type 0
+
 -- one try: it won or was refused, for another cause than lost tries, and ended so; or it lost
-abbrev pub IsOneTry : (Try → Type 0) → (Result (Unit {0}) Refusal → Seated → Seated → Type 0) → Tried → Seated → Seated → Type 0
+abbrev pub IsOneTry : (Try → Type 0) → Ending → Tried → Seated → Seated → Type 0
 IsOneTry P Ends tried.Won s t = Ends (Ok tt) s t
 IsOneTry P Ends tried.Lost s t = HasLost P 1 s t
 IsOneTry P Ends (tried.Refused cause) s t = (cause ≢ Contended) × Ends (Err cause) s t
@@ -77,7 +81,7 @@ EndsAfter tries P End s t =
     (k : ℕ) × (u : Seated) × (k < tries) × HasLost P k s u × End u t
 
 -- a loop of tries, by its answer: one of them ended so, or all that are allowed lost
-abbrev pub Repeats : ℕ → (Try → Type 0) → (Result (Unit {0}) Refusal → Seated → Seated → Type 0) → Result (Unit {0}) Refusal → Seated → Seated → Type 0
+abbrev pub Repeats : ℕ → (Try → Type 0) → Ending → Ending
 Repeats tries P Ends (Ok met) s t = EndsAfter tries P (Ends (Ok met)) s t
 Repeats tries P Ends (Err Contended) s t = HasLost P tries s t
 Repeats tries P Ends (Err cause) s t = EndsAfter tries P (Ends (Err cause)) s t
@@ -86,7 +90,7 @@ Repeats tries P Ends (Err cause) s t = EndsAfter tries P (Ends (Err cause)) s t
 
 -- a try to reserve n: a length of as many at least was read and is n less now, or one below n was
 -- read
-abbrev pub EndsReserve : ℕ → Result (Unit {0}) Refusal → Seated → Seated → Type 0
+abbrev pub EndsReserve : ℕ → Ending
 EndsReserve n (Ok _) s t =
     (v : ℕ) × (n ≤ v) × KnowsLength s.known v
     × (t ≡ after s (notes (Reserved n v)) (record s.known.view { credit = s.known.view.credit + n }))
@@ -99,7 +103,7 @@ abbrev pub cut_as : List ℕ → View → Option Look → ℕ → View
 cut_as xs v look seen =
     record (seen_as v look seen) { hand = v.hand ++ xs; credit = v.credit - length xs }
 
-abbrev pub EndsCut : ℕ → List ℕ → Result (Unit {0}) Refusal → Seated → Seated → Type 0
+abbrev pub EndsCut : ℕ → List ℕ → Ending
 EndsCut n xs (Ok _) s t =
     (x : Try) × (look : Option Look) × (seen : ℕ) × (length xs ≡ n) × IsWonCut xs x
     × (t ≡ after s (notes x) (cut_as xs s.known.view look seen))
@@ -115,7 +119,7 @@ push_as xs v look seen = record (seen_as v look seen) {
   credit = v.credit + length xs;
 }
 
-abbrev pub EndsPush : List ℕ → Result (Unit {0}) Refusal → Seated → Seated → Type 0
+abbrev pub EndsPush : List ℕ → Ending
 EndsPush xs (Ok _) s t =
     (x : Try) × (look : Option Look) × (seen : ℕ) × IsWonPush xs x
     × (t ≡ after s (notes x) (push_as xs s.known.view look seen))
@@ -126,7 +130,7 @@ EndsPush xs (Err _) s t = ⊥
 
 -- a try to raise a count: one below the reference limit was read and is one more now, or it was at
 -- the limit
-abbrev pub EndsRaise : Limits → ℕ → Result (Unit {0}) Refusal → Seated → Seated → Type 0
+abbrev pub EndsRaise : Limits → ℕ → Ending
 EndsRaise l i (Ok _) s t =
     (c : ℕ) × (c < l.ref_limit) × KnowsCount s.known i c
     × (t ≡ after s (notes (Raised i c)) (raised s.known.view i))
@@ -198,16 +202,16 @@ Offers d p (Ok _) s t =
 Offers d p (Err NoSuchDesk) s t = (s.known.limits.desks ≤ d) × (t ≡ s)
 Offers d p (Err DeskTaken) s t =
     (found : ℕ) × (d < s.known.limits.desks) × (found ≢ 0)
-    × (t ≡ after s (notes (Unoffered d found)) s.known.view) × KnowsFull d s.known
+    × (t ≡ after s (notes (OfferFailed d found)) s.known.view) × KnowsFull d s.known
 Offers d p (Err _) s t = ⊥
 
 -- a take, by its answer
 abbrev pub Takes : ℕ → Result (List Seg) Refusal → Seated → Seated → Type 0
 Takes d (Ok p) s t =
-    (d < s.known.limits.desks) × (t ≡ laid d None (after s (notes (Fetched d p)) (taken_as p s.known.view)))
+    (d < s.known.limits.desks) × (t ≡ laid d None (after s (notes (Taken d p)) (taken_as p s.known.view)))
     × KnowsThere d p s.known
 Takes d (Err NoSuchDesk) s t = (s.known.limits.desks ≤ d) × (t ≡ s)
 Takes d (Err DeskEmpty) s t =
     (found : ℕ) × (d < s.known.limits.desks) × (found ≢ 2)
-    × (t ≡ after s (notes (Untaken d found)) s.known.view) × KnowsEmpty d s.known
+    × (t ≡ after s (notes (TakeFailed d found)) s.known.view) × KnowsEmpty d s.known
 Takes d (Err _) s t = ⊥
