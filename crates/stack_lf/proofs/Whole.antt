@@ -1,6 +1,6 @@
 -- A whole get, a whole put and a whole raise.
 use Rattle.std.proofs.Common.{◌≡◌, ℕ, ◌+◌, ◌-◌, inl, inr, ◌<◌, List, [], ◌∷◌, ◌++◌, length, reverse, refl, sym, ap, ◌∙◌, subst, arith, append_assoc}
-use Rattle.std.specs.Prelude.{Result, Ok, Err, Option}
+use Rattle.std.specs.Prelude.{Result, Ok, Err, Option, IfOk}
 use Rattle.commons.specs.declared.limits.Limits.{Limits}
 use Rattle.commons.specs.declared.refusal.Refusal.{Refusal}
 use Rattle.commons.specs.declared.refusal.Refusal.TheVariants.{NoEntries, HeadSpent, RefSpent, Contended}
@@ -236,10 +236,10 @@ put_unmet tries xs cause s t p = absurd p.4
 abbrev pub RaisesBy : Limits → ℕ → Result (Unit {0}) Refusal → Seated → Seated → Type 0
 RaisesBy l i r s t = Repeats l.tries (IsLostRaise l i) (EndsRaise l i) r s t
 
--- a raise that succeeds: one that won, behind tries that lost
-pub raise_met : (l : Limits) (i : ℕ) (s t : Seated) → RaisesBy l i (Ok tt) s t →
-    Raises l i (Ok tt) s t
-raise_met l i s t r =
+-- by its answer: one that won, behind tries that lost; the count was at the limit; or all tries lost
+pub raise_whole : (l : Limits) (i : ℕ) (r : Result (Unit {0}) Refusal) (s t : Seated) →
+    RaisesBy l i r s t → Raises l i r s t
+raise_whole l i (Ok met) s t r =
     let ts : List Try = r.3.0 in
     let c = r.4.0 in (
       ts ++ Raised i c ∷ [],
@@ -248,11 +248,7 @@ raise_met l i s t r =
       (ts, c, fewer r.0 l.tries ts r.2 r.3.3, r.3.4, r.4.1, refl),
       last_try (IsLostRaise l i) r.0 s r.1 t r.3 (Raised i c) (λ v. raised v i) r.4.3,
     )
-
--- a raise that is refused: the count was at the limit, or all tries lost
-pub raise_unmet : (l : Limits) (i : ℕ) (cause : Refusal) (s t : Seated) →
-    RaisesBy l i (Err cause) s t → Raises l i (Err cause) s t
-raise_unmet l i RefSpent s t r =
+raise_whole l i (Err RefSpent) s t r =
     let ts : List Try = r.3.0 in (
       ts ++ Counted i l.ref_limit ∷ [],
       r.3.1,
@@ -260,22 +256,23 @@ raise_unmet l i RefSpent s t r =
       (ts, fewer r.0 l.tries ts r.2 r.3.3, r.3.4, refl),
       last_try (IsLostRaise l i) r.0 s r.1 t r.3 (Counted i l.ref_limit) (λ v. v) r.4.1,
     )
-raise_unmet l i Contended s t r = (r.0, r.1, r.2, (r.3, r.4), r.5)
-raise_unmet l i cause s t r = absurd r.4
+raise_whole l i (Err Contended) s t r = (r.0, r.1, r.2, (r.3, r.4), r.5)
+raise_whole l i (Err cause) s t r = absurd r.4
 
 -- what a raise knew of the count
-pub raised_told : (l : Limits) (i : ℕ) (s t : Seated) → s.known.limits ≡ l →
-    RaisesBy l i (Ok tt) s t → KnowsRaised i s
-raised_told l i s t same r = (
+pub raised_told : (l : Limits) (i : ℕ) (r : Result (Unit {0}) Refusal) (s t : Seated) →
+    s.known.limits ≡ l → RaisesBy l i r s t → IfOk r (λ _. KnowsRaised i s)
+raised_told l i (Ok met) s t same r = (
   r.4.0,
   subst (λ (m : Limits). r.4.0 < m.ref_limit) (sym same) r.4.1,
   knew_count (IsLostRaise l i) r.0 i r.4.0 s r.1 r.3 r.4.2,
 )
+raised_told l i (Err cause) s t same r = tt
 
 -- and what a refused one knew of it
-pub unraised_told : (l : Limits) (i : ℕ) (cause : Refusal) (s t : Seated) → s.known.limits ≡ l →
-    RaisesBy l i (Err cause) s t → cause ≡ RefSpent → KnowsSpent i s
-unraised_told l i cause s t same r e =
-    let limit = subst (λ (c : Refusal). RaisesBy l i (Err c) s t) e r in
+pub unraised_told : (l : Limits) (i : ℕ) (r : Result (Unit {0}) Refusal) (s t : Seated) →
+    s.known.limits ≡ l → RaisesBy l i r s t → r ≡ Err RefSpent → KnowsSpent i s
+unraised_told l i r s t same by e =
+    let limit = subst (λ (o : Result (Unit {0}) Refusal). RaisesBy l i o s t) e by in
     subst (λ (m : Limits). KnowsCount s.known i m.ref_limit) (sym same)
     (knew_count (IsLostRaise l i) limit.0 i l.ref_limit s limit.1 limit.3 limit.4.0)

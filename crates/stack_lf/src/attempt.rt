@@ -44,9 +44,9 @@ pub(crate) trait Attempt: Copy {
 /// small.
 #[inline(never)]
 fn repeat_apart<A: Attempt>(
-    attempt: A,
     ground: &Ground,
     seat: &mut GroundSeat,
+    attempt: A,
     out: &mut [u32],
 ) -> Result<(), Refusal>
     requires of { IsOf ground.now seat.old }
@@ -72,9 +72,9 @@ fn repeat_apart<A: Attempt>(
 /// filled only there.
 #[inline(always)]
 fn repeat<A: Attempt>(
-    attempt: A,
     ground: &Ground,
     seat: &mut GroundSeat,
+    attempt: A,
     out: &mut [u32],
 ) -> Result<(), Refusal>
     requires of { IsOf ground.now seat.old }
@@ -83,7 +83,7 @@ fn repeat<A: Attempt>(
         Repeats ground.now.limits.tries (A.loses attempt ground.now.limits)
         (A.ends attempt ground.now.limits out.new) result first seat.new }
 {
-    match repeat_apart(attempt, ground, seat, out) {
+    match repeat_apart(ground, seat, attempt, out) {
         Ok(()) => Ok(()),
         Err(cause) => Err(cause),
     }
@@ -93,9 +93,9 @@ fn repeat<A: Attempt>(
 /// `Contended`.
 #[inline(always)]
 pub(crate) fn by_tries<A: Attempt>(
-    attempt: A,
     ground: &Ground,
     seat: &mut GroundSeat,
+    attempt: A,
     out: &mut [u32],
 ) -> Result<(), Refusal>
     requires of { IsOf ground.now seat.old }
@@ -109,6 +109,6 @@ pub(crate) fn by_tries<A: Attempt>(
     match attempt.attempt(ground, seat, out) {
         Tried::Won => Ok(()),
         Tried::Refused(cause) => Err(cause),
-        Tried::Lost => repeat(attempt, ground, seat, out),
+        Tried::Lost => repeat(ground, seat, attempt, out),
     }
 }

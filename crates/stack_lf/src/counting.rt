@@ -50,10 +50,7 @@ pub(crate) fn raise(ground: &Ground, seat: &mut GroundSeat, element: u32) -> Res
     ensures below { IfOk result (λ _. KnowsRaised element seat.old) }
     ensures alone { IsAlone seat.old → result ≢ Err Refusal.Contended }
 {
-    match by_tries(Increment { element }, ground, seat, &mut []) {
-        Ok(()) => Ok(()),
-        Err(cause) => Err(cause),
-    }
+    by_tries(ground, seat, Increment { element }, &mut [])
 }
 
 /// Ends one hold of an element: where its count is 1, by the load that read it; else by lowering

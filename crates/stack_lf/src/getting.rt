@@ -114,9 +114,9 @@ pub(crate) fn get(ground: &Ground, seat: &mut GroundSeat, out: &mut [u32]) -> Re
     ensures alone { IsAlone seat.old → result ≢ Err Refusal.Contended }
 {
     let n = out.len() as u64;
-    match by_tries(Reservation { n }, ground, seat, &mut []) {
+    match by_tries(ground, seat, Reservation { n }, &mut []) {
         Err(cause) => Err(cause),
-        Ok(()) => match by_tries(Pop { n }, ground, seat, out) {
+        Ok(()) => match by_tries(ground, seat, Pop { n }, out) {
             Ok(()) => Ok(()),
             Err(cause) => {
                 ground.add(seat, n);

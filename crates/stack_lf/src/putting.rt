@@ -78,7 +78,7 @@ pub(crate) fn put(ground: &Ground, seat: &mut GroundSeat, list: &[u32]) -> Resul
     ensures put { Puts ground.now.limits.tries list.now result seat.old seat.new }
     ensures alone { IsAlone seat.old → result ≢ Err Refusal.Contended }
 {
-    match by_tries(Push { list }, ground, seat, &mut []) {
+    match by_tries(ground, seat, Push { list }, &mut []) {
         Err(cause) => Err(cause),
         Ok(()) => {
             ground.add(seat, list.len() as u64);
