@@ -14,16 +14,18 @@ use Rattle.step_core.specs.declared.view.Head.{Head}
 use Rattle.step_core.specs.declared.step.Step.TheVariants.{Cut as CutStep, Push as PushStep}
 use Rattle.step_core.specs.declared.step.Outcome.TheVariants.{LostTo, Won, Got}
 use Rattle.ground.specs.Seats.{Note}
-use Rattle.stack_lf.specs.Tries.{Try, Walk, IsWalk, Taken, Counted, Raised, Freed, Lowered, Lasted, IsLostRaise, IsRaise, IsLower, Short, Reserved, Added, Ended, Beaten, link_note, elements, element_in, stores, notes, notes_of, IsMiss, IsLostCut, IsWonCut, IsLostPush, IsWonPush, IsSpent, IsGet, IsPut, Unoffered, Offered, Untaken, Fetched, IsOffer, IsTake, IsOfCall}
+use Rattle.stack_lf.specs.Tries.{Try, Walk, IsWalk, Claimed, Counted, Raised, Freed, Lowered, LoweredToLast, IsLostRaise, IsRaise, IsLower, Short, Reserved, Added, Ended, PopFailed, link_note, elements, element_in, stores, notes, notes_of, IsLostReserve, IsLostCut, IsWonCut, IsLostPush, IsWonPush, IsSpent, IsGet, IsPut, OfferFailed, Offered, TakeFailed, Taken, IsOffer, IsTake, IsOfCall}
 use Rattle.stack_lf.specs.Bounds.{most_steps}
 use Rattle.stack_lf.proofs.Composing.{notes_of-append}
 use Rattle.stack_lf.proofs.Reading.{all_tail}
 
+-- the steps of tries one after another are those of both
 steps-append : (xs ys : List Try) → length (notes_of (xs ++ ys))
     ≡ length (notes_of xs) + length (notes_of ys)
 steps-append xs ys = ap (λ (l : List Note). length l) (notes_of-append xs ys)
     ∙ length-append (notes_of xs) (notes_of ys)
 
+-- and of one try before others
 steps-cons : (x : Try) (ys : List Try) →
     length (notes_of (x ∷ ys)) ≡ length (notes x) + length (notes_of ys)
 steps-cons x ys = length-append (notes x) (notes_of ys)
@@ -47,7 +49,7 @@ times_less k tries m h = let a : suc k * m ≤ tries * m = mul-le-mul_right m h 
 by_eq : (x y : Try) (m : ℕ) → x ≡ y → length (notes y) ≤ m → length (notes x) ≤ m
 by_eq x y m e h = subst (λ (t : Try). length (notes t) ≤ m) (sym e) h
 
-miss_steps : (n : ℕ) (x : Try) → IsMiss n x → length (notes x) ≤ 2
+miss_steps : (n : ℕ) (x : Try) → IsLostReserve n x → length (notes x) ≤ 2
 miss_steps n x h = by_eq x _ 2 h.4 (omega arith)
 
 one_end : (l : List Note) (x : Note) → length (l ++ x ∷ []) ≡ length l + 1
@@ -56,20 +58,23 @@ one_end l x = length-append l (x ∷ [])
 links : (ps : Walk) → length (map link_note ps) ≡ length ps
 links ps = length-map ps link_note
 
+-- a cut that lost reads the head and n links at most, and exchanges the head once at most
 lost_cut_steps : (n : ℕ) (x : Try) → IsLostCut n x → length (notes x) ≤ n + 2
 lost_cut_steps n x h = ⊎_elim
     (λ (a : (k : Head) × (ps : Walk) × (length ps < n) × IsWalk k.top ps 0 × (x ≡ Ended k ps)).
     by_eq x _ (n + 2) a.4 (let len = a.2 in omega (arith, links a.1)))
     (λ (b : (k found : Head) × (ps : Walk) × (u : ℕ) × (length ps ≡ n) × (k.count < found.count)
-    × IsWalk k.top ps u × (x ≡ Beaten k ps found)).
+    × IsWalk k.top ps u × (x ≡ PopFailed k ps found)).
     by_eq x _ (n + 2) b.7 (let len = b.4 in
     omega (arith, links b.2, one_end (map link_note b.2) (CutStep, LostTo b.1))))
     h
 
+-- a list has as many links to store as it has elements
 stored : (v : ℕ) (xs : List ℕ) → length (stores v xs) ≡ length xs
 stored v [] = refl
 stored v (x ∷ xs) = ap suc (stored (suc x) xs)
 
+-- a cut that won reads the head and a link for each element, and exchanges the head once
 won_cut_steps : (xs : List ℕ) (x : Try) → IsWonCut xs x → length (notes x) ≤ length xs + 2
 won_cut_steps xs x h = by_eq x _ (length xs + 2) h.6 (let e = ap (λ (l : List ℕ). length l) h.3 in
     omega (
@@ -81,10 +86,12 @@ won_cut_steps xs x h = by_eq x _ (length xs + 2) h.6 (let e = ap (λ (l : List �
           (CutStep, Got (elements h.1)),
     ))
 
+-- a push that lost reads the head, stores a link for each element, and exchanges the head once
 lost_push_steps : (xs : List ℕ) (x : Try) → IsLostPush xs x → length (notes x) ≤ length xs + 2
 lost_push_steps xs x h = by_eq x _ (length xs + 2) h.3 (let k = h.0 in
     omega (arith, stored k.top xs, one_end (stores k.top xs) (PushStep, LostTo h.1)))
 
+-- and so does one that won
 won_push_steps : (xs : List ℕ) (x : Try) → IsWonPush xs x → length (notes x) ≤ length xs + 2
 won_push_steps xs x h = by_eq x _ (length xs + 2) h.2 (let k = h.0 in
     omega (arith, stored k.top xs, one_end (stores k.top xs) (PushStep, Won)))
@@ -92,6 +99,7 @@ won_push_steps xs x h = by_eq x _ (length xs + 2) h.2 (let k = h.0 in
 spent_steps : (x : Try) → IsSpent x → length (notes x) ≤ 1
 spent_steps x h = by_eq x _ 1 h.2 (omega arith)
 
+-- tries of n + 4 steps are as many of n + 2 and of two
 split_times : (t n : ℕ) → t * (n + 4) ≡ t * (n + 2) + t * 2
 split_times zero n = omega arith
 split_times (suc t) n = omega (arith, split_times t n, suc-mul t (n + 4), suc-mul t (n + 2))
@@ -99,6 +107,8 @@ split_times (suc t) n = omega (arith, split_times t n, suc-mul t (n + 4), suc-mu
 size : List Try → ℕ
 size ts = length (notes_of ts)
 
+-- A get: its reservations take two steps each, its cuts n + 2, and what it gives back one. By its
+-- answer it has fewer of either than are allowed, and a last one, or as many.
 get_bounded : (l : Limits) (n : ℕ) (answer : Result (List ℕ) Refusal) (ts : List Try) →
     IsGet l.tries n answer ts → length (notes_of ts) ≤ l.tries * (n + 4) + 1
 get_bounded l n (Ok xs) ts d =
@@ -107,7 +117,7 @@ get_bounded l n (Ok xs) ts d =
     let x : Try = d.3 in
     let less = d.4 in let less' = d.7 in
     let all = ap (λ (z : List Try). length (notes_of z)) d.11 in
-    let a = each_bounded (IsMiss n) 2 misses (miss_steps n) d.5 in
+    let a = each_bounded (IsLostReserve n) 2 misses (miss_steps n) d.5 in
     let b = each_bounded (IsLostCut n) (n + 2) cuts (lost_cut_steps n) d.8 in
     let c = won_cut_steps xs x d.10 in
     let len = d.9 in
@@ -124,7 +134,7 @@ get_bounded l n (Err NoEntries) ts d =
     let misses : List Try = d.0 in
     let less = d.2 in
     let all = ap (λ (z : List Try). length (notes_of z)) d.5 in
-    let a = each_bounded (IsMiss n) 2 misses (miss_steps n) d.3 in
+    let a = each_bounded (IsLostReserve n) 2 misses (miss_steps n) d.3 in
     omega (arith, steps-append misses (Short d.1 ∷ []), split_times l.tries n)
 get_bounded l n (Err HeadSpent) ts d =
     let misses : List Try = d.0 in
@@ -132,7 +142,7 @@ get_bounded l n (Err HeadSpent) ts d =
     let x : Try = d.3 in
     let less = d.4 in let less' = d.7 in
     let all = ap (λ (z : List Try). length (notes_of z)) d.10 in
-    let a = each_bounded (IsMiss n) 2 misses (miss_steps n) d.5 in
+    let a = each_bounded (IsLostReserve n) 2 misses (miss_steps n) d.5 in
     let b = each_bounded (IsLostCut n) (n + 2) cuts (lost_cut_steps n) d.8 in
     let c = spent_steps x d.9 in
     omega (
@@ -146,17 +156,17 @@ get_bounded l n (Err HeadSpent) ts d =
           (length cuts) l.tries (n + 2) d.7,
     )
 get_bounded l n (Err Contended) ts d = ⊎_elim
-    (λ (h : (length ts ≡ l.tries) × All (IsMiss n) ts). let a =
-    each_bounded (IsMiss n) 2 ts (miss_steps n) h.1 in let len = h.0 in
+    (λ (h : (length ts ≡ l.tries) × All (IsLostReserve n) ts). let a =
+    each_bounded (IsLostReserve n) 2 ts (miss_steps n) h.1 in let len = h.0 in
     omega (arith, split_times l.tries n))
-    (λ (h : (misses cuts : List Try) × (v : ℕ) × (length misses < l.tries) × All (IsMiss n) misses
+    (λ (h : (misses cuts : List Try) × (v : ℕ) × (length misses < l.tries) × All (IsLostReserve n) misses
     × (n ≤ v) × (length cuts ≡ l.tries) × All (IsLostCut n) cuts
     × (ts ≡ misses ++ Reserved n v ∷ (cuts ++ Added n ∷ []))).
     let misses : List Try = h.0 in
     let cuts : List Try = h.1 in
     let less = h.3 in let len = h.6 in
     let all = ap (λ (z : List Try). length (notes_of z)) h.8 in
-    let a = each_bounded (IsMiss n) 2 misses (miss_steps n) h.4 in
+    let a = each_bounded (IsLostReserve n) 2 misses (miss_steps n) h.4 in
     let b = each_bounded (IsLostCut n) (n + 2) cuts (lost_cut_steps n) h.7 in
     let c = mul-le-mul_right (n + 2) (let e : length cuts ≤ l.tries = omega arith in e) in
     omega (
@@ -169,6 +179,7 @@ get_bounded l n (Err Contended) ts d = ⊎_elim
     d
 get_bounded l n (Err _) ts d = absurd d
 
+-- a put: its pushes take as many steps as the list is long and two, and the addition one
 put_bounded : (l : Limits) (xs : List ℕ) (answer : Result (Unit {0}) Refusal) (ts : List Try) →
     IsPut l.tries xs answer ts → length (notes_of ts) ≤ l.tries * (length xs + 2) + 1
 put_bounded l xs (Ok _) ts d =
@@ -204,6 +215,7 @@ put_bounded l xs (Err Contended) ts d =
     omega arith
 put_bounded l xs (Err _) ts d = absurd d
 
+-- tries that are the same have as many steps
 same_steps : (ts us : List Try) (m : ℕ) → ts ≡ us → length (notes_of us) ≤ m →
     length (notes_of ts) ≤ m
 same_steps ts us m e h = subst (λ (z : List Try). length (notes_of z) ≤ m) (sym e) h
@@ -211,6 +223,7 @@ same_steps ts us m e h = subst (λ (z : List Try). length (notes_of z) ≤ m) (s
 lost_raise_steps : (l : Limits) (i : ℕ) (x : Try) → IsLostRaise l i x → length (notes x) ≤ 2
 lost_raise_steps l i x h = by_eq x _ 2 h.4 (omega arith)
 
+-- a raise: its tries take two steps each
 raise_bounded : (l : Limits) (i : ℕ) (answer : Result (Unit {0}) Refusal) (ts : List Try) →
     IsRaise l i answer ts → length (notes_of ts) ≤ 2 * l.tries
 raise_bounded l i (Ok _) ts d =
@@ -229,31 +242,35 @@ raise_bounded l i (Err Contended) ts d =
     omega arith
 raise_bounded l i (Err _) ts d = absurd d
 
+-- a lower: it loads the count, lowers it, and sets it to 1 again where that read 1
 lower_steps : (i : ℕ) (answer : Answer) (x : Try) → IsLower i answer x → length (notes x) ≤ 3
 lower_steps i Last x d = ⊎_elim
     (λ (a : x ≡ Freed i). by_eq x (Freed i) 3 a (omega arith))
-    (λ (b : (c : ℕ) × (1 < c) × (x ≡ Lasted i c)). by_eq x (Lasted i b.0) 3 b.2 (omega arith)) d
+    (λ (b : (c : ℕ) × (1 < c) × (x ≡ LoweredToLast i c)). by_eq x (LoweredToLast i b.0) 3 b.2 (omega arith)) d
 lower_steps i Still x d = by_eq x (Lowered i d.0 d.1) 3 d.4 (omega arith)
 
+-- an offer: it holds the desk and opens it, or finds it taken
 offer_bounded : (l : Limits) (d : ℕ) (p : List Seg) (answer : Result (Unit {0}) Refusal) (ts : List Try) →
     IsOffer l d p answer ts → length (notes_of ts) ≤ most_steps l (Offer d p answer)
 offer_bounded l d p (Ok _) ts h = same_steps ts (Offered d p ∷ []) 2 h.1 (omega arith)
 offer_bounded l d p (Err NoSuchDesk) ts h = same_steps ts [] 1 h.1 (omega arith)
-offer_bounded l d p (Err DeskTaken) ts h = same_steps ts (Unoffered d h.0 ∷ []) 1 h.3 (omega arith)
+offer_bounded l d p (Err DeskTaken) ts h = same_steps ts (OfferFailed d h.0 ∷ []) 1 h.3 (omega arith)
 offer_bounded l d p (Err _) ts h = absurd h
 
+-- a take: it seizes the desk and clears it, or finds it empty
 take_bounded : (l : Limits) (d : ℕ) (answer : Result (List Seg) Refusal) (ts : List Try) →
     IsTake l d answer ts → length (notes_of ts) ≤ most_steps l (Take d answer)
-take_bounded l d (Ok p) ts h = same_steps ts (Fetched d p ∷ []) 2 h.1 (omega arith)
+take_bounded l d (Ok p) ts h = same_steps ts (Taken d p ∷ []) 2 h.1 (omega arith)
 take_bounded l d (Err NoSuchDesk) ts h = same_steps ts [] 1 h.1 (omega arith)
-take_bounded l d (Err DeskEmpty) ts h = same_steps ts (Untaken d h.0 ∷ []) 1 h.3 (omega arith)
+take_bounded l d (Err DeskEmpty) ts h = same_steps ts (TakeFailed d h.0 ∷ []) 1 h.3 (omega arith)
 take_bounded l d (Err _) ts h = absurd h
 
+-- each call takes as many steps at most as its list and the limits allow
 pub bounded : (l : Limits) (call : Call) (ts : List Try) → IsOfCall l call ts →
     length (notes_of ts) ≤ most_steps l call
 bounded l (GetList n answer) ts d = get_bounded l n answer ts d
 bounded l (PutList xs answer) ts d = put_bounded l xs answer ts d
-bounded l (Claim i) ts d = same_steps ts (Taken i ∷ []) 1 d (omega arith)
+bounded l (Claim i) ts d = same_steps ts (Claimed i ∷ []) 1 d (omega arith)
 bounded l (CountOf i n) ts d = same_steps ts (Counted i n ∷ []) 1 d (omega arith)
 bounded l (Raise i answer) ts d = raise_bounded l i answer ts d
 bounded l (Lower i answer) ts d =

@@ -1,19 +1,20 @@
 -- Steps and tries after one another.
-use Rattle.std.proofs.Common.{◌≡◌, ℕ, ◌+◌, ◌-◌, ◌<◌, List, [], ◌∷◌, ◌++◌, length, All, refl, sym, ap, ◌∙◌, arith, append_assoc, append-nil, reverse, subst}
-use Rattle.std.specs.Prelude.{Result, Ok, Err, None}
+use Rattle.std.proofs.Common.{◌≡◌, ◌≢◌, ℕ, ◌+◌, List, [], ◌∷◌, ◌++◌, refl, sym, ap, ◌∙◌, arith, append_assoc, append-nil, subst}
+use Rattle.std.specs.Prelude.{Result, Err, Option, None}
 use Rattle.std.proofs.lemmas.List.{length-append}
-use Rattle.std.proofs.lemmas.List.Elements.{All-push}
+use Rattle.std.proofs.lemmas.List.Elements.{All-append, All-cons}
 use Rattle.commons.specs.declared.refusal.Refusal.{Refusal}
-use Rattle.commons.specs.declared.refusal.Refusal.TheVariants.{NoEntries, HeadSpent, Contended}
+use Rattle.commons.specs.declared.refusal.Refusal.TheVariants.{HeadSpent, RefSpent, Contended}
+use Rattle.commons.specs.declared.limits.Limits.{Limits}
+use Rattle.commons.specs.declared.packet.Seg.{Seg}
+use Rattle.step_core.specs.declared.view.Look.{Look}
 use Rattle.step_core.specs.declared.view.View.{View}
 use Rattle.step_core.specs.declared.step.Step.{Step}
 use Rattle.step_core.specs.declared.step.Outcome.{Outcome}
-use Rattle.step_core.specs.Bags.{minus}
-use Rattle.ground.specs.Seats.{Grounded, Seated, IsOf, Note, after, Steps}
+use Rattle.ground.specs.Seats.{Grounded, Seated, IsOf, Note, after, Steps, MayLie, KnowsLength, KnowsCount}
 use Rattle.step_core.specs.Sights.{view_after}
-use Rattle.stack_lf.specs.declared.tried.Tried.TheVariants as tried
-use Rattle.stack_lf.specs.Tries.{Try, notes, notes_of, IsMiss, IsLostCut, IsLostPush}
-use Rattle.stack_lf.specs.Leaves.{AllLost, LostBut, IsAlone, tried_to, TriesReserve, TriesCut, TriesPush, Reserves, Cuts, Pushes, seen_as}
+use Rattle.stack_lf.specs.Tries.{Try, notes, notes_of}
+use Rattle.stack_lf.specs.Effects.{HasLost, EndsAfter, Repeats, tried_to, seen_as}
 
 -- steps after steps; the view afterwards is made of the one between
 pub more : (s t u : Seated) (a : List Note) (v : View) (b : List Note) (w : View → View) →
@@ -23,6 +24,7 @@ more s t u a v b w e f =
     ∙ ap (λ (l : List Note). record s { known = record s.known { view = w v; steps = l } })
     (append_assoc s.known.steps a b))
 
+-- steps, and one more
 pub one_more : (s t u : Seated) (a : List Note) (v : View) (st : Step) (o : Outcome) →
     t ≡ after s a v → Steps st o t u → u ≡ after s (a ++ (st, o) ∷ []) (view_after None st o v)
 one_more s t u a v st o e f = more s t u a v ((st, o) ∷ []) (view_after None st o) e f
@@ -36,6 +38,7 @@ still_of g s t a v h e = record {
       ap (λ (x : Seated). x.known.limits) e ∙ h.limits;
 }
 
+-- the steps of tries one after another, in their order
 pub notes_of-append : (xs ys : List Try) → notes_of (xs ++ ys) ≡ notes_of xs ++ notes_of ys
 notes_of-append [] ys = refl
 notes_of-append (x ∷ xs) ys = ap (λ l. notes x ++ l) (notes_of-append xs ys)
@@ -57,76 +60,10 @@ try_more s t u xs y v w e f =
     (sym (notes_of-append xs (y ∷ []) ∙ ap (λ (l : List Note). notes_of xs ++ l)
     (append-nil (notes y))))
 
-push_try : (P : Try → Type 0) (ts : List Try) (x : Try) → All P ts → P x → All P (ts ++ x ∷ [])
-push_try P ts x all one = All-push P ts x all one
+-- ---- tries that lost
 
--- one more try to reserve, after some that lost
-pub reserve_lost : (n k : ℕ) (s t u : Seated) → AllLost (IsMiss n) k s t →
-    TriesReserve n tried.Lost t u → AllLost (IsMiss n) (k + 1) s u
-reserve_lost n k s t u inv r =
-    let ts = inv.0 in
-    let len = inv.1 in (
-      ts ++ r.0 ∷ [],
-      omega (arith, length-append ts (r.0 ∷ [])),
-      push_try (IsMiss n) ts r.0 inv.2 r.1,
-      try_more s t u ts r.0 s.known.view (λ v. v) inv.3 r.2,
-    )
-
-pub reserve_won : (tries n k : ℕ) (s t u : Seated) → k < tries → AllLost (IsMiss n) k s t →
-    TriesReserve n tried.Won t u → Reserves tries n (Ok tt) s u
-reserve_won tries n k s t u less inv r =
-    let ts = inv.0 in
-    let len = inv.1 in
-    let h = r.1 in (
-      ts,
-      h.0,
-      omega arith,
-      inv.2,
-      h.1,
-      try_more s t u ts r.0 s.known.view (λ v. record v { credit = v.credit + n }) inv.3 r.2
-          ∙ ap (λ (x : Try). tried_to s (ts ++ x ∷ [])
-          (record s.known.view { credit = s.known.view.credit + n })) h.2,
-    )
-
-pub reserve_refused : (tries n k : ℕ) (s t u : Seated) (cause : Refusal) → k < tries →
-    AllLost (IsMiss n) k s t → TriesReserve n (tried.Refused cause) t u →
-    Reserves tries n (Err cause) s u
-reserve_refused tries n k s t u NoEntries less inv r =
-    let ts = inv.0 in
-    let len = inv.1 in
-    let h = r.1 in (
-      ts,
-      h.0,
-      omega arith,
-      inv.2,
-      h.1,
-      try_more s t u ts r.0 s.known.view (λ v. v) inv.3 r.2
-          ∙ ap (λ (x : Try). tried_to s (ts ++ x ∷ []) s.known.view) h.2,
-    )
-reserve_refused tries n k s t u cause less inv r = absurd r.1
-
-pub all_none : (P : Try → Type 0) (s : Seated) → AllLost P 0 s s
-all_none P s = (
-  [],
-  refl,
-  (λ k d l. absurd (omega arith)),
-  ap
-      (λ (l : List Note). record s { known = record s.known { steps = l } })
-      (sym (append-nil s.known.steps)),
-)
-
-pub reserve_given_up : (tries n : ℕ) (s t : Seated) → AllLost (IsMiss n) tries s t →
-    Reserves tries n (Err Contended) s t
-reserve_given_up tries n s t inv = (inv.0, inv.1, inv.2, inv.3)
-
--- a try to reserve is refused for one cause alone
-pub not_contended : (n : ℕ) (cause : Refusal) (s t : Seated) →
-    TriesReserve n (tried.Refused cause) s t →
-    ◌≡◌ {A = Result (Unit {0}) Refusal} (Err cause) (Err Contended) → ⊥
-not_contended n NoEntries s t r e = absurd (cc)
-not_contended n cause s t r e = absurd r.1
-
-pub lost_none : (P : Try → Type 0) (s : Seated) → LostBut P 0 s s
+-- no try yet
+pub lost_none : (P : Try → Type 0) (s : Seated) → HasLost P 0 s s
 lost_none P s = (
   [],
   s.known.view.look,
@@ -138,124 +75,90 @@ lost_none P s = (
       (sym (append-nil s.known.steps)),
 )
 
--- one more try to cut, after some that lost
-pub cut_lost : (n k : ℕ) (xs : List ℕ) (s t u : Seated) → LostBut (IsLostCut n) k s t →
-    TriesCut n xs tried.Lost t u → LostBut (IsLostCut n) (k + 1) s u
-cut_lost n k xs s t u inv r =
-    let ts = inv.0 in
-    let len = inv.3 in (
-      ts ++ r.0 ∷ [],
-      r.1,
-      r.2,
-      omega (arith, length-append ts (r.0 ∷ [])),
-      push_try (IsLostCut n) ts r.0 inv.4 r.3,
-      try_more s t u ts r.0 (seen_as s.known.view inv.1 inv.2) (λ v. seen_as v r.1 r.2) inv.5 r.4,
+-- one
+pub lost_once : (P : Try → Type 0) (s t : Seated) (x : Try) (look : Option Look) (seen : ℕ) → P x →
+    t ≡ after s (notes x) (seen_as s.known.view look seen) → HasLost P 1 s t
+lost_once P s t x look seen one e = (
+  x ∷ [],
+  look,
+  seen,
+  refl,
+  All-cons P x [] one (λ k d l. absurd (omega arith)),
+  e ∙ ap (λ (l : List Note). after s l (seen_as s.known.view look seen))
+      (sym (append-nil (notes x))),
+)
+
+-- one more
+pub lost_more : (P : Try → Type 0) (k : ℕ) (s t u : Seated) → HasLost P k s t → HasLost P 1 t u →
+    HasLost P (k + 1) s u
+lost_more P k s t u lost one =
+    let before = lost.3 in
+    let more_one = one.3 in (
+      lost.0 ++ one.0,
+      one.1,
+      one.2,
+      omega (arith, length-append lost.0 one.0),
+      All-append P lost.0 one.0 lost.4 one.4,
+      tries_more s t u lost.0 one.0 (seen_as s.known.view lost.1 lost.2)
+          (λ v. seen_as v one.1 one.2) lost.5 one.5,
     )
 
-pub cut_won : (tries n k : ℕ) (xs : List ℕ) (s t u : Seated) → k < tries →
-    LostBut (IsLostCut n) k s t → TriesCut n xs tried.Won t u → Cuts tries n xs (Ok tt) s u
-cut_won tries n k xs s t u less inv r =
-    let ts = inv.0 in
-    let len = inv.3 in (
-      ts,
-      r.0,
-      r.1,
-      r.2,
-      omega arith,
-      inv.4,
-      r.3.0,
-      r.3.1,
-      try_more s t u ts r.0 (seen_as s.known.view inv.1 inv.2)
-          (λ v. record (seen_as v r.1 r.2) { hand = v.hand ++ xs; credit = v.credit - length xs }) inv.5
-          r.4,
-    )
+-- the seat stays one of its ground
+pub lost_of : (g : Grounded) (P : Try → Type 0) (k : ℕ) (s t : Seated) → IsOf g s →
+    HasLost P k s t → IsOf g t
+lost_of g P k s t of lost =
+    still_of g s t (notes_of lost.0) (seen_as s.known.view lost.1 lost.2) of lost.5
 
-pub cut_refused : (tries n k : ℕ) (xs : List ℕ) (s t u : Seated) (cause : Refusal) → k < tries →
-    LostBut (IsLostCut n) k s t → TriesCut n xs (tried.Refused cause) t u →
-    Cuts tries n xs (Err cause) s u
-cut_refused tries n k xs s t u HeadSpent less inv r =
-    let ts = inv.0 in
-    let len = inv.3 in (
-      ts,
-      r.0,
-      r.1,
-      r.2,
-      omega arith,
-      inv.4,
-      r.3,
-      try_more s t u ts r.0 (seen_as s.known.view inv.1 inv.2) (λ v. seen_as v r.1 r.2) inv.5 r.4,
-    )
-cut_refused tries n k xs s t u cause less inv r = absurd r.3
+-- a last try after those that lost
+pub last_try : (P : Try → Type 0) (k : ℕ) (s t u : Seated) (lost : HasLost P k s t) (x : Try)
+    (w : View → View) → u ≡ after t (notes x) (w t.known.view) →
+    u ≡ tried_to s (lost.0 ++ x ∷ []) (w (seen_as s.known.view lost.1 lost.2))
+last_try P k s t u lost x w e =
+    try_more s t u lost.0 x (seen_as s.known.view lost.1 lost.2) w lost.5 e
 
--- one more try to push, after some that lost
-pub push_lost : (xs : List ℕ) (k : ℕ) (s t u : Seated) → LostBut (IsLostPush xs) k s t →
-    TriesPush xs tried.Lost t u → LostBut (IsLostPush xs) (k + 1) s u
-push_lost xs k s t u inv r =
-    let ts = inv.0 in
-    let len = inv.3 in (
-      ts ++ r.0 ∷ [],
-      r.1,
-      r.2,
-      omega (arith, length-append ts (r.0 ∷ [])),
-      push_try (IsLostPush xs) ts r.0 inv.4 r.3,
-      try_more s t u ts r.0 (seen_as s.known.view inv.1 inv.2) (λ v. seen_as v r.1 r.2) inv.5 r.4,
-    )
+-- a loop whose last try was refused
+pub ends_refused : (tries : ℕ) (P : Try → Type 0)
+    (Ends : Result (Unit {0}) Refusal → Seated → Seated → Type 0) (cause : Refusal) (s t : Seated) →
+    cause ≢ Contended → EndsAfter tries P (Ends (Err cause)) s t → Repeats tries P Ends (Err cause) s t
+ends_refused tries P Ends Contended s t other h = absurd (other refl)
+ends_refused tries P Ends cause s t other h = h
 
-pub push_won : (tries : ℕ) (xs : List ℕ) (k : ℕ) (s t u : Seated) → k < tries →
-    LostBut (IsLostPush xs) k s t → TriesPush xs tried.Won t u → Pushes tries xs (Ok tt) s u
-push_won tries xs k s t u less inv r =
-    let ts = inv.0 in
-    let len = inv.3 in (
-      ts,
-      r.0,
-      r.1,
-      r.2,
-      omega arith,
-      inv.4,
-      r.3,
-      try_more s t u ts r.0 (seen_as s.known.view inv.1 inv.2)
-          (λ v. record (seen_as v r.1 r.2) {
-            hand = minus v.hand (reverse xs);
-            credit =
-                v.credit + length xs;
-          }) inv.5 r.4,
-    )
+-- a head that is spent is another cause
+pub spent_other : HeadSpent ≢ Contended
+spent_other e = absurd (cc)
 
-pub push_refused : (tries : ℕ) (xs : List ℕ) (k : ℕ) (s t u : Seated) (cause : Refusal) →
-    k < tries → LostBut (IsLostPush xs) k s t → TriesPush xs (tried.Refused cause) t u →
-    Pushes tries xs (Err cause) s u
-push_refused tries xs k s t u HeadSpent less inv r =
-    let ts = inv.0 in
-    let len = inv.3 in (
-      ts,
-      r.0,
-      r.1,
-      r.2,
-      omega arith,
-      inv.4,
-      r.3,
-      try_more s t u ts r.0 (seen_as s.known.view inv.1 inv.2) (λ v. seen_as v r.1 r.2) inv.5 r.4,
-    )
-push_refused tries xs k s t u cause less inv r = absurd r.3
+pub limit_other : RefSpent ≢ Contended
+limit_other e = absurd (cc)
 
--- a try to cut, or to push, is refused for one cause alone
-pub cut_not_contended : (n : ℕ) (xs : List ℕ) (cause : Refusal) (s t : Seated) →
-    TriesCut n xs (tried.Refused cause) s t →
-    ◌≡◌ {A = Result (Unit {0}) Refusal} (Err cause) (Err Contended) → ⊥
-cut_not_contended n xs HeadSpent s t r e = absurd (cc)
-cut_not_contended n xs cause s t r e = absurd r.3
+-- ---- what a seat knew before them
 
-pub push_not_contended : (xs : List ℕ) (cause : Refusal) (s t : Seated) →
-    TriesPush xs (tried.Refused cause) s t →
-    ◌≡◌ {A = Result (Unit {0}) Refusal} (Err cause) (Err Contended) → ⊥
-push_not_contended xs HeadSpent s t r e = absurd (cc)
-push_not_contended xs cause s t r e = absurd r.3
+-- what may lie beside a view doesn't depend on what it saw of the head
+unseen : (l : Limits) (v : View) (look : Option Look) (seen : ℕ) (desks : List (Option (List Seg))) →
+    MayLie l (seen_as v look seen) desks → MayLie l v desks
+unseen l v look seen desks lie = record {
+  as_many = lie.as_many;
+  packets = lie.packets;
+  below = lie.below;
+  apart = lie.apart;
+  limited = lie.limited;
+  own_once = lie.own_once;
+  work = lie.work;
+}
 
--- lost tries leave the part
-pub alone_after : (P : Try → Type 0) (k : ℕ) (s t : Seated) → LostBut P k s t → IsAlone s →
-    IsAlone t
-alone_after P k s t h w = subst IsAlone (sym h.5) w
+-- a length that the seat knows after lost tries it knew before them
+pub knew_length : (P : Try → Type 0) (k n : ℕ) (s t : Seated) → HasLost P k s t →
+    KnowsLength t.known n → KnowsLength s.known n
+knew_length P k n s t lost knows =
+    let now = subst (λ (z : Seated). KnowsLength z.known n) lost.5 knows in
+    λ whole.
+    let lie = now whole in
+    (lie.0, lie.1, unseen s.known.limits s.known.view lost.1 lost.2 lie.0 lie.2, lie.3)
 
-pub alone_reserved : (tries n : ℕ) (s t : Seated) → Reserves tries n (Ok tt) s t → IsAlone s →
-    IsAlone t
-alone_reserved tries n s t h w = subst IsAlone (sym h.5) w
+-- and so of a count
+pub knew_count : (P : Try → Type 0) (k i n : ℕ) (s t : Seated) → HasLost P k s t →
+    KnowsCount t.known i n → KnowsCount s.known i n
+knew_count P k i n s t lost knows =
+    let now = subst (λ (z : Seated). KnowsCount z.known i n) lost.5 knows in
+    λ whole.
+    let lie = now whole in
+    (lie.0, lie.1, unseen s.known.limits s.known.view lost.1 lost.2 lie.0 lie.2, lie.3)

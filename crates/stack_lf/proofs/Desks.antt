@@ -17,9 +17,9 @@ use Rattle.step_core.specs.declared.view.View.{View}
 use Rattle.ground.specs.DeskSeats.{MayOpen, Holds, Fills}
 use Rattle.ground.specs.Own.{Owned}
 use Rattle.ground.specs.Seats.{Seated, sight}
-use Rattle.stack_lf.specs.Leaves.{Offers, Takes, offered_as, taken_as}
+use Rattle.stack_lf.specs.Effects.{Offers, Takes, offered_as, taken_as}
 use Rattle.stack_lf.specs.Sides.{side_of}
-use Rattle.stack_lf.specs.Tries.{Unoffered, Offered, Untaken, Fetched, DidOnWords}
+use Rattle.stack_lf.specs.Tries.{OfferFailed, Offered, TakeFailed, Taken, DidOnWords}
 use Rattle.stack_lf.proofs.Meeting.{doing, same_seat, kept}
 use Rattle.stack_lf.proofs.Storing.{bag-minus}
 
@@ -36,6 +36,7 @@ phase_seen d ph s v e = ap (λ (w : View). phase_at d w.work) e ∙ phase_here d
 pub held_phase : (d : ℕ) (s t : Seated) → Holds d s t → phase_at d (sight t).work ≡ Some ToFill
 held_phase d s t h = phase_seen d ToFill t (sight s) h.1
 
+-- and so where the packet is in
 filled_phase : (d : ℕ) (p : List Seg) (t u : Seated) → Fills d p t u →
     phase_at d (sight u).work ≡ Some (Filled p)
 filled_phase d p t u f = phase_seen d (Filled p) u (sight t) f.1
@@ -48,6 +49,7 @@ same_holds : (d : ℕ) (p : List Seg) (s t u : Seated) → Holds d s t → Fills
 same_holds d p s t u h f =
     ap (λ (x : Seated). x.known.view.holds) f.0 ∙ ap (λ (x : Seated). x.known.view.holds) h.0
 
+-- and its headers
 same_headers : (d : ℕ) (p : List Seg) (s t u : Seated) → Holds d s t → Fills d p t u →
     (sight u).headers ≡ s.known.view.headers
 same_headers d p s t u h f =
@@ -83,6 +85,7 @@ header_left v p i some =
     kept (has hs) (minus v.headers (own_of_packet p)) i
     ∙ cond-true (has hs i) (bag (minus v.headers (own_of_packet p)) i) 0 h
 
+-- and of what is held no more nothing is left among the headers
 header_ended : (v : View) (p : List Seg) (i : ℕ) → bag (offered_as p v).holds i ≡ 0 →
     bag (offered_as p v).headers i ≡ 0
 header_ended v p i none =
@@ -112,6 +115,7 @@ offer_effect d p s t held own g =
       ended = λ i none. header_ended s.known.view p i none;
     })
 
+-- the packet's holds and headers come to the seat by a take
 take_effect : (d : ℕ) (p : List Seg) (s t : Seated) → Takes d (Ok p) s t →
     HasEffect (Take d (Ok p)) (side_of s) (side_of t)
 take_effect d p s t g =
@@ -123,6 +127,7 @@ take_effect d p s t g =
       headers = λ i. bag-append s.known.view.headers (own_of_packet p) i;
     })
 
+-- what an offer did, by its answer
 pub offer_did : (d : ℕ) (p : List Seg) (r : Result (Unit {0}) Refusal) (s t : Seated) →
     ((i : ℕ) → bag (holds_of_packet p) i ≤ bag s.known.view.holds i) →
     ((i : ℕ) → bag (own_of_packet p) i ≤ bag s.known.view.headers i) → Offers d p r s t →
@@ -134,19 +139,20 @@ offer_did d p (Err NoSuchDesk) s t held own g =
     doing s (Offer d p (Err NoSuchDesk)) t [] s.known.view (g.0, refl) (ap side_of g.1)
     (g.1 ∙ same_seat s) refl (λ whole c. c) tt
 offer_did d p (Err DeskTaken) s t held own g =
-    doing s (Offer d p (Err DeskTaken)) t (Unoffered d g.0 ∷ []) s.known.view (g.0, g.1, g.2, refl)
+    doing s (Offer d p (Err DeskTaken)) t (OfferFailed d g.0 ∷ []) s.known.view (g.0, g.1, g.2, refl)
     (ap side_of g.3) g.3 refl (λ whole c. c) g.4
 offer_did d p (Err _) s t held own g = absurd g
 
+-- and what a take did
 pub take_did : (d : ℕ) (r : Result (List Seg) Refusal) (s t : Seated) → Takes d r s t →
     Did DidOnWords side_of s (Take d r) t
 take_did d (Ok p) s t g =
-    doing s (Take d (Ok p)) t (Fetched d p ∷ []) (taken_as p s.known.view) (g.0, refl)
+    doing s (Take d (Ok p)) t (Taken d p ∷ []) (taken_as p s.known.view) (g.0, refl)
     (take_effect d p s t g) g.1 refl (λ whole c. c) g.2
 take_did d (Err NoSuchDesk) s t g =
     doing s (Take d (Err NoSuchDesk)) t [] s.known.view (g.0, refl) (ap side_of g.1)
     (g.1 ∙ same_seat s) refl (λ whole c. c) tt
 take_did d (Err DeskEmpty) s t g =
-    doing s (Take d (Err DeskEmpty)) t (Untaken d g.0 ∷ []) s.known.view (g.0, g.1, g.2, refl)
+    doing s (Take d (Err DeskEmpty)) t (TakeFailed d g.0 ∷ []) s.known.view (g.0, g.1, g.2, refl)
     (ap side_of g.3) g.3 refl (λ whole c. c) g.4
 take_did d (Err _) s t g = absurd g

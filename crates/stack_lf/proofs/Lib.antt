@@ -8,5 +8,5 @@ pub mod Bounding
 pub mod Taking
 pub mod Losing
 pub mod Tallying
-pub mod Bare
+pub mod SoleSeat
 pub mod Desks

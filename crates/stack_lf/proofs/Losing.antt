@@ -10,7 +10,7 @@ use Rattle.commons.specs.declared.refusal.Refusal.TheVariants.{NoEntries, Conten
 use Rattle.commons.specs.declared.refusal.Lowered.{Lowered as Answer}
 use Rattle.commons.specs.declared.refusal.Lowered.TheVariants.{Last, Still}
 use Rattle.step_core.specs.declared.view.Head.{Head}
-use Rattle.stack_lf.specs.Tries.{Try, Walk, IsWalk, Short, Missed, Reserved, Stopped, Ended, Beaten, Cutoff, Unpushed, Pushed, Added, Taken, Counted, Unraised, Raised, Freed, Lowered, Lasted, IsLostRaise, IsRaise, IsLower, IsMiss, IsLostCut, IsWonCut, IsLostPush, IsWonPush, IsSpent, IsGet, IsPut, Unoffered, Offered, Untaken, Fetched, IsOffer, IsTake, IsOfCall}
+use Rattle.stack_lf.specs.Tries.{Try, Walk, IsWalk, Short, ReserveFailed, Reserved, Stopped, Ended, PopFailed, Popped, PushFailed, Pushed, Added, Claimed, Counted, RaiseFailed, Raised, Freed, Lowered, LoweredToLast, IsLostRaise, IsRaise, IsLower, IsLostReserve, IsLostCut, IsWonCut, IsLostPush, IsWonPush, IsSpent, IsGet, IsPut, OfferFailed, Offered, TakeFailed, Taken, IsOffer, IsTake, IsOfCall}
 use Rattle.stack_lf.specs.Notes.{LostToAnother}
 
 by_eq : (x y : Try) → x ≡ y → LostToAnother y → LostToAnother x
@@ -21,23 +21,24 @@ each : (P : Try → Type 0) (ts : List Try) → ((x : Try) → P x → LostToAno
     All LostToAnother ts
 each P ts f h = λ k d l. f _ (h k d l)
 
-of_miss : (n : ℕ) (x : Try) → IsMiss n x → LostToAnother x
-of_miss n x h = by_eq x (Missed n h.0 h.1) h.4 h.3
+of_miss : (n : ℕ) (x : Try) → IsLostReserve n x → LostToAnother x
+of_miss n x h = by_eq x (ReserveFailed n h.0 h.1) h.4 h.3
 
+-- a cut that lost ended its walk early, without an exchange, or found a later head
 of_lost_cut : (n : ℕ) (x : Try) → IsLostCut n x → LostToAnother x
 of_lost_cut n x h = ⊎_elim
     (λ (a : (k : Head) × (ps : Walk) × (length ps < n) × IsWalk k.top ps 0 × (x ≡ Ended k ps)).
     by_eq x (Ended a.0 a.1) a.4 tt)
     (λ (b : (k found : Head) × (ps : Walk) × (u : ℕ) × (length ps ≡ n)
-    × (k.count < found.count) × IsWalk k.top ps u × (x ≡ Beaten k ps found)).
-    by_eq x (Beaten b.0 b.2 b.1) b.7 b.5)
+    × (k.count < found.count) × IsWalk k.top ps u × (x ≡ PopFailed k ps found)).
+    by_eq x (PopFailed b.0 b.2 b.1) b.7 b.5)
     h
 
 of_won_cut : (xs : List ℕ) (x : Try) → IsWonCut xs x → LostToAnother x
-of_won_cut xs x h = by_eq x (Cutoff h.0 h.1) h.6 tt
+of_won_cut xs x h = by_eq x (Popped h.0 h.1) h.6 tt
 
 of_lost_push : (xs : List ℕ) (x : Try) → IsLostPush xs x → LostToAnother x
-of_lost_push xs x h = by_eq x (Unpushed h.0 xs h.1) h.3 h.2
+of_lost_push xs x h = by_eq x (PushFailed h.0 xs h.1) h.3 h.2
 
 of_won_push : (xs : List ℕ) (x : Try) → IsWonPush xs x → LostToAnother x
 of_won_push xs x h = by_eq x (Pushed h.0 xs) h.2 tt
@@ -57,6 +58,7 @@ with_one front back x h one more =
 of_all : (ts us : List Try) → ts ≡ us → All LostToAnother us → All LostToAnother ts
 of_all ts us e h = subst (λ (l : List Try). All LostToAnother l) (sym e) h
 
+-- of a get's tries, by its answer, those that lost are reservations and cuts
 get_lost : (tries n : ℕ) (answer : Result (List ℕ) Refusal) (ts : List Try) →
     IsGet tries n answer ts → All LostToAnother ts
 get_lost tries n (Ok xs) ts d =
@@ -64,36 +66,37 @@ get_lost tries n (Ok xs) ts d =
     let cuts : List Try = d.1 in
     let x : Try = d.3 in
     of_all ts (misses ++ Reserved n d.2 ∷ (cuts ++ x ∷ [])) d.11
-    (with_one misses (cuts ++ x ∷ []) (Reserved n d.2) (each (IsMiss n) misses (of_miss n) d.5) tt
+    (with_one misses (cuts ++ x ∷ []) (Reserved n d.2) (each (IsLostReserve n) misses (of_miss n) d.5) tt
     (with_one cuts [] x (each (IsLostCut n) cuts (of_lost_cut n) d.8) (of_won_cut xs x d.10) none))
 get_lost tries n (Err NoEntries) ts d =
     let misses : List Try = d.0 in
     of_all ts (misses ++ Short d.1 ∷ []) d.5
-    (with_one misses [] (Short d.1) (each (IsMiss n) misses (of_miss n) d.3) tt none)
+    (with_one misses [] (Short d.1) (each (IsLostReserve n) misses (of_miss n) d.3) tt none)
 get_lost tries n (Err HeadSpent) ts d =
     let misses : List Try = d.0 in
     let cuts : List Try = d.1 in
     let x : Try = d.3 in
     of_all ts (misses ++ Reserved n d.2 ∷ (cuts ++ x ∷ Added n ∷ [])) d.10
     (with_one misses (cuts ++ x ∷ Added n ∷ []) (Reserved n d.2)
-    (each (IsMiss n) misses (of_miss n) d.5) tt
+    (each (IsLostReserve n) misses (of_miss n) d.5) tt
     (with_one cuts (Added n ∷ []) x (each (IsLostCut n) cuts (of_lost_cut n) d.8)
     (of_spent x d.9) (with_one [] [] (Added n) none tt none)))
 get_lost tries n (Err Contended) ts d = ⊎_elim
-    (λ (a : (length ts ≡ tries) × All (IsMiss n) ts). each (IsMiss n) ts (of_miss n) a.1)
+    (λ (a : (length ts ≡ tries) × All (IsLostReserve n) ts). each (IsLostReserve n) ts (of_miss n) a.1)
     (λ (b : (misses cuts : List Try) × (v : ℕ)
-    × (length misses < tries) × All (IsMiss n) misses × (n ≤ v)
+    × (length misses < tries) × All (IsLostReserve n) misses × (n ≤ v)
     × (length cuts ≡ tries) × All (IsLostCut n) cuts
     × (ts ≡ misses ++ Reserved n v ∷ (cuts ++ Added n ∷ []))).
     let misses : List Try = b.0 in
     let cuts : List Try = b.1 in
     of_all ts (misses ++ Reserved n b.2 ∷ (cuts ++ Added n ∷ [])) b.8
     (with_one misses (cuts ++ Added n ∷ []) (Reserved n b.2)
-    (each (IsMiss n) misses (of_miss n) b.4) tt
+    (each (IsLostReserve n) misses (of_miss n) b.4) tt
     (with_one cuts [] (Added n) (each (IsLostCut n) cuts (of_lost_cut n) b.7) tt none)))
     d
 get_lost tries n (Err _) ts d = absurd d
 
+-- of a put's, pushes
 put_lost : (tries : ℕ) (xs : List ℕ) (answer : Result (Unit {0}) Refusal) (ts : List Try) →
     IsPut tries xs answer ts → All LostToAnother ts
 put_lost tries xs (Ok _) ts d =
@@ -107,11 +110,12 @@ put_lost tries xs (Err Contended) ts d = each (IsLostPush xs) ts (of_lost_push x
 put_lost tries xs (Err _) ts d = absurd d
 
 of_lost_raise : (l : Limits) (i : ℕ) (x : Try) → IsLostRaise l i x → LostToAnother x
-of_lost_raise l i x h = by_eq x (Unraised i h.0 h.1) h.4 h.3
+of_lost_raise l i x h = by_eq x (RaiseFailed i h.0 h.1) h.4 h.3
 
 alone : (x : Try) → LostToAnother x → All LostToAnother (x ∷ [])
 alone x h = with_one [] [] x none h none
 
+-- of a raise's, raises of the count
 raise_lost : (l : Limits) (i : ℕ) (answer : Result (Unit {0}) Refusal) (ts : List Try) →
     IsRaise l i answer ts → All LostToAnother ts
 raise_lost l i (Ok _) ts d =
@@ -123,31 +127,35 @@ raise_lost l i (Err RefSpent) ts d =
 raise_lost l i (Err Contended) ts d = each (IsLostRaise l i) ts (of_lost_raise l i) d.1
 raise_lost l i (Err _) ts d = absurd d
 
+-- the one try of a lower loses nothing
 of_lower : (i : ℕ) (answer : Answer) (x : Try) → IsLower i answer x → LostToAnother x
 of_lower i Last x d = ⊎_elim
     (λ (a : x ≡ Freed i). by_eq x (Freed i) a tt)
-    (λ (b : (c : ℕ) × (1 < c) × (x ≡ Lasted i c)). by_eq x (Lasted i b.0) b.2 tt) d
+    (λ (b : (c : ℕ) × (1 < c) × (x ≡ LoweredToLast i c)). by_eq x (LoweredToLast i b.0) b.2 tt) d
 of_lower i Still x d = by_eq x (Lowered i d.0 d.1) d.4 tt
 
+-- nor does that of an offer
 of_offer : (l : Limits) (d : ℕ) (p : List Seg) (answer : Result (Unit {0}) Refusal) (ts : List Try) →
     IsOffer l d p answer ts → All LostToAnother ts
 of_offer l d p (Ok _) ts h = of_all ts (Offered d p ∷ []) h.1 (alone (Offered d p) tt)
 of_offer l d p (Err NoSuchDesk) ts h = of_all ts [] h.1 none
-of_offer l d p (Err DeskTaken) ts h = of_all ts (Unoffered d h.0 ∷ []) h.3 (alone (Unoffered d h.0) tt)
+of_offer l d p (Err DeskTaken) ts h = of_all ts (OfferFailed d h.0 ∷ []) h.3 (alone (OfferFailed d h.0) tt)
 of_offer l d p (Err _) ts h = absurd h
 
+-- nor that of a take
 of_take : (l : Limits) (d : ℕ) (answer : Result (List Seg) Refusal) (ts : List Try) →
     IsTake l d answer ts → All LostToAnother ts
-of_take l d (Ok p) ts h = of_all ts (Fetched d p ∷ []) h.1 (alone (Fetched d p) tt)
+of_take l d (Ok p) ts h = of_all ts (Taken d p ∷ []) h.1 (alone (Taken d p) tt)
 of_take l d (Err NoSuchDesk) ts h = of_all ts [] h.1 none
-of_take l d (Err DeskEmpty) ts h = of_all ts (Untaken d h.0 ∷ []) h.3 (alone (Untaken d h.0) tt)
+of_take l d (Err DeskEmpty) ts h = of_all ts (TakeFailed d h.0 ∷ []) h.3 (alone (TakeFailed d h.0) tt)
 of_take l d (Err _) ts h = absurd h
 
+-- of no call has a try lost to the value that it had read
 pub changes : (l : Limits) (call : Call) (ts : List Try) → IsOfCall l call ts →
     All LostToAnother ts
 changes l (GetList n answer) ts d = get_lost l.tries n answer ts d
 changes l (PutList xs answer) ts d = put_lost l.tries xs answer ts d
-changes l (Claim i) ts d = of_all ts (Taken i ∷ []) d (alone (Taken i) tt)
+changes l (Claim i) ts d = of_all ts (Claimed i ∷ []) d (alone (Claimed i) tt)
 changes l (CountOf i n) ts d = of_all ts (Counted i n ∷ []) d (alone (Counted i n) tt)
 changes l (Raise i answer) ts d = raise_lost l i answer ts d
 changes l (Lower i answer) ts d =

@@ -1,5 +1,5 @@
 -- What each call leaves, in the trait's words.
-use Rattle.std.proofs.Common.{◌≡◌, ◌≢◌, ◌==◌, ℕ, ◌+◌, ◌-◌, ◌<◌, ◌≤◌, Bool, false, Option, filter, append-nil, ⊎_elim, List, [], ◌∷◌, ◌++◌, reverse, refl, sym, ap, ◌∙◌, subst, arith}
+use Rattle.std.proofs.Common.{◌≡◌, ◌≢◌, ◌==◌, ℕ, ◌+◌, ◌-◌, ◌<◌, ◌≤◌, Bool, false, filter, append-nil, ⊎_elim, List, [], ◌∷◌, ◌++◌, reverse, refl, sym, ap, ◌∙◌, subst, arith}
 use Rattle.std.specs.Prelude.{Result, Ok, Err, IfOk, if◌then◌else◌}
 use Rattle.std.proofs.lemmas.Bool.{cond_both, cond-false, ne_eqb, cases_eq, true≢false}
 use Rattle.commons.specs.Bag.{bag, one}
@@ -11,32 +11,18 @@ use Rattle.commons.specs.declared.refusal.Lowered.TheVariants.{Last, Still}
 use Rattle.commons.specs.declared.refusal.Refusal.TheVariants.{NoEntries, Contended, RefSpent}
 use Rattle.commons.specs.declared.refusal.Refusal.{Refusal}
 use Rattle.step_core.specs.declared.view.View.{View}
-use Rattle.step_core.specs.declared.view.Chain.{Chain}
 use Rattle.step_core.specs.Bags.{has, without, still_held}
-use Rattle.step_core.specs.Sights.{chain_without, claimed, freed, raised, hold_ended}
+use Rattle.step_core.specs.Sights.{claimed}
 use Rattle.step_core.proofs.Bags.{times-without}
 use Rattle.step_core.specs.declared.step.Step.TheVariants.{LoadLength, Sole, Claim as ClaimStep}
 use Rattle.step_core.specs.declared.step.Outcome.TheVariants.{Value}
-use Rattle.ground.specs.Seats.{Grounded, Seated, IsOf, Note, after, Steps, KnowsLength, KnowsCount}
-use Rattle.ground.specs.Own.{AtRest}
+use Rattle.ground.specs.Seats.{Seated, Note, after, Steps, KnowsLength, KnowsCount}
 use Rattle.stack_lf.specs.Sides.{side_of}
-use Rattle.stack_lf.specs.Tries.{Try, Short, Taken, Counted, notes, notes_of, readings_of, IsOfCall, IsContended}
+use Rattle.stack_lf.specs.Tries.{Try, Short, Claimed, Counted, notes, readings_of, IsOfCall, IsContended}
 use Rattle.stack_lf.specs.Tries.{KnowsShort, KnowsEnough, KnowsSpent, KnowsRaised, KnowsLowered, IsTold, lying_after, DidOnWords}
-use Rattle.stack_lf.specs.Leaves.{IsAlone, tried_to, seen_as, put_as, Gets, Puts, Raises, Lowers, lowered_as}
-use Rattle.stack_lf.proofs.Composing.{still_of}
+use Rattle.stack_lf.specs.Effects.{IsAlone, tried_to, Gets, Puts, Raises, Lowers, lowered_as}
 use Rattle.stack_lf.proofs.Storing.{bag-minus}
 use Rattle.stack_lf.proofs.Reading.{causes}
-
--- the seat went on by some steps, to a view that is at rest if it was
-abbrev pub Went : Seated → Seated → Type 0
-Went s t =
-    (a : List Note) × (v : View) × (t ≡ after s a v) × (AtRest s.known.view → AtRest v)
-
-pub went_of : (g : Grounded) (s t : Seated) → Went s t → IsOf g s → IsOf g t
-went_of g s t w h = still_of g s t w.0 w.1 h w.2
-
-pub went_rest : (s t : Seated) → Went s t → AtRest s.known.view → AtRest t.known.view
-went_rest s t w r = subst (λ (x : Seated). AtRest x.known.view) (sym w.2) (w.3 r)
 
 -- the seat with what is known to lie on the desks after the call
 abbrev pub lain : Call → Seated → Seated
@@ -74,27 +60,14 @@ pub holds_as : (s t : Seated) (a : List Note) (v : View) → t ≡ after s a v �
     ◌≡◌ {A = ℕ → ℕ} (bag t.known.view.holds) (bag v.holds)
 holds_as s t a v e = ap {B = ℕ → ℕ} (λ (x : Seated). bag x.known.view.holds) e
 
+-- and so the headers
 pub headers_as : (s t : Seated) (a : List Note) (v : View) → t ≡ after s a v →
     ◌≡◌ {A = ℕ → ℕ} (bag t.known.view.headers) (bag v.headers)
 headers_as s t a v e = ap {B = ℕ → ℕ} (λ (x : Seated). bag x.known.view.headers) e
 
 -- ---- a get
 
-pub get_went : (tries n : ℕ) (xs : List ℕ) (r : Result (Unit {0}) Refusal) (s t : Seated) →
-    Gets tries n xs r s t → Went s t
-get_went tries n xs (Ok _) s t g = (
-  notes_of g.0,
-  record (seen_as s.known.view g.1 g.2) { hand = s.known.view.hand ++ xs },
-  g.4,
-  λ r. record { zeros = r.zeros; credit = r.credit; chain = r.chain; work = r.work },
-)
-get_went tries n xs (Err e) s t g = (
-  notes_of g.0,
-  seen_as s.known.view g.1 g.2,
-  g.4,
-  λ r. record { zeros = r.zeros; credit = r.credit; chain = r.chain; work = r.work },
-)
-
+-- a get that succeeds brings its elements into the hand, and a refused one leaves all as it was
 get_effect : (tries n : ℕ) (xs : List ℕ) (r : Result (Unit {0}) Refusal) (s t : Seated) →
     Gets tries n xs r s t → HasEffect (GetList n (with_list r xs)) (side_of s) (side_of t)
 get_effect tries n xs (Ok _) s t g = record {
@@ -118,20 +91,24 @@ get_told : (s : Seated) (n : ℕ) (e : Refusal) →
 get_told s n NoEntries told = told refl
 get_told s n _ told = tt
 
+-- and a refused raise of a count at the limit
 raise_told : (s : Seated) (i : ℕ) (e : Refusal) →
     (◌≡◌ {A = Result (Unit {0}) Refusal} (Err e) (Err RefSpent) → KnowsSpent i s) →
     IsTold s (Raise i (Err e))
 raise_told s i RefSpent told = told refl
 raise_told s i _ told = tt
 
+-- so it is of a put
 put_contended : (xs : List ℕ) (e : Refusal) → IsContended (PutList xs (Err e)) → e ≡ Contended
 put_contended xs Contended c = refl
 put_contended xs _ c = absurd c
 
+-- and of a raise
 raise_contended : (i : ℕ) (e : Refusal) → IsContended (Raise i (Err e)) → e ≡ Contended
 raise_contended i Contended c = refl
 raise_contended i _ c = absurd c
 
+-- what a get did, from what it leaves of the seat
 pub get_did : (n : ℕ) (xs : List ℕ) (r : Result (Unit {0}) Refusal) (s t : Seated) →
     Gets s.known.limits.tries n xs r s t → (IsAlone s → r ≢ Err Contended) →
     (r ≡ Err NoEntries → KnowsShort n s) → IfOk r (λ _. KnowsEnough n s) →
@@ -146,21 +123,7 @@ get_did n xs (Err e) s t g alone told enough =
 
 -- ---- a put
 
-pub put_went : (tries : ℕ) (xs : List ℕ) (r : Result (Unit {0}) Refusal) (s t : Seated) →
-    Puts tries xs r s t → Went s t
-put_went tries xs (Ok _) s t g = (
-  notes_of g.0,
-  put_as xs s.known.view g.1 g.2,
-  g.4,
-  λ r. record { zeros = r.zeros; credit = r.credit; chain = r.chain; work = r.work },
-)
-put_went tries xs (Err e) s t g = (
-  notes_of g.0,
-  seen_as s.known.view g.1 g.2,
-  g.4,
-  λ r. record { zeros = r.zeros; credit = r.credit; chain = r.chain; work = r.work },
-)
-
+-- a put that succeeds takes its elements out of the hand, and a refused one leaves all as it was
 put_effect : (tries : ℕ) (xs : List ℕ) (r : Result (Unit {0}) Refusal) (s t : Seated) →
     ((i : ℕ) → bag xs i ≤ bag s.known.view.hand i) → Puts tries xs r s t →
     HasEffect (PutList xs r) (side_of s) (side_of t)
@@ -175,6 +138,7 @@ put_effect tries xs (Ok _) s t h g = record {
 }
 put_effect tries xs (Err e) s t h g = ap side_of g.4
 
+-- what a put did, from what it leaves of the seat
 pub put_did : (xs : List ℕ) (r : Result (Unit {0}) Refusal) (s t : Seated) →
     ((i : ℕ) → bag xs i ≤ bag s.known.view.hand i) → Puts s.known.limits.tries xs r s t →
     (IsAlone s → r ≢ Err Contended) → Did DidOnWords side_of s (PutList xs r) t
@@ -188,9 +152,7 @@ put_did xs (Err e) s t h g alone =
 
 -- ---- a count
 
-pub length_went : (n : ℕ) (s t : Seated) → Steps LoadLength (Value n) s t → Went s t
-length_went n s t g = ((LoadLength, Value n) ∷ [], s.known.view, g, λ r. r)
-
+-- what a load of the length did, which is one step
 pub length_did : (n : ℕ) (s t : Seated) → Steps LoadLength (Value n) s t →
     KnowsLength s.known n → Did DidOnWords side_of s (CommonCount n) t
 length_did n s t g known =
@@ -235,19 +197,7 @@ kept p (x ∷ xs) i =
     omega (arith, bag-cons x xs i))
     (λ f. rest ∙ ap (λ (b : Bool). if b then bag xs i else 0) f))
 
-pub claim_went : (e : ℕ) (s t : Seated) → Steps (ClaimStep e) (Value 1) s t → Went s t
-claim_went e s t g = (
-  (ClaimStep e, Value 1) ∷ [],
-  claimed s.known.view e,
-  g,
-  λ r. record {
-    zeros = r.zeros;
-    credit = r.credit;
-    chain = ap (λ (c : Option Chain). chain_without e c) r.chain;
-    work = r.work;
-  },
-)
-
+-- a claim takes the element out of the hand, and makes it a hold and a header
 claim_effect : (e : ℕ) (s t : Seated) → 0 < bag s.known.view.hand e →
     Steps (ClaimStep e) (Value 1) s t → HasEffect (Claim e) (side_of s) (side_of t)
 claim_effect e s t here g = record {
@@ -261,15 +211,14 @@ claim_effect e s t here g = record {
       ap (λ (x : Seated). bag x.known.view.headers i) g ∙ bag-more e s.known.view.headers i;
 }
 
+-- what a claim did, which is one step
 pub claim_did : (e : ℕ) (s t : Seated) → 0 < bag s.known.view.hand e →
     Steps (ClaimStep e) (Value 1) s t → Did DidOnWords side_of s (Claim e) t
 claim_did e s t here g =
-    doing s (Claim e) t (Taken e ∷ []) (claimed s.known.view e) refl (claim_effect e s t here g) g
+    doing s (Claim e) t (Claimed e ∷ []) (claimed s.known.view e) refl (claim_effect e s t here g) g
     refl (λ whole c. c) tt
 
-pub count_went : (e n : ℕ) (s t : Seated) → Steps (Sole e false) (Value n) s t → Went s t
-count_went e n s t g = ((Sole e false, Value n) ∷ [], s.known.view, g, λ r. r)
-
+-- what a load of a count did, which is one step
 pub count_did : (e n : ℕ) (s t : Seated) → Steps (Sole e false) (Value n) s t →
     bag s.known.view.holds e ≤ n → n ≤ s.known.limits.ref_limit →
     KnowsCount s.known e n → Did DidOnWords side_of s (CountOf e n) t
@@ -277,54 +226,33 @@ count_did e n s t g low high known =
     doing s (CountOf e n) t (Counted e n ∷ []) s.known.view refl
     (record { same = ap side_of g; own = low; limited = high }) g refl (λ whole c. c) known
 
-pub raise_went : (l : Limits) (e : ℕ) (r : Result (Unit {0}) Refusal) (s t : Seated) →
-    Raises l e r s t → Went s t
-raise_went l e (Ok _) s t g = (
-  notes_of g.0,
-  raised s.known.view e,
-  g.2,
-  λ r. record { zeros = r.zeros; credit = r.credit; chain = r.chain; work = r.work },
-)
-raise_went l e (Err _) s t g = (notes_of g.0, s.known.view, g.2, λ r. r)
-
+-- a raise that succeeds makes one more hold, and a refused one leaves all as it was
 raise_effect : (l : Limits) (e : ℕ) (r : Result (Unit {0}) Refusal) (s t : Seated) →
     0 < bag s.known.view.holds e → Raises l e r s t →
     HasEffect (Raise e r) (side_of s) (side_of t)
 raise_effect l e (Ok _) s t held g = record {
   held = held;
-  limits = ap (λ (x : Seated). x.known.limits) g.2;
-  hand = λ i. ap (λ (x : Seated). bag x.known.view.hand i) g.2;
-  holds = λ i. ap (λ (x : Seated). bag x.known.view.holds i) g.2 ∙ bag-more e s.known.view.holds i;
-  headers = headers_as s t _ _ g.2;
+  limits = ap (λ (x : Seated). x.known.limits) g.4;
+  hand = λ i. ap (λ (x : Seated). bag x.known.view.hand i) g.4;
+  holds = λ i. ap (λ (x : Seated). bag x.known.view.holds i) g.4 ∙ bag-more e s.known.view.holds i;
+  headers = headers_as s t _ _ g.4;
 }
-raise_effect l e (Err _) s t held g = ap side_of g.2
+raise_effect l e (Err _) s t held g = ap side_of g.4
 
+-- what a raise did, from what it leaves of the seat
 pub raise_did : (e : ℕ) (r : Result (Unit {0}) Refusal) (s t : Seated) →
     0 < bag s.known.view.holds e → Raises s.known.limits e r s t →
     (IsAlone s → r ≢ Err Contended) → (r ≡ Err RefSpent → KnowsSpent e s) → IfOk r (λ _. KnowsRaised e s) →
     Did DidOnWords side_of s (Raise e r) t
 raise_did e (Ok m) s t held g alone told below =
-    doing s (Raise e (Ok m)) t g.0 _ g.1 (raise_effect s.known.limits e (Ok m) s t held g) g.2 refl
+    doing s (Raise e (Ok m)) t g.0 _ g.3 (raise_effect s.known.limits e (Ok m) s t held g) g.4 refl
     (λ whole c. c) below
 raise_did e (Err cause) s t held g alone told below =
-    doing s (Raise e (Err cause)) t g.0 _ g.1
-    (raise_effect s.known.limits e (Err cause) s t held g) g.2 refl
+    doing s (Raise e (Err cause)) t g.0 _ g.3
+    (raise_effect s.known.limits e (Err cause) s t held g) g.4 refl
     (λ whole c. alone whole (ap Err (raise_contended e cause c))) (raise_told s e cause told)
 
-pub lower_went : (e : ℕ) (answer : Answer) (s t : Seated) → Lowers e answer s t → Went s t
-lower_went e Last s t g = (
-  notes g.0,
-  freed s.known.view e,
-  g.2,
-  λ r. record { zeros = r.zeros; credit = r.credit; chain = r.chain; work = r.work },
-)
-lower_went e Still s t g = (
-  notes g.0,
-  hold_ended s.known.view e false,
-  g.2,
-  λ r. record { zeros = r.zeros; credit = r.credit; chain = r.chain; work = r.work },
-)
-
+-- the last hold that ends brings the element into the hand, and no other does
 lower_hand : (e : ℕ) (answer : Answer) (s t : Seated) → Lowers e answer s t → (i : ℕ) →
     bag t.known.view.hand i ≡ bag s.known.view.hand i + back answer e i
 lower_hand e Last s t g i =
@@ -332,16 +260,19 @@ lower_hand e Last s t g i =
 lower_hand e Still s t g i =
     let h = ap (λ (x : Seated). bag x.known.view.hand i) g.2 in omega arith
 
+-- either way the seat has one hold less
 lowered_holds : (e : ℕ) (answer : Answer) (s t : Seated) → Lowers e answer s t →
     t.known.view.holds ≡ without e s.known.view.holds
 lowered_holds e Last s t g = ap (λ (x : Seated). x.known.view.holds) g.2
 lowered_holds e Still s t g = ap (λ (x : Seated). x.known.view.holds) g.2
 
+-- and keeps those headers alone that it still holds
 lowered_headers : (e : ℕ) (answer : Answer) (s t : Seated) → Lowers e answer s t →
     t.known.view.headers ≡ still_held s.known.view.headers (without e s.known.view.holds)
 lowered_headers e Last s t g = ap (λ (x : Seated). x.known.view.headers) g.2
 lowered_headers e Still s t g = ap (λ (x : Seated). x.known.view.headers) g.2
 
+-- what a lower does to hand, holds and headers
 lower_effect : (e : ℕ) (answer : Answer) (s t : Seated) → 0 < bag s.known.view.holds e →
     Lowers e answer s t → HasEffect (Lower e answer) (side_of s) (side_of t)
 lower_effect e answer s t held g = record {
@@ -362,10 +293,12 @@ lower_effect e answer s t held g = record {
     lower_limits Last g = ap (λ (x : Seated). x.known.limits) g.2
     lower_limits Still g = ap (λ (x : Seated). x.known.limits) g.2
 
+-- a lower leaves the part
 part_lowered : (e : ℕ) (answer : Answer) (v : View) → (lowered_as e answer v).part ≡ v.part
 part_lowered e Last v = refl
 part_lowered e Still v = refl
 
+-- what a lower did, from what it leaves of the seat
 pub lower_did : (e : ℕ) (answer : Answer) (s t : Seated) → 0 < bag s.known.view.holds e →
     Lowers e answer s t → KnowsLowered e answer s → Did DidOnWords side_of s (Lower e answer) t
 lower_did e answer s t held g told =
@@ -380,11 +313,3 @@ pub same_seat : (s : Seated) → s ≡ tried_to s [] s.known.view
 same_seat s =
     ap (λ (l : List Note). record s { known = record s.known { steps = l } })
     (sym (append-nil s.known.steps))
-
--- over a call the seat stays one of its ground
-pub did_of : (g : Grounded) (s t : Seated) (call : Call) → Did DidOnWords side_of s call t →
-    IsOf g s → IsOf g t
-did_of g s t call d h = record {
-  table = d.step.led.table ∙ h.table;
-  limits = d.step.led.limits ∙ h.limits;
-}

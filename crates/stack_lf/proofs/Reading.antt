@@ -12,8 +12,9 @@ use Rattle.commons.specs.declared.refusal.Lowered.{Lowered as Answer}
 use Rattle.commons.specs.declared.refusal.Lowered.TheVariants.{Last, Still}
 use Rattle.commons.specs.declared.packet.Seg.{Seg}
 use Rattle.step_core.specs.declared.view.Head.{Head}
-use Rattle.stack_lf.specs.Tries.{Try, Short, Reserved, Added, Counted, Raised, Freed, Lowered, Lasted, IsLostRaise, IsRaise, IsLower, reads, readings_of, Walk, IsWalk, Ended, Beaten, IsMiss, IsLostCut, IsWonCut, IsLostPush, IsWonPush, IsSpent, IsGet, IsPut, Unoffered, Offered, Untaken, Fetched, IsOffer, IsTake, IsOfCall}
+use Rattle.stack_lf.specs.Tries.{Try, Short, Reserved, Added, Counted, Raised, Freed, Lowered, LoweredToLast, IsLostRaise, IsRaise, IsLower, reads, readings_of, Walk, IsWalk, Ended, PopFailed, IsLostReserve, IsLostCut, IsWonCut, IsLostPush, IsWonPush, IsSpent, IsGet, IsPut, OfferFailed, Offered, TakeFailed, Taken, IsOffer, IsTake, IsOfCall}
 
+-- the losses of readings one after another are those of both
 losses-append : (xs ys : List Reading) →
     count_by is_lost (xs ++ ys) ≡ count_by is_lost xs + count_by is_lost ys
 losses-append xs ys = sum_by-append (λ r. cond (is_lost r) 1 0) xs ys
@@ -38,25 +39,28 @@ losses_within front bs =
     let e = ap (λ (l : List Reading). count_by is_lost l) (flat_map-append reads front bs) in
     omega (arith, losses-append (readings_of front) (readings_of bs))
 
+-- and a loss before others
 losses_before : (front bs : List Try) →
     count_by is_lost (readings_of front) ≤ count_by is_lost (readings_of (front ++ bs))
 losses_before front bs =
     let e = ap (λ (l : List Reading). count_by is_lost l) (flat_map-append reads front bs) in
     omega (arith, losses-append (readings_of front) (readings_of bs))
 
+-- a try that is another has a loss where that has one
 one_loss : (x y : Try) → x ≡ y → 1 ≤ count_by is_lost (reads y) →
     1 ≤ count_by is_lost (reads x)
 one_loss x y e h = subst (λ (t : Try). 1 ≤ count_by is_lost (reads t)) (sym e) h
 
-miss_lost : (n : ℕ) (x : Try) → IsMiss n x → 1 ≤ count_by is_lost (reads x)
+miss_lost : (n : ℕ) (x : Try) → IsLostReserve n x → 1 ≤ count_by is_lost (reads x)
 miss_lost n x h = one_loss x _ h.4 (omega arith)
 
+-- a cut that lost reads a loss, whether its walk ended early or its exchange lost
 cut_lost_read : (n : ℕ) (x : Try) → IsLostCut n x → 1 ≤ count_by is_lost (reads x)
 cut_lost_read n x h = ⊎_elim
     (λ (a : (k : Head) × (ps : Walk) × (length ps < n) × IsWalk k.top ps 0 × (x ≡ Ended k ps)).
     one_loss x _ a.4 (omega arith))
     (λ (b : (k found : Head) × (ps : Walk) × (u : ℕ) × (length ps ≡ n)
-    × (k.count < found.count) × IsWalk k.top ps u × (x ≡ Beaten k ps found)).
+    × (k.count < found.count) × IsWalk k.top ps u × (x ≡ PopFailed k ps found)).
     one_loss x _ b.7 (omega arith))
     h
 
@@ -78,6 +82,7 @@ kind_of f n ts front back e h =
     (subst (λ (l : List Reading). last_in f l ≡ Some n) (sym (flat_map-append reads front back))
     (kind_after f n (readings_of front) (readings_of back) h))
 
+-- the head that a try read last, before tries that read none
 head_read : (h : Head) (x y : Try) (back : List Try) → x ≡ y →
     last_head (readings_of (y ∷ back)) ≡ Some h.count →
     last_head (readings_of (x ∷ back)) ≡ Some h.count
@@ -88,6 +93,8 @@ head_read h x y back e d =
 below : (n c : ℕ) (o : Option ℕ) → o ≡ Some c → c < n → IsBelow n o
 below n c o e h = subst (λ (z : Option ℕ). IsBelow n z) (sym e) h
 
+-- A get: the head of its won cut was not spent; a length below n was read; the spent count was
+-- read; or as many tries lost as are allowed.
 pub cause_get : (l : Limits) (n : ℕ) (answer : Result (List ℕ) Refusal) (ts : List Try) →
     IsGet l.tries n answer ts → HasCause l (GetList n answer) (readings_of ts)
 cause_get l n (Ok xs) ts d =
@@ -116,12 +123,12 @@ cause_get l n (Err HeadSpent) ts d =
     kind_of head_in spent ts (misses ++ Reserved n d.2 ∷ cuts) (x ∷ Added n ∷ []) all
     (head_read stop.0 x _ (Added n ∷ []) stop.2 refl ∙ ap Some stop.1)
 cause_get l n (Err Contended) ts d = ⊎_elim
-    (λ (a : (length ts ≡ l.tries) × All (IsMiss n) ts).
-    let more = each_lost (IsMiss n) ts (miss_lost n) a.1 in
+    (λ (a : (length ts ≡ l.tries) × All (IsLostReserve n) ts).
+    let more = each_lost (IsLostReserve n) ts (miss_lost n) a.1 in
     let len = a.0 in
     omega arith)
     (λ (b : (misses cuts : List Try) × (v : ℕ)
-    × (length misses < l.tries) × All (IsMiss n) misses × (n ≤ v)
+    × (length misses < l.tries) × All (IsLostReserve n) misses × (n ≤ v)
     × (length cuts ≡ l.tries) × All (IsLostCut n) cuts
     × (ts ≡ misses ++ Reserved n v ∷ (cuts ++ Added n ∷ []))).
     let misses : List Try = b.0 in
@@ -139,6 +146,7 @@ cause_get l n (Err Contended) ts d = ⊎_elim
     d
 cause_get l n (Err _) ts d = d
 
+-- a put: the head of its won push was not spent, the spent count was read, or all its tries lost
 pub cause_put : (l : Limits) (xs : List ℕ) (answer : Result (Unit {0}) Refusal) (ts : List Try) →
     IsPut l.tries xs answer ts → HasCause l (PutList xs answer) (readings_of ts)
 cause_put l xs (Ok _) ts d =
@@ -171,6 +179,7 @@ by_try : (i n : ℕ) (x y : Try) → x ≡ y → last_in (count_in i) (readings_
     last_in (count_in i) (readings_of (x ∷ [])) ≡ Some n
 by_try i n x y e h = subst (λ (t : Try). last_in (count_in i) (readings_of (t ∷ [])) ≡ Some n) (sym e) h
 
+-- a raise: a count below the limit was read last, the limit itself, or all its tries lost
 pub cause_raise : (l : Limits) (i : ℕ) (answer : Result (Unit {0}) Refusal) (ts : List Try) →
     IsRaise l i answer ts → HasCause l (Raise i answer) (readings_of ts)
 cause_raise l i (Ok _) ts d =
@@ -187,12 +196,13 @@ cause_raise l i (Err _) ts d = d
 above : (n c : ℕ) (o : Option ℕ) → o ≡ Some c → n < c → IsAbove n o
 above n c o e h = subst (λ (z : Option ℕ). IsAbove n z) (sym e) h
 
+-- a lower: the last count that was read is 1, or above it
 pub cause_lower : (l : Limits) (i : ℕ) (answer : Answer) (x : Try) → IsLower i answer x →
     HasCause l (Lower i answer) (readings_of (x ∷ []))
 cause_lower l i Last x d = ⊎_elim
     (λ (a : x ≡ Freed i). by_try i 1 x (Freed i) a (count_read i 1))
-    (λ (b : (c : ℕ) × (1 < c) × (x ≡ Lasted i c)).
-    by_try i 1 x (Lasted i b.0) b.2
+    (λ (b : (c : ℕ) × (1 < c) × (x ≡ LoweredToLast i c)).
+    by_try i 1 x (LoweredToLast i b.0) b.2
     (kind_after (count_in i) 1 (Count i b.0 ∷ []) (Count i 1 ∷ []) (count_read i 1)))
     d
 cause_lower l i Still x d =
@@ -207,6 +217,7 @@ desk_read d n = cond-true (d == d) (Some n) None (eq-eqb d d refl)
 another : (n found : ℕ) (o : Option ℕ) → o ≡ Some found → found ≢ n → IsOther n o
 another n found o e h = subst (λ (z : Option ℕ). IsOther n z) (sym e) h
 
+-- an offer: the pool has no such desk, or the desk's word was read, which was 0 or another
 cause_offer : (l : Limits) (d : ℕ) (p : List Seg) (answer : Result (Unit {0}) Refusal) (ts : List Try) →
     IsOffer l d p answer ts → HasCause l (Offer d p answer) (readings_of ts)
 cause_offer l d p (Ok _) ts h =
@@ -215,22 +226,24 @@ cause_offer l d p (Err NoSuchDesk) ts h = h.0
 cause_offer l d p (Err DeskTaken) ts h = (
   h.1,
   another 0 h.0 (last_desk d (readings_of ts))
-      (kind_of (desk_in d) h.0 ts [] (Unoffered d h.0 ∷ []) h.3 (desk_read d h.0)) h.2,
+      (kind_of (desk_in d) h.0 ts [] (OfferFailed d h.0 ∷ []) h.3 (desk_read d h.0)) h.2,
 )
 cause_offer l d p (Err _) ts h = absurd h
 
+-- a take: the pool has no such desk, or the desk's word was read, which was 2 or another
 cause_take : (l : Limits) (d : ℕ) (answer : Result (List Seg) Refusal) (ts : List Try) →
     IsTake l d answer ts → HasCause l (Take d answer) (readings_of ts)
 cause_take l d (Ok p) ts h =
-    (h.0, kind_of (desk_in d) 2 ts [] (Fetched d p ∷ []) h.1 (desk_read d 2))
+    (h.0, kind_of (desk_in d) 2 ts [] (Taken d p ∷ []) h.1 (desk_read d 2))
 cause_take l d (Err NoSuchDesk) ts h = h.0
 cause_take l d (Err DeskEmpty) ts h = (
   h.1,
   another 2 h.0 (last_desk d (readings_of ts))
-      (kind_of (desk_in d) h.0 ts [] (Untaken d h.0 ∷ []) h.3 (desk_read d h.0)) h.2,
+      (kind_of (desk_in d) h.0 ts [] (TakeFailed d h.0 ∷ []) h.3 (desk_read d h.0)) h.2,
 )
 cause_take l d (Err _) ts h = absurd h
 
+-- of each call, what its tries read last of its kind is the cause of its answer
 pub causes : (l : Limits) (call : Call) (ts : List Try) → IsOfCall l call ts →
     HasCause l call (readings_of ts)
 causes l (GetList n answer) ts d = cause_get l n answer ts d

@@ -16,12 +16,11 @@ use Rattle.step_core.specs.declared.step.Step.TheVariants.{StoreLink, LoadHead, 
 use Rattle.step_core.specs.declared.step.Outcome.TheVariants.{Done, HeadIs, Won, LostTo}
 use Rattle.step_core.specs.declared.step.Outcome.{Outcome}
 use Rattle.commons.specs.Calls.{spent}
-use Rattle.stack_lf.specs.declared.tried.Tried.TheVariants as tried
 use Rattle.ground.specs.Seats.{Seated, Note, after, Steps, element_of}
 use Rattle.step_core.specs.Sights.{view_after, MayPush, chain_after}
-use Rattle.stack_lf.specs.Leaves.{start}
-use Rattle.stack_lf.specs.Tries.{last_of, stores, notes, Pushed, Unpushed}
-use Rattle.stack_lf.specs.Leaves.{chain_of, Stored, push_as}
+use Rattle.stack_lf.specs.Effects.{start}
+use Rattle.stack_lf.specs.Tries.{last_of, stores, notes, Pushed, PushFailed}
+use Rattle.stack_lf.specs.Effects.{chain_of, Stored, push_as, seen_as}
 use Rattle.stack_lf.proofs.Composing.{more, one_more}
 
 pub bag-minus : (xs ys : List ℕ) (i : ℕ) → bag (minus xs ys) i ≡ bag xs i - bag ys i
@@ -32,6 +31,7 @@ pub link-element : (v : ℕ) → link_value (element_of v) ≡ v
 link-element zero = refl
 link-element (suc i) = refl
 
+-- what leads to the last of a list that one is added to leads to that one
 pub last_value-append : (xs : List ℕ) (y : ℕ) → last_value (xs ++ y ∷ []) ≡ suc y
 last_value-append [] y = refl
 last_value-append (x ∷ []) y = refl
@@ -44,10 +44,12 @@ reverse-push xs x = reverse-append xs (x ∷ [])
 pub last-reverse : (x : ℕ) (xs : List ℕ) → last_value (reverse (x ∷ xs)) ≡ suc x
 last-reverse x xs = ap last_value (reverse-append (x ∷ []) xs) ∙ last_value-append (reverse xs) x
 
+-- and so of a list that is stored
 pub last_of-push : (v : ℕ) (xs : List ℕ) (x : ℕ) → last_of v (xs ++ x ∷ []) ≡ suc x
 last_of-push v [] x = refl
 last_of-push v (y ∷ ys) x = last_of-push (suc y) ys x
 
+-- the steps that store the links of a list with one more are those of the list and one
 pub stores-push : (v : ℕ) (xs : List ℕ) (x : ℕ) →
     stores v (xs ++ x ∷ []) ≡ stores v xs ++ stores (last_of v xs) (x ∷ [])
 stores-push v [] x = refl
@@ -59,19 +61,23 @@ abbrev first_or : ℕ → List ℕ → ℕ
 first_or v [] = v
 first_or v (x ∷ xs) = suc x
 
+-- what leads to the first of a list with one more, which is the one only where the list was empty
 first_or-append : (v y : ℕ) (zs : List ℕ) → first_or v (zs ++ y ∷ []) ≡ first_or (suc y) zs
 first_or-append v y [] = refl
 first_or-append v y (z ∷ zs) = refl
 
+-- the last of a list is the first of it turned around
 last_of-reverse : (v : ℕ) (ys : List ℕ) → last_of v ys ≡ first_or v (reverse ys)
 last_of-reverse v [] = refl
 last_of-reverse v (y ∷ ys) = last_of-reverse (suc y) ys
     ∙ (sym (first_or-append v y (reverse ys)) ∙ ap (first_or v) (sym (reverse-append (y ∷ []) ys)))
 
+-- the first of a list that has one, whatever stands for none
 first_or-some : (v w : ℕ) (zs : List ℕ) → 0 < length zs → first_or v zs ≡ first_or w zs
 first_or-some v w [] h = absurd (omega arith)
 first_or-some v w (z ∷ zs) h = refl
 
+-- what leads to the first, or 0 where the list is empty
 first_value-or : (zs : List ℕ) → first_value zs ≡ first_or 0 zs
 first_value-or [] = refl
 first_value-or (z ∷ zs) = refl
@@ -134,6 +140,7 @@ stored-push top xs x s t u new e f =
           ∙ chain-push top x xs new) j,
     ))
 
+-- no link is stored yet
 pub stored-none : (top : ℕ) (s : Seated) → s.known.view.chain ≡ None → Stored top [] s s
 stored-none top s e =
     ap (λ (z : List Note × Option Chain). record s {
@@ -142,6 +149,7 @@ stored-none top s e =
     })
     (λ j. (sym (append-nil s.known.steps) j, e j))
 
+-- a list of one or more is a chain
 pub chain-some : (top : ℕ) (xs : List ℕ) → 0 < length xs →
     ◌≡◌ {A = Option Chain} (chain_of top xs) (Some (record { items = reverse xs; end = top }))
 chain-some top [] h = absurd (omega arith)
@@ -156,6 +164,7 @@ linked v h xs = record v {
       Some (record { items = reverse xs; end = h.top });
 }
 
+-- the seat after it has read the head and stored the links of a list
 pub links_stored : (h : Head) (xs : List ℕ) (s t u : Seated) → 0 < length xs →
     Steps LoadHead (HeadIs h) s t → Stored h.top xs t u →
     u ≡ after s ((LoadHead, HeadIs h) ∷ stores h.top xs) (linked s.known.view h xs)
@@ -183,6 +192,7 @@ may_push h xs first s t u some less is e f =
       sym (is ∙ first-reverse h.top xs some),
     )
 
+-- and after the exchange of the head
 pub push_tried : (h : Head) (xs : List ℕ) (o : Outcome) (s t u w : Seated) → 0 < length xs →
     Steps LoadHead (HeadIs h) s t → Stored h.top xs t u → Steps Push o u w
     → w ≡ after s ((LoadHead, HeadIs h) ∷ (stores h.top xs ++ (Push, o) ∷ []))
@@ -190,10 +200,11 @@ pub push_tried : (h : Head) (xs : List ℕ) (o : Outcome) (s t u w : Seated) →
 push_tried h xs o s t u w some e f d = one_more s u w ((LoadHead, HeadIs h) ∷ stores h.top xs)
     (linked s.known.view h xs) Push o (links_stored h xs s t u some e f) d
 
+-- a push that won: the list has left the hand and is a credit, and no chain is left
 pub push_wins : (h : Head) (xs : List ℕ) (s t u w : Seated) → 0 < length xs →
     s.known.view.chain ≡ None → Steps LoadHead (HeadIs h) s t → Stored h.top xs t u →
     Steps Push Won u w
-    → w ≡ after s (notes (Pushed h xs)) (push_as xs tried.Won s.known.view None (h.count + 1))
+    → w ≡ after s (notes (Pushed h xs)) (push_as xs s.known.view None (h.count + 1))
 push_wins h xs s t u w some none e f d =
     push_tried h xs Won s t u w some e f d
     ∙ ap (λ (z : ℕ × Option Chain). after s (notes (Pushed h xs))
@@ -207,14 +218,15 @@ push_wins h xs s t u w some none e f d =
     }))
     (λ j. (length-reverse xs j, sym none j))
 
+-- a push that lost: no chain is left, and the seat has seen the head that it found
 pub push_loses : (h found : Head) (xs : List ℕ) (s t u w : Seated) → 0 < length xs →
     s.known.view.chain ≡ None → Steps LoadHead (HeadIs h) s t → Stored h.top xs t u →
     Steps Push (LostTo found) u w
-    → w ≡ after s (notes (Unpushed h xs found))
-    (push_as xs tried.Lost s.known.view None found.count)
+    → w ≡ after s (notes (PushFailed h xs found))
+    (seen_as s.known.view None found.count)
 push_loses h found xs s t u w some none e f d =
     push_tried h xs (LostTo found) s t u w some e f d
-    ∙ ap (λ (c : Option Chain). after s (notes (Unpushed h xs found))
+    ∙ ap (λ (c : Option Chain). after s (notes (PushFailed h xs found))
     (record s.known.view { look = None; seen = found.count; chain = c })) (sym none)
 
 -- the part of a seat that has read a head and stored the links of a list

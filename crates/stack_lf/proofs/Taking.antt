@@ -10,7 +10,7 @@ use Rattle.step_core.specs.declared.step.Step.TheVariants.{LoadLength, Reserve, 
 use Rattle.step_core.specs.declared.step.Outcome.{Outcome}
 use Rattle.step_core.specs.declared.step.Outcome.TheVariants.{Value, HeadIs, Won, Got, Lost, LostTo, Done}
 use Rattle.ground.specs.Seats.{Note, element_of}
-use Rattle.stack_lf.specs.Tries.{Try, Walk, IsWalk, Short, Missed, Reserved, Stopped, Ended, Beaten, Cutoff, Unpushed, Pushed, Added, notes, notes_of, link_note, elements, stores, IsMiss, IsLostCut, IsWonCut, IsLostPush, IsWonPush, IsSpent, IsGet, IsPut}
+use Rattle.stack_lf.specs.Tries.{Try, Walk, IsWalk, Short, ReserveFailed, Reserved, Stopped, Ended, PopFailed, Popped, PushFailed, Pushed, Added, notes, notes_of, link_note, elements, stores, IsLostReserve, IsLostCut, IsWonCut, IsLostPush, IsWonPush, IsSpent, IsGet, IsPut}
 use Rattle.stack_lf.specs.Notes.{cut_by, reserved_by, added_by, pushed_by, in_notes, TakesOnce, GivesOnce}
 use Rattle.stack_lf.proofs.Composing.{notes_of-append}
 use Rattle.stack_lf.proofs.Reading.{all_tail}
@@ -39,12 +39,14 @@ past_all : {A : Type 0} (f : Step → Outcome → List A) (front back : List Not
 past_all f front back e =
     flat_map-append (λ (n : Note). f n.0 n.1) front back ∙ ap (λ l. l ++ in_notes f back) e
 
+-- loads of links are of no such kind
 links_none : {A : Type 0} (f : Step → Outcome → List A) → IsChange f → (ps : Walk) →
     in_notes f (map link_note ps) ≡ []
 links_none f c [] = refl
 links_none f c (p ∷ ps) =
     past f (LoadLink p.0) (Value p.1) (map link_note ps) (c.2 p.0 p.1) ∙ links_none f c ps
 
+-- nor are stores of links
 stores_none : {A : Type 0} (f : Step → Outcome → List A) → IsChange f → (v : ℕ) (xs : List ℕ) →
     in_notes f (stores v xs) ≡ []
 stores_none f c v [] = refl
@@ -52,6 +54,7 @@ stores_none f c v (x ∷ xs) =
     past f (StoreLink x (element_of v)) Done (stores (suc x) xs) (c.3 x (element_of v))
     ∙ stores_none f c (suc x) xs
 
+-- a try that is another has the same of the kind
 by_eq : {A : Type 0} (f : Step → Outcome → List A) (x y : Try) (l : List A) → x ≡ y →
     in_notes f (notes y) ≡ l → in_notes f (notes x) ≡ l
 by_eq f x y l e h = ap (λ (t : Try). in_notes f (notes t)) e ∙ h
@@ -63,13 +66,15 @@ head_then : {A : Type 0} (f : Step → Outcome → List A) → IsChange f → (h
 head_then f c h ns more e =
     past f LoadHead (HeadIs h) (ns ++ more) (c.1 h) ∙ past_all f ns more e
 
+-- a reservation that lost has none of the kind
 miss_none : {A : Type 0} (f : Step → Outcome → List A) → IsChange f → (n : ℕ) (x : Try) →
-    IsMiss n x → in_notes f (notes x) ≡ []
+    IsLostReserve n x → in_notes f (notes x) ≡ []
 miss_none f c n x h =
-    by_eq f x (Missed n h.0 h.1) [] h.4
+    by_eq f x (ReserveFailed n h.0 h.1) [] h.4
     (past f LoadLength (Value h.0) ((Reserve h.0 n, Lost h.1) ∷ []) (c.0 h.0)
     ∙ past f (Reserve h.0 n) (Lost h.1) [] (c.4 n h.0 h.1))
 
+-- nor has a cut that lost
 lost_cut_none : {A : Type 0} (f : Step → Outcome → List A) → IsChange f → (n : ℕ) (x : Try) →
     IsLostCut n x → in_notes f (notes x) ≡ []
 lost_cut_none f c n x h = ⊎_elim
@@ -77,33 +82,37 @@ lost_cut_none f c n x h = ⊎_elim
     by_eq f x (Ended a.0 a.1) [] a.4
     (past f LoadHead (HeadIs a.0) (map link_note a.1) (c.1 a.0) ∙ links_none f c a.1))
     (λ (b : (k found : Head) × (ps : Walk) × (u : ℕ) × (length ps ≡ n)
-    × (k.count < found.count) × IsWalk k.top ps u × (x ≡ Beaten k ps found)).
-    by_eq f x (Beaten b.0 b.2 b.1) [] b.7
+    × (k.count < found.count) × IsWalk k.top ps u × (x ≡ PopFailed k ps found)).
+    by_eq f x (PopFailed b.0 b.2 b.1) [] b.7
     (head_then f c b.0 (map link_note b.2) ((Cut, LostTo b.1) ∷ []) (links_none f c b.2)
     ∙ past f Cut (LostTo b.1) [] (c.5 b.1)))
     h
 
+-- a cut that won has its exchange alone
 won_cut : {A : Type 0} (f : Step → Outcome → List A) → IsChange f → (xs : List ℕ) (x : Try) →
     IsWonCut xs x → in_notes f (notes x) ≡ in_notes f ((Cut, Got xs) ∷ [])
 won_cut f c xs x h =
-    by_eq f x (Cutoff h.0 h.1) (in_notes f ((Cut, Got xs) ∷ [])) h.6
+    by_eq f x (Popped h.0 h.1) (in_notes f ((Cut, Got xs) ∷ [])) h.6
     (head_then f c h.0 (map link_note h.1) ((Cut, Got (elements h.1)) ∷ []) (links_none f c h.1)
     ∙ ap (λ (l : List ℕ). in_notes f ((Cut, Got l) ∷ [])) (sym h.3))
 
+-- a push that lost has none
 lost_push_none : {A : Type 0} (f : Step → Outcome → List A) → IsChange f → (xs : List ℕ)
     (x : Try) → IsLostPush xs x → in_notes f (notes x) ≡ []
 lost_push_none f c xs x h =
-    by_eq f x (Unpushed h.0 xs h.1) [] h.3
+    by_eq f x (PushFailed h.0 xs h.1) [] h.3
     (head_then f c h.0 (stores (h.0).top xs) ((Push, LostTo h.1) ∷ [])
     (stores_none f c (h.0).top xs)
     ∙ past f Push (LostTo h.1) [] (c.6 h.1))
 
+-- a push that won has its exchange alone
 won_push : {A : Type 0} (f : Step → Outcome → List A) → IsChange f → (xs : List ℕ) (x : Try) →
     IsWonPush xs x → in_notes f (notes x) ≡ in_notes f ((Push, Won) ∷ [])
 won_push f c xs x h =
     by_eq f x (Pushed h.0 xs) (in_notes f ((Push, Won) ∷ [])) h.2
     (head_then f c h.0 (stores (h.0).top xs) ((Push, Won) ∷ []) (stores_none f c (h.0).top xs))
 
+-- a try that found the head spent has none
 spent_none : {A : Type 0} (f : Step → Outcome → List A) → IsChange f → (x : Try) → IsSpent x →
     in_notes f (notes x) ≡ []
 spent_none f c x h =
@@ -131,12 +140,14 @@ then_others f x ts l m e h =
     flat_map-append (λ (n : Note). f n.0 n.1) (notes x) (notes_of ts)
     ∙ ap (λ (z : List _ × List _). z.0 ++ z.1) (λ j. (e j, h j))
 
+-- a reservation that won has its exchange alone
 reserved_step : {A : Type 0} (f : Step → Outcome → List A) → IsChange f → (n v : ℕ) →
     in_notes f (notes (Reserved n v)) ≡ in_notes f ((Reserve v n, Won) ∷ [])
 reserved_step f c n v = past f LoadLength (Value v) ((Reserve v n, Won) ∷ []) (c.0 v)
 
 -- ---- a get
 
+-- a get that succeeds: its reservation, and its cut
 get_won : {A : Type 0} (f : Step → Outcome → List A) → IsChange f → (tries n : ℕ) (xs : List ℕ)
     (ts : List Try) → IsGet tries n (Ok xs) ts → (v : ℕ) × (in_tries f ts
     ≡ in_notes f ((Reserve v n, Won) ∷ []) ++ (in_notes f ((Cut, Got xs) ∷ []) ++ []))
@@ -148,20 +159,22 @@ get_won f c tries n xs ts d =
       v,
       ap (λ (l : List Try). in_tries f l) d.11
           ∙ (skip f misses (Reserved n v ∷ (cuts ++ x ∷ []))
-          (none_in f (IsMiss n) misses (miss_none f c n) d.5)
+          (none_in f (IsLostReserve n) misses (miss_none f c n) d.5)
           ∙ then_others f (Reserved n v) (cuts ++ x ∷ []) (in_notes f ((Reserve v n, Won) ∷ []))
           (in_notes f ((Cut, Got xs) ∷ []) ++ []) (reserved_step f c n v)
           (skip f cuts (x ∷ []) (none_in f (IsLostCut n) cuts (lost_cut_none f c n) d.8)
           ∙ then_others f x [] (in_notes f ((Cut, Got xs) ∷ [])) [] (won_cut f c xs x d.10) refl)),
     )
 
+-- a get that found too few: nothing of the kind
 get_short : {A : Type 0} (f : Step → Outcome → List A) → IsChange f → (tries n : ℕ)
     (ts : List Try) → IsGet tries n (Err NoEntries) ts → in_tries f ts ≡ []
 get_short f c tries n ts d =
     ap (λ (l : List Try). in_tries f l) d.5
-    ∙ (skip f d.0 (Short d.1 ∷ []) (none_in f (IsMiss n) d.0 (miss_none f c n) d.3)
+    ∙ (skip f d.0 (Short d.1 ∷ []) (none_in f (IsLostReserve n) d.0 (miss_none f c n) d.3)
     ∙ past f LoadLength (Value d.1) [] (c.0 d.1))
 
+-- a get that found the head spent: its reservation, and what it gave back
 get_spent : {A : Type 0} (f : Step → Outcome → List A) → IsChange f → (tries n : ℕ)
     (ts : List Try) → IsGet tries n (Err HeadSpent) ts → (v : ℕ) × (in_tries f ts
     ≡ in_notes f ((Reserve v n, Won) ∷ []) ++ in_notes f ((Add n, Done) ∷ []))
@@ -173,7 +186,7 @@ get_spent f c tries n ts d =
       v,
       ap (λ (l : List Try). in_tries f l) d.10
           ∙ (skip f misses (Reserved n v ∷ (cuts ++ x ∷ Added n ∷ []))
-          (none_in f (IsMiss n) misses (miss_none f c n) d.5)
+          (none_in f (IsLostReserve n) misses (miss_none f c n) d.5)
           ∙ then_others f (Reserved n v) (cuts ++ x ∷ Added n ∷ [])
           (in_notes f ((Reserve v n, Won) ∷ [])) (in_notes f ((Add n, Done) ∷ []))
           (reserved_step f c n v)
@@ -186,10 +199,11 @@ get_spent f c tries n ts d =
 abbrev IsGivenBack : ℕ → ℕ → List Try → Type 0
 IsGivenBack tries n ts =
     (misses cuts : List Try) × (v : ℕ)
-    × (length misses < tries) × All (IsMiss n) misses × (n ≤ v)
+    × (length misses < tries) × All (IsLostReserve n) misses × (n ≤ v)
     × (length cuts ≡ tries) × All (IsLostCut n) cuts
     × (ts ≡ misses ++ Reserved n v ∷ (cuts ++ Added n ∷ []))
 
+-- its reservation, and what it gave back
 get_given : {A : Type 0} (f : Step → Outcome → List A) → IsChange f → (tries n : ℕ)
     (ts : List Try) → (b : IsGivenBack tries n ts) → in_tries f ts
     ≡ in_notes f ((Reserve b.2 n, Won) ∷ []) ++ in_notes f ((Add n, Done) ∷ [])
@@ -199,12 +213,13 @@ get_given f c tries n ts b =
     let v : ℕ = b.2 in
     ap (λ (l : List Try). in_tries f l) b.8
     ∙ (skip f misses (Reserved n v ∷ (cuts ++ Added n ∷ []))
-    (none_in f (IsMiss n) misses (miss_none f c n) b.4)
+    (none_in f (IsLostReserve n) misses (miss_none f c n) b.4)
     ∙ then_others f (Reserved n v) (cuts ++ Added n ∷ [])
     (in_notes f ((Reserve v n, Won) ∷ [])) (in_notes f ((Add n, Done) ∷ []))
     (reserved_step f c n v)
     (skip f cuts (Added n ∷ []) (none_in f (IsLostCut n) cuts (lost_cut_none f c n) b.7)))
 
+-- cuts are of such a kind
 cut_changes : IsChange cut_by
 cut_changes = (
   (λ v. refl),
@@ -216,6 +231,7 @@ cut_changes = (
   λ h. refl,
 )
 
+-- and so are reservations
 reserved_changes : IsChange reserved_by
 reserved_changes = (
   (λ v. refl),
@@ -227,6 +243,7 @@ reserved_changes = (
   λ h. refl,
 )
 
+-- and additions to the length
 added_changes : IsChange added_by
 added_changes = (
   (λ v. refl),
@@ -238,6 +255,7 @@ added_changes = (
   λ h. refl,
 )
 
+-- and pushes
 pushed_changes : IsChange pushed_by
 pushed_changes = (
   (λ v. refl),
@@ -253,10 +271,10 @@ pushed_changes = (
 beaten_once : (tries n : ℕ) (ts : List Try) → IsGet tries n (Err Contended) ts →
     TakesOnce n (Err Contended) ts
 beaten_once tries n ts d = ⊎_elim
-    (λ (a : (length ts ≡ tries) × All (IsMiss n) ts). (
-      none_in cut_by (IsMiss n) ts (miss_none cut_by cut_changes n) a.1,
-      none_in added_by (IsMiss n) ts (miss_none added_by added_changes n) a.1
-          ∙ sym (none_in reserved_by (IsMiss n) ts (miss_none reserved_by reserved_changes n) a.1),
+    (λ (a : (length ts ≡ tries) × All (IsLostReserve n) ts). (
+      none_in cut_by (IsLostReserve n) ts (miss_none cut_by cut_changes n) a.1,
+      none_in added_by (IsLostReserve n) ts (miss_none added_by added_changes n) a.1
+          ∙ sym (none_in reserved_by (IsLostReserve n) ts (miss_none reserved_by reserved_changes n) a.1),
     ))
     (λ (b : IsGivenBack tries n ts). (
       get_given cut_by cut_changes tries n ts b,
@@ -265,6 +283,7 @@ beaten_once tries n ts d = ⊎_elim
     ))
     d
 
+-- what a get took and gave, by its answer
 pub cut_once : (tries n : ℕ) (answer : Result (List ℕ) Refusal) (ts : List Try) →
     IsGet tries n answer ts → TakesOnce n answer ts
 cut_once tries n (Ok xs) ts d = (
@@ -288,6 +307,7 @@ cut_once tries n (Err _) ts d = absurd d
 
 -- ---- a put
 
+-- a put that succeeds: its push, and the addition to the length
 put_won : {A : Type 0} (f : Step → Outcome → List A) → IsChange f → (tries : ℕ) (xs : List ℕ)
     (ts : List Try) → IsPut tries xs (Ok tt) ts → in_tries f ts
     ≡ in_notes f ((Push, Won) ∷ []) ++ in_notes f ((Add (length xs), Done) ∷ [])
@@ -298,6 +318,7 @@ put_won f c tries xs ts d =
     ∙ then_others f d.1 (Added (length xs) ∷ []) (in_notes f ((Push, Won) ∷ []))
     (in_notes f ((Add (length xs), Done) ∷ [])) (won_push f c xs d.1 d.4) refl)
 
+-- a put that found the head spent: nothing of the kind
 put_spent : {A : Type 0} (f : Step → Outcome → List A) → IsChange f → (tries : ℕ) (xs : List ℕ)
     (ts : List Try) → IsPut tries xs (Err HeadSpent) ts → in_tries f ts ≡ []
 put_spent f c tries xs ts d =
@@ -305,6 +326,7 @@ put_spent f c tries xs ts d =
     ∙ (skip f d.0 (d.1 ∷ []) (none_in f (IsLostPush xs) d.0 (lost_push_none f c xs) d.3)
     ∙ then_others f d.1 [] [] [] (spent_none f c d.1 d.4) refl)
 
+-- what a put gave, by its answer
 pub push_once : (tries : ℕ) (xs : List ℕ) (answer : Result (Unit {0}) Refusal) (ts : List Try) →
     IsPut tries xs answer ts → GivesOnce xs answer ts
 push_once tries xs (Ok _) ts d = (

@@ -1,69 +1,14 @@
--- The steps of a raise, and of a lower.
-use Rattle.std.proofs.Common.{◌≡◌, ◌≢◌, ◌==◌, ℕ, ◌+◌, ◌<◌, Bool, true, false, List, [], ◌∷◌, ◌++◌, refl, sym, ap, ◌∙◌, subst, arith}
-use Rattle.std.specs.Prelude.{Ok, Err, if◌then◌else◌}
-use Rattle.std.proofs.lemmas.List.{length-append}
-use Rattle.std.proofs.lemmas.List.Elements.{All-push}
+-- The steps of a lower.
+use Rattle.std.proofs.Common.{◌≡◌, ◌≢◌, ◌==◌, ℕ, Bool, true, false, List, [], ◌∷◌, ◌++◌, refl, sym, ap, ◌∙◌, subst}
+use Rattle.std.specs.Prelude.{if◌then◌else◌}
 use Rattle.std.proofs.lemmas.Bool.{ne_eqb, eq-eqb, cond-true}
-use Rattle.commons.specs.declared.limits.Limits.{Limits}
-use Rattle.commons.specs.declared.refusal.Refusal.{Refusal}
-use Rattle.commons.specs.declared.refusal.Refusal.TheVariants.{RefSpent, Contended}
 use Rattle.step_core.specs.Bags.{without}
-use Rattle.step_core.specs.Sights.{raised, freed, hold_ended}
+use Rattle.step_core.specs.Sights.{freed, hold_ended}
 use Rattle.step_core.specs.declared.step.Step.TheVariants.{Sole, Lower, Reset}
 use Rattle.step_core.specs.declared.step.Outcome.TheVariants.{Value, Done}
 use Rattle.ground.specs.Seats.{Seated, after, Steps}
-use Rattle.stack_lf.specs.declared.tried.Tried.TheVariants as tried
-use Rattle.stack_lf.specs.Tries.{Try, Lowered, Lasted, notes, IsLostRaise}
-use Rattle.stack_lf.specs.Leaves.{AllLost, TriesRaise, Raises}
-use Rattle.stack_lf.proofs.Composing.{one_more, try_more}
-
--- ---- a raise
-
-pub raise_lost : (l : Limits) (i k : ℕ) (s t u : Seated) → AllLost (IsLostRaise l i) k s t →
-    TriesRaise l i tried.Lost t u → AllLost (IsLostRaise l i) (k + 1) s u
-raise_lost l i k s t u inv r =
-    let ts = inv.0 in
-    let len = inv.1 in (
-      ts ++ r.0 ∷ [],
-      omega (arith, length-append ts (r.0 ∷ [])),
-      All-push (IsLostRaise l i) ts r.0 inv.2 r.1,
-      try_more s t u ts r.0 s.known.view (λ v. v) inv.3 r.2,
-    )
-
-pub raise_won : (l : Limits) (i k : ℕ) (s t u : Seated) → k < l.tries →
-    AllLost (IsLostRaise l i) k s t → TriesRaise l i tried.Won t u → Raises l i (Ok tt) s u
-raise_won l i k s t u less inv r =
-    let ts = inv.0 in
-    let len = inv.1 in
-    let h = r.1 in (
-      ts ++ r.0 ∷ [],
-      (ts, h.0, omega arith, inv.2, h.1, ap (λ (x : Try). ts ++ x ∷ []) h.2),
-      try_more s t u ts r.0 s.known.view (λ v. raised v i) inv.3 r.2,
-    )
-
-pub raise_refused : (l : Limits) (i k : ℕ) (s t u : Seated) (cause : Refusal) → k < l.tries →
-    AllLost (IsLostRaise l i) k s t → TriesRaise l i (tried.Refused cause) t u →
-    Raises l i (Err cause) s u
-raise_refused l i k s t u RefSpent less inv r =
-    let ts = inv.0 in
-    let len = inv.1 in (
-      ts ++ r.0 ∷ [],
-      (ts, omega arith, inv.2, ap (λ (x : Try). ts ++ x ∷ []) r.1),
-      try_more s t u ts r.0 s.known.view (λ v. v) inv.3 r.2,
-    )
-raise_refused l i k s t u cause less inv r = absurd r.1
-
-pub raise_given_up : (l : Limits) (i : ℕ) (s t : Seated) → AllLost (IsLostRaise l i) l.tries s t →
-    Raises l i (Err Contended) s t
-raise_given_up l i s t inv = (inv.0, (inv.1, inv.2), inv.3)
-
--- a try is refused at the limit alone
-pub raise_not_contended : (l : Limits) (i : ℕ) (cause : Refusal) (s t : Seated) →
-    TriesRaise l i (tried.Refused cause) s t → cause ≢ Contended
-raise_not_contended l i cause s t r e =
-    (subst (λ (c : Refusal). TriesRaise l i (tried.Refused c) s t) e r).1
-
--- ---- a lower
+use Rattle.stack_lf.specs.Tries.{Lowered, LoweredToLast, notes}
+use Rattle.stack_lf.proofs.Composing.{one_more}
 
 -- a count other than 1 frees nothing
 pub sole_kept : (i c : ℕ) (s t : Seated) → c ≢ 1 → Steps (Sole i true) (Value c) s t →
@@ -72,10 +17,12 @@ sole_kept i c s t ne e =
     e ∙ ap (λ (b : Bool). after s ((Sole i true, Value c) ∷ []) (if b then freed s.known.view i else s.known.view))
     (ne_eqb c 1 ne)
 
+-- a list without its first
 without-head : (x : ℕ) (xs : List ℕ) → without x (x ∷ xs) ≡ xs
 unfolding without
 without-head x xs = cond-true (x == x) xs (x ∷ without x xs) (eq-eqb x x refl)
 
+-- a lower that read more than 1 ends the hold and frees nothing
 pub lower_still : (i c b : ℕ) (s t u : Seated) → c ≢ 1 → b ≢ 1 → Steps (Sole i true) (Value c) s t →
     Steps (Lower i) (Value b) t u →
     u ≡ after s (notes (Lowered i c b)) (hold_ended s.known.view i false)
@@ -92,11 +39,12 @@ lower_between i c b s t u nc is e f =
     one_more s t u ((Sole i true, Value c) ∷ []) s.known.view (Lower i) (Value 1)
     (sole_kept i c s t nc e) (subst (λ (z : ℕ). Steps (Lower i) (Value z) t u) is f)
 
+-- and where the count is set to 1 again, the element is freed
 pub lower_last : (i c b : ℕ) (s t u w : Seated) → s.known.view.zeros ≡ [] → c ≢ 1 → b ≡ 1 →
     Steps (Sole i true) (Value c) s t → Steps (Lower i) (Value b) t u → Steps (Reset i) Done u w →
-    w ≡ after s (notes (Lasted i c)) (freed s.known.view i)
+    w ≡ after s (notes (LoweredToLast i c)) (freed s.known.view i)
 lower_last i c b s t u w none nc is e f d =
     one_more s u w ((Sole i true, Value c) ∷ (Lower i, Value 1) ∷ [])
     (hold_ended s.known.view i true) (Reset i) Done (lower_between i c b s t u nc is e f) d
-    ∙ ap (λ (z : List ℕ). after s (notes (Lasted i c)) (record (freed s.known.view i) { zeros = z }))
+    ∙ ap (λ (z : List ℕ). after s (notes (LoweredToLast i c)) (record (freed s.known.view i) { zeros = z }))
     (ap (λ (z : List ℕ). without i (z ++ i ∷ [])) none ∙ (without-head i [] ∙ sym none))

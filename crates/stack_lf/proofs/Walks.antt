@@ -10,12 +10,12 @@ use Rattle.step_core.specs.declared.step.Outcome.{Outcome}
 use Rattle.step_core.specs.declared.step.Outcome.TheVariants.{Value, HeadIs, Got}
 use Rattle.ground.specs.Seats.{Seated, Note, after, Steps, front_of, KnowsEnd}
 use Rattle.step_core.specs.Sights.{view_after, MayCut}
-use Rattle.stack_lf.specs.Leaves.{start}
-use Rattle.stack_lf.specs.declared.tried.Tried.TheVariants as tried
-use Rattle.stack_lf.specs.Tries.{Cutoff, notes, Walk, IsWalk, elements, element_in, link_note}
-use Rattle.stack_lf.specs.Leaves.{cut_as, Walked, walking}
+use Rattle.stack_lf.specs.Effects.{start}
+use Rattle.stack_lf.specs.Tries.{Popped, notes, Walk, IsWalk, elements, element_in, link_note}
+use Rattle.stack_lf.specs.Effects.{cut_as, Walked, walking}
 use Rattle.stack_lf.proofs.Composing.{more, one_more}
 
+-- a walk with one link more leads on to what that link leads to
 pub walk-push : (v u i x : ℕ) (ps : Walk) → u ≡ suc i → IsWalk v ps u →
     IsWalk v (ps ++ (i, x) ∷ []) x
 walk-push v u i x [] e h = (h ∙ e, refl)
@@ -75,12 +75,12 @@ cut_tried h ps next o s t u w e f d =
 pub cut_wins : (h : Head) (ps : Walk) (next : ℕ) (xs : List ℕ) (s t u w : Seated) →
     Steps LoadHead (HeadIs h) s t → Walked h ps next t u → xs ≡ elements ps →
     Steps Cut (Got (front_of u.known.view.look)) u w
-    → w ≡ after s (notes (Cutoff h ps)) (cut_as xs tried.Won s.known.view None (h.count + 1))
+    → w ≡ after s (notes (Popped h ps)) (cut_as xs s.known.view None (h.count + 1))
 cut_wins h ps next xs s t u w e f same d =
     let front : front_of u.known.view.look ≡ elements ps =
     ap (λ (z : Seated). front_of z.known.view.look) f.1 in
-    subst (λ (l : List ℕ). w ≡ after s (notes (Cutoff h ps))
-    (cut_as l tried.Won s.known.view None (h.count + 1))) (sym same)
+    subst (λ (l : List ℕ). w ≡ after s (notes (Popped h ps))
+    (cut_as l s.known.view None (h.count + 1))) (sym same)
     (cut_tried h ps next (Got (elements ps)) s t u w e f
     (subst (λ (l : List ℕ). Steps Cut (Got l) u w) front d))
 
@@ -102,7 +102,7 @@ may_cut h ps next s t u e w some reserved less =
       refl,
     )
 
--- a seat of every part that has reserved n doesn't come to the end of the list before n links
+-- the only seat of a pool that has reserved n doesn't come to the end of the list before n links
 pub goes_on : (h : Head) (ps : Walk) (next n : ℕ) (s t : Seated) → Walked h ps next s t →
     KnowsEnd t.known.limits t.known.view → s.known.view.part ≡ s.known.limits.workers →
     n ≤ s.known.view.credit → next ≡ 0 → length ps < n → ⊥

@@ -1,5 +1,5 @@
 pub mod Tries
-pub mod Leaves
+pub mod Effects
 pub mod Sides
 pub mod Bounds
 pub mod Notes

@@ -9,7 +9,7 @@ use Rattle.step_core.specs.declared.step.Outcome.TheVariants.{Won, Got, Done}
 use Rattle.ground.specs.Seats.{Note}
 use Rattle.commons.specs.Calls.{Call}
 use Rattle.commons.specs.declared.limits.Limits.{Limits}
-use Rattle.stack_lf.specs.Tries.{Try, Missed, Beaten, Unpushed, Unraised, IsGet, IsPut, IsOfCall, notes_of}
+use Rattle.stack_lf.specs.Tries.{Try, ReserveFailed, PopFailed, PushFailed, RaiseFailed, IsGet, IsPut, IsOfCall, notes_of}
 
 -- the list that a cut gave, if it won
 abbrev pub cut_by : Step → Outcome → List (List ℕ)
@@ -77,10 +77,10 @@ PutsPushOnce =
 -- An exchange that lost found another value than the try had read: another length, or a later
 -- head, so that the stack was changed after the look.
 abbrev pub LostToAnother : Try → Type 0
-LostToAnother (Missed n read found) = found ≢ read
-LostToAnother (Beaten read walk found) = read.count < found.count
-LostToAnother (Unpushed read list found) = read.count < found.count
-LostToAnother (Unraised i read found) = found ≢ read
+LostToAnother (ReserveFailed n read found) = found ≢ read
+LostToAnother (PopFailed read walk found) = read.count < found.count
+LostToAnother (PushFailed read list found) = read.count < found.count
+LostToAnother (RaiseFailed i read found) = found ≢ read
 LostToAnother x = Unit {0}
 
 abbrev pub LossesAreChanges : Type 0

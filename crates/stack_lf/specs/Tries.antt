@@ -33,37 +33,37 @@ pub data Try : Type 0 where
   -- a length was read
   Short : (length : ℕ) → Try
   -- a length was read, and the exchange of it lost, or won
-  Missed : (n length found : ℕ) → Try
+  ReserveFailed : (n length found : ℕ) → Try
   Reserved : (n length : ℕ) → Try
   -- a head was read, and no more
   Stopped : (head : Head) → Try
   -- a head was read, links were walked, and the walk ended early, or the exchange of the head
   -- lost, or won
   Ended : (head : Head) (walk : Walk) → Try
-  Beaten : (head : Head) (walk : Walk) (found : Head) → Try
-  Cutoff : (head : Head) (walk : Walk) → Try
+  PopFailed : (head : Head) (walk : Walk) (found : Head) → Try
+  Popped : (head : Head) (walk : Walk) → Try
   -- a head was read, the links of a list were stored, and the exchange of the head lost, or won
-  Unpushed : (head : Head) (list : List ℕ) (found : Head) → Try
+  PushFailed : (head : Head) (list : List ℕ) (found : Head) → Try
   Pushed : (head : Head) (list : List ℕ) → Try
   -- what was reserved, or pushed, was added to the length
   Added : (n : ℕ) → Try
   -- an element of the hand was claimed
-  Taken : (element : ℕ) → Try
+  Claimed : (element : ℕ) → Try
   -- a count was read, and the exchange of it lost, or won
   Counted : (element count : ℕ) → Try
-  Unraised : (element count found : ℕ) → Try
+  RaiseFailed : (element count found : ℕ) → Try
   Raised : (element count : ℕ) → Try
   -- a count of 1 was read, and the hold ended
   Freed : (element : ℕ) → Try
   -- a count was read, and then lowered from what it was; from 1, it was set to 1 again
   Lowered : (element count before : ℕ) → Try
-  Lasted : (element count : ℕ) → Try
+  LoweredToLast : (element count : ℕ) → Try
   -- a desk was found in no state to be filled, or this packet was left on it
-  Unoffered : (desk found : ℕ) → Try
+  OfferFailed : (desk found : ℕ) → Try
   Offered : (desk : ℕ) (packet : List Seg) → Try
   -- a desk was found in no state to be emptied, or this packet was taken off it
-  Untaken : (desk found : ℕ) → Try
-  Fetched : (desk : ℕ) (packet : List Seg) → Try
+  TakeFailed : (desk found : ℕ) → Try
+  Taken : (desk : ℕ) (packet : List Seg) → Try
 
 abbrev pub link_note : ℕ × ℕ → Note
 link_note p = (LoadLink p.0, Value p.1)
@@ -82,53 +82,53 @@ last_of v (x ∷ xs) = last_of (suc x) xs
 -- the steps of a try
 abbrev pub notes : Try → List Note
 notes (Short v) = (LoadLength, Value v) ∷ []
-notes (Missed n v found) = (LoadLength, Value v) ∷ (Reserve v n, Lost found) ∷ []
+notes (ReserveFailed n v found) = (LoadLength, Value v) ∷ (Reserve v n, Lost found) ∷ []
 notes (Reserved n v) = (LoadLength, Value v) ∷ (Reserve v n, Won) ∷ []
 notes (Stopped h) = (LoadHead, HeadIs h) ∷ []
 notes (Ended h ps) = (LoadHead, HeadIs h) ∷ map link_note ps
-notes (Beaten h ps found) =
+notes (PopFailed h ps found) =
     (LoadHead, HeadIs h) ∷ (map link_note ps ++ (Cut, LostTo found) ∷ [])
-notes (Cutoff h ps) =
+notes (Popped h ps) =
     (LoadHead, HeadIs h) ∷ (map link_note ps ++ (Cut, Got (elements ps)) ∷ [])
-notes (Unpushed h xs found) =
+notes (PushFailed h xs found) =
     (LoadHead, HeadIs h) ∷ (stores h.top xs ++ (Push, LostTo found) ∷ [])
 notes (Pushed h xs) = (LoadHead, HeadIs h) ∷ (stores h.top xs ++ (Push, Won) ∷ [])
 notes (Added n) = (Add n, Done) ∷ []
-notes (Taken i) = (ClaimStep i, Value 1) ∷ []
+notes (Claimed i) = (ClaimStep i, Value 1) ∷ []
 notes (Counted i c) = (Sole i false, Value c) ∷ []
-notes (Unraised i c found) = (Sole i false, Value c) ∷ (RaiseStep i c, Lost found) ∷ []
+notes (RaiseFailed i c found) = (Sole i false, Value c) ∷ (RaiseStep i c, Lost found) ∷ []
 notes (Raised i c) = (Sole i false, Value c) ∷ (RaiseStep i c, Won) ∷ []
 notes (Freed i) = (Sole i true, Value 1) ∷ []
 notes (Lowered i c before) = (Sole i true, Value c) ∷ (LowerStep i, Value before) ∷ []
-notes (Lasted i c) = (Sole i true, Value c) ∷ (LowerStep i, Value 1) ∷ (Reset i, Done) ∷ []
-notes (Unoffered d found) = (Hold d, Lost found) ∷ []
+notes (LoweredToLast i c) = (Sole i true, Value c) ∷ (LowerStep i, Value 1) ∷ (Reset i, Done) ∷ []
+notes (OfferFailed d found) = (Hold d, Lost found) ∷ []
 notes (Offered d p) = (Hold d, Won) ∷ (Open d, Found p) ∷ []
-notes (Untaken d found) = (Seize d, Lost found) ∷ []
-notes (Fetched d p) = (Seize d, Found p) ∷ (Clear d, Done) ∷ []
+notes (TakeFailed d found) = (Seize d, Lost found) ∷ []
+notes (Taken d p) = (Seize d, Found p) ∷ (Clear d, Done) ∷ []
 
 -- what a try read
 abbrev pub reads : Try → List Reading
 reads (Short v) = Length v ∷ []
-reads (Missed n v found) = Length v ∷ Length found ∷ LostRead ∷ []
+reads (ReserveFailed n v found) = Length v ∷ Length found ∷ LostRead ∷ []
 reads (Reserved n v) = Length v ∷ []
 reads (Stopped h) = HeadRead h.count ∷ []
 reads (Ended h ps) = HeadRead h.count ∷ LostRead ∷ []
-reads (Beaten h ps found) = HeadRead h.count ∷ HeadRead found.count ∷ LostRead ∷ []
-reads (Cutoff h ps) = HeadRead h.count ∷ []
-reads (Unpushed h xs found) = HeadRead h.count ∷ HeadRead found.count ∷ LostRead ∷ []
+reads (PopFailed h ps found) = HeadRead h.count ∷ HeadRead found.count ∷ LostRead ∷ []
+reads (Popped h ps) = HeadRead h.count ∷ []
+reads (PushFailed h xs found) = HeadRead h.count ∷ HeadRead found.count ∷ LostRead ∷ []
 reads (Pushed h xs) = HeadRead h.count ∷ []
 reads (Added n) = []
-reads (Taken i) = []
+reads (Claimed i) = []
 reads (Counted i c) = Count i c ∷ []
-reads (Unraised i c found) = Count i c ∷ Count i found ∷ LostRead ∷ []
+reads (RaiseFailed i c found) = Count i c ∷ Count i found ∷ LostRead ∷ []
 reads (Raised i c) = Count i c ∷ []
 reads (Freed i) = Count i 1 ∷ []
 reads (Lowered i c before) = Count i c ∷ Count i before ∷ []
-reads (Lasted i c) = Count i c ∷ Count i 1 ∷ []
-reads (Unoffered d found) = Desk d found ∷ []
+reads (LoweredToLast i c) = Count i c ∷ Count i 1 ∷ []
+reads (OfferFailed d found) = Desk d found ∷ []
 reads (Offered d p) = Desk d 0 ∷ []
-reads (Untaken d found) = Desk d found ∷ []
-reads (Fetched d p) = Desk d 2 ∷ []
+reads (TakeFailed d found) = Desk d found ∷ []
+reads (Taken d p) = Desk d 2 ∷ []
 
 abbrev pub notes_of : List Try → List Note
 notes_of ts = flat_map notes ts
@@ -137,25 +137,25 @@ abbrev pub readings_of : List Try → List Reading
 readings_of ts = flat_map reads ts
 
 -- a try to reserve n that lost: a length of at least n was read, and another stood there
-abbrev pub IsMiss : ℕ → Try → Type 0
-IsMiss n x = (v found : ℕ) × (n ≤ v) × (found ≢ v) × (x ≡ Missed n v found)
+abbrev pub IsLostReserve : ℕ → Try → Type 0
+IsLostReserve n x = (v found : ℕ) × (n ≤ v) × (found ≢ v) × (x ≡ ReserveFailed n v found)
 
 -- a try to cut n off that lost: the list ended before, or the head was a later one
 abbrev pub IsLostCut : ℕ → Try → Type 0
 IsLostCut n x =
     ((h : Head) × (ps : Walk) × (length ps < n) × IsWalk h.top ps 0 × (x ≡ Ended h ps))
     ⊎ ((h found : Head) × (ps : Walk) × (u : ℕ) × (length ps ≡ n) × (h.count < found.count)
-    × IsWalk h.top ps u × (x ≡ Beaten h ps found))
+    × IsWalk h.top ps u × (x ≡ PopFailed h ps found))
 
 -- a try to cut that won, and gave these
 abbrev pub IsWonCut : List ℕ → Try → Type 0
 IsWonCut xs x =
     (h : Head) × (ps : Walk) × (u : ℕ) × (xs ≡ elements ps) × (h.count < spent)
-    × IsWalk h.top ps u × (x ≡ Cutoff h ps)
+    × IsWalk h.top ps u × (x ≡ Popped h ps)
 
 -- a try to push a list that lost to a later head, or won
 abbrev pub IsLostPush : List ℕ → Try → Type 0
-IsLostPush xs x = (h found : Head) × (h.count < found.count) × (x ≡ Unpushed h xs found)
+IsLostPush xs x = (h found : Head) × (h.count < found.count) × (x ≡ PushFailed h xs found)
 
 abbrev pub IsWonPush : List ℕ → Try → Type 0
 IsWonPush xs x = (h : Head) × (h.count < spent) × (x ≡ Pushed h xs)
@@ -169,21 +169,21 @@ IsSpent x = (h : Head) × (h.count ≡ spent) × (x ≡ Stopped h)
 abbrev pub IsGet : ℕ → ℕ → Result (List ℕ) Refusal → List Try → Type 0
 IsGet tries n (Ok xs) ts =
     (misses cuts : List Try) × (v : ℕ) × (x : Try)
-    × (length misses < tries) × All (IsMiss n) misses × (n ≤ v)
+    × (length misses < tries) × All (IsLostReserve n) misses × (n ≤ v)
     × (length cuts < tries) × All (IsLostCut n) cuts × (length xs ≡ n) × IsWonCut xs x
     × (ts ≡ misses ++ Reserved n v ∷ (cuts ++ x ∷ []))
 IsGet tries n (Err NoEntries) ts =
-    (misses : List Try) × (v : ℕ) × (length misses < tries) × All (IsMiss n) misses × (v < n)
+    (misses : List Try) × (v : ℕ) × (length misses < tries) × All (IsLostReserve n) misses × (v < n)
     × (ts ≡ misses ++ Short v ∷ [])
 IsGet tries n (Err HeadSpent) ts =
     (misses cuts : List Try) × (v : ℕ) × (x : Try)
-    × (length misses < tries) × All (IsMiss n) misses × (n ≤ v)
+    × (length misses < tries) × All (IsLostReserve n) misses × (n ≤ v)
     × (length cuts < tries) × All (IsLostCut n) cuts × IsSpent x
     × (ts ≡ misses ++ Reserved n v ∷ (cuts ++ x ∷ Added n ∷ []))
 IsGet tries n (Err Contended) ts =
-    ((length ts ≡ tries) × All (IsMiss n) ts)
+    ((length ts ≡ tries) × All (IsLostReserve n) ts)
     ⊎ ((misses cuts : List Try) × (v : ℕ)
-    × (length misses < tries) × All (IsMiss n) misses × (n ≤ v)
+    × (length misses < tries) × All (IsLostReserve n) misses × (n ≤ v)
     × (length cuts ≡ tries) × All (IsLostCut n) cuts
     × (ts ≡ misses ++ Reserved n v ∷ (cuts ++ Added n ∷ [])))
 IsGet tries n (Err _) ts = ⊥
@@ -202,7 +202,7 @@ IsPut tries xs (Err _) ts = ⊥
 -- a try to raise a count that lost: one below the limit was read, and another stood there
 abbrev pub IsLostRaise : Limits → ℕ → Try → Type 0
 IsLostRaise l i x =
-    (c found : ℕ) × (c < l.ref_limit) × (found ≢ c) × (x ≡ Unraised i c found)
+    (c found : ℕ) × (c < l.ref_limit) × (found ≢ c) × (x ≡ RaiseFailed i c found)
 
 -- The tries of a raise, by its answer.
 abbrev pub IsRaise : Limits → ℕ → Result (Unit {0}) Refusal → List Try → Type 0
@@ -217,7 +217,7 @@ IsRaise l i (Err _) ts = ⊥
 
 -- the one try of a lower, by its answer
 abbrev pub IsLower : ℕ → Answer → Try → Type 0
-IsLower i Last x = (x ≡ Freed i) ⊎ ((c : ℕ) × (1 < c) × (x ≡ Lasted i c))
+IsLower i Last x = (x ≡ Freed i) ⊎ ((c : ℕ) × (1 < c) × (x ≡ LoweredToLast i c))
 IsLower i Still x = (c before : ℕ) × (1 < c) × (1 < before) × (x ≡ Lowered i c before)
 
 -- The one try of an offer, by its answer, which is noted with the packet that was left; none where
@@ -226,22 +226,22 @@ abbrev pub IsOffer : Limits → ℕ → List Seg → Result (Unit {0}) Refusal �
 IsOffer l d p (Ok _) ts = (d < l.desks) × (ts ≡ Offered d p ∷ [])
 IsOffer l d p (Err NoSuchDesk) ts = (l.desks ≤ d) × (ts ≡ [])
 IsOffer l d p (Err DeskTaken) ts =
-    (found : ℕ) × (d < l.desks) × (found ≢ 0) × (ts ≡ Unoffered d found ∷ [])
+    (found : ℕ) × (d < l.desks) × (found ≢ 0) × (ts ≡ OfferFailed d found ∷ [])
 IsOffer l d p (Err _) ts = ⊥
 
 -- the same of a take
 abbrev pub IsTake : Limits → ℕ → Result (List Seg) Refusal → List Try → Type 0
-IsTake l d (Ok p) ts = (d < l.desks) × (ts ≡ Fetched d p ∷ [])
+IsTake l d (Ok p) ts = (d < l.desks) × (ts ≡ Taken d p ∷ [])
 IsTake l d (Err NoSuchDesk) ts = (l.desks ≤ d) × (ts ≡ [])
 IsTake l d (Err DeskEmpty) ts =
-    (found : ℕ) × (d < l.desks) × (found ≢ 2) × (ts ≡ Untaken d found ∷ [])
+    (found : ℕ) × (d < l.desks) × (found ≢ 2) × (ts ≡ TakeFailed d found ∷ [])
 IsTake l d (Err _) ts = ⊥
 
 -- The tries of a call.
 abbrev pub IsOfCall : Limits → Call → List Try → Type 0
 IsOfCall l (GetList n answer) ts = IsGet l.tries n answer ts
 IsOfCall l (PutList xs answer) ts = IsPut l.tries xs answer ts
-IsOfCall l (Claim i) ts = ts ≡ Taken i ∷ []
+IsOfCall l (Claim i) ts = ts ≡ Claimed i ∷ []
 IsOfCall l (CountOf i n) ts = ts ≡ Counted i n ∷ []
 IsOfCall l (Raise i answer) ts = IsRaise l i answer ts
 IsOfCall l (Lower i answer) ts = (x : Try) × IsLower i answer x × (ts ≡ x ∷ [])
@@ -256,7 +256,7 @@ IsContended (PutList xs (Err Contended)) = Unit {0}
 IsContended (Raise i (Err Contended)) = Unit {0}
 IsContended _ = ⊥
 
--- a length below n was read, and is what a seat of every part knows of it
+-- a length below n was read, and is what the only seat of a pool knows of it
 abbrev pub KnowsShort : ℕ → Seated → Type 0
 KnowsShort n s = (found : ℕ) × (found < n) × KnowsLength s.known found
 
@@ -278,7 +278,7 @@ KnowsLowered i Last s = KnowsCount s.known i 1
 KnowsLowered i Still s = (count : ℕ) × (1 < count) × KnowsCount s.known i count
 
 -- What a call's answer tells its seat of the length and of a count that were read, and of what lies
--- on a desk: what a seat of every part knows of each.
+-- on a desk: what the only seat of a pool knows of each.
 abbrev pub IsTold : Seated → Call → Type 0
 IsTold s (GetList n (Ok xs)) = KnowsEnough n s
 IsTold s (GetList n (Err NoEntries)) = KnowsShort n s
@@ -317,7 +317,7 @@ pub record DidOnWords (s : Seated) (call : Call) (rs : List Reading) (t : Seated
   pub steps : t.known.steps ≡ s.known.steps ++ notes_of tries
   pub lying : t.known.lying ≡ lying_after call s.known.lying
   pub read : rs ≡ readings_of tries
-  -- a seat of every part is in nobody's way
+  -- the only seat of a pool is in nobody's way
   pub alone : s.known.view.part ≡ s.known.limits.workers → IsContended call → ⊥
   -- and knows what lies on the desks, and what a length and a count are
   pub told : IsTold s call

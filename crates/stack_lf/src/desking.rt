@@ -6,8 +6,7 @@ ghost use Rattle.commons.specs.Bag.{bag};
 ghost use Rattle.commons.specs.Calls.{without_packet};
 ghost use Rattle.commons.specs.Packets.{holds_of_packet, own_of_packet};
 ghost use Rattle.ground.specs.Seats.{IsOf};
-ghost use Rattle.ground.specs.Own.{Owned};
-ghost use Rattle.stack_lf.specs.Leaves.{Offers, Takes};
+ghost use Rattle.stack_lf.specs.Effects.{Offers, Takes};
 
 use commons::packet::Packet;
 use commons::refusal::Refusal;
@@ -16,7 +15,7 @@ use ground::seat::GroundSeat;
 
 /// Leaves a packet on a desk that is empty: holds the desk, puts the packet in, and makes the desk
 /// full. The packet comes back where there is no such desk, or it isn't empty.
-fn fill(
+pub(crate) fn offer(
     ground: &Ground,
     seat: &mut GroundSeat,
     desk: u32,
@@ -44,29 +43,9 @@ fn fill(
     }
 }
 
-/// Leaves a packet on a desk as `fill` does, with what the seat's type keeps.
-pub(crate) fn offer(
-    ground: &Ground,
-    seat: &mut GroundSeat,
-    desk: u32,
-    packet: Packet,
-) -> Result<(), (Refusal, Packet)>
-    requires of { IsOf ground.now seat.old }
-    requires idle { seat.old.known.view.work ≡ None }
-    requires held { (i : ℕ) → bag (holds_of_packet packet) i ≤ bag seat.old.known.view.holds i }
-    requires own { (i : ℕ) → bag (own_of_packet packet) i ≤ bag seat.old.known.view.headers i }
-    ensures offered { Offers desk packet (without_packet result) seat.old seat.new }
-    ensures kept { IfErr result (λ refused. refused.1 ≡ packet) }
-    ensures own { Owned seat.new.known.limits seat.new.known.view }
-{
-    let answer = fill(ground, seat, desk, packet);
-    seat.owned();
-    answer
-}
-
 /// Takes the packet off a desk that is full: seizes the desk, takes the packet out, and makes the
 /// desk empty.
-fn empty(ground: &Ground, seat: &mut GroundSeat, desk: u32) -> Result<Packet, Refusal>
+pub(crate) fn take(ground: &Ground, seat: &mut GroundSeat, desk: u32) -> Result<Packet, Refusal>
     requires of { IsOf ground.now seat.old }
     requires idle { seat.old.known.view.work ≡ None }
     ensures { Takes desk result seat.old seat.new }
@@ -83,16 +62,4 @@ fn empty(ground: &Ground, seat: &mut GroundSeat, desk: u32) -> Result<Packet, Re
             Ok(packet)
         }
     }
-}
-
-/// Takes the packet off a desk as `empty` does, with what the seat's type keeps.
-pub(crate) fn take(ground: &Ground, seat: &mut GroundSeat, desk: u32) -> Result<Packet, Refusal>
-    requires of { IsOf ground.now seat.old }
-    requires idle { seat.old.known.view.work ≡ None }
-    ensures taken { Takes desk result seat.old seat.new }
-    ensures own { Owned seat.new.known.limits seat.new.known.view }
-{
-    let answer = empty(ground, seat, desk);
-    seat.owned();
-    answer
 }

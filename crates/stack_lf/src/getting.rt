@@ -1,102 +1,50 @@
-//! The tries of a get: to reserve, and to cut what is reserved.
+//! A get: a reservation, and a pop of what is reserved.
 
 ghost use Rattle.std.specs.Prelude.{◌≡◌, ◌≢◌, ◌<◌, ◌≤◌, Err, Some, None, length, IfOk, IfSome, IfNone};
 ghost use Rattle.commons.specs.Bounds.{max_population};
-ghost use Rattle.ground.specs.Seats.{IsOf, Seated, KnowsEnd};
-ghost use Rattle.ground.specs.Own.{Owned};
-ghost use Rattle.stack_lf.specs.Tries.{Walk, elements, IsMiss, IsLostCut, KnowsShort, KnowsEnough};
-ghost use Rattle.stack_lf.specs.Leaves.{AllLost, LostBut, IsAlone, start, Walked, TriesReserve, TriesCut, Reserves, Cuts, Gets};
+ghost use Rattle.ground.specs.Seats.{IsOf, KnowsEnd};
+ghost use Rattle.stack_lf.specs.Tries.{Walk, elements, IsLostReserve, IsLostCut, KnowsShort, KnowsEnough};
+ghost use Rattle.stack_lf.specs.Effects.{IsAlone, start, Walked, EndsReserve, EndsCut, Gets};
 
+use crate::attempt::{Attempt, by_tries};
 use crate::tried::Tried;
 use commons::limits::SPENT;
 use commons::refusal::Refusal;
-use crossbeam_utils::Backoff;
 use ground::pool::Ground;
 use ground::seat::GroundSeat;
 use step_core::view::Head;
 
-/// Takes `n` off the length, if it is still what was read.
-#[inline(always)]
-fn try_reserve(ground: &Ground, seat: &mut GroundSeat, n: u64) -> Tried
-    requires of { IsOf ground.now seat.old }
-    requires some { 1 ≤ n }
-    ensures one { TriesReserve n result seat.old seat.new }
-    ensures told { result ≡ Tried.Refused Refusal.NoEntries → KnowsShort n seat.old }
-    ensures enough { result ≡ Tried.Won → KnowsEnough n seat.old }
-    ensures alone { IsAlone seat.old → result ≢ Tried.Lost }
-{
-    let length = ground.load_length(seat);
-    if length < n {
-        return Tried::Refused(Refusal::NoEntries);
-    }
-    match ground.reserve(seat, length, n) {
-        Ok(()) => Tried::Won,
-        Err(_) => Tried::Lost,
-    }
+/// A reservation: takes `n` off the length, if it is still what was read.
+#[derive(Clone, Copy)]
+struct Reservation {
+    n: u64,
 }
 
-/// Takes `n` off the length after a first try that was lost, by at most as many lost tries in all
-/// as the limits allow. It stands apart, so that what inlines a get stays small.
-#[inline(never)]
-fn reserve_apart(ground: &Ground, seat: &mut GroundSeat, n: u64) -> Result<(), Refusal>
-    requires of { IsOf ground.now seat.old }
-    requires some { 1 ≤ n }
-    ensures reserves { (first : Seated) → AllLost (IsMiss n) 1 first seat.old →
-        Reserves ground.now.limits.tries n result first seat.new }
-    ensures told { result ≡ Err Refusal.NoEntries → KnowsShort n seat.old }
-    ensures enough { IfOk result (λ _. KnowsEnough n seat.old) }
-{
-    let limits = ground.limits();
-    let backoff = Backoff::new();
-    for _ in 1..limits.tries {
-        backoff.spin();
-        match try_reserve(ground, seat, n) {
-            Tried::Won => return Ok(()),
-            Tried::Refused(cause) => return Err(cause),
-            Tried::Lost => {}
+impl Attempt for Reservation {
+    ghost may = { λ a k v. 1 ≤ a.n };
+
+    ghost loses = { λ a l. IsLostReserve a.n };
+
+    ghost ends = { λ a l xs. EndsReserve a.n };
+
+    #[inline(always)]
+    fn attempt(self, ground: &Ground, seat: &mut GroundSeat, _out: &mut [u32]) -> Tried {
+        let length = ground.load_length(seat);
+        if length < self.n {
+            return Tried::Refused(Refusal::NoEntries);
+        }
+        match ground.reserve(seat, length, self.n) {
+            Ok(()) => Tried::Won,
+            Err(_) => Tried::Lost,
         }
     }
-    Err(Refusal::Contended)
-}
 
-/// Takes `n` off the length after a lost try, with a place of its own for the answer, which is
-/// filled only where a first try was lost.
-#[inline(always)]
-fn reserve_again(ground: &Ground, seat: &mut GroundSeat, n: u64) -> Result<(), Refusal>
-    requires of { IsOf ground.now seat.old }
-    requires some { 1 ≤ n }
-    ensures reserves { (first : Seated) → AllLost (IsMiss n) 1 first seat.old →
-        Reserves ground.now.limits.tries n result first seat.new }
-    ensures told { result ≡ Err Refusal.NoEntries → KnowsShort n seat.old }
-    ensures enough { IfOk result (λ _. KnowsEnough n seat.old) }
-{
-    match reserve_apart(ground, seat, n) {
-        Ok(()) => Ok(()),
-        Err(cause) => Err(cause),
-    }
-}
-
-/// Takes `n` off the length, by at most as many lost tries as the limits allow.
-#[inline(always)]
-fn reserve(ground: &Ground, seat: &mut GroundSeat, n: u64) -> Result<(), Refusal>
-    requires of { IsOf ground.now seat.old }
-    requires some { 1 ≤ n }
-    requires tries { 1 ≤ ground.now.limits.tries }
-    ensures reserves { Reserves ground.now.limits.tries n result seat.old seat.new }
-    ensures told { result ≡ Err Refusal.NoEntries → KnowsShort n seat.old }
-    ensures enough { IfOk result (λ _. KnowsEnough n seat.old) }
-    ensures alone { IsAlone seat.old → result ≢ Err Refusal.Contended }
-{
-    match try_reserve(ground, seat, n) {
-        Tried::Won => Ok(()),
-        Tried::Refused(cause) => Err(cause),
-        Tried::Lost => reserve_again(ground, seat, n),
-    }
+    ghost may_again = { λ a k v look seen h. h };
 }
 
 /// Walks one link for each place of `out`, and lists the elements there. Answers what is next, or
-/// nothing where the list ends before, as it does for no seat of every part that has reserved as
-/// many.
+/// nothing where the list ends before, as it doesn't for the only seat of a pool that has reserved
+/// as many.
 #[inline(always)]
 fn walk(ground: &Ground, seat: &mut GroundSeat, head: Head, out: &mut [u32]) -> Option<u32>
     requires of { IsOf ground.now seat.old }
@@ -121,117 +69,41 @@ fn walk(ground: &Ground, seat: &mut GroundSeat, head: Head, out: &mut [u32]) -> 
     Some(next)
 }
 
-/// Loads the head, walks as many links as `out` has places, and swings the head past them, if it
-/// is still what was read.
-#[inline(always)]
-fn try_cut(ground: &Ground, seat: &mut GroundSeat, out: &mut [u32]) -> Tried
-    requires of { IsOf ground.now seat.old }
-    requires some { 1 ≤ length out.old }
-    requires reserved { length out.old ≤ seat.old.known.view.credit }
-    ensures one { TriesCut (length out.old) out.new result seat.old seat.new }
-    ensures alone { IsAlone seat.old → result ≢ Tried.Lost }
-    ensures len { length out.new ≡ length out.old }
-{
-    seat.owned();
-    let head = ground.load_head(seat);
-    if SPENT <= head.count {
-        return Tried::Refused(Refusal::HeadSpent);
-    }
-    match walk(ground, seat, head, out) {
-        None => Tried::Lost,
-        Some(next) => match ground.cut(seat, head, next) {
-            Ok(()) => Tried::Won,
-            Err(_) => Tried::Lost,
-        },
-    }
+/// A pop of `n` elements from the top of the stack: loads the head, walks as many links, which
+/// `out` has places for, and swings the head past them, if it is still what was read.
+#[derive(Clone, Copy)]
+struct Pop {
+    n: u64,
 }
 
-/// Takes as many elements as `out` has places after a first try that was lost, by at most as many
-/// lost tries in all as the limits allow. It stands apart, so that what inlines a get stays small.
-#[inline(never)]
-fn cut_apart(ground: &Ground, seat: &mut GroundSeat, out: &mut [u32]) -> Result<(), Refusal>
-    requires of { IsOf ground.now seat.old }
-    requires some { 1 ≤ length out.old }
-    requires reserved { length out.old ≤ seat.old.known.view.credit }
-    ensures cuts { (first : Seated) → LostBut (IsLostCut (length out.old)) 1 first seat.old →
-        Cuts ground.now.limits.tries (length out.old) out.new result first seat.new }
-    ensures len { length out.new ≡ length out.old }
-{
-    let limits = ground.limits();
-    let backoff = Backoff::new();
-    for _ in 1..limits.tries {
-        backoff.spin();
-        match try_cut(ground, seat, out) {
-            Tried::Won => return Ok(()),
-            Tried::Refused(cause) => return Err(cause),
-            Tried::Lost => {}
+impl Attempt for Pop {
+    ghost may = { λ a k v. (1 ≤ a.n) × (k ≡ a.n) × (a.n ≤ v.credit) };
+
+    ghost loses = { λ a l. IsLostCut a.n };
+
+    ghost ends = { λ a l xs. EndsCut a.n xs };
+
+    #[inline(always)]
+    fn attempt(self, ground: &Ground, seat: &mut GroundSeat, out: &mut [u32]) -> Tried {
+        seat.owned();
+        let head = ground.load_head(seat);
+        if SPENT <= head.count {
+            return Tried::Refused(Refusal::HeadSpent);
+        }
+        match walk(ground, seat, head, out) {
+            None => Tried::Lost,
+            Some(next) => match ground.cut(seat, head, next) {
+                Ok(()) => Tried::Won,
+                Err(_) => Tried::Lost,
+            },
         }
     }
-    Err(Refusal::Contended)
+
+    ghost may_again = { λ a k v look seen h. h };
 }
 
-/// Takes elements after a lost try, with a place of its own for the answer, which is filled only
-/// where a first try was lost.
-#[inline(always)]
-fn cut_again(ground: &Ground, seat: &mut GroundSeat, out: &mut [u32]) -> Result<(), Refusal>
-    requires of { IsOf ground.now seat.old }
-    requires some { 1 ≤ length out.old }
-    requires reserved { length out.old ≤ seat.old.known.view.credit }
-    ensures cuts { (first : Seated) → LostBut (IsLostCut (length out.old)) 1 first seat.old →
-        Cuts ground.now.limits.tries (length out.old) out.new result first seat.new }
-    ensures len { length out.new ≡ length out.old }
-{
-    match cut_apart(ground, seat, out) {
-        Ok(()) => Ok(()),
-        Err(cause) => Err(cause),
-    }
-}
-
-/// Takes as many elements as `out` has places from the top of the stack, by at most as many lost
-/// tries as the limits allow.
-#[inline(always)]
-fn cut(ground: &Ground, seat: &mut GroundSeat, out: &mut [u32]) -> Result<(), Refusal>
-    requires of { IsOf ground.now seat.old }
-    requires some { 1 ≤ length out.old }
-    requires reserved { length out.old ≤ seat.old.known.view.credit }
-    requires tries { 1 ≤ ground.now.limits.tries }
-    ensures cuts { Cuts ground.now.limits.tries (length out.old) out.new result seat.old seat.new }
-    ensures alone { IsAlone seat.old → result ≢ Err Refusal.Contended }
-    ensures len { length out.new ≡ length out.old }
-{
-    match try_cut(ground, seat, out) {
-        Tried::Won => Ok(()),
-        Tried::Refused(cause) => Err(cause),
-        Tried::Lost => cut_again(ground, seat, out),
-    }
-}
-
-/// Takes as many elements as `out` has places, or gives back what was reserved.
-#[inline(always)]
-fn get_or_return(ground: &Ground, seat: &mut GroundSeat, out: &mut [u32]) -> Result<(), Refusal>
-    requires of { IsOf ground.now seat.old }
-    requires some { 1 ≤ length out.old }
-    requires tries { 1 ≤ ground.now.limits.tries }
-    ensures got { Gets ground.now.limits.tries (length out.old) out.new result seat.old seat.new }
-    ensures told { result ≡ Err Refusal.NoEntries → KnowsShort (length out.old) seat.old }
-    ensures enough { IfOk result (λ _. KnowsEnough (length out.old) seat.old) }
-    ensures alone { IsAlone seat.old → result ≢ Err Refusal.Contended }
-    ensures len { length out.new ≡ length out.old }
-{
-    let n = out.len() as u64;
-    match reserve(ground, seat, n) {
-        Err(cause) => Err(cause),
-        Ok(()) => match cut(ground, seat, out) {
-            Ok(()) => Ok(()),
-            Err(cause) => {
-                ground.add(seat, n);
-                Err(cause)
-            }
-        },
-    }
-}
-
-/// Gets a list as `get_or_return` does, with what the seat's type keeps.
+/// Gets as many elements as `out` has places: reserves them, and pops them, or gives back what was
+/// reserved.
 #[inline(always)]
 pub(crate) fn get(ground: &Ground, seat: &mut GroundSeat, out: &mut [u32]) -> Result<(), Refusal>
     requires of { IsOf ground.now seat.old }
@@ -240,11 +112,16 @@ pub(crate) fn get(ground: &Ground, seat: &mut GroundSeat, out: &mut [u32]) -> Re
     ensures told { result ≡ Err Refusal.NoEntries → KnowsShort (length out.old) seat.old }
     ensures enough { IfOk result (λ _. KnowsEnough (length out.old) seat.old) }
     ensures alone { IsAlone seat.old → result ≢ Err Refusal.Contended }
-    ensures len { length out.new ≡ length out.old }
-    ensures own { Owned seat.new.known.limits seat.new.known.view }
 {
-    let _limits = ground.limits();
-    let answer = get_or_return(ground, seat, out);
-    seat.owned();
-    answer
+    let n = out.len() as u64;
+    match by_tries(ground, seat, Reservation { n }, &mut []) {
+        Err(cause) => Err(cause),
+        Ok(()) => match by_tries(ground, seat, Pop { n }, out) {
+            Ok(()) => Ok(()),
+            Err(cause) => {
+                ground.add(seat, n);
+                Err(cause)
+            }
+        },
+    }
 }

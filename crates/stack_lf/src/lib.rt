@@ -2,6 +2,7 @@
 //! handle on them: by many threads at once, without a lock.
 #![tactic(auto)]
 
+mod attempt;
 mod counting;
 mod desking;
 mod getting;

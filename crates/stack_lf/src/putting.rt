@@ -1,17 +1,16 @@
-//! The tries of a put.
+//! A put: a push, and an addition to the length.
 
 ghost use Rattle.std.specs.Prelude.{◌≡◌, ◌≢◌, ◌<◌, ◌≤◌, Err, None, length, ℕ};
 ghost use Rattle.commons.specs.Bag.{bag};
 ghost use Rattle.commons.specs.Bounds.{max_population};
-ghost use Rattle.ground.specs.Seats.{IsOf, Seated};
-ghost use Rattle.ground.specs.Own.{Owned};
-ghost use Rattle.stack_lf.specs.Leaves.{LostBut, IsAlone, Stored, TriesPush, Pushes, Puts};
+ghost use Rattle.ground.specs.Seats.{IsOf};
+ghost use Rattle.stack_lf.specs.Effects.{IsAlone, Stored, EndsPush, Puts};
 ghost use Rattle.stack_lf.specs.Tries.{IsLostPush, last_of};
 
+use crate::attempt::{Attempt, by_tries};
 use crate::tried::Tried;
 use commons::limits::SPENT;
 use commons::refusal::Refusal;
-use crossbeam_utils::Backoff;
 use ground::pool::Ground;
 use ground::seat::GroundSeat;
 
@@ -37,109 +36,39 @@ fn store_links(ground: &Ground, seat: &mut GroundSeat, top: u32, list: &[u32]) -
     next
 }
 
-/// Loads the head, links the list to its top, and swings the head to the last of the list, if it
-/// is still what was read.
-#[inline(always)]
-fn try_push(ground: &Ground, seat: &mut GroundSeat, list: &[u32]) -> Tried
-    requires of { IsOf ground.now seat.old }
-    requires some { 1 ≤ length list.now }
-    requires hand { (i : ℕ) → bag list.now i ≤ bag seat.old.known.view.hand i }
-    requires chain { seat.old.known.view.chain ≡ None }
-    ensures one { TriesPush list.now result seat.old seat.new }
-    ensures alone { IsAlone seat.old → result ≢ Tried.Lost }
-{
-    seat.owned();
-    let head = ground.load_head(seat);
-    if SPENT <= head.count {
-        return Tried::Refused(Refusal::HeadSpent);
-    }
-    let first = store_links(ground, seat, head.top, list);
-    match ground.push(seat, head, first) {
-        Ok(()) => Tried::Won,
-        Err(_) => Tried::Lost,
-    }
+/// A push of a list: loads the head, links the list to its top, and swings the head to the last
+/// of the list, if it is still what was read.
+#[derive(Clone, Copy)]
+struct Push<'a> {
+    list: &'a [u32],
 }
 
-/// Puts a list onto the stack after a first try that was lost, by at most as many lost tries in
-/// all as the limits allow. It stands apart, so that what inlines a put stays small.
-#[inline(never)]
-fn push_apart(ground: &Ground, seat: &mut GroundSeat, list: &[u32]) -> Result<(), Refusal>
-    requires of { IsOf ground.now seat.old }
-    requires some { 1 ≤ length list.now }
-    requires hand { (i : ℕ) → bag list.now i ≤ bag seat.old.known.view.hand i }
-    requires chain { seat.old.known.view.chain ≡ None }
-    ensures pushes { (first : Seated) → LostBut (IsLostPush list.now) 1 first seat.old →
-        Pushes ground.now.limits.tries list.now result first seat.new }
-{
-    let limits = ground.limits();
-    let backoff = Backoff::new();
-    for _ in 1..limits.tries {
-        backoff.spin();
-        match try_push(ground, seat, list) {
-            Tried::Won => return Ok(()),
-            Tried::Refused(cause) => return Err(cause),
-            Tried::Lost => {}
+impl Attempt for Push<'_> {
+    ghost may = { λ a k v. (1 ≤ length a.list.now)
+        × ((i : ℕ) → bag a.list.now i ≤ bag v.hand i) × (v.chain ≡ None) };
+
+    ghost loses = { λ a l. IsLostPush a.list.now };
+
+    ghost ends = { λ a l xs. EndsPush a.list.now };
+
+    #[inline(always)]
+    fn attempt(self, ground: &Ground, seat: &mut GroundSeat, _out: &mut [u32]) -> Tried {
+        seat.owned();
+        let head = ground.load_head(seat);
+        if SPENT <= head.count {
+            return Tried::Refused(Refusal::HeadSpent);
+        }
+        let first = store_links(ground, seat, head.top, self.list);
+        match ground.push(seat, head, first) {
+            Ok(()) => Tried::Won,
+            Err(_) => Tried::Lost,
         }
     }
-    Err(Refusal::Contended)
-}
 
-/// Puts a list onto the stack after a lost try, with a place of its own for the answer, which is
-/// filled only where a first try was lost.
-#[inline(always)]
-fn push_again(ground: &Ground, seat: &mut GroundSeat, list: &[u32]) -> Result<(), Refusal>
-    requires of { IsOf ground.now seat.old }
-    requires some { 1 ≤ length list.now }
-    requires hand { (i : ℕ) → bag list.now i ≤ bag seat.old.known.view.hand i }
-    requires chain { seat.old.known.view.chain ≡ None }
-    ensures pushes { (first : Seated) → LostBut (IsLostPush list.now) 1 first seat.old →
-        Pushes ground.now.limits.tries list.now result first seat.new }
-{
-    match push_apart(ground, seat, list) {
-        Ok(()) => Ok(()),
-        Err(cause) => Err(cause),
-    }
-}
-
-/// Puts a list onto the stack, by at most as many lost tries as the limits allow.
-#[inline(always)]
-fn push(ground: &Ground, seat: &mut GroundSeat, list: &[u32]) -> Result<(), Refusal>
-    requires of { IsOf ground.now seat.old }
-    requires some { 1 ≤ length list.now }
-    requires hand { (i : ℕ) → bag list.now i ≤ bag seat.old.known.view.hand i }
-    requires chain { seat.old.known.view.chain ≡ None }
-    requires tries { 1 ≤ ground.now.limits.tries }
-    ensures pushes { Pushes ground.now.limits.tries list.now result seat.old seat.new }
-    ensures alone { IsAlone seat.old → result ≢ Err Refusal.Contended }
-{
-    match try_push(ground, seat, list) {
-        Tried::Won => Ok(()),
-        Tried::Refused(cause) => Err(cause),
-        Tried::Lost => push_again(ground, seat, list),
-    }
+    ghost may_again = { λ a k v look seen h. h };
 }
 
 /// Puts a list onto the stack, and raises the length afterwards.
-#[inline(always)]
-fn push_and_add(ground: &Ground, seat: &mut GroundSeat, list: &[u32]) -> Result<(), Refusal>
-    requires of { IsOf ground.now seat.old }
-    requires some { 1 ≤ length list.now }
-    requires hand { (i : ℕ) → bag list.now i ≤ bag seat.old.known.view.hand i }
-    requires chain { seat.old.known.view.chain ≡ None }
-    requires tries { 1 ≤ ground.now.limits.tries }
-    ensures put { Puts ground.now.limits.tries list.now result seat.old seat.new }
-    ensures alone { IsAlone seat.old → result ≢ Err Refusal.Contended }
-{
-    match push(ground, seat, list) {
-        Err(cause) => Err(cause),
-        Ok(()) => {
-            ground.add(seat, list.len() as u64);
-            Ok(())
-        }
-    }
-}
-
-/// Puts a list as `push_and_add` does, with what the seat's type keeps.
 #[inline(always)]
 pub(crate) fn put(ground: &Ground, seat: &mut GroundSeat, list: &[u32]) -> Result<(), Refusal>
     requires of { IsOf ground.now seat.old }
@@ -148,10 +77,12 @@ pub(crate) fn put(ground: &Ground, seat: &mut GroundSeat, list: &[u32]) -> Resul
     requires chain { seat.old.known.view.chain ≡ None }
     ensures put { Puts ground.now.limits.tries list.now result seat.old seat.new }
     ensures alone { IsAlone seat.old → result ≢ Err Refusal.Contended }
-    ensures own { Owned seat.new.known.limits seat.new.known.view }
 {
-    let _limits = ground.limits();
-    let answer = push_and_add(ground, seat, list);
-    seat.owned();
-    answer
+    match by_tries(ground, seat, Push { list }, &mut []) {
+        Err(cause) => Err(cause),
+        Ok(()) => {
+            ground.add(seat, list.len() as u64);
+            Ok(())
+        }
+    }
 }

@@ -65,7 +65,7 @@ impl<'a> WordCommons<'a> {
 
 /// Each call takes as many steps at most as is said here, each one atomic operation on one word; an
 /// offer and a take that succeed also exchange what is in the desk's slot. The length of a list is
-/// `n`. A seat of every part is never refused `Contended`.
+/// `n`. The only seat of a pool, which has every part of it, is never refused `Contended`.
 impl<'a> Commons for WordCommons<'a> {
     ghost side = { λ c. side_of c.seat };
 
@@ -74,59 +74,84 @@ impl<'a> Commons for WordCommons<'a> {
     /// Takes `tries * (n + 4) + 1` steps at most. The elements are reserved first, so that the
     /// walk over them is of this length; what was reserved is given back before any refusal. While
     /// another worker is within a call, its elements may be in neither the length nor a hand, so
-    /// `NoEntries` doesn't say that the pool has no more. To a seat of every part it does: the
-    /// common list was shorter than `n` then.
+    /// `NoEntries` doesn't say that the pool has no more. To its only seat it does: the common list
+    /// was shorter than `n` then.
     #[inline(always)]
     fn get_list(&mut self, out: &mut [u32]) -> Result<(), Refusal> {
-        getting::get(self.ground, &mut self.seat, out)
+        let seat = &mut self.seat;
+        let answer = getting::get(self.ground, seat, out);
+        seat.owned();
+        answer
     }
 
     /// Takes `tries * (n + 2) + 1` steps at most. The last of the list is on top then, unless
     /// another worker has changed the stack since; the length is raised after that.
     #[inline(always)]
     fn put_list(&mut self, list: &[u32]) -> Result<(), Refusal> {
-        putting::put(self.ground, &mut self.seat, list)
+        let seat = &mut self.seat;
+        let answer = putting::put(self.ground, seat, list);
+        seat.owned();
+        answer
     }
 
     /// Takes one step.
     fn claim(&mut self, element: u32) {
-        counting::claim(self.ground, &mut self.seat, element);
+        let seat = &mut self.seat;
+        self.ground.claim(seat, element);
+        seat.owned();
     }
 
-    /// Takes one step. A seat of every part is told how often it and the packets on full desks
+    /// Takes one step. The only seat of a pool is told how often it and the packets on full desks
     /// hold the element.
     fn count(&mut self, element: u32) -> u32 {
-        counting::count(self.ground, &mut self.seat, element) as u32
+        let seat = &mut self.seat;
+        let count = self.ground.sole(seat, element, false);
+        seat.owned();
+        count as u32
     }
 
-    /// Takes `2 * tries` steps at most. Where a seat of every part is refused `RefSpent`, it and
+    /// Takes `2 * tries` steps at most. Where the only seat of a pool is refused `RefSpent`, it and
     /// the packets on full desks have as many holds of the element as the reference limit allows.
     fn raise(&mut self, element: u32) -> Result<(), Refusal> {
-        let limits = self.ground.limits();
-        counting::raise(self.ground, &mut self.seat, element, &limits)
+        let seat = &mut self.seat;
+        let answer = counting::raise(self.ground, seat, element);
+        seat.owned();
+        answer
     }
 
     /// Takes three steps at most.
     fn lower(&mut self, element: u32) -> Lowered {
-        counting::lower(self.ground, &mut self.seat, element)
+        let seat = &mut self.seat;
+        let answer = counting::lower(self.ground, seat, element);
+        seat.owned();
+        answer
     }
 
     /// Takes two steps on the desk's word and an exchange of what is in its slot, or one step
     /// where the desk isn't empty, and none where there is no such desk.
     fn offer(&mut self, desk: u32, packet: Packet) -> Result<(), (Refusal, Packet)> {
-        desking::offer(self.ground, &mut self.seat, desk, packet)
+        let seat = &mut self.seat;
+        let answer = desking::offer(self.ground, seat, desk, packet);
+        seat.owned();
+        answer
     }
 
     /// Takes two steps on the desk's word and an exchange of what is in its slot, or one step
     /// where the desk has no packet, and none where there is no such desk.
     fn take(&mut self, desk: u32) -> Result<Packet, Refusal> {
-        desking::take(self.ground, &mut self.seat, desk)
+        let seat = &mut self.seat;
+        let answer = desking::take(self.ground, seat, desk);
+        seat.owned();
+        answer
     }
 
-    /// Takes one step. A seat of every part is told the length of the common list: all that is
+    /// Takes one step. The only seat of a pool is told the length of the common list: all that is
     /// neither in its hand nor held by it or by packets on full desks.
     fn common_count(&mut self) -> u32 {
-        counting::length(self.ground, &mut self.seat) as u32
+        let seat = &mut self.seat;
+        let length = self.ground.load_length(seat);
+        seat.owned();
+        length as u32
     }
 
     ghost use Rattle.stack_lf.specs.OwnLaws.{hand_once_of, hand_below_of, apart_of};

@@ -23,7 +23,7 @@ loop-k-preserved c =
       c.load_link-next.ensures.known,
     )
 
--- a seat of every part doesn't come to the end before
+-- the only seat of a pool doesn't come to the end before
 pub returns-then-next-eq0-clause-alone : goal.returns-then-next-eq0-clause-alone
 returns-then-next-eq0-clause-alone c = λ whole reserved _.
     let inv = c.loop-k.invariant in

@@ -2,7 +2,7 @@ use Rattle.std.proofs.Common.{◌≡◌, ◌≤◌, length, take}
 use Rattle.commons.specs.Bounds.{max_population}
 use Rattle.ground.specs.Seats.{KnowsEnd}
 use Rattle.stack_lf.specs.Tries.{Walk, elements}
-use Rattle.stack_lf.specs.Leaves.{Walked}
+use Rattle.stack_lf.specs.Effects.{Walked}
 use Rattle.stack_lf.proofs.getting.walk.Given as goal
 
 -- as many links as places are walked so far, and the places list their elements

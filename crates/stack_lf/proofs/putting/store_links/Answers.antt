@@ -5,7 +5,7 @@ use Rattle.step_core.specs.declared.step.Step.TheVariants.{StoreLink}
 use Rattle.step_core.specs.declared.step.Outcome.TheVariants.{Done}
 use Rattle.ground.specs.Seats.{Seated, Steps, element_of}
 use Rattle.stack_lf.specs.Tries.{last_of}
-use Rattle.stack_lf.specs.Leaves.{Stored}
+use Rattle.stack_lf.specs.Effects.{Stored}
 use Rattle.stack_lf.proofs.Composing.{still_of}
 use Rattle.stack_lf.proofs.Storing.{place-new, stored-push, stored-none, last_of-push}
 use Rattle.stack_lf.proofs.putting.store_links.Goals as goal

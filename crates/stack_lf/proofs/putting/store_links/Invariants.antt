@@ -1,6 +1,6 @@
 use Rattle.std.proofs.Common.{◌≡◌, ◌≤◌, take}
 use Rattle.stack_lf.specs.Tries.{last_of}
-use Rattle.stack_lf.specs.Leaves.{Stored}
+use Rattle.stack_lf.specs.Effects.{Stored}
 use Rattle.stack_lf.proofs.putting.store_links.Given as goal
 
 -- the links so far are stored

@@ -4,7 +4,7 @@ use Rattle.stack_lf.proofs.words.WordCommonsCommons.common_count.Goals as goal
 -- what one load of the length did
 pub returns : goal.returns
 returns c =
-    let d = length_did c.length.result c.args.self.now.seat c.length.new.seat c.length.ensures.step c.length.ensures.known in
+    let d = length_did c.load_length-length.result c.args.self.now.seat c.load_length-length.new.seat c.load_length-length.ensures.step c.load_length-length.ensures.known in
     record {
       did = record {
         readings = d.readings;

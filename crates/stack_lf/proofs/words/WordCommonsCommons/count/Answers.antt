@@ -1,11 +1,15 @@
+use Rattle.std.proofs.Common.{◌≤◌, sym, subst}
+use Rattle.commons.specs.declared.limits.Limits.{Limits}
 use Rattle.stack_lf.proofs.Meeting.{count_did}
 use Rattle.stack_lf.proofs.words.WordCommonsCommons.count.Goals as goal
 
 -- what one load of a count did
 pub returns : goal.returns
 returns c =
-    let d = count_did c.args.element c.count.result c.args.self.now.seat c.count.new.seat
-    c.count.ensures.step c.count.ensures.held c.count.ensures.limited c.count.ensures.known in
+    let limited = subst (λ (l : Limits). c.sole-count.result ≤ l.ref_limit)
+    (sym c.args.self.now.of.limits) c.sole-count.ensures.limited in
+    let d = count_did c.args.element c.sole-count.result c.args.self.now.seat c.sole-count.new.seat
+    c.sole-count.ensures.step c.sole-count.ensures.own limited c.sole-count.ensures.known in
     record {
       did = record {
         readings = d.readings;

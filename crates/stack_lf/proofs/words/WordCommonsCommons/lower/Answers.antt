@@ -4,8 +4,8 @@ use Rattle.stack_lf.proofs.words.WordCommonsCommons.lower.Goals as goal
 -- what the lower leaves
 pub returns : goal.returns
 returns c =
-    let d = lower_did c.args.element c.lower.result c.args.self.now.seat c.lower.new.seat c.requires
-    c.lower.ensures.lowered c.lower.ensures.told in
+    let d = lower_did c.args.element c.lower-answer.result c.args.self.now.seat c.lower-answer.new.seat c.requires
+    c.lower-answer.ensures.lowered c.lower-answer.ensures.told in
     record {
       did = record {
         readings = d.readings;

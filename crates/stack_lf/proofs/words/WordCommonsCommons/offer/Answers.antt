@@ -5,8 +5,8 @@ use Rattle.stack_lf.proofs.words.WordCommonsCommons.offer.Goals as goal
 -- what the offer leaves
 pub returns-clause-did : goal.returns-clause-did
 returns-clause-did c =
-    let d = offer_did c.args.desk c.args.packet (without_packet c.offer.result) c.args.self.now.seat
-    c.offer.new.seat c.requires.held c.requires.own c.offer.ensures.offered in
+    let d = offer_did c.args.desk c.args.packet (without_packet c.offer-answer.result) c.args.self.now.seat
+    c.offer-answer.new.seat c.requires.held c.requires.own c.offer-answer.ensures.offered in
     record {
       readings = d.readings;
       step = record { led = d.step.led; cause = d.step.cause; effect = d.step.effect };

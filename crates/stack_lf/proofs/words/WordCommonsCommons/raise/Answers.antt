@@ -1,6 +1,6 @@
-use Rattle.std.proofs.Common.{◌≡◌, ◌∙◌, sym, subst, rules}
+use Rattle.std.proofs.Common.{sym, subst, rules}
 use Rattle.commons.specs.declared.limits.Limits.{Limits}
-use Rattle.stack_lf.specs.Leaves.{Raises}
+use Rattle.stack_lf.specs.Effects.{Raises}
 use Rattle.stack_lf.proofs.Meeting.{raise_did}
 use Rattle.stack_lf.proofs.words.WordCommonsCommons.raise.Goals as goal
 
@@ -8,13 +8,11 @@ use Rattle.stack_lf.proofs.words.WordCommonsCommons.raise.Goals as goal
 pub returns : goal.returns
 returns c =
     let me = c.args.self.now in
-    let same : c.limits-limits.result ≡ me.seat.known.limits =
-    c.limits-limits.ensures.limits ∙ sym me.of.limits in
     let got =
-    subst (λ (l : Limits). Raises l c.args.element c.raise.result me.seat c.raise.new.seat)
-    same c.raise.ensures.raised in
-    let d = raise_did c.args.element c.raise.result me.seat c.raise.new.seat c.requires got
-    (search rules) c.raise.ensures.told c.raise.ensures.below in
+    subst (λ (l : Limits). Raises l c.args.element c.raise-answer.result me.seat c.raise-answer.new.seat)
+    (sym me.of.limits) c.raise-answer.ensures.raised in
+    let d = raise_did c.args.element c.raise-answer.result me.seat c.raise-answer.new.seat c.requires got
+    (search rules) c.raise-answer.ensures.told c.raise-answer.ensures.below in
     record {
       did = record {
         readings = d.readings;

@@ -4,8 +4,8 @@ use Rattle.stack_lf.proofs.words.WordCommonsCommons.take.Goals as goal
 -- what the take leaves
 pub returns : goal.returns
 returns c =
-    let d = take_did c.args.desk c.take.result c.args.self.now.seat c.take.new.seat
-    c.take.ensures.taken in
+    let d = take_did c.args.desk c.take-answer.result c.args.self.now.seat c.take-answer.new.seat
+    c.take-answer.ensures in
     record {
       did = record {
         readings = d.readings;
