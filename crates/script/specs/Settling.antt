@@ -7,7 +7,7 @@ use Rattle.pool_model.specs.Statements.{ListsEachOnce, PlacesEachOnce}
 use Rattle.pool_model.specs.declared.settled.Settled.{Settled}
 use Rattle.pool_model.specs.declared.statement.Statement.{Statement}
 use Rattle.script_text.specs.declared.lines.Pools.{Pools}
-use Rattle.word_book.specs.Listing.{ListsPackets}
+use Rattle.book.specs.Listing.{ListsPackets}
 
 -- One rule of a pool alone, by its limits and its statement, and one of two pools, by theirs. There
 -- is a statement for each pool.

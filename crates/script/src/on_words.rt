@@ -7,7 +7,7 @@ ghost use Rattle.pool_model.specs.Statements.{ListsEachOnce, PlacesEachOnce};
 ghost use Rattle.book.specs.Lost.{IsOf as IsWorkerOf};
 ghost use Rattle.script.specs.Losing.{AreOfPool, LosesOnWords};
 ghost use Rattle.script.specs.Running.{EndsOnWords};
-ghost use Rattle.word_book.specs.Listing.{ListsPackets};
+ghost use Rattle.book.specs.Listing.{ListsPackets};
 ghost use Rattle.word_pool.specs.Workers.{AllStay, AreWorkers, Stays};
 
 use crate::acting::{Actor, Worker};

@@ -7,7 +7,7 @@ ghost use Rattle.pool_model.specs.Statements.{ListsEachOnce, PlacesEachOnce};
 ghost use Rattle.script.specs.Losing.{IsLostCause, Loses};
 ghost use Rattle.script.specs.Running.{EndsByActs, EndsOnWords, LeftOnWords, ReachedByActs};
 ghost use Rattle.script.specs.Settling.{ListsEachPoolOnce, ListsPacketsInEach, ListsSoundInEach, PlacesInEach};
-ghost use Rattle.word_book.specs.Listing.{ListsPackets};
+ghost use Rattle.book.specs.Listing.{ListsPackets};
 
 use crate::gate::Gate;
 use crate::{on_words, twins_on_words, twins_under_lock, under_lock};

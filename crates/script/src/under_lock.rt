@@ -12,7 +12,7 @@ ghost use Rattle.script.specs.Running.{EndsByActs};
 ghost use Rattle.share_book.specs.Locked.{AreLeftBy};
 ghost use Rattle.snapshot.specs.Closing.{snapshot_of};
 ghost use Rattle.snapshot.specs.Snapshots.{IsLawful};
-ghost use Rattle.word_book.specs.Listing.{ListsPackets};
+ghost use Rattle.book.specs.Listing.{ListsPackets};
 
 use crate::gate::Gate;
 use crate::locked::{Locked, play};

@@ -9,7 +9,7 @@ use Rattle.pool_model.specs.Sound.{ListsSoundPackets}
 use Rattle.pool_model.specs.Statements.{statement_of}
 use Rattle.pool_model.specs.declared.statement.Statement.{Statement}
 use Rattle.pool_model.proofs.ListedPackets.{sound_packets_are_packets}
-use Rattle.word_book.specs.Listing.{ListsPackets}
+use Rattle.book.specs.Listing.{ListsPackets}
 use Rattle.script.proofs.Losses.{all_end_by_acts}
 use Rattle.script.proofs.under_lock.run.Goals as goal
 
