@@ -65,9 +65,9 @@ fn snapshot_of_book(alloc: Global, closed: Closed, book: Book) -> Result<Snapsho
     }
 }
 
-/// The snapshots of what two whole pools left at rest, when they were closed, with the shares of all
-/// their workers: the first with its guests, which are the bases of the second one's packets, and to
-/// the second these are foreign. Both are lawful.
+/// The snapshots of what two whole pools left at rest, when they were closed, with the shares of
+/// all their workers: the first with its guests, which are the bases of the second one's packets;
+/// to the second these are foreign. Both are lawful.
 ///
 /// Refused `OutOfMemory` where memory was refused. Nothing is left of the pools then either.
 pub fn snapshots_of_twins(

@@ -8,10 +8,10 @@ use mbuf::acts::{Act, Reply};
 use mbuf::freed::Freed;
 use pool_model::settled::Settled;
 use script::statement_text;
-use share_book::TwinAct;
 use share_book::locked_twin::LockedTwinSite;
-use share_book::twin_ending::{settled, settled_parts};
+use share_book::twin_ending::settled;
 use share_book::twin_site::TwinSite;
+use share_book::{TwinAct, settled_twins};
 use std::alloc::Global;
 use std::process::Abort;
 use std::sync::Wait;
@@ -349,7 +349,7 @@ fn settled_locked<R: Wait>(rt: &R, alloc: Global) -> Result<Settled, Refusal> {
     clone_locked(rt, &pools, 2);
     match pools.close(alloc) {
         Ok(closed) => {
-            let (first, second) = settled_parts(alloc, closed)?;
+            let (first, second) = settled_twins(alloc, closed)?;
             Ok(Settled {
                 first,
                 second: Some(second),
