@@ -5,7 +5,7 @@ use Rattle.commons.specs.Refusals.{number_of}
 use Rattle.ground.specs.Seats.{Grounded}
 use Rattle.pool_model.specs.declared.statement.Statement.{Statement}
 use Rattle.pool_model.specs.Statements.{ListsEachOnce, PlacesEachOnce}
-use Rattle.word_book.specs.Listing.{ListsPackets}
+use Rattle.book.specs.Listing.{ListsPackets}
 use Rattle.word_pool.specs.Lost.{AreLeft, AreLostOf}
 use Rattle.word_pool.specs.Workers.{Manned, AreWorkers, IsStatementOfWorkers}
 use Rattle.mbufpool_c.specs.declared.ending.Ending.{Ending}

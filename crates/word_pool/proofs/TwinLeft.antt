@@ -26,7 +26,7 @@ use Rattle.book.specs.declared.closed_twin.ClosedTwin.{ClosedTwin}
 use Rattle.book.specs.Left.{AreLeftWhole, IsLawfulByTypes, first_of, second_of}
 use Rattle.book.proofs.Spelled.{lawful}
 use Rattle.book.proofs.TwinGuests.{guests_are_bases, guests_of_workers, local_holds, sum_both, sum_same}
-use Rattle.word_pool.specs.TwinShares.{AreFirstShares, AreSecondShares, AreStatementsOf, AreTwinShares}
+use Rattle.word_pool.specs.TwinShares.{AreFirstShares, AreSecondShares, AreTwinShares}
 use Rattle.word_pool.specs.TwinWorkers.{TwinManned, AreStatementsOfTwins}
 use Rattle.word_pool.specs.inside.Closing.{IsLeftAtRest}
 use Rattle.word_pool.specs.inside.TwinCrews.{AreTwinsClosed}
@@ -150,7 +150,7 @@ module _ (g h : Grounded) (ms : List TwinManned) (s u : Seated) (c : ClosedTwin)
   pub statements_of_twins : ListsItsElements first_snapshot (statement_in first_snapshot) →
       ListsItsElements second_snapshot (statement_in second_snapshot) →
       AreStatementsOfTwins g h ms (statement_in first_snapshot, statement_in second_snapshot)
-  statements_of_twins once again = record {
+  statements_of_twins = rw (are.first.limits, are.second.limits, are.same) (λ once again. record {
     first_view = s.known.view;
     second_view = u.known.view;
     first_whole = first_parts;
@@ -159,16 +159,14 @@ module _ (g h : Grounded) (ms : List TwinManned) (s u : Seated) (c : ClosedTwin)
     second_rest = are.second_whole.rest;
     idle = are.idle;
     shares = subst (λ (xs : List TwinMember). AreTwinShares xs s.known.view u.known.view) are.same are.shares;
-    statements =
-        subst (λ (xs : List TwinMember). AreStatementsOf g.limits h.limits s.known.view u.known.view xs
-        (statement_in first_snapshot, statement_in second_snapshot)) are.same (record {
-          first = c.first;
-          second = c.second;
-          first_left = are.first.left;
-          second_left = are.second.left;
-          first_same = ap (λ (l : Limits). statement_in (first_of l c.first c.shares.items)) are.first.limits;
-          second_same = ap (λ (l : Limits). statement_in (second_of l c.second c.shares.items)) are.second.limits;
-          first_once = subst (λ (l : Limits). ListsItsElements (first_of l c.first c.shares.items) (statement_in first_snapshot)) are.first.limits once;
-          second_once = subst (λ (l : Limits). ListsItsElements (second_of l c.second c.shares.items) (statement_in second_snapshot)) are.second.limits again;
-        });
-  }
+    statements = record {
+      first = c.first;
+      second = c.second;
+      first_left = are.first.left;
+      second_left = are.second.left;
+      first_same = refl;
+      second_same = refl;
+      first_once = once;
+      second_once = again;
+    };
+  })

@@ -1,6 +1,6 @@
 -- What a ground left is lawful, with the shares of the view that closed it, and its statement is
 -- that of the pool's workers.
-use Rattle.std.proofs.Common.{ℕ, ◌≡◌, ◌+◌, ◌≤◌, false, List, [], map, refl, sym, subst, arith}
+use Rattle.std.proofs.Common.{ℕ, ◌≡◌, ◌+◌, ◌≤◌, false, List, [], map, refl, sym, ap, ◌∙◌, subst, arith}
 use Rattle.std.specs.Prelude.{All}
 use Rattle.std.specs.List.{range_with_len}
 use Rattle.std.proofs.lemmas.List.Elements.{All-nil}
@@ -8,8 +8,7 @@ use Rattle.commons.specs.Bag.{bag}
 use Rattle.commons.specs.Packets.{held_in, own_in}
 use Rattle.commons.specs.declared.closed.Closed.{Closed}
 use Rattle.commons.specs.declared.limits.Limits.{Limits}
-use Rattle.ground.specs.Changing.{IsFresh}
-use Rattle.ground.specs.Own.{AtRest}
+use Rattle.ground.specs.Changing.{IsFresh, IsUnmoved}
 use Rattle.ground.specs.Seats.{Grounded}
 use Rattle.ground.specs.declared.known.Known.{Known}
 use Rattle.mbuf.specs.Members.{Member}
@@ -26,10 +25,11 @@ use Rattle.snapshot.proofs.Times.{held-is}
 use Rattle.book.specs.Left.{IsLawfulByTypes, IsLeftWhole}
 use Rattle.book.proofs.Spelled.{lawful}
 use Rattle.step_core.specs.declared.view.View.{View}
-use Rattle.word_pool.specs.Leaving.{IsStatementOf, statement_at_start}
+use Rattle.word_pool.specs.Leaving.{statement_at_start}
 use Rattle.word_pool.specs.Shares.{AreSharesOf}
-use Rattle.word_pool.specs.Workers.{Manned, AreWorkers, IsIdle, IsSeatOf, IsStatementOfWorkers, members_of}
-use Rattle.word_pool.specs.inside.Closing.{IsClosedBy, IsLeftAtRest}
+use Rattle.word_pool.specs.Workers.{Manned, IsStatementOfWorkers, members_of}
+use Rattle.word_pool.specs.inside.Closing.{IsLeftAtRest}
+use Rattle.word_pool.specs.inside.Joins.{AreClosed}
 use Rattle.word_pool.proofs.OneView.{common, held_few, words_show}
 
 -- the numbers of all workers, in their order
@@ -64,43 +64,47 @@ module _ (l : Limits) (c : Closed) (v : View) (members : List Member) (h : IsLef
 -- ---- of the workers of a ground that was closed by the one seat of theirs
 
 module _ (g : Grounded) (ms : List Manned) (n : Known) (l : Limits) (c : Closed) (handed : List Member)
-    (closed : IsClosedBy g n l c) (whole : n.view.part ≡ g.limits.workers) (rest : AtRest n.view)
-    (same : handed ≡ members_of ms) (are : AreSharesOf handed n.view) where
-  left_at_rest : IsLeftAtRest g.limits c n.view
-  left_at_rest = record { left = closed.left; whole = whole; rest = rest }
+    (are : AreClosed g ms n l c handed) where
+  at_rest : IsLeftAtRest g.limits c n.view
+  at_rest = record { left = are.closed.left; whole = are.whole; rest = are.seat.rest }
+
+  own_shares : AreSharesOf (members_of ms) n.view
+  own_shares = subst (λ (xs : List Member). AreSharesOf xs n.view) are.same are.shares
 
   -- it left a whole pool at rest
-  pub left_whole : AreWorkers g ms → IsLeftWhole l c handed
-  left_whole all = rw (closed.limits, same) (record {
-    range = closed.pool;
-    numbers = all.numbers;
-    lawful =
-        left_lawful g.limits c n.view (members_of ms) left_at_rest
-        (subst (λ (xs : List Member). AreSharesOf xs n.view) same are) all.numbers;
+  pub left_whole : IsLeftWhole l c handed
+  left_whole = rw (are.closed.limits, are.same) (record {
+    range = are.closed.pool;
+    numbers = are.all.numbers;
+    lawful = left_lawful g.limits c n.view (members_of ms) at_rest own_shares are.all.numbers;
   })
 
   pub counts_within : All (λ held. held.count ≤ l.ref_limit) (statement_in (snapshot_of l c handed)).held
-  counts_within = rw closed.limits (left_counts g.limits c n.view handed left_at_rest are)
+  counts_within = rw are.closed.limits (left_counts g.limits c n.view handed at_rest are.shares)
 
   -- and its statement is that of these workers
-  pub statement_of_workers : IsSeatOf ms n → n.limits ≡ g.limits → All IsIdle ms →
-      IsStatementOfWorkers g ms (statement_in (snapshot_of l c handed))
-  statement_of_workers one limits idle = rw (closed.limits, same) (record {
+  pub statement_of_workers : IsStatementOfWorkers g ms (statement_in (snapshot_of l c handed))
+  statement_of_workers = rw (are.closed.limits, are.same) (record {
     known = n;
-    seat = one;
-    limits = limits;
-    whole = whole;
-    idle = idle;
-    shares = subst (λ (xs : List Member). AreSharesOf xs n.view) same are;
+    seat = are.seat;
+    limits = are.limits;
+    whole = are.whole;
+    idle = are.idle;
+    shares = own_shares;
     statement = record {
       closed = c;
-      left = closed.left;
-      desks = closed.desks;
-      start = closed.start;
+      left = are.closed.left;
+      desks = are.closed.desks;
+      start = are.closed.start;
       same = refl;
     };
   })
 
-  -- where nobody has done anything, that of the start
-  pub statement_fresh : IsFresh n → statement_in (snapshot_of l c handed) ≡ statement_at_start g.limits (members_of ms)
-  statement_fresh fresh = rw (closed.limits, closed.start fresh, same) refl
+  -- where no seat of theirs has taken a step, that of the start
+  pub statement_fresh : IsUnmoved n → statement_in (snapshot_of l c handed) ≡ statement_at_start g.limits (members_of ms)
+  statement_fresh unmoved =
+      let fresh : IsFresh n = record {
+        whole = are.whole ∙ ap (λ (k : Limits). k.workers) (sym are.limits);
+        unmoved = unmoved;
+      } in
+      rw (are.closed.limits, are.closed.start fresh, are.same) refl

@@ -1,11 +1,15 @@
 -- How the workers of a pool are ended, one after another.
 use Rattle.std.specs.Prelude.{◌≡◌, ◌++◌, List, [], All, length, reverse}
+use Rattle.commons.specs.declared.closed.Closed.{Closed}
+use Rattle.commons.specs.declared.limits.Limits.{Limits}
 use Rattle.ground.specs.Changing.{IsUnmoved}
 use Rattle.ground.specs.Own.{AtRest}
 use Rattle.ground.specs.Seats.{Grounded, Seated, IsOf}
+use Rattle.ground.specs.declared.known.Known.{Known}
 use Rattle.mbuf.specs.Members.{Member}
 use Rattle.word_pool.specs.Shares.{AreSharesOf}
-use Rattle.word_pool.specs.Workers.{Manned, HasNotActed, IsIdle, IsSeatOf, IsWorker, members_of}
+use Rattle.word_pool.specs.Workers.{Manned, AreWorkers, HasNotActed, IsIdle, IsSeatOf, IsWorker, members_of}
+use Rattle.word_pool.specs.inside.Closing.{IsClosedBy}
 
 -- The seats of the last workers are one seat, which is at rest and has their parts, and their
 -- shares are handed in, the last worker's first. The others are left.
@@ -23,3 +27,15 @@ pub record AreJoined (g : Grounded) (all left : List Manned) (seat : Seated) (ha
   pub shares : AreSharesOf (reverse handed) seat.known.view
   -- where no worker has acted, none of the others has, and the seat has taken no step
   pub unmoved : All HasNotActed all → All HasNotActed left × IsUnmoved seat.known
+
+-- The ground was closed by the one seat that the seats of all these workers were joined to, and
+-- their shares, which were handed in, are what that seat had.
+pub record AreClosed (g : Grounded) (ms : List Manned) (n : Known) (l : Limits) (c : Closed) (handed : List Member) : Type 0 where
+  pub all : AreWorkers g ms
+  pub closed : IsClosedBy g n l c
+  pub seat : IsSeatOf ms n
+  pub limits : n.limits ≡ g.limits
+  pub whole : n.view.part ≡ g.limits.workers
+  pub idle : All IsIdle ms
+  pub same : handed ≡ members_of ms
+  pub shares : AreSharesOf handed n.view

@@ -37,11 +37,9 @@ closed c = record {
 -- so what they left are two whole pools at rest
 pub returns-in-Ok-closed_by-2-clause-whole : goal.returns-in-Ok-closed_by-2-clause-whole
 returns-in-Ok-closed_by-2-clause-whole c =
-    twins_left_whole c.args.first c.args.second c.args.workers.items c.joined-seats.result.0.first
-    c.joined-seats.result.0.second _ (closed c)
+    twins_left_whole _ _ _ _ _ _ (closed c)
 
 -- with the statements of these workers
 pub returns-in-Ok-closed_by-2-clause-statements : goal.returns-in-Ok-closed_by-2-clause-statements
 returns-in-Ok-closed_by-2-clause-statements c =
-    statements_of_twins c.args.first c.args.second c.args.workers.items c.joined-seats.result.0.first
-    c.joined-seats.result.0.second _ (closed c)
+    statements_of_twins _ _ _ _ _ _ (closed c)
