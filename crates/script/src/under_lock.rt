@@ -10,6 +10,8 @@ ghost use Rattle.script.specs.Running.{ReachedByActs};
 ghost use Rattle.script.specs.Snapshots.{settled_in};
 ghost use Rattle.script.specs.inside.Leaving.{AreWhole, CountsAreWithin, limits_left, snapshots_of};
 ghost use Rattle.share_book.specs.Locked.{AreLeftBy};
+ghost use Rattle.snapshot.specs.Closing.{snapshot_of};
+ghost use Rattle.snapshot.specs.Snapshots.{IsLawful};
 
 use crate::gate::Gate;
 use crate::left::Left;
@@ -106,6 +108,7 @@ fn played<K: OfLimits + Send + Sync, G: Gate, R: Threads + Wait + Sync>(
     ensures limits { IfOk result (λ left. left.0 ≡ limits.now) }
     ensures reached { IfOk result (λ left. (acts : List (ℕ × Act)) × AreLeftBy acts left.0 left.1 left.2.items) }
     ensures whole { IfOk result (λ left. IsLeftWhole left.0 left.1 left.2.items) }
+    ensures lawful { IfOk result (λ left. IsLawful (snapshot_of left.0 left.1 left.2.items)) }
     ensures memory { IfErr result (λ e. e ≡ Refusal.OutOfMemory) }
 {
     let site = LockedPool::<K>::make(alloc, limits)?;

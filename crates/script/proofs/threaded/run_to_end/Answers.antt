@@ -16,10 +16,10 @@ made_together pools second made is =
       no_desks = beside.beside.desks;
     }
 
-pub run-requires-clause-pools : goal.run-requires-clause-pools
-run-requires-clause-pools g c κs within =
+pub run-requires-in-Words-grounds-clause-pools : goal.run-requires-in-Words-grounds-clause-pools
+run-requires-in-Words-grounds-clause-pools g c κs within =
     made_together c.args.script.now.pools c.in-Some.second c.args.script.now.made c.in-Some.is
 
-pub run-requires-in-Locked-clause-pools : goal.run-requires-in-Locked-clause-pools
-run-requires-in-Locked-clause-pools g c κs within =
+pub run-requires-in-Locked-grounds-clause-pools : goal.run-requires-in-Locked-grounds-clause-pools
+run-requires-in-Locked-grounds-clause-pools g c κs within =
     made_together c.args.script.now.pools c.in-Some.second c.args.script.now.made c.in-Some.is
