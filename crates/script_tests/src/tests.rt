@@ -14,10 +14,9 @@ use script::{replay, run_replay, run_replay_json, statement_json, statement_text
 use script_rows::parts::{Part, written};
 use script_rows::pools::{FIRST_RUN, FIRST_RUN_TEXT};
 use script_rows::{BuiltRow, Row, built, caches, desks, packets, pools, sharing, twins as foreign};
-use script_text::{parse, parse_steps};
+use script_text::parse;
 use serde_json::Value;
 use share_book::ending::settled;
-use share_book::site_pool::SitePool;
 use statement_text::pool_text;
 use std::alloc::Global;
 use std::fmt::Debug;
@@ -32,11 +31,13 @@ mod json;
 mod long;
 mod lost;
 mod memory;
+mod parsing;
 mod random;
 mod readings;
 mod replies;
 mod settling;
 mod shown;
+mod site_pools;
 mod statements;
 mod step_readings;
 mod step_texts;
@@ -47,7 +48,6 @@ mod twin_sites;
 mod twins;
 
 use building::placed;
-use shown::{shown_lines, shown_steps};
 use told::{Told, reply};
 
 /// A name, and texts with their refusals; a script has none.
@@ -224,281 +224,6 @@ fn print_long_texts<R: Abort + AllocGlobal>(rt: &R, rows: &[BuiltRow]) -> Result
 #[test]
 fn each_long_script_prints_its_text(rt: HostRuntime) -> Result<(), Fail> {
     print_long_texts(&rt, built::ROWS)
-}
-
-/// The refusal of a text by `parse`, if it has one.
-fn parse_refusal(alloc: Global, text: &str) -> Option<Refusal> {
-    parse(alloc, text.as_bytes()).err()
-}
-
-/// Why nothing is printed for a text, if nothing is.
-fn replay_refusal(alloc: Global, text: &str) -> Option<Refusal> {
-    printed(alloc, text).err()
-}
-
-/// Why no JSON is printed for a text, if none is.
-fn json_refusal(alloc: Global, text: &str) -> Option<Refusal> {
-    run_replay_json(alloc, text.as_bytes()).err()
-}
-
-/// The most elements of a pool that a row is played on: the text of one of 16,777,214 elements has
-/// 140 million bytes.
-const MOST_PLAYED: u64 = 100_000;
-
-/// Whether a text is a script of a pool that is too large to be played here.
-fn is_of_a_large_pool(alloc: Global, text: &str) -> bool {
-    match parse(alloc, text.as_bytes()) {
-        Ok(script) => {
-            let second = script.pools.second.map_or(0, |limits| limits.population);
-            script.pools.first.population.max(second) > MOST_PLAYED
-        }
-        Err(_) => false,
-    }
-}
-
-/// Each of the three is refused so, or none is; a script of a large pool is only read.
-fn refuse_text<R: Abort + AllocGlobal>(rt: &R, text: &str, refusal: Option<Refusal>, name: &str) {
-    let parsed = parse_refusal(rt.alloc(), text);
-    same(rt, &(text, parsed), &(text, refusal), name);
-    if !is_of_a_large_pool(rt.alloc(), text) {
-        let printed = replay_refusal(rt.alloc(), text);
-        let json = json_refusal(rt.alloc(), text);
-        let wanted = (text, refusal, refusal);
-        same(rt, &(text, printed, json), &wanted, name);
-    }
-}
-
-fn refuse_texts<R: Abort + AllocGlobal>(rt: &R, rows: &[TextsRow]) {
-    for (name, texts) in rows {
-        for (text, refusal) in *texts {
-            refuse_text(rt, text, *refusal, name);
-        }
-    }
-}
-
-#[test]
-fn each_text_is_a_script_or_refused(rt: HostRuntime) {
-    refuse_texts(&rt, texts::ROWS);
-}
-
-#[test]
-fn each_pool_line_is_of_a_script_or_refused(rt: HostRuntime) {
-    refuse_texts(&rt, texts::POOL_ROWS);
-}
-
-fn refuse_long_texts<R: Abort + AllocGlobal>(rt: &R, rows: &[LongRow]) -> Result<(), Fail> {
-    for (name, parts, len, refusal) in rows {
-        let text = written(rt.alloc(), parts)?;
-        let parsed = parse_refusal(rt.alloc(), text.as_str());
-        same(rt, &(text.len(), parsed), &(*len, *refusal), name);
-    }
-    Ok(())
-}
-
-#[test]
-fn each_long_text_is_a_script_or_refused(rt: HostRuntime) -> Result<(), Fail> {
-    refuse_long_texts(&rt, long::ROWS)
-}
-
-fn read_scripts<R: Abort + AllocGlobal>(rt: &R, rows: &[ReadRow]) -> Result<(), Fail> {
-    for (name, text, limits, second, lines) in rows {
-        let script = parse(rt.alloc(), text.as_bytes())?;
-        let shown = shown_lines(rt.alloc(), script.lines.as_slice())?;
-        same(
-            rt,
-            &(script.pools.first, script.pools.second, shown.as_str()),
-            &(*limits, *second, *lines),
-            name,
-        );
-    }
-    Ok(())
-}
-
-#[test]
-fn each_script_is_read_as_its_limits_and_lines(rt: HostRuntime) -> Result<(), Fail> {
-    read_scripts(&rt, readings::ROWS)
-}
-
-/// The steps of a script are compared as their `Debug` shows them.
-fn read_steps<R: Abort + AllocGlobal>(rt: &R, rows: &[ReadRow]) -> Result<(), Fail> {
-    for (name, text, limits, second, lines) in rows {
-        let script = parse_steps(rt.alloc(), text.as_bytes())?;
-        let shown = shown_steps(rt.alloc(), script.lines.as_slice())?;
-        same(
-            rt,
-            &(script.pools.first, script.pools.second, shown.as_str()),
-            &(*limits, *second, *lines),
-            name,
-        );
-    }
-    Ok(())
-}
-
-#[test]
-fn each_script_of_steps_is_read_as_its_limits_and_steps(rt: HostRuntime) -> Result<(), Fail> {
-    read_steps(&rt, step_readings::ROWS)
-}
-
-/// The refusal of a text by `parse_steps`, if it has one.
-fn steps_refusal(alloc: Global, text: &str) -> Option<Refusal> {
-    parse_steps(alloc, text.as_bytes()).err()
-}
-
-fn refuse_texts_of_steps<R: Abort + AllocGlobal>(rt: &R, rows: &[TextsRow]) {
-    for (name, texts) in rows {
-        for (text, refusal) in *texts {
-            let parsed = steps_refusal(rt.alloc(), text);
-            same(rt, &(*text, parsed), &(*text, *refusal), name);
-        }
-    }
-}
-
-#[test]
-fn each_text_is_a_script_of_steps_or_refused(rt: HostRuntime) {
-    refuse_texts_of_steps(&rt, step_texts::ROWS);
-}
-
-/// The text of a pool's statement, which ends the pool.
-fn statement_of(alloc: Global, pool: SitePool) -> Result<String, Fail> {
-    let statement = settled(alloc, pool)?;
-    text_of(alloc, &statement)
-}
-
-/// A worker's act has this reply.
-fn assert_reply<R: Abort>(
-    rt: &R,
-    pool: &mut SitePool,
-    worker: u32,
-    act: Act,
-    wanted: &Reply,
-    name: &str,
-) {
-    let given = pool.perform(worker, act);
-    same(rt, &(worker, act, &given), &(worker, act, wanted), name);
-}
-
-/// A worker makes this many packets at once.
-fn assert_bulk<R: Abort>(rt: &R, pool: &mut SitePool, worker: u32, count: usize, name: &str) {
-    let made = match pool.perform(worker, Act::AllocBulk(count)) {
-        Reply::Bulk(packets) => Some(packets.len()),
-        _ => None,
-    };
-    same(rt, &made, &Some(count), name);
-}
-
-/// Each of these workers is refused so for each of these acts.
-fn assert_refused<R: Abort>(
-    rt: &R,
-    pool: &mut SitePool,
-    workers: &[u32],
-    acts: &[Act],
-    wanted: &Reply,
-    name: &str,
-) {
-    for worker in workers {
-        for act in acts {
-            assert_reply(rt, pool, *worker, *act, wanted, name);
-        }
-    }
-}
-
-/// Does what a step says, but for a statement.
-fn follow_step<R: Abort>(rt: &R, pool: &mut SitePool, step: &Step, name: &str) {
-    match step {
-        Step::Act(worker, act, told) => {
-            assert_reply(rt, pool, *worker, *act, &reply(*told), name);
-        }
-        Step::Bulk(worker, count) => assert_bulk(rt, pool, *worker, *count, name),
-        Step::Refused(workers, acts, refusal) => {
-            assert_refused(rt, pool, workers, acts, &Reply::Refused(*refusal), name);
-        }
-        Step::Statement(_) => {}
-    }
-}
-
-/// Does what the steps of a row say, but for its statements.
-fn follow<R: Abort>(rt: &R, pool: &mut SitePool, steps: &[Step], name: &str) {
-    for step in steps {
-        follow_step(rt, pool, step, name);
-    }
-}
-
-/// Does these steps on a new pool.
-fn followed<R: Abort>(
-    rt: &R,
-    alloc: Global,
-    limits: &Limits,
-    steps: &[Step],
-    name: &str,
-) -> Result<SitePool, Refusal> {
-    let mut pool = SitePool::make(alloc, limits)?;
-    follow(rt, &mut pool, steps, name);
-    Ok(pool)
-}
-
-/// The statement of a new pool after these steps has this text.
-fn assert_statement_after<R: Abort + AllocGlobal>(
-    rt: &R,
-    limits: &Limits,
-    steps: &[Step],
-    text: &str,
-    name: &str,
-) -> Result<(), Fail> {
-    let pool = followed(rt, rt.alloc(), limits, steps, name)?;
-    let printed = statement_of(rt.alloc(), pool)?;
-    same(rt, &printed.as_str(), &text, name);
-    Ok(())
-}
-
-/// A statement ends its pool, so for each one of a row its steps so far are done on a new pool.
-fn print_statements_after<R: Abort + AllocGlobal>(
-    rt: &R,
-    limits: &Limits,
-    steps: &[Step],
-    name: &str,
-) -> Result<(), Fail> {
-    for (at, step) in steps.iter().enumerate() {
-        if let Step::Statement(text) = step {
-            assert_statement_after(rt, limits, &steps[..at], text, name)?;
-        }
-    }
-    Ok(())
-}
-
-/// Each row's steps are all done on one pool, and then up to each of its statements.
-fn perform_steps<R: Abort + AllocGlobal>(rt: &R, rows: &[PoolRow]) -> Result<(), Fail> {
-    for (name, limits, steps) in rows {
-        followed(rt, rt.alloc(), limits, steps, name)?.lose();
-        print_statements_after(rt, limits, steps, name)?;
-    }
-    Ok(())
-}
-
-#[test]
-fn each_site_pool_replies_as_its_steps_say(rt: HostRuntime) -> Result<(), Fail> {
-    perform_steps(&rt, acts::ROWS)
-}
-
-/// Why no pool is made within these limits, if none is.
-fn make_refusal(alloc: Global, limits: &Limits) -> Option<Refusal> {
-    match SitePool::make(alloc, limits) {
-        Ok(pool) => {
-            pool.lose();
-            None
-        }
-        Err(refusal) => Some(refusal),
-    }
-}
-
-fn make_no_pools<R: Abort + AllocGlobal>(rt: &R, rows: &[UnmadeRow]) {
-    for (name, limits, refusal) in rows {
-        same(rt, &make_refusal(rt.alloc(), limits), &Some(*refusal), name);
-    }
-}
-
-#[test]
-fn no_site_pool_is_made_out_of_range(rt: HostRuntime) {
-    make_no_pools(&rt, acts::UNMADE);
 }
 
 /// Each line is put after those before it.
