@@ -6,9 +6,9 @@ ghost use Rattle.commons.specs.Bag.{bag, one};
 ghost use Rattle.commons.specs.Bounds.{max_population};
 ghost use Rattle.commons.specs.Packets.{hold_of, own_of_packet, max_segs};
 ghost use Rattle.mempool.specs.WorkerCache.{KeepsNumber};
-ghost use Rattle.mbuf.specs.PacketRules.{EndsHolds, freed_nothing};
+ghost use Rattle.mbuf.specs.PacketRules.{freed_nothing};
 ghost use Rattle.mbuf.specs.Foreign.{BothCalls, EndsForeign, EndsForeignSeg, bases_of_packet};
-ghost use Rattle.commons.specs.Calls.{Calls};
+ghost use Rattle.mbuf.specs.inside.Ending.{EndedHolds};
 
 use super::{NOTHING_FREED, end_hold};
 use crate::freed::Freed;
@@ -25,16 +25,8 @@ pub fn end_if<C: Commons>(worker: &mut Worker, c: &mut C, elem: Option<u32>, fre
     requires held { (i : ℕ) → bag (hold_of elem) i ≤ (C.side c.old).holds i }
     requires back { freed.back < 2 * max_segs }
     requires flushed { freed.flushed ≤ max_population * freed.back }
-    ensures calls { Calls C.did C.side c.old c.new (λ calls.
-        EndsHolds worker.old.limits (hold_of elem) worker.old.cache freed calls worker.new.cache result) }
-    ensures hand { (i : ℕ) → (C.side c.new).hand i ≡ bag worker.new.cache i }
-    ensures holds { (i : ℕ) → (C.side c.old).holds i ≡ (C.side c.new).holds i + bag (hold_of elem) i }
-    ensures headers { (i : ℕ) → 0 < (C.side c.new).holds i →
-        (C.side c.new).headers i ≡ (C.side c.old).headers i }
-    ensures limits { (C.side c.new).limits ≡ (C.side c.old).limits }
-    ensures number { KeepsNumber worker.old worker.new }
-    ensures back { result.back ≤ freed.back + 1 }
-    ensures flushed { result.flushed ≤ max_population * result.back }
+    ensures { EndedHolds C.did C.side (hold_of elem) worker.old c.old freed (freed.back + 1)
+        result worker.new c.new }
 {
     match elem {
         None => freed,

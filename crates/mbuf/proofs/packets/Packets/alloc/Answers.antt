@@ -118,7 +118,7 @@ returns-in-Ok-clause-guests g c = λ guests owned.
     (λ i. omega (arith, effect.holds i, bag-single e i))
     (λ i. omega (arith, effect.headers i, bag-single e i)))
 
--- And so they do with none.
+-- An alloc leaves the packets the worker's own where it holds nothing beside them, too.
 pub returns-in-Ok-clause-own : goal.returns-in-Ok-clause-own
 returns-in-Ok-clause-own g c = returns-in-Ok-clause-guests g c no_guests
 

@@ -156,7 +156,7 @@ returns-in-Ok-clause-guests g c = λ guests owned.
     ))
     got.hand got.holds got.headers stand.hand stand.holds stand.headers)
 
--- And so they do with none.
+-- A bulk leaves the packets the worker's own where it holds nothing beside them, too.
 pub returns-in-Ok-clause-own : goal.returns-in-Ok-clause-own
 returns-in-Ok-clause-own g c = returns-in-Ok-clause-guests g c no_guests
 

@@ -97,6 +97,6 @@ returns-clause-guests g c = λ guests owned.
     own done.ok.limits are did.2.1
     done.ok.hand done.ok.holds done.ok.headers)
 
--- And so they do with none.
+-- An attach leaves the packets the worker's own where it holds nothing beside them, too.
 pub returns-clause-own : goal.returns-clause-own
 returns-clause-own g c = returns-clause-guests g c no_guests

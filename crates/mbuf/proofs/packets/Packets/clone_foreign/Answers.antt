@@ -223,7 +223,7 @@ returns-in-Err-clause-first_refused g c =
     let first = recached c.first.inside c.clone_segs.new.first did.first_number in
     rw (sym c.first.view_is) (record { packets = first; holds = did.first_holds_err; headers = did.first_headers })
 
--- And all but the cache and the hand of the second.
+-- All but the cache and the hand of the second pool is as before.
 pub returns-in-Err-clause-second_refused : goal.returns-in-Err-clause-second_refused
 returns-in-Err-clause-second_refused g c =
     let p = c.self.inside in

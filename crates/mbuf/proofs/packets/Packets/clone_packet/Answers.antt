@@ -112,7 +112,7 @@ returns-in-Ok-clause-guests g c = λ guests owned.
     (own_cloned guests (member_of p) (side c.args.c.now) (side done.c) done.worker.cache slot new own
     did.limits low.free did.hand did.holds did.headers)
 
--- And so they do with none.
+-- A clone leaves the packets the worker's own where it holds nothing beside them, too.
 pub returns-in-Ok-clause-own : goal.returns-in-Ok-clause-own
 returns-in-Ok-clause-own g c = returns-in-Ok-clause-guests g c no_guests
 
@@ -196,6 +196,6 @@ returns-in-Err-clause-guests g c = λ guests owned.
     (own_given_up guests (member_of p) (side c.args.c.now) (side done.c) done.worker.cache own did.limits
     did.hand did.holds_err did.headers_err)
 
--- And so they do with none.
+-- A refused clone leaves the packets the worker's own where it holds nothing beside them, too.
 pub returns-in-Err-clause-own : goal.returns-in-Err-clause-own
 returns-in-Err-clause-own g c = returns-in-Err-clause-guests g c no_guests

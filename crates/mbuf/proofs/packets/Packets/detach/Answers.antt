@@ -85,6 +85,6 @@ returns-clause-guests g c = λ guests owned.
     ∙ cond-true (nat_lt 0 ((side last).holds i)) ((side first).headers i) 0
     (lt-ltb 0 ((side last).holds i) some)))
 
--- And so they do with none.
+-- A detach leaves the packets the worker's own where it holds nothing beside them, too.
 pub returns-clause-own : goal.returns-clause-own
 returns-clause-own g c = returns-clause-guests g c no_guests

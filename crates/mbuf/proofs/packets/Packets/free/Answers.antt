@@ -77,6 +77,6 @@ returns-clause-guests g c = λ guests owned.
     (own_free guests (member_of p) (side c.args.c.now) (side after) w.cache slot segs own done.limits
     (omega (arith, stood.within, long)) stood.there done.hand done.holds done.headers)
 
--- And so they do with none.
+-- A free leaves the packets the worker's own where it holds nothing beside them, too.
 pub returns-clause-own : goal.returns-clause-own
 returns-clause-own g c = returns-clause-guests g c no_guests

@@ -23,7 +23,7 @@ end_segs-freed-requires-clause-first_held g c = λ i.
     bases_in_slot_held (member_of c.first.inside) (g.C.Commons.side c.args.c.now) (member_of p).table slot segs i
     own.first stood.there
 
--- Its own elements are held in the second.
+-- The own elements of the clone are held in the second pool.
 pub end_segs-freed-requires-clause-second_held : goal.end_segs-freed-requires-clause-second_held
 end_segs-freed-requires-clause-second_held g c = λ i.
     let p = c.self.inside in

@@ -101,7 +101,7 @@ returns-in-Ok-clause-guests g c = λ guests owned.
     (own_offered guests (member_of p) (side c.args.c.now) (side last) slot segs own
     (omega (arith, stood.within, long)) stood.there did.did.step.effect)
 
--- And so they do with none.
+-- An offer leaves the packets the worker's own where it holds nothing beside them, too.
 pub returns-in-Ok-clause-own : goal.returns-in-Ok-clause-own
 returns-in-Ok-clause-own g c = returns-in-Ok-clause-guests g c no_guests
 
@@ -156,6 +156,6 @@ returns-in-Err-clause-guests g c = λ guests owned.
     subst (λ (m : Member). OwnWith guests m (side c.offer.new.self)) (sym is)
     (subst (λ (s : Side). OwnWith guests (member_of p) s) (sym c.in-Err.ensures.did.step.effect) own)
 
--- And so they do with none.
+-- A refused offer leaves the packets the worker's own where it holds nothing beside them, too.
 pub returns-in-Err-clause-own : goal.returns-in-Err-clause-own
 returns-in-Err-clause-own g c = returns-in-Err-clause-guests g c no_guests

@@ -78,7 +78,7 @@ returns-in-Ok-clause-guests g c = λ guests owned.
     (own_taken guests (member_of p) (side first) (side last) slot segs own did.did.step.effect.limits
     empty.0 empty.1 did.did.step.effect.hand did.did.step.effect.holds did.did.step.effect.headers)
 
--- And so they do with none.
+-- A take leaves the packets the worker's own where it holds nothing beside them, too.
 pub returns-in-Ok-clause-own : goal.returns-in-Ok-clause-own
 returns-in-Ok-clause-own g c = returns-in-Ok-clause-guests g c no_guests
 

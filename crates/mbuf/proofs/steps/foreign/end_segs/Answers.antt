@@ -42,7 +42,7 @@ end_seg-freed-requires-clause-first_held g c = λ i.
       bases_so_far segs (k + 1) i,
     )
 
--- And so is its own element in the second pool.
+-- The next segment's own element is among those whose holds haven't ended yet in the second pool.
 pub end_seg-freed-requires-clause-second_held : goal.end_seg-freed-requires-clause-second_held
 end_seg-freed-requires-clause-second_held g c =
     let k = c.loop-seg.seg-index in
