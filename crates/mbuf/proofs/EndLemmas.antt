@@ -1,5 +1,5 @@
 -- Holds that end one after another.
-use Rattle.std.proofs.Common.{◌≡◌, ◌≤◌, ◌*◌, ℕ, List, [], ◌∷◌, ◌++◌, refl, sym, ap, ◌∙◌, subst, append_assoc, nat_lt, arith}
+use Rattle.std.proofs.Common.{◌≡◌, ◌≤◌, ◌+◌, ◌*◌, ℕ, List, [], ◌∷◌, ◌++◌, refl, sym, ap, ◌∙◌, subst, append_assoc, nat_lt, arith}
 use Rattle.std.proofs.lemmas.Bool.{cond-true, lt-ltb}
 use Rattle.std.proofs.lemmas.List.{append-nil}
 use Rattle.commons.specs.Bag.{bag}
@@ -11,7 +11,7 @@ use Rattle.commons.proofs.Leading.{calls_of-append, Leads-append}
 use Rattle.mempool.specs.WorkerCache.{WorkerCache}
 use Rattle.mbuf.specs.PacketRules.{EndsHold, EndsHolds}
 use Rattle.mbuf.specs.declared.freed.Freed.{Freed}
-use Rattle.mbuf.specs.inside.Ending.{EndedHold, EndedHolds}
+use Rattle.mbuf.specs.inside.Ending.{EndedHold, EndedHolds, LostHolds}
 
 -- one hold that ends, as a list of one
 pub EndsHolds-one : (l : Limits) (e : ℕ) (cache : List ℕ) (freed : Freed) (calls : List Call)
@@ -46,7 +46,33 @@ Ended did side s t l es cache freed left done = Calls did side s t (λ calls. En
 
 -- ---- what has ended, and what stands then
 
--- nothing has ended yet
+-- no hold has ended
+pub none_lost : (old : WorkerCache) (before : Side) → ((i : ℕ) → before.hand i ≡ bag old.cache i) →
+    LostHolds [] old before old before
+none_lost old before hand = record {
+  hand = hand;
+  holds = λ i. omega (arith, bag-nil i);
+  headers = λ i some. refl;
+  limits = refl;
+  number = record { limits = refl; number = refl };
+}
+
+-- Holds that ended, and others after them, ended together.
+pub both_lost : {es fs : List ℕ} {old mid new : WorkerCache} {s t u : Side} (all : List ℕ) →
+    ((i : ℕ) → bag all i ≡ bag es i + bag fs i) →
+    LostHolds es old s mid t → LostHolds fs mid t new u → LostHolds all old s new u
+both_lost all parts h k = record {
+  hand = k.hand;
+  holds = λ i. omega (arith, h.holds i, k.holds i, parts i);
+  headers = λ i some. k.headers i some ∙ h.headers i (omega (arith, some, k.holds i));
+  limits = k.limits ∙ h.limits;
+  number = record {
+    limits = k.number.limits ∙ h.number.limits;
+    number = k.number.number ∙ h.number.number;
+  };
+}
+
+-- nothing was asked, and no hold has ended
 pub none_ended : {S : Type 0} (did : S → Call → List Reading → S → Type 0) (side : S → Side)
     (old : WorkerCache) (before : S) (so_far : Freed) (most : ℕ) →
     ((i : ℕ) → (side before).hand i ≡ bag old.cache i) → so_far.back ≤ most →
@@ -54,11 +80,7 @@ pub none_ended : {S : Type 0} (did : S → Call → List Reading → S → Type 
     EndedHolds did side [] old before so_far most so_far old before
 none_ended did side old before so_far most hand back flushed = record {
   calls = ([], refl, (refl, refl, refl));
-  hand = hand;
-  holds = λ i. omega (arith, bag-nil i);
-  headers = λ i some. refl;
-  limits = refl;
-  number = record { limits = refl; number = refl };
+  lost = none_lost old (side before) hand;
   back = back;
   flushed = flushed;
 }
@@ -75,19 +97,21 @@ one_ended {S} {did} {side} {e} {old} {before} {so_far} {most} {done} {new} {afte
     one.calls.1,
     EndsHolds-one old.limits e old.cache so_far (calls_of one.calls.0) new.cache done one.calls.2,
   );
-  hand = one.hand;
-  holds = λ i. omega (arith, one.holds i, bag-single e i);
-  headers =
-      λ i some. one.headers i
-      ∙ cond-true (nat_lt 0 ((side after).holds i)) ((side before).headers i) 0
-      (lt-ltb 0 ((side after).holds i) some);
-  limits = one.limits;
-  number = one.number;
+  lost = record {
+    hand = one.hand;
+    holds = λ i. omega (arith, one.holds i, bag-single e i);
+    headers =
+        λ i some. one.headers i
+        ∙ cond-true (nat_lt 0 ((side after).holds i)) ((side before).headers i) 0
+        (lt-ltb 0 ((side after).holds i) some);
+    limits = one.limits;
+    number = one.number;
+  };
   back = one.back;
   flushed = one.flushed;
 }
 
--- Holds that ended, and then others, ended in turn.
+-- Holds that ended by some calls, and others by later ones, ended by all of these in turn.
 pub both_ended : {S : Type 0} {did : S → Call → List Reading → S → Type 0} {side : S → Side}
     {es fs : List ℕ} {old mid new : WorkerCache} {s t u : S} {so_far between done : Freed} {m n : ℕ} →
     EndedHolds did side es old s so_far m between mid t →
@@ -102,16 +126,9 @@ both_ended {S} {did} {side} {es} {fs} {old} {mid} {new} {s} {t} {u} {so_far} {be
         (EndsHolds-append old.limits es fs old.cache so_far (calls_of h.calls.0) mid.cache between
         (calls_of k.calls.0) new.cache done h.calls.2
         (subst (λ (l : Limits). EndsHolds l fs mid.cache between (calls_of k.calls.0) new.cache done)
-        h.number.limits k.calls.2)),
+        h.lost.number.limits k.calls.2)),
   );
-  hand = k.hand;
-  holds = λ i. omega (arith, h.holds i, k.holds i, bag-append es fs i);
-  headers = λ i some. k.headers i some ∙ h.headers i (omega (arith, some, k.holds i));
-  limits = k.limits ∙ h.limits;
-  number = record {
-    limits = k.number.limits ∙ h.number.limits;
-    number = k.number.number ∙ h.number.number;
-  };
+  lost = both_lost (es ++ fs) (bag-append es fs) h.lost k.lost;
   back = k.back;
   flushed = k.flushed;
 }
@@ -121,13 +138,4 @@ pub ended_within : {S : Type 0} {did : S → Call → List Reading → S → Typ
     {es : List ℕ} {old new : WorkerCache} {s t : S} {so_far done : Freed} {m : ℕ} (n : ℕ) →
     done.back ≤ n → EndedHolds did side es old s so_far m done new t →
     EndedHolds did side es old s so_far n done new t
-ended_within n within h = record {
-  calls = h.calls;
-  hand = h.hand;
-  holds = h.holds;
-  headers = h.headers;
-  limits = h.limits;
-  number = h.number;
-  back = within;
-  flushed = h.flushed;
-}
+ended_within n within h = record { calls = h.calls; lost = h.lost; back = within; flushed = h.flushed }

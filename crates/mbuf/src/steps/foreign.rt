@@ -1,14 +1,14 @@
 //! Foreign clones that are freed, a segment at a time: their bases are of one pool, and their own
 //! elements of another.
 
-ghost use Rattle.std.specs.Prelude.{◌≡◌, ◌<◌, ◌≤◌, ◌+◌, ◌*◌, ℕ, length};
+ghost use Rattle.std.specs.Prelude.{◌≡◌, ◌<◌, ◌≤◌, ◌+◌, ◌*◌, [], ◌∷◌, ℕ, length};
 ghost use Rattle.commons.specs.Bag.{bag, one};
 ghost use Rattle.commons.specs.Bounds.{max_population};
 ghost use Rattle.commons.specs.Packets.{hold_of, own_of_packet, max_segs};
 ghost use Rattle.mempool.specs.WorkerCache.{KeepsNumber};
 ghost use Rattle.mbuf.specs.PacketRules.{freed_nothing};
 ghost use Rattle.mbuf.specs.Foreign.{BothCalls, EndsForeign, EndsForeignSeg, bases_of_packet};
-ghost use Rattle.mbuf.specs.inside.Ending.{EndedHolds};
+ghost use Rattle.mbuf.specs.inside.Ending.{EndedHolds, LostHolds};
 
 use super::{NOTHING_FREED, end_hold};
 use crate::freed::Freed;
@@ -56,19 +56,8 @@ fn end_seg<C: Commons, D: Commons>(
     ensures calls { BothCalls C.did C.side c.old c.new D.did D.side d.old d.new (λ firsts seconds.
         EndsForeignSeg first.old.limits second.old.limits seg first.old.cache second.old.cache
         freed firsts seconds first.new.cache second.new.cache result) }
-    ensures first_hand { (i : ℕ) → (C.side c.new).hand i ≡ bag first.new.cache i }
-    ensures first_holds { (i : ℕ) → (C.side c.old).holds i
-        ≡ (C.side c.new).holds i + bag (hold_of seg.base) i }
-    ensures first_headers { (i : ℕ) → 0 < (C.side c.new).holds i →
-        (C.side c.new).headers i ≡ (C.side c.old).headers i }
-    ensures first_limits { (C.side c.new).limits ≡ (C.side c.old).limits }
-    ensures first_number { KeepsNumber first.old first.new }
-    ensures second_hand { (i : ℕ) → (D.side d.new).hand i ≡ bag second.new.cache i }
-    ensures second_holds { (i : ℕ) → (D.side d.old).holds i ≡ (D.side d.new).holds i + one seg.elem i }
-    ensures second_headers { (i : ℕ) → 0 < (D.side d.new).holds i →
-        (D.side d.new).headers i ≡ (D.side d.old).headers i }
-    ensures second_limits { (D.side d.new).limits ≡ (D.side d.old).limits }
-    ensures second_number { KeepsNumber second.old second.new }
+    ensures first { LostHolds (hold_of seg.base) first.old (C.side c.old) first.new (C.side c.new) }
+    ensures second { LostHolds (seg.elem ∷ []) second.old (D.side d.old) second.new (D.side d.new) }
     ensures back { result.back ≤ freed.back + 2 }
     ensures flushed { result.flushed ≤ max_population * result.back }
 {
@@ -94,20 +83,8 @@ pub fn end_segs<C: Commons, D: Commons>(
     ensures calls { BothCalls C.did C.side c.old c.new D.did D.side d.old d.new (λ firsts seconds.
         EndsForeign first.old.limits second.old.limits segs.now first.old.cache second.old.cache
         freed_nothing firsts seconds first.new.cache second.new.cache result) }
-    ensures first_hand { (i : ℕ) → (C.side c.new).hand i ≡ bag first.new.cache i }
-    ensures first_holds { (i : ℕ) → (C.side c.old).holds i
-        ≡ (C.side c.new).holds i + bag (bases_of_packet segs.now) i }
-    ensures first_headers { (i : ℕ) → 0 < (C.side c.new).holds i →
-        (C.side c.new).headers i ≡ (C.side c.old).headers i }
-    ensures first_limits { (C.side c.new).limits ≡ (C.side c.old).limits }
-    ensures first_number { KeepsNumber first.old first.new }
-    ensures second_hand { (i : ℕ) → (D.side d.new).hand i ≡ bag second.new.cache i }
-    ensures second_holds { (i : ℕ) → (D.side d.old).holds i
-        ≡ (D.side d.new).holds i + bag (own_of_packet segs.now) i }
-    ensures second_headers { (i : ℕ) → 0 < (D.side d.new).holds i →
-        (D.side d.new).headers i ≡ (D.side d.old).headers i }
-    ensures second_limits { (D.side d.new).limits ≡ (D.side d.old).limits }
-    ensures second_number { KeepsNumber second.old second.new }
+    ensures first { LostHolds (bases_of_packet segs.now) first.old (C.side c.old) first.new (C.side c.new) }
+    ensures second { LostHolds (own_of_packet segs.now) second.old (D.side d.old) second.new (D.side d.new) }
     ensures back { result.back ≤ 2 * length segs.now }
     ensures flushed { result.flushed ≤ max_population * result.back }
 {

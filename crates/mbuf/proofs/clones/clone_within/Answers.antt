@@ -109,7 +109,7 @@ returns-in-Err g c =
     rw (stands_clone _ _ _ _ _ c.requires.slot inv.packets c.segs-in-Err.ensures.segs) at c.give_up.ensures in
     let elems = map (λ (s : Seg). s.elem) clones in
     let holds : (i : ℕ) → (side end.c).holds i ≡ (side c.args.c.now).holds i =
-    λ i. omega (arith, ends.holds i, stop.holds i, inv.holds i, bag-append (holds_of_packet clones) (hold_of over) i) in
+    λ i. omega (arith, ends.lost.holds i, stop.holds i, inv.holds i, bag-append (holds_of_packet clones) (hold_of over) i) in
     record {
       calls =
           given_up did side c.args.c.now c.loop-index.c stopped.c end.c worker.limits source k no_seg
@@ -122,7 +122,7 @@ returns-in-Err g c =
           stopped.worker.cache freed_nothing end.worker.cache c.give_up.result)
           (stop.number.limits ∙ inv.number.limits) ends.calls);
       packets = inv.packets;
-      hand = ends.hand;
+      hand = ends.lost.hand;
       holds = tt;
       headers = tt;
       unheld = tt;
@@ -135,11 +135,11 @@ returns-in-Err g c =
           new_only (bag elems i) (bag (hold_of over) i) ((side c.args.c.now).holds i)
           ((side c.loop-index.c).holds i) (inv.unheld i) (stop.unheld i)
           (omega (arith, inv.holds i)) some)
-          (ends.headers i) (g.met.C.Commons.header_held end.c i) (g.met.C.Commons.header_held c.args.c.now i);
-      limits = ends.limits ∙ stop.limits ∙ inv.limits;
+          (ends.lost.headers i) (g.met.C.Commons.header_held end.c i) (g.met.C.Commons.header_held c.args.c.now i);
+      limits = ends.lost.limits ∙ stop.limits ∙ inv.limits;
       number = record {
-        limits = ends.number.limits ∙ stop.number.limits ∙ inv.number.limits;
-        number = ends.number.number ∙ stop.number.number ∙ inv.number.number;
+        limits = ends.lost.number.limits ∙ stop.number.limits ∙ inv.number.limits;
+        number = ends.lost.number.number ∙ stop.number.number ∙ inv.number.number;
       };
     }
 

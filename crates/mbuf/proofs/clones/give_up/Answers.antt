@@ -24,7 +24,7 @@ end_hold-requires-clause-held g c =
       arith,
       both,
       bag-append (holds_of_packet c.args.segs.now) (e ∷ []) e,
-      c.end_segs-freed.ensures.holds e,
+      c.end_segs-freed.ensures.lost.holds e,
       bag-single e e,
       one-same e,
     )

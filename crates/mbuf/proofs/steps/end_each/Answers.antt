@@ -20,7 +20,7 @@ end_seg-freed-requires-clause-held g c = λ i.
     omega (
       arith,
       c.requires.held i,
-      c.loop-seg.invariant.holds i,
+      c.loop-seg.invariant.lost.holds i,
       bag-holds_suc segs k i no_seg c.loop-seg-test.true,
       holds_so_far segs (k + 1) i,
     )

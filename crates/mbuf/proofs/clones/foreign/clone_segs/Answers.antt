@@ -155,7 +155,7 @@ returns-in-Err-clause-calls g c =
 -- What is given up leaves the worker of the first pool the same one.
 pub returns-in-Err-clause-first_number : goal.returns-in-Err-clause-first_number
 returns-in-Err-clause-first_number g c =
-    let number = c.give_up.ensures.first_number in
+    let number = c.give_up.ensures.first.number in
     let same = c.loop-index.invariant.first in record {
       limits = number.limits ∙ ap (λ (w : WorkerCache). w.limits) same;
       number = number.number ∙ ap (λ (w : WorkerCache). w.number) same;

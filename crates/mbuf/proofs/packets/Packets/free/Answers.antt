@@ -47,7 +47,7 @@ returns-clause-calls g c =
     let done = c.end_segs-freed.ensures in
     let is =
     emptied p w c.give.new.self p.packets.items slot (get_or p.packets.items slot [])
-    c.self.invariant done.number c.give.ensures (sym (set-get_or p.packets.items slot [])) in
+    c.self.invariant done.lost.number c.give.ensures (sym (set-get_or p.packets.items slot [])) in
     rw (sym c.self.view_is, sym at.0) (
       done.calls.0,
       done.calls.1,
@@ -69,13 +69,13 @@ returns-clause-guests g c = λ guests owned.
     let done = c.end_segs-freed.ensures in
     let is =
     emptied p w c.give.new.self p.packets.items slot (get_or p.packets.items slot [])
-    c.self.invariant done.number c.give.ensures (sym (set-get_or p.packets.items slot [])) in
+    c.self.invariant done.lost.number c.give.ensures (sym (set-get_or p.packets.items slot [])) in
     let side = g.C.Commons.side in
     let after = c.end_segs-freed.new.c in
     let long = length-shown p.free p.packets.items (alike p c.self.invariant) in
     subst (λ (m : Member). OwnWith guests m (side after)) (sym is)
-    (own_free guests (member_of p) (side c.args.c.now) (side after) w.cache slot segs own done.limits
-    (omega (arith, stood.within, long)) stood.there done.hand done.holds done.headers)
+    (own_free guests (member_of p) (side c.args.c.now) (side after) w.cache slot segs own done.lost.limits
+    (omega (arith, stood.within, long)) stood.there done.lost.hand done.lost.holds done.lost.headers)
 
 -- A free leaves the packets the worker's own where it holds nothing beside them, too.
 pub returns-clause-own : goal.returns-clause-own

@@ -59,8 +59,8 @@ returns-clause-calls g c =
     c.index.ensures in
     let second =
     emptied p done.new.second c.give.new.self p.packets.items slot (get_or p.packets.items slot [])
-    c.self.invariant done.ensures.second_number c.give.ensures (sym (set-get_or p.packets.items slot [])) in
-    let first = recached c.first.inside done.new.first done.ensures.first_number in
+    c.self.invariant done.ensures.second.number c.give.ensures (sym (set-get_or p.packets.items slot [])) in
+    let first = recached c.first.inside done.new.first done.ensures.first.number in
     let calls = done.ensures.calls in
     rw (sym c.self.view_is, sym c.first.view_is, sym at.0) (
       calls.0,
@@ -92,8 +92,8 @@ returns-clause-own g c =
     let within : slot < length (member_of p).table = omega (arith, stood.within, long) in
     let second =
     emptied p done.new.second c.give.new.self p.packets.items slot (get_or p.packets.items slot [])
-    c.self.invariant did.second_number c.give.ensures (sym (set-get_or p.packets.items slot [])) in
-    let first = recached q done.new.first did.first_number in
+    c.self.invariant did.second.number c.give.ensures (sym (set-get_or p.packets.items slot [])) in
+    let first = recached q done.new.first did.first.number in
     let table = set (member_of p).table slot None in
     let guests : (i : ℕ) → bases_in table i + bag (bases_in_slot (Some segs)) i ≡ bases_in (member_of p).table i =
     λ i. let u = rw stood.there at (bases_in-set (member_of p).table slot None i within) in
@@ -101,10 +101,10 @@ returns-clause-own g c =
     own_twin_at _ _ _ _ _ _ first second (record {
       first =
           own_guests (bases_in (member_of p).table) (bases_in table) (member_of q) (g.C.Commons.side c.args.c.now)
-          (g.C.Commons.side done.new.c) done.new.first.cache own.first did.first_limits did.first_hand
-          (λ i. omega (arith, did.first_holds i, guests i)) did.first_headers;
+          (g.C.Commons.side done.new.c) done.new.first.cache own.first did.first.limits did.first.hand
+          (λ i. omega (arith, did.first.holds i, guests i)) did.first.headers;
       second =
           own_freed (member_of p) (g.D.Commons.side c.args.d.now) (g.D.Commons.side done.new.d) done.new.second.cache
-          slot segs own.second did.second_limits within stood.there did.second_hand did.second_holds
-          did.second_headers;
+          slot segs own.second did.second.limits within stood.there did.second.hand did.second.holds
+          did.second.headers;
     })
