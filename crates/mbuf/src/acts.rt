@@ -1,8 +1,8 @@
 //! What a worker is asked to do with its packets and its cache, and what is replied.
 
-ghost use Rattle.std.specs.Prelude.{◌≡◌, ◌≤◌, [], All, List, IsSome, None, length, map, slice_index_or};
+ghost use Rattle.std.specs.Prelude.{◌≡◌, ◌≤◌, [], All, IsSome, None, length, map, slice_index_or};
 ghost use Rattle.commons.specs.Calls.{Calls};
-ghost use Rattle.mbuf.specs.Acts.{HasRoom, Performs, as_reply, chained, first_elem, new_packet, told_len as len_reply, told_taken as taken_reply};
+ghost use Rattle.mbuf.specs.Acts.{HasRoom, Performs, as_reply, first_elem, new_packet, told_len as len_reply, told_taken as taken_reply};
 ghost use Rattle.commons.specs.Packets.{own_in_slot};
 ghost use Rattle.mbuf.specs.Fresh.{AreFresh, new_elements};
 ghost use Rattle.mbuf.specs.Members.{KeepsMember, slots as slot_count};

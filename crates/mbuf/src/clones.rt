@@ -1,9 +1,9 @@
 //! Segments that use another's buffer: attached, and cloned one after another.
 
-ghost use Rattle.std.specs.Prelude.{◌≡◌, ◌≢◌, ◌<◌, ◌≤◌, ◌+◌, ◌*◌, ◌⊎◌, [], ◌∷◌, ◌++◌, ℕ, List, length, map, take, Ok, Err, OnOk, OnErr, IfOk, MatchResult, slice_index_or, slice_set, vec_len};
-ghost use Rattle.commons.specs.Bag.{bag, one};
+ghost use Rattle.std.specs.Prelude.{◌≡◌, ◌≢◌, ◌<◌, ◌≤◌, ◌+◌, ◌*◌, [], ◌∷◌, ◌++◌, ℕ, length, take, Ok, Err, OnOk, OnErr, IfOk, slice_index_or, vec_len};
+ghost use Rattle.commons.specs.Bag.{bag};
 ghost use Rattle.commons.specs.Calls.{Calls, IsRaise};
-ghost use Rattle.commons.specs.Packets.{HasItsData, IsPacket, hold_of, holds_of_packet, holds_of_seg, max_segs};
+ghost use Rattle.commons.specs.Packets.{HasItsData, hold_of, holds_of_packet, max_segs};
 ghost use Rattle.mempool.specs.WorkerCache.{KeepsNumber};
 ghost use Rattle.mbuf.specs.PacketRules.{freed_nothing};
 ghost use Rattle.mbuf.specs.Sharing.{attached as attached_seg, buffer_of as buffer};

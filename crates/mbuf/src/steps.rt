@@ -1,7 +1,7 @@
 //! What packets ask of the cache and of the shared pool, an element at a time.
 
-ghost use Rattle.std.specs.Prelude.{◌≡◌, ◌<◌, ◌≤◌, ◌+◌, ◌*◌, ◌∷◌, [], ℕ, length, if◌then◌else◌, min, nat_lt};
-ghost use Rattle.commons.specs.Bag.{bag, one};
+ghost use Rattle.std.specs.Prelude.{◌≡◌, ◌<◌, ◌≤◌, ◌+◌, ◌*◌, ◌∷◌, [], ℕ, length, min};
+ghost use Rattle.commons.specs.Bag.{bag};
 ghost use Rattle.commons.specs.Bounds.{IsPool, max_population};
 ghost use Rattle.commons.specs.Calls.{Calls};
 ghost use Rattle.mempool.specs.Caches.{Puts, put_count};

@@ -1,11 +1,10 @@
 //! Packets of one pool that are cloned into elements of another, a segment at a time.
 
-ghost use Rattle.std.specs.Prelude.{◌≡◌, ◌<◌, ◌≤◌, ◌+◌, ◌++◌, [], ℕ, length, OnOk, OnErr, IfOk};
+ghost use Rattle.std.specs.Prelude.{◌≡◌, ◌<◌, ◌≤◌, ◌+◌, ◌++◌, ℕ, length, OnOk, OnErr, IfOk};
 ghost use Rattle.commons.specs.Bag.{bag};
 ghost use Rattle.commons.specs.Packets.{HasItsData, IsPacket, hold_of, holds_of_packet, own_of_packet, max_segs};
 ghost use Rattle.mempool.specs.WorkerCache.{KeepsNumber};
-ghost use Rattle.mbuf.specs.Foreign.{BothCalls, EndsForeign, bases_of_packet};
-ghost use Rattle.mbuf.specs.PacketRules.{EndsHolds, freed_nothing};
+ghost use Rattle.mbuf.specs.Foreign.{BothCalls, bases_of_packet};
 ghost use Rattle.mbuf.specs.Sharing.{buffer_of as buffer};
 ghost use Rattle.mbuf.specs.inside.Cloning.{new_headers};
 ghost use Rattle.mbuf.specs.inside.Ending.{LostHolds};

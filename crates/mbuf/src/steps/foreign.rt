@@ -2,10 +2,9 @@
 //! elements of another.
 
 ghost use Rattle.std.specs.Prelude.{◌≡◌, ◌<◌, ◌≤◌, ◌+◌, ◌*◌, [], ◌∷◌, ℕ, length};
-ghost use Rattle.commons.specs.Bag.{bag, one};
+ghost use Rattle.commons.specs.Bag.{bag};
 ghost use Rattle.commons.specs.Bounds.{max_population};
 ghost use Rattle.commons.specs.Packets.{hold_of, own_of_packet, max_segs};
-ghost use Rattle.mempool.specs.WorkerCache.{KeepsNumber};
 ghost use Rattle.mbuf.specs.PacketRules.{freed_nothing};
 ghost use Rattle.mbuf.specs.Foreign.{BothCalls, EndsForeign, EndsForeignSeg, bases_of_packet};
 ghost use Rattle.mbuf.specs.inside.Ending.{EndedHolds, LostHolds};

@@ -103,12 +103,12 @@ returns-in-Ok g c =
       c.get_bulk.auto.out,
     ) in
     let stands : (s : List ℕ) → c.stand_all.new.out ≡ s → c.stand_all.new.self
-        ≡ record {
-          limits = before.limits;
-          number = before.number;
-          cache = w.cache;
-          table = stood before.limits es s table;
-        } =
+    ≡ record {
+      limits = before.limits;
+      number = before.number;
+      cache = w.cache;
+      table = stood before.limits es s table;
+    } =
     λ s e. stand.stood
     ∙ ap (λ (out : List ℕ). let m : Member =
     record {

@@ -1,4 +1,4 @@
-use Rattle.std.proofs.Common.{ℕ, ◌*◌, ◌≤◌, take}
+use Rattle.std.proofs.Common.{◌*◌, ◌≤◌, take}
 use Rattle.commons.specs.Bounds.{max_population}
 use Rattle.commons.specs.Packets.{own_of_packet}
 use Rattle.mbuf.specs.Foreign.{BothCalls, EndsForeign, bases_of_packet}
