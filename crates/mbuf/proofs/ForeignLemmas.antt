@@ -41,13 +41,13 @@ held_parts (seg ∷ segs) i = omega (
   bag-single seg.elem i,
 )
 
--- and so of what is in a slot
+-- what is held in a slot are own elements and bases
 held_parts-slot : (slot : Option (List Seg)) (i : ℕ) →
     bag (holds_in_slot slot) i ≡ bag (own_in_slot slot) i + bag (bases_in_slot slot) i
 held_parts-slot None i = omega (arith, bag-nil i)
 held_parts-slot (Some segs) i = held_parts segs i
 
--- and so of a table
+-- what is held in a table are own elements and bases
 pub held_in-parts : (table : List (Option (List Seg))) (i : ℕ) → held_in table i ≡ own_in table i + bases_in table i
 held_in-parts [] i = omega arith
 held_in-parts (slot ∷ table) i = omega (
@@ -87,7 +87,7 @@ bases-more segs seg i =
     ∙ ap (λ (es : List ℕ). bases_of_packet segs ++ es) (append-nil (hold_of seg.base)))
     ∙ bag-append (bases_of_packet segs) (hold_of seg.base) i
 
--- and its own element
+-- one segment more adds its own element
 pub own-more : (segs : List Seg) (seg : Seg) (i : ℕ) →
     bag (own_of_packet (segs ++ seg ∷ [])) i ≡ bag (own_of_packet segs) i + one seg.elem i
 own-more segs seg i =
@@ -307,7 +307,7 @@ own_resized m after s own kept = record {
   headed = λ i. omega (arith, own.headed i, kept.own i);
 }
 
--- and their bases are the same
+-- clones whose lengths change keep their bases
 pub bases_kept : (m after : Member) (i : ℕ) → KeepsHolds m after → bases_in after.table i ≡ bases_in m.table i
 bases_kept m after i kept =
     omega (arith, kept.held i, kept.own i, held_in-parts m.table i, held_in-parts after.table i)
@@ -323,7 +323,7 @@ own_in_slot_held m s slot segs i own there =
       ap (λ (o : Option (List Seg)). bag (own_in_slot o) i) there,
     )
 
--- and its bases in the first, where they are guests
+-- the bases of a clone that stands in a slot are held in the first pool, where they are guests
 pub bases_in_slot_held : (m : Member) (s : Side) (table : List (Option (List Seg))) (slot : ℕ) (segs : List Seg)
     (i : ℕ) → OwnWith (bases_in table) m s → get_or table slot None ≡ Some segs →
     bag (bases_of_packet segs) i ≤ s.holds i

@@ -102,7 +102,7 @@ allocated_elements m after calls slot (Fresh s e f got left g c a k) =
     (free_slot-is m.table s f).0) in
     rw there refl
 
--- those of new packets, each of one
+-- the elements of the new packets of a bulk, each of one
 pub bulk_elements : (m after : Member) (n : ℕ) (calls : List Call) (slots : List ℕ) →
     AllocsBulk m n calls (Ok slots) after →
     own_in_slots after.table slots ≡ map (λ packet. packet.elem) (map (new_packet after.table) slots)
@@ -118,7 +118,7 @@ bulk_elements m after n calls slots (FreshBulk es long room got left g c a k) =
           (omega (arith, within, long, room, length-take n (free_slots m.table), ap (λ (s : List ℕ). length s) same))),
     ))
 
--- and those of a clone
+-- the elements of a clone
 pub slot_elements : (table : List (Option (List Seg))) (slot : ℕ) →
     own_in_slots table (slot ∷ []) ≡ own_in_slot (get_or table slot None)
 slot_elements table slot = append-nil (own_in_slot (get_or table slot None))

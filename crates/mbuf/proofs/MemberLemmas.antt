@@ -40,7 +40,7 @@ other m after cache table len e = record {
   table = ap (λ (x : Member). length x.table) e ∙ len;
 }
 
--- and of the table one slot alone
+-- cache and one slot of the table alone differ
 slot_other : (m after : Member) (cache : List ℕ) (slot : ℕ) (new : Option (List Seg)) →
     after ≡ record m { cache = cache; table = set m.table slot new } → Keeps m after
 slot_other m after cache slot new e = other m after cache (set m.table slot new) (length-set m.table slot new) e

@@ -15,7 +15,7 @@ pub nothing_there : (change : List Seg → Option (List Seg)) (cause : Refusal) 
     Resizes change cause m slot (Err NoSuchPacket) m
 nothing_there change cause m slot f = sym (ap (λ (o : Option (List Seg)). resize_in o change cause slot m) f)
 
--- the packet doesn't have the room or the data
+-- a change of lengths for which the packet doesn't have the room or the data
 pub not_resized_is : (change : List Seg → Option (List Seg)) (cause : Refusal) (m after : Member)
     (slot : ℕ) (answer : Result ℕ Refusal) (segs : List Seg) →
     get_or m.table slot None ≡ Some segs → change segs ≡ None → answer ≡ Err cause → after ≡ m →
@@ -24,7 +24,7 @@ not_resized_is change cause m after slot answer segs f r a k =
     rw (a, k) (sym (ap (λ (o : Option (List Seg)). resize_in o change cause slot m) f
     ∙ ap (λ (o : Option (List Seg)). resize_to o cause slot m) r))
 
--- it has
+-- a change of lengths for which the packet has the room or the data
 pub was_resized_is : (change : List Seg → Option (List Seg)) (cause : Refusal) (m after : Member)
     (slot : ℕ) (answer : Result ℕ Refusal) (segs new : List Seg) →
     get_or m.table slot None ≡ Some segs → change segs ≡ Some new → answer ≡ Ok (pkt_len new) →
@@ -61,17 +61,17 @@ without_tail : (m : Member) (head tail : ℕ) (one : Option (List Seg)) →
 without_tail m head tail None = refl
 without_tail m head tail (Some segs) = refl
 
--- one of them isn't there
+-- a chain where no packet stands in the head's slot
 pub no_head : (m : Member) (head tail : ℕ) → get_or m.table head None ≡ None → Chains m head tail (Err NoSuchPacket) m
 no_head m head tail f = sym (chain_at m head tail None (get_or m.table tail None) f refl)
 
--- where no packet stands in the tail's slot
+-- a chain where no packet stands in the tail's slot
 pub no_tail : (m : Member) (head tail : ℕ) → get_or m.table tail None ≡ None → Chains m head tail (Err NoSuchPacket) m
 no_tail m head tail f =
     sym (chain_at m head tail (get_or m.table head None) None refl f
     ∙ without_tail m head tail (get_or m.table head None))
 
--- they are one
+-- a chain of a packet to itself
 pub same_is : (m : Member) (head tail : ℕ) (segs : List Seg) →
     get_or m.table head None ≡ Some segs → head ≡ tail → Chains m head tail (Err SamePacket) m
 same_is m head tail segs f e =
@@ -80,7 +80,7 @@ same_is m head tail segs f e =
     ∙ cond-true (head == tail) (Err SamePacket, m) (joined_if_short segs segs head tail m)
     (eq-eqb head tail e))
 
--- they have more segments together than a packet has
+-- a chain of more segments together than a packet has
 pub too_long_is : (m : Member) (head tail : ℕ) (first second : List Seg) →
     get_or m.table head None ≡ Some first → get_or m.table tail None ≡ Some second → head ≢ tail →
     max_segs < length first + length second → Chains m head tail (Err TooManySegs) m
@@ -90,7 +90,7 @@ too_long_is m head tail first second f g apart long =
     ∙ cond-true (nat_lt max_segs (length first + length second)) (Err TooManySegs, m)
     (joined first second head tail m) (lt-ltb max_segs (length first + length second) long))
 
--- they have not
+-- a chain of two packets that have no more segments together than one may have
 pub was_chained_is : (m after : Member) (head tail : ℕ) (first second : List Seg) →
     get_or m.table head None ≡ Some first → get_or m.table tail None ≡ Some second → head ≢ tail →
     length first + length second ≤ max_segs →

@@ -1,12 +1,13 @@
 -- A refused act leaves what it finds.
 use Rattle.std.proofs.Common.{◌≡◌, ◌≢◌, ℕ, ◌+◌, ◌==◌, inl, inr, nat_lt, List, ◌++◌, length, get_or, get_or-set_same, get_or-set_other, set, Option, Some, None, Result, Ok, Err, refl, ◌∙◌, subst, sym}
+use Rattle.std.specs.Prelude.{IsSome}
 use Rattle.std.proofs.lemmas.Bool.{cases_Bool, eqb-false}
 use Rattle.commons.specs.Calls.{Call, Side}
 use Rattle.commons.specs.Packets.{max_segs}
 use Rattle.commons.specs.declared.packet.Seg.{Seg}
 use Rattle.commons.specs.declared.refusal.Refusal.{Refusal}
 use Rattle.commons.proofs.PacketBags.{stands_within}
-use Rattle.mbuf.specs.Acts.{told_len, chained}
+use Rattle.mbuf.specs.Acts.{told_len, told_taken, chained}
 use Rattle.mbuf.specs.Members.{Member}
 use Rattle.mbuf.specs.PacketRules.{Chains, Resizes, chain_in, resize_in, resize_to}
 use Rattle.mbuf.specs.Refused.{IfRefused}
@@ -78,10 +79,16 @@ clone_refused m source calls cause after (NotClonable why f c a k) = rw k refl
 clone_refused m source calls cause after (WasGivenUp segs slot f why left g a k) = rw k refl
 clone_refused m source calls cause after (WasCloned segs slot f new left g a k) = absurd cc
 
--- so it stands there
+-- once two packets are chained, a packet stands in the slot of the head
 pub chained_none : (m : Member) (head tail : ℕ) (after : Member) (s t : Side) →
     Chains m head tail (Ok tt) after → t ≡ s → get_or after.table head None ≡ None →
     (t ≡ s) × (after ≡ m)
 chained_none m head tail after s t h e none =
     subst (λ (slot : Option (List Seg)). IfRefused (chained (Ok tt) slot) ((t ≡ s) × (after ≡ m)))
     none (chained_same m head tail (Ok tt) after s t h e)
+
+-- A packet that was taken is told of, so nothing is refused.
+pub taken_told : (slot : ℕ) (there : Option (List Seg)) (P : Type 0) → IsSome there →
+    IfRefused (told_taken slot there) P
+taken_told slot None P some = absurd cc
+taken_told slot (Some segs) P some = tt

@@ -36,7 +36,7 @@ holds-set (first ∷ segs) zero seg h =
     ∙ ap (λ (e : ℕ). hold_of first.base ++ e ∷ []) h.0)
 holds-set (first ∷ segs) (suc k) seg h = ap (λ (es : List ℕ). holds_of_seg first ++ es) (holds-set segs k seg h)
 
--- It leaves the packet's own elements as they are, too.
+-- A segment with the same element and base leaves the packet's own elements as they are.
 elems-set : (segs : List Seg) (k : ℕ) (seg : Seg) → SameHolds seg (get_or segs k no_seg) →
     map (λ s. s.elem) (set segs k seg) ≡ map (λ (s : Seg). s.elem) segs
 elems-set [] k seg h = refl

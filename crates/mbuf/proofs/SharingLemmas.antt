@@ -94,7 +94,7 @@ found_direct None own first others one other e target b h k f =
     }
 found_direct (Some base) own first others one other e target b h k f = absurd cc
 
--- and only where it stands alone
+-- a pair is found only where the packet that is attached has one segment
 found_alone : (segs targets : List Seg) (e : ℕ) (target : Seg) →
     if_alone segs targets ≡ Ok (e, target) → Found (Some segs) (Some targets) e target
 found_alone [] targets e target f = absurd cc
@@ -104,7 +104,7 @@ found_alone (seg ∷ []) (first ∷ others) e target f =
     refl refl f
 found_alone (seg ∷ (other ∷ segs)) targets e target f = absurd cc
 
--- and only where packets stand in both slots, which differ
+-- a pair is found only where packets stand in both slots, which differ
 pub found_pair : (one other : Option (List Seg)) (same : Bool) (e : ℕ) (target : Seg) →
     attachable one other same ≡ Ok (e, target) → Found one other e target
 found_pair None other same e target f = absurd cc
@@ -127,7 +127,7 @@ found_indirect (Some x) own e base h f =
     let p = ok-is (own.elem, x) (e, base) f in
     record { own = own; here = refl; elem = ap (λ (y : ℕ × ℕ). y.0) p; base_is = h ∙ ap (λ (y : ℕ × ℕ). Some y.1) p }
 
--- and only where it stands alone in the slot
+-- a base is found only where the packet in the slot has one segment
 pub found_base : (one : Option (List Seg)) (e base : ℕ) → detachable one ≡ Ok (e, base) → FoundBase one e base
 found_base None e base f = absurd cc
 found_base (Some []) e base f = absurd cc
@@ -248,7 +248,7 @@ own_attached guests m s0 s1 mi target pair new own same are is hand holds header
           omega (arith, t, own.headed i, ap (λ (f : ℕ → ℕ). f i) headers, ap (λ (e : ℕ). bag (e ∷ []) i) are.elem));
     }
 
--- one that has its own buffer again
+-- packets stay a worker's own where one of them gets its own buffer back
 pub own_detached : (guests : ℕ → ℕ) (m : Member) (s0 s1 : Side) (cache : List ℕ) (slot : ℕ) (pair : ℕ × ℕ) →
     OwnWith guests m s0 → s1.limits ≡ s0.limits → IsIndirect m.table slot pair →
     ((i : ℕ) → s1.hand i ≡ bag cache i) → ((i : ℕ) → s0.holds i ≡ s1.holds i + one pair.1 i) →
@@ -305,7 +305,7 @@ own_cloned guests m s0 s1 cache slot new own same free hand holds headers =
           (arith, t, headers i, own.headed i, bag-nil i);
     }
 
--- and one that was given up
+-- packets stay a worker's own where a clone was given up
 pub own_given_up : (guests : ℕ → ℕ) (m : Member) (s0 s1 : Side) (cache : List ℕ) →
     OwnWith guests m s0 → s1.limits ≡ s0.limits →
     ((i : ℕ) → s1.hand i ≡ bag cache i) → ((i : ℕ) → s1.holds i ≡ s0.holds i) →

@@ -84,7 +84,7 @@ stood-others l (e ∷ es) (first ∷ slots) table slot apart =
 abbrev FreeFrom : ℕ → List (Option (List Seg)) → ℕ → Type 0
 FreeFrom first table slot = (first ≤ slot) × (get_or table (slot - first) None ≡ None)
 
--- those of a table are those behind its first slot
+-- the free slots of a table are those behind its first slot
 next_free : (first slot : ℕ) (head : Option (List Seg)) (table : List (Option (List Seg))) →
     FreeFrom (first + 1) table slot →
     FreeFrom first (head ∷ table) slot
@@ -106,7 +106,7 @@ are_free first (Some segs ∷ table) =
     (λ slot free. next_free first slot (Some segs) table free)
     (free_from (first + 1) table) (are_free (first + 1) table)
 
--- and so do the first of them
+-- The first slots that are listed as free show nothing.
 pub first_are_free : (n : ℕ) (table : List (Option (List Seg))) →
     All (λ slot. get_or table slot None ≡ None) (take n (free_slots table))
 first_are_free n table = All-take (λ slot. get_or table slot None ≡ None) n (free_slots table)
@@ -131,12 +131,12 @@ pub told_len-fills : (r : Result ℕ Refusal) → filled_slots (told_len r) ≡ 
 told_len-fills (Ok len) = refl
 told_len-fills (Err cause) = refl
 
--- one that tells a number of segments fills none
+-- a reply that tells a number of segments fills no slot
 pub told_segs-fills : (r : Result ℕ Refusal) → filled_slots (told_segs r) ≡ []
 told_segs-fills (Ok segs) = refl
 told_segs-fills (Err cause) = refl
 
--- one that tells a count fills none
+-- a reply that tells a count fills no slot
 pub told_count-fills : (r : Result ℕ Refusal) → filled_slots (told_count r) ≡ []
 told_count-fills (Ok count) = refl
 told_count-fills (Err cause) = refl
@@ -338,7 +338,7 @@ act-writes (act.NbSegs p) m calls r after did =
 act-writes act.Flush m calls r after did =
     told_by [] m after r _ did.3 (same_table [] m after _ refl (ap (λ (x : Member). x.table) did.2))
 
--- so an act leaves the slots that it doesn't name
+-- an act leaves the slots that it doesn't name
 pub act_leaves_slots : (a : Act) (m : Member) (calls : List Call) (r : Reply) (after : Member) →
     Performs a m calls r after →
     LeavesOtherSlots a r m after

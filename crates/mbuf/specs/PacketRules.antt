@@ -126,7 +126,7 @@ pub data EndsHold (l : Limits) (e : ℕ) (cache : List ℕ) (freed : Freed) (cal
       left ≡ cache →
       done ≡ freed →
       EndsHold l e cache freed calls left done
-  -- it was the last one: the element is put back through the cache
+  -- the last hold ends: the element is put back through the cache
   GoesBack :
       (puts : List Call) (put : Put) →
       Puts l cache (e ∷ []) puts put left →

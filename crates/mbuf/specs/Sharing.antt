@@ -78,7 +78,7 @@ pub data Attaches (m : Member) (mi target : ℕ) (calls : List Call)
       answer ≡ Err cause →
       after ≡ m →
       Attaches m mi target calls answer after
-  -- it is, and the packet has its buffer and lengths
+  -- the count of the buffer's element is raised, and the packet has that buffer and its lengths
   WasAttached :
       (e : ℕ) (seg : Seg) →
       pair_in m mi target ≡ Ok (e, seg) →
@@ -104,7 +104,7 @@ detachable _ = Err NoSuchPacket
 -- what a detach of the packet in a slot does
 pub data Detaches (m : Member) (slot : ℕ) (calls : List Call) (answer : Result Freed Refusal)
     (after : Member) : Type 0 where
-  -- it can't be detached: nothing is asked for
+  -- the packet can't be detached: nothing is asked for
   NotDetachable :
       (cause : Refusal) →
       detachable (slice_index_or m.table slot None) ≡ Err cause →
@@ -112,7 +112,7 @@ pub data Detaches (m : Member) (slot : ℕ) (calls : List Call) (answer : Result
       answer ≡ Err cause →
       after ≡ m →
       Detaches m slot calls answer after
-  -- the hold of its base ends, and it has its own buffer, as a fresh packet has
+  -- the hold of the base ends, and the packet has its own buffer, as a fresh one has
   WasDetached :
       (e base : ℕ) →
       detachable (slice_index_or m.table slot None) ≡ Ok (e, base) →

@@ -1,13 +1,14 @@
 //! What a worker is asked to do with its packets and its cache, and what is replied.
 
-ghost use Rattle.std.specs.Prelude.{◌≡◌, ◌≤◌, [], All, List, IsSome, None, length, map, slice_index_or};
+ghost use Rattle.std.specs.Prelude.{◌≡◌, ◌≤◌, [], All, IsSome, None, length, map, slice_index_or};
 ghost use Rattle.commons.specs.Calls.{Calls};
-ghost use Rattle.mbuf.specs.Acts.{HasRoom, Performs, as_reply, chained, first_elem, new_packet, told_len as len_reply, told_taken as taken_reply};
+ghost use Rattle.mbuf.specs.Acts.{HasRoom, Performs, as_reply, first_elem, new_packet, told_len as len_reply, told_taken as taken_reply};
 ghost use Rattle.commons.specs.Packets.{own_in_slot};
 ghost use Rattle.mbuf.specs.Fresh.{AreFresh, new_elements};
 ghost use Rattle.mbuf.specs.Members.{KeepsMember, slots as slot_count};
 ghost use Rattle.mbuf.specs.Own.{Own, OwnWithGuests, StaysOwn};
 ghost use Rattle.mbuf.specs.Refused.{AsBefore, IfRefused};
+ghost use Rattle.mbuf.specs.inside.Acting.{Acted};
 
 use crate::freed::Freed;
 use crate::lengths;
@@ -124,14 +125,7 @@ fn told_len<const ROOM: usize>(answer: Result<u32, Refusal>) -> Answer<ROOM>
 #[tactic(auto, using(crate::proofs::FreshLemmas::fresh_none))]
 fn alloc<C: Commons, const ROOM: usize>(packets: &mut Packets, c: &mut C) -> Answer<ROOM>
     requires own { OwnWithGuests packets.old (C.side c.old) }
-    ensures calls { Calls C.did C.side c.old c.new (λ calls.
-        Performs Act.Alloc packets.old calls (as_reply result) packets.new) }
-    ensures fresh { AreFresh packets.old.limits.population (C.side c.old).holds
-        (new_elements (as_reply result)) }
-    ensures own { Own packets.old (C.side c.old) → Own packets.new (C.side c.new) }
-    ensures guests { StaysOwn packets.old (C.side c.old) packets.new (C.side c.new) }
-    ensures refused { IfRefused (as_reply result)
-        (AsBefore Act.Alloc packets.old (C.side c.old) packets.new (C.side c.new)) }
+    ensures { Acted C.did C.side Act.Alloc packets.old c.old (as_reply result) packets.new c.new }
 {
     match packets.alloc(c) {
         Ok(slot) => Answer::Allocated(slot, elem_in(packets, slot)),
@@ -165,15 +159,7 @@ fn alloc_all<C: Commons, const ROOM: usize>(
     requires own { OwnWithGuests packets.old (C.side c.old) }
     requires few { length slots.old ≤ slot_count }
     requires room { HasRoom ROOM (Act.AllocBulk (length slots.old)) }
-    ensures calls { Calls C.did C.side c.old c.new (λ calls.
-        Performs (Act.AllocBulk (length slots.old)) packets.old calls (as_reply result) packets.new) }
-    ensures fresh { AreFresh packets.old.limits.population (C.side c.old).holds
-        (new_elements (as_reply result)) }
-    ensures own { Own packets.old (C.side c.old) → Own packets.new (C.side c.new) }
-    ensures guests { StaysOwn packets.old (C.side c.old) packets.new (C.side c.new) }
-    ensures refused { IfRefused (as_reply result)
-        (AsBefore (Act.AllocBulk (length slots.old)) packets.old (C.side c.old)
-        packets.new (C.side c.new)) }
+    ensures { Acted C.did C.side (Act.AllocBulk (length slots.old)) packets.old c.old (as_reply result) packets.new c.new }
 {
     match packets.alloc_bulk(c, slots) {
         Ok(()) => Answer::Bulk(new_packets(packets, slots)),
@@ -190,14 +176,7 @@ fn alloc_bulk<C: Commons, const ROOM: usize>(
 ) -> Answer<ROOM>
     requires room { HasRoom ROOM (Act.AllocBulk count) }
     requires own { OwnWithGuests packets.old (C.side c.old) }
-    ensures calls { Calls C.did C.side c.old c.new (λ calls.
-        Performs (Act.AllocBulk count) packets.old calls (as_reply result) packets.new) }
-    ensures fresh { AreFresh packets.old.limits.population (C.side c.old).holds
-        (new_elements (as_reply result)) }
-    ensures own { Own packets.old (C.side c.old) → Own packets.new (C.side c.new) }
-    ensures guests { StaysOwn packets.old (C.side c.old) packets.new (C.side c.new) }
-    ensures refused { IfRefused (as_reply result)
-        (AsBefore (Act.AllocBulk count) packets.old (C.side c.old) packets.new (C.side c.new)) }
+    ensures { Acted C.did C.side (Act.AllocBulk count) packets.old c.old (as_reply result) packets.new c.new }
 {
     packets.has_slots();
     if count > SLOTS {
@@ -215,13 +194,7 @@ fn chain<C: Commons, const ROOM: usize>(
     tail: Pid,
 ) -> Answer<ROOM>
     requires own { OwnWithGuests packets.old (C.side c.old) }
-    ensures calls { Calls C.did C.side c.old c.new (λ calls.
-        Performs (Act.Chain head tail) packets.old calls (as_reply result) packets.new) }
-    ensures none { new_elements (as_reply result) ≡ [] }
-    ensures own { Own packets.old (C.side c.old) → Own packets.new (C.side c.new) }
-    ensures guests { StaysOwn packets.old (C.side c.old) packets.new (C.side c.new) }
-    ensures refused { IfRefused (as_reply result)
-        (AsBefore (Act.Chain head tail) packets.old (C.side c.old) packets.new (C.side c.new)) }
+    ensures { Acted C.did C.side (Act.Chain head tail) packets.old c.old (as_reply result) packets.new c.new }
 {
     if let Err(cause) = packets.chain(c, head, tail) {
         return Answer::Refused(cause);
@@ -252,14 +225,7 @@ fn clone_packet<C: Commons, const ROOM: usize>(
     p: Pid,
 ) -> Answer<ROOM>
     requires own { OwnWithGuests packets.old (C.side c.old) }
-    ensures calls { Calls C.did C.side c.old c.new (λ calls.
-        Performs (Act.ClonePacket p) packets.old calls (as_reply result) packets.new) }
-    ensures fresh { AreFresh packets.old.limits.population (C.side c.old).holds
-        (new_elements (as_reply result)) }
-    ensures own { Own packets.old (C.side c.old) → Own packets.new (C.side c.new) }
-    ensures guests { StaysOwn packets.old (C.side c.old) packets.new (C.side c.new) }
-    ensures refused { IfRefused (as_reply result)
-        (AsBefore (Act.ClonePacket p) packets.old (C.side c.old) packets.new (C.side c.new)) }
+    ensures { Acted C.did C.side (Act.ClonePacket p) packets.old c.old (as_reply result) packets.new c.new }
 {
     match packets.clone_packet(c, p) {
         Ok(slot) => Answer::Cloned(slot, elems_in(packets, slot)),
@@ -280,13 +246,7 @@ fn told_taken<const ROOM: usize>(packets: &Packets, slot: Pid) -> Answer<ROOM>
 /// Takes a packet off a desk, and tells of it.
 fn take<C: Commons, const ROOM: usize>(packets: &mut Packets, c: &mut C, desk: u32) -> Answer<ROOM>
     requires own { OwnWithGuests packets.old (C.side c.old) }
-    ensures calls { Calls C.did C.side c.old c.new (λ calls.
-        Performs (Act.Take desk) packets.old calls (as_reply result) packets.new) }
-    ensures none { new_elements (as_reply result) ≡ [] }
-    ensures own { Own packets.old (C.side c.old) → Own packets.new (C.side c.new) }
-    ensures guests { StaysOwn packets.old (C.side c.old) packets.new (C.side c.new) }
-    ensures refused { IfRefused (as_reply result)
-        (AsBefore (Act.Take desk) packets.old (C.side c.old) packets.new (C.side c.new)) }
+    ensures { Acted C.did C.side (Act.Take desk) packets.old c.old (as_reply result) packets.new c.new }
 {
     match packets.take(c, desk) {
         Ok(slot) => told_taken(packets, slot),
@@ -343,14 +303,7 @@ pub fn perform_in<C: Commons, const ROOM: usize>(
 fn act_in<C: Commons, const ROOM: usize>(packets: &mut Packets, c: &mut C, act: Act) -> Answer<ROOM>
     requires room { HasRoom ROOM act }
     requires own { OwnWithGuests packets.old (C.side c.old) }
-    ensures calls { Calls C.did C.side c.old c.new (λ calls.
-        Performs act packets.old calls (as_reply result) packets.new) }
-    ensures fresh { AreFresh packets.old.limits.population (C.side c.old).holds
-        (new_elements (as_reply result)) }
-    ensures own { Own packets.old (C.side c.old) → Own packets.new (C.side c.new) }
-    ensures guests { StaysOwn packets.old (C.side c.old) packets.new (C.side c.new) }
-    ensures refused { IfRefused (as_reply result)
-        (AsBefore act packets.old (C.side c.old) packets.new (C.side c.new)) }
+    ensures { Acted C.did C.side act packets.old c.old (as_reply result) packets.new c.new }
 {
     match act {
         Act::Alloc => alloc(packets, c),

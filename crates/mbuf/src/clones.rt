@@ -1,13 +1,14 @@
 //! Segments that use another's buffer: attached, and cloned one after another.
 
-ghost use Rattle.std.specs.Prelude.{◌≡◌, ◌≢◌, ◌<◌, ◌≤◌, ◌+◌, ◌⊎◌, [], ◌∷◌, ◌++◌, ℕ, List, length, map, take, Ok, Err, OnOk, OnErr, IfOk, MatchResult, slice_index_or, slice_set, vec_len};
-ghost use Rattle.commons.specs.Bag.{bag, one};
+ghost use Rattle.std.specs.Prelude.{◌≡◌, ◌≢◌, ◌<◌, ◌≤◌, ◌+◌, ◌*◌, [], ◌∷◌, ◌++◌, ℕ, length, take, Ok, Err, OnOk, OnErr, IfOk, slice_index_or, vec_len};
+ghost use Rattle.commons.specs.Bag.{bag};
 ghost use Rattle.commons.specs.Calls.{Calls, IsRaise};
-ghost use Rattle.commons.specs.Packets.{HasItsData, IsPacket, hold_of, holds_of_packet, holds_of_seg, max_segs};
+ghost use Rattle.commons.specs.Packets.{HasItsData, hold_of, holds_of_packet, max_segs};
 ghost use Rattle.mempool.specs.WorkerCache.{KeepsNumber};
-ghost use Rattle.mbuf.specs.PacketRules.{EndsHolds, freed_nothing};
+ghost use Rattle.mbuf.specs.PacketRules.{freed_nothing};
 ghost use Rattle.mbuf.specs.Sharing.{attached as attached_seg, buffer_of as buffer};
-ghost use Rattle.mbuf.specs.inside.Cloning.{AttachesElem, TriesSeg, TriesSegs, new_headers, new_holds};
+ghost use Rattle.mbuf.specs.inside.Cloning.{AttachesElem, ClonedPacket, TriesSeg, new_headers, new_holds};
+ghost use Rattle.mbuf.specs.inside.Ending.{EndedHolds};
 
 pub mod foreign;
 
@@ -108,16 +109,8 @@ fn give_up<C: Commons>(worker: &mut Worker, c: &mut C, segs: &[Seg], over: Optio
     requires hand { (i : ℕ) → (C.side c.old).hand i ≡ bag worker.old.cache i }
     requires held { (i : ℕ) → bag (holds_of_packet segs.now ++ hold_of over) i ≤ (C.side c.old).holds i }
     requires few { length segs.now < max_segs }
-    ensures calls { Calls C.did C.side c.old c.new (λ calls.
-        EndsHolds worker.old.limits (holds_of_packet segs.now ++ hold_of over) worker.old.cache
-        freed_nothing calls worker.new.cache result) }
-    ensures hand { (i : ℕ) → (C.side c.new).hand i ≡ bag worker.new.cache i }
-    ensures holds { (i : ℕ) → (C.side c.old).holds i
-        ≡ (C.side c.new).holds i + bag (holds_of_packet segs.now ++ hold_of over) i }
-    ensures headers { (i : ℕ) → 0 < (C.side c.new).holds i →
-        (C.side c.new).headers i ≡ (C.side c.old).headers i }
-    ensures limits { (C.side c.new).limits ≡ (C.side c.old).limits }
-    ensures number { KeepsNumber worker.old worker.new }
+    ensures { EndedHolds C.did C.side (holds_of_packet segs.now ++ hold_of over) worker.old c.old
+        freed_nothing (2 * max_segs) result worker.new c.new }
 {
     let freed = steps::end_segs(worker, c, segs);
     match over {
@@ -178,26 +171,8 @@ pub fn clone_segs<C: Commons>(
     requires hand { (i : ℕ) → (C.side c.old).hand i ≡ bag worker.old.cache i }
     requires held { (i : ℕ) → bag (holds_of_packet (slice_index_or packets.old.items source [])) i
         ≤ (C.side c.old).holds i }
-    ensures calls { Calls C.did C.side c.old c.new (λ calls.
-        TriesSegs worker.old.limits (slice_index_or packets.old.items source [])
-        worker.old.cache calls (slice_index_or packets.new.items slot []) result
-        worker.new.cache) }
-    ensures packets { packets.new.items
-        ≡ slice_set packets.old.items slot (slice_index_or packets.new.items slot []) }
-    ensures hand { (i : ℕ) → (C.side c.new).hand i ≡ bag worker.new.cache i }
-    ensures holds { OnOk result
-        ((i : ℕ) → (C.side c.new).holds i ≡ (C.side c.old).holds i
-        + bag (holds_of_packet (slice_index_or packets.new.items slot [])) i) }
-    ensures headers { OnOk result
-        ((i : ℕ) → (C.side c.new).headers i ≡ (C.side c.old).headers i
-        + bag (map (λ seg. seg.elem) (slice_index_or packets.new.items slot [])) i) }
-    ensures unheld { OnOk result
-        ((i : ℕ) → 0 < bag (map (λ seg. seg.elem) (slice_index_or packets.new.items slot [])) i →
-        (C.side c.old).holds i ≡ 0) }
-    ensures holds_err { OnErr result ((i : ℕ) → (C.side c.new).holds i ≡ (C.side c.old).holds i) }
-    ensures headers_err { OnErr result ((i : ℕ) → (C.side c.new).headers i ≡ (C.side c.old).headers i) }
-    ensures limits { (C.side c.new).limits ≡ (C.side c.old).limits }
-    ensures number { KeepsNumber worker.old worker.new }
+    ensures { ClonedPacket C.did C.side source slot worker.old packets.old.items c.old result
+        worker.new packets.new.items c.new }
 {
     clone_within(worker, c, packets.as_mut_slice(), source, slot)
 }
@@ -219,26 +194,8 @@ fn clone_within<C: Commons>(
     requires hand { (i : ℕ) → (C.side c.old).hand i ≡ bag worker.old.cache i }
     requires held { (i : ℕ) → bag (holds_of_packet (slice_index_or packets.old source [])) i
         ≤ (C.side c.old).holds i }
-    ensures calls { Calls C.did C.side c.old c.new (λ calls.
-        TriesSegs worker.old.limits (slice_index_or packets.old source [])
-        worker.old.cache calls (slice_index_or packets.new slot []) result
-        worker.new.cache) }
-    ensures packets { packets.new
-        ≡ slice_set packets.old slot (slice_index_or packets.new slot []) }
-    ensures hand { (i : ℕ) → (C.side c.new).hand i ≡ bag worker.new.cache i }
-    ensures holds { OnOk result
-        ((i : ℕ) → (C.side c.new).holds i ≡ (C.side c.old).holds i
-        + bag (holds_of_packet (slice_index_or packets.new slot [])) i) }
-    ensures headers { OnOk result
-        ((i : ℕ) → (C.side c.new).headers i ≡ (C.side c.old).headers i
-        + bag (map (λ seg. seg.elem) (slice_index_or packets.new slot [])) i) }
-    ensures unheld { OnOk result
-        ((i : ℕ) → 0 < bag (map (λ seg. seg.elem) (slice_index_or packets.new slot [])) i →
-        (C.side c.old).holds i ≡ 0) }
-    ensures holds_err { OnErr result ((i : ℕ) → (C.side c.new).holds i ≡ (C.side c.old).holds i) }
-    ensures headers_err { OnErr result ((i : ℕ) → (C.side c.new).headers i ≡ (C.side c.old).headers i) }
-    ensures limits { (C.side c.new).limits ≡ (C.side c.old).limits }
-    ensures number { KeepsNumber worker.old worker.new }
+    ensures { ClonedPacket C.did C.side source slot worker.old packets.old c.old result
+        worker.new packets.new c.new }
 {
     let count = packets[source].segs().len();
     // What stood there last stays in its place, and is written over.

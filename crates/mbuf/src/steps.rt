@@ -1,13 +1,14 @@
 //! What packets ask of the cache and of the shared pool, an element at a time.
 
-ghost use Rattle.std.specs.Prelude.{◌≡◌, ◌<◌, ◌≤◌, ◌+◌, ◌*◌, ◌∷◌, [], ℕ, length, if◌then◌else◌, min, nat_lt};
-ghost use Rattle.commons.specs.Bag.{bag, one};
+ghost use Rattle.std.specs.Prelude.{◌≡◌, ◌<◌, ◌≤◌, ◌+◌, ◌*◌, ◌∷◌, [], ℕ, length, min};
+ghost use Rattle.commons.specs.Bag.{bag};
 ghost use Rattle.commons.specs.Bounds.{IsPool, max_population};
 ghost use Rattle.commons.specs.Calls.{Calls};
 ghost use Rattle.mempool.specs.Caches.{Puts, put_count};
 ghost use Rattle.mempool.specs.WorkerCache.{KeepsNumber};
 ghost use Rattle.commons.specs.Packets.{holds_of_packet, holds_of_seg, max_segs};
-ghost use Rattle.mbuf.specs.PacketRules.{fresh_seg, freed_nothing, counted as counted_put, EndsHold, EndsHolds};
+ghost use Rattle.mbuf.specs.PacketRules.{fresh_seg, freed_nothing, counted as counted_put};
+ghost use Rattle.mbuf.specs.inside.Ending.{EndedHold, EndedHolds};
 
 pub mod foreign;
 
@@ -94,16 +95,7 @@ pub fn end_hold<C: Commons>(worker: &mut Worker, c: &mut C, elem: u32, freed: Fr
     requires held { 0 < (C.side c.old).holds elem }
     requires back { freed.back < 2 * max_segs }
     requires flushed { freed.flushed ≤ max_population * freed.back }
-    ensures calls { Calls C.did C.side c.old c.new (λ calls.
-        EndsHold worker.old.limits elem worker.old.cache freed calls worker.new.cache result) }
-    ensures hand { (i : ℕ) → (C.side c.new).hand i ≡ bag worker.new.cache i }
-    ensures holds { (i : ℕ) → (C.side c.old).holds i ≡ (C.side c.new).holds i + one elem i }
-    ensures headers { (i : ℕ) → (C.side c.new).headers i
-        ≡ (if nat_lt 0 ((C.side c.new).holds i) then (C.side c.old).headers i else 0) }
-    ensures limits { (C.side c.new).limits ≡ (C.side c.old).limits }
-    ensures number { KeepsNumber worker.old worker.new }
-    ensures back { result.back ≤ freed.back + 1 }
-    ensures flushed { result.flushed ≤ max_population * result.back }
+    ensures { EndedHold C.did C.side elem worker.old c.old freed (freed.back + 1) result worker.new c.new }
 {
     let _limits = worker.limits();
     match c.lower(elem) {
@@ -121,16 +113,8 @@ fn end_seg<C: Commons>(worker: &mut Worker, c: &mut C, seg: Seg, freed: Freed) -
     requires held { (i : ℕ) → bag (holds_of_seg seg) i ≤ (C.side c.old).holds i }
     requires back { freed.back + 1 < 2 * max_segs }
     requires flushed { freed.flushed ≤ max_population * freed.back }
-    ensures calls { Calls C.did C.side c.old c.new (λ calls.
-        EndsHolds worker.old.limits (holds_of_seg seg) worker.old.cache freed calls worker.new.cache result) }
-    ensures hand { (i : ℕ) → (C.side c.new).hand i ≡ bag worker.new.cache i }
-    ensures holds { (i : ℕ) → (C.side c.old).holds i ≡ (C.side c.new).holds i + bag (holds_of_seg seg) i }
-    ensures headers { (i : ℕ) → 0 < (C.side c.new).holds i →
-        (C.side c.new).headers i ≡ (C.side c.old).headers i }
-    ensures limits { (C.side c.new).limits ≡ (C.side c.old).limits }
-    ensures number { KeepsNumber worker.old worker.new }
-    ensures back { result.back ≤ freed.back + 2 }
-    ensures flushed { result.flushed ≤ max_population * result.back }
+    ensures { EndedHolds C.did C.side (holds_of_seg seg) worker.old c.old freed (freed.back + 2)
+        result worker.new c.new }
 {
     match seg.base {
         None => end_hold(worker, c, seg.elem, freed),
@@ -155,18 +139,8 @@ pub fn end_segs<C: Commons>(worker: &mut Worker, c: &mut C, segs: &[Seg]) -> Fre
     requires hand { (i : ℕ) → (C.side c.old).hand i ≡ bag worker.old.cache i }
     requires held { (i : ℕ) → bag (holds_of_packet segs.now) i ≤ (C.side c.old).holds i }
     requires few { length segs.now ≤ max_segs }
-    ensures calls { Calls C.did C.side c.old c.new (λ calls.
-        EndsHolds worker.old.limits (holds_of_packet segs.now) worker.old.cache freed_nothing
-        calls worker.new.cache result) }
-    ensures hand { (i : ℕ) → (C.side c.new).hand i ≡ bag worker.new.cache i }
-    ensures holds { (i : ℕ) → (C.side c.old).holds i
-        ≡ (C.side c.new).holds i + bag (holds_of_packet segs.now) i }
-    ensures headers { (i : ℕ) → 0 < (C.side c.new).holds i →
-        (C.side c.new).headers i ≡ (C.side c.old).headers i }
-    ensures limits { (C.side c.new).limits ≡ (C.side c.old).limits }
-    ensures number { KeepsNumber worker.old worker.new }
-    ensures back { result.back ≤ 2 * length segs.now }
-    ensures flushed { result.flushed ≤ max_population * result.back }
+    ensures { EndedHolds C.did C.side (holds_of_packet segs.now) worker.old c.old freed_nothing (2 * length segs.now)
+        result worker.new c.new }
 {
     if segs.len() == 1 {
         // Most packets have one: what was freed before is nothing then, and nothing is carried.
@@ -183,18 +157,8 @@ fn end_several<C: Commons>(worker: &mut Worker, c: &mut C, segs: &[Seg]) -> Free
     requires hand { (i : ℕ) → (C.side c.old).hand i ≡ bag worker.old.cache i }
     requires held { (i : ℕ) → bag (holds_of_packet segs.now) i ≤ (C.side c.old).holds i }
     requires few { length segs.now ≤ max_segs }
-    ensures calls { Calls C.did C.side c.old c.new (λ calls.
-        EndsHolds worker.old.limits (holds_of_packet segs.now) worker.old.cache freed_nothing
-        calls worker.new.cache result) }
-    ensures hand { (i : ℕ) → (C.side c.new).hand i ≡ bag worker.new.cache i }
-    ensures holds { (i : ℕ) → (C.side c.old).holds i
-        ≡ (C.side c.new).holds i + bag (holds_of_packet segs.now) i }
-    ensures headers { (i : ℕ) → 0 < (C.side c.new).holds i →
-        (C.side c.new).headers i ≡ (C.side c.old).headers i }
-    ensures limits { (C.side c.new).limits ≡ (C.side c.old).limits }
-    ensures number { KeepsNumber worker.old worker.new }
-    ensures back { result.back ≤ 2 * length segs.now }
-    ensures flushed { result.flushed ≤ max_population * result.back }
+    ensures { EndedHolds C.did C.side (holds_of_packet segs.now) worker.old c.old freed_nothing (2 * length segs.now)
+        result worker.new c.new }
 {
     let Freed {
         back,
@@ -216,18 +180,8 @@ fn end_each<C: Commons>(worker: &mut Worker, c: &mut C, segs: &[Seg]) -> Freed
     requires hand { (i : ℕ) → (C.side c.old).hand i ≡ bag worker.old.cache i }
     requires held { (i : ℕ) → bag (holds_of_packet segs.now) i ≤ (C.side c.old).holds i }
     requires few { length segs.now ≤ max_segs }
-    ensures calls { Calls C.did C.side c.old c.new (λ calls.
-        EndsHolds worker.old.limits (holds_of_packet segs.now) worker.old.cache freed_nothing
-        calls worker.new.cache result) }
-    ensures hand { (i : ℕ) → (C.side c.new).hand i ≡ bag worker.new.cache i }
-    ensures holds { (i : ℕ) → (C.side c.old).holds i
-        ≡ (C.side c.new).holds i + bag (holds_of_packet segs.now) i }
-    ensures headers { (i : ℕ) → 0 < (C.side c.new).holds i →
-        (C.side c.new).headers i ≡ (C.side c.old).headers i }
-    ensures limits { (C.side c.new).limits ≡ (C.side c.old).limits }
-    ensures number { KeepsNumber worker.old worker.new }
-    ensures back { result.back ≤ 2 * length segs.now }
-    ensures flushed { result.flushed ≤ max_population * result.back }
+    ensures { EndedHolds C.did C.side (holds_of_packet segs.now) worker.old c.old freed_nothing (2 * length segs.now)
+        result worker.new c.new }
 {
     let mut freed = NOTHING_FREED;
     for seg in segs {

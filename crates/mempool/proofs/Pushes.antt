@@ -38,7 +38,7 @@ bypassed l cache list calls answer left many c a k = elim (one_rule l.put_rule) 
   | inr whole ↦ WholeBypass whole (inl many) c a k
 ]
 
--- and stays in it by either rule
+-- more than a cache ever keeps stays in it, where it is refused, by either rule
 bypass_put_off : (l : Limits) (cache list : List ℕ) (calls : List Call) (answer : Put) (left : List ℕ) →
     max_cache < length list → (cause : Refusal) → calls ≡ PutList list (Err cause) ∷ [] →
     answer ≡ PutOff (length list) cause → left ≡ cache ++ list → Puts l cache list calls answer left
@@ -67,7 +67,8 @@ put_passed did side l cache list before after answer left many (Stays cause d a 
           (rw (drop-append_seam cache list) refl) (rw n at a) k,
     )
 
--- So is one that is longer than the threshold, where the cache goes whole.
+-- Where the cache goes whole, a push past it of a list that is longer than the threshold is the one
+-- request of a put.
 pub put_whole_passed : {S : Type 0} (did : S → Call → List Reading → S → Type 0) (side : S → Side)
     (l : Limits) (cache list : List ℕ) (before after : S) (answer : Put) (left : List ℕ) →
     l.put_rule ≡ rules.Whole → threshold l < length list →
@@ -108,7 +109,8 @@ put_after_cache did side l cache list rest before after answer left whole some f
           (e ∙ ap (λ (xs : List ℕ). xs ++ list) k),
     )
 
--- Where nothing is kept and the cache is empty, that is a put's one request too, by either rule.
+-- Where nothing is kept and the cache is empty, a push of the list past it is a put's one request, by
+-- either rule.
 pub put_kept_none : {S : Type 0} (did : S → Call → List Reading → S → Type 0) (side : S → Side)
     (l : Limits) (cache list : List ℕ) (before after : S) (answer : Put) (left : List ℕ) →
     l.cache ≡ 0 → length cache ≡ 0 → 0 < length list → length list ≤ max_cache →

@@ -109,7 +109,7 @@ pub data Puts (l : Limits) (cache list : List ℕ) (calls : List Call) (answer :
       answer ≡ Flushed (length list) →
       left ≡ cache →
       Puts l cache list calls answer left
-  -- and stays in it where the stack refuses it
+  -- more than a cache ever keeps stays in it where the stack refuses it
   BypassPutOff :
       l.put_rule ≡ rules.Keep →
       max_cache < length list →
@@ -129,7 +129,7 @@ pub data Puts (l : Limits) (cache list : List ℕ) (calls : List Call) (answer :
       answer ≡ Flushed (length (cache ++ list) - l.cache) →
       left ≡ take l.cache (cache ++ list) →
       Puts l cache list calls answer left
-  -- and stays in the cache where the stack refuses it
+  -- from the threshold on, all beyond the size stays in the cache where the stack refuses it
   FlushPutOff :
       l.put_rule ≡ rules.Keep →
       0 < length list →
@@ -159,7 +159,7 @@ pub data Puts (l : Limits) (cache list : List ℕ) (calls : List Call) (answer :
       answer ≡ Flushed (length list) →
       left ≡ cache →
       Puts l cache list calls answer left
-  -- and stays in it where the stack refuses it
+  -- more than a cache ever keeps, or than the threshold, stays in it where the stack refuses it
   WholeBypassPutOff :
       l.put_rule ≡ rules.Whole →
       (max_cache < length list) ⊎ (threshold l < length list) →
@@ -180,7 +180,7 @@ pub data Puts (l : Limits) (cache list : List ℕ) (calls : List Call) (answer :
       answer ≡ Flushed (length cache) →
       left ≡ list →
       Puts l cache list calls answer left
-  -- and the list comes after the cache where the stack refuses that
+  -- where the stack refuses the whole cache, the list comes after it
   WholeFlushPutOff :
       l.put_rule ≡ rules.Whole →
       0 < length list →

@@ -1,2 +1,3 @@
 -- For proofs and the inside of types only. No public clause cites these modules.
 pub mod Kept
+pub mod Moves

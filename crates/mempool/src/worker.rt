@@ -5,6 +5,7 @@ ghost use Rattle.commons.specs.Bag.{bag, one};
 ghost use Rattle.commons.specs.Bounds.{max_cache};
 ghost use Rattle.commons.specs.Calls.{Calls, with_list};
 ghost use Rattle.mempool.specs.inside.Kept.{IsFlushLength};
+ghost use Rattle.mempool.specs.inside.Moves.{Got};
 
 use crate::put::Put;
 use crate::steps;
@@ -155,17 +156,8 @@ impl Worker {
         requires limits { (C.side c.old).limits ≡ self.old.limits }
         requires fewer { length out.old < self.old.limits.cache }
         requires more { length self.old.cache < length out.old }
-        ensures calls { Calls C.did C.side c.old c.new (λ calls.
-            Gets self.old.limits self.old.cache (length out.old) calls (with_list result out.new) self.new.cache) }
-        ensures hand { OnOk result
-            ((i : ℕ) → (C.side c.new).hand i + bag self.old.cache i
-            ≡ (C.side c.old).hand i + bag self.new.cache i + bag out.new i) }
-        ensures refused { OnErr result (C.side c.new ≡ C.side c.old) }
-        ensures cache_err { OnErr result (self.new.cache ≡ self.old.cache) }
-        ensures holds { (C.side c.new).holds ≡ (C.side c.old).holds }
-        ensures headers { (C.side c.new).headers ≡ (C.side c.old).headers }
-        ensures limits { (C.side c.new).limits ≡ (C.side c.old).limits }
-        ensures number { KeepsNumber self.old self.new }
+        ensures { Got C.did C.side (length out.old) (λ answer. with_list answer out.new) (λ _. bag out.new)
+            self.old c.old result self.new c.new }
     {
         match self.refilled_apart(c, out) {
             Ok(()) => Ok(()),
@@ -180,17 +172,8 @@ impl Worker {
         requires limits { (C.side c.old).limits ≡ self.old.limits }
         requires fewer { length out.old < self.old.limits.cache }
         requires more { length self.old.cache < length out.old }
-        ensures calls { Calls C.did C.side c.old c.new (λ calls.
-            Gets self.old.limits self.old.cache (length out.old) calls (with_list result out.new) self.new.cache) }
-        ensures hand { OnOk result
-            ((i : ℕ) → (C.side c.new).hand i + bag self.old.cache i
-            ≡ (C.side c.old).hand i + bag self.new.cache i + bag out.new i) }
-        ensures refused { OnErr result (C.side c.new ≡ C.side c.old) }
-        ensures cache_err { OnErr result (self.new.cache ≡ self.old.cache) }
-        ensures holds { (C.side c.new).holds ≡ (C.side c.old).holds }
-        ensures headers { (C.side c.new).headers ≡ (C.side c.old).headers }
-        ensures limits { (C.side c.new).limits ≡ (C.side c.old).limits }
-        ensures number { KeepsNumber self.old self.new }
+        ensures { Got C.did C.side (length out.old) (λ answer. with_list answer out.new) (λ _. bag out.new)
+            self.old c.old result self.new c.new }
     {
         let n = out.len();
         let size = self.limits.cache as usize;
@@ -244,14 +227,7 @@ impl Worker {
     fn get_direct<C: Commons>(&self, c: &mut C) -> Result<u32, Refusal>
         requires limits { (C.side c.old).limits ≡ self.now.limits }
         requires small { self.now.limits.cache ≤ 1 }
-        ensures calls { Calls C.did C.side c.old c.new (λ calls.
-            Gets self.now.limits self.now.cache 1 calls (as_list result) self.now.cache) }
-        ensures hand { IfOk result
-            (λ e. (i : ℕ) → (C.side c.new).hand i ≡ (C.side c.old).hand i + one e i) }
-        ensures refused { OnErr result (C.side c.new ≡ C.side c.old) }
-        ensures holds { (C.side c.new).holds ≡ (C.side c.old).holds }
-        ensures headers { (C.side c.new).headers ≡ (C.side c.old).headers }
-        ensures limits { (C.side c.new).limits ≡ (C.side c.old).limits }
+        ensures { Got C.did C.side 1 as_list one self.now c.old result self.now c.new }
     {
         let mut out = [0u32; 1];
         match c.get_list(&mut out) {
@@ -264,17 +240,7 @@ impl Worker {
     #[inline(always)]
     fn get_list_of_one<C: Commons>(&mut self, c: &mut C) -> Result<u32, Refusal>
         requires limits { (C.side c.old).limits ≡ self.old.limits }
-        ensures calls { Calls C.did C.side c.old c.new (λ calls.
-            Gets self.old.limits self.old.cache 1 calls (as_list result) self.new.cache) }
-        ensures hand { IfOk result
-            (λ e. (i : ℕ) → (C.side c.new).hand i + bag self.old.cache i
-            ≡ (C.side c.old).hand i + bag self.new.cache i + one e i) }
-        ensures refused { OnErr result (C.side c.new ≡ C.side c.old) }
-        ensures cache_err { OnErr result (self.new.cache ≡ self.old.cache) }
-        ensures holds { (C.side c.new).holds ≡ (C.side c.old).holds }
-        ensures headers { (C.side c.new).headers ≡ (C.side c.old).headers }
-        ensures limits { (C.side c.new).limits ≡ (C.side c.old).limits }
-        ensures number { KeepsNumber self.old self.new }
+        ensures { Got C.did C.side 1 as_list one self.old c.old result self.new c.new }
     {
         let mut out = [0u32; 1];
         match self.get_apart(c, &mut out) {
@@ -287,17 +253,8 @@ impl Worker {
     #[inline(never)]
     fn get_apart<C: Commons>(&mut self, c: &mut C, out: &mut [u32]) -> Result<(), Refusal>
         requires limits { (C.side c.old).limits ≡ self.old.limits }
-        ensures calls { Calls C.did C.side c.old c.new (λ calls.
-            Gets self.old.limits self.old.cache (length out.old) calls (with_list result out.new) self.new.cache) }
-        ensures hand { OnOk result
-            ((i : ℕ) → (C.side c.new).hand i + bag self.old.cache i
-            ≡ (C.side c.old).hand i + bag self.new.cache i + bag out.new i) }
-        ensures refused { OnErr result (C.side c.new ≡ C.side c.old) }
-        ensures cache_err { OnErr result (self.new.cache ≡ self.old.cache) }
-        ensures holds { (C.side c.new).holds ≡ (C.side c.old).holds }
-        ensures headers { (C.side c.new).headers ≡ (C.side c.old).headers }
-        ensures limits { (C.side c.new).limits ≡ (C.side c.old).limits }
-        ensures number { KeepsNumber self.old self.new }
+        ensures { Got C.did C.side (length out.old) (λ answer. with_list answer out.new) (λ _. bag out.new)
+            self.old c.old result self.new c.new }
     {
         self.get_bulk(c, out)
     }

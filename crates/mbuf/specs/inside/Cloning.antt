@@ -1,11 +1,13 @@
 -- What the steps of attaching and cloning do. No public clause cites this module.
-use Rattle.std.specs.Prelude.{ℕ, ◌≡◌, ◌≢◌, ◌<◌, ◌⊎◌, List, [], ◌∷◌, slice_index_or, Option, Some, None, Result, Ok, Err}
+use Rattle.std.specs.Prelude.{ℕ, ◌≡◌, ◌≢◌, ◌<◌, ◌+◌, ◌⊎◌, List, [], ◌∷◌, map, slice_index_or, slice_set, Option, Some, None, Result, Ok, Err, OnOk, OnErr}
+use Rattle.commons.specs.Bag.{bag}
 use Rattle.commons.specs.declared.limits.Limits.{Limits}
 use Rattle.commons.specs.declared.packet.Seg.{Seg}
 use Rattle.commons.specs.declared.refusal.Refusal.{Refusal}
 use Rattle.commons.specs.declared.refusal.Refusal.TheVariants.{InUse}
-use Rattle.commons.specs.Calls.{Call, CountOf, Raise}
-use Rattle.commons.specs.Packets.{hold_of, holds_of_seg}
+use Rattle.commons.specs.Calls.{Reading, Call, Calls, CountOf, Raise, Side}
+use Rattle.commons.specs.Packets.{hold_of, holds_of_packet, holds_of_seg}
+use Rattle.mempool.specs.WorkerCache.{KeepsNumber, WorkerCache}
 use Rattle.mbuf.specs.Members.{slots}
 use Rattle.mbuf.specs.Sharing.{attached, buffer_of, ClonesSeg, ClonesSegs, GivesUp, StopsCloning}
 use Rattle.mbuf.specs.declared.clones.Stop.{Stop}
@@ -38,6 +40,30 @@ abbrev pub TriesSegs : Limits → List Seg → List ℕ → List Call → List S
     Result (Unit {0}) Refusal → List ℕ → Type 0
 TriesSegs l segs cache calls new (Ok _) left = ClonesSegs l segs cache calls new left
 TriesSegs l segs cache calls new (Err cause) left = GivesUp l segs cache calls cause left
+
+-- The segments of one of these packets were cloned into another of them, all or none, by the calls
+-- of that rule. The worker's hand is its cache. Once all are cloned, the clone's holds and headers
+-- came on top, and what became a header wasn't held before; else holds and headers are as before.
+pub record ClonedPacket {S : Type 0} (did : S → Call → List Reading → S → Type 0) (side : S → Side)
+    (source slot : ℕ) (old : WorkerCache) (stood : List (List Seg)) (before : S)
+    (answer : Result (Unit {0}) Refusal) (new : WorkerCache) (stand : List (List Seg)) (after : S)
+    : Type 0 where
+  pub calls : Calls did side before after (λ calls.
+      TriesSegs old.limits (slice_index_or stood source []) old.cache calls
+      (slice_index_or stand slot []) answer new.cache)
+  pub packets : stand ≡ slice_set stood slot (slice_index_or stand slot [])
+  pub hand : (i : ℕ) → (side after).hand i ≡ bag new.cache i
+  pub holds : OnOk answer ((i : ℕ) →
+      (side after).holds i ≡ (side before).holds i + bag (holds_of_packet (slice_index_or stand slot [])) i)
+  pub headers : OnOk answer ((i : ℕ) →
+      (side after).headers i
+      ≡ (side before).headers i + bag (map (λ (seg : Seg). seg.elem) (slice_index_or stand slot [])) i)
+  pub unheld : OnOk answer ((i : ℕ) →
+      0 < bag (map (λ (seg : Seg). seg.elem) (slice_index_or stand slot [])) i → (side before).holds i ≡ 0)
+  pub holds_err : OnErr answer ((i : ℕ) → (side after).holds i ≡ (side before).holds i)
+  pub headers_err : OnErr answer ((i : ℕ) → (side after).headers i ≡ (side before).headers i)
+  pub limits : (side after).limits ≡ (side before).limits
+  pub number : KeepsNumber old new
 
 -- A packet of one direct segment of this element stands in one slot, and a packet that begins with
 -- this segment in the other.

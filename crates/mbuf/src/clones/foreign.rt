@@ -1,13 +1,13 @@
 //! Packets of one pool that are cloned into elements of another, a segment at a time.
 
-ghost use Rattle.std.specs.Prelude.{◌≡◌, ◌<◌, ◌≤◌, ◌+◌, [], ℕ, length, OnOk, OnErr, IfOk};
+ghost use Rattle.std.specs.Prelude.{◌≡◌, ◌<◌, ◌≤◌, ◌+◌, ◌++◌, ℕ, length, OnOk, OnErr, IfOk};
 ghost use Rattle.commons.specs.Bag.{bag};
 ghost use Rattle.commons.specs.Packets.{HasItsData, IsPacket, hold_of, holds_of_packet, own_of_packet, max_segs};
 ghost use Rattle.mempool.specs.WorkerCache.{KeepsNumber};
-ghost use Rattle.mbuf.specs.Foreign.{BothCalls, EndsForeign, bases_of_packet};
-ghost use Rattle.mbuf.specs.PacketRules.{EndsHolds, freed_nothing};
+ghost use Rattle.mbuf.specs.Foreign.{BothCalls, bases_of_packet};
 ghost use Rattle.mbuf.specs.Sharing.{buffer_of as buffer};
 ghost use Rattle.mbuf.specs.inside.Cloning.{new_headers};
+ghost use Rattle.mbuf.specs.inside.Ending.{LostHolds};
 ghost use Rattle.mbuf.specs.inside.ForeignSteps.{GivesBack, TriesForeign, TriesForeignSeg, new_bases};
 
 use super::{Stop, attached, buffer_of, fit, follow};
@@ -81,20 +81,9 @@ fn give_up<C: Commons, D: Commons>(
     ensures calls { BothCalls C.did C.side c.old c.new D.did D.side d.old d.new (λ firsts seconds.
         GivesBack first.old.limits second.old.limits segs.now over first.old.cache second.old.cache
         firsts seconds first.new.cache second.new.cache) }
-    ensures first_hand { (i : ℕ) → (C.side c.new).hand i ≡ bag first.new.cache i }
-    ensures first_holds { (i : ℕ) → (C.side c.old).holds i
-        ≡ (C.side c.new).holds i + bag (bases_of_packet segs.now) i }
-    ensures first_headers { (i : ℕ) → 0 < (C.side c.new).holds i →
-        (C.side c.new).headers i ≡ (C.side c.old).headers i }
-    ensures first_limits { (C.side c.new).limits ≡ (C.side c.old).limits }
-    ensures first_number { KeepsNumber first.old first.new }
-    ensures second_hand { (i : ℕ) → (D.side d.new).hand i ≡ bag second.new.cache i }
-    ensures second_holds { (i : ℕ) → (D.side d.old).holds i
-        ≡ (D.side d.new).holds i + bag (own_of_packet segs.now) i + bag (hold_of over) i }
-    ensures second_headers { (i : ℕ) → 0 < (D.side d.new).holds i →
-        (D.side d.new).headers i ≡ (D.side d.old).headers i }
-    ensures second_limits { (D.side d.new).limits ≡ (D.side d.old).limits }
-    ensures second_number { KeepsNumber second.old second.new }
+    ensures first { LostHolds (bases_of_packet segs.now) first.old (C.side c.old) first.new (C.side c.new) }
+    ensures second { LostHolds (own_of_packet segs.now ++ hold_of over) second.old (D.side d.old)
+        second.new (D.side d.new) }
 {
     let freed = foreign::end_segs(first, second, c, d, segs);
     let _freed = foreign::end_if(second, d, over, freed);

@@ -1,14 +1,13 @@
 //! Foreign clones that are freed, a segment at a time: their bases are of one pool, and their own
 //! elements of another.
 
-ghost use Rattle.std.specs.Prelude.{◌≡◌, ◌<◌, ◌≤◌, ◌+◌, ◌*◌, ℕ, length};
-ghost use Rattle.commons.specs.Bag.{bag, one};
+ghost use Rattle.std.specs.Prelude.{◌≡◌, ◌<◌, ◌≤◌, ◌+◌, ◌*◌, [], ◌∷◌, ℕ, length};
+ghost use Rattle.commons.specs.Bag.{bag};
 ghost use Rattle.commons.specs.Bounds.{max_population};
 ghost use Rattle.commons.specs.Packets.{hold_of, own_of_packet, max_segs};
-ghost use Rattle.mempool.specs.WorkerCache.{KeepsNumber};
-ghost use Rattle.mbuf.specs.PacketRules.{EndsHolds, freed_nothing};
+ghost use Rattle.mbuf.specs.PacketRules.{freed_nothing};
 ghost use Rattle.mbuf.specs.Foreign.{BothCalls, EndsForeign, EndsForeignSeg, bases_of_packet};
-ghost use Rattle.commons.specs.Calls.{Calls};
+ghost use Rattle.mbuf.specs.inside.Ending.{EndedHolds, LostHolds};
 
 use super::{NOTHING_FREED, end_hold};
 use crate::freed::Freed;
@@ -25,16 +24,8 @@ pub fn end_if<C: Commons>(worker: &mut Worker, c: &mut C, elem: Option<u32>, fre
     requires held { (i : ℕ) → bag (hold_of elem) i ≤ (C.side c.old).holds i }
     requires back { freed.back < 2 * max_segs }
     requires flushed { freed.flushed ≤ max_population * freed.back }
-    ensures calls { Calls C.did C.side c.old c.new (λ calls.
-        EndsHolds worker.old.limits (hold_of elem) worker.old.cache freed calls worker.new.cache result) }
-    ensures hand { (i : ℕ) → (C.side c.new).hand i ≡ bag worker.new.cache i }
-    ensures holds { (i : ℕ) → (C.side c.old).holds i ≡ (C.side c.new).holds i + bag (hold_of elem) i }
-    ensures headers { (i : ℕ) → 0 < (C.side c.new).holds i →
-        (C.side c.new).headers i ≡ (C.side c.old).headers i }
-    ensures limits { (C.side c.new).limits ≡ (C.side c.old).limits }
-    ensures number { KeepsNumber worker.old worker.new }
-    ensures back { result.back ≤ freed.back + 1 }
-    ensures flushed { result.flushed ≤ max_population * result.back }
+    ensures { EndedHolds C.did C.side (hold_of elem) worker.old c.old freed (freed.back + 1)
+        result worker.new c.new }
 {
     match elem {
         None => freed,
@@ -64,19 +55,8 @@ fn end_seg<C: Commons, D: Commons>(
     ensures calls { BothCalls C.did C.side c.old c.new D.did D.side d.old d.new (λ firsts seconds.
         EndsForeignSeg first.old.limits second.old.limits seg first.old.cache second.old.cache
         freed firsts seconds first.new.cache second.new.cache result) }
-    ensures first_hand { (i : ℕ) → (C.side c.new).hand i ≡ bag first.new.cache i }
-    ensures first_holds { (i : ℕ) → (C.side c.old).holds i
-        ≡ (C.side c.new).holds i + bag (hold_of seg.base) i }
-    ensures first_headers { (i : ℕ) → 0 < (C.side c.new).holds i →
-        (C.side c.new).headers i ≡ (C.side c.old).headers i }
-    ensures first_limits { (C.side c.new).limits ≡ (C.side c.old).limits }
-    ensures first_number { KeepsNumber first.old first.new }
-    ensures second_hand { (i : ℕ) → (D.side d.new).hand i ≡ bag second.new.cache i }
-    ensures second_holds { (i : ℕ) → (D.side d.old).holds i ≡ (D.side d.new).holds i + one seg.elem i }
-    ensures second_headers { (i : ℕ) → 0 < (D.side d.new).holds i →
-        (D.side d.new).headers i ≡ (D.side d.old).headers i }
-    ensures second_limits { (D.side d.new).limits ≡ (D.side d.old).limits }
-    ensures second_number { KeepsNumber second.old second.new }
+    ensures first { LostHolds (hold_of seg.base) first.old (C.side c.old) first.new (C.side c.new) }
+    ensures second { LostHolds (seg.elem ∷ []) second.old (D.side d.old) second.new (D.side d.new) }
     ensures back { result.back ≤ freed.back + 2 }
     ensures flushed { result.flushed ≤ max_population * result.back }
 {
@@ -102,20 +82,8 @@ pub fn end_segs<C: Commons, D: Commons>(
     ensures calls { BothCalls C.did C.side c.old c.new D.did D.side d.old d.new (λ firsts seconds.
         EndsForeign first.old.limits second.old.limits segs.now first.old.cache second.old.cache
         freed_nothing firsts seconds first.new.cache second.new.cache result) }
-    ensures first_hand { (i : ℕ) → (C.side c.new).hand i ≡ bag first.new.cache i }
-    ensures first_holds { (i : ℕ) → (C.side c.old).holds i
-        ≡ (C.side c.new).holds i + bag (bases_of_packet segs.now) i }
-    ensures first_headers { (i : ℕ) → 0 < (C.side c.new).holds i →
-        (C.side c.new).headers i ≡ (C.side c.old).headers i }
-    ensures first_limits { (C.side c.new).limits ≡ (C.side c.old).limits }
-    ensures first_number { KeepsNumber first.old first.new }
-    ensures second_hand { (i : ℕ) → (D.side d.new).hand i ≡ bag second.new.cache i }
-    ensures second_holds { (i : ℕ) → (D.side d.old).holds i
-        ≡ (D.side d.new).holds i + bag (own_of_packet segs.now) i }
-    ensures second_headers { (i : ℕ) → 0 < (D.side d.new).holds i →
-        (D.side d.new).headers i ≡ (D.side d.old).headers i }
-    ensures second_limits { (D.side d.new).limits ≡ (D.side d.old).limits }
-    ensures second_number { KeepsNumber second.old second.new }
+    ensures first { LostHolds (bases_of_packet segs.now) first.old (C.side c.old) first.new (C.side c.new) }
+    ensures second { LostHolds (own_of_packet segs.now) second.old (D.side d.old) second.new (D.side d.new) }
     ensures back { result.back ≤ 2 * length segs.now }
     ensures flushed { result.flushed ≤ max_population * result.back }
 {

@@ -1,9 +1,8 @@
-use Rattle.std.proofs.Common.{[], ◌∷◌, subst, arith}
-use Rattle.commons.specs.declared.limits.Limits.{Limits}
+use Rattle.std.proofs.Common.{[], ◌∷◌, arith}
+use Rattle.std.proofs.lemmas.List.{append-nil}
 use Rattle.commons.proofs.Bags.{bag-append, bag-single, one-same}
 use Rattle.commons.specs.Packets.{hold_of, holds_of_packet}
-use Rattle.mbuf.specs.PacketRules.{freed_nothing}
-use Rattle.mbuf.proofs.EndLemmas.{Ended, one_ended, both_ended}
+use Rattle.mbuf.proofs.EndLemmas.{both_ended, ended_within, one_ended}
 use Rattle.mbuf.proofs.clones.give_up.Goals as goal
 
 -- The holds of the clones are among all that is given up.
@@ -25,40 +24,20 @@ end_hold-requires-clause-held g c =
       arith,
       both,
       bag-append (holds_of_packet c.args.segs.now) (e ∷ []) e,
-      c.end_segs-freed.ensures.holds e,
+      c.end_segs-freed.ensures.lost.holds e,
       bag-single e e,
       one-same e,
     )
 
--- The holds of the clones ended in order, and then that of the element that is left over.
-pub returns-in-Some-clause-calls : goal.returns-in-Some-clause-calls
-returns-in-Some-clause-calls g c =
-    let w = c.args.worker.now in
-    let first = c.end_segs-freed in
-    let second = c.end_hold in
-    let did = g.C.Commons.did in
-    let side = g.C.Commons.side in
-    let later =
-    one_ended did side first.new.c second.new.c first.new.worker.limits c.in-Some.elem
-    first.new.worker.cache first.result second.new.worker.cache second.result
-    second.ensures.calls in
-    rw c.in-Some.is
-    (both_ended did side c.args.c.now first.new.c second.new.c w.limits
-    (holds_of_packet c.args.segs.now) (c.in-Some.elem ∷ []) w.cache freed_nothing
-    first.new.worker.cache first.result second.new.worker.cache second.result
-    first.ensures.calls
-    (subst (λ (l : Limits). Ended did side first.new.c second.new.c l (c.in-Some.elem ∷ [])
-    first.new.worker.cache first.result second.new.worker.cache second.result)
-    first.ensures.number.limits later))
+-- No element is left over, and the holds of the clones ended in order.
+pub returns-in-None : goal.returns-in-None
+returns-in-None g c =
+    let clones = c.end_segs-freed.ensures in
+    rw (c.in-None.is, append-nil (holds_of_packet c.args.segs.now)) (ended_within _ (omega (arith, clones.back, c.requires.few)) clones)
 
--- The holds that ended are those of the clones and one of the element that is left over.
-pub returns-in-Some-clause-holds : goal.returns-in-Some-clause-holds
-returns-in-Some-clause-holds g c = λ i.
-    let e = c.in-Some.elem in
-    rw c.in-Some.is (omega (
-      arith,
-      c.end_segs-freed.ensures.holds i,
-      c.end_hold.ensures.holds i,
-      bag-append (holds_of_packet c.args.segs.now) (e ∷ []) i,
-      bag-single e i,
-    ))
+-- The holds of the clones ended in order, and then that of the element that is left over.
+pub returns-in-Some : goal.returns-in-Some
+returns-in-Some g c =
+    let clones = c.end_segs-freed.ensures in
+    let over = c.end_hold.ensures in
+    rw c.in-Some.is (ended_within _ (omega (arith, clones.back, over.back, c.requires.few)) (both_ended clones (one_ended over)))

@@ -60,7 +60,7 @@ returns-in-Ok-raise-clause-second_holds g c = λ i.
       bag-single c.in-Ok.elem i,
     ))
 
--- And it made it a header.
+-- The claim made the new element a header.
 pub returns-in-Ok-raise-clause-second_headers : goal.returns-in-Ok-raise-clause-second_headers
 returns-in-Ok-raise-clause-second_headers g c = λ i.
     rw c.attached.ensures.seg (omega (
@@ -109,7 +109,7 @@ returns-in-Err-raise-clause-second_holds g c = λ i.
       bag-single c.in-Ok.elem i,
     )
 
--- And it made it a header.
+-- The claim made the element that is left over a header.
 pub returns-in-Err-raise-clause-second_headers : goal.returns-in-Err-raise-clause-second_headers
 returns-in-Err-raise-clause-second_headers g c = λ i.
     omega (

@@ -115,7 +115,7 @@ give_up-requires-clause-first_limits g c =
     c.in-Err.ensures.first_limits ∙ inv.first_limits ∙ c.requires.first_limits
     ∙ ap (λ (w : WorkerCache). w.limits) (sym inv.first)
 
--- And its hand is its cache.
+-- The hand of the first pool's worker is still its cache.
 pub give_up-requires-clause-first_hand : goal.give_up-requires-clause-first_hand
 give_up-requires-clause-first_hand g c = λ i.
     let inv = c.loop-index.invariant in
@@ -152,10 +152,10 @@ returns-in-Err-clause-calls g c =
     g.D.Commons.side c.clone_seg.new.d done.d (λ firsts seconds. GivesBack w.limits stopped.limits new over w.cache
     stopped.cache firsts seconds done.first.cache done.second.cache)) inv.first ends))
 
--- It is the same worker still.
+-- What is given up leaves the worker of the first pool the same one.
 pub returns-in-Err-clause-first_number : goal.returns-in-Err-clause-first_number
 returns-in-Err-clause-first_number g c =
-    let number = c.give_up.ensures.first_number in
+    let number = c.give_up.ensures.first.number in
     let same = c.loop-index.invariant.first in record {
       limits = number.limits ∙ ap (λ (w : WorkerCache). w.limits) same;
       number = number.number ∙ ap (λ (w : WorkerCache). w.number) same;
@@ -186,7 +186,7 @@ returns-clause-first_hand g c = λ i.
     let inv = c.loop-index.invariant in
     inv.first_hand i ∙ c.requires.first_hand i ∙ ap (λ (w : WorkerCache). bag w.cache i) (sym inv.first)
 
--- It is the same worker still.
+-- The clones leave the worker of the first pool the same one.
 pub returns-clause-first_number : goal.returns-clause-first_number
 returns-clause-first_number g c =
     let same = c.loop-index.invariant.first in record {

@@ -1,6 +1,7 @@
-use Rattle.std.proofs.Common.{◌≡◌, [], ◌∷◌, ◌++◌, ℕ, List, length, set, take, None, Some, Result, Ok, refl, sym, ap, subst, ◌∙◌, arith}
+use Rattle.std.proofs.Common.{◌≡◌, [], ◌∷◌, ◌++◌, ℕ, List, length, set, take, None, Option, Some, Result, Ok, refl, sym, ap, subst, ◌∙◌, arith}
 use Rattle.commons.specs.Calls.{Claim, calls_of}
 use Rattle.commons.specs.declared.limits.Limits.{Limits}
+use Rattle.commons.specs.declared.packet.Seg.{Seg}
 use Rattle.commons.proofs.Bags.{bag-single, one-same}
 use Rattle.commons.proofs.Leading.{calls_of-append, Leads-append, Leads-one, made_by}
 use Rattle.commons.specs.declared.refusal.Refusal.{Refusal}
@@ -57,88 +58,35 @@ stand-requires-clause-hand g c =
 pub stand-requires-clause-lowest : goal.stand-requires-clause-lowest
 stand-requires-clause-lowest g c = (lowest c.self.inside c.in-Some.slot c.self.invariant c.in-Some.ensures).free
 
--- The calls are those of the get and then the claim of what it gave, whose packet stands lowest.
-pub returns-in-Ok-clause-calls : goal.returns-in-Ok-clause-calls
-returns-in-Ok-clause-calls g c =
+-- The calls are those of the get and then the claim of what it gave, whose packet stands lowest. The
+-- new element left the cache for the table, and one hold and one header came with it. It was in the
+-- hand, and what is in a hand has no holds: so no packet had it.
+pub returns-in-Ok : goal.returns-in-Ok
+returns-in-Ok g c =
     let table = (member_of c.self.inside).table in
     let slot = c.in-Some.slot in
     let low = lowest c.self.inside slot c.self.invariant c.in-Some.ensures in
     let e = c.in-Ok.elem in
-    let got = c.in-Ok.ensures.calls in
     let w = c.get_one.new.self in
     let before = c.self.inside.worker in
-    let number = c.in-Ok.ensures.number in
+    let got = c.in-Ok.ensures in
+    let stand = c.stand.ensures in
+    let effect = stand.did.step.effect in
     let did = g.C.Commons.did in
     let side = g.C.Commons.side in
-    let stand = c.stand.ensures in
-    let made = made_by did side c.get_one.new.c (Claim e) c.stand.new.c stand.did in
-    rw (sym c.self.view_is) (
-      got.0 ++ made ∷ [],
-      Leads-append did side got.0 (made ∷ []) c.args.c.now c.get_one.new.c c.stand.new.c got.1
-          (Leads-one did side c.get_one.new.c (Claim e) c.stand.new.c stand.did),
-      Fresh slot e low.free (calls_of got.0) w.cache got.2 (calls_of-append got.0 (made ∷ []))
-          (ap (λ (n : ℕ). let r : Result ℕ Refusal = Ok n in r) stand.slot)
-          (stand.stood ∙ member_is w.limits before.limits w.number before.number w.cache
-          (set table slot (Some (fresh_seg w.limits e ∷ [])))
-          (set table slot (Some (fresh_seg before.limits e ∷ []))) number.limits number.number
-          (ap (λ (l : Limits). set table slot (Some (fresh_seg l e ∷ []))) number.limits)),
-    )
-
--- The new element left the cache for the table, and one hold and one header came with it.
-pub returns-in-Ok-clause-guests : goal.returns-in-Ok-clause-guests
-returns-in-Ok-clause-guests g c = λ guests owned.
-    let table = (member_of c.self.inside).table in
-    let slot = c.in-Some.slot in
-    let low = lowest c.self.inside slot c.self.invariant c.in-Some.ensures in
-    let e = c.in-Ok.elem in
-    let w = c.get_one.new.self in
-    let before = c.self.inside.worker in
-    let number = c.in-Ok.ensures.number in
-    let got = c.in-Ok.ensures in
-    let stand = c.stand.ensures in
-    let effect = stand.did.step.effect in
     let first = c.args.c.now in
-    let mid = c.get_one.new.c in
-    let last = c.stand.new.c in
-    let side = g.C.Commons.side in
-    let rest = taken_first table slot (fresh_seg before.limits e ∷ []) low.free in
-    let is =
-    stand.stood ∙ member_is w.limits before.limits w.number before.number w.cache
-    (set table slot (Some (fresh_seg w.limits e ∷ [])))
-    (stood before.limits (e ∷ []) (take 1 (free_slots table)) table) number.limits
-    number.number
-    (rw rest (ap (λ (l : Limits). set table slot (Some (fresh_seg l e ∷ []))) number.limits)) in
-    let own = rw (sym c.self.view_is) at owned in
-    subst (λ (m : Member). OwnWith guests m (side last)) (sym is)
-    (own_stood guests (member_of c.self.inside) (side first) (side mid) (side last)
-    w.cache (e ∷ []) own (effect.limits ∙ got.limits)
-    (omega (arith, ap (λ (s : List ℕ). length s) rest))
-    (λ i. omega (arith, got.hand i, bag-single e i)) got.holds got.headers
-    (λ i. omega (arith, effect.hand i, bag-single e i))
-    (λ i. omega (arith, effect.holds i, bag-single e i))
-    (λ i. omega (arith, effect.headers i, bag-single e i)))
-
--- And so they do with none.
-pub returns-in-Ok-clause-own : goal.returns-in-Ok-clause-own
-returns-in-Ok-clause-own g c = returns-in-Ok-clause-guests g c no_guests
-
--- The element was in the hand, and what is in a hand has no holds: so no packet had it.
-pub returns-in-Ok-clause-fresh : goal.returns-in-Ok-clause-fresh
-returns-in-Ok-clause-fresh g c =
-    let table = (member_of c.self.inside).table in
-    let slot = c.in-Some.slot in
-    let low = lowest c.self.inside slot c.self.invariant c.in-Some.ensures in
-    let e = c.in-Ok.elem in
-    let l = c.self.inside.worker.limits in
-    let w = c.get_one.new.self in
-    let got = c.in-Ok.ensures in
-    let stand = c.stand.ensures in
-    let effect = stand.did.step.effect in
-    let side = g.C.Commons.side in
     let mid = c.get_one.new.c in
     let last = c.stand.new.c in
     let met = g.met.C.Commons in
     let own = rw (sym c.self.view_is) at c.requires.own.1 in
+    let made = made_by did side mid (Claim e) last stand.did in
+    let seg : (l : Limits) → List (Option (List Seg)) = λ l. set table slot (Some (fresh_seg l e ∷ [])) in
+    let same_table : seg w.limits ≡ seg before.limits = ap seg got.number.limits in
+    let rest = taken_first table slot (fresh_seg before.limits e ∷ []) low.free in
+    let is =
+    stand.stood ∙ member_is w.limits before.limits w.number before.number w.cache (seg w.limits)
+    (stood before.limits (e ∷ []) (take 1 (free_slots table)) table) got.number.limits
+    got.number.number (rw rest same_table) in
     let list : own_in_slots c.stand.new.self.table (slot ∷ []) ≡ e ∷ [] =
     ap (λ (m : Member). own_in_slots m.table (slot ∷ [])) stand.stood
     ∙ own_in_one table slot (fresh_seg w.limits e ∷ []) (free_slot-is table slot low.free).0
@@ -146,11 +94,36 @@ returns-in-Ok-clause-fresh g c =
     let none =
     unheld ((side mid).hand e) ((side mid).holds e) (met.apart mid e)
     (omega (arith, own.cached e, got.hand e, one-same e)) in
-    let nobodys : (side c.args.c.now).holds e ≡ 0 = omega (arith, none, ap (λ (f : ℕ → ℕ). f e) got.holds) in
-    let same : (side last).limits.population ≡ l.population =
+    let nobodys : (side first).holds e ≡ 0 = omega (arith, none, ap (λ (f : ℕ → ℕ). f e) got.holds) in
+    let population : (side last).limits.population ≡ before.limits.population =
     ap (λ (x : Limits). x.population) (effect.limits ∙ got.limits ∙ sym own.limits) in
-    rw (sym c.self.view_is, stand.slot, list)
-    (fresh_headers (side mid) (side last) l.population (side c.args.c.now).holds (e ∷ [])
-    (met.header_once last) (met.header_held last)
-    (λ i b. met.holds_below last i (omega (arith, same, b)))
-    (λ i. omega (arith, effect.headers i, bag-single e i)) (λ i some. rw (single_is e i some) nobodys))
+    let stays =
+    λ (guests : ℕ → ℕ) (owned : OwnWith guests c.args.self.now (side first)).
+    subst (λ (m : Member). OwnWith guests m (side last)) (sym is)
+    (own_stood guests (member_of c.self.inside) (side first) (side mid) (side last)
+    w.cache (e ∷ []) (rw (sym c.self.view_is) at owned) (effect.limits ∙ got.limits)
+    (omega (arith, ap (λ (s : List ℕ). length s) rest))
+    (λ i. omega (arith, got.hand i, bag-single e i)) got.holds got.headers
+    (λ i. omega (arith, effect.hand i, bag-single e i))
+    (λ i. omega (arith, effect.holds i, bag-single e i))
+    (λ i. omega (arith, effect.headers i, bag-single e i))) in
+    record {
+      calls = rw (sym c.self.view_is) (
+        got.calls.0 ++ made ∷ [],
+        Leads-append did side got.calls.0 (made ∷ []) first mid last got.calls.1
+            (Leads-one did side mid (Claim e) last stand.did),
+        Fresh slot e low.free (calls_of got.calls.0) w.cache got.calls.2 (calls_of-append got.calls.0 (made ∷ []))
+            (ap (λ (n : ℕ). let r : Result ℕ Refusal = Ok n in r) stand.slot)
+            (stand.stood ∙ member_is w.limits before.limits w.number before.number w.cache (seg w.limits)
+            (seg before.limits) got.number.limits got.number.number same_table),
+      );
+      fresh =
+          rw (sym c.self.view_is, stand.slot, list)
+          (fresh_headers (side mid) (side last) before.limits.population (side first).holds (e ∷ [])
+          (met.header_once last) (met.header_held last)
+          (λ i b. met.holds_below last i (omega (arith, population, b)))
+          (λ i. omega (arith, effect.headers i, bag-single e i)) (λ i some. rw (single_is e i some) nobodys));
+      own = stays no_guests;
+      guests = stays;
+      refused = tt;
+    }

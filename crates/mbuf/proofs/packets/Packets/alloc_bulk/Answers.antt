@@ -71,125 +71,28 @@ stand_all-requires-clause-free g c =
       c.get_bulk.auto.out,
     )
 
--- The calls are those of the get and then a claim of each element, in the order of the get.
-pub returns-in-Ok-clause-calls : goal.returns-in-Ok-clause-calls
-returns-in-Ok-clause-calls g c =
+-- The calls are those of the get and then a claim of each element, in the order of the get. The new
+-- elements left the cache for the table, each with one hold and one header. They were in the hand,
+-- and what is in a hand has no holds: so no packet had them.
+pub returns-in-Ok : goal.returns-in-Ok
+returns-in-Ok g c =
     let inv = c.self.invariant in
     let table = shown c.self.inside.free c.self.inside.packets.items in
     let es = c.get_bulk.new.out in
     let before = c.self.inside.worker in
     let w = c.get_bulk.new.self in
-    let got = c.in-Ok.ensures.calls in
-    let number = c.in-Ok.ensures.number in
-    let did = g.C.Commons.did in
-    let side = g.C.Commons.side in
-    let stand = c.stand_all.ensures in
-    let slots = take (length c.args.out.now) (free_slots table) in
-    let long : length es ≡ length c.args.out.now = omega (arith, c.get_bulk.auto.out) in
-    let listed : c.stand_all.new.out ≡ slots = stand.slots ∙ ap (λ (n : ℕ). take n (free_slots table)) long in
-    rw (sym c.self.view_is) (
-      got.0 ++ stand.calls.0,
-      Leads-append did side got.0 stand.calls.0 c.args.c.now c.get_bulk.new.c c.stand_all.new.c got.1 stand.calls.1,
-      FreshBulk es long (omega (
-        arith,
-        length-free 0 c.self.inside.free c.self.inside.packets.items
-            (inv.packets ∙ sym inv.flags),
-        c.count.ensures,
-        c.if-count-out.false,
-      ))
-          (calls_of got.0) w.cache got.2
-          (calls_of-append got.0 stand.calls.0 ∙ ap (λ (calls : List Call). calls_of got.0 ++ calls) stand.calls.2)
-          (ap (λ (out : List ℕ). let r : Result (List ℕ) Refusal = Ok out in r) listed)
-          (stand.stood
-          ∙ ap (λ (out : List ℕ). let m : Member =
-          record {
-            limits = w.limits;
-            number = w.number;
-            cache = w.cache;
-            table = stood w.limits es out table;
-          } in m) listed
-          ∙ member_is w.limits before.limits w.number before.number w.cache
-          (stood w.limits es slots table) (stood before.limits es slots table) number.limits
-          number.number
-          (ap (λ (l : Limits). stood l es slots table) number.limits)),
-    )
-
--- The new elements left the cache for the table, each with one hold and one header.
-pub returns-in-Ok-clause-guests : goal.returns-in-Ok-clause-guests
-returns-in-Ok-clause-guests g c = λ guests owned.
-    let inv = c.self.invariant in
-    let table = shown c.self.inside.free c.self.inside.packets.items in
-    let es = c.get_bulk.new.out in
-    let before = c.self.inside.worker in
-    let w = c.get_bulk.new.self in
-    let number = c.in-Ok.ensures.number in
     let got = c.in-Ok.ensures in
     let stand = c.stand_all.ensures in
-    let slots = take (length es) (free_slots table) in
+    let did = g.C.Commons.did in
+    let side = g.C.Commons.side in
     let first = c.args.c.now in
     let mid = c.get_bulk.new.c in
     let last = c.stand_all.new.c in
-    let side = g.C.Commons.side in
-    let is = stand.stood
-    ∙ ap (λ (out : List ℕ). let m : Member =
-    record {
-      limits = w.limits;
-      number = w.number;
-      cache = w.cache;
-      table = stood w.limits es out table;
-    } in m) stand.slots
-    ∙ member_is w.limits before.limits w.number before.number w.cache
-    (stood w.limits es slots table) (stood before.limits es slots table) number.limits
-    number.number
-    (ap (λ (l : Limits). stood l es slots table) number.limits) in
-    let own = rw (sym c.self.view_is) at owned in
-    subst (λ (m : Member). OwnWith guests m (side last)) (sym is)
-    (own_stood guests (member_of c.self.inside) (side first) (side mid) (side last)
-    w.cache es own (stand.limits ∙ got.limits)
-    (omega (
-      arith,
-      length-free 0 c.self.inside.free c.self.inside.packets.items
-          (inv.packets ∙ sym inv.flags),
-      c.count.ensures,
-      c.if-count-out.false,
-      c.get_bulk.auto.out,
-    ))
-    got.hand got.holds got.headers stand.hand stand.holds stand.headers)
-
--- And so they do with none.
-pub returns-in-Ok-clause-own : goal.returns-in-Ok-clause-own
-returns-in-Ok-clause-own g c = returns-in-Ok-clause-guests g c no_guests
-
--- The elements were in the hand, and what is in a hand has no holds: so no packet had them.
-pub returns-in-Ok-clause-fresh : goal.returns-in-Ok-clause-fresh
-returns-in-Ok-clause-fresh g c =
-    let inv = c.self.invariant in
-    let table = shown c.self.inside.free c.self.inside.packets.items in
-    let es = c.get_bulk.new.out in
-    let before = c.self.inside.worker in
-    let w = c.get_bulk.new.self in
-    let number = c.in-Ok.ensures.number in
-    let got = c.in-Ok.ensures in
-    let stand = c.stand_all.ensures in
-    let slots = take (length es) (free_slots table) in
-    let mid = c.get_bulk.new.c in
-    let last = c.stand_all.new.c in
-    let side = g.C.Commons.side in
-    let is = stand.stood
-    ∙ ap (λ (out : List ℕ). let m : Member =
-    record {
-      limits = w.limits;
-      number = w.number;
-      cache = w.cache;
-      table = stood w.limits es out table;
-    } in m) stand.slots
-    ∙ member_is w.limits before.limits w.number before.number w.cache
-    (stood w.limits es slots table) (stood before.limits es slots table) number.limits
-    number.number
-    (ap (λ (l : Limits). stood l es slots table) number.limits) in
-    let own = rw (sym c.self.view_is) at c.requires.own.1 in
     let met = g.met.C.Commons in
-    let l = before.limits in
+    let own = rw (sym c.self.view_is) at c.requires.own.1 in
+    let asked = take (length c.args.out.now) (free_slots table) in
+    let slots = take (length es) (free_slots table) in
+    let long : length es ≡ length c.args.out.now = omega (arith, c.get_bulk.auto.out) in
     let room : length es ≤ length (free_slots table) =
     omega (
       arith,
@@ -199,18 +102,60 @@ returns-in-Ok-clause-fresh g c =
       c.if-count-out.false,
       c.get_bulk.auto.out,
     ) in
+    let stands : (s : List ℕ) → c.stand_all.new.out ≡ s → c.stand_all.new.self
+    ≡ record {
+      limits = before.limits;
+      number = before.number;
+      cache = w.cache;
+      table = stood before.limits es s table;
+    } =
+    λ s e. stand.stood
+    ∙ ap (λ (out : List ℕ). let m : Member =
+    record {
+      limits = w.limits;
+      number = w.number;
+      cache = w.cache;
+      table = stood w.limits es out table;
+    } in m) e
+    ∙ member_is w.limits before.limits w.number before.number w.cache
+    (stood w.limits es s table) (stood before.limits es s table) got.number.limits
+    got.number.number
+    (ap (λ (l : Limits). stood l es s table) got.number.limits) in
+    let is = stands slots stand.slots in
+    let listed : c.stand_all.new.out ≡ asked = stand.slots ∙ ap (λ (n : ℕ). take n (free_slots table)) long in
     let list : own_in_slots c.stand_all.new.self.table c.stand_all.new.out ≡ es =
     ap (λ (m : Member). own_in_slots m.table c.stand_all.new.out) is
-    ∙ ap (λ (out : List ℕ). own_in_slots (stood l es slots table) out) stand.slots
-    ∙ own_in_stood l es table room in
-    let same : (side last).limits.population ≡ l.population =
+    ∙ ap (λ (out : List ℕ). own_in_slots (stood before.limits es slots table) out) stand.slots
+    ∙ own_in_stood before.limits es table room in
+    let population : (side last).limits.population ≡ before.limits.population =
     ap (λ (x : Limits). x.population) (stand.limits ∙ got.limits ∙ sym own.limits) in
-    rw (sym c.self.view_is, list)
-    (fresh_headers (side mid) (side last) l.population (side c.args.c.now).holds es (met.header_once last)
-    (met.header_held last) (λ i b. met.holds_below last i (omega (arith, same, b)))
-    stand.headers
-    (λ i some.
-    let none =
-    unheld ((side mid).hand i) ((side mid).holds i) (met.apart mid i)
-    (omega (arith, own.cached i, got.hand i, some)) in
-    omega (arith, none, ap (λ (f : ℕ → ℕ). f i) got.holds)))
+    let stays =
+    λ (guests : ℕ → ℕ) (owned : OwnWith guests c.args.self.now (side first)).
+    subst (λ (m : Member). OwnWith guests m (side last)) (sym is)
+    (own_stood guests (member_of c.self.inside) (side first) (side mid) (side last)
+    w.cache es (rw (sym c.self.view_is) at owned) (stand.limits ∙ got.limits) room
+    got.hand got.holds got.headers stand.hand stand.holds stand.headers) in
+    record {
+      calls = rw (sym c.self.view_is) (
+        got.calls.0 ++ stand.calls.0,
+        Leads-append did side got.calls.0 stand.calls.0 first mid last got.calls.1 stand.calls.1,
+        FreshBulk es long (omega (arith, room, long)) (calls_of got.calls.0) w.cache got.calls.2
+            (calls_of-append got.calls.0 stand.calls.0
+            ∙ ap (λ (calls : List Call). calls_of got.calls.0 ++ calls) stand.calls.2)
+            (ap (λ (out : List ℕ). let r : Result (List ℕ) Refusal = Ok out in r) listed)
+            (stands asked listed),
+      );
+      fresh =
+          rw (sym c.self.view_is, list)
+          (fresh_headers (side mid) (side last) before.limits.population (side first).holds es
+          (met.header_once last) (met.header_held last)
+          (λ i b. met.holds_below last i (omega (arith, population, b))) stand.headers
+          (λ i some.
+          let none =
+          unheld ((side mid).hand i) ((side mid).holds i) (met.apart mid i)
+          (omega (arith, own.cached i, got.hand i, some)) in
+          omega (arith, none, ap (λ (f : ℕ → ℕ). f i) got.holds)));
+      own = stays no_guests;
+      guests = stays;
+      refused = tt;
+    }

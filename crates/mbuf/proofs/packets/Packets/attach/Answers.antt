@@ -1,4 +1,4 @@
-use Rattle.std.proofs.Common.{[], ◌∷◌, set, Some, Err, inl, inr, refl, sym, ap, subst, ◌∙◌}
+use Rattle.std.proofs.Common.{ℕ, [], ◌∷◌, set, Some, Err, inl, inr, refl, sym, ap, subst, ◌∙◌}
 use Rattle.std.proofs.lemmas.Result.{err_from_is_err_and}
 use Rattle.commons.specs.declared.packet.Seg.{Seg}
 use Rattle.mbuf.specs.inside.Kept.{member_of}
@@ -53,15 +53,17 @@ returns-in_err-attached-clause-calls g c =
       ],
     )
 
--- The count was 1 and the raise was done, and the packet is its element attached to the buffer.
-pub returns-clause-calls : goal.returns-clause-calls
-returns-clause-calls g c =
+-- The count was 1 and the raise was done, and the packet is its element attached to the buffer. The
+-- table has one hold of the buffer more, and so has the worker; its headers are the same.
+pub returns : goal.returns
+returns g c =
     let p = c.self.inside in
     let mi = c.args.mi in
     let e = c.in_ok-elem.elem in
     let seg = c.in_ok-elem.seg in
     let new = c.in_ok-attached.attached in
-    let did = c.in_ok-attached.ensures.calls in
+    let done = c.in_ok-attached.ensures in
+    let did = done.calls in
     let are = rw (sym c.self.view_is) at c.in_ok-elem.ensures.are in
     let is =
     changed p p.worker (set p.packets.items mi c.restart.new.self) mi (are.own ∷ []) (new ∷ [])
@@ -71,32 +73,18 @@ returns-clause-calls g c =
     let same =
     ap (λ (x : Seg). let m : Member =
     record (member_of p) { table = set (member_of p).table mi (Some (x ∷ [])) } in m) did.2.1 in
-    rw (sym c.self.view_is) (did.0, did.1, WasAttached e seg (sym pair) did.2.0 refl (is ∙ same))
-
--- The table has one hold of the buffer more, and so has the worker; its headers are the same.
-pub returns-clause-guests : goal.returns-clause-guests
-returns-clause-guests g c = λ guests owned.
-    let p = c.self.inside in
-    let mi = c.args.mi in
-    let e = c.in_ok-elem.elem in
-    let seg = c.in_ok-elem.seg in
-    let new = c.in_ok-attached.attached in
-    let did = c.in_ok-attached.ensures.calls in
-    let are = rw (sym c.self.view_is) at c.in_ok-elem.ensures.are in
-    let is =
-    changed p p.worker (set p.packets.items mi c.restart.new.self) mi (are.own ∷ []) (new ∷ [])
-    c.self.invariant are.within are.here (record { limits = refl; number = refl })
-    (ap (set p.packets.items mi) c.restart.ensures) in
-    let own = rw (sym c.self.view_is) at owned in
     let side = g.C.Commons.side in
     let first = c.args.c.now in
     let last = c.attach.new.c in
-    let done = c.in_ok-attached.ensures in
+    let stays =
+    λ (guests : ℕ → ℕ) (owned : OwnWith guests c.args.self.now (side first)).
     subst (λ (m : Member). OwnWith guests m (side last)) (sym is)
     (own_attached guests (member_of p) (side first) (side last) mi c.args.target (e, seg) new
-    own done.ok.limits are did.2.1
-    done.ok.hand done.ok.holds done.ok.headers)
-
--- And so they do with none.
-pub returns-clause-own : goal.returns-clause-own
-returns-clause-own g c = returns-clause-guests g c no_guests
+    (rw (sym c.self.view_is) at owned) done.ok.limits are did.2.1
+    done.ok.hand done.ok.holds done.ok.headers) in
+    record {
+      calls = rw (sym c.self.view_is) (did.0, did.1, WasAttached e seg (sym pair) did.2.0 refl (is ∙ same));
+      own = stays no_guests;
+      guests = stays;
+      refused = tt;
+    }

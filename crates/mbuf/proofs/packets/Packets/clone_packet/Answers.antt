@@ -72,9 +72,11 @@ pub take-requires-clause-free : goal.take-requires-clause-free
 take-requires-clause-free g c =
     (lowest c.self.inside c.in-Some-lowest.lowest c.self.invariant c.in-Some-lowest.ensures).flag
 
--- Each segment was cloned, and the clones are what the lowest free slot shows once it is taken.
-pub returns-in-Ok-clause-calls : goal.returns-in-Ok-clause-calls
-returns-in-Ok-clause-calls g c =
+-- Each segment was cloned, and the clones are what the lowest free slot shows once it is taken. Their
+-- holds and headers are those that came to the worker, and its cache is its hand; the own elements
+-- are new headers, and nobody held them before.
+pub returns-in-Ok : goal.returns-in-Ok
+returns-in-Ok g c =
     let p = c.self.inside in
     let source = c.in-Some.source in
     let slot = c.in-Some-lowest.lowest in
@@ -86,80 +88,46 @@ returns-in-Ok-clause-calls g c =
     let is =
     filled p done.worker c.take.new.self done.packets.items slot new c.self.invariant low
     c.clone_segs.ensures.number c.take.ensures c.clone_segs.ensures.packets in
-    let did = c.in-Ok.ensures.calls in
-    rw (sym c.self.view_is, sym at.0) (
-      did.0,
-      did.1,
-      WasCloned (get_or p.packets.items source []) slot (found p source slot src low) new
-          done.worker.cache did.2 refl is,
-    )
-
--- The clone's holds and headers are those that came to the worker, and its cache is its hand.
-pub returns-in-Ok-clause-guests : goal.returns-in-Ok-clause-guests
-returns-in-Ok-clause-guests g c = λ guests owned.
-    let p = c.self.inside in
-    let slot = c.in-Some-lowest.lowest in
-    let low = lowest p slot c.self.invariant c.in-Some-lowest.ensures in
-    let done = c.clone_segs.new in
-    let new = get_or done.packets.items slot [] in
-    let is =
-    filled p done.worker c.take.new.self done.packets.items slot new c.self.invariant low
-    c.clone_segs.ensures.number c.take.ensures c.clone_segs.ensures.packets in
-    let own = rw (sym c.self.view_is) at owned in
-    let side = g.C.Commons.side in
     let did = c.in-Ok.ensures in
-    subst (λ (m : Member). OwnWith guests m (side done.c)) (sym is)
-    (own_cloned guests (member_of p) (side c.args.c.now) (side done.c) done.worker.cache slot new own
-    did.limits low.free did.hand did.holds did.headers)
-
--- And so they do with none.
-pub returns-in-Ok-clause-own : goal.returns-in-Ok-clause-own
-returns-in-Ok-clause-own g c = returns-in-Ok-clause-guests g c no_guests
-
--- The clone's own elements are new headers, and nobody held them before.
-pub returns-in-Ok-clause-fresh : goal.returns-in-Ok-clause-fresh
-returns-in-Ok-clause-fresh g c =
-    let p = c.self.inside in
-    let slot = c.in-Some-lowest.lowest in
-    let low = lowest p slot c.self.invariant c.in-Some-lowest.ensures in
-    let done = c.clone_segs.new in
-    let new = get_or done.packets.items slot [] in
-    let is =
-    filled p done.worker c.take.new.self done.packets.items slot new c.self.invariant low
-    c.clone_segs.ensures.number c.take.ensures c.clone_segs.ensures.packets in
-    let own = rw (sym c.self.view_is) at c.requires.own.1 in
     let side = g.C.Commons.side in
     let first = c.args.c.now in
     let last = done.c in
     let l = p.worker.limits in
-    let did = c.in-Ok.ensures in
     let met = g.met.C.Commons in
+    let own = rw (sym c.self.view_is) at c.requires.own.1 in
     let list =
     ap (λ (m : Member). own_in_slots m.table (slot ∷ [])) is
     ∙ own_in_one (member_of p).table slot new (free_slot-is (member_of p).table slot low.free).0 in
     let same : (side last).limits.population ≡ l.population =
     ap (λ (x : Limits). x.population) (did.limits ∙ sym own.limits) in
-    rw (sym c.self.view_is, list)
-    (fresh_headers (side first) (side last) l.population (side first).holds
-    (own_of_packet new) (met.header_once last) (met.header_held last)
-    (λ i b. met.holds_below last i (omega (arith, same, b))) did.headers
-    did.unheld)
+    let stays =
+    λ (guests : ℕ → ℕ) (owned : OwnWith guests c.args.self.now (side first)).
+    subst (λ (m : Member). OwnWith guests m (side last)) (sym is)
+    (own_cloned guests (member_of p) (side first) (side last) done.worker.cache slot new
+    (rw (sym c.self.view_is) at owned) did.limits low.free did.hand did.holds did.headers) in
+    record {
+      calls = rw (sym c.self.view_is, sym at.0) (
+        did.calls.0,
+        did.calls.1,
+        WasCloned (get_or p.packets.items source []) slot (found p source slot src low) new
+            done.worker.cache did.calls.2 refl is,
+      );
+      holds_err = tt;
+      headers_err = tt;
+      table_err = tt;
+      fresh = rw (sym c.self.view_is, list)
+          (fresh_headers (side first) (side last) l.population (side first).holds
+          (own_of_packet new) (met.header_once last) (met.header_held last)
+          (λ i b. met.holds_below last i (omega (arith, same, b))) did.headers
+          did.unheld);
+      own = stays no_guests;
+      guests = stays;
+    }
 
--- The clones so far lie in a slot that is free still, where the table shows nothing.
-pub returns-in-Err-clause-table_err : goal.returns-in-Err-clause-table_err
-returns-in-Err-clause-table_err g c =
-    let p = c.self.inside in
-    let slot = c.in-Some-lowest.lowest in
-    let low = lowest p slot c.self.invariant c.in-Some-lowest.ensures in
-    let done = c.clone_segs.new in
-    let is =
-    hidden p done.worker done.packets.items slot (get_or done.packets.items slot []) low
-    c.clone_segs.ensures.number c.clone_segs.ensures.packets in
-    rw (sym c.self.view_is) (ap (λ (m : Member). m.table) is)
-
--- The clones were given up, and the slot where they lie is free still: the table is as before.
-pub returns-in-Err-clause-calls : goal.returns-in-Err-clause-calls
-returns-in-Err-clause-calls g c =
+-- The clones were given up, and the slot where they lie is free still: the table is as before, and
+-- holds and headers too.
+pub returns-in-Err : goal.returns-in-Err
+returns-in-Err g c =
     let p = c.self.inside in
     let source = c.in-Some.source in
     let slot = c.in-Some-lowest.lowest in
@@ -170,32 +138,25 @@ returns-in-Err-clause-calls g c =
     let is =
     hidden p done.worker done.packets.items slot (get_or done.packets.items slot []) low
     c.clone_segs.ensures.number c.clone_segs.ensures.packets in
-    let did = c.in-Err.ensures.calls in
-    rw (sym c.self.view_is, sym at.0) (
-      did.0,
-      did.1,
-      WasGivenUp (get_or p.packets.items source []) slot (found p source slot src low)
-          c.in-Err.cause
-          done.worker.cache did.2 refl is,
-    )
-
--- What was given up left holds and headers as before, and the table too.
-pub returns-in-Err-clause-guests : goal.returns-in-Err-clause-guests
-returns-in-Err-clause-guests g c = λ guests owned.
-    let p = c.self.inside in
-    let slot = c.in-Some-lowest.lowest in
-    let low = lowest p slot c.self.invariant c.in-Some-lowest.ensures in
-    let done = c.clone_segs.new in
-    let is =
-    hidden p done.worker done.packets.items slot (get_or done.packets.items slot []) low
-    c.clone_segs.ensures.number c.clone_segs.ensures.packets in
-    let own = rw (sym c.self.view_is) at owned in
-    let side = g.C.Commons.side in
     let did = c.in-Err.ensures in
+    let side = g.C.Commons.side in
+    let stays =
+    λ (guests : ℕ → ℕ) (owned : OwnWith guests c.args.self.now (side c.args.c.now)).
     subst (λ (m : Member). OwnWith guests m (side done.c)) (sym is)
-    (own_given_up guests (member_of p) (side c.args.c.now) (side done.c) done.worker.cache own did.limits
-    did.hand did.holds_err did.headers_err)
-
--- And so they do with none.
-pub returns-in-Err-clause-own : goal.returns-in-Err-clause-own
-returns-in-Err-clause-own g c = returns-in-Err-clause-guests g c no_guests
+    (own_given_up guests (member_of p) (side c.args.c.now) (side done.c) done.worker.cache
+    (rw (sym c.self.view_is) at owned) did.limits did.hand did.holds_err did.headers_err) in
+    record {
+      calls = rw (sym c.self.view_is, sym at.0) (
+        did.calls.0,
+        did.calls.1,
+        WasGivenUp (get_or p.packets.items source []) slot (found p source slot src low)
+            c.in-Err.cause
+            done.worker.cache did.calls.2 refl is,
+      );
+      holds_err = did.holds_err;
+      headers_err = did.headers_err;
+      table_err = rw (sym c.self.view_is) (ap (λ (m : Member). m.table) is);
+      fresh = tt;
+      own = stays no_guests;
+      guests = stays;
+    }

@@ -1,6 +1,4 @@
-use Rattle.std.proofs.Common.{◌≡◌, [], ◌∷◌, set, refl, sym, ap, subst, ◌∙◌}
-use Rattle.std.specs.Prelude.{nat_lt}
-use Rattle.std.proofs.lemmas.Bool.{cond-true, lt-ltb}
+use Rattle.std.proofs.Common.{ℕ, ◌≡◌, [], ◌∷◌, set, refl, sym, ap, subst, ◌∙◌}
 use Rattle.std.proofs.lemmas.Result.{err_from_is_err_and}
 use Rattle.commons.specs.declared.limits.Limits.{Limits}
 use Rattle.commons.specs.declared.packet.Seg.{Seg}
@@ -9,6 +7,7 @@ use Rattle.mbuf.specs.Members.{Member}
 use Rattle.mbuf.specs.Own.{OwnWith, no_guests}
 use Rattle.mbuf.specs.PacketRules.{fresh_seg}
 use Rattle.mbuf.specs.Sharing.{NotDetachable, WasDetached}
+use Rattle.mbuf.proofs.EndLemmas.{one_ended}
 use Rattle.mbuf.proofs.PlaceLemmas.{changed}
 use Rattle.mbuf.proofs.SharingLemmas.{base_held, own_detached}
 use Rattle.mbuf.proofs.packets.Packets.detach.Goals as goal
@@ -30,61 +29,42 @@ end_hold-freed-requires-clause-held g c =
     base_held c.requires.own.0 c.args.self.now (g.C.Commons.side now) c.args.p (c.in_ok-elem.elem, c.in_ok-elem.base)
     c.requires.own.1 c.in_ok-elem.ensures.is
 
--- The base's hold ended by its rule, and the packet's element is a fresh segment of its own.
-pub returns-clause-calls : goal.returns-clause-calls
-returns-clause-calls g c =
+-- The base's hold ended by its rule, and the packet's element is a fresh segment of its own. The
+-- table has one hold of the base less, as the worker has; what it holds keeps its header.
+pub returns : goal.returns
+returns g c =
     let p = c.self.inside in
     let slot = c.args.p in
     let e = c.in_ok-elem.elem in
     let l = p.worker.limits in
     let later = c.end_hold-freed.new.worker in
-    let number = c.end_hold-freed.ensures.number in
+    let done = c.end_hold-freed.ensures in
     let there = rw (sym c.self.view_is) at c.in_ok-elem.ensures.is in
     let fresh : c.restart.new.self ≡ fresh_seg l e ∷ [] =
     c.restart.ensures ∙ ap (λ (s : Seg). s ∷ []) (c.fresh-fresh.ensures.seg
-    ∙ ap (λ (l : Limits). fresh_seg l e) (c.limits.ensures.limits ∙ number.limits)) in
+    ∙ ap (λ (l : Limits). fresh_seg l e) (c.limits.ensures.limits ∙ done.number.limits)) in
     let is =
     changed p later (set p.packets.items slot c.restart.new.self) slot (there.own ∷ [])
-    (fresh_seg l e ∷ []) c.self.invariant there.within there.here number
+    (fresh_seg l e ∷ []) c.self.invariant there.within there.here done.number
     (ap (set p.packets.items slot) fresh) in
     let pair = rw (sym c.self.view_is) at c.in_ok-elem.ensures.pair in
-    let did = c.end_hold-freed.ensures.calls in
-    rw (sym c.self.view_is) (
-      did.0,
-      did.1,
-      WasDetached e c.in_ok-elem.base (sym pair) later.cache c.end_hold-freed.result did.2 refl
-          is,
-    )
-
--- The table has one hold of the base less, as the worker has; what it holds keeps its header.
-pub returns-clause-guests : goal.returns-clause-guests
-returns-clause-guests g c = λ guests owned.
-    let p = c.self.inside in
-    let slot = c.args.p in
-    let e = c.in_ok-elem.elem in
-    let l = p.worker.limits in
-    let later = c.end_hold-freed.new.worker in
-    let number = c.end_hold-freed.ensures.number in
-    let there = rw (sym c.self.view_is) at c.in_ok-elem.ensures.is in
-    let fresh : c.restart.new.self ≡ fresh_seg l e ∷ [] =
-    c.restart.ensures ∙ ap (λ (s : Seg). s ∷ []) (c.fresh-fresh.ensures.seg
-    ∙ ap (λ (l : Limits). fresh_seg l e) (c.limits.ensures.limits ∙ number.limits)) in
-    let is =
-    changed p later (set p.packets.items slot c.restart.new.self) slot (there.own ∷ [])
-    (fresh_seg l e ∷ []) c.self.invariant there.within there.here number
-    (ap (set p.packets.items slot) fresh) in
-    let own = rw (sym c.self.view_is) at owned in
+    let lost = (one_ended done).lost in
     let side = g.C.Commons.side in
     let first = c.args.c.now in
     let last = c.end_hold-freed.new.c in
-    let done = c.end_hold-freed.ensures in
+    let stays =
+    λ (guests : ℕ → ℕ) (owned : OwnWith guests c.args.self.now (side first)).
     subst (λ (m : Member). OwnWith guests m (side last)) (sym is)
     (own_detached guests (member_of p) (side first) (side last) later.cache slot
-    (e, c.in_ok-elem.base) own done.limits there
-    done.hand done.holds (λ i some. done.headers i
-    ∙ cond-true (nat_lt 0 ((side last).holds i)) ((side first).headers i) 0
-    (lt-ltb 0 ((side last).holds i) some)))
-
--- And so they do with none.
-pub returns-clause-own : goal.returns-clause-own
-returns-clause-own g c = returns-clause-guests g c no_guests
+    (e, c.in_ok-elem.base) (rw (sym c.self.view_is) at owned) done.limits there
+    done.hand done.holds lost.headers) in
+    record {
+      calls = rw (sym c.self.view_is) (
+        done.calls.0,
+        done.calls.1,
+        WasDetached e c.in_ok-elem.base (sym pair) later.cache c.end_hold-freed.result done.calls.2 refl is,
+      );
+      own = stays no_guests;
+      guests = stays;
+      refused = tt;
+    }

@@ -1,4 +1,4 @@
-use Rattle.std.proofs.Common.{[], get_or, refl, sym, subst, arith}
+use Rattle.std.proofs.Common.{ℕ, [], get_or, refl, sym, subst, arith}
 use Rattle.std.proofs.lemmas.List.{set-get_or}
 use Rattle.mbuf.specs.inside.Kept.{member_of}
 use Rattle.mbuf.specs.Members.{Member}
@@ -33,9 +33,10 @@ give-requires-clause-taken g c =
     taken_slot p.free p.packets.items slot src.within (alike p c.self.invariant)
     (rw (sym at.0) at at.2)
 
--- The packet's holds ended in order, and its slot, once it is given back, shows nothing.
-pub returns-clause-calls : goal.returns-clause-calls
-returns-clause-calls g c =
+-- The packet's holds ended in order, and its slot, once it is given back, shows nothing. The table
+-- lost the packet's holds, which are those that the worker lost.
+pub returns : goal.returns
+returns g c =
     let p = c.self.inside in
     let slot = c.in-Some.slot in
     let segs = c.segs.result.now in
@@ -45,38 +46,26 @@ returns-clause-calls g c =
     lent p slot c.args.p segs c.index.result.now c.self.invariant at c.segs.ensures.segs
     c.index.ensures in
     let done = c.end_segs-freed.ensures in
+    let lost = done.lost in
     let is =
     emptied p w c.give.new.self p.packets.items slot (get_or p.packets.items slot [])
-    c.self.invariant done.number c.give.ensures (sym (set-get_or p.packets.items slot [])) in
-    rw (sym c.self.view_is, sym at.0) (
-      done.calls.0,
-      done.calls.1,
-      WasFreed segs w.cache c.end_segs-freed.result stood.there done.calls.2 refl is,
-    )
-
--- The table lost the packet's holds, which are those that the worker lost.
-pub returns-clause-guests : goal.returns-clause-guests
-returns-clause-guests g c = λ guests owned.
-    let p = c.self.inside in
-    let slot = c.in-Some.slot in
-    let segs = c.segs.result.now in
-    let w = c.end_segs-freed.new.worker in
-    let own = rw (sym c.self.view_is) at owned in
-    let at = rw (sym c.self.view_is) at c.in-Some.ensures in
-    let stood =
-    lent p slot c.args.p segs c.index.result.now c.self.invariant at c.segs.ensures.segs
-    c.index.ensures in
-    let done = c.end_segs-freed.ensures in
-    let is =
-    emptied p w c.give.new.self p.packets.items slot (get_or p.packets.items slot [])
-    c.self.invariant done.number c.give.ensures (sym (set-get_or p.packets.items slot [])) in
+    c.self.invariant lost.number c.give.ensures (sym (set-get_or p.packets.items slot [])) in
     let side = g.C.Commons.side in
-    let after = c.end_segs-freed.new.c in
+    let first = c.args.c.now in
+    let last = c.end_segs-freed.new.c in
     let long = length-shown p.free p.packets.items (alike p c.self.invariant) in
-    subst (λ (m : Member). OwnWith guests m (side after)) (sym is)
-    (own_free guests (member_of p) (side c.args.c.now) (side after) w.cache slot segs own done.limits
-    (omega (arith, stood.within, long)) stood.there done.hand done.holds done.headers)
-
--- And so they do with none.
-pub returns-clause-own : goal.returns-clause-own
-returns-clause-own g c = returns-clause-guests g c no_guests
+    let stays =
+    λ (guests : ℕ → ℕ) (owned : OwnWith guests c.args.self.now (side first)).
+    subst (λ (m : Member). OwnWith guests m (side last)) (sym is)
+    (own_free guests (member_of p) (side first) (side last) w.cache slot segs (rw (sym c.self.view_is) at owned)
+    lost.limits (omega (arith, stood.within, long)) stood.there lost.hand lost.holds lost.headers) in
+    record {
+      calls = rw (sym c.self.view_is, sym at.0) (
+        done.calls.0,
+        done.calls.1,
+        WasFreed segs w.cache c.end_segs-freed.result stood.there done.calls.2 refl is,
+      );
+      own = stays no_guests;
+      guests = stays;
+      refused = tt;
+    }

@@ -23,7 +23,7 @@ end_segs-freed-requires-clause-first_held g c = λ i.
     bases_in_slot_held (member_of c.first.inside) (g.C.Commons.side c.args.c.now) (member_of p).table slot segs i
     own.first stood.there
 
--- Its own elements are held in the second.
+-- The own elements of the clone are held in the second pool.
 pub end_segs-freed-requires-clause-second_held : goal.end_segs-freed-requires-clause-second_held
 end_segs-freed-requires-clause-second_held g c = λ i.
     let p = c.self.inside in
@@ -46,43 +46,16 @@ give-requires-clause-taken g c =
     taken_slot p.free p.packets.items slot src.within (alike p c.self.invariant)
     (rw (sym at.0) at at.2)
 
--- The clone's segments ended in order, and its slot, once it is given back, shows nothing.
-pub returns-clause-calls : goal.returns-clause-calls
-returns-clause-calls g c =
-    let p = c.self.inside in
-    let slot = c.in-Some.slot in
-    let segs = c.segs.result.now in
-    let done = c.end_segs-freed in
-    let at = rw (sym c.self.view_is) at c.in-Some.ensures in
-    let stood =
-    lent p slot c.args.p segs c.index.result.now c.self.invariant at c.segs.ensures.segs
-    c.index.ensures in
-    let second =
-    emptied p done.new.second c.give.new.self p.packets.items slot (get_or p.packets.items slot [])
-    c.self.invariant done.ensures.second_number c.give.ensures (sym (set-get_or p.packets.items slot [])) in
-    let first = recached c.first.inside done.new.first done.ensures.first_number in
-    let calls = done.ensures.calls in
-    rw (sym c.self.view_is, sym c.first.view_is, sym at.0) (
-      calls.0,
-      calls.1,
-      (
-        calls.2.0,
-        calls.2.1,
-        CloneFreed segs done.new.first.cache done.new.second.cache done.result stood.there calls.2.2 refl
-            first second,
-      ),
-    )
-
--- The guests lost the clone's bases, and the clones its own elements, as the worker did on either
--- side.
-pub returns-clause-own : goal.returns-clause-own
-returns-clause-own g c =
+-- The clone's segments ended in order, and its slot, once it is given back, shows nothing. The guests
+-- lost the clone's bases, and the clones its own elements, as the worker did on either side.
+pub returns : goal.returns
+returns g c =
     let p = c.self.inside in
     let q = c.first.inside in
     let slot = c.in-Some.slot in
     let segs = c.segs.result.now in
-    let done = c.end_segs-freed in
-    let did = done.ensures in
+    let done = c.end_segs-freed.new in
+    let did = c.end_segs-freed.ensures in
     let own = rw (sym c.self.view_is, sym c.first.view_is) at c.requires.own in
     let at = rw (sym c.self.view_is) at c.in-Some.ensures in
     let stood =
@@ -91,20 +64,36 @@ returns-clause-own g c =
     let long = length-shown p.free p.packets.items (alike p c.self.invariant) in
     let within : slot < length (member_of p).table = omega (arith, stood.within, long) in
     let second =
-    emptied p done.new.second c.give.new.self p.packets.items slot (get_or p.packets.items slot [])
-    c.self.invariant did.second_number c.give.ensures (sym (set-get_or p.packets.items slot [])) in
-    let first = recached q done.new.first did.first_number in
+    emptied p done.second c.give.new.self p.packets.items slot (get_or p.packets.items slot [])
+    c.self.invariant did.second.number c.give.ensures (sym (set-get_or p.packets.items slot [])) in
+    let first = recached q done.first did.first.number in
     let table = set (member_of p).table slot None in
     let guests : (i : ℕ) → bases_in table i + bag (bases_in_slot (Some segs)) i ≡ bases_in (member_of p).table i =
     λ i. let u = rw stood.there at (bases_in-set (member_of p).table slot None i within) in
     omega (arith, u, bag-nil i) in
-    own_twin_at _ _ _ _ _ _ first second (record {
-      first =
-          own_guests (bases_in (member_of p).table) (bases_in table) (member_of q) (g.C.Commons.side c.args.c.now)
-          (g.C.Commons.side done.new.c) done.new.first.cache own.first did.first_limits did.first_hand
-          (λ i. omega (arith, did.first_holds i, guests i)) did.first_headers;
-      second =
-          own_freed (member_of p) (g.D.Commons.side c.args.d.now) (g.D.Commons.side done.new.d) done.new.second.cache
-          slot segs own.second did.second_limits within stood.there did.second_hand did.second_holds
-          did.second_headers;
-    })
+    record {
+      calls = rw (sym c.self.view_is, sym c.first.view_is, sym at.0) (
+        did.calls.0,
+        did.calls.1,
+        (
+          did.calls.2.0,
+          did.calls.2.1,
+          CloneFreed segs done.first.cache done.second.cache c.end_segs-freed.result stood.there
+              did.calls.2.2 refl first second,
+        ),
+      );
+      own =
+          own_twin_at _ _ _ _ _ _ first second (record {
+            first =
+                own_guests (bases_in (member_of p).table) (bases_in table) (member_of q)
+                (g.C.Commons.side c.args.c.now) (g.C.Commons.side done.c) done.first.cache own.first
+                did.first.limits did.first.hand (λ i. omega (arith, did.first.holds i, guests i))
+                did.first.headers;
+            second =
+                own_freed (member_of p) (g.D.Commons.side c.args.d.now) (g.D.Commons.side done.d)
+                done.second.cache slot segs own.second did.second.limits within stood.there did.second.hand
+                did.second.holds did.second.headers;
+          });
+      first_refused = tt;
+      second_refused = tt;
+    }

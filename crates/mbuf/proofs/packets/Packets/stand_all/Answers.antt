@@ -95,7 +95,7 @@ loop-place-preserved g c =
       limits = done.step.effect.limits ∙ inv.limits;
     }
 
--- all of them stand
+-- At the end each element was claimed, in order.
 pub returns-clause-calls : goal.returns-clause-calls
 returns-clause-calls g c =
     let all = take_all c.loop-place.place c.args.out.now (omega (arith, c.loop-place-test.false)) in

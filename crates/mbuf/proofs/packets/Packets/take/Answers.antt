@@ -1,4 +1,4 @@
-use Rattle.std.proofs.Common.{◌≡◌, ◌<◌, [], ◌∷◌, set, None, Ok, Err, refl, sym, ap, subst, ◌∙◌, arith}
+use Rattle.std.proofs.Common.{ℕ, ◌≡◌, ◌<◌, [], ◌∷◌, set, None, Ok, Err, refl, sym, ap, subst, ◌∙◌, arith}
 use Rattle.commons.specs.Calls.{Take}
 use Rattle.commons.specs.declared.limits.Limits.{Limits}
 use Rattle.commons.proofs.Leading.{Leads-one, made_by}
@@ -33,9 +33,10 @@ pub take-requires-in-Ok-clause-free : goal.take-requires-in-Ok-clause-free
 take-requires-in-Ok-clause-free g c =
     (lowest c.self.inside c.in-Some.place c.self.invariant c.in-Some.ensures).flag
 
--- The one call gave the packet, and the lowest free slot shows it once it is taken.
-pub returns-in-Ok-clause-calls : goal.returns-in-Ok-clause-calls
-returns-in-Ok-clause-calls g c =
+-- The one call gave the packet, and the lowest free slot shows it once it is taken; its holds and
+-- headers came to the worker with it.
+pub returns-in-Ok : goal.returns-in-Ok
+returns-in-Ok g c =
     let p = c.self.inside in
     let slot = c.in-Some.place in
     let segs = c.in-Ok.packet in
@@ -50,37 +51,28 @@ returns-in-Ok-clause-calls g c =
     let is =
     filled p p.worker c.take-in-Ok.new.self (set p.packets.items slot segs) slot segs
     c.self.invariant low (record { limits = refl; number = refl }) c.take-in-Ok.ensures refl in
-    let did = c.in-Ok.ensures in
+    let did = c.in-Ok.ensures.did in
+    let effect = did.step.effect in
     let call = Take c.args.desk (Ok segs) in
-    rw (sym c.self.view_is) (
-      made_by g.C.Commons.did g.C.Commons.side c.args.c.now call c.take.new.self did.did ∷ [],
-      Leads-one g.C.Commons.did g.C.Commons.side c.args.c.now call c.take.new.self did.did,
-      WasTaken here slot low.free segs refl refl is,
-    )
-
--- The packet came into the table, and its holds and headers came to the worker.
-pub returns-in-Ok-clause-guests : goal.returns-in-Ok-clause-guests
-returns-in-Ok-clause-guests g c = λ guests owned.
-    let p = c.self.inside in
-    let slot = c.in-Some.place in
-    let segs = c.in-Ok.packet in
-    let low = lowest p slot c.self.invariant c.in-Some.ensures in
-    let is =
-    filled p p.worker c.take-in-Ok.new.self (set p.packets.items slot segs) slot segs
-    c.self.invariant low (record { limits = refl; number = refl }) c.take-in-Ok.ensures refl in
-    let did = c.in-Ok.ensures in
     let side = g.C.Commons.side in
     let first = c.args.c.now in
     let last = c.take.new.self in
-    let own = rw (sym c.self.view_is) at owned in
     let empty = free_slot-is (member_of p).table slot low.free in
+    let stays =
+    λ (guests : ℕ → ℕ) (owned : OwnWith guests c.args.self.now (side first)).
     subst (λ (m : Member). OwnWith guests m (side last)) (sym is)
-    (own_taken guests (member_of p) (side first) (side last) slot segs own did.did.step.effect.limits
-    empty.0 empty.1 did.did.step.effect.hand did.did.step.effect.holds did.did.step.effect.headers)
-
--- And so they do with none.
-pub returns-in-Ok-clause-own : goal.returns-in-Ok-clause-own
-returns-in-Ok-clause-own g c = returns-in-Ok-clause-guests g c no_guests
+    (own_taken guests (member_of p) (side first) (side last) slot segs (rw (sym c.self.view_is) at owned)
+    effect.limits empty.0 empty.1 effect.hand effect.holds effect.headers) in
+    record {
+      calls = rw (sym c.self.view_is) (
+        made_by g.C.Commons.did side first call last did ∷ [],
+        Leads-one g.C.Commons.did side first call last did,
+        WasTaken here slot low.free segs refl refl is,
+      );
+      own = stays no_guests;
+      guests = stays;
+      refused = tt;
+    }
 
 -- The desk is one of the pool's and a slot is free, but the one call was refused.
 pub returns-in-Err-clause-calls : goal.returns-in-Err-clause-calls

@@ -2,10 +2,11 @@ use Rattle.std.proofs.Common.{◌+◌, ◌++◌, [], List, take, get_or, refl, s
 use Rattle.commons.specs.Bag.{bag}
 use Rattle.commons.specs.declared.limits.Limits.{Limits}
 use Rattle.commons.specs.declared.packet.Seg.{Seg}
-use Rattle.commons.proofs.Bags.{bag-nil, one-same}
+use Rattle.commons.proofs.Bags.{bag-single, one-same}
 use Rattle.commons.specs.Packets.{no_seg, own_of_packet}
 use Rattle.mbuf.specs.Foreign.{BothCalls, EndsForeign, EndsForeignSeg, bases_of_packet}
 use Rattle.mbuf.specs.PacketRules.{freed_nothing}
+use Rattle.mbuf.proofs.EndLemmas.{both_lost, none_lost}
 use Rattle.mbuf.proofs.ForeignLemmas.{EndsForeign-more, bases-more, bases_so_far, both_calls, next_seg, own-more, own_so_far}
 use Rattle.mbuf.proofs.steps.foreign.end_segs.Goals as goal
 
@@ -13,16 +14,8 @@ use Rattle.mbuf.proofs.steps.foreign.end_segs.Goals as goal
 pub loop-seg-init : goal.loop-seg-init
 loop-seg-init g c = record {
   ended = ([], refl, ([], refl, (refl, refl, refl, refl, refl)));
-  first_hand = c.requires.first_hand;
-  first_holds = λ i. omega (arith, bag-nil i);
-  first_headers = λ i some. refl;
-  first_limits = refl;
-  first_number = record { limits = refl; number = refl };
-  second_hand = c.requires.second_hand;
-  second_holds = λ i. omega (arith, bag-nil i);
-  second_headers = λ i some. refl;
-  second_limits = refl;
-  second_number = record { limits = refl; number = refl };
+  first = none_lost c.args.first.now (g.C.Commons.side c.args.c.now) c.requires.first_hand;
+  second = none_lost c.args.second.now (g.D.Commons.side c.args.d.now) c.requires.second_hand;
   back = omega arith;
   flushed = omega arith;
 }
@@ -36,13 +29,13 @@ end_seg-freed-requires-clause-first_held g c = λ i.
     omega (
       arith,
       c.requires.first_held i,
-      c.loop-seg.invariant.first_holds i,
+      c.loop-seg.invariant.first.holds i,
       next,
       bases-more (take k segs) (get_or segs k no_seg) i,
       bases_so_far segs (k + 1) i,
     )
 
--- And so is its own element in the second pool.
+-- The next segment's own element is among those whose holds haven't ended yet in the second pool.
 pub end_seg-freed-requires-clause-second_held : goal.end_seg-freed-requires-clause-second_held
 end_seg-freed-requires-clause-second_held g c =
     let k = c.loop-seg.seg-index in
@@ -52,7 +45,7 @@ end_seg-freed-requires-clause-second_held g c =
     omega (
       arith,
       c.requires.second_held e,
-      c.loop-seg.invariant.second_holds e,
+      c.loop-seg.invariant.second.holds e,
       next,
       own-more (take k segs) (get_or segs k no_seg) e,
       own_so_far segs (k + 1) e,
@@ -74,11 +67,11 @@ loop-seg-preserved g c =
     subst (λ (l : Limits). BothCalls g.C.Commons.did g.C.Commons.side so_far.c e.new.c g.D.Commons.did
     g.D.Commons.side so_far.d e.new.d (λ firsts seconds. EndsForeignSeg first.limits l seg so_far.first.cache
     so_far.second.cache so_far.freed firsts seconds e.new.first.cache e.new.second.cache e.result))
-    so_far.invariant.second_number.limits
+    so_far.invariant.second.number.limits
     (subst (λ (l : Limits). BothCalls g.C.Commons.did g.C.Commons.side so_far.c e.new.c g.D.Commons.did
     g.D.Commons.side so_far.d e.new.d (λ firsts seconds. EndsForeignSeg l so_far.second.limits seg so_far.first.cache
     so_far.second.cache so_far.freed firsts seconds e.new.first.cache e.new.second.cache e.result))
-    so_far.invariant.first_number.limits e.ensures.calls) in
+    so_far.invariant.first.number.limits e.ensures.calls) in
     record {
       ended =
           both_calls g.C.Commons.did g.C.Commons.side c.args.c.now so_far.c e.new.c g.D.Commons.did
@@ -96,42 +89,19 @@ loop-seg-preserved g c =
           so_far.first.cache so_far.second.cache so_far.freed x y e.new.first.cache e.new.second.cache e.result
           before one))
           so_far.invariant.ended now;
-      first_hand = e.ensures.first_hand;
-      first_holds =
-          λ i.
-          omega (
+      first =
+          both_lost (bases_of_packet (take (k + 1) segs))
+          (λ i. ap (λ (s : List Seg). bag (bases_of_packet s) i) next ∙ bases-more (take k segs) seg i)
+          so_far.invariant.first e.ensures.first;
+      second =
+          both_lost (own_of_packet (take (k + 1) segs))
+          (λ i. omega (
             arith,
-            so_far.invariant.first_holds i,
-            e.ensures.first_holds i,
-            ap (λ (s : List Seg). bag (bases_of_packet s) i) next,
-            bases-more (take k segs) seg i,
-          );
-      first_headers =
-          λ i some. e.ensures.first_headers i some
-          ∙ so_far.invariant.first_headers i (omega (arith, some, e.ensures.first_holds i));
-      first_limits = e.ensures.first_limits ∙ so_far.invariant.first_limits;
-      first_number = record {
-        limits = e.ensures.first_number.limits ∙ so_far.invariant.first_number.limits;
-        number = e.ensures.first_number.number ∙ so_far.invariant.first_number.number;
-      };
-      second_hand = e.ensures.second_hand;
-      second_holds =
-          λ i.
-          omega (
-            arith,
-            so_far.invariant.second_holds i,
-            e.ensures.second_holds i,
             ap (λ (s : List Seg). bag (own_of_packet s) i) next,
             own-more (take k segs) seg i,
-          );
-      second_headers =
-          λ i some. e.ensures.second_headers i some
-          ∙ so_far.invariant.second_headers i (omega (arith, some, e.ensures.second_holds i));
-      second_limits = e.ensures.second_limits ∙ so_far.invariant.second_limits;
-      second_number = record {
-        limits = e.ensures.second_number.limits ∙ so_far.invariant.second_number.limits;
-        number = e.ensures.second_number.number ∙ so_far.invariant.second_number.number;
-      };
+            bag-single seg.elem i,
+          ))
+          so_far.invariant.second e.ensures.second;
       back = omega (arith, so_far.invariant.back, e.ensures.back);
       flushed = e.ensures.flushed;
     }
