@@ -1,7 +1,9 @@
 //! Texts that are read as scripts, or refused.
 
 use super::shown::{shown_lines, shown_steps};
-use super::{LongRow, ReadRow, TextsRow, long, printed, readings, step_readings, step_texts, texts};
+use super::{
+    LongRow, ReadRow, TextsRow, long, printed, readings, step_readings, step_texts, texts,
+};
 use commons::refusal::Refusal;
 use equal::same;
 use script::run_replay_json;
