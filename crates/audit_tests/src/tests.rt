@@ -2,7 +2,6 @@
 
 use commons::packet::Seg;
 use commons::seq::Seq;
-use equal::same;
 use pool_model::statement::{DeskPacket, Held, Holder, PlacedPacket, Statement};
 use snapshot::audit::audit;
 use snapshot::fault::Fault;
@@ -27,6 +26,11 @@ use words::{Answer, Pool};
 
 /// A name, a snapshot, and what its audit answers.
 type Row = (&'static str, Shown, Result<Places, Fault>);
+
+/// Asserts that both are equal, and else says of what, with both.
+fn same<T: PartialEq + Debug>(rt: &impl Abort, given: &T, wanted: &T, what: &str) {
+    assert!(rt; *given == *wanted, "{what}: {given:?}, not {wanted:?}");
+}
 
 /// What the audit answers for a row's snapshot, where one word may be another; `BadShape` where no
 /// pool has its limits.

@@ -5,8 +5,8 @@ use commons::closed::Closed;
 use commons::limits::Limits;
 use commons::packet::{Packet, Seg};
 use commons::refusal::Refusal;
-use equal::same;
 use std::alloc::Global;
+use std::fmt::Debug;
 use std::process::Abort;
 use std::test::Fail;
 use step_core::step::Outcome;
@@ -19,6 +19,11 @@ mod rows;
 mod seats;
 
 use acts::{Act, is_same, step_of};
+
+/// Asserts that both are equal, and else says of what, with both.
+fn same<R: Abort, T: PartialEq + Debug>(rt: &R, given: &T, wanted: &T, what: &str) {
+    assert!(rt; *given == *wanted, "{what}: {given:?}, not {wanted:?}");
+}
 
 /// A step of a worker by the machine.
 fn told_by(world: &mut World, worker: u32, act: Act) -> Result<Outcome, Refusal> {

@@ -1,10 +1,10 @@
 //! A worker's cache on the lists: bulks through it and past it, flushes, and a new worker's.
 
+use crate::equal::same;
 use commons::limits::{Limits, PutRule};
 use commons::plain::PlainCommons;
 use commons::refusal::Refusal;
 use commons::site::PlainSite;
-use equal::same;
 use mempool::put::Put;
 use mempool::worker::Worker;
 use std::alloc::Global;

@@ -5,6 +5,8 @@
 #[cfg(test)]
 mod caches;
 #[cfg(test)]
+mod equal;
+#[cfg(test)]
 mod lists;
 #[cfg(test)]
 mod memory;

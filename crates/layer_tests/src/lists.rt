@@ -4,6 +4,7 @@ ghost use Rattle.std.specs.Prelude.{◌≡◌, ◌<◌, ◌≤◌, ◌+◌, ℕ,
 ghost use Rattle.commons.specs.Bag.{bag, one};
 ghost use Rattle.commons.specs.Packets.{holds_of_packet, own_of_packet};
 
+use crate::equal::same;
 use commons::limits::{Limits, PutRule};
 use commons::packet::{Packet, Seg};
 use commons::place::Place;
@@ -11,7 +12,6 @@ use commons::plain::PlainCommons;
 use commons::refusal::{Lowered, Refusal};
 use commons::shared::Commons;
 use commons::site::PlainSite;
-use equal::same;
 use std::alloc::Global;
 use std::process::Abort;
 use std::test::Fail;

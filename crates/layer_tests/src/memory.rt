@@ -1,11 +1,11 @@
 //! What is made of the pool and its workers where memory is refused.
 
+use crate::equal::same;
 use commons::closed::Closed;
 use commons::limits::{Limits, PutRule};
 use commons::place::Place;
 use commons::refusal::Refusal;
 use commons::site::PlainSite;
-use equal::same;
 use mbuf::packets::Packets;
 use mbuf::twin::Twin;
 use mempool::worker::Worker;

@@ -5,16 +5,17 @@ ghost use Rattle.commons.specs.Beside.{KeepsSides, LeavesOthers};
 ghost use Rattle.commons.specs.Lists.{hand_of, holds_of};
 ghost use Rattle.layer_tests.specs.OwnAtSite.{OwnAtSite};
 
+use crate::equal::same;
 use crate::rows::{Left, ONE, REFUSED_AT_A_GET, REFUSED_AT_A_RAISE, ROWS, Show, Step};
 use commons::laws::a_worker_leaves_the_others;
 use commons::limits::Limits;
 use commons::place::Place;
 use commons::plain::PlainCommons;
 use commons::site::PlainSite;
-use equal::same;
 use mbuf::acts::{Act, Reply, perform};
 use mbuf::packets::Packets;
 use std::alloc::Global;
+use std::process::Abort;
 use std::test::Fail;
 
 // Lets a worker do this.

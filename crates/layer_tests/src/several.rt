@@ -6,13 +6,13 @@ ghost use Rattle.commons.specs.Lists.{hand_of, holds_of, side_of};
 ghost use Rattle.layer_tests.specs.OwnAtSite.{OwnAtSite};
 ghost use Rattle.mbuf.specs.Own.{Own};
 
+use crate::equal::same;
 use commons::laws::a_worker_leaves_the_others;
 use commons::limits::{Limits, PutRule};
 use commons::plain::PlainCommons;
 use commons::refusal::Refusal;
 use commons::shared::Commons;
 use commons::site::PlainSite;
-use equal::same;
 use mbuf::laws::packets_stay_own;
 use mbuf::packets::{Packets, Pid};
 use std::alloc::Global;

@@ -4,11 +4,11 @@
 ghost use Rattle.std.specs.Prelude.{◌≡◌};
 ghost use Rattle.layer_tests.specs.OwnAtSite.{OwnAtSites};
 
+use crate::equal::same;
 use commons::limits::{Limits, PutRule};
 use commons::place::Place;
 use commons::plain::PlainCommons;
 use commons::site::PlainSite;
-use equal::same;
 use mbuf::acts::Act;
 use mbuf::twin::Twin;
 use std::alloc::Global;

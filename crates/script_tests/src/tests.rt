@@ -4,7 +4,6 @@ use commons::limits::{Limits, PutRule};
 use commons::packet::Seg;
 use commons::refusal::Refusal;
 use commons::seq::Seq;
-use equal::same;
 use mbuf::acts::{Act, Reply};
 use mbuf::freed::Freed;
 use pool_model::settled::Settled;
@@ -120,6 +119,11 @@ const DEFAULTS: Limits = Limits {
     start_count: 0,
     put_rule: PutRule::Keep,
 };
+
+/// Asserts that both are equal, and else says of what, with both.
+fn same<R: Abort, T: PartialEq + Debug>(rt: &R, given: &T, wanted: &T, what: &str) {
+    assert!(rt; *given == *wanted, "{what}: {given:?}, not {wanted:?}");
+}
 
 /// These bytes are given, or memory was refused.
 fn assert_given<R: Abort>(rt: &R, given: Result<Vec<u8>, Refusal>, wanted: &str, what: &str) {

@@ -2,9 +2,9 @@
 
 use commons::limits::Limits;
 use commons::refusal::Refusal;
-use equal::same;
 use head_word::{next_count, pack, unpack};
 use std::alloc::{AllocError, Global};
+use std::fmt::Debug;
 use std::process::Abort;
 use std::test::Fail;
 use step_core::run::run;
@@ -37,6 +37,11 @@ type RefusedRow = (
     &'static [(u32, Act)],
     &'static [(u32, Act)],
 );
+
+/// Asserts that both are equal, and else says of what, with both.
+fn same<R: Abort, T: PartialEq + Debug>(rt: &R, given: &T, wanted: &T, what: &str) {
+    assert!(rt; *given == *wanted, "{what}: {given:?}, not {wanted:?}");
+}
 
 #[test]
 fn a_head_has_one_word(rt: HostRuntime) {

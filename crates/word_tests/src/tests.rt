@@ -2,7 +2,6 @@
 
 use commons::limits::{Limits, PutRule};
 use commons::packet::Seg;
-use equal::same;
 use mbuf::acts::Reply;
 use pool_model::statement::Statement;
 use script::replay;
@@ -12,6 +11,7 @@ use script_text::commands::Script;
 use script_text::parse;
 use statement_text::pool_text;
 use std::alloc::{AllocError, Global};
+use std::fmt::Debug;
 use std::process::Abort;
 use std::test::Fail;
 
@@ -43,6 +43,11 @@ const DEFAULTS: Limits = Limits {
     start_count: 0,
     put_rule: PutRule::Keep,
 };
+
+/// Asserts that both are equal, and else says of what, with both.
+fn same<R: Abort, T: PartialEq + Debug>(rt: &R, given: &T, wanted: &T, what: &str) {
+    assert!(rt; *given == *wanted, "{what}: {given:?}, not {wanted:?}");
+}
 
 /// The text of a statement.
 fn text_of(alloc: Global, statement: &Statement) -> Result<String, Fail> {

@@ -4,12 +4,12 @@ ghost use Rattle.ground.specs.Seats.{IsOf};
 
 use super::acts::{Act, step_of};
 use super::rows::TWO;
+use super::same;
 use crate::pair::Pair;
 use crate::player::Player;
 use commons::closed::Closed;
 use commons::limits::Limits;
 use commons::refusal::Refusal;
-use equal::same;
 use ground::pool::Ground;
 use ground::seat::GroundSeat;
 use std::alloc::Global;

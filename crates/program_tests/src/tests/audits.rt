@@ -1,6 +1,6 @@
 //! Snapshots that are audited: their statements, the line of each fault, and what is no snapshot.
 use super::files::outcome;
-use equal::same;
+use super::same;
 use script_io::ReadFault;
 use std::alloc::Global;
 use std::test::Fail;

@@ -1,7 +1,7 @@
 //! Faults: their lines and statuses.
+use super::same;
 use super::screen::Full;
 use commons::refusal::Refusal;
-use equal::same;
 use std::test::Fail;
 use tasks::failures::{Failure, FaultLine};
 use tasks::tell;

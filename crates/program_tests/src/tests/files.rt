@@ -1,6 +1,6 @@
 //! Files that are replayed, run, played step by step, or can't be read.
+use super::same;
 use super::screen::{Full, Narrow, Screen};
-use equal::same;
 use script::Grounds;
 use script_io::{ReadFault, Tally, read_script};
 use std::alloc::Global;

@@ -1,6 +1,6 @@
 //! Snapshots of what scripts leave, which are audited.
 use super::files::{FIRST_RUN, FIRST_RUN_STATEMENT, outcome_of, path};
-use equal::same;
+use super::same;
 use script::Grounds;
 use script_rows::twins::{FOREIGN_CLONE, FOREIGN_CLONE_END};
 use std::io::Input;

@@ -1,6 +1,6 @@
 //! Runs in which workers are in each other's way: with few turns a refusal stands, with many each line succeeds.
 use super::files::outcome;
-use equal::same;
+use super::same;
 use script::Grounds;
 use script_io::ReadFault;
 use script_rows::parts::{Field, Part, written};

@@ -1,7 +1,7 @@
 //! The words of the command line.
+use super::same;
 use super::screen::{Full, Screen};
 use command_line::{request_of, tell};
-use equal::same;
 use script::Grounds;
 use script_io::Tally;
 use std::alloc::{AllocError, Global};

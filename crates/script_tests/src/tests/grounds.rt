@@ -3,9 +3,8 @@
 ghost use Rattle.std.specs.Prelude.{◌≤◌};
 
 use super::threads::{GROUNDS, Handover, TURNS, run, run_pools};
-use super::{assert_given, json, text_of, text_of_end};
+use super::{assert_given, json, same, text_of, text_of_end};
 use commons::refusal::Refusal;
-use equal::same;
 use script::{Grounds, OpenGate, replay, run_script, statement_text};
 use script_rows::parts::written;
 use script_rows::pools::FIRST_RUN;

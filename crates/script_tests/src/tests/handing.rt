@@ -1,9 +1,8 @@
 //! A packet that one worker makes and another frees, as a library's user writes it.
 
-use super::DEFAULTS;
+use super::{DEFAULTS, same};
 use commons::limits::Limits;
 use commons::refusal::Refusal;
-use equal::same;
 use mbuf::acts::Act;
 use share_book::ending::settled;
 use share_book::site_pool::SitePool;

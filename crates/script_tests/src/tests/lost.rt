@@ -2,11 +2,10 @@
 
 use super::settling::{book_at_last, closed_at_last, deposit_all, lose_one, play};
 use super::threads::GROUNDS;
-use super::{DEFAULTS, assert_given};
+use super::{DEFAULTS, assert_given, same};
 use commons::closed::Closed;
 use commons::limits::Limits;
 use commons::refusal::Refusal;
-use equal::same;
 use mbuf::acts::Act;
 use script::{Gate, Grounds, OpenGate, lost_text, numbers_json, run_lost};
 use script_text::parse;

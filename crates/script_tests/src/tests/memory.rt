@@ -1,8 +1,7 @@
 //! What is read and replayed where memory is refused.
 
-use super::{assert_first_end, assert_first_replies, assert_given};
+use super::{assert_first_end, assert_first_replies, assert_given, same};
 use commons::refusal::Refusal;
-use equal::same;
 use script::{replay, run_replay, run_replay_json};
 use script_rows::pools::FIRST_RUN;
 use script_rows::twins::{FOREIGN_CLONE, FOREIGN_CLONE_JSON, FOREIGN_CLONE_TEXT};

@@ -2,10 +2,9 @@
 
 use super::shown::{shown_lines, shown_steps};
 use super::{
-    LongRow, ReadRow, TextsRow, long, printed, readings, step_readings, step_texts, texts,
+    LongRow, ReadRow, TextsRow, long, printed, readings, same, step_readings, step_texts, texts,
 };
 use commons::refusal::Refusal;
-use equal::same;
 use script::run_replay_json;
 use script_rows::parts::written;
 use script_text::{parse, parse_steps};

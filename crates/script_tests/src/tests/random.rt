@@ -1,10 +1,9 @@
 //! Random scripts of two pools, of one worker: whichever ground they run on, they end as their replay
 //! does.
 
-use super::text_of_end;
 use super::threads::GROUNDS;
+use super::{same, text_of_end};
 use commons::refusal::Refusal;
-use equal::same;
 use pool_model::statement::Statement;
 use script::{replay, run_script};
 use script_text::parse;

@@ -1,10 +1,9 @@
 //! How a pool is settled with the shares of its workers, and what is refused.
 
-use super::{DEFAULTS, assert_given, text_of};
+use super::{DEFAULTS, assert_given, same, text_of};
 use commons::closed::Closed;
 use commons::limits::Limits;
 use commons::refusal::Refusal;
-use equal::same;
 use mbuf::acts::Act;
 use pool_model::statement::Statement;
 use script_rows::parts::{Field, Part, written};

@@ -1,10 +1,9 @@
 //! Pools on lists, which reply as their tables of steps say.
 
 use super::told::reply;
-use super::{PoolRow, Step, UnmadeRow, acts, text_of};
+use super::{PoolRow, Step, UnmadeRow, acts, same, text_of};
 use commons::limits::Limits;
 use commons::refusal::Refusal;
-use equal::same;
 use mbuf::acts::{Act, Reply};
 use share_book::ending::settled;
 use share_book::site_pool::SitePool;

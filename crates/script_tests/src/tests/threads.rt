@@ -3,12 +3,12 @@
 
 ghost use Rattle.std.specs.Prelude.{◌≤◌};
 
+use super::same;
 use super::settling::{FOUR, play_four};
 use commons::closed::Closed;
 use commons::refusal::Refusal;
 use commons::seq::Seq;
 use crossbeam_utils::Backoff;
-use equal::same;
 use pool_model::settled::Settled;
 use pool_model::statement::{Held, Statement};
 use script::{Gate, Grounds, OpenGate, run_threads};

@@ -1,10 +1,9 @@
 //! What two pools on the lists reply to their workers' acts, and where their elements are then.
 
-use super::DEFAULTS;
 use super::told::{Told, reply};
+use super::{DEFAULTS, same};
 use commons::limits::Limits;
 use commons::refusal::Refusal;
-use equal::same;
 use mbuf::acts::{Act, Reply};
 use mbuf::freed::Freed;
 use pool_model::settled::Settled;

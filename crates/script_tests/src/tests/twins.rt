@@ -1,11 +1,10 @@
 //! How two pools are settled with the shares of their workers, and what is refused.
 
 use super::settling::{closed_at_last, lose_one, play};
-use super::{DEFAULTS, assert_given};
+use super::{DEFAULTS, assert_given, same};
 use commons::closed::Closed;
 use commons::limits::Limits;
 use commons::refusal::Refusal;
-use equal::same;
 use mbuf::acts::Act;
 use pool_model::settled::Settled;
 use script::{statement_json, statement_text};

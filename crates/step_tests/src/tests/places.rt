@@ -2,8 +2,8 @@
 
 ghost use Rattle.std.specs.Prelude.{◌≤◌};
 
+use super::same;
 use arrayvec::ArrayVec;
-use equal::same;
 use std::process::Abort;
 use step_core::view::Desk;
 use step_core::world::World;

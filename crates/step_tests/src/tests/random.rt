@@ -1,11 +1,10 @@
 //! Random schedules of all kinds of step. After each step the elements are counted.
 
 use super::acts::Act;
-use super::answer_of;
 use super::places::assert_counted;
+use super::{answer_of, same};
 use commons::limits::{Limits, PutRule};
 use commons::refusal::Refusal;
-use equal::same;
 use std::process::Abort;
 use std::test::Fail;
 use step_core::elems::Elems;

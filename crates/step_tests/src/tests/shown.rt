@@ -1,8 +1,8 @@
 //! What a row says of a world.
 
+use super::same;
 use arrayvec::ArrayVec;
 use commons::packet::{Packet, Seg};
-use equal::same;
 use std::process::Abort;
 use step_core::view::{Chain, Desk, Look, Phase, View, Work};
 use step_core::world::World;

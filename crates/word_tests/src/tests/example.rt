@@ -4,10 +4,9 @@
 ghost use Rattle.ground.specs.Seats.{IsOf};
 ghost use Rattle.word_pool.specs.Workers.{AreWorkers, Stays};
 
-use super::DEFAULTS;
+use super::{DEFAULTS, same};
 use commons::limits::Limits;
 use commons::refusal::Refusal;
-use equal::same;
 use ground::pool::Ground;
 use mbuf::acts::{Act, Reply};
 use std::alloc::Global;

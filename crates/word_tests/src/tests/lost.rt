@@ -4,8 +4,8 @@ ghost use Rattle.std.specs.Prelude.{◌<◌, ◌≤◌, length};
 ghost use Rattle.ground.specs.Seats.{IsOf};
 ghost use Rattle.stack_tests.specs.Idle.{IsIdle, Stays};
 
-use super::DEFAULTS;
 use super::players::FreeSeat;
+use super::{DEFAULTS, same};
 use book::book::Book;
 use book::losing::settle_without;
 use book::share::hand_in;
@@ -13,7 +13,6 @@ use commons::closed::Closed;
 use commons::limits::{Limits, SPENT};
 use commons::refusal::Refusal;
 use commons::shared::Commons;
-use equal::same;
 use ground::pool::Ground;
 use ground::seat::GroundSeat;
 use mbuf::packets::Packets;

@@ -1,9 +1,8 @@
 //! A pool on words that is made and ended where memory is refused.
 
-use super::DEFAULTS;
+use super::{DEFAULTS, same};
 use commons::limits::Limits;
 use commons::refusal::Refusal;
-use equal::same;
 use std::alloc::Global;
 use std::fmt::Debug;
 use std::process::Abort;

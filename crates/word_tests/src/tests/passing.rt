@@ -5,11 +5,10 @@ ghost use Rattle.ground.specs.Seats.{IsOf};
 ghost use Rattle.word_pool.specs.Workers.{AreWorkers, Stays};
 
 use super::crews::{Tallies, Tally, act, free, free_any, make};
-use super::{DEFAULTS, assert_all_free, assert_each_once, assert_holds};
+use super::{DEFAULTS, assert_all_free, assert_each_once, assert_holds, same};
 use commons::limits::Limits;
 use commons::packet::MAX_SEGS;
 use commons::refusal::Refusal;
-use equal::same;
 use ground::pool::Ground;
 use mbuf::acts::{Act, NewPacket, Reply};
 use mbuf::packets::Pid;

@@ -1,8 +1,7 @@
 //! Clones of 32 segments that are refused at each of their gets, and at each of their raises.
 
-use super::assert_same;
+use super::{assert_same, same};
 use commons::refusal::Refusal;
-use equal::same;
 use mbuf::acts::Reply;
 use script_rows::parts::{Field, Part, written};
 use script_text::parse;

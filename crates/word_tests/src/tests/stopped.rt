@@ -7,13 +7,13 @@ ghost use Rattle.word_tests.specs.Ready.{IsReady, IsUnused};
 
 use super::players::{FreeSeat, Player, Retired};
 use super::playing::act_of;
+use super::same;
 use super::settling::Ending;
 use book::book::Book;
 use book::losing::settle_without;
 use commons::closed::Closed;
 use commons::packet::Seg;
 use commons::refusal::Refusal;
-use equal::same;
 use ground::pool::Ground;
 use mbuf::packets::{Packets, SLOTS};
 use script::names::Names;

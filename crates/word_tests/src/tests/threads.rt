@@ -4,10 +4,9 @@ ghost use Rattle.ground.specs.Seats.{IsOf};
 ghost use Rattle.word_pool.specs.Workers.{AreWorkers, Stays};
 
 use super::crews::{Tallies, Tally, act, free, free_any, make};
-use super::{DEFAULTS, assert_all_free};
+use super::{DEFAULTS, assert_all_free, same};
 use commons::limits::Limits;
 use commons::refusal::Refusal;
-use equal::same;
 use ground::pool::Ground;
 use mbuf::acts::{Act, Reply};
 use mbuf::packets::Pid;

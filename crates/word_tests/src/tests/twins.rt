@@ -3,10 +3,9 @@
 ghost use Rattle.ground.specs.Seats.{IsOf};
 ghost use Rattle.word_pool.specs.TwinWorkers.{AreTwinWorkers, TwinStays};
 
-use super::DEFAULTS;
+use super::{DEFAULTS, same};
 use commons::limits::Limits;
 use commons::refusal::Refusal;
-use equal::same;
 use ground::pool::Ground;
 use mbuf::acts::Act;
 use pool_model::settled::Settled;
