@@ -5,6 +5,9 @@ use commons::closed::Closed;
 use commons::limits::Limits;
 use commons::packet::{Packet, Seg};
 use commons::refusal::Refusal;
+use random_steps::acts::{Act, Told, step_of};
+use random_steps::schedules;
+use random_steps::schedules::Row;
 use std::alloc::Global;
 use std::fmt::Debug;
 use std::process::Abort;
@@ -13,12 +16,11 @@ use step_core::step::Outcome;
 use step_core::view::{Desk, View};
 use step_core::world::World;
 
-mod acts;
+mod answers;
 mod random;
-mod rows;
 mod seats;
 
-use acts::{Act, is_same, step_of};
+use answers::is_same;
 
 /// Asserts that both are equal, and else says of what, with both.
 fn same<R: Abort, T: PartialEq + Debug>(rt: &R, given: &T, wanted: &T, what: &str) {
@@ -140,21 +142,19 @@ fn step_all<R: Abort>(
     rt: &R,
     world: &mut World,
     pair: &mut Pair,
-    steps: &[(u32, Act)],
+    steps: &[(u32, Act, Told)],
     name: &str,
 ) {
-    for (worker, act) in steps {
+    for (worker, act, _told) in steps {
         step_both(rt, world, pair, *worker, *act, name);
     }
 }
 
-/// Plays these steps by the machine and by two players, and compares each answer and the words at
-/// the end.
+/// Plays a row by the machine and by two players, and compares each answer and the words at the
+/// end.
 fn play_both<R: Abort + AllocGlobal>(
     rt: &R,
-    name: &str,
-    limits: &Limits,
-    steps: &[(u32, Act)],
+    (name, limits, steps, _end): &Row,
 ) -> Result<Closed, Refusal> {
     let (mut world, mut pair) = open_both(rt.alloc(), limits)?;
     step_all(rt, &mut world, &mut pair, steps, name);
@@ -163,17 +163,18 @@ fn play_both<R: Abort + AllocGlobal>(
 
 #[test]
 fn two_players_answer_each_row_of_steps_as_the_machine_does(rt: HostRuntime) -> Result<(), Fail> {
-    for (name, limits, steps) in rows::ROWS {
-        play_both(&rt, name, limits, steps)?;
+    for rows in [schedules::STACK, schedules::COUNTS, schedules::REFUSED] {
+        for row in rows {
+            play_both(&rt, row)?;
+        }
     }
     Ok(())
 }
 
 #[test]
 fn a_list_of_two_elements_is_put_with_its_last_on_top(rt: HostRuntime) -> Result<(), Fail> {
-    let (name, limits, steps) = rows::LIST;
-    let closed = play_both(&rt, name, &limits, steps)?;
+    let closed = play_both(&rt, &schedules::LIST)?;
     let given = (closed.top, closed.length, closed.links.as_slice());
-    same(&rt, &given, &(2, 3, [3, 1, 0].as_slice()), name);
+    same(&rt, &given, &(2, 3, [3, 1, 0].as_slice()), "a list");
     Ok(())
 }

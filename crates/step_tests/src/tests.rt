@@ -3,6 +3,9 @@
 use commons::limits::Limits;
 use commons::refusal::Refusal;
 use head_word::{next_count, pack, unpack};
+use random_steps::acts::{Act, Told, step_of};
+use random_steps::schedules;
+use random_steps::schedules::Row;
 use std::alloc::{AllocError, Global};
 use std::fmt::Debug;
 use std::process::Abort;
@@ -12,22 +15,17 @@ use step_core::step::{Outcome, Step};
 use step_core::world::World;
 use step_text::run_steps;
 
-mod acts;
+mod answers;
 mod heads;
 mod places;
 mod random;
 mod refusals;
-mod schedules;
 mod shown;
 mod stopped;
 mod texts;
 
-use acts::{Act, Told, is_told, step_of};
-use shown::{End, assert_end, numbers_of};
-
-/// A name, a pool's limits, the steps with their workers and what they answer, and the world
-/// afterwards.
-type Row = (&'static str, Limits, &'static [(u32, Act, Told)], End);
+use answers::is_told;
+use shown::{assert_end, numbers_of};
 
 /// A name, a pool's limits, steps that are all done, and steps that are then refused one after
 /// another.

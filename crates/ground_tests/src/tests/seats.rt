@@ -2,8 +2,6 @@
 
 ghost use Rattle.ground.specs.Seats.{IsOf};
 
-use super::acts::{Act, step_of};
-use super::rows::TWO;
 use super::same;
 use crate::pair::Pair;
 use crate::player::Player;
@@ -12,6 +10,8 @@ use commons::limits::Limits;
 use commons::refusal::Refusal;
 use ground::pool::Ground;
 use ground::seat::GroundSeat;
+use random_steps::acts::{Act, step_of};
+use random_steps::schedules::TWO;
 use std::alloc::Global;
 use std::process::Abort;
 use std::test::Fail;

@@ -3,25 +3,10 @@
 use super::same;
 use arrayvec::ArrayVec;
 use commons::packet::{Packet, Seg};
+use random_steps::schedules::End;
 use std::process::Abort;
 use step_core::view::{Chain, Desk, Look, Phase, View, Work};
 use step_core::world::World;
-
-/// A world after a row's steps: the head's top as a link value and its count, the length word, the
-/// common list from the top, each worker's credit, hand, holds and headers, the counts that aren't
-/// 1, and each desk's word.
-#[derive(Clone, Copy)]
-pub(super) struct End {
-    pub head: (u32, u64),
-    pub length: u64,
-    pub common: &'static [u32],
-    pub credits: &'static [u64],
-    pub hands: &'static [&'static [u32]],
-    pub holds: &'static [&'static [u32]],
-    pub headers: &'static [&'static [u32]],
-    pub counts: &'static [(usize, u32)],
-    pub desks: &'static [u64],
-}
 
 /// Whether the world is so.
 pub(super) fn assert_end<R: Abort>(rt: &R, world: &World, end: &End, name: &str) {

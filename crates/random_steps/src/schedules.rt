@@ -1,14 +1,32 @@
 //! Steps of several workers, what each answers, and the world afterwards.
 
-use super::Row;
-use super::acts::Act::*;
-use super::acts::Told::*;
-use super::acts::{Act, Told};
-use super::shown::End;
+use crate::acts::Act::*;
+use crate::acts::Told::*;
+use crate::acts::{Act, Told};
 use commons::limits::{Limits, PutRule};
 
+/// A world after a row's steps: the head's top as a link value and its count, the length word, the
+/// common list from the top, each worker's credit, hand, holds and headers, the counts that aren't
+/// 1, and each desk's word.
+#[derive(Clone, Copy)]
+pub struct End {
+    pub head: (u32, u64),
+    pub length: u64,
+    pub common: &'static [u32],
+    pub credits: &'static [u64],
+    pub hands: &'static [&'static [u32]],
+    pub holds: &'static [&'static [u32]],
+    pub headers: &'static [&'static [u32]],
+    pub counts: &'static [(usize, u32)],
+    pub desks: &'static [u64],
+}
+
+/// A name, a pool's limits, the steps with their workers and what they answer, and the world
+/// afterwards.
+pub type Row = (&'static str, Limits, &'static [(u32, Act, Told)], End);
+
 /// Two workers and three elements.
-pub(super) const TWO: Limits = Limits {
+pub const TWO: Limits = Limits {
     population: 3,
     cache: 0,
     workers: 2,
@@ -21,10 +39,42 @@ pub(super) const TWO: Limits = Limits {
 };
 
 /// The count at which a head is spent.
-pub(super) const SPENT: u64 = 1_099_511_627_775;
+pub const SPENT: u64 = 1_099_511_627_775;
 
-/// The head's top is a link value, the element + 1; a link is too.
-pub(super) const STACK: &[Row] = &[
+/// Elements 0 and 1 are taken, and put back as a list: 0 is put before 1. The head's top is a link
+/// value, the element + 1; a link is too.
+pub const LIST: Row = (
+    "a list",
+    TWO,
+    &[
+        (1, LoadLength, Value(3)),
+        (1, Reserve(3, 2), Won),
+        (1, LoadHead, HeadIs(1, 0)),
+        (1, LoadLink(0), Value(2)),
+        (1, LoadLink(1), Value(3)),
+        (1, Cut, Got(&[0, 1])),
+        (1, LoadHead, HeadIs(3, 1)),
+        (1, StoreLink(0, Some(2)), Done),
+        (1, StoreLink(1, Some(0)), Done),
+        (1, Push, Won),
+        (1, Add(2), Done),
+    ],
+    End {
+        head: (2, 2),
+        length: 3,
+        common: &[1, 0, 2],
+        credits: &[0, 0],
+        hands: &[&[], &[]],
+        holds: &[&[], &[]],
+        headers: &[&[], &[]],
+        counts: &[],
+        desks: &[],
+    },
+);
+
+/// Rows of the stack without a refused step.
+pub const STACK: &[Row] = &[
+    LIST,
     (
         "stale exchange",
         TWO,
@@ -143,7 +193,7 @@ pub(super) const STACK: &[Row] = &[
 ];
 
 /// Rows with a refused step among the others.
-pub(super) const REFUSED: &[Row] = &[
+pub const REFUSED: &[Row] = &[
     (
         "length lags",
         Limits {
@@ -181,7 +231,6 @@ pub(super) const REFUSED: &[Row] = &[
         "spent count in steps",
         Limits {
             population: 2,
-            workers: 1,
             start_count: SPENT,
             ..TWO
         },
@@ -197,10 +246,10 @@ pub(super) const REFUSED: &[Row] = &[
             head: (1, SPENT),
             length: 2,
             common: &[0, 1],
-            credits: &[0],
-            hands: &[&[]],
-            holds: &[&[]],
-            headers: &[&[]],
+            credits: &[0, 0],
+            hands: &[&[], &[]],
+            holds: &[&[], &[]],
+            headers: &[&[], &[]],
             counts: &[],
             desks: &[],
         },
@@ -251,6 +300,40 @@ pub(super) const REFUSED: &[Row] = &[
             desks: &[0],
         },
     ),
+    (
+        "a packet stays on its desk",
+        Limits {
+            population: 2,
+            desks: 2,
+            ..TWO
+        },
+        &[
+            (1, LoadLength, Value(2)),
+            (1, Reserve(2, 1), Won),
+            (1, LoadHead, HeadIs(1, 0)),
+            (1, LoadLink(0), Value(2)),
+            (1, Cut, Got(&[0])),
+            (1, Claim(0), Value(1)),
+            (1, Hold(1), Won),
+            (2, Hold(1), Lost(1)),
+            (1, PutIn(1, 0, None), Done),
+            (1, Open(1), Done),
+            (2, Hold(1), Lost(2)),
+            (2, Seize(0), Lost(0)),
+            (2, Hold(2), Refused),
+        ],
+        End {
+            head: (2, 1),
+            length: 1,
+            common: &[1],
+            credits: &[0, 0],
+            hands: &[&[], &[]],
+            holds: &[&[], &[]],
+            headers: &[&[], &[]],
+            counts: &[],
+            desks: &[0, 2],
+        },
+    ),
 ];
 
 /// One worker claims an element, raises its count, and ends its holds.
@@ -282,7 +365,8 @@ const HELD_NO_MORE: End = End {
     desks: &[],
 };
 
-pub(super) const COUNTS: &[Row] = &[
+/// Rows of counts and desks without a refused step.
+pub const COUNTS: &[Row] = &[
     (
         "the last hold ends by a lower and a reset",
         TWO,
@@ -360,7 +444,7 @@ pub(super) const COUNTS: &[Row] = &[
 ];
 
 /// A row whose steps grow hands, holds, looks and chains.
-pub(super) const FOR_MEMORY: Row = (
+pub const FOR_MEMORY: Row = (
     "whichever request is refused",
     TWO,
     HELD_TWICE,
