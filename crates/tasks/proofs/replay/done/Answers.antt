@@ -26,3 +26,17 @@ pub returns-in-Audit-clause-printed : goal.returns-in-Audit-clause-printed
 returns-in-Audit-clause-printed g c =
     subst (λ (t : Task). IfOk c.text-in-Audit.result (λ out. IsDoneAs t c.args.script.now out.items))
     (sym c.in-Audit.is) c.text-in-Audit.ensures.printed
+
+-- a replay's snapshots are asked for, and these are printed
+pub returns-in_ok-run_replay_snapshot-in-ReplaySnapshot-clause-printed :
+    goal.returns-in_ok-run_replay_snapshot-in-ReplaySnapshot-clause-printed
+returns-in_ok-run_replay_snapshot-in-ReplaySnapshot-clause-printed g c =
+    subst (λ (t : Task). IsDoneAs t c.args.script.now c.in_ok-run_replay_snapshot-in-ReplaySnapshot.field-0.items)
+    (sym c.in-ReplaySnapshot.is) c.in_ok-run_replay_snapshot-in-ReplaySnapshot.ensures.printed
+
+-- a run's snapshots are asked for, and these are printed
+pub returns-in_ok-run_script_snapshot-in-RunSnapshot-clause-printed :
+    goal.returns-in_ok-run_script_snapshot-in-RunSnapshot-clause-printed
+returns-in_ok-run_script_snapshot-in-RunSnapshot-clause-printed g c =
+    subst (λ (t : Task). IsDoneAs t c.args.script.now c.in_ok-run_script_snapshot-in-RunSnapshot.field-0.items)
+    (sym c.in-RunSnapshot.is) c.in_ok-run_script_snapshot-in-RunSnapshot.ensures.printed
