@@ -165,7 +165,8 @@ fn command<'a>(alloc: Global) -> Result<Command<'a>, Error> {
         .arg(
             snapshot(alloc)
                 .help("Print what the pool leaves at the end as a snapshot, for audit")
-                .conflicts_with_all(&["json", "lose"])?,
+                .conflicts_with("json")?
+                .conflicts_with("lose")?,
         )?;
     let steps = Command::new(alloc, "steps")
         .about(
