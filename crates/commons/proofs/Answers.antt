@@ -30,7 +30,7 @@ cause_put s xs (Err HeadSpent) t d = ap Some d.0
 cause_put s xs (Err Contended) t d = absurd d
 cause_put s xs (Err _) t d = d
 
--- one more number in front of those from it on
+-- numbers that go down, with the next one behind them, are read backwards from that one on
 pub down_one : (xs : List ℕ) (count i : ℕ) → i < count → reverse xs ≡ range_with_len (count - i) i →
     reverse (xs ++ (count - 1 - i) ∷ []) ≡ range_with_len (count - (i + 1)) (i + 1)
 down_one xs count i l h =

@@ -54,7 +54,7 @@ pub more_on_top : (xs : List ℕ) (i : ℕ) → i < length xs →
     reverse (take (i + 1) xs) ≡ get_or xs i 0 ∷ reverse (take i xs)
 more_on_top xs i h = rw (take_more xs i 0 h, reverse-append) refl
 
--- the counts, by place and by element
+-- counts that are read place by place are those of the elements, in their order
 pub counts_by_element : (places : List Place) (n : ℕ) → length places ≡ n →
     map (λ place. max 1 (held_count place)) places
     ≡ map (λ i. max 1 (held_count (get_or places i nowhere))) (range_with_len 0 n)

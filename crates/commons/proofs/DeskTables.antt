@@ -60,6 +60,7 @@ module _ (s : Lists) (w d : ℕ) (new : Option (List Seg)) (row : List ℕ) (hea
       ≡ holds_of_all s i + get_or row i 0
   all_passed i = sum_by-set (λ (r : List ℕ). get_or r i 0) s.holds (w - 1) row [] row_ok.0
 
+  -- every row has the length of the population, whichever worker's it is
   rows_passed : (v : ℕ) → v < s.limits.workers → length row ≡ s.limits.population →
       length (get_or (set s.holds (w - 1) row) v []) ≡ s.limits.population
   rows_passed v k len = elim (apart_or_same (w - 1) v) [
@@ -102,7 +103,8 @@ module _ (s : Lists) (w d : ℕ) (packet : List Seg) (row : List ℕ) (headers :
   abbrev pub offered : Lists
   offered = passed w d (Some packet) row (placed (own_of_packet packet) None headers) s
 
-  -- what the worker has left
+  -- each header is what the end of its holds leaves of it, whether the packet has the element or
+  -- not
   left : (i : ℕ) → get_or headers i None ≡ owner_left w (get_or row i 0) (get_or s.headers i None)
   left i = elim (zero_or_more (bag (holds_of_packet packet) i)) [
     | inl z ↦
@@ -122,6 +124,7 @@ module _ (s : Lists) (w d : ℕ) (packet : List Seg) (row : List ℕ) (headers :
       get_or offered.headers i None ≡ owner_left w (get_or row i 0) (get_or s.headers i None)
   not_own i z = placed-out (own_of_packet packet) None None headers i z ∙ left i
 
+  -- an own element of the packet that is offered is nobody's header
   is_own : (i : ℕ) → 0 < bag (own_of_packet packet) i → get_or offered.headers i None ≡ None
   is_own i p = placed-in (own_of_packet packet) None None headers i p (omega (
     arith,
@@ -137,6 +140,7 @@ module _ (s : Lists) (w d : ℕ) (packet : List Seg) (row : List ℕ) (headers :
   chosen_zero : (n : ℕ) → ◌≡◌ {A = ℕ} (cond (nat_lt 0 n) 0 0) 0
   chosen_zero n = grind (arith, nat_tests)
 
+  -- a header is kept where a hold of it is left, unless it is an own element of the packet
   headers_offered : (i : ℕ) → header_of offered w i
       ≡ cond (nat_lt 0 (holds_of offered w i)) (header_of s w i - bag (own_of_packet packet) i) 0
   headers_offered i =
@@ -151,7 +155,7 @@ module _ (s : Lists) (w d : ℕ) (packet : List Seg) (row : List ℕ) (headers :
             rw (is_own i p, gone) (sym (chosen_zero (get_or row i 0)))
       ])
 
-  -- where a hold is left, and where none is
+  -- where a hold is left, the header is as before but for own elements
   some_left : (held before own after : ℕ) → after ≡ cond (nat_lt 0 held) (before - own) 0 →
       own ≤ before → 0 < held → before ≡ after + own
   some_left held before own after h few p = grind (arith, nat_tests)
@@ -159,6 +163,7 @@ module _ (s : Lists) (w d : ℕ) (packet : List Seg) (row : List ℕ) (headers :
   none_left : (held before after : ℕ) → after ≡ cond (nat_lt 0 held) before 0 → held ≡ 0 → after ≡ 0
   none_left held before after h z = grind (arith, nat_tests)
 
+  -- the worker has the packet's holds less, and no header without a hold
   pub less_offered : HasLess w packet s offered
   less_offered = record {
     holds =
@@ -180,6 +185,7 @@ module _ (s : Lists) (w d : ℕ) (packet : List Seg) (row : List ℕ) (headers :
         (header_of offered w i) (headers_offered i) z;
   }
 
+  -- every other worker has the hands, holds and headers that it had
   pub others_offered : KeepsOthers w s offered
   others_offered = record {
     hands = λ v i e. refl;
@@ -193,6 +199,7 @@ module _ (s : Lists) (w d : ℕ) (packet : List Seg) (row : List ℕ) (headers :
     ];
   }
 
+  -- the desks hold what the packet holds more
   desk_holds : (i : ℕ) → held_in offered.desks i ≡ held_in s.desks i + bag (holds_of_packet packet) i
   desk_holds i =
       omega (
@@ -202,6 +209,7 @@ module _ (s : Lists) (w d : ℕ) (packet : List Seg) (row : List ℕ) (headers :
         bag-nil i,
       )
 
+  -- the desks have the packet's own elements more
   desk_owns : (i : ℕ) → own_in offered.desks i ≡ own_in s.desks i + bag (own_of_packet packet) i
   desk_owns i =
       omega (
@@ -214,6 +222,7 @@ module _ (s : Lists) (w d : ℕ) (packet : List Seg) (row : List ℕ) (headers :
   still_held : (held header : ℕ) → 0 < cond (nat_lt 0 held) header 0 → 0 < held
   still_held held header h = grind (arith, nat_tests)
 
+  -- what an offer leaves is a table: each hold that leaves the row is now the desk's
   pub table_offered : IsTable offered
   table_offered =
       table_passed s w d (Some packet) row (placed (own_of_packet packet) None headers) t l b
@@ -258,6 +267,7 @@ module _ (s : Lists) (w d : ℕ) (packet : List Seg) (row : List ℕ) (headers :
 -- what is on a desk is held
 module _ (s : Lists) (d : ℕ) (packet : List Seg) (t : IsTable s) (here : d < length s.desks)
     (full : desk_of s d ≡ Some packet) where
+  -- what the desks hold is what is left on them without this packet, and what it holds
   pub from_desk : (i : ℕ) → held_in (set s.desks d None) i + bag (holds_of_packet packet) i ≡ held_in s.desks i
   from_desk i =
       omega (
@@ -267,6 +277,7 @@ module _ (s : Lists) (d : ℕ) (packet : List Seg) (t : IsTable s) (here : d < l
         bag-nil i,
       )
 
+  -- the own elements on desks are those of the others, and this packet's
   pub owned_on_desk : (i : ℕ) → own_in (set s.desks d None) i + bag (own_of_packet packet) i ≡ own_in s.desks i
   owned_on_desk i =
       omega (
@@ -276,6 +287,7 @@ module _ (s : Lists) (d : ℕ) (packet : List Seg) (t : IsTable s) (here : d < l
         bag-nil i,
       )
 
+  -- what a packet on a desk holds has a count above 0, so it is an element of the pool
   pub held_on_desk : (i : ℕ) → 0 < bag (holds_of_packet packet) i → i < s.limits.population
   held_on_desk i p = omega (
     arith,
@@ -283,6 +295,7 @@ module _ (s : Lists) (d : ℕ) (packet : List Seg) (t : IsTable s) (here : d < l
     t.elements,
   )
 
+  -- the own elements of a packet on a desk are elements of the pool, so each has a header's place
   pub own_on_desk : All (λ seg. seg.elem < length s.headers) packet
   own_on_desk =
       own_below (length s.headers) packet (λ i p.
@@ -311,6 +324,7 @@ module _ (s : Lists) (w d : ℕ) (packet : List Seg) (row : List ℕ) (t : IsTab
   not_own_taken : (i : ℕ) → bag (own_of_packet packet) i ≡ 0 → get_or taken.headers i None ≡ get_or s.headers i None
   not_own_taken i z = placed-out (own_of_packet packet) (Some w) None s.headers i z
 
+  -- an own element of the packet that is taken is this worker's header
   is_own_taken : (i : ℕ) → 0 < bag (own_of_packet packet) i → get_or taken.headers i None ≡ Some w
   is_own_taken i p =
       placed-in (own_of_packet packet) (Some w) None s.headers i p (omega (
@@ -319,6 +333,7 @@ module _ (s : Lists) (w d : ℕ) (packet : List Seg) (row : List ℕ) (t : IsTab
         t.header_places,
       ))
 
+  -- the worker has the packet's holds more, and its own elements as headers
   pub more_taken : HasMore w packet s taken
   more_taken = record {
     holds = λ i. holds_passed s w d None row (placed (own_of_packet packet) (Some w) s.headers) t l b i ∙ sum i;
@@ -336,6 +351,7 @@ module _ (s : Lists) (w d : ℕ) (packet : List Seg) (row : List ℕ) (t : IsTab
     ];
   }
 
+  -- every other worker has what it had, since an own element on a desk was nobody's header
   pub others_taken : KeepsOthers w s taken
   others_taken = record {
     hands = λ v i e. refl;
@@ -357,6 +373,7 @@ module _ (s : Lists) (w d : ℕ) (packet : List Seg) (row : List ℕ) (t : IsTab
     ];
   }
 
+  -- what a take leaves is a table: each hold that leaves the desk is now in the worker's row
   pub table_taken : IsTable taken
   table_taken =
       table_passed s w d None row (placed (own_of_packet packet) (Some w) s.headers) t l b len

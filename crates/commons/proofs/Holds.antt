@@ -13,13 +13,13 @@ pub hold_le : (holds : List (List ℕ)) (k i : ℕ) → k < length holds →
     get_or (get_or holds k []) i 0 ≤ sum_by (λ row. get_or row i 0) holds
 hold_le holds k i l = omega (arith, sum_by-set (λ (row : List ℕ). get_or row i 0) holds k [] [] l)
 
--- the sum once a row has changed
+-- where one row changes, the sum changes as that row does
 pub holds_changed : (holds : List (List ℕ)) (k i n j : ℕ) → k < length holds →
     sum_by (λ row. get_or row j 0) (set holds k (set (get_or holds k []) i n)) + get_or (get_or holds k []) j 0
     ≡ sum_by (λ row. get_or row j 0) holds + get_or (set (get_or holds k []) i n) j 0
 holds_changed holds k i n j l = sum_by-set (λ (row : List ℕ). get_or row j 0) holds k (set (get_or holds k []) i n) [] l
 
--- at another element nothing changes
+-- at another element than the one that is written the sum of holds stays
 pub sum-elsewhere : (holds : List (List ℕ)) (k i n j : ℕ) → k < length holds → j ≢ i →
     sum_by (λ row. get_or row j 0) (set holds k (set (get_or holds k []) i n)) ≡ sum_by (λ row. get_or row j 0) holds
 sum-elsewhere holds k i n j l h =
@@ -60,7 +60,7 @@ pub row-other : (holds : List (List ℕ)) (k i n v j : ℕ) → v ≢ k →
     get_or (get_or (set holds k (set (get_or holds k []) i n)) v []) j 0 ≡ get_or (get_or holds v []) j 0
 row-other holds k i n v j h = rw (get_or-set_other holds k v (set (get_or holds k []) i n) [] h) refl
 
--- a header that the worker gives up
+-- a header that one worker gives up was no other worker's
 disown_other : (b : Bool) (v u : ℕ) → (b ≡ true → u ≢ v) →
     ◌≡◌ {A = ℕ} (is_owner v (cond b None (Some u))) (cond (u == v) 1 0)
 disown_other true v u h = let e : u ≢ v = h refl in grind (arith, nat_tests)
@@ -88,7 +88,7 @@ pub owner_left-other : (v w left : ℕ) (owner : Option ℕ) → v ≢ w →
 owner_left-other v w zero owner h = disowned-other v w owner h
 owner_left-other v w (suc left) owner h = refl
 
--- no owner comes
+-- a header that is given up, or kept, has one owner at most
 disown_le : (b : Bool) (u : ℕ) → owners (cond b None (Some u)) ≤ 1
 disown_le true u = omega arith
 disown_le false u = omega arith

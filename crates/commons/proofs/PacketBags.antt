@@ -20,7 +20,7 @@ stands_within table slot segs e = elim (cases_lt slot (length table)) [
   | inr h ↦ absurd (none-some segs (sym (get_or_past table slot None h) ∙ e))
 ]
 
--- a slot with other contents
+-- where a slot gets other contents, the table holds what they hold, and not what was there
 pub held_in-set : (table : List (Option (List Seg))) (k : ℕ) (new : Option (List Seg)) (i : ℕ) → k < length table →
     held_in (set table k new) i + bag (holds_in_slot (get_or table k None)) i
     ≡ held_in table i + bag (holds_in_slot new) i
@@ -91,7 +91,7 @@ own_in-held (slot ∷ table) i = omega (
 
 -- ---- the segments so far
 
--- one segment more
+-- with one segment more the holds are those of the others, and then that segment's
 pub holds-suc : (segs : List Seg) (k : ℕ) (d : Seg) → k < length segs →
     holds_of_packet (take (k + 1) segs) ≡ holds_of_packet (take k segs)
     ++ holds_of_seg (get_or segs k d)

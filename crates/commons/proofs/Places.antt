@@ -39,7 +39,7 @@ placed-out (x ∷ xs) p d places i h =
     let other : i ≢ x = one-other x i (omega (arith, bag-cons x xs i)) in
     placed-out xs p d (set places x p) i (omega (arith, bag-cons x xs i)) ∙ get_or-set_other places x i p d other
 
--- one that is in the list has the new place
+-- an element that is in the list has the new place
 pub placed-in : {A : Type 0} (xs : List ℕ) (p d : A) (places : List A) (i : ℕ) → 0 < bag xs i →
     i < length places → get_or (placed xs p places) i d ≡ p
 placed-in [] p d places i h l = absurd (omega (arith, bag-nil i))
@@ -78,7 +78,7 @@ is_hand w Common h = absurd (omega arith)
 is_hand w (Hand v) h = ap Hand (hand_is v w h)
 is_hand w (Held n) h = absurd (omega arith)
 
--- one that is held is in no other place
+-- an element that is held has the place of a held one
 pub held_only : (p : Place) → 0 < held_count p → p ≡ Held (held_count p)
 held_only Common h = absurd (omega arith)
 held_only (Hand v) h = absurd (omega arith)

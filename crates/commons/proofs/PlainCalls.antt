@@ -3,8 +3,8 @@ use Rattle.std.proofs.Common.{ℕ, ◌≡◌, List, [], ◌∷◌, ◌++◌, Ok,
 use Rattle.commons.specs.declared.plain.PlainCommons.{PlainCommons}
 use Rattle.commons.specs.declared.refusal.Refusal.TheVariants.{NoEntries, HeadSpent, RefSpent, DeskTaken, DeskEmpty, NoSuchDesk}
 use Rattle.commons.specs.Beside.{LeavesOthers}
-use Rattle.commons.specs.Calls.{Call, GetList, PutList, Claim, CountOf, Raise, Lower, Offer, Take, CommonCount, Reading, Made, Leads, Side, calls_of}
-use Rattle.commons.specs.Lists.{Lists, IsTable, KeepsOthers, DidPlain, DidOnLists, side_of}
+use Rattle.commons.specs.Calls.{Call, GetList, PutList, Claim, CountOf, Raise, Lower, Offer, Take, CommonCount, Reading, Made, Did, HasCause, HasEffect, Leads, Side, calls_of}
+use Rattle.commons.specs.Lists.{Lists, IsTable, KeepsOthers, DidPlain, DidOnLists, read_by, side_of}
 use Rattle.commons.specs.PlainCalls.{LeadsPlain}
 
 -- what the trait's relation is at the lists
@@ -13,6 +13,7 @@ DidAt s call rs t =
     (t.site.ghost_name ≡ s.site.ghost_name) × (t.worker ≡ s.worker)
     × DidOnLists s.worker s.site.now call rs t.site.now
 
+-- where the lists stay as they are, so does what the others have
 pub KeepsOthers-refl : (w : ℕ) (s : Lists) → KeepsOthers w s s
 KeepsOthers-refl w s = record { hands = λ v i e. refl; holds = λ v i l e. refl; headers = λ v i e. refl }
 
@@ -24,8 +25,29 @@ KeepsOthers-trans w s t u a b = record {
   headers = λ v i e. b.headers v i e ∙ a.headers v i e;
 }
 
+-- what the worker of these lists sees of its own
 abbrev pub side_at : PlainCommons → Side
 side_at c = side_of c.site.now c.worker
+
+-- a call on the lists, on this site and by this worker, is one of the trait's: what it read is the
+-- cause of its answer, and the worker's side has its effect
+pub done : (s t : PlainCommons) (call : Call) → t.site.ghost_name ≡ s.site.ghost_name → t.worker ≡ s.worker →
+    DidPlain s.worker s.site.now call t.site.now → IsTable s.site.now → IsTable t.site.now →
+    KeepsOthers s.worker s.site.now t.site.now →
+    HasCause s.site.now.limits call (read_by s.site.now call) → HasEffect call (side_at s) (side_at t) →
+    Did DidAt side_at s call t
+done s t call site worker did before after others cause effect = record {
+  readings = read_by s.site.now call;
+  step = record {
+    led = (
+      site,
+      worker,
+      record { did = did; read = refl; before = before; after = after; others = others },
+    );
+    cause = cause;
+    effect = effect;
+  };
+}
 
 -- what a body's calls do to the lists
 pub record Plainly (s : PlainCommons) (calls : List Call) (t : PlainCommons) : Type 0 where
@@ -62,7 +84,7 @@ plainly s (m ∷ made) t h =
           (subst (λ w. KeepsOthers w h.0.site.now t.site.now) h.1.led.1 rest.others);
     }
 
--- what leads on leads through some state
+-- where two runs of calls lead from one state to another, there is one between them
 pub LeadsPlain-split : (w : ℕ) (s : Lists) (a b : List Call) (t : Lists) →
     LeadsPlain w s (a ++ b) t →
     (between : Lists) × LeadsPlain w s a between × LeadsPlain w between b t
@@ -71,7 +93,7 @@ LeadsPlain-split w s (call ∷ a) b t h =
     let rest = LeadsPlain-split w h.0 a b t h.4 in
     (rest.0, (h.0, h.1, h.2, h.3, rest.1), rest.2)
 
--- the lists stay a table
+-- along calls on a table the lists stay a table
 pub LeadsPlain-table : (w : ℕ) (s : Lists) (calls : List Call) (t : Lists) → IsTable s →
     LeadsPlain w s calls t → IsTable t
 LeadsPlain-table w s [] t table h = subst IsTable h table

@@ -37,6 +37,7 @@ module _ (s : Lists) (w i : ℕ) (t : IsTable s) (l : 1 ≤ w) (b : w ≤ s.limi
     | inr e ↦ rw (get_or-set_other s.places i j (Held (held_count (place_of s i) + 1)) nowhere e) refl
   ]
 
+  -- no hand changes, and holds change in this worker's row alone
   pub others_raise : KeepsOthers w s (after_raise w i s)
   others_raise = record {
     hands = λ v j e. hand_raise v j;
@@ -44,6 +45,7 @@ module _ (s : Lists) (w i : ℕ) (t : IsTable s) (l : 1 ≤ w) (b : w ≤ s.limi
     headers = λ v j e. refl;
   }
 
+  -- the worker holds this element once more, and each other one as often as before
   pub holds_raise : (j : ℕ) → holds_of (after_raise w i s) w j ≡ holds_of s w j + one i j
   holds_raise j = elim (apart_or_same i j) [
     | inl e ↦ rw (e, row-there s.holds (w - 1) i (holds_of s w i + 1) row_ok.0 in_row, one-same i) refl
@@ -57,6 +59,7 @@ module _ (s : Lists) (w i : ℕ) (t : IsTable s) (l : 1 ≤ w) (b : w ≤ s.limi
     | inr e ↦ omega (arith, hold_of_other s.holds w i (holds_of s w i + 1) v j l k e)
   ]
 
+  -- below the limit, one hold more leaves a table: count and row grow by one together
   pub table_raise : held_count (place_of s i) < s.limits.ref_limit → IsTable (after_raise w i s)
   table_raise below = record {
     pool = t.pool;

@@ -15,7 +15,7 @@ use Rattle.commons.proofs.Places.{zero_or_more, apart_or_same, one-apart, in_han
 use Rattle.commons.proofs.Holds.{hold_le, sum-elsewhere, sum-there, length-row, row-there, row-elsewhere, owner_left-other, owner_left-le, disowned-same, owner-same, owner-other, owner_low, owner_left-worker, owned_at, owned_by_all}
 use Rattle.commons.proofs.Tables.{row_below, not_held, hold_elsewhere, hold_of_other}
 
--- what a worker holds is in all holds
+-- an element that a worker holds is held
 hold_in_all : (s : Lists) (w i : ℕ) → IsTable s → 0 < holds_of s w i → 0 < holds_of_all s i
 hold_in_all s w i t h =
     elim (cases_lt (w - 1) (length s.holds)) [
@@ -101,13 +101,38 @@ headers_claim s w i t l p j =
       | inr e ↦ rw (get_or-set_other s.headers i j (Some w) None e, one-apart i j e) (omega arith)
     ]
 
--- an element that a worker holds is below the population, and its place is that of a held one
+-- an element that a worker holds is below the population
 pub held_below : (s : Lists) (w i : ℕ) → IsTable s → 1 ≤ w → w ≤ s.limits.workers →
     0 < holds_of s w i → i < s.limits.population
 held_below s w i t l b p = omega (arith, counted_in (get_or s.holds (w - 1) []) i p, (row_below s w t l b).1)
 
+-- an element that a worker holds has the place of a held one, with a count of at least 1
 pub held_place : (s : Lists) (w i : ℕ) → IsTable s → 0 < holds_of s w i → 0 < held_count (place_of s i)
 held_place s w i t p = omega (arith, t.counted i, hold_in_all s w i t p)
+
+-- in a table, a worker of the pool holds this element, which thus has a place and a header's place
+pub record IsHeldBy (s : Lists) (w i : ℕ) : Type 0 where
+  pub table : IsTable s
+  pub low : 1 ≤ w
+  pub high : w ≤ s.limits.workers
+  pub held : 0 < holds_of s w i
+  pub place : i < length s.places
+  pub header : i < length s.headers
+
+-- what is seen of the lists as held is held on the kept ones
+pub is_held_by : (s seen : Lists) (w i : ℕ) → s ≡ seen → IsTable s → 1 ≤ w → w ≤ seen.limits.workers →
+    0 < holds_of seen w i → IsHeldBy s w i
+is_held_by s seen w i same table low high held =
+    let high' = rw (sym same) at high in
+    let held' = rw (sym same) at held in
+    let within = held_below s w i table low high' held' in record {
+      table = table;
+      low = low;
+      high = high';
+      held = held';
+      place = omega (arith, within, table.elements);
+      header = omega (arith, within, table.header_places);
+    }
 
 -- the number of an element's holds once one has ended
 lowered_count : (w : ℕ) (p q : Place) (answer : Lowered) → WasLowered w p q answer → held_count q + 1 ≡ held_count p
@@ -174,6 +199,7 @@ module _ (s : Lists) (w i : ℕ) (q : Place) (answer : Lowered) (t : IsTable s) 
     left : ℕ
     left = holds_of s w i - 1
 
+    -- every other worker has what it had: the element comes to this worker's hand at most
     pub others_lower : KeepsOthers w s (after_lower w i q s)
     others_lower = record {
       hands = λ v j e. elim (apart_or_same i j) [
@@ -195,6 +221,7 @@ module _ (s : Lists) (w i : ℕ) (q : Place) (answer : Lowered) (t : IsTable s) 
       ];
     }
 
+    -- the end of one hold leaves a table: count and row are one less, and the last goes to the hand
     pub table_lower : IsTable (after_lower w i q s)
     table_lower = record {
       pool = t.pool;
@@ -297,18 +324,21 @@ module _ (s : Lists) (w i : ℕ) (q : Place) (answer : Lowered) (t : IsTable s) 
       changed = t.changed;
     }
 
+    -- the element comes to the hand exactly where its last hold ended
     pub hand_lower : (j : ℕ) → hand_of (after_lower w i q s) w j ≡ hand_of s w j + back answer i j
     hand_lower j = elim (apart_or_same i j) [
       | inl e ↦ rw (e, get_or-set_same s.places i q nowhere in_places) (lowered_back w i (place_of s i) q answer d)
       | inr e ↦ rw (get_or-set_other s.places i j q nowhere e, back-apart answer i j e) (omega arith)
     ]
 
+    -- the worker holds this element once less, and each other one as often as before
     pub holds_lower : (j : ℕ) → holds_of s w j ≡ holds_of (after_lower w i q s) w j + one i j
     holds_lower j = elim (apart_or_same i j) [
       | inl e ↦ rw (e, row-there s.holds (w - 1) i (holds_of s w i - 1) row_ok.0 in_row, one-same i) (omega (arith, p))
       | inr e ↦ rw (row-elsewhere s.holds (w - 1) i (holds_of s w i - 1) j row_ok.0 e, one-apart i j e) (omega arith)
     ]
 
+    -- a header stays the worker's as long as it holds the element
     pub headers_lower : (j : ℕ) → header_of (after_lower w i q s) w j
         ≡ cond (nat_lt 0 (holds_of (after_lower w i q s) w j)) (header_of s w j) 0
     headers_lower j = elim (apart_or_same i j) [

@@ -195,7 +195,7 @@ apart w Common = omega arith
 apart w (Hand v) = omega (arith, in_hand-le w (Hand v))
 apart w (Held n) = omega arith
 
--- past the population there is none
+-- past the places there is no element in the common list or in a hand
 past : (w : ℕ) (places : List Place) (i : ℕ) → length places ≤ i →
     in_common (get_or places i nowhere) + in_hand w (get_or places i nowhere) ≡ 0
 past w places i l = rw (get_or_past places i nowhere l) refl
@@ -217,7 +217,7 @@ in_range s w i t h = omega (arith, stands_in_hand s.places w i h, t.elements)
 pub length_common : (s : Lists) → IsTable s → length s.common ≤ s.limits.population
 length_common s t = omega (arith, room_put s 0 [] t (λ i. omega (arith, bag-nil i)))
 
--- a worker's row of holds
+-- a worker of the pool has a row of holds, with a number for each element
 pub row_below : (s : Lists) (w : ℕ) → IsTable s → 1 ≤ w → w ≤ s.limits.workers →
     (w - 1 < length s.holds) × (length (get_or s.holds (w - 1) []) ≡ s.limits.population)
 row_below s w t l h = (omega (arith, t.workers), t.rows (w - 1) (omega arith))
@@ -310,7 +310,7 @@ taken_below s n t =
     all_below s.limits.population (take n s.common)
     (λ i l. omega (arith, bag-take-drop n s.common i, t.shown i, past 0 s.places i (omega (arith, t.elements))))
 
--- and so is what is put back
+-- what is put back comes from a hand, so it is below the population
 pub put_below : (s : Lists) (w : ℕ) (xs : List ℕ) → IsTable s →
     ((i : ℕ) → bag xs i ≤ hand_of s w i) → All (λ x. x < s.limits.population) xs
 put_below s w xs t h = all_below s.limits.population xs (λ i l. omega (arith, h i, hand_below_lem s w i t l))

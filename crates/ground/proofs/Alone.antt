@@ -1,5 +1,5 @@
--- Where one seat has every part, no other view names anything, and so the seat knows the length of
--- the common list.
+-- Where one seat is the only one of its pool, which has every part, no other view names anything,
+-- and so the seat knows the length of the common list.
 use Rattle.std.proofs.Common.{◌≡◌, ◌≢◌, ℕ, zero, suc, ◌+◌, ◌<◌, ◌≤◌, Bool, true, false, List, [], ◌∷◌, ◌++◌, Option, Some, None}
 use Rattle.std.proofs.Common.{length, set, refl, sym, ap, ◌∙◌, subst, ⊎_elim, arith, length-append, eq-eqb, ne_eqb}
 use Rattle.std.specs.Prelude.{sum_by, IfSome, IsSome, flat_map, not, slice_index_or, ◌&&◌, ◌==◌, if◌then◌else◌}
@@ -84,7 +84,7 @@ read_lying read none (x ∷ xs) i = omega (
   sum_by-cons (λ (y : Desk). bag (if y.word == desk_full then read y.slot else []) i) x xs,
 )
 
--- these packets hold what full desks hold, and their own elements are those on full desks
+-- what lies on the desks holds what full desks hold, and its own elements are those on full desks
 held_lying : (i : ℕ) (ds : List Desk) → held_in (lying_on ds) i ≡ sum_by (λ (x : Desk). bag (shelf x) i) ds
 held_lying i ds = read_lying holds_in_slot refl ds i
 
@@ -211,14 +211,14 @@ module _ (w : World) (law : Lawful w) (k : ℕ) where
     work = in_work beside.work refl;
   }
 
--- the same, of the view as it is known
+-- what lies on the desks can lie beside the view that the seat knows
 pub may_lie : (w : World) → Lawful w → HeaderLaw w → length w.desks ≡ w.limits.desks → HavePackets w →
     (l : Limits) → w.limits ≡ l → (k : ℕ) (v : View) → view_at w.views k ≡ v → MayLie l v (lying_on w.desks)
 may_lie w law headers count packets l limits k v is =
     subst (λ (m : Limits). MayLie m v (lying_on w.desks)) limits
     (subst (λ (u : View). MayLie w.limits u (lying_on w.desks)) is (lies_beside w law k headers count packets))
 
--- what a seat of every part knows of the desks is what lies there
+-- what the only seat of a pool knows of the desks is what lies there
 pub lies_known : (w : World) (n : Known) → KnowsDesks n → SeesDesks w n → n.view.part ≡ n.limits.workers →
     n.lying ≡ Some (lying_on w.desks)
 lies_known w n knows_desks sees whole =
@@ -297,7 +297,7 @@ module _ (w : World) (law : Lawful w) (k : ℕ) (here : k < length w.views) (who
           some_part zero is = absurd (cc (sym (law.parts.idle k is).look ∙ e))
           some_part (suc n) is = omega arith
 
--- a seat of every part knows the length word
+-- the only seat of a pool knows the length word
 pub knows : (w : World) → Lawful w → HeaderLaw w → length w.desks ≡ w.limits.desks → HavePackets w →
     (n : Known) → w.limits ≡ n.limits → (k : ℕ) → k < length w.views → view_at w.views k ≡ n.view →
     KnowsDesks n → SeesDesks w n → KnowsLength n w.length
@@ -314,7 +314,7 @@ knows w law headers count packets n limits k here is knows_desks sees whole = (
       (ap (λ (u : View). u.part) is ∙ (whole ∙ sym (ap (λ (m : Limits). m.workers) limits))))),
 )
 
--- and that a walk to the end has passed all that is reserved
+-- the only seat of a pool knows that a walk to the end has passed all that is reserved
 pub knows_end : (w : World) → Lawful w → (l : Limits) → w.limits ≡ l → (k : ℕ) →
     k < length w.views → (v : View) → view_at w.views k ≡ v → KnowsEnd l v
 knows_end w law l limits k here v is whole = all v.look refl
@@ -348,7 +348,7 @@ none_in_work w law k here whole idle d = (
       omega arith,
 )
 
--- and how often each element is held
+-- all holds of an element are the only seat's and those of what lies on the desks
 pub holds_known : (w : World) → Lawful w → (k : ℕ) → k < length w.views →
     (view_at w.views k).part ≡ w.limits.workers → (i : ℕ) →
     all_holds i w.views w.desks ≡ bag (view_at w.views k).holds i + held_in (lying_on w.desks) i

@@ -1,4 +1,4 @@
--- How the changes of all seats add up, and what a seat of every part knows of them.
+-- How the changes of all seats add up, and what the only seat of a pool knows of them.
 use Rattle.std.proofs.Common.{◌≡◌, ◌≢◌, ℕ, zero, suc, ◌+◌, ◌<◌, ◌≤◌, List, [], ◌∷◌, ◌++◌, length, set, get_or, refl, sym, ap, ◌∙◌, subst, ⊎_elim, arith}
 use Rattle.std.specs.Prelude.{sum_by}
 use Rattle.std.proofs.lemmas.Bool.{cases_eq}
@@ -46,7 +46,7 @@ one_of_all ns id n at =
     let all = sum_set ns id n spent_seat at in
     omega arith
 
--- and where no other has done anything, all that was done
+-- where no other seat has done anything, the changes of this one are all
 pub one_alone : (ns : List Known) (id : ℕ) (n : Known) → get_elem? ns id ≡ some n →
     ((j : ℕ) (o : Known) → j ≢ id → get_elem? ns j ≡ some o → IsUnmoved o) →
     sum_by changes_of ns ≡ changes_of n
@@ -79,7 +79,7 @@ sum_split ns id n at =
     let all = sum_set ns id n (less_part n) at in
     omega (arith, sum_by_push changes_of (set ns id (less_part n)) (newcomer n))
 
--- nor does a join
+-- a join changes nothing of the sum
 pub sum_join : (ns : List Known) (id : ℕ) (n : Known) (other : ℕ) (o : Known) → get_elem? ns id ≡ some n →
     get_elem? (set ns id (both n o)) other ≡ some o →
     sum_by changes_of (set (set ns id (both n o)) other spent_seat) ≡ sum_by changes_of ns
@@ -105,7 +105,7 @@ set_there [] id n m at = absurd (some-ne-none n (sym at))
 set_there (x ∷ xs) zero n m at = refl
 set_there (x ∷ xs) (suc id) n m at = set_there xs id n m at
 
--- so not all are unmoved then
+-- once a seat has noted a step, not all seats are unmoved
 pub none_unmoved : (ns : List Known) (id : ℕ) (n m : Known) (note : Step × Outcome) → get_elem? ns id ≡ some n →
     m.steps ≡ n.steps ++ note ∷ [] → AreUnmoved (set ns id m) → ⊥
 none_unmoved ns id n m note at steps all = not_unmoved n m note steps (all id m (set_there ns id n m at))

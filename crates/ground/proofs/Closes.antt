@@ -105,7 +105,7 @@ small_past [] ys b g i h = g i
 small_past (x ∷ xs) ys b g zero h = absurd (omega arith)
 small_past (x ∷ xs) ys b g (suc i) h = small_past xs ys b g i (omega arith)
 
--- and desks' words
+-- the words of desks are small
 small_desks : (ds : List Desk) → ((d : ℕ) → (desk_at ds d).word ≤ 3) →
     (j : ℕ) → slice_index (map word_on ds) j ≤ short
 small_desks [] h j = omega arith

@@ -1,4 +1,4 @@
--- Each of the four steps on a desk's word keeps the rule, and tells its seat what its contract
+-- Each of the four steps on a desk's word keeps the rule, and answers its seat what its contract
 -- says. What the seat put into the slot, or took out of it, since it has the slot is a step of the
 -- machine before the one on the word.
 use Rattle.std.proofs.Common.{◌≡◌, ◌≢◌, ◌==◌, ℕ, zero, suc, ◌<◌, ◌≤◌, Bool, true, eqb, List, [], ◌∷◌, ◌++◌, Option, Some, None, length, set, refl, sym, ap, ◌∙◌, subst, arith, eq-eqb, ne_eqb, get_or-set_same}
@@ -10,7 +10,7 @@ use mathlib.Core.Logic.{dite}
 use native.Mathlib.Decide.{ℕ_discrete}
 use lib.ListN.{get_elem?}
 use prog.Atomic.{either}
-use Rattle.atomic_table.specs.Table.{Act, step, keeps, takes, gives, stepped, Allows, Valid, carried_after, put_back, rest}
+use Rattle.atomic_table.specs.Table.{Act, step, keeps, takes, gives, stepped, Valid, carried_after, put_back, rest}
 use Rattle.commons.specs.Bag.{bag}
 use Rattle.commons.specs.Packets.{IsPacket, holds_of_packet}
 use Rattle.commons.specs.declared.limits.Limits.{Limits}
@@ -19,7 +19,7 @@ use Rattle.step_core.specs.Bags.{one_if, Includes, all_below, includes, includes
 use Rattle.step_core.specs.Headers.{HeaderLaw, OwnsHeaders, OpensOwn, given_away}
 use Rattle.step_core.specs.Law.{Lawful, empties}
 use Rattle.step_core.specs.Runs.{Reaches}
-use Rattle.step_core.specs.Sights.{working, opened, seized}
+use Rattle.step_core.specs.Views.{working, opened, seized}
 use Rattle.step_core.specs.Steps.{Play, quiet, given, hold, put_in, open_desk, open_with, seize, seize_with, take_out, clear, at_desk, phase_at, play}
 use Rattle.step_core.specs.World.{World, empty_view, no_desk, view_at, view_of, desk_at}
 use Rattle.step_core.specs.declared.step.Step.{Step}
@@ -37,10 +37,10 @@ use Rattle.step_core.proofs.StackSteps.{one_view}
 use Rattle.step_core.proofs.Theorem.{keeps_law}
 use Rattle.ground.specs.Layout.{desk_word, desk_standing_at}
 use Rattle.ground.specs.declared.known.Known.{Known}
-use Rattle.ground.specs.DeskTells.{moved, Moved, hold_found, hold_tells, open_tells, seize_found, seize_tells, clear_tells}
+use Rattle.ground.specs.DeskAnswers.{moved, Moved, hold_found, hold_answers, open_answers, seize_found, seize_answers, clear_answers}
 use Rattle.ground.specs.Own.{AtDesk}
 use Rattle.ground.specs.Rule.{Slot, Sat, Ruled, home_by}
-use Rattle.ground.specs.Tells.{noted, Tells, exchanged}
+use Rattle.ground.specs.StepAnswers.{noted, Noted, exchanged}
 use Rattle.ground.specs.Closing.{kept_on, packet_on, lying_on}
 use Rattle.ground.specs.History.{Stepped, notes_of}
 use Rattle.ground.proofs.History.{led_on, led_quietly}
@@ -113,11 +113,11 @@ module _ (l : Limits) (s : St) (r : Ruled l s) (id : ℕ) (me : Sat) (at : get_e
       let all = r.desks.desks.emptied d ∙ ap (λ (n : ℕ). one_if (n == 3)) full in
       omega arith
 
-pub holds_desk_moves : (l : Limits) (slots id : ℕ) (me : Sat) (d k : ℕ) → k ≡ desk_word l.population d →
+pub holds_desk : (l : Limits) (slots id : ℕ) (me : Sat) (d k : ℕ) → k ≡ desk_word l.population d →
     d < l.desks → me.0.view.work ≡ None → Sits me →
     Moves l slots id me k (λ x. either (eqb x 0) 1 x) (Hold d ∷ []) (λ x. exchanged (eqb x 0) x ∷ [])
-    (hold_tells (step slots k 0 1 none) me)
-holds_desk_moves l slots id me d k word inside idle busy s r _ at _ =
+    (hold_answers (step slots k 0 1 none) me)
+holds_desk l slots id me d k word inside idle busy s r _ at _ =
     let x : ℕ = slice_index s.words k in
     let w = r.world in
     let v = me.0.view in
@@ -185,21 +185,15 @@ holds_desk_moves l slots id me d k word inside idle busy s r _ at _ =
       tt,
       (done.0.0, (w, played, done.0.1)),
       by_desk l s r id me at busy d k word inside
-          (λ (j : ℕ). Tells (Hold j) (Lost x) me (noted (Hold d) (Lost x) me) × KnowsFull j me.0)
+          (λ (j : ℕ). Noted (Hold j) (Lost x) me (noted (Hold d) (Lost x) me) × KnowsFull j me.0)
           (done.1, seen_full l s r id me at busy d idle (λ same. miss (read ∙ same))),
     ))
 
-pub holds_desk : (l : Limits) (slots id : ℕ) (me : Sat) (d k : ℕ) → k ≡ desk_word l.population d →
-    d < l.desks → me.0.view.work ≡ None → Sits me →
-    Allows (Ruled l) slots id me k (λ x. either (eqb x 0) 1 x) (hold_tells (step slots k 0 1 none) me)
-holds_desk l slots id me d k word inside idle busy s r size at small =
-    let m = holds_desk_moves l slots id me d k word inside idle busy s r size at small in (m.0, m.1, m.2, m.3.0, m.4)
-
-pub seizes_desk_moves : (l : Limits) (slots id : ℕ) (me : Sat) (d k : ℕ) → k ≡ desk_word l.population d →
+pub seizes_desk : (l : Limits) (slots id : ℕ) (me : Sat) (d k : ℕ) → k ≡ desk_word l.population d →
     d < l.desks → me.0.view.work ≡ None → Sits me →
     Moves l slots id me k (λ x. either (eqb x 2) 3 x) (Seize d ∷ []) (λ x. exchanged (eqb x 2) x ∷ [])
-    (seize_tells (step slots k 2 3 none) me)
-seizes_desk_moves l slots id me d k word inside idle busy s r _ at _ =
+    (seize_answers (step slots k 2 3 none) me)
+seizes_desk l slots id me d k word inside idle busy s r _ at _ =
     let x : ℕ = slice_index s.words k in
     let w = r.world in
     let v = me.0.view in
@@ -275,15 +269,9 @@ seizes_desk_moves l slots id me d k word inside idle busy s r _ at _ =
       tt,
       (done.0.0, (w, played, done.0.1)),
       by_desk l s r id me at busy d k word inside
-          (λ (j : ℕ). Tells (Seize j) (Lost x) me (noted (Seize d) (Lost x) me) × KnowsEmpty j me.0)
+          (λ (j : ℕ). Noted (Seize j) (Lost x) me (noted (Seize d) (Lost x) me) × KnowsEmpty j me.0)
           (done.1, seen_empty l s r id me at busy d (λ same. miss (read ∙ same))),
     ))
-
-pub seizes_desk : (l : Limits) (slots id : ℕ) (me : Sat) (d k : ℕ) → k ≡ desk_word l.population d →
-    d < l.desks → me.0.view.work ≡ None → Sits me →
-    Allows (Ruled l) slots id me k (λ x. either (eqb x 2) 3 x) (seize_tells (step slots k 2 3 none) me)
-seizes_desk l slots id me d k word inside idle busy s r size at small =
-    let m = seizes_desk_moves l slots id me d k word inside idle busy s r size at small in (m.0, m.1, m.2, m.3.0, m.4)
 
 -- a step of the machine that changes a slot alone, and then one on the same desk's word
 module _ (l : Limits) (s : St) (r : Ruled l s) (id : ℕ) (me : Sat) (at : get_elem? s.views id ≡ some me.0)
@@ -348,13 +336,13 @@ module _ (l : Limits) (s : St) (r : Ruled l s) (id : ℕ) (me : Sat) (at : get_e
       λ i. record r.world { desks = desks i; views = views i } in
       (subst Lawful same law_end, subst HeaderLaw same headers_end, again ∙ ap (λ (q : World). Some (o', q)) same)
 
-pub opens_desk_moves : (l : Limits) (slots id : ℕ) (me : Sat) (d k : ℕ) (p : List Seg) →
+pub opens_desk : (l : Limits) (slots id : ℕ) (me : Sat) (d k : ℕ) (p : List Seg) →
     k ≡ desk_word l.population d → d < l.desks → me.0.view.work ≡ at_desk d ToFill →
     me.1 ≡ (d, Some p) ∷ [] → IsPacket p → Includes me.0.view.holds (holds_of_packet p) →
     OwnsHeaders me.0.view p → Sits me →
     Moves l slots id me k (λ _. 2) (PutIn d p ∷ Open d ∷ []) (λ _. Done ∷ Done ∷ [])
-    (λ _. open_tells (step slots k 2 0 none) me 2)
-opens_desk_moves l slots id me d k p word inside work out packet holds owns busy s r _ at _ =
+    (λ _. open_answers (step slots k 2 0 none) me 2)
+opens_desk l slots id me d k p word inside work out packet holds owns busy s r _ at _ =
     let w = r.world in
     let v = me.0.view in
     let y : Desk = desk_at w.desks d in
@@ -425,20 +413,12 @@ opens_desk_moves l slots id me d k p word inside work out packet holds owns busy
           (p, out, done.1),
     )
 
-pub opens_desk : (l : Limits) (slots id : ℕ) (me : Sat) (d k : ℕ) (p : List Seg) →
-    k ≡ desk_word l.population d → d < l.desks → me.0.view.work ≡ at_desk d ToFill →
-    me.1 ≡ (d, Some p) ∷ [] → IsPacket p → Includes me.0.view.holds (holds_of_packet p) →
-    OwnsHeaders me.0.view p → Sits me →
-    Allows (Ruled l) slots id me k (λ _. 2) (λ _. open_tells (step slots k 2 0 none) me 2)
-opens_desk l slots id me d k p word inside work out packet holds owns busy s r size at small =
-    let m = opens_desk_moves l slots id me d k p word inside work out packet holds owns busy s r size at small in (m.0, m.1, m.2, m.3.0, m.4)
-
-pub clears_desk_moves : (l : Limits) (slots id : ℕ) (me : Sat) (d k : ℕ) (p : List Seg) →
+pub clears_desk : (l : Limits) (slots id : ℕ) (me : Sat) (d k : ℕ) (p : List Seg) →
     k ≡ desk_word l.population d → d < l.desks → me.0.view.work ≡ at_desk d (Seized p) →
     me.1 ≡ (d, None) ∷ [] → Sits me →
     Moves l slots id me k (λ _. 0) (TakeOut d ∷ Clear d ∷ []) (λ _. Found p ∷ Done ∷ [])
-    (λ _. clear_tells (step slots k 0 0 none) me 0)
-clears_desk_moves l slots id me d k p word inside work out busy s r _ at _ =
+    (λ _. clear_answers (step slots k 0 0 none) me 0)
+clears_desk l slots id me d k p word inside work out busy s r _ at _ =
     let w = r.world in
     let v = me.0.view in
     let y : Desk = desk_at w.desks d in
@@ -485,10 +465,3 @@ clears_desk_moves l slots id me d k p word inside work out busy s r _ at _ =
           ((moved (Clear d) Done v'' me.0.lying [] me).0, carried_after me.1 gives))
           done.1,
     )
-
-pub clears_desk : (l : Limits) (slots id : ℕ) (me : Sat) (d k : ℕ) (p : List Seg) →
-    k ≡ desk_word l.population d → d < l.desks → me.0.view.work ≡ at_desk d (Seized p) →
-    me.1 ≡ (d, None) ∷ [] → Sits me →
-    Allows (Ruled l) slots id me k (λ _. 0) (λ _. clear_tells (step slots k 0 0 none) me 0)
-clears_desk l slots id me d k p word inside work out busy s r size at small =
-    let m = clears_desk_moves l slots id me d k p word inside work out busy s r size at small in (m.0, m.1, m.2, m.3.0, m.4)

@@ -23,7 +23,7 @@ use Rattle.step_core.proofs.Bags.{at_or_else}
 use Rattle.step_core.proofs.StackSteps.{two_views}
 use Rattle.ground.specs.declared.known.Known.{Known}
 use Rattle.ground.specs.Closing.{packet_on, lying_on}
-use Rattle.ground.specs.DeskTells.{moved, Moved}
+use Rattle.ground.specs.DeskAnswers.{moved, Moved}
 use Rattle.ground.specs.Layout.{pack, lines, word_on, rows_of, words_of, links_at, desk_word, desk_standing_at}
 use Rattle.ground.specs.Own.{Owned, AtDesk, KnowsDesks}
 use Rattle.ground.specs.Rule.{Slot, Sat, Ruled, SeesDesks, view_in, home_of}
@@ -177,7 +177,7 @@ module _ (l : Limits) (s : St) (r : Ruled l s) (id : ℕ) (me : Sat) (at : get_e
       ∙ at_map home_of r.world.desks d (desk_at r.world.desks d)
       (desk_there r.world.desks d desk_inside)
 
-  -- no other seat has every part, or knows what lies on the desks
+  -- no other seat is the only one, or knows what lies on the desks
   others_blind : (u : World) (j : ℕ) (n : Known) → j ≢ id → get_elem? s.views j ≡ some n → SeesDesks u n
   others_blind u j n ne there = if_seen n.lying (n.view.part ≡ r.world.limits.workers) (lying_on r.world.desks)
       (λ ds. (n.view.part ≡ u.limits.workers) × (ds ≡ lying_on u.desks)) (r.lies j n there)

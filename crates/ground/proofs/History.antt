@@ -37,7 +37,7 @@ led_on l h w ns id m n st o u at law led busy e noted = (
   ),
 )
 
--- and one that the seat doesn't note
+-- a step that the seat doesn't note leads on, and leaves its log as it was
 pub led_quietly : (l : Limits) (h : List Move) (w : World) (ns : List Known) (id : ℕ) (m : Known) (st : Step)
     (o : Outcome) (u : World) → get_elem? ns id ≡ some m → Lawful w → Led l h w (logs_of ns) →
     0 < (view_at w.views id).part → play w (suc id) st ≡ Some (o, u) → notes_of st o (slot_at w.desks st) ≡ [] →

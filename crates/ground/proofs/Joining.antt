@@ -19,7 +19,7 @@ use Rattle.ground.specs.Own.{AtRest, KnowsDesks}
 use Rattle.ground.specs.Parting.{both_views, both, spent_seat}
 use Rattle.ground.specs.Closing.{lying_on}
 use Rattle.ground.specs.Rule.{Slot, Sat, Ruled, SeesDesks, view_in}
-use Rattle.ground.specs.Tells.{looked}
+use Rattle.ground.specs.StepAnswers.{looked}
 use Rattle.ground.proofs.Reviews.{join_lawful, join_headers}
 use Rattle.ground.proofs.Rules.{stack_of, counts_of, desks_of}
 use Rattle.ground.specs.History.{Log, Joined, Led, log_of, logs_of}
@@ -105,8 +105,8 @@ merges l id n other o busy rest rest' s r at apart there =
       );
     }
 
--- A load that changes no word tells what the seat's type keeps; and where the seat has every part,
--- what lies on the desks is what it knows from now on.
+-- A load that changes no word answers what the seat's type keeps; and where the seat is the only
+-- one of its pool, what lies on the desks is what it knows from now on.
 pub looks : (l : Limits) (slots id : ℕ) (me : Sat) → 0 < me.0.view.part →
     Allows (Ruled l) slots id me 0 (λ n. n) (looked (step slots 0 0 0 none) me)
 looks l slots id me busy s r _ at _ = dite (ℕ_discrete me.0.view.part me.0.limits.workers)

@@ -17,3 +17,4 @@ pub mod Desking
 pub mod DeskSteps
 pub mod Operations
 pub mod Phasing
+pub mod Calls

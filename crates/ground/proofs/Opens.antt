@@ -77,7 +77,7 @@ homes_are : (n : ℕ) →
 homes_are zero = refl
 homes_are (suc n) = ap (λ (hs : List (maybe.Option Slot)). some None ∷ hs) (homes_are n)
 
--- and nothing lies on a desk
+-- at the start nothing lies on a desk
 pub none_lie : (n : ℕ) → replicate {A = Slot} n None ≡ lying_on (replicate {A = Desk} n no_desk)
 none_lie zero = refl
 none_lie (suc n) = ap (λ (xs : List Slot). None ∷ xs) (none_lie n)

@@ -1,26 +1,26 @@
 -- Each operation of a call is a step of the machine.
 use Rattle.ground.specs.Operations.{OperationsAreSteps}
-use Rattle.ground.proofs.Stepping.{loads_length_moves, reserves_moves, adds_moves, loads_head_moves, loads_link_moves, cuts_moves, stores_link_moves, pushes_moves}
-use Rattle.ground.proofs.Tallies.{claims_moves, soles_moves, raises_moves, lowers_moves, resets_moves}
-use Rattle.ground.proofs.DeskSteps.{holds_desk_moves, opens_desk_moves, seizes_desk_moves, clears_desk_moves}
+use Rattle.ground.proofs.Stepping.{loads_length, reserves, adds, loads_head, loads_link, cuts, stores_link, pushes}
+use Rattle.ground.proofs.Tallies.{claims, soles, raises, lowers, resets}
+use Rattle.ground.proofs.DeskSteps.{holds_desk, opens_desk, seizes_desk, clears_desk}
 
 pub operations_are_steps : OperationsAreSteps
 operations_are_steps = record {
-  load_length = loads_length_moves;
-  reserve = reserves_moves;
-  add = adds_moves;
-  load_head = loads_head_moves;
-  load_link = loads_link_moves;
-  cut = cuts_moves;
-  store_link = stores_link_moves;
-  push = pushes_moves;
-  claim = claims_moves;
-  sole = soles_moves;
-  raise = raises_moves;
-  lower = lowers_moves;
-  reset = resets_moves;
-  hold_desk = holds_desk_moves;
-  open_desk = opens_desk_moves;
-  seize_desk = seizes_desk_moves;
-  clear_desk = clears_desk_moves;
+  load_length = loads_length;
+  reserve = reserves;
+  add = adds;
+  load_head = loads_head;
+  load_link = loads_link;
+  cut = cuts;
+  store_link = stores_link;
+  push = pushes;
+  claim = claims;
+  sole = soles;
+  raise = raises;
+  lower = lowers;
+  reset = resets;
+  hold_desk = holds_desk;
+  open_desk = opens_desk;
+  seize_desk = seizes_desk;
+  clear_desk = clears_desk;
 }

@@ -4,7 +4,7 @@ use Rattle.std.specs.Prelude.{if◌then◌else◌}
 use Rattle.std.proofs.lemmas.Bool.{eqb-true}
 use Rattle.commons.specs.declared.packet.Seg.{Seg}
 use Rattle.commons.specs.Packets.{IsPacket}
-use Rattle.step_core.specs.Sights.{at_desk, phase_at}
+use Rattle.step_core.specs.Views.{at_desk, phase_at}
 use Rattle.step_core.specs.declared.view.Phase.{Phase}
 use Rattle.step_core.specs.declared.view.Phase.TheVariants.{ToFill, Filled, Seized, TakenOut}
 use Rattle.step_core.specs.declared.view.Work.{Work}

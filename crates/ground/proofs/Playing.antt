@@ -1,5 +1,5 @@
--- A step of the machine by one seat, on one word, keeps the rule and tells the seat.
-use Rattle.std.proofs.Common.{◌≡◌, ◌≢◌, ℕ, zero, suc, ◌+◌, ◌*◌, ◌/◌, ◌%◌, ◌<◌, true, List, [], ◌∷◌, ◌++◌, Some, None, length, set, refl, sym, ap, ◌∙◌, subst, ⊎_elim, arith, get_or-set_same}
+-- A step of the machine by one seat, on one word, keeps the rule and answers the seat.
+use Rattle.std.proofs.Common.{◌≡◌, ◌≢◌, ℕ, zero, suc, ◌+◌, ◌<◌, true, List, [], ◌∷◌, ◌++◌, Some, None, length, set, refl, sym, ap, ◌∙◌, subst, ⊎_elim, arith, get_or-set_same}
 use Rattle.std.specs.Prelude.{slice_index, option_map, if◌then◌else◌, map, Option, IfSome}
 use Rattle.std.proofs.lemmas.Bool.{lt-ltb}
 use Rattle.std.proofs.lemmas.List.{length-set, get_or_append_left, get_or-append_right, set-append_left, set-append_right}
@@ -22,7 +22,7 @@ use Rattle.step_core.specs.World.{World, desk_at, empty_view, view_at, view_of}
 use Rattle.step_core.specs.Law.{Lawful}
 use Rattle.step_core.specs.Headers.{HeaderLaw, OpensOwn}
 use Rattle.step_core.specs.Schedules.{slot_at}
-use Rattle.step_core.specs.Sights.{view_after}
+use Rattle.step_core.specs.Views.{view_after}
 use Rattle.step_core.specs.Steps.{Play, in_range, row, turn, played, play}
 use Rattle.step_core.proofs.Theorem.{keeps_law, changes_little, views_after, same_population}
 use Rattle.step_core.proofs.HeaderWalks.{keeps_headers}
@@ -33,7 +33,7 @@ use Rattle.ground.specs.Layout.{pack, unpack, lines, word_on, rows_of, words_of,
 use Rattle.ground.specs.Operations.{Sits}
 use Rattle.ground.specs.Own.{Owned, AtDesk}
 use Rattle.ground.specs.Rule.{Slot, Sat, Ruled, SeesDesks, view_in, home_of}
-use Rattle.ground.specs.Tells.{noted, Tells}
+use Rattle.ground.specs.StepAnswers.{noted, Noted}
 use Rattle.ground.proofs.Rules.{lawful_of, stack_of, counts_of, desks_of}
 use Rattle.ground.proofs.Owning.{owned_of}
 use Rattle.ground.specs.History.{Stepped, notes_of}
@@ -190,7 +190,7 @@ module _ (l : Limits) (s : St) (r : Ruled l s) (id : ℕ) (me : Sat) (at : get_e
       u.head.count ≡ r.world.head.count + changes_by st o →
       notes_of st o (slot_at r.world.desks st) ≡ (st, o) ∷ []
       → ((after : Ruled l (stepped s i x id me.1 (noted st o me).0 keeps)) × (after.world ≡ u))
-      × Tells st o me (noted st o me)
+      × Noted st o me (noted st o me)
   steps_by i x st o u own e words bare desks work count noting =
       let v = view_after None st o me.0.view in
       let kept : Lawful u = law_after st o u e in
@@ -242,7 +242,7 @@ module _ (l : Limits) (s : St) (r : Ruled l s) (id : ℕ) (me : Sat) (at : get_e
         ),
       )
 
-  -- so of a step that doesn't change the stack
+  -- a step that doesn't change the stack keeps the rule, and answers its seat
   pub steps : (i x : ℕ) (st : Step) (o : Outcome) (u : World) →
       OpensOwn (view_at r.world.views id) st → play r.world (suc id) st ≡ Some (o, u) →
       set (words_of r.world) i x ≡ words_of u →
@@ -251,7 +251,7 @@ module _ (l : Limits) (s : St) (r : Ruled l s) (id : ℕ) (me : Sat) (at : get_e
       (changes_by st o ≡ 0) × (u.head.count ≡ r.world.head.count)
       × (notes_of st o (slot_at r.world.desks st) ≡ (st, o) ∷ [])
       → ((after : Ruled l (stepped s i x id me.1 (noted st o me).0 keeps)) × (after.world ≡ u))
-      × Tells st o me (noted st o me)
+      × Noted st o me (noted st o me)
   steps i x st o u own e words bare desks work quiet =
       steps_by i x st o u own e words bare desks work (let a = quiet.0 in let b = quiet.1 in omega arith) quiet.2
 

@@ -1,5 +1,5 @@
 -- Other views that sum up to the same keep a world's laws: a view that is cut in two, two views
--- that are made one, and one view of every part in the place of one for each worker.
+-- that are made one, and the view of a pool's only seat in the place of one for each worker.
 use Rattle.std.proofs.Common.{◌≡◌, ℕ, zero, suc, ◌+◌, ◌*◌, ◌<◌, ◌≤◌, ◌≢◌, List, [], ◌∷◌, ◌++◌, None, length, replicate, set, refl, ap, ◌∙◌, arith, ⊎_elim, get_or-set_other}
 use Rattle.std.specs.Prelude.{sum_by, IfSome}
 use Rattle.std.proofs.lemmas.Bool.{cases_lt}
@@ -328,7 +328,7 @@ module _ (w : World) (k j : ℕ) (here : k < length w.views) (there : j < length
       HeaderLaw (record w { views = joined_views w.views k j })
   join_headers = headed w _ headers join_same join_each
 
--- at the start: one view of every part
+-- at the start the view of the only seat stands in the place of one for each worker
 alone_same : (l : Limits) →
     SameSums (replicate l.workers (empty_view 1)) (empty_view l.workers ∷ [])
 alone_same l = record {

@@ -87,7 +87,7 @@ module _ (l : Limits) (s : State Slot Known) (r : Ruled l s) where
     pub is : view_at r.world.views id ≡ n.view
     is = (view_there r.world.views id n.view there).1
 
-    -- where the seat has every part, no other has one
+    -- where the seat is the only one of its pool, and so has every part, no other has one
     pub others_out : n.view.part ≡ r.world.limits.workers → (j : ℕ) (o : Known) → j ≢ id →
         get_elem? s.views j ≡ some o → o.view.part ≡ 0
     others_out whole j o ne at_other =
@@ -102,7 +102,7 @@ module _ (l : Limits) (s : State Slot Known) (r : Ruled l s) where
     workers_are : 0 < n.view.part → n.limits.workers ≡ r.world.limits.workers
     workers_are busy = ap (λ (k : Limits). k.workers) (r.told id n at busy ∙ sym r.limits)
 
-    -- nor has any done anything, where this one hasn't
+    -- where the seat is the only one of its pool and hasn't moved, no seat has done anything
     pub all_unmoved : 0 < n.view.part → IsFresh n → AreUnmoved s.views
     all_unmoved busy fresh j o e =
         ⊎_elim

@@ -1,4 +1,4 @@
--- Each of the eight steps of the stack keeps the rule, and tells its seat what its contract says.
+-- Each of the eight steps of the stack keeps the rule, and answers its seat what its contract says.
 use Rattle.std.proofs.Common.{◌≡◌, ◌≢◌, ◌==◌, ℕ, zero, suc, ◌+◌, ◌-◌, ◌%◌, ◌^◌, ◌<◌, ◌≤◌, Bool, true, false, eqb, List, [], ◌∷◌, ◌++◌, Option, Some, None, length, set, refl, sym, ap, ◌∙◌, subst, ⊎_elim, arith, eq-eqb, ne_eqb}
 use Rattle.std.specs.Prelude.{slice_index, nat_lt, nat_le, ◌&&◌, IfSome, if◌then◌else◌}
 use Rattle.std.proofs.lemmas.Bool.{false_from_ne_true, cases_lt, lt-ltb, le-leb, eqb-true, and_from, and_parts}
@@ -8,7 +8,7 @@ use mathlib.Core.Logic.{dite}
 use native.Mathlib.Decide.{ℕ_discrete}
 use lib.ListN.{get_elem?}
 use prog.Atomic.{either}
-use Rattle.atomic_table.specs.Table.{Act, step, keeps, stepped, Allows, Valid, carried_after}
+use Rattle.atomic_table.specs.Table.{Act, step, keeps, stepped, Valid, carried_after}
 use Rattle.head_word.specs.Heads.{low_in}
 use Rattle.commons.specs.Bag.{bag}
 use Rattle.commons.specs.declared.limits.Limits.{Limits}
@@ -24,7 +24,7 @@ use Rattle.step_core.specs.World.{World, view_at, credits, link_in}
 use Rattle.step_core.specs.Links.{link_value, first_value}
 use Rattle.step_core.specs.Runs.{Reaches}
 use Rattle.step_core.specs.Schedules.{slot_at}
-use Rattle.step_core.specs.Sights.{view_after, reserved as more_credit, given_back, looking_at, walks_to, can_cut, MayCut, cut_view, cut_look, seen_by, lost_look, chained, can_push, MayPush, push_view, lost_push}
+use Rattle.step_core.specs.Views.{view_after, reserved as more_credit, given_back, looking_at, walks_to, can_cut, MayCut, cut_view, cut_look, seen_by, lost_look, chained, can_push, MayPush, push_view, lost_push}
 use Rattle.step_core.specs.Steps.{Play, when, given, quiet, knows, next_head, same_head, reserve, load_head, load_link, cut, push, play}
 use Rattle.step_core.specs.Law.{LookRule}
 use Rattle.step_core.specs.Table.{Get, Put}
@@ -35,7 +35,7 @@ use Rattle.ground.specs.Layout.{pack, unpack, lines, rows_of, words_of, length_w
 use Rattle.ground.specs.Own.{Owned}
 use Rattle.ground.specs.Rule.{Slot, Sat, Ruled}
 use Rattle.ground.specs.Seats.{KnowsLength, KnowsEnd, front_of, count_of, element_of}
-use Rattle.ground.specs.Tells.{noted, Tells, exchanged, cut_found, push_found, IsLater, IsShared, loaded_length, reserved, added, loaded_head, loaded_link, cut_tells, stored_link, push_tells}
+use Rattle.ground.specs.StepAnswers.{noted, Noted, exchanged, cut_found, push_found, IsLater, IsShared, loaded_length, reserved, added, loaded_head, loaded_link, cut_answers, stored_link, push_answers}
 use Rattle.ground.specs.Operations.{Sits, Moves}
 use Rattle.ground.proofs.Playing.{St, tail_of, unpack_pack, row_played, law, here, is as is_view, busy_here, my_limits, law_after, limits_after, view_there_after, told_views, steps, steps_by, read_at, read_length, read_head, head_is, link_at, link_set}
 use Rattle.ground.specs.Changing.{KnowsChanges, KnowsOpening}
@@ -45,7 +45,7 @@ use Rattle.ground.proofs.Alone.{knows as knows_length, knows_end}
 -- ---- the length
 
 module _ (l : Limits) (s : St) (r : Ruled l s) (id : ℕ) (me : Sat) (at : get_elem? s.views id ≡ some me.0) (busy : Sits me) where
-  -- a seat of every part knows the length word
+  -- the only seat of a pool knows the length word
   my_length : KnowsLength me.0 (slice_index s.words length_word)
   my_length =
       subst (λ (n : ℕ). KnowsLength me.0 n) (sym (read_length l s r id me at busy))
@@ -59,10 +59,10 @@ module _ (l : Limits) (s : St) (r : Ruled l s) (id : ℕ) (me : Sat) (at : get_e
       ap (λ (n : ℕ). lines (pack r.world.head) n ++ rows_of r.world)
       (read_length l s r id me at busy)
 
-pub loads_length_moves : (l : Limits) (slots id : ℕ) (me : Sat) → Sits me →
+pub loads_length : (l : Limits) (slots id : ℕ) (me : Sat) → Sits me →
     Moves l slots id me length_word (λ n. n) (LoadLength ∷ []) (λ x. Value x ∷ [])
     (loaded_length (step slots length_word 0 0 none) me)
-loads_length_moves l slots id me busy s r _ at _ =
+loads_length l slots id me busy s r _ at _ =
     let x : ℕ = slice_index s.words length_word in
     let w = r.world in
     let e = read_length l s r id me at busy in
@@ -82,19 +82,14 @@ loads_length_moves l slots id me busy s r _ at _ =
       (done.1, omega arith, my_length l s r id me at busy),
     )
 
-pub loads_length : (l : Limits) (slots id : ℕ) (me : Sat) → Sits me →
-    Allows (Ruled l) slots id me length_word (λ n. n) (loaded_length (step slots length_word 0 0 none) me)
-loads_length l slots id me busy s r size at small =
-    let m = loads_length_moves l slots id me busy s r size at small in (m.0, m.1, m.2, m.3.0, m.4)
-
 -- where the row's test holds, its play is what becomes of the step
 pub played_when : (test : Bool) (p : Play) → test ≡ true → when test p ≡ Some p
 played_when test p e = ap (λ (b : Bool). when b p) e
 
-pub reserves_moves : (l : Limits) (slots id : ℕ) (me : Sat) (old new : ℕ) → new < old → Sits me →
+pub reserves : (l : Limits) (slots id : ℕ) (me : Sat) (old new : ℕ) → new < old → Sits me →
     Moves l slots id me length_word (λ x. either (eqb x old) new x) (Reserve old (old - new) ∷ [])
     (λ x. exchanged (eqb x old) x ∷ []) (reserved (step slots length_word old new none) me)
-reserves_moves l slots id me old new less busy s r _ at _ =
+reserves l slots id me old new less busy s r _ at _ =
     let x : ℕ = slice_index s.words length_word in
     let w = r.world in
     let v = me.0.view in
@@ -108,7 +103,7 @@ reserves_moves l slots id me old new less busy s r _ at _ =
     (u : Known) × (a : Act Slot) × Valid s.homes me.1 a
     × ((after : Ruled l (stepped s length_word (either b new x) id me.1 u a))
     × Reaches w ((suc id, Reserve old n) ∷ []) (exchanged b x ∷ []) after.world)
-    × (Tells (Reserve old n) (exchanged b x) me (u, carried_after me.1 a)
+    × (Noted (Reserve old n) (exchanged b x) me (u, carried_after me.1 a)
     × KnowsLength me.0 x) in
     let tried : (o : Outcome) (u : World) (test : Bool) → (w.length == old) ≡ test →
     ◌≡◌ {A = Play} (if test then quiet Won won else quiet (Lost w.length) w) (quiet o u) →
@@ -135,17 +130,11 @@ reserves_moves l slots id me old new less busy s r _ at _ =
     subst G (sym (ne_eqb x old miss))
     ((noted (Reserve old n) (Lost x) me).0, keeps, tt, (done.0.0, (w, lost, done.0.1)), (done.1, known)))
 
-pub reserves : (l : Limits) (slots id : ℕ) (me : Sat) (old new : ℕ) → new < old → Sits me →
-    Allows (Ruled l) slots id me length_word (λ x. either (eqb x old) new x)
-    (reserved (step slots length_word old new none) me)
-reserves l slots id me old new less busy s r size at small =
-    let m = reserves_moves l slots id me old new less busy s r size at small in (m.0, m.1, m.2, m.3.0, m.4)
-
-pub adds_moves : (l : Limits) (slots id : ℕ) (me : Sat) (n : ℕ) → 1 ≤ n → n ≤ me.0.view.credit →
+pub adds : (l : Limits) (slots id : ℕ) (me : Sat) (n : ℕ) → 1 ≤ n → n ≤ me.0.view.credit →
     Sits me →
     Moves l slots id me length_word (λ x. (x + n) % 2 ^ 64) (Add n ∷ []) (λ _. Done ∷ [])
     (added (step slots length_word n 0 none) me)
-adds_moves l slots id me n some_of within busy s r _ at _ =
+adds l slots id me n some_of within busy s r _ at _ =
     let x : ℕ = slice_index s.words length_word in
     let w = r.world in
     let v = me.0.view in
@@ -165,12 +154,6 @@ adds_moves l slots id me n some_of within busy s r _ at _ =
     let done = steps l s r id me at busy length_word ((x + n) % 18446744073709551616) (Add n) Done u tt played
     (ap (λ (m : ℕ). lines (pack w.head) m ++ rows_of w) no_wrap) refl refl refl (refl, refl, refl) in
     ((noted (Add n) Done me).0, keeps, tt, (done.0.0, (u, played, done.0.1)), done.1)
-
-pub adds : (l : Limits) (slots id : ℕ) (me : Sat) (n : ℕ) → 1 ≤ n → n ≤ me.0.view.credit →
-    Sits me →
-    Allows (Ruled l) slots id me length_word (λ x. (x + n) % 2 ^ 64) (added (step slots length_word n 0 none) me)
-adds l slots id me n some_of within busy s r size at small =
-    let m = adds_moves l slots id me n some_of within busy s r size at small in (m.0, m.1, m.2, m.3.0, m.4)
 
 -- ---- the head
 
@@ -195,7 +178,7 @@ module _ (l : Limits) (s : St) (r : Ruled l s) (id : ℕ) (me : Sat) (at : get_e
       let mine = my_population in
       omega arith
 
-  -- what the seat of every part knows once its step is played
+  -- what the only seat of a pool knows of its walk once its step is played
   end_after : (st : Step) (o : Outcome) (u : World) → play r.world (suc id) st ≡ Some (o, u) →
       view_after (slot_at r.world.desks st) st o me.0.view ≡ view_after None st o me.0.view →
       KnowsEnd me.0.limits (view_after None st o me.0.view)
@@ -208,10 +191,10 @@ module _ (l : Limits) (s : St) (r : Ruled l s) (id : ℕ) (me : Sat) (at : get_e
       (knows_end u (law_after l s r id me at busy st o u e) l
       (limits_after l s r id me at busy st o u e) id there.0 (view_after None st o me.0.view) there.1)
 
-pub loads_head_moves : (l : Limits) (slots id : ℕ) (me : Sat) → Sits me →
+pub loads_head : (l : Limits) (slots id : ℕ) (me : Sat) → Sits me →
     Moves l slots id me 0 (λ n. n) (LoadHead ∷ []) (λ x. HeadIs (unpack x) ∷ [])
     (loaded_head (step slots 0 0 0 none) me)
-loads_head_moves l slots id me busy s r _ at _ =
+loads_head l slots id me busy s r _ at _ =
     let x : ℕ = slice_index s.words 0 in
     let w = r.world in
     let v = me.0.view in
@@ -238,11 +221,6 @@ loads_head_moves l slots id me busy s r _ at _ =
       ),
     )
 
-pub loads_head : (l : Limits) (slots id : ℕ) (me : Sat) → Sits me →
-    Allows (Ruled l) slots id me 0 (λ n. n) (loaded_head (step slots 0 0 0 none) me)
-loads_head l slots id me busy s r size at small =
-    let m = loads_head_moves l slots id me busy s r size at small in (m.0, m.1, m.2, m.3.0, m.4)
-
 -- ---- the links
 
 -- the look whose walk goes on at an element
@@ -266,7 +244,7 @@ next_inside l v i own e =
     let range = (there v.look k.0 (λ z. (z.next ≤ l.population) × (z.head.top ≤ l.population)) k.1 own.look).0 in
     omega arith
 
--- so is an element of the hand
+-- an element of the hand is one of the pool's
 pub hand_inside : (l : Limits) (v : View) (i : ℕ) → Owned l v → 0 < bag v.hand i → i < l.population
 hand_inside l v i own h =
     ⊎_elim (λ (c : i < l.population). c)
@@ -310,25 +288,19 @@ loads_own l slots id me i may busy own s r _ at _ =
       tt,
       (done.0.0, (u, played, done.0.1)),
       (
-        subst (λ (j : ℕ). Tells (LoadLink j) (Value x) me (noted (LoadLink i) (Value x) me)) word done.1,
+        subst (λ (j : ℕ). Noted (LoadLink j) (Value x) me (noted (LoadLink i) (Value x) me)) word done.1,
         omega arith,
         subst (λ (j : ℕ). KnowsEnd me.0.limits (view_after None (LoadLink j) (Value x) v)) word ends,
       ),
     )
 
-pub loads_link_moves : (l : Limits) (slots id : ℕ) (me : Sat) (i k : ℕ) → k ≡ link_word i →
+pub loads_link : (l : Limits) (slots id : ℕ) (me : Sat) (i k : ℕ) → k ≡ link_word i →
     walks_to me.0.view.look i ≡ true → Sits me → Owned me.0.limits me.0.view →
     Moves l slots id me k (λ n. n) (LoadLink i ∷ []) (λ x. Value x ∷ []) (loaded_link (step slots k 0 0 none) me)
-loads_link_moves l slots id me i k word may busy own =
+loads_link l slots id me i k word may busy own =
     subst (λ (j : ℕ). Moves l slots id me j (λ n. n) (LoadLink i ∷ []) (λ x. Value x ∷ [])
     (loaded_link (step slots j 0 0 none) me)) (sym word)
     (loads_own l slots id me i may busy own)
-
-pub loads_link : (l : Limits) (slots id : ℕ) (me : Sat) (i k : ℕ) → k ≡ link_word i →
-    walks_to me.0.view.look i ≡ true → Sits me → Owned me.0.limits me.0.view →
-    Allows (Ruled l) slots id me k (λ n. n) (loaded_link (step slots k 0 0 none) me)
-loads_link l slots id me i k word may busy own s r size at small =
-    let m = loads_link_moves l slots id me i k word may busy own s r size at small in (m.0, m.1, m.2, m.3.0, m.4)
 
 stores_own : (l : Limits) (slots id : ℕ) (me : Sat) (i x : ℕ) → 0 < bag me.0.view.hand i →
     x ≤ l.population → Sits me → Owned me.0.limits me.0.view →
@@ -364,23 +336,17 @@ stores_own l slots id me i x hand small busy own s r _ at _ =
       keeps,
       tt,
       (done.0.0, (u, played, done.0.1)),
-      subst (λ (k : ℕ). Tells (StoreLink k j) Done me (noted (StoreLink i j) Done me)) word done.1,
+      subst (λ (k : ℕ). Noted (StoreLink k j) Done me (noted (StoreLink i j) Done me)) word done.1,
     )
-
-pub stores_link_moves : (l : Limits) (slots id : ℕ) (me : Sat) (i k x : ℕ) → k ≡ link_word i →
-    0 < bag me.0.view.hand i → x ≤ l.population → Sits me → Owned me.0.limits me.0.view →
-    Moves l slots id me k (λ _. x) (StoreLink i (element_of x) ∷ []) (λ _. Done ∷ [])
-    (λ _. stored_link (step slots k x 0 none) me x)
-stores_link_moves l slots id me i k x word hand small busy own =
-    subst (λ (j : ℕ). Moves l slots id me j (λ _. x) (StoreLink i (element_of x) ∷ []) (λ _. Done ∷ [])
-    (λ _. stored_link (step slots j x 0 none) me x))
-    (sym word) (stores_own l slots id me i x hand small busy own)
 
 pub stores_link : (l : Limits) (slots id : ℕ) (me : Sat) (i k x : ℕ) → k ≡ link_word i →
     0 < bag me.0.view.hand i → x ≤ l.population → Sits me → Owned me.0.limits me.0.view →
-    Allows (Ruled l) slots id me k (λ _. x) (λ _. stored_link (step slots k x 0 none) me x)
-stores_link l slots id me i k x word hand small busy own s r size at fits =
-    let m = stores_link_moves l slots id me i k x word hand small busy own s r size at fits in (m.0, m.1, m.2, m.3.0, m.4)
+    Moves l slots id me k (λ _. x) (StoreLink i (element_of x) ∷ []) (λ _. Done ∷ [])
+    (λ _. stored_link (step slots k x 0 none) me x)
+stores_link l slots id me i k x word hand small busy own =
+    subst (λ (j : ℕ). Moves l slots id me j (λ _. x) (StoreLink i (element_of x) ∷ []) (λ _. Done ∷ [])
+    (λ _. stored_link (step slots j x 0 none) me x))
+    (sym word) (stores_own l slots id me i x hand small busy own)
 
 -- ---- the exchanges of the head
 
@@ -406,7 +372,7 @@ module _ (l : Limits) (s : St) (r : Ruled l s) (id : ℕ) (me : Sat) (at : get_e
       let top = look_top in
       sym (head_is l s r id me at busy) ∙ (ap unpack hit ∙ unpack_pack k.head (omega arith))
 
-  -- which has one change less than the head that is written
+  -- the head that was found has one change less than the one that is written
   raised : slice_index s.words 0 ≡ pack k.head → k.head.count + 1 ≡ r.world.head.count + 1
   raised hit = ap (λ (h : Head). h.count + 1) (sym (head_found hit))
 
@@ -417,7 +383,7 @@ module _ (l : Limits) (s : St) (r : Ruled l s) (id : ℕ) (me : Sat) (at : get_e
       (eq-eqb r.world.head.top k.head.top (ap (λ (h : Head). h.top) same))
       (eq-eqb r.world.head.count k.head.count (ap (λ (h : Head). h.count) same))
 
-  -- and one that lost found another
+  -- an exchange that lost found another head than the look's
   head_other : (slice_index s.words 0 ≡ pack k.head → ⊥) → r.world.head ≡ k.head → ⊥
   head_other miss same = miss (read_head l s r id me at busy ∙ ap pack same)
 
@@ -429,7 +395,7 @@ module _ (l : Limits) (s : St) (r : Ruled l s) (id : ℕ) (me : Sat) (at : get_e
       let count = eqb-true r.world.head.count k.head.count both.1 in
       head_other miss (λ i. record { top = top i; count = count i }))
 
-  -- a later one than the look's
+  -- an exchange that lost found a later head than the look's
   found_later : (slice_index s.words 0 ≡ pack k.head → ⊥) →
       k.head.count < (unpack (slice_index s.words 0)).count
   found_later miss =
@@ -437,7 +403,7 @@ module _ (l : Limits) (s : St) (r : Ruled l s) (id : ℕ) (me : Sat) (at : get_e
       (lost_is_later_law r.world (suc id) k (law l s r id me at busy) (busy_here l s r id me at busy)
       my_look (head_other miss))
 
-  -- by another seat
+  -- an exchange loses to another seat, so its own isn't the only one
   not_alone : (slice_index s.words 0 ≡ pack k.head → ⊥) → me.0.view.part ≢ me.0.limits.workers
   not_alone miss all =
       let rule =
@@ -453,7 +419,7 @@ module _ (l : Limits) (s : St) (r : Ruled l s) (id : ℕ) (me : Sat) (at : get_e
       let read = ap (λ (h : Head). h.count) (head_is l s r id me at busy) in
       absurd (omega arith)
 
-  -- what an exchange that lost tells
+  -- what an exchange that lost answers
   is_later : (slice_index s.words 0 ≡ pack k.head → ⊥) → IsLater false me.0 (slice_index s.words 0)
   is_later miss =
       let top = top_read l s r id me at busy in
@@ -465,11 +431,11 @@ module _ (l : Limits) (s : St) (r : Ruled l s) (id : ℕ) (me : Sat) (at : get_e
         subst (λ (n : ℕ). n < (unpack (slice_index s.words 0)).count) (sym seen) (found_later miss),
       )
 
-pub cuts_moves : (l : Limits) (slots id : ℕ) (me : Sat) (head : Head) (next old new : ℕ) → old ≡ pack head →
+pub cuts : (l : Limits) (slots id : ℕ) (me : Sat) (head : Head) (next old new : ℕ) → old ≡ pack head →
     new ≡ pack (next_head next head.count) → MayCut me.0.view head next → Sits me →
     Moves l slots id me 0 (λ x. either (eqb x old) new x) (Cut ∷ [])
-    (λ x. cut_found (eqb x old) (front_of me.0.view.look) x ∷ []) (cut_tells (step slots 0 old new none) me)
-cuts_moves l slots id me head next old new was becomes may busy s r _ at _ =
+    (λ x. cut_found (eqb x old) (front_of me.0.view.look) x ∷ []) (cut_answers (step slots 0 old new none) me)
+cuts l slots id me head next old new was becomes may busy s r _ at _ =
     let x : ℕ = slice_index s.words 0 in
     let w = r.world in
     let v = me.0.view in
@@ -485,7 +451,7 @@ cuts_moves l slots id me head next old new was becomes may busy s r _ at _ =
     (u : Known) × (a : Act Slot) × Valid s.homes me.1 a
     × ((after : Ruled l (stepped s 0 (either b new x) id me.1 u a))
     × Reaches w ((suc id, Cut) ∷ []) (cut_found b front x ∷ []) after.world)
-    × (Tells Cut (cut_found b front x) me (u, carried_after me.1 a) × IsLater b me.0 x × IsShared b me.0) in
+    × (Noted Cut (cut_found b front x) me (u, carried_after me.1 a) × IsLater b me.0 x × IsShared b me.0) in
     let asked : (p : Play) → cut w id v k ≡ p → play w (suc id) Cut ≡ Some (p.outcome, p.after) = λ p e.
     row_played w id v Cut p (here l s r id me at busy) (is_view l s r id me at busy) refl
     (ap (λ (o : Option Look). given o (λ z. when (can_cut v z) (cut w id v z))) mine
@@ -534,17 +500,11 @@ cuts_moves l slots id me head next old new was becomes may busy s r _ at _ =
       (done.1, is_later l s r id me at busy k mine other, not_alone l s r id me at busy k mine other),
     ))
 
-pub cuts : (l : Limits) (slots id : ℕ) (me : Sat) (head : Head) (next old new : ℕ) → old ≡ pack head →
-    new ≡ pack (next_head next head.count) → MayCut me.0.view head next → Sits me →
-    Allows (Ruled l) slots id me 0 (λ x. either (eqb x old) new x) (cut_tells (step slots 0 old new none) me)
-cuts l slots id me head next old new was becomes may busy s r size at small =
-    let m = cuts_moves l slots id me head next old new was becomes may busy s r size at small in (m.0, m.1, m.2, m.3.0, m.4)
-
-pub pushes_moves : (l : Limits) (slots id : ℕ) (me : Sat) (head : Head) (first old new : ℕ) → old ≡ pack head →
+pub pushes : (l : Limits) (slots id : ℕ) (me : Sat) (head : Head) (first old new : ℕ) → old ≡ pack head →
     new ≡ pack (next_head first head.count) → MayPush me.0.view head first → Sits me →
     Moves l slots id me 0 (λ x. either (eqb x old) new x) (Push ∷ []) (λ x. push_found (eqb x old) x ∷ [])
-    (push_tells (step slots 0 old new none) me)
-pushes_moves l slots id me head first old new was becomes may busy s r _ at _ =
+    (push_answers (step slots 0 old new none) me)
+pushes l slots id me head first old new was becomes may busy s r _ at _ =
     let x : ℕ = slice_index s.words 0 in
     let w = r.world in
     let v = me.0.view in
@@ -560,7 +520,7 @@ pushes_moves l slots id me head first old new was becomes may busy s r _ at _ =
     (u : Known) × (a : Act Slot) × Valid s.homes me.1 a
     × ((after : Ruled l (stepped s 0 (either b new x) id me.1 u a))
     × Reaches w ((suc id, Push) ∷ []) (push_found b x ∷ []) after.world)
-    × (Tells Push (push_found b x) me (u, carried_after me.1 a) × IsLater b me.0 x × IsShared b me.0) in
+    × (Noted Push (push_found b x) me (u, carried_after me.1 a) × IsLater b me.0 x × IsShared b me.0) in
     let asked : (p : Play) → push w id v k c ≡ p → play w (suc id) Push ≡ Some (p.outcome, p.after) = λ p e.
     row_played w id v Push p (here l s r id me at busy) (is_view l s r id me at busy) refl
     (ap (λ (o : Option Look). given o (λ z. given v.chain (λ d. when (can_push z d) (push w id v z d)))) mine
@@ -606,9 +566,3 @@ pushes_moves l slots id me head first old new was becomes may busy s r _ at _ =
     push_chain_of : View → Option Look → Option Chain → View
     push_chain_of u o None = u
     push_chain_of u o (Some d) = push_view u d (seen_by o)
-
-pub pushes : (l : Limits) (slots id : ℕ) (me : Sat) (head : Head) (first old new : ℕ) → old ≡ pack head →
-    new ≡ pack (next_head first head.count) → MayPush me.0.view head first → Sits me →
-    Allows (Ruled l) slots id me 0 (λ x. either (eqb x old) new x) (push_tells (step slots 0 old new none) me)
-pushes l slots id me head first old new was becomes may busy s r size at small =
-    let m = pushes_moves l slots id me head first old new was becomes may busy s r size at small in (m.0, m.1, m.2, m.3.0, m.4)

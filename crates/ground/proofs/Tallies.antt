@@ -1,4 +1,4 @@
--- Each of the five steps on a count keeps the rule, and tells its seat what its contract says.
+-- Each of the five steps on a count keeps the rule, and answers its seat what its contract says.
 use Rattle.std.proofs.Common.{◌≡◌, ◌==◌, ℕ, suc, ◌+◌, ◌-◌, ◌%◌, ◌^◌, ◌<◌, ◌≤◌, Bool, true, false, eqb, List, [], ◌∷◌, ◌++◌, Some, length, set, refl, sym, ap, ◌∙◌, subst, ⊎_elim, arith, eq-eqb, ne_eqb}
 use Rattle.std.specs.Prelude.{map, slice_index, None, sum_by, nat_lt, ◌&&◌, if◌then◌else◌}
 use Rattle.std.proofs.lemmas.Bool.{cases_lt, cases_Bool, lt-ltb, and_from, and_parts, eqb-true}
@@ -8,7 +8,7 @@ use mathlib.Core.Logic.{dite}
 use native.Mathlib.Decide.{ℕ_discrete}
 use lib.ListN.{get_elem?}
 use prog.Atomic.{either}
-use Rattle.atomic_table.specs.Table.{Act, step, keeps, stepped, Allows, Valid, carried_after}
+use Rattle.atomic_table.specs.Table.{Act, step, keeps, stepped, Valid, carried_after}
 use Rattle.commons.specs.Bag.{bag}
 use Rattle.commons.specs.declared.limits.Limits.{Limits}
 use Rattle.commons.specs.Packets.{held_in}
@@ -18,7 +18,7 @@ use Rattle.step_core.specs.declared.step.Step.TheVariants.{Claim, Sole, Raise, L
 use Rattle.step_core.specs.declared.step.Outcome.{Outcome}
 use Rattle.step_core.specs.declared.step.Outcome.TheVariants.{Value, Won, Lost, Done}
 use Rattle.step_core.specs.World.{World, view_at, hands, all_zeros, all_holds}
-use Rattle.step_core.specs.Sights.{view_after, claimed, freed, raised, hold_ended, was_reset}
+use Rattle.step_core.specs.Views.{view_after, claimed, freed, raised, hold_ended, was_reset}
 use Rattle.step_core.specs.Steps.{Play, in_range, quiet, knows, row, claim, sole, raise, lower, reset, play}
 use Rattle.step_core.specs.Runs.{Reaches}
 use Rattle.step_core.specs.Table.{Free, Attach}
@@ -29,7 +29,7 @@ use Rattle.ground.specs.Layout.{pack, lines, word_on, rows_of, words_of, links_a
 use Rattle.ground.specs.Own.{Owned}
 use Rattle.ground.specs.Rule.{Slot, Sat, Ruled}
 use Rattle.ground.specs.Seats.{KnowsCount}
-use Rattle.ground.specs.Tells.{noted, Tells, exchanged, claim_tells, sole_tells, raise_tells, lower_tells, reset_tells}
+use Rattle.ground.specs.StepAnswers.{noted, Noted, exchanged, claim_answers, sole_answers, raise_answers, lower_answers, reset_answers}
 use Rattle.ground.specs.Operations.{Sits, Moves}
 use Rattle.ground.proofs.Playing.{St, tail_of, row_played, law, here, is as is_view, my_limits, steps, read_at}
 use Rattle.ground.proofs.Stepping.{played_when}
@@ -142,7 +142,7 @@ module _ (l : Limits) (s : St) (r : Ruled l s) (id : ℕ) (me : Sat) (at : get_e
       let hand = hand_of_all in
       omega (arith, below-le r.world.limits.population i)
 
-  -- that of a held one is the number of all holds
+  -- the count of a held element is the number of all holds
   pub held_count : 0 < bag me.0.view.holds i →
       slice_index r.world.counts i ≡ all_holds i r.world.views r.world.desks
   held_count held =
@@ -167,7 +167,7 @@ module _ (l : Limits) (s : St) (r : Ruled l s) (id : ℕ) (me : Sat) (at : get_e
       let b = ap (λ (z : Limits). z.ref_limit) (my_limits l s r id me at busy) in
       omega arith
 
-  -- a seat of every part has all holds
+  -- the only seat of a pool and the packets on full desks have all holds
   pub known_count : 0 < bag me.0.view.holds i →
       KnowsCount me.0 i (slice_index s.words k)
   known_count held whole =
@@ -194,10 +194,10 @@ module _ (l : Limits) (s : St) (r : Ruled l s) (id : ℕ) (me : Sat) (at : get_e
   by_word : (P : ℕ → Type 0) → P i → P (element_counted_at me.0.limits.population k)
   by_word P = subst P index
 
-pub claims_moves : (l : Limits) (slots id : ℕ) (me : Sat) (i k : ℕ) → k ≡ count_word l.population i →
+pub claims : (l : Limits) (slots id : ℕ) (me : Sat) (i k : ℕ) → k ≡ count_word l.population i →
     i < l.population → 0 < bag me.0.view.hand i → Sits me →
-    Moves l slots id me k (λ n. n) (Claim i ∷ []) (λ x. Value x ∷ []) (claim_tells (step slots k 0 0 none) me)
-claims_moves l slots id me i k word inside hand busy s r _ at _ =
+    Moves l slots id me k (λ n. n) (Claim i ∷ []) (λ x. Value x ∷ []) (claim_answers (step slots k 0 0 none) me)
+claims l slots id me i k word inside hand busy s r _ at _ =
     let x : ℕ = slice_index s.words k in
     let w = r.world in
     let v = me.0.view in
@@ -217,22 +217,16 @@ claims_moves l slots id me i k word inside hand busy s r _ at _ =
       (done.0.0, (u, played, done.0.1)),
       (
         by_word l s r id me at busy i k word inside
-            (λ (j : ℕ). Tells (Claim j) (Value x) me (noted (Claim i) (Value x) me)) done.1,
+            (λ (j : ℕ). Noted (Claim j) (Value x) me (noted (Claim i) (Value x) me)) done.1,
         one,
       ),
     )
 
-pub claims : (l : Limits) (slots id : ℕ) (me : Sat) (i k : ℕ) → k ≡ count_word l.population i →
-    i < l.population → 0 < bag me.0.view.hand i → Sits me →
-    Allows (Ruled l) slots id me k (λ n. n) (claim_tells (step slots k 0 0 none) me)
-claims l slots id me i k word inside hand busy s r size at small =
-    let m = claims_moves l slots id me i k word inside hand busy s r size at small in (m.0, m.1, m.2, m.3.0, m.4)
-
-pub soles_moves : (l : Limits) (slots id : ℕ) (me : Sat) (free : Bool) (i k : ℕ) →
+pub soles : (l : Limits) (slots id : ℕ) (me : Sat) (free : Bool) (i k : ℕ) →
     k ≡ count_word l.population i → i < l.population → 0 < bag me.0.view.holds i → Sits me →
     Moves l slots id me k (λ n. n) (Sole i free ∷ []) (λ x. Value x ∷ [])
-    (sole_tells free (step slots k 0 0 none) me)
-soles_moves l slots id me free i k word inside held busy s r _ at _ =
+    (sole_answers free (step slots k 0 0 none) me)
+soles l slots id me free i k word inside held busy s r _ at _ =
     let x : ℕ = slice_index s.words k in
     let w = r.world in
     let v = me.0.view in
@@ -254,7 +248,7 @@ soles_moves l slots id me free i k word inside held busy s r _ at _ =
     (n : Known) × (a : Act Slot) × Valid s.homes me.1 a
     × ((after : Ruled l (stepped s k x id me.1 n a))
     × Reaches w ((suc id, Sole i free) ∷ []) (Value x ∷ []) after.world)
-    × sole_tells free (step slots k 0 0 none) me x (n, carried_after me.1 a) in
+    × sole_answers free (step slots k 0 0 none) me x (n, carried_after me.1 a) in
     let last : (u : World) → play w (suc id) (Sole i free) ≡ Some (Value x, u) →
     words_of u ≡ words_of w → u.desks ≡ w.desks → u.head.count ≡ w.head.count →
     (view_after None (Sole i free) (Value x) v).work ≡ v.work → G =
@@ -267,7 +261,7 @@ soles_moves l slots id me free i k word inside held busy s r _ at _ =
       (done.0.0, (u, played, done.0.1)),
       (
         by_word l s r id me at busy i k word inside
-            (λ (j : ℕ). Tells (Sole j free) (Value x) me (noted (Sole i free) (Value x) me)) done.1,
+            (λ (j : ℕ). Noted (Sole j free) (Value x) me (noted (Sole i free) (Value x) me)) done.1,
         by_word l s r id me at busy i k word inside (λ (j : ℕ). bag v.holds j ≤ x)
             (own_count l s r id me at busy i k word inside held),
         limited_count l s r id me at busy i k word inside,
@@ -295,18 +289,12 @@ soles_moves l slots id me free i k word inside held busy s r _ at _ =
     refl refl refl (ap (λ (y : View). y.work) (sym same)))
     (cases_Bool (free && (x == 1)))
 
-pub soles : (l : Limits) (slots id : ℕ) (me : Sat) (free : Bool) (i k : ℕ) →
-    k ≡ count_word l.population i → i < l.population → 0 < bag me.0.view.holds i → Sits me →
-    Allows (Ruled l) slots id me k (λ n. n) (sole_tells free (step slots k 0 0 none) me)
-soles l slots id me free i k word inside held busy s r size at small =
-    let m = soles_moves l slots id me free i k word inside held busy s r size at small in (m.0, m.1, m.2, m.3.0, m.4)
-
-pub raises_moves : (l : Limits) (slots id : ℕ) (me : Sat) (i k old new : ℕ) → k ≡ count_word l.population i →
+pub raises : (l : Limits) (slots id : ℕ) (me : Sat) (i k old new : ℕ) → k ≡ count_word l.population i →
     i < l.population → 0 < bag me.0.view.holds i → old < l.ref_limit → new ≡ old + 1 →
     Sits me →
     Moves l slots id me k (λ x. either (eqb x old) new x) (Raise i old ∷ []) (λ x. exchanged (eqb x old) x ∷ [])
-    (raise_tells (step slots k old new none) me)
-raises_moves l slots id me i k old new word inside held limited next busy s r _ at _ =
+    (raise_answers (step slots k old new none) me)
+raises l slots id me i k old new word inside held limited next busy s r _ at _ =
     let x : ℕ = slice_index s.words k in
     let w = r.world in
     let v = me.0.view in
@@ -329,15 +317,15 @@ raises_moves l slots id me i k old new word inside held limited next busy s r _ 
     (and_from (nat_lt 0 (bag v.holds i)) (nat_lt old w.limits.ref_limit)
     (lt-ltb 0 (bag v.holds i) held) (lt-ltb old w.limits.ref_limit low))
     ∙ ap (λ (q : Play). Some q) e) in
-    let by : (o : Outcome) → Tells (Raise i old) o me (noted (Raise i old) o me) →
-    Tells (Raise (element_counted_at me.0.limits.population k) old) o me (noted (Raise i old) o me) = λ o.
+    let by : (o : Outcome) → Noted (Raise i old) o me (noted (Raise i old) o me) →
+    Noted (Raise (element_counted_at me.0.limits.population k) old) o me (noted (Raise i old) o me) = λ o.
     by_word l s r id me at busy i k word inside
-    (λ (j : ℕ). Tells (Raise j old) o me (noted (Raise i old) o me)) in
+    (λ (j : ℕ). Noted (Raise j old) o me (noted (Raise i old) o me)) in
     let G : Bool → Type 0 = λ b.
     (n : Known) × (a : Act Slot) × Valid s.homes me.1 a
     × ((after : Ruled l (stepped s k (either b new x) id me.1 n a))
     × Reaches w ((suc id, Raise i old) ∷ []) (exchanged b x ∷ []) after.world)
-    × (Tells (Raise (element_counted_at me.0.limits.population k) old) (exchanged b x) me (n, carried_after me.1 a)
+    × (Noted (Raise (element_counted_at me.0.limits.population k) old) (exchanged b x) me (n, carried_after me.1 a)
     × KnowsCount me.0 (element_counted_at me.0.limits.population k) x) in
     dite (ℕ_discrete x old)
     (λ hit.
@@ -360,19 +348,11 @@ raises_moves l slots id me i k old new word inside held limited next busy s r _ 
     subst G (sym (ne_eqb x old miss))
     ((noted (Raise i old) (Lost x) me).0, keeps, tt, (done.0.0, (w, played, done.0.1)), (by (Lost x) done.1, known)))
 
-pub raises : (l : Limits) (slots id : ℕ) (me : Sat) (i k old new : ℕ) → k ≡ count_word l.population i →
-    i < l.population → 0 < bag me.0.view.holds i → old < l.ref_limit → new ≡ old + 1 →
-    Sits me →
-    Allows (Ruled l) slots id me k (λ x. either (eqb x old) new x)
-    (raise_tells (step slots k old new none) me)
-raises l slots id me i k old new word inside held limited next busy s r size at small =
-    let m = raises_moves l slots id me i k old new word inside held limited next busy s r size at small in (m.0, m.1, m.2, m.3.0, m.4)
-
-pub lowers_moves : (l : Limits) (slots id : ℕ) (me : Sat) (i k : ℕ) → k ≡ count_word l.population i →
+pub lowers : (l : Limits) (slots id : ℕ) (me : Sat) (i k : ℕ) → k ≡ count_word l.population i →
     i < l.population → 0 < bag me.0.view.holds i → Sits me →
     Moves l slots id me k (λ n. (n + (2 ^ 64 - 1)) % 2 ^ 64) (Lower i ∷ []) (λ x. Value x ∷ [])
-    (lower_tells (step slots k 1 0 none) me)
-lowers_moves l slots id me i k word inside held busy s r _ at small =
+    (lower_answers (step slots k 1 0 none) me)
+lowers l slots id me i k word inside held busy s r _ at small =
     let x : ℕ = slice_index s.words k in
     let w = r.world in
     let v = me.0.view in
@@ -400,7 +380,7 @@ lowers_moves l slots id me i k word inside held busy s r _ at small =
       (done.0.0, (u, played, done.0.1)),
       (
         by_word l s r id me at busy i k word inside
-            (λ (j : ℕ). Tells (Lower j) (Value x) me (noted (Lower i) (Value x) me)) done.1,
+            (λ (j : ℕ). Noted (Lower j) (Value x) me (noted (Lower i) (Value x) me)) done.1,
         by_word l s r id me at busy i k word inside (λ (j : ℕ). bag v.holds j ≤ x) own,
         limited_count l s r id me at busy i k word inside,
         by_word l s r id me at busy i k word inside (λ (j : ℕ). KnowsCount me.0 j x)
@@ -408,17 +388,10 @@ lowers_moves l slots id me i k word inside held busy s r _ at small =
       ),
     )
 
-pub lowers : (l : Limits) (slots id : ℕ) (me : Sat) (i k : ℕ) → k ≡ count_word l.population i →
-    i < l.population → 0 < bag me.0.view.holds i → Sits me →
-    Allows (Ruled l) slots id me k (λ n. (n + (2 ^ 64 - 1)) % 2 ^ 64)
-    (lower_tells (step slots k 1 0 none) me)
-lowers l slots id me i k word inside held busy s r size at small =
-    let m = lowers_moves l slots id me i k word inside held busy s r size at small in (m.0, m.1, m.2, m.3.0, m.4)
-
-pub resets_moves : (l : Limits) (slots id : ℕ) (me : Sat) (i k : ℕ) → k ≡ count_word l.population i →
+pub resets : (l : Limits) (slots id : ℕ) (me : Sat) (i k : ℕ) → k ≡ count_word l.population i →
     i < l.population → 0 < bag me.0.view.zeros i → Sits me →
-    Moves l slots id me k (λ _. 1) (Reset i ∷ []) (λ _. Done ∷ []) (λ _. reset_tells (step slots k 1 0 none) me 1)
-resets_moves l slots id me i k word inside zero busy s r _ at _ =
+    Moves l slots id me k (λ _. 1) (Reset i ∷ []) (λ _. Done ∷ []) (λ _. reset_answers (step slots k 1 0 none) me 1)
+resets l slots id me i k word inside zero busy s r _ at _ =
     let w = r.world in
     let v = me.0.view in
     let u : World = record w { counts = set w.counts i 1; views = set w.views id (was_reset v i) } in
@@ -433,11 +406,5 @@ resets_moves l slots id me i k word inside zero busy s r _ at _ =
       tt,
       (done.0.0, (u, played, done.0.1)),
       by_word l s r id me at busy i k word inside
-          (λ (j : ℕ). Tells (Reset j) Done me (noted (Reset i) Done me)) done.1,
+          (λ (j : ℕ). Noted (Reset j) Done me (noted (Reset i) Done me)) done.1,
     )
-
-pub resets : (l : Limits) (slots id : ℕ) (me : Sat) (i k : ℕ) → k ≡ count_word l.population i →
-    i < l.population → 0 < bag me.0.view.zeros i → Sits me →
-    Allows (Ruled l) slots id me k (λ _. 1) (λ _. reset_tells (step slots k 1 0 none) me 1)
-resets l slots id me i k word inside zero busy s r size at small =
-    let m = resets_moves l slots id me i k word inside zero busy s r size at small in (m.0, m.1, m.2, m.3.0, m.4)

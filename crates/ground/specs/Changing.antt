@@ -23,8 +23,8 @@ changes_in notes = sum_by (λ note. changes_by note.0 note.1) notes
 abbrev pub changes_of : Known → ℕ
 changes_of n = changes_in n.steps + changes_in n.joined
 
--- A seat knows of a head that its count is the start and the changes of the seat at least; with
--- every part it knows that there are no others.
+-- A seat knows of a head that its count is the start and the changes of the seat at least; the only
+-- seat of a pool, which has every part, knows that there are no others.
 pub record KnowsChanges (n : Known) (count : ℕ) : Type 0 where
   pub own : n.limits.start_count + changes_of n ≤ count
   pub all : n.view.part ≡ n.limits.workers → count ≡ n.limits.start_count + changes_of n
@@ -34,7 +34,7 @@ pub record IsUnmoved (n : Known) : Type 0 where
   pub steps : n.steps ≡ []
   pub joined : n.joined ≡ []
 
--- so of a seat of every part: nobody has done anything
+-- the seat is the only one of its pool and hasn't moved: nobody has done anything
 pub record IsFresh (n : Known) : Type 0 where
   pub whole : n.view.part ≡ n.limits.workers
   pub unmoved : IsUnmoved n
@@ -43,7 +43,7 @@ pub record IsFresh (n : Known) : Type 0 where
 abbrev pub KnowsOpening : Known → Head → Type 0
 KnowsOpening n head = IsFresh n → head ≡ (opening n.limits).head
 
--- and leaves this, when it is closed
+-- a pool of which nobody has done anything leaves this, when it is closed
 abbrev pub closed_at_start : Limits → Closed
 closed_at_start l = record {
   top = (opening l).head.top;

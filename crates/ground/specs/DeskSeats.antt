@@ -5,12 +5,12 @@ use Rattle.commons.specs.Packets.{holds_of_packet}
 use Rattle.commons.specs.declared.packet.Seg.{Seg}
 use Rattle.step_core.specs.Bags.{Includes}
 use Rattle.step_core.specs.Headers.{OwnsHeaders}
-use Rattle.step_core.specs.Sights.{view_after, phase_at, working, opened}
+use Rattle.step_core.specs.Views.{view_after, phase_at, working, opened}
 use Rattle.step_core.specs.declared.step.Step.TheVariants.{Hold, PutIn, Open, Seize, TakeOut, Clear}
 use Rattle.step_core.specs.declared.step.Outcome.TheVariants.{Won, Done, Found}
 use Rattle.step_core.specs.declared.view.Phase.TheVariants.{Filled, Seized}
 use Rattle.step_core.specs.declared.view.View.{View}
-use Rattle.ground.specs.Seats.{Seated, after, sight, laid_on}
+use Rattle.ground.specs.Seats.{Seated, after, view_with_slot, laid_on}
 
 -- the seat with these slots
 abbrev pub with_slots : Seated → List (ℕ × Option (List Seg)) → Seated
@@ -34,31 +34,33 @@ abbrev pub Holds : ℕ → Seated → Seated → Type 0
 Holds d s t =
     (t ≡ with_slots
     (after s ((Hold d, Won) ∷ []) (view_after None (Hold d) Won s.known.view)) ((d, None) ∷ []))
-    × (sight t ≡ view_after None (Hold d) Won (sight s))
+    × (view_with_slot t ≡ view_after None (Hold d) Won (view_with_slot s))
 
 abbrev pub Fills : ℕ → List Seg → Seated → Seated → Type 0
 Fills d p s t =
-    (t ≡ with_slots s ((d, Some p) ∷ [])) × (sight t ≡ view_after None (PutIn d p) Done (sight s))
+    (t ≡ with_slots s ((d, Some p) ∷ []))
+    × (view_with_slot t ≡ view_after None (PutIn d p) Done (view_with_slot s))
 
 abbrev pub Opens : ℕ → Seated → Seated → Type 0
 Opens d s t =
-    (p : List Seg) × (phase_at d (sight s).work ≡ Some (Filled p))
+    (p : List Seg) × (phase_at d (view_with_slot s).work ≡ Some (Filled p))
     × (t ≡ with_slots (laid d (Some p)
     (after s ((Open d, Found p) ∷ []) (working (opened s.known.view p) None))) [])
-    × (sight t ≡ view_after (Some p) (Open d) Done (sight s))
+    × (view_with_slot t ≡ view_after (Some p) (Open d) Done (view_with_slot s))
 
 abbrev pub Seizes : ℕ → List Seg → Seated → Seated → Type 0
 Seizes d p s t =
     (t ≡ with_slots (laid d None
     (after s ((Seize d, Found p) ∷ []) (view_after (Some p) (Seize d) Won s.known.view))) ((d, Some p) ∷ []))
-    × (sight t ≡ view_after (Some p) (Seize d) Won (sight s))
+    × (view_with_slot t ≡ view_after (Some p) (Seize d) Won (view_with_slot s))
 
 abbrev pub Empties : ℕ → List Seg → Seated → Seated → Type 0
 Empties d p s t =
-    (phase_at d (sight s).work ≡ Some (Seized p)) × (t ≡ with_slots s ((d, None) ∷ []))
-    × (sight t ≡ view_after (Some p) (TakeOut d) (Found p) (sight s))
+    (phase_at d (view_with_slot s).work ≡ Some (Seized p))
+    × (t ≡ with_slots s ((d, None) ∷ []))
+    × (view_with_slot t ≡ view_after (Some p) (TakeOut d) (Found p) (view_with_slot s))
 
 abbrev pub Clears : ℕ → Seated → Seated → Type 0
 Clears d s t =
     (t ≡ with_slots (after s ((Clear d, Done) ∷ []) (working s.known.view None)) [])
-    × (sight t ≡ view_after None (Clear d) Done (sight s))
+    × (view_with_slot t ≡ view_after None (Clear d) Done (view_with_slot s))

@@ -67,8 +67,8 @@ Leads (Joined id other) w logs u after =
     × ((log taken : Log) × (get_elem? logs id ≡ some log) × (get_elem? logs other ≡ some taken)
     × (after ≡ slice_set (slice_set logs id (log.0, log.1 ++ (taken.0 ++ taken.1))) other ([], [])))
 
--- These moves, the last first, lead from the world at the start, with one seat of every part that
--- has noted nothing, to this world and these logs; each world on the way is lawful.
+-- These moves, the last first, lead from the world at the start, whose only seat has noted
+-- nothing, to this world and these logs; each world on the way is lawful.
 abbrev pub Led : Limits → List Move → World → List Log → Type 0
 Led l [] w logs = (w ≡ opening_alone l) × (logs ≡ ([], []) ∷ [])
 Led l (m ∷ ms) w logs =

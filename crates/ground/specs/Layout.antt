@@ -34,7 +34,8 @@ line_of word = word ∷ replicate (line_words - 1) 0
 abbrev pub lines : ℕ → ℕ → List ℕ
 lines head length = line_of head ++ line_of length
 
--- then a link for each element, a count for each, and a word for each desk
+-- the words of a table: these cache lines, then a link for each element, a count for each, and a
+-- word for each desk
 abbrev pub words_with : ℕ → ℕ → List ℕ → List ℕ → List ℕ → List ℕ
 words_with head length links counts desks = lines head length ++ (links ++ (counts ++ desks))
 

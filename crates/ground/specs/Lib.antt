@@ -9,8 +9,8 @@ pub mod CountRule
 pub mod DeskRule
 pub mod Rule
 pub mod Ruling
-pub mod Tells
-pub mod DeskTells
+pub mod StepAnswers
+pub mod DeskAnswers
 pub mod Operations
 pub mod Opening
 pub mod Parting

@@ -8,11 +8,12 @@ use Rattle.step_core.specs.World.{World, empty_view}
 use Rattle.step_core.specs.Opening.{opening, links_up}
 use Rattle.ground.specs.Layout.{pack, words_with}
 
--- the world at the start: all elements are common, from 0 up, and one view has every part
+-- the world at the start: all elements are common, from 0 up, and one view, that of the only seat,
+-- has every part
 abbrev pub opening_alone : Limits → World
 opening_alone l = record (opening l) { views = empty_view l.workers ∷ [] }
 
--- its words
+-- the words of the world at the start
 abbrev pub opening_words : Limits → List ℕ
 opening_words l =
     words_with (pack (record { top = 1; count = l.start_count })) l.population

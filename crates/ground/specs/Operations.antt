@@ -12,7 +12,7 @@ use Rattle.step_core.specs.Bags.{Includes}
 use Rattle.step_core.specs.Headers.{OwnsHeaders}
 use Rattle.step_core.specs.Runs.{Reaches}
 use Rattle.step_core.specs.Schedules.{Schedule}
-use Rattle.step_core.specs.Sights.{MayCut, MayPush, at_desk, walks_to}
+use Rattle.step_core.specs.Views.{MayCut, MayPush, at_desk, walks_to}
 use Rattle.step_core.specs.Steps.{next_head}
 use Rattle.step_core.specs.declared.step.Step.{Step}
 use Rattle.step_core.specs.declared.step.Step.TheVariants.{LoadLength, Reserve, Add, LoadHead, LoadLink, Cut, StoreLink, Push, Claim, Sole, Raise, Lower, Reset, Hold, PutIn, Open, Seize, TakeOut, Clear}
@@ -21,15 +21,15 @@ use Rattle.step_core.specs.declared.step.Outcome.TheVariants.{Value, HeadIs, Don
 use Rattle.step_core.specs.declared.view.Head.{Head}
 use Rattle.step_core.specs.declared.view.Phase.TheVariants.{ToFill, Seized}
 use Rattle.ground.specs.declared.known.Known.{Known}
-use Rattle.ground.specs.DeskTells.{hold_tells, open_tells, seize_tells, clear_tells}
+use Rattle.ground.specs.DeskAnswers.{hold_answers, open_answers, seize_answers, clear_answers}
 use Rattle.ground.specs.Layout.{pack, unpack, length_word, link_word, count_word, desk_word}
 use Rattle.ground.specs.Own.{Owned, AtDesk, KnowsDesks}
 use Rattle.ground.specs.Rule.{Slot, Sat, Ruled}
 use Rattle.ground.specs.Seats.{element_of, front_of}
-use Rattle.ground.specs.Tells.{exchanged, cut_found, push_found, loaded_length, reserved, added, loaded_head, loaded_link, cut_tells, stored_link, push_tells, claim_tells, sole_tells, raise_tells, lower_tells, reset_tells}
+use Rattle.ground.specs.StepAnswers.{exchanged, cut_found, push_found, loaded_length, reserved, added, loaded_head, loaded_link, cut_answers, stored_link, push_answers, claim_answers, sole_answers, raise_answers, lower_answers, reset_answers}
 
--- a seat that has a part, and the slot of the desk that it works at, and knows the desks where it
--- has every part
+-- a seat that has a part, and the slot of the desk that it works at, and knows the desks if it is
+-- the only one of its pool
 abbrev pub Sits : Sat → Type 0
 Sits m = (0 < m.0.view.part) × AtDesk m.0.view.work m.1 × KnowsDesks m.0
 
@@ -74,7 +74,7 @@ pub record OperationsAreSteps : Type 0 where
   pub cut : (l : Limits) (slots id : ℕ) (me : Sat) (head : Head) (next old new : ℕ) → old ≡ pack head →
       new ≡ pack (next_head next head.count) → MayCut me.0.view head next → Sits me →
       Moves l slots id me 0 (λ x. either (x == old) new x) (Cut ∷ [])
-      (λ x. cut_found (x == old) (front_of me.0.view.look) x ∷ []) (cut_tells (step slots 0 old new none) me)
+      (λ x. cut_found (x == old) (front_of me.0.view.look) x ∷ []) (cut_answers (step slots 0 old new none) me)
   pub store_link : (l : Limits) (slots id : ℕ) (me : Sat) (i k x : ℕ) → k ≡ link_word i →
       0 < bag me.0.view.hand i → x ≤ l.population → Sits me → Owned me.0.limits me.0.view →
       Moves l slots id me k (λ _. x) (StoreLink i (element_of x) ∷ []) (λ _. Done ∷ [])
@@ -82,41 +82,41 @@ pub record OperationsAreSteps : Type 0 where
   pub push : (l : Limits) (slots id : ℕ) (me : Sat) (head : Head) (first old new : ℕ) → old ≡ pack head →
       new ≡ pack (next_head first head.count) → MayPush me.0.view head first → Sits me →
       Moves l slots id me 0 (λ x. either (x == old) new x) (Push ∷ []) (λ x. push_found (x == old) x ∷ [])
-      (push_tells (step slots 0 old new none) me)
+      (push_answers (step slots 0 old new none) me)
   pub claim : (l : Limits) (slots id : ℕ) (me : Sat) (i k : ℕ) → k ≡ count_word l.population i →
       i < l.population → 0 < bag me.0.view.hand i → Sits me →
-      Moves l slots id me k (λ n. n) (Claim i ∷ []) (λ x. Value x ∷ []) (claim_tells (step slots k 0 0 none) me)
+      Moves l slots id me k (λ n. n) (Claim i ∷ []) (λ x. Value x ∷ []) (claim_answers (step slots k 0 0 none) me)
   pub sole : (l : Limits) (slots id : ℕ) (me : Sat) (free : Bool) (i k : ℕ) → k ≡ count_word l.population i →
       i < l.population → 0 < bag me.0.view.holds i → Sits me →
       Moves l slots id me k (λ n. n) (Sole i free ∷ []) (λ x. Value x ∷ [])
-      (sole_tells free (step slots k 0 0 none) me)
+      (sole_answers free (step slots k 0 0 none) me)
   pub raise : (l : Limits) (slots id : ℕ) (me : Sat) (i k old new : ℕ) → k ≡ count_word l.population i →
       i < l.population → 0 < bag me.0.view.holds i → old < l.ref_limit → new ≡ old + 1 → Sits me →
       Moves l slots id me k (λ x. either (x == old) new x) (Raise i old ∷ []) (λ x. exchanged (x == old) x ∷ [])
-      (raise_tells (step slots k old new none) me)
+      (raise_answers (step slots k old new none) me)
   pub lower : (l : Limits) (slots id : ℕ) (me : Sat) (i k : ℕ) → k ≡ count_word l.population i →
       i < l.population → 0 < bag me.0.view.holds i → Sits me →
       Moves l slots id me k (λ n. (n + (2 ^ 64 - 1)) % 2 ^ 64) (Lower i ∷ []) (λ x. Value x ∷ [])
-      (lower_tells (step slots k 1 0 none) me)
+      (lower_answers (step slots k 1 0 none) me)
   pub reset : (l : Limits) (slots id : ℕ) (me : Sat) (i k : ℕ) → k ≡ count_word l.population i →
       i < l.population → 0 < bag me.0.view.zeros i → Sits me →
-      Moves l slots id me k (λ _. 1) (Reset i ∷ []) (λ _. Done ∷ []) (λ _. reset_tells (step slots k 1 0 none) me 1)
+      Moves l slots id me k (λ _. 1) (Reset i ∷ []) (λ _. Done ∷ []) (λ _. reset_answers (step slots k 1 0 none) me 1)
   pub hold_desk : (l : Limits) (slots id : ℕ) (me : Sat) (d k : ℕ) → k ≡ desk_word l.population d → d < l.desks →
       me.0.view.work ≡ None → Sits me →
       Moves l slots id me k (λ x. either (x == 0) 1 x) (Hold d ∷ []) (λ x. exchanged (x == 0) x ∷ [])
-      (hold_tells (step slots k 0 1 none) me)
+      (hold_answers (step slots k 0 1 none) me)
   pub open_desk : (l : Limits) (slots id : ℕ) (me : Sat) (d k : ℕ) (p : List Seg) →
       k ≡ desk_word l.population d → d < l.desks → me.0.view.work ≡ at_desk d ToFill →
       me.1 ≡ (d, Some p) ∷ [] → IsPacket p → Includes me.0.view.holds (holds_of_packet p) →
       OwnsHeaders me.0.view p → Sits me →
       Moves l slots id me k (λ _. 2) (PutIn d p ∷ Open d ∷ []) (λ _. Done ∷ Done ∷ [])
-      (λ _. open_tells (step slots k 2 0 none) me 2)
+      (λ _. open_answers (step slots k 2 0 none) me 2)
   pub seize_desk : (l : Limits) (slots id : ℕ) (me : Sat) (d k : ℕ) → k ≡ desk_word l.population d → d < l.desks →
       me.0.view.work ≡ None → Sits me →
       Moves l slots id me k (λ x. either (x == 2) 3 x) (Seize d ∷ []) (λ x. exchanged (x == 2) x ∷ [])
-      (seize_tells (step slots k 2 3 none) me)
+      (seize_answers (step slots k 2 3 none) me)
   pub clear_desk : (l : Limits) (slots id : ℕ) (me : Sat) (d k : ℕ) (p : List Seg) →
       k ≡ desk_word l.population d → d < l.desks → me.0.view.work ≡ at_desk d (Seized p) →
       me.1 ≡ (d, None) ∷ [] → Sits me →
       Moves l slots id me k (λ _. 0) (TakeOut d ∷ Clear d ∷ []) (λ _. Found p ∷ Done ∷ [])
-      (λ _. clear_tells (step slots k 0 0 none) me 0)
+      (λ _. clear_answers (step slots k 0 0 none) me 0)

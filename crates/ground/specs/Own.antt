@@ -45,7 +45,7 @@ AtDesk None slots = slots ≡ []
 AtDesk (Some x) slots =
     (slot : Option (List Seg)) × (slots ≡ (x.desk, slot) ∷ []) × IsSince x.phase slot
 
--- a seat of every part knows what lies on the desks
+-- the only seat of a pool, which has every part of it, knows what lies on the desks
 abbrev pub KnowsDesks : Known → Type 0
 KnowsDesks n = n.view.part ≡ n.limits.workers → IsSome n.lying
 

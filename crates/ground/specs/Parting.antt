@@ -12,7 +12,8 @@ use Rattle.ground.specs.Seats.{Seated}
 abbrev pub less : View → View
 less v = record v { part = v.part - 1 }
 
--- and for what lies on the desks, since another seat may change that now
+-- what the seat knows, but for one part, and for what lies on the desks, since another seat may
+-- change that now
 abbrev pub less_part : Known → Known
 less_part n = record n { view = less n.view; lying = None }
 
@@ -35,8 +36,8 @@ both_views v u = record {
   part = v.part + u.part;
 }
 
--- with the steps of the first, which has joined those of the second; what lies on the desks isn't
--- known yet
+-- what two seats know, made one: with the steps of the first, which has joined those of the second;
+-- what lies on the desks isn't known yet
 abbrev pub both : Known → Known → Known
 both n o = record n {
   view = both_views n.view o.view;
@@ -44,7 +45,7 @@ both n o = record n {
   joined = n.joined ++ (o.steps ++ o.joined);
 }
 
--- the same, and what lies on the desks as it is read once they are one
+-- what two seats know, made one, with what lies on the desks as it is read once they are one
 abbrev pub both_with : Known → Known → Option (List (Option (List Seg))) → Known
 both_with n o lying = record (both n o) { lying = lying }
 
@@ -56,7 +57,7 @@ abbrev pub IsBoth : Seated → Known → Seated → Type 0
 IsBoth s o t =
     (lying : Option (List (Option (List Seg)))) × (t ≡ record s { known = both_with s.known o lying })
 
--- what is left of the second
+-- what the second of two seats knows, once it is joined to the first
 abbrev pub spent_seat : Known
 spent_seat = record {
   view = empty_view 0;

@@ -40,7 +40,7 @@ home_by word slot = if word == 1 then none else if word == 3 then none else some
 abbrev pub home_of : Desk → maybe.Option Slot
 home_of x = home_by x.word x.slot
 
--- what a seat knows of the desks lies there, and it has every part
+-- what a seat knows of the desks lies there, and it is the only seat of the pool
 abbrev pub SeesDesks : World → Known → Type 0
 SeesDesks w n = IfSome n.lying (λ desks. (n.view.part ≡ w.limits.workers) × (desks ≡ lying_on w.desks))
 
@@ -71,7 +71,7 @@ pub record Ruled (l : Limits) (s : State Slot Known) : Type 0 where
   pub history : List Move
   pub led : Led l history world (logs_of s.views)
 
--- what the first seat knows: it has every part, names nothing, and nothing lies on a desk
+-- what the first seat knows: it is the only one, names nothing, and nothing lies on a desk
 abbrev pub first_known : Limits → Known
 first_known l = record {
   view = empty_view l.workers;

@@ -15,10 +15,12 @@ use Rattle.step_core.specs.declared.view.Work.{Work}
 use Rattle.step_core.specs.declared.step.Step.{Step}
 use Rattle.step_core.specs.declared.step.Outcome.{Outcome}
 use Rattle.step_core.specs.declared.step.Outcome.TheVariants.{Won, Got, Lost, LostTo}
-use Rattle.step_core.specs.Sights.{view_after}
+use Rattle.step_core.specs.Views.{view_after}
 use Rattle.ground.specs.declared.known.Known.{Known}
 
--- a seat: its table and number, what it knows, and the slots that are out with it
+-- A seat: its table and number, what it knows, and the slots that are out with it. Its view has a
+-- part, and all parts together are the number of workers: a seat that has every part is the only
+-- seat of its pool, beside which no other acts.
 pub record Seated : Type 0 where
   pub table : TableId
   pub id : ℕ
@@ -50,8 +52,8 @@ work_by (Some x) (slot ∷ slots) = Some (record { desk = x.desk; phase = phase_
 
 -- The view of a seat, read off what it knows and its slots together: what it knows changes at
 -- steps on words alone, and a packet goes into a slot and out of it between them.
-abbrev pub sight : Seated → View
-sight s = record s.known.view { work = work_by s.known.view.work s.slots }
+abbrev pub view_with_slot : Seated → View
+view_with_slot s = record s.known.view { work = work_by s.known.view.work s.slots }
 
 -- a step with its outcome
 abbrev pub Note : Type 0
@@ -117,7 +119,7 @@ pub record MayLie (l : Limits) (v : View) (desks : List (Option (List Seg))) : T
   pub own_once : (i : ℕ) → bag v.headers i + own_in desks i ≤ 1
   pub work : IfSome v.work (λ x. on_desk desks x.desk ≡ None)
 
--- A seat of every part knows what lies on the desks, and so the length word: it is the population
+-- The only seat of a pool knows what lies on the desks, and so the length word: it is the population
 -- without the hand, the credit, and the elements that are held, each once, by the seat or by a
 -- packet on a desk.
 abbrev pub KnowsLength : Known → ℕ → Type 0
@@ -127,11 +129,12 @@ KnowsLength n found =
     × (found + n.view.credit + length n.view.hand + length n.view.zeros
     + held_below n.limits.population (n.view.holds ++ flat_map holds_in_slot desks) ≡ n.limits.population)
 
--- and that a walk to the end of the list has passed all that is reserved
+-- the only seat of a pool knows that a walk to the end of the list has passed all that is reserved
 abbrev pub KnowsEnd : Limits → View → Type 0
 KnowsEnd l v = v.part ≡ l.workers → IfSome v.look (λ k. k.next ≡ 0 → v.credit ≤ length k.front)
 
--- and the count of each element that it holds, which is how often it and the packets on desks do
+-- The only seat of a pool knows the count of each element that it holds, which is how often it and
+-- the packets on desks do.
 abbrev pub KnowsCount : Known → ℕ → ℕ → Type 0
 KnowsCount n i count =
     n.view.part ≡ n.limits.workers →

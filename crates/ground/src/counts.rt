@@ -36,8 +36,8 @@ impl Ground {
     }
 
     /// Reads the count of a held element. Where it is 1 and `free`, the hold ends, and the element
-    /// is in the hand (rte_mbuf.h, rte_pktmbuf_prefree_seg). A seat of every part learns that it
-    /// and the packets on full desks have all holds there are.
+    /// is in the hand (rte_mbuf.h, rte_pktmbuf_prefree_seg). The only seat of a pool learns that
+    /// it and the packets on full desks have all holds there are.
     pub fn sole(&self, seat: &mut GroundSeat, element: u32, free: bool) -> u64
         requires of { IsOf self.now seat.old }
         requires held { 0 < bag seat.old.known.view.holds element }

@@ -10,8 +10,8 @@ ghost use Rattle.commons.specs.declared.packet.Seg.{Seg};
 ghost use Rattle.step_core.specs.declared.step.Step.TheVariants.{Hold, PutIn, Open, Seize, TakeOut, Clear};
 ghost use Rattle.step_core.specs.declared.step.Outcome.TheVariants.{Won, Lost, Done, Found};
 ghost use Rattle.step_core.specs.declared.view.Phase.TheVariants.{ToFill, Seized, TakenOut};
-ghost use Rattle.step_core.specs.Sights.{phase_at};
-ghost use Rattle.ground.specs.Seats.{IsOf, Steps, sight, KnowsThere, KnowsEmpty, KnowsFull};
+ghost use Rattle.step_core.specs.Views.{phase_at};
+ghost use Rattle.ground.specs.Seats.{IsOf, Steps, view_with_slot, KnowsThere, KnowsEmpty, KnowsFull};
 ghost use Rattle.ground.specs.DeskSeats.{MayOpen, Holds, Fills, Opens, Seizes, Empties, Clears};
 ghost use Rattle.ground.specs.Layout.{desk_word};
 
@@ -51,7 +51,7 @@ impl Ground {
     /// Puts a packet into the slot of the desk that the seat fills.
     pub fn put_in(&self, seat: &mut GroundSeat, desk: u32, packet: Packet)
         requires of { IsOf self.now seat.old }
-        requires phase { phase_at desk (sight seat.old).work ≡ Some ToFill }
+        requires phase { phase_at desk (view_with_slot seat.old).work ≡ Some ToFill }
         requires range { (i : ℕ) → 0 < bag (holds_of_packet packet) i → i < self.now.limits.population }
         ensures { Fills desk packet seat.old seat.new }
     {
@@ -70,7 +70,7 @@ impl Ground {
     pub fn open(&self, seat: &mut GroundSeat, desk: u32)
         requires of { IsOf self.now seat.old }
         requires desk { desk < self.now.limits.desks }
-        requires may { MayOpen desk (sight seat.old) }
+        requires may { MayOpen desk (view_with_slot seat.old) }
         ensures { Opens desk seat.old seat.new }
     {
         seat.at_desk();
@@ -102,7 +102,7 @@ impl Ground {
     /// Takes the packet out of the slot of the desk that the seat has seized.
     pub fn take_out(&self, seat: &mut GroundSeat, desk: u32) -> Packet
         requires of { IsOf self.now seat.old }
-        requires phase { (p : List Seg) × (phase_at desk (sight seat.old).work ≡ Some (Seized p)) }
+        requires phase { (p : List Seg) × (phase_at desk (view_with_slot seat.old).work ≡ Some (Seized p)) }
         ensures { Empties desk result seat.old seat.new }
     {
         seat.at_desk();
@@ -120,7 +120,7 @@ impl Ground {
     pub fn clear(&self, seat: &mut GroundSeat, desk: u32)
         requires of { IsOf self.now seat.old }
         requires desk { desk < self.now.limits.desks }
-        requires phase { phase_at desk (sight seat.old).work ≡ Some TakenOut }
+        requires phase { phase_at desk (view_with_slot seat.old).work ≡ Some TakenOut }
         ensures { Clears desk seat.old seat.new }
     {
         seat.at_desk();

@@ -12,8 +12,8 @@ pub struct Known {
     pub view: View,
     pub steps: LinkedList<(Step, Outcome)>,
     pub limits: Limits,
-    /// What lies on each desk, where the seat has every part: no other seat puts anything there
-    /// then.
+    /// What lies on each desk, where the seat is the only one of its pool: no other puts anything
+    /// there then.
     pub lying: Option<LinkedList<Option<Packet>>>,
     /// The steps of the seats that were joined to it.
     pub joined: LinkedList<(Step, Outcome)>,

@@ -28,7 +28,7 @@ use commons::seq::Seq;
 use std::alloc::Global;
 
 impl Ground {
-    /// Makes the words of a pool, and the one seat, which has every part. All elements are in the
+    /// Makes the words of a pool, and its only seat, which has every part. All elements are in the
     /// common list, element 0 on top, each desk is empty, and the seat names none of them.
     ///
     /// Refused `BadPool` where the limits are out of range, and `OutOfMemory` where memory was
@@ -78,8 +78,8 @@ impl Ground {
 
     /// Makes one seat of two that are between calls: it has the elements, holds, headers and parts
     /// of both, the later of the two counts that they saw of the head, and its own steps. What it
-    /// had read of the common list is forgotten. Where it has every part now, it knows what lies on
-    /// the desks.
+    /// had read of the common list is forgotten. Where it is the only seat of the pool now, it
+    /// knows what lies on the desks.
     pub fn join(&self, seat: &mut GroundSeat, other: GroundSeat)
         requires of { IsOf self.now seat.old }
         requires other_of { IsOf self.now other }

@@ -1,4 +1,4 @@
-//! What each step tells its seat, and how seats part and join.
+//! What each step answers its seat, and how seats part and join.
 
 use crate::known::Known;
 use atomic_table::{Join, Play, Split};
@@ -7,7 +7,7 @@ use commons::packet::Packet;
 pub(crate) struct LoadsLength;
 
 impl Play<Option<Packet>, Known> for LoadsLength {
-    ghost use Rattle.ground.specs.Tells.{loaded_length};
+    ghost use Rattle.ground.specs.StepAnswers.{loaded_length};
 
     ghost then = { loaded_length };
 }
@@ -15,7 +15,7 @@ impl Play<Option<Packet>, Known> for LoadsLength {
 pub(crate) struct Reserves;
 
 impl Play<Option<Packet>, Known> for Reserves {
-    ghost use Rattle.ground.specs.Tells.{reserved};
+    ghost use Rattle.ground.specs.StepAnswers.{reserved};
 
     ghost then = { reserved };
 }
@@ -23,7 +23,7 @@ impl Play<Option<Packet>, Known> for Reserves {
 pub(crate) struct Adds;
 
 impl Play<Option<Packet>, Known> for Adds {
-    ghost use Rattle.ground.specs.Tells.{added};
+    ghost use Rattle.ground.specs.StepAnswers.{added};
 
     ghost then = { added };
 }
@@ -31,7 +31,7 @@ impl Play<Option<Packet>, Known> for Adds {
 pub(crate) struct LoadsHead;
 
 impl Play<Option<Packet>, Known> for LoadsHead {
-    ghost use Rattle.ground.specs.Tells.{loaded_head};
+    ghost use Rattle.ground.specs.StepAnswers.{loaded_head};
 
     ghost then = { loaded_head };
 }
@@ -39,7 +39,7 @@ impl Play<Option<Packet>, Known> for LoadsHead {
 pub(crate) struct LoadsLink;
 
 impl Play<Option<Packet>, Known> for LoadsLink {
-    ghost use Rattle.ground.specs.Tells.{loaded_link};
+    ghost use Rattle.ground.specs.StepAnswers.{loaded_link};
 
     ghost then = { loaded_link };
 }
@@ -47,15 +47,15 @@ impl Play<Option<Packet>, Known> for LoadsLink {
 pub(crate) struct Cuts;
 
 impl Play<Option<Packet>, Known> for Cuts {
-    ghost use Rattle.ground.specs.Tells.{cut_tells};
+    ghost use Rattle.ground.specs.StepAnswers.{cut_answers};
 
-    ghost then = { cut_tells };
+    ghost then = { cut_answers };
 }
 
 pub(crate) struct StoresLink;
 
 impl Play<Option<Packet>, Known> for StoresLink {
-    ghost use Rattle.ground.specs.Tells.{stored_link};
+    ghost use Rattle.ground.specs.StepAnswers.{stored_link};
 
     ghost then = { stored_link };
 }
@@ -63,9 +63,9 @@ impl Play<Option<Packet>, Known> for StoresLink {
 pub(crate) struct Pushes;
 
 impl Play<Option<Packet>, Known> for Pushes {
-    ghost use Rattle.ground.specs.Tells.{push_tells};
+    ghost use Rattle.ground.specs.StepAnswers.{push_answers};
 
-    ghost then = { push_tells };
+    ghost then = { push_answers };
 }
 
 pub(crate) struct Parts;
@@ -89,7 +89,7 @@ impl Join<Known> for Parts {
 pub(crate) struct Looks;
 
 impl Play<Option<Packet>, Known> for Looks {
-    ghost use Rattle.ground.specs.Tells.{looked};
+    ghost use Rattle.ground.specs.StepAnswers.{looked};
 
     ghost then = { looked };
 }
@@ -97,81 +97,81 @@ impl Play<Option<Packet>, Known> for Looks {
 pub(crate) struct Claims;
 
 impl Play<Option<Packet>, Known> for Claims {
-    ghost use Rattle.ground.specs.Tells.{claim_tells};
+    ghost use Rattle.ground.specs.StepAnswers.{claim_answers};
 
-    ghost then = { claim_tells };
+    ghost then = { claim_answers };
 }
 
 pub(crate) struct ReadsCount;
 
 impl Play<Option<Packet>, Known> for ReadsCount {
     ghost use Rattle.std.specs.Prelude.{false};
-    ghost use Rattle.ground.specs.Tells.{sole_tells};
+    ghost use Rattle.ground.specs.StepAnswers.{sole_answers};
 
-    ghost then = { sole_tells false };
+    ghost then = { sole_answers false };
 }
 
 pub(crate) struct Frees;
 
 impl Play<Option<Packet>, Known> for Frees {
     ghost use Rattle.std.specs.Prelude.{true};
-    ghost use Rattle.ground.specs.Tells.{sole_tells};
+    ghost use Rattle.ground.specs.StepAnswers.{sole_answers};
 
-    ghost then = { sole_tells true };
+    ghost then = { sole_answers true };
 }
 
 pub(crate) struct Raises;
 
 impl Play<Option<Packet>, Known> for Raises {
-    ghost use Rattle.ground.specs.Tells.{raise_tells};
+    ghost use Rattle.ground.specs.StepAnswers.{raise_answers};
 
-    ghost then = { raise_tells };
+    ghost then = { raise_answers };
 }
 
 pub(crate) struct Lowers;
 
 impl Play<Option<Packet>, Known> for Lowers {
-    ghost use Rattle.ground.specs.Tells.{lower_tells};
+    ghost use Rattle.ground.specs.StepAnswers.{lower_answers};
 
-    ghost then = { lower_tells };
+    ghost then = { lower_answers };
 }
 
 pub(crate) struct Resets;
 
 impl Play<Option<Packet>, Known> for Resets {
-    ghost use Rattle.ground.specs.Tells.{reset_tells};
+    ghost use Rattle.ground.specs.StepAnswers.{reset_answers};
 
-    ghost then = { reset_tells };
+    ghost then = { reset_answers };
 }
 
 pub(crate) struct HoldsDesk;
 
 impl Play<Option<Packet>, Known> for HoldsDesk {
-    ghost use Rattle.ground.specs.DeskTells.{hold_tells};
+    ghost use Rattle.ground.specs.DeskAnswers.{hold_answers};
 
-    ghost then = { hold_tells };
+    ghost then = { hold_answers };
 }
 
 pub(crate) struct OpensDesk;
 
 impl Play<Option<Packet>, Known> for OpensDesk {
-    ghost use Rattle.ground.specs.DeskTells.{open_tells};
+    ghost use Rattle.ground.specs.DeskAnswers.{open_answers};
 
-    ghost then = { open_tells };
+    ghost then = { open_answers };
 }
 
 pub(crate) struct SeizesDesk;
 
 impl Play<Option<Packet>, Known> for SeizesDesk {
-    ghost use Rattle.ground.specs.DeskTells.{seize_tells};
+    ghost use Rattle.ground.specs.DeskAnswers.{seize_answers};
 
-    ghost then = { seize_tells };
+    ghost then = { seize_answers };
 }
 
 pub(crate) struct ClearsDesk;
 
 impl Play<Option<Packet>, Known> for ClearsDesk {
-    ghost use Rattle.ground.specs.DeskTells.{clear_tells};
+    ghost use Rattle.ground.specs.DeskAnswers.{clear_answers};
 
-    ghost then = { clear_tells };
+    ghost then = { clear_answers };
 }

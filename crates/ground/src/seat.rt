@@ -6,6 +6,9 @@ use commons::packet::Packet;
 use std::marker::Model;
 
 /// A worker's seat at the table of a pool: what the worker knows, which has no bytes at run time.
+/// Each seat has a part of the pool, a number, and all parts together are the number of workers. A
+/// seat that has every part is the only seat of its pool: no other acts beside it.
+///
 /// It can't be dropped, since what it names would be lost unseen: it ends by `Ground::join`, by
 /// `Ground::close` or by `lose`.
 pub struct GroundSeat {
@@ -41,7 +44,7 @@ impl GroundSeat {
         let _ = &self.seat;
     }
 
-    /// A seat of every part knows what lies on the desks.
+    /// The only seat of a pool knows what lies on the desks.
     pub fn knows_desks(&self)
         ensures { KnowsDesks self.now.known }
     {

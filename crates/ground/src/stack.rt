@@ -6,7 +6,7 @@ ghost use Rattle.commons.specs.Bag.{bag};
 ghost use Rattle.commons.specs.Calls.{spent};
 ghost use Rattle.step_core.specs.declared.step.Step.TheVariants.{LoadLength, Reserve, Add, LoadHead, LoadLink, Cut, StoreLink, Push};
 ghost use Rattle.step_core.specs.declared.step.Outcome.TheVariants.{Value, HeadIs, Done};
-ghost use Rattle.step_core.specs.Sights.{walks_to, MayCut, MayPush};
+ghost use Rattle.step_core.specs.Views.{walks_to, MayCut, MayPush};
 ghost use Rattle.ground.specs.Changing.{KnowsChanges, KnowsOpening};
 ghost use Rattle.ground.specs.Layout.{link_word};
 ghost use Rattle.ground.specs.Seats.{IsOf, Steps, outcome_of, cut_outcome, push_outcome, front_of, element_of, KnowsLength, KnowsEnd};
@@ -35,8 +35,9 @@ fn link_word(element: u32) -> usize
 }
 
 impl Ground {
-    /// Reads the length word: how many elements of the common list nobody has reserved. A seat of
-    /// every part learns just how many those are (rte_stack_lf_generic.h, __rte_stack_lf_count).
+    /// Reads the length word: how many elements of the common list nobody has reserved. The only
+    /// seat of a pool learns just how many those are (rte_stack_lf_generic.h,
+    /// __rte_stack_lf_count).
     pub fn load_length(&self, seat: &mut GroundSeat) -> u64
         requires of { IsOf self.now seat.old }
         ensures step { Steps LoadLength (Value result) seat.old seat.new }
@@ -82,7 +83,7 @@ impl Ground {
 
     /// Reads the head (rte_stack_lf_generic.h, __rte_stack_lf_pop_elems). Its count is never below
     /// one that the seat has seen, nor below the start and the changes of the stack by this seat
-    /// and those joined to it; to a seat of every part it is just that. Where nobody has done
+    /// and those joined to it; to the only seat of a pool it is just that. Where nobody has done
     /// anything it is the head at the start.
     pub fn load_head(&self, seat: &mut GroundSeat) -> Head
         requires of { IsOf self.now seat.old }
@@ -116,7 +117,7 @@ impl Ground {
 
     /// Takes the elements that the seat has walked and reserved: swings the head from the one that
     /// was read to what follows the walk. Else answers what the head is, which has changed since:
-    /// its count is greater. A seat of every part never loses (rte_stack_lf_generic.h,
+    /// its count is greater. The only seat of a pool never loses (rte_stack_lf_generic.h,
     /// __rte_stack_lf_pop_elems).
     pub fn cut(&self, seat: &mut GroundSeat, head: Head, next: u32) -> Result<(), Head>
         requires of { IsOf self.now seat.old }
@@ -158,7 +159,7 @@ impl Ground {
 
     /// Puts the chain that the seat has linked: swings the head from the one that was read to the
     /// chain's first element, `first` - 1. Else answers what the head is, which has changed since:
-    /// its count is greater. A seat of every part never loses (rte_stack_lf_generic.h,
+    /// its count is greater. The only seat of a pool never loses (rte_stack_lf_generic.h,
     /// __rte_stack_lf_push_elems).
     pub fn push(&self, seat: &mut GroundSeat, head: Head, first: u32) -> Result<(), Head>
         requires of { IsOf self.now seat.old }

@@ -10,7 +10,7 @@ use Rattle.step_core.specs.declared.step.Outcome.TheVariants.{Won, Done, Found}
 use Rattle.step_core.specs.declared.view.Phase.TheVariants.{Seized}
 use Rattle.step_core.specs.declared.view.View.{View}
 use Rattle.step_core.specs.declared.view.Work.{Work}
-use Rattle.step_core.specs.Sights.{view_after, working, seized, at_desk}
+use Rattle.step_core.specs.Views.{view_after, working, seized, at_desk}
 use Rattle.ground.specs.DeskSeats.{Holds, Fills, Opens, Seizes, Empties, Clears}
 use Rattle.ground.specs.Seats.{Seated, Steps}
 use Rattle.ground_tests.specs.declared.desks.Sees.{Sees}

@@ -3,7 +3,7 @@
 
 ghost use Rattle.std.specs.Prelude.{◌≡◌, ◌≤◌, ◌<◌, IfSome, length};
 ghost use Rattle.commons.specs.Bounds.{max_population};
-ghost use Rattle.step_core.specs.Sights.{LinkOf};
+ghost use Rattle.step_core.specs.Views.{LinkOf};
 ghost use Rattle.step_core.specs.declared.step.Step.TheVariants.{LoadLength, Reserve, Add, LoadHead, LoadLink, Cut, StoreLink, Push};
 ghost use Rattle.ground.specs.Seats.{IsOf};
 ghost use Rattle.ground_tests.specs.Playing.{IsInPool, Plays, Moves};

@@ -8,7 +8,7 @@ ghost use Rattle.commons.specs.Packets.{holds_of_packet, HasItsData};
 ghost use Rattle.commons.specs.declared.packet.Seg.{Seg};
 ghost use Rattle.step_core.specs.Bags.{Includes};
 ghost use Rattle.step_core.specs.Headers.{OwnsHeaders};
-ghost use Rattle.step_core.specs.Sights.{at_desk};
+ghost use Rattle.step_core.specs.Views.{at_desk};
 ghost use Rattle.step_core.specs.declared.step.Step.TheVariants.{Hold, PutIn, Open, Seize, TakeOut, Clear};
 ghost use Rattle.step_core.specs.declared.view.Phase.TheVariants.{ToFill, Seized};
 ghost use Rattle.ground.specs.Seats.{IsOf, Seated};

@@ -6,7 +6,7 @@ use Rattle.step_core.specs.declared.step.Step.TheVariants.{LoadLength, Reserve, 
 use Rattle.step_core.specs.declared.view.Phase.{Phase}
 use Rattle.step_core.specs.declared.view.Phase.TheVariants.{ToFill, Filled, Seized, TakenOut}
 use Rattle.step_core.specs.declared.view.View.{View}
-use Rattle.step_core.specs.Sights.{phase_at}
+use Rattle.step_core.specs.Views.{phase_at}
 use Rattle.step_core.specs.Steps.{Play, when, given, same_head, in_range, row, put_in, open_desk, seize, take_out, clear}
 use Rattle.step_core.specs.World.{World, Packet, desk_at}
 

@@ -46,7 +46,7 @@ new-told_count : (r : Result ℕ Refusal) → new_elements (told_count r) ≡ []
 new-told_count (Ok count) = refl
 new-told_count (Err cause) = refl
 
--- each act
+-- each act leaves elements, counts and desks as `Leaves` says
 pub act_leaves : (act : Act) (others held : ℕ → ℕ) (elsewhere : ℕ → ℕ → ℕ) (m : Member) (s : Shared)
     → AreHolds others held elsewhere m s →
     Leaves act others m s (member_act act held elsewhere m s)

@@ -12,7 +12,7 @@ after_acts-keeps P kept [] pool p = p
 after_acts-keeps P kept (done ∷ more) pool p =
     after_acts-keeps P kept more (perform pool done.0 done.1).1 (kept pool done.0 done.1 p)
 
--- one act more
+-- a pool after one act more is what that act makes of the pool before it
 pub after_one_more : (acts : List (ℕ × Act)) (pool : Pool) (w : ℕ) (act : Act) →
     after_acts (acts ++ (w, act) ∷ []) pool ≡ (perform (after_acts acts pool) w act).1
 after_one_more [] pool w act = refl

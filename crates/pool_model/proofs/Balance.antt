@@ -102,7 +102,7 @@ perform-balanced pool w act b =
     after_act IsBalanced pool w act b
     (λ n done h left. with_member-balanced act pool n done b h left)
 
--- so do any acts
+-- any acts of workers leave each element in one place
 pub after_acts-balanced : (acts : List (ℕ × Act)) (pool : Pool) → IsBalanced pool → IsBalanced (after_acts acts pool)
 after_acts-balanced = after_acts-keeps IsBalanced perform-balanced
 
@@ -114,11 +114,11 @@ held_by-new l number (suc n) i =
     sum_by-cons (λ (m : Member). held_in m.table i) m (new_members l (number + 1) n)
     ∙ omega (arith, held_in-empty slots i, held_by-new l (number + 1) n i)
 
--- so they have no own elements
+-- new members have no own elements
 own_by-new : (l : Limits) (number n i : ℕ) → own_by (new_members l number n) i ≡ 0
 own_by-new l number n i = omega (arith, own_by-held (new_members l number n) i, held_by-new l number n i)
 
--- nor do they cache anything
+-- new members cache nothing
 cached_by-new : (l : Limits) (number n i : ℕ) → cached_by (new_members l number n) i ≡ 0
 cached_by-new l number zero i = refl
 cached_by-new l number (suc n) i =
@@ -126,7 +126,7 @@ cached_by-new l number (suc n) i =
     sum_by-cons (λ (m : Member). bag m.cache i) m (new_members l (number + 1) n)
     ∙ omega (arith, bag-nil i, cached_by-new l (number + 1) n i)
 
--- the numbers below n
+-- of the numbers below n each is there once, and no other is
 pub range-bag : (n i : ℕ) → bag (range_with_len 0 n) i ≡ cond (nat_lt i n) 1 0
 range-bag n i = elim (cases_lt i n) [
   | inl h ↦ let k = bag-range_in 0 n i (omega arith) (omega arith) in grind (arith, nat_tests)
@@ -188,7 +188,7 @@ given_fresh pool w act b =
       unheld = λ i some. (free i some).2;
     })
 
--- after any acts
+-- in a pool that acts made of a new one each act gives only elements that are fresh
 pub acts_give_fresh : (l : Limits) (acts : List (ℕ × Act)) (w : ℕ) (act : Act) →
     let pool = after_acts acts (new_pool l) in
     AreFresh pool.limits.population (held_of pool.members pool.shared.desks)

@@ -61,6 +61,7 @@ module _ (pool : Pool) (n : ℕ) (within : n < length pool.members) (m : Member)
   abbrev others : List Member
   others = set pool.members n (nobody pool.limits)
 
+  -- the own elements of the others and of this worker are those of all
   own_apart : own_by others i + own_in (member_at pool n).table i ≡ own_by pool.members i
   own_apart =
       omega (
@@ -69,6 +70,7 @@ module _ (pool : Pool) (n : ℕ) (within : n < length pool.members) (m : Member)
             (nobody pool.limits) (nobody pool.limits) within,
       )
 
+  -- the bases of the others and of this worker are those of all, before and once it has changed
   based_apart : (based_by others i + based_in (member_at pool n).table i ≡ based_by pool.members i)
       × (based_by (set pool.members n m) i ≡ based_by others i + based_in m.table i)
   based_apart =

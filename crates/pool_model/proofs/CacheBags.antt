@@ -74,7 +74,7 @@ push-bag xs s P goes stays = elim (cases_Bool (s.changes == spent)) [
 last-bag : (n : ℕ) (xs : List ℕ) (i : ℕ) → bag (last n xs) i + bag (without_last n xs) i ≡ bag xs i
 last-bag n xs i = omega (arith, bag-last xs (length xs - n) i)
 
--- the last n are n
+-- the last n elements of a list that has so many are n
 last-length : (n : ℕ) (xs : List ℕ) → n ≤ length xs → length (last n xs) ≡ n
 last-length n xs h = omega (arith, length-reverse (drop (length xs - n) xs), length-drop (length xs - n) xs)
 
@@ -87,7 +87,7 @@ pub record IsGot (n : ℕ) (cache : List ℕ) (s : Shared) (r : Result (List ℕ
   pub changes : s.changes ≤ r.2.changes
   pub refused : (e : Refusal) → r.0 ≡ Err e → (r.1 ≡ cache) × (r.2 ≡ s)
 
--- a get from the stack alone moves elements
+-- a get from the stack alone moves elements from the common list to the answer
 direct-IsGot : (n : ℕ) (cache : List ℕ) (s : Shared) → IsGot n cache s (get_direct cache (ask n s))
 direct-IsGot n cache s =
     let a = ask-IsAsked n s in
@@ -99,7 +99,7 @@ direct-IsGot n cache s =
       refused = λ e q. (refl, a.refused e q);
     }
 
--- so does one by a refill
+-- a get by a refill moves elements from the common list and the cache to the answer
 refilled-IsGot : (n : ℕ) (cache : List ℕ) (s : Shared) (k : ℕ)
     (r : Result (List ℕ) Refusal × Shared) → n ≤ length cache + k → IsAsked k s r →
     IsGot n cache s (get_refilled cache n r)
@@ -170,7 +170,7 @@ past-IsPut list cache s = push-bag list s (λ r. IsPut list cache s (put_past ca
     (λ e.
     record { moved = λ i. omega (arith, bag-append cache list i); desks = refl; changes = omega arith })
 
--- a list that a cache keeps
+-- a put whose list the cache keeps moves the list's elements there
 kept-IsPut : (list cache : List ℕ) (s : Shared) → IsPut list cache s (Kept, cache ++ list, s)
 kept-IsPut list cache s = record {
   moved = λ i. omega (arith, bag-append cache list i);

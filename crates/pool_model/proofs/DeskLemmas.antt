@@ -49,7 +49,7 @@ offer_in-met (Some packet) slot desk m after s t met = elim (cases_Bool (nat_le 
   )
 ]
 
--- an offer on an empty desk of the pool
+-- an offer on an empty desk of the pool succeeds
 pub offer-met : (slot desk : ℕ) (packet : List Seg) (m : Member) (s : Shared) →
     get_or m.table slot None ≡ Some packet → desk < length s.desks →
     get_or s.desks desk None ≡ None → (offer slot desk m s).0 ≡ Offered
@@ -66,24 +66,24 @@ pub take_off-met : (desk free : ℕ) (packet : List Seg) (taker : Member) (t : S
 take_off-met desk free packet taker t there e =
     rw (lt-leb (length t.desks) desk (stands_within t.desks desk packet there), e, there) refl
 
--- an offer on a desk that has one
+-- an offer on a desk that has a packet is refused, and changes nothing
 pub offer-taken : (slot desk : ℕ) (packet other : List Seg) (m : Member) (s : Shared) →
     get_or s.desks desk None ≡ Some packet → get_or m.table slot None ≡ Some other →
     offer slot desk m s ≡ (Refused DeskTaken, m, s)
 offer-taken slot desk packet other m s there e =
     rw (e, lt-leb (length s.desks) desk (stands_within s.desks desk packet there), there) refl
 
--- a take by a worker with no free slot
+-- a take by a worker with no free slot is refused, and changes nothing
 pub take_off-full : (desk : ℕ) (taker : Member) (t : Shared) → desk < length t.desks →
     free_slot taker.table ≡ None → take_off desk taker t ≡ (Refused PacketsFull, taker, t)
 take_off-full desk taker t here e = rw (lt-leb (length t.desks) desk here, e) refl
 
--- the desk has the packet then
+-- once a packet went onto a desk, the desk has it
 desk_has : (packet : List Seg) (slot desk : ℕ) (m after : Member) (s t : Shared) →
     WentOnto packet slot desk m after s t → get_or t.desks desk None ≡ Some packet
 desk_has packet slot desk m after s t went = rw went.there (get_or-set_same s.desks desk (Some packet) None went.within)
 
--- and the slot nothing
+-- the slot that the packet went from is free then
 slot_freed : (packet : List Seg) (slot desk : ℕ) (m after : Member) (s t : Shared) →
     WentOnto packet slot desk m after s t → slot < length m.table →
     get_or after.table slot None ≡ None
@@ -98,7 +98,7 @@ desk_emptied packet slot desk m after s t went =
     ∙ set-get_or s.desks desk None in
     rw (went.there, set-set s.desks desk (Some packet) None, same) refl
 
--- what an offer that succeeds leaves
+-- an offer that succeeds leaves its slot free, and the packet that stood there on the desk
 pub left_on_desk : (slot desk : ℕ) (m after : Member) (s t : Shared) → offer slot desk m s ≡ (Offered, after, t) →
     (packet : List Seg) × (get_or m.table slot None ≡ Some packet)
     × (get_or after.table slot None ≡ None) × (get_or t.desks desk None ≡ Some packet)

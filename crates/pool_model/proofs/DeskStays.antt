@@ -17,7 +17,7 @@ desks_as_many act before after (Onto slot desk packet offered empty e) =
     ap length e ∙ length-set before desk (Some packet)
 desks_as_many act before after (Off desk took e) = ap length e ∙ length-set before desk None
 
--- another desk is written, or none
+-- an act that takes from no desk, or from another one, leaves the packet on this one
 desk_stays : (act : Act) (before after : List (Option (List Seg))) (desk : ℕ) (packet : List Seg) →
     DesksAfter act before after → act ≢ Take desk → get_or before desk None ≡ Some packet →
     get_or after desk None ≡ Some packet
@@ -32,7 +32,7 @@ desk_stays act before after desk packet (Off other took e) not_taken there = eli
   | inr apart ↦ rw e (get_or-set_other before other desk None None apart ∙ there)
 ]
 
--- in a whole pool
+-- in a pool a packet stays on its desk through any act that doesn't take from it
 pub stays_in_pool : (pool : Pool) (worker desk : ℕ) (act : Act) (packet : List Seg) →
     act ≢ Take desk → get_or pool.shared.desks desk None ≡ Some packet →
     get_or (perform pool worker act).1.shared.desks desk None ≡ Some packet

@@ -26,7 +26,7 @@ use Rattle.pool_model.proofs.PoolActs.{with_member-same}
 in_pool : (w n : ℕ) → 1 ≤ w → w ≤ n → (nat_le 1 w && nat_le w n) ≡ true
 in_pool w n l b = grind (arith, nat_tests)
 
--- what a worker of the pool does
+-- an act by a worker of the pool is that member's, and the pool has what it leaves
 done_by_worker : (pool : Pool) (w : ℕ) (act : Act) → IsWorker pool w → let done =
     act_on pool (w - 1) act in ◌≡◌ {A = Reply × Pool} (perform pool w act)
     (done.0, with_member pool (w - 1) done.1 done.2)
@@ -40,7 +40,7 @@ offer_is_met pool worker slot desk packet stands within empty =
     ap (λ (r : Reply × Pool). r.0) (done_by_worker pool worker (Offer slot desk) stands.0)
     ∙ offer-met slot desk packet (worker_of pool worker) pool.shared stands.1 within empty
 
--- an offer on a desk that has a packet
+-- an offer on a desk that has a packet is refused, and the pool is as it was
 pub offer_is_refused : (pool : Pool) (worker slot desk : ℕ) (packet other : List Seg) →
     IsOnDesk pool desk packet → IsInSlot pool worker slot other →
     ◌≡◌ {A = Reply × Pool} (perform pool worker (Offer slot desk)) (Refused DeskTaken, pool)
@@ -52,7 +52,7 @@ offer_is_refused pool worker slot desk packet other lies stands =
     ∙ ap (λ (p : Pool). let r : Reply × Pool = (Refused DeskTaken, p) in r)
     (with_member-same pool (worker - 1) (worker_of pool worker) pool.shared refl refl)
 
--- only workers of the pool are answered so
+-- an offer succeeds only for a worker of the pool
 offering_worker : (pool : Pool) (worker slot desk : ℕ) →
     (perform pool worker (Offer slot desk)).0 ≡ Offered → IsWorker pool worker
 offering_worker pool worker slot desk =
@@ -60,7 +60,7 @@ offering_worker pool worker slot desk =
     (λ told. absurd cc) (λ n done number within is left told.
     (omega (arith, number), omega (arith, number, within)))
 
--- what an offer that succeeds leaves
+-- an offer that succeeds leaves on the desk the packet that stood in the slot
 pub left_by_offer : (pool : Pool) (worker slot desk : ℕ) → let done =
     perform pool worker (Offer slot desk) in done.0 ≡ Offered →
     (packet : List Seg) × IsInSlot pool worker slot packet × IsOnDesk done.1 desk packet
@@ -91,7 +91,7 @@ offered_lies pool worker slot desk packet stands met =
     let left = left_by_offer pool worker slot desk met in
     left.2 ∙ ap (λ (p : List Seg). Some p) (some-is left.0 packet (sym left.1.1 ∙ stands.1))
 
--- it stays there
+-- a packet on a desk stays there as long as no act takes from the desk
 pub lies_after : (acts : List (ℕ × Act)) (pool : Pool) (desk : ℕ) (packet : List Seg) →
     All (λ done. done.1 ≢ Take desk) acts → IsOnDesk pool desk packet →
     IsOnDesk (after_acts acts pool) desk packet
@@ -110,7 +110,7 @@ offered_waits pool worker slot desk packet acts stands met none =
     lies_after acts (perform pool worker (Offer slot desk)).1 desk packet none
     (offered_lies pool worker slot desk packet stands met)
 
--- and a take gives it
+-- a take by a worker with a free slot gives it the packet that lies on the desk
 pub taken_off : (pool : Pool) (taker desk free : ℕ) (packet : List Seg) →
     IsOnDesk pool desk packet → IsWorker pool taker →
     free_slot (worker_of pool taker).table ≡ Some free →
@@ -159,7 +159,7 @@ given_back pool worker slot desk taker free met is empty =
     ∙ emptied_again slot desk m done.1 pool.shared done.2
     (ap (λ (r : Reply). let d : Reply × Member × Shared = (r, done.1, done.2) in d) told)
 
--- a worker with no free slot is refused
+-- a take by a worker with no free slot is refused, and the packet stays on the desk
 pub take_is_refused : (pool : Pool) (taker desk : ℕ) (packet : List Seg) →
     IsOnDesk pool desk packet → IsWorker pool taker →
     free_slot (worker_of pool taker).table ≡ None →

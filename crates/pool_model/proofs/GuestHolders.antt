@@ -26,6 +26,7 @@ use Rattle.pool_model.proofs.Pairs.{AllPairs-append, AllPairs-nil}
 
 -- ---- what one worker among others gives
 
+-- what is counted where two numbers are equal counts nothing where one is below the other
 flag-apart : (a b x : ℕ) → a < b ⊎ b < a → ◌≡◌ {A = ℕ} (cond (a == b) x 0) 0
 flag-apart a b x (inl h) = grind (arith, nat_tests)
 flag-apart a b x (inr h) = grind (arith, nat_tests)
@@ -44,7 +45,7 @@ pick_none f w number (m ∷ members) a l = omega (
   pick_none f w (number + 1) members a.1 (omega arith),
 )
 
--- in a row that has its number one does
+-- in a row of workers that has this number exactly one has it
 pick_one : (f : ℕ → ℕ) (w number : ℕ) (members : List Member) → AreInOrder number members → number ≤ w →
     w < number + length members → sum_by (λ (m : Member). cond (m.number == w) (f m.number) 0) members ≡ f w
 pick_one f w number [] a low high = absurd (omega (arith, low, high))
@@ -65,7 +66,7 @@ pick_one f w number (m ∷ members) a low high = elim (cases_eq m.number w) [
   )
 ]
 
--- and in a row of lower numbers none does
+-- in a row of workers with lower numbers none has this one
 pick_past : (f : ℕ → ℕ) (w number : ℕ) (members : List Member) → AreInOrder number members →
     number + length members ≤ w → sum_by (λ (m : Member). cond (m.number == w) (f m.number) 0) members ≡ 0
 pick_past f w number [] a l = refl
@@ -109,7 +110,7 @@ guest_more g guests (m ∷ members) i = omega (
   guest_more g guests members i,
 )
 
--- nothing, summed
+-- where there are no guests, no worker has any
 none_summed : (members : List Member) (i : ℕ) → sum_by (λ (m : Member). guests_of [] m.number i) members ≡ 0
 none_summed [] i = refl
 none_summed (m ∷ members) i =
@@ -133,7 +134,7 @@ guests_summed (g ∷ guests) members i a all =
 
 -- ---- the holders of an element
 
--- workers are as many as they hold it often
+-- an element's workers are as many as their packets and their guests hold it
 length-workers_with : (guests : List Guest) (members : List Member) (i : ℕ) →
     length (workers_with guests members i)
     ≡ sum_by (λ (m : Member). guests_of guests m.number i) members + held_by members i
@@ -150,7 +151,7 @@ length-workers_with guests (m ∷ members) i =
       sum_by-cons (λ (m : Member). held_in m.table i) m members,
     )
 
--- holders are as many as the holds
+-- an element's holders are as many as its holds, by packets and for guests
 pub length-holders_with : (guests : List Guest) (members : List Member) (desks : List (Option (List Seg))) (i : ℕ) →
     AreInOrder 1 members → AreOfWorkers (length members) guests →
     length (holders_with guests members desks i) ≡ held_with guests members desks i
@@ -162,7 +163,7 @@ length-holders_with guests members desks i a all = omega (
   length-desks 0 desks i,
 )
 
--- how often a worker stands among the workers
+-- a worker stands among the workers as often as its packets and its guests hold the element
 workers_with-worker : (guests : List Guest) (members : List Member) (i w : ℕ) →
     count_by (is_worker w) (workers_with guests members i)
     ≡ sum_by (λ (m : Member). cond (m.number == w) (guests_of guests m.number i) 0) members
@@ -181,7 +182,7 @@ workers_with-worker guests (m ∷ members) i w =
       sum_by-cons (λ (m : Member). cond (m.number == w) (held_in m.table i) 0) m members,
     )
 
--- the guests of one worker, summed over all
+-- of all workers' guests those of one worker are its own
 guests_picked : (guests : List Guest) (members : List Member) (i w : ℕ) → AreInOrder 1 members →
     AreOfWorkers (length members) guests →
     sum_by (λ (m : Member). cond (m.number == w) (guests_of guests m.number i) 0) members ≡ guests_of guests w i
@@ -197,7 +198,7 @@ guests_picked guests members i w a all =
       ]
     ]
 
--- and among all holders
+-- among all holders a worker stands as often as its packets and its guests say
 pub holders_with-worker : (guests : List Guest) (members : List Member) (desks : List (Option (List Seg))) (i w : ℕ) →
     AreInOrder 1 members → AreOfWorkers (length members) guests →
     count_by (is_worker w) (holders_with guests members desks i)
@@ -210,7 +211,7 @@ holders_with-worker guests members desks i w a all = omega (
   no_worker 0 desks i w,
 )
 
--- among the workers there is no desk
+-- among the workers that hold an element there is no desk
 workers_with-desk : (guests : List Guest) (members : List Member) (i d : ℕ) →
     count_by (is_desk d) (workers_with guests members i) ≡ 0
 workers_with-desk guests [] i d = refl
@@ -239,6 +240,7 @@ holders_with-desk guests members desks i d = omega (
 
 -- ---- their order
 
+-- the workers that hold an element are numbered from the first of them on
 workers_with-from : (guests : List Guest) (number : ℕ) (members : List Member) (i : ℕ) → AreInOrder number members →
     All (IsWorkerFrom number) (workers_with guests members i)
 workers_with-from guests number [] i a = All-nil (IsWorkerFrom number)
@@ -249,6 +251,7 @@ workers_with-from guests number (m ∷ members) i a =
     (All-weaker (IsWorkerFrom (number + 1)) (IsWorkerFrom number) (worker_from number)
     (workers_with guests members i) (workers_with-from guests (number + 1) members i a.1))
 
+-- the workers that hold an element ascend by their numbers
 workers_with-order : (guests : List Guest) (number : ℕ) (members : List Member) (i : ℕ) → AreInOrder number members →
     AllPairs IsNotAfter (workers_with guests members i)
 workers_with-order guests number [] i a = AllPairs-nil IsNotAfter
@@ -262,7 +265,7 @@ workers_with-order guests number (m ∷ members) i a =
     (All-weaker (IsWorkerFrom (number + 1)) (IsNotAfter (Worker m.number))
     (worker_before m.number number a.0) later (workers_with-from guests (number + 1) members i a.1)))
 
--- workers ascend, and then desks
+-- an element's holders ascend: workers by their numbers, and then desks
 pub holders_with-order : (guests : List Guest) (members : List Member) (desks : List (Option (List Seg))) (i : ℕ) →
     AreInOrder 1 members → AllPairs IsNotAfter (holders_with guests members desks i)
 holders_with-order guests members desks i a =

@@ -29,7 +29,7 @@ pub record IsBalancedWith (guests : List Guest) (pool : Pool) : Type 0 where
       ≡ cond (nat_lt i pool.limits.population) 1 0
   pub own : (i : ℕ) → own_of pool.members pool.shared.desks i ≤ 1
 
--- the elements of the entries
+-- the entries of held elements are of these elements, in their order
 elems-entries : (guests : List Guest) (members : List Member) (desks : List (Option (List Seg))) (xs : List ℕ) →
     map (λ (held : Held). held.elem) (map (entry_with guests members desks) xs) ≡ xs
 elems-entries guests members desks [] = refl

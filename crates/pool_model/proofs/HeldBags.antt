@@ -19,7 +19,7 @@ last_hold e i f g h = elim (cases_eq e i) [
   | inr q ↦ let k = one-apart e i (λ p. q (sym p)) in omega arith
 ]
 
--- another hold of it stays
+-- an element of which one hold ends and another stays is held still
 other_hold : (e i : ℕ) (f g : ℕ → ℕ) → 0 < f e + g e → min 1 (g i + f i) ≡ min 1 (g i + (one e i + f i))
 other_hold e i f g h = elim (cases_eq e i) [
   | inl q ↦ rw (← q) (let k = one-same e in omega arith)
@@ -40,7 +40,7 @@ pub record IsEnded (others : ℕ → ℕ) (es : List ℕ) (so_far r : Freed × L
   pub desks : r.2.desks ≡ so_far.2.desks
   pub changes : so_far.2.changes ≤ r.2.changes
 
--- the end of one hold
+-- the end of one hold loses no element, leaves the desks, and takes back no change
 next_hold-IsEnded : (l : Limits) (others : ℕ → ℕ) (e : ℕ) (es : List ℕ)
     (so_far : Freed × List ℕ × Shared) →
     IsEnded (λ i. others i + bag es i) (e ∷ []) so_far (next_hold l others e es so_far)
@@ -65,7 +65,7 @@ next_hold-IsEnded l others e es so_far = elim (cases_Bool (bag es e + others e =
       })
 ]
 
--- and of all
+-- the end of holds of these elements loses none, leaves the desks, and takes back no change
 pub end_holds-IsEnded : (l : Limits) (others : ℕ → ℕ) (es : List ℕ)
     (so_far : Freed × List ℕ × Shared) → IsEnded others es so_far (end_holds l others es so_far)
 end_holds-IsEnded l others [] so_far = record

@@ -5,12 +5,10 @@ use Rattle.std.proofs.lemmas.List.Elements.{All-nil, All-append, All-replicate, 
 use Rattle.std.proofs.lemmas.List.Kept.{AllPairs-cons}
 use Rattle.commons.specs.Bag.{bag}
 use Rattle.commons.specs.declared.packet.Seg.{Seg}
-use Rattle.commons.specs.Packets.{held_in, holds_in_slot}
-use Rattle.mbuf.specs.Members.{Member}
+use Rattle.commons.specs.Packets.{holds_in_slot}
 use Rattle.pool_model.specs.declared.statement.Holder.{Holder}
 use Rattle.pool_model.specs.declared.statement.Holder.TheVariants.{Worker, Desk}
-use Rattle.pool_model.specs.Statements.{workers_of, desks_of, holders_of, IsNotAfter}
-use Rattle.pool_model.proofs.Numbered.{AreInOrder}
+use Rattle.pool_model.specs.Statements.{desks_of, IsNotAfter}
 use Rattle.pool_model.proofs.Pairs.{AllPairs-append, AllPairs-nil}
 
 -- one holder, as often as it holds the element, stands in order with itself
@@ -20,7 +18,7 @@ copies-order (suc n) holder same =
     AllPairs-cons IsNotAfter holder (replicate n holder)
     (All-replicate (IsNotAfter holder) n holder same) (copies-order n holder same)
 
--- a worker with this number or a higher one, and a desk
+-- a worker of this number or a higher one, and no desk
 abbrev pub IsWorkerFrom : ℕ → Holder → Type 0
 IsWorkerFrom low (Worker w) = low ≤ w
 IsWorkerFrom low (Desk d) = ⊥
@@ -57,31 +55,7 @@ desks_behind low other (Worker w) (Worker v) h k = absurd k
 desks_behind low other (Worker w) (Desk d) h k = tt
 desks_behind low other (Desk e) two h k = absurd h
 
--- the workers among them
-workers_of-from : (number : ℕ) (members : List Member) (i : ℕ) → AreInOrder number members →
-    All (IsWorkerFrom number) (workers_of members i)
-workers_of-from number [] i a = All-nil (IsWorkerFrom number)
-workers_of-from number (m ∷ members) i a =
-    All-append (IsWorkerFrom number) (replicate (held_in m.table i) (Worker m.number)) (workers_of members i)
-    (All-replicate (IsWorkerFrom number) (held_in m.table i) (Worker m.number) (omega (arith, a.0)))
-    (All-weaker (IsWorkerFrom (number + 1)) (IsWorkerFrom number) (worker_from number)
-    (workers_of members i) (workers_of-from (number + 1) members i a.1))
-
--- members ascend by number, and each stands as often as it holds the element, before the next
-workers_of-order : (number : ℕ) (members : List Member) (i : ℕ) → AreInOrder number members →
-    AllPairs IsNotAfter (workers_of members i)
-workers_of-order number [] i a = AllPairs-nil IsNotAfter
-workers_of-order number (m ∷ members) i a =
-    let copies : List Holder = replicate (held_in m.table i) (Worker m.number) in
-    let later = workers_of members i in
-    AllPairs-append IsNotAfter copies later
-    (copies-order (held_in m.table i) (Worker m.number) (omega arith))
-    (workers_of-order (number + 1) members i a.1)
-    (All-replicate (λ holder. All (IsNotAfter holder) later) (held_in m.table i) (Worker m.number)
-    (All-weaker (IsWorkerFrom (number + 1)) (IsNotAfter (Worker m.number))
-    (worker_before m.number number a.0) later (workers_of-from (number + 1) members i a.1)))
-
--- and the desks
+-- the desks that hold an element are numbered from the first of them on
 pub desks_of-from : (desk : ℕ) (desks : List (Option (List Seg))) (i : ℕ) → All (IsDeskFrom desk) (desks_of desk desks i)
 desks_of-from desk [] i = All-nil (IsDeskFrom desk)
 desks_of-from desk (slot ∷ desks) i =
@@ -102,15 +76,3 @@ desks_of-order desk (slot ∷ desks) i =
     (All-replicate (λ holder. All (IsNotAfter holder) later) (bag (holds_in_slot slot) i) (Desk desk)
     (All-weaker (IsDeskFrom (desk + 1)) (IsNotAfter (Desk desk)) (desk_before desk) later
     (desks_of-from (desk + 1) desks i)))
-
--- all of them
-pub holders_of-order : (members : List Member) (desks : List (Option (List Seg))) (i : ℕ) →
-    AreInOrder 1 members → AllPairs IsNotAfter (holders_of members desks i)
-holders_of-order members desks i a =
-    AllPairs-append IsNotAfter (workers_of members i) (desks_of 0 desks i)
-    (workers_of-order 1 members i a) (desks_of-order 0 desks i)
-    (All-weaker (IsWorkerFrom 1) (λ holder. All (IsNotAfter holder) (desks_of 0 desks i))
-    (λ one h.
-    All-weaker (IsDeskFrom 0) (IsNotAfter one) (λ two k. desks_behind 1 0 one two h k)
-    (desks_of 0 desks i) (desks_of-from 0 desks i))
-    (workers_of members i) (workers_of-from 1 members i a))

@@ -67,7 +67,7 @@ one_at_least held e i some = elim (cases_eq e i) [
   | inr other ↦ omega (arith, one-apart e i (λ same. other (sym same)))
 ]
 
--- nothing is done
+-- where nothing is done, and no new element told of, all is kept
 pub nothing_keeps : (outside : ℕ → ℕ) (m : Member) (s : Shared) (reply : Reply) →
     new_elements reply ≡ [] → Keeps outside m s (reply, m, s)
 nothing_keeps outside m s reply none = record {

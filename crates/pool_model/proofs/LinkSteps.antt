@@ -20,7 +20,7 @@ use Rattle.pool_model.specs.CacheModel.{get}
 use Rattle.pool_model.specs.SharingModel.{Cloned, clone_segs, give_up, with_element}
 use Rattle.pool_model.proofs.Links.{LinksAfter, Fewer, NewBase, NewIndirect, based_in, indirect_in, based_packet, indirect_packet, indirect_seg, based_slot, indirect_slot, based_alone, based-more, buffer_in, buffer_packet, held_split, indirect_alone, indirect_in-set, packet-own}
 
--- two packets that become one
+-- where two packets of a table become one, the table has as many indirect segments of each element
 pub chain_indirect : (table : List (Option (List Seg))) (head tail : ℕ) (first second : List Seg)
     (i : ℕ) → head < length table → tail < length table → head ≢ tail →
     get_or table head None ≡ Some first → get_or table tail None ≡ Some second →
@@ -69,6 +69,7 @@ module _ (table : List (Option (List Seg))) (mi target e : ℕ) (seg : Seg)
   target_within : target < length table
   target_within = stands_within table target (seg ∷ found.others) found.there
 
+  -- the element is the own one of the segment that is attached
   own_there : 1 ≤ own_in table e
   own_there =
       omega (
@@ -80,6 +81,7 @@ module _ (table : List (Option (List Seg))) (mi target e : ℕ) (seg : Seg)
         one-same e,
       )
 
+  -- the target's buffer is another element, as nothing else holds this one
   other_buffer : one (buffer_of seg) e ≡ 0
   other_buffer = elim (cases_lt 0 (one (buffer_of seg) e)) [
     | inl same ↦
@@ -101,6 +103,7 @@ module _ (table : List (Option (List Seg))) (mi target e : ℕ) (seg : Seg)
     | inr none ↦ omega (arith, none)
   ]
 
+  -- an attach makes a new indirect segment, or a base more that no indirect segment has, or neither
   pub attach_links : (i : ℕ) (after : List (Option (List Seg))) →
       based_in after i + based_slot (Some (found.own ∷ [])) i
       ≡ based_in table i + based_slot (Some (attached e seg ∷ [])) i →

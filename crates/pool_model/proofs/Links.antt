@@ -65,7 +65,7 @@ packet_split (seg ∷ segs) i = omega (
   bag-cons seg.elem (own_of_packet segs) i,
 )
 
--- so it is in a slot, and an empty one holds nothing
+-- what a slot holds are its packet's bases and own elements, and an empty one holds nothing
 slot_split : (slot : Option (List Seg)) (i : ℕ) →
     bag (holds_in_slot slot) i ≡ based_slot slot i + bag (own_in_slot slot) i
 slot_split None i = omega (arith, bag-nil i)
@@ -100,7 +100,7 @@ packet-own (seg ∷ segs) i =
       bag-cons seg.elem (own_of_packet segs) i,
     )
 
--- so it is in a slot, and an empty one has neither
+-- an element is that of indirect segments in a slot no more often than it is an own one there
 slot-own : (slot : Option (List Seg)) (i : ℕ) → indirect_slot slot i ≤ bag (own_in_slot slot) i
 slot-own None i = omega arith
 slot-own (Some segs) i = packet-own segs i
@@ -132,7 +132,7 @@ indirect_in-set table k new i l = sum_by-set (λ (slot : Option (List Seg)). ind
 pub based_in-empty : (n i : ℕ) → based_in (replicate n None) i ≡ 0
 based_in-empty n i = sum_by-replicate (λ (slot : Option (List Seg)). based_slot slot i) n None ∙ omega arith
 
--- a packet of one segment
+-- a packet of one segment uses that segment's base, where it has one
 pub based_alone : (base : Option ℕ) (seg : Seg) (i : ℕ) → seg.base ≡ base →
     based_packet (seg ∷ []) i ≡ bag (hold_of base) i
 based_alone base seg i e =
@@ -282,7 +282,8 @@ buffer_packet (seg ∷ segs) (suc k) d within =
       bag-cons seg.elem (own_of_packet segs) b,
     )
 
--- so is it in a whole table
+-- an element that a packet holds more often than its indirect segments have it is also held more
+-- often in the whole table
 pub buffer_in : (table : List (Option (List Seg))) (slot i : ℕ) (segs : List Seg) →
     slot < length table → get_or table slot None ≡ Some segs →
     indirect_packet segs i < bag (holds_of_packet segs) i → indirect_in table i < held_in table i
@@ -299,7 +300,7 @@ buffer_in table slot i segs within there fewer =
       own_in-held (set table slot None) i,
     )
 
--- a segment of a packet
+-- a base that a segment of a packet has is one of the packet's bases
 pub based_by_seg : (packet : List Seg) (seg : Seg) (base : ℕ) → Contains packet seg →
     seg.base ≡ Some base → 0 < based_packet packet base
 based_by_seg packet seg base there e =
@@ -326,7 +327,7 @@ indirect_by_seg packet seg base there e =
       one-same seg.elem,
     )
 
--- the bases of one clone more
+-- with one attached segment more a packet has that segment's buffer more as a base
 pub based-more : (segs : List Seg) (e : ℕ) (seg : Seg) (i : ℕ) →
     based_packet (segs ++ attached e seg ∷ []) i ≡ based_packet segs i + one (buffer_of seg) i
 based-more segs e seg i =
@@ -347,7 +348,7 @@ pub data LinksAfter (held own based indirect more_based more_indirect : ℕ) : T
       LinksAfter held own based indirect more_based more_indirect
   NewIndirect : held ≤ own → more_based ≤ based → LinksAfter held own based indirect more_based more_indirect
 
--- beside packets that stay
+-- what an act does to the links of one table it does to those of all, beside packets that stay
 pub links_beside : (held own based indirect more_based more_indirect : ℕ)
     (own_stays based_stays indirect_stays : ℕ) → indirect_stays ≤ own_stays →
     LinksAfter held own based indirect more_based more_indirect →

@@ -26,7 +26,7 @@ listed_from P worker slot (Some segs ∷ table) each =
     All-cons (λ (placed : PlacedPacket). P placed.segs) placed (packets_from worker (slot + 1) table) (each 0 segs refl)
     (listed_from P worker (slot + 1) table (λ k packet there. each (suc k) packet there))
 
--- of those of all workers
+-- what holds of each packet in a slot of these workers holds of each that is listed of them
 listed_of : (P : List Seg → Type 0) (d : Member) (members : List Member) →
     ((n k : ℕ) (packet : List Seg) → n < length members →
     get_or (get_or members n d).table k None ≡ Some packet → P packet) →
@@ -45,7 +45,7 @@ listed_in_slots P pool each = listed_of P (nobody pool.limits) pool.members (λ 
     let at : n + 1 - 1 ≡ n = omega arith in
     each (n + 1) k packet ((omega arith, omega (arith, within)), rw at there))
 
--- and of those on desks
+-- what holds of each packet on a desk holds of each that is listed of the desks
 pub listed_on_desks : (P : List Seg → Type 0) (desk : ℕ) (desks : List (Option (List Seg))) →
     ((k : ℕ) (packet : List Seg) → get_or desks k None ≡ Some packet → P packet) →
     All (λ packet. P packet.segs) (desks_from desk desks)
@@ -57,7 +57,7 @@ listed_on_desks P desk (Some segs ∷ desks) each =
     All-cons (λ (packet : DeskPacket). P packet.segs) placed (desks_from (desk + 1) desks) (each 0 segs refl)
     (listed_on_desks P (desk + 1) desks (λ k packet there. each (suc k) packet there))
 
--- and what holds of how often each element is held holds of each count
+-- what holds of how often each element is held holds of each count of a held one
 pub listed_counts : (P : ℕ → Type 0) (pool : Pool) →
     ((i : ℕ) → P (held_of pool.members pool.shared.desks i)) →
     All (λ held. P held.count) (statement_of pool).held

@@ -19,7 +19,7 @@ abbrev pub AreInOrder : ℕ → List Member → Type 0
 AreInOrder number [] = Unit {0}
 AreInOrder number (m ∷ members) = (m.number ≡ number) × AreInOrder (number + 1) members
 
--- and each with all its slots
+-- workers with numbers in a row from this one on, each with all its slots
 abbrev pub AreNumbered : ℕ → List Member → Type 0
 AreNumbered number [] = Unit {0}
 AreNumbered number (m ∷ members) = (m.number ≡ number) × (length m.table ≡ slots) × AreNumbered (number + 1) members
@@ -29,7 +29,7 @@ pub numbered_in_order : (number : ℕ) (members : List Member) → AreNumbered n
 numbered_in_order number [] a = tt
 numbered_in_order number (m ∷ members) a = (a.0, numbered_in_order (number + 1) members a.2)
 
--- each of them has all its slots
+-- workers that are numbered in a row and have all their slots have all their slots
 pub full_tables : (number : ℕ) (members : List Member) → AreNumbered number members →
     All (λ m. length m.table ≡ slots) members
 full_tables number [] a = All-nil (λ (m : Member). length m.table ≡ slots)
@@ -43,7 +43,7 @@ pub record IsNumbered (l : Limits) (pool : Pool) : Type 0 where
   pub numbers : AreNumbered 1 pool.members
   pub desks : length pool.shared.desks ≡ l.desks
 
--- one of the workers changes
+-- where one worker changes, but for its number and its number of slots, all stay numbered
 numbered-set : (number : ℕ) (members : List Member) (n : ℕ) (m d : Member) →
     m.number ≡ (get_or members n d).number → length m.table ≡ length (get_or members n d).table →
     AreNumbered number members → AreNumbered number (set members n m)
@@ -52,7 +52,7 @@ numbered-set number (x ∷ members) zero m d same long a = (same ∙ a.0, long �
 numbered-set number (x ∷ members) (suc n) m d same long a =
     (a.0, a.1, numbered-set (number + 1) members n m d same long a.2)
 
--- what a worker does
+-- what a worker does leaves the pool numbered
 perform-numbered : (l : Limits) (pool : Pool) (w : ℕ) (act : Act) → IsNumbered l pool →
     IsNumbered l (perform pool w act).1
 perform-numbered l pool w act b = after_act (IsNumbered l) pool w act b (λ n done h left. record {
@@ -62,7 +62,7 @@ perform-numbered l pool w act b = after_act (IsNumbered l) pool w act b (λ n do
   desks = desks_as_many act pool.shared.desks done.2.desks left.desks ∙ b.desks;
 })
 
--- a new pool
+-- new members are numbered in a row, each with all its slots
 numbered-new : (l : Limits) (number n : ℕ) → AreNumbered number (new_members l number n)
 numbered-new l number zero = tt
 numbered-new l number (suc n) =
@@ -77,11 +77,11 @@ new_pool-numbered l = record {
   desks = length-replicate {A = Option (List Seg)} l.desks None;
 }
 
--- after any acts
+-- after any acts of its workers a new pool is numbered
 pub acts-numbered : (l : Limits) (acts : List (ℕ × Act)) → IsNumbered l (after_acts acts (new_pool l))
 acts-numbered l acts = after_acts-keeps (IsNumbered l) (perform-numbered l) acts (new_pool l) (new_pool-numbered l)
 
--- the number of each worker
+-- the number of the worker at a place of the row is that of the first and the place
 pub number_at : (number : ℕ) (members : List Member) (k : ℕ) (d : Member) →
     AreNumbered number members → k < length members → (get_or members k d).number ≡ number + k
 number_at number [] k d a h = absurd (omega arith)

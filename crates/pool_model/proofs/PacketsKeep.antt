@@ -56,7 +56,7 @@ fill_slot-keeps outside slot m s (Ok (x ∷ xs), cache, t) within e got =
 fill_slot-keeps outside slot m s (Err cause, cache, t) within e got =
     cache_keeps outside m s t _ cache refl got.desks got.changes (λ i. omega (arith, got.moved i))
 
--- so does making one in a free slot, and where there is none nothing changes
+-- making a packet in a free slot moves its element there, and where none is free nothing changes
 pub alloc_in-keeps : (outside : ℕ → ℕ) (slot : Option ℕ) (m : Member) (s : Shared) →
     ((n : ℕ) → slot ≡ Some n → (n < length m.table) × (get_or m.table n None ≡ None)) →
     Keeps outside m s (alloc_in slot m s)
@@ -65,7 +65,7 @@ alloc_in-keeps outside (Some slot) m s free =
     let empty = free slot refl in
     fill_slot-keeps outside slot m s (get m.limits 1 m.cache s) empty.0 empty.1 (get-IsGot m.limits 1 m.cache s)
 
--- making several moves theirs
+-- making several packets moves the elements of all of them
 length-stood : (l : Limits) (es slots : List ℕ) (table : List (Option (List Seg))) →
     length (stood l es slots table) ≡ length table
 length-stood l [] slots table = refl
@@ -74,7 +74,7 @@ length-stood l (e ∷ es) (slot ∷ slots) table =
     length-stood l es slots (set table slot (Some (fresh_seg l e ∷ [])))
     ∙ length-set table slot (Some (fresh_seg l e ∷ []))
 
--- the reply tells of their elements in order
+-- the reply to making several packets tells of their elements in order
 bulk_elems : (l : Limits) (es : List ℕ) (table : List (Option (List Seg))) → length es ≤ length (free_slots table) →
     map (λ (packet : NewPacket). packet.elem) (map
     (new_packet (stood l es (take (length es) (free_slots table)) table))
@@ -161,7 +161,7 @@ free_in-keeps outside (Some segs) elsewhere slot m s e rest =
     (λ i. omega (arith, bag-nil i)) (λ i. omega (arith, bag-nil i)) (λ i. omega (arith, bag-nil i))
     (λ i few based indirect. Fewer (omega (arith, based)) (omega (arith, indirect)))
 
--- a change of lengths moves none
+-- a change of lengths moves no element
 resize_to-keeps : (outside : ℕ → ℕ) (o : Option (List Seg)) (segs : List Seg) (cause : Refusal)
     (slot : ℕ) (m : Member) (s : Shared) → get_or m.table slot None ≡ Some segs →
     ((new : List Seg) → o ≡ Some new → SamePacketHolds new segs) →
@@ -203,7 +203,7 @@ new-told_both : (slot : Option (List Seg)) → new_elements (told_both slot) ≡
 new-told_both None = refl
 new-told_both (Some segs) = refl
 
--- nor does a chain
+-- a chain moves no element: the segments of one packet go to the end of the other's
 pub chain_in-keeps : (outside : ℕ → ℕ) (one two : Option (List Seg)) (head tail : ℕ) (m : Member)
     (s : Shared) → get_or m.table head None ≡ one → get_or m.table tail None ≡ two →
     Keeps outside m s (chained_beside head s (chain_in one two head tail m))

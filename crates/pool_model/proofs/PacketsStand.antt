@@ -33,7 +33,7 @@ abbrev pub IsPlace : Option (List Seg) → Type 0
 IsPlace None = Unit {0}
 IsPlace (Some segs) = IsPacket segs
 
--- each of them
+-- each place of a table has a packet, or nothing
 abbrev pub ArePlaces : List (Option (List Seg)) → Type 0
 ArePlaces table = All IsPlace table
 
@@ -44,11 +44,12 @@ place_at table k a = elim (cases_lt k (length table)) [
   | inr l ↦ rw (get_or_past table k None l) tt
 ]
 
--- those of a worker and of the desks, after an act, and the worker is of a pool of these limits
+-- after an act what stands at a worker's places and on the desks are packets, and its limits are
+-- these
 abbrev Stand : Limits → Reply × Member × Shared → Type 0
 Stand l done = ArePlaces done.1.table × ArePlaces done.2.desks × (done.1.limits ≡ l)
 
--- the packet of one segment
+-- one segment with its data is a packet
 of_one : (seg : Seg) → HasItsData seg → IsPacket (seg ∷ [])
 of_one seg h = record {
   some = omega arith;
@@ -155,7 +156,7 @@ cut_behind-keeps n seg new h e =
     let k = made_if (nat_le n seg.data_len) _ new e in
     subst HasItsData k.1 (omega (arith, h, leb-true n seg.data_len k.0))
 
--- a packet with one segment changed
+-- a packet of which one segment is changed to one with its data is a packet still
 with_seg-packet : (index : ℕ) (segs new : List Seg) (o : Option Seg) → IsPacket segs →
     ((seg : Seg) → o ≡ Some seg → HasItsData seg) → with_seg index segs o ≡ Some new → IsPacket new
 with_seg-packet index segs new None p h e = absurd (none-some new e)
@@ -502,7 +503,7 @@ new_members-limits l number (suc n) =
     All-cons (λ (m : Member). m.limits ≡ l) (newcomer l number) (new_members l (number + 1) n) refl
     (new_members-limits l (number + 1) n)
 
--- after any acts
+-- after any acts of its workers a new pool has packets alone
 pub acts-packets : (l : Limits) (acts : List (ℕ × Act)) → HasPackets (after_acts acts (new_pool l))
 acts-packets l acts =
     after_acts-keeps HasPackets perform-packets acts (new_pool l) (record {

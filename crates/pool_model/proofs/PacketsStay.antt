@@ -55,11 +55,11 @@ abbrev pub IsSlotOf : ℕ → Option (List Seg) → Type 0
 IsSlotOf buf None = Unit {0}
 IsSlotOf buf (Some segs) = IsPacketOf buf segs
 
--- so it is in each slot of a table
+-- what stands in each slot of a table is a packet
 abbrev pub AreSlotsOf : ℕ → List (Option (List Seg)) → Type 0
 AreSlotsOf buf table = (slot : ℕ) → IsSlotOf buf (get_or table slot None)
 
--- one of the slots has another packet, or none
+-- a table of which one slot has another packet, or none, has packets alone
 set-packets : (buf : ℕ) (table : List (Option (List Seg))) (slot : ℕ) (new : Option (List Seg)) → IsSlotOf buf new →
     AreSlotsOf buf table → AreSlotsOf buf (set table slot new)
 set-packets buf table slot new is all k = elim (apart_or_same slot k) [
@@ -82,7 +82,7 @@ ArePackets buf m s = AreSlotsOf buf m.table × AreSlotsOf buf s.desks
 abbrev Stay : Member → Shared → Reply × Member × Shared → Type 0
 Stay m s done = ArePackets m.limits.buf m s → ArePackets m.limits.buf done.1 done.2
 
--- the desks stay
+-- where the desks are as before, what lies on them are packets as before
 same_desks : (buf : ℕ) (before after : List (Option (List Seg))) → after ≡ before →
     AreSlotsOf buf before → AreSlotsOf buf after
 same_desks buf before after same all = rw same all
@@ -157,7 +157,7 @@ free_in-stay (Some segs) elsewhere slot m s all = (
 abbrev KeepsSegs : (Seg → Option Seg) → Type 0
 KeepsSegs change = (buf : ℕ) (seg new : Seg) → IsSegOf buf seg → change seg ≡ Some new → IsSegOf buf new
 
--- what is made where there is room
+-- what is made only where there is room has its data within its buffer
 made_where : (room : Bool) (buf : ℕ) (made new : Seg) → (room ≡ true → IsSegOf buf made) →
     cond room (Some made) None ≡ Some new →
     IsSegOf buf new
@@ -421,7 +421,7 @@ take_off-stay desk m s all = elim (cases_Bool (nat_le (length s.desks) desk)) [
   | inr here ↦ rw here (take_into-stay (free_slot m.table) desk m s all)
 ]
 
--- each act
+-- each act of a worker leaves packets in its slots and on the desks
 pub act_stays : (act : Act) (others held : ℕ → ℕ) (elsewhere : ℕ → ℕ → ℕ) (m : Member) (s : Shared) →
     Leaves act others m s (member_act act held elsewhere m s) → Stay m s (member_act act held elsewhere m s)
 act_stays Alloc others held elsewhere m s left all = alloc_in-stay (free_slot m.table) m s all

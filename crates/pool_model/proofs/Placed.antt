@@ -29,7 +29,7 @@ placed_later worker slot place table placed h =
     let next : placed.slot - slot ≡ suc (placed.slot - (slot + 1)) = omega (arith, h.1) in
     (h.0, omega (arith, h.1), rw next h.2)
 
--- the packets of a table
+-- each packet that is listed of a table stands in one of its places
 pub packets_from-placed : (worker slot : ℕ) (table : List (Option (List Seg))) →
     All (IsPlacedIn worker slot table) (packets_from worker slot table)
 packets_from-placed worker slot [] = All-nil (IsPlacedIn worker slot [])
@@ -64,7 +64,7 @@ abbrev pub IsInTable : List Member → PlacedPacket → Type 0
 IsInTable members placed =
     (m : Member) × Contains members m × IsPlacedIn m.number 0 m.table placed
 
--- so are the packets of all of them
+-- each packet that is listed of some workers is in a place of one of their tables
 pub packets-in_tables : (members : List Member) → All (IsInTable members) (flat_map packets_of members)
 packets-in_tables [] = All-nil (IsInTable [])
 packets-in_tables (m ∷ members) =
@@ -80,7 +80,7 @@ packets-in_tables (m ∷ members) =
 abbrev pub IsOfWorkers : ℕ → ℕ → PlacedPacket → Type 0
 IsOfWorkers low high placed = (low ≤ placed.worker) × (placed.worker < high)
 
--- the packets of workers with numbers in a row
+-- the packets that are listed of workers with numbers in a row are of these workers
 pub packets-workers : (number : ℕ) (members : List Member) → AreInOrder number members →
     All (IsOfWorkers number (number + length members)) (flat_map packets_of members)
 packets-workers number [] a = All-nil (IsOfWorkers number (number + 0))
@@ -121,7 +121,7 @@ packets-slots members full =
     omega (arith, all, within))
     (flat_map packets_of members) (packets-in_tables members)
 
--- the packets on desks
+-- a packet on one of these desks
 abbrev pub OnDesks : ℕ → ℕ → DeskPacket → Type 0
 OnDesks low high packet = (low ≤ packet.desk) × (packet.desk < high)
 
@@ -156,7 +156,7 @@ desks_from-order desk (Some segs ∷ desks) =
     (desks_from-desks (desk + 1) desks))
     (desks_from-order (desk + 1) desks)
 
--- the statement
+-- the statement of a numbered pool places each packet once
 pub places_each_once : (l : Limits) (pool : Pool) → IsNumbered l pool → PlacesEachOnce l (statement_of pool)
 places_each_once l pool b = record {
   population = ap (λ (x : Limits). x.population) b.limits;
@@ -175,7 +175,7 @@ places_each_once l pool b = record {
       (desks_from-desks 0 pool.shared.desks);
 }
 
--- after any acts
+-- after any acts of its workers a new pool's statement places each packet once
 pub acts_place_each_once : (l : Limits) (acts : List (ℕ × Act)) →
     PlacesEachOnce l (statement_of (after_acts acts (new_pool l)))
 acts_place_each_once l acts = places_each_once l (after_acts acts (new_pool l)) (acts-numbered l acts)

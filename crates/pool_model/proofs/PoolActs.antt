@@ -21,7 +21,7 @@ use Rattle.pool_model.proofs.Balance.{IsBalanced, after_acts-balanced, near_once
 use Rattle.pool_model.proofs.Leaves.{DesksAfter, Leaves, Same, Onto, Off}
 use Rattle.pool_model.proofs.Refusals.{clone_at-packets, same_if_refused}
 
--- a worker of another number
+-- an act by one worker leaves each member of another number
 pub other_member : (pool : Pool) (worker n : ℕ) (act : Act) → worker ≢ n + 1 →
     member_at (perform pool worker act).1 n ≡ member_at pool n
 other_member pool worker n act other =
@@ -30,7 +30,7 @@ other_member pool worker n act other =
     get_or-set_other pool.members k n done.1 (nobody pool.limits)
     (λ same. other (number ∙ ap (λ (x : ℕ). x + 1) (sym same))))
 
--- there are as many, and the limits stay
+-- an act leaves as many members
 pub as_many : (pool : Pool) (worker : ℕ) (act : Act) → length (perform pool worker act).1.members ≡ length pool.members
 as_many pool worker act =
     of_act (λ r. length r.1.members ≡ length pool.members) pool worker act refl
@@ -49,7 +49,7 @@ as_many_changes pool worker act =
     of_act (λ r. pool.shared.changes ≤ r.1.shared.changes) pool worker act (omega arith)
     (λ k done number within is left. left.changes)
 
--- a desk that the act doesn't name
+-- an act leaves each desk that it doesn't name
 desk_beside : (act : Act) (before after : List (Option (List Seg))) (desk : ℕ) →
     DesksAfter act before after → ((slot : ℕ) → act ≢ Offer slot desk) → act ≢ Take desk →
     get_or after desk None ≡ get_or before desk None
@@ -77,7 +77,7 @@ with_member-same pool n m s e f =
     (λ (members : List Member). let after : Pool = record pool { members = members } in after)
     (set-get_or pool.members n (nobody pool.limits)))
 
--- any act but a clone that is refused
+-- an act other than a clone that is refused leaves the pool as it was
 pub refused_same : (pool : Pool) (worker : ℕ) (act : Act) (cause : Refusal) →
     ((source : ℕ) → act ≢ ClonePacket source) → (perform pool worker act).0 ≡ Refused cause →
     (perform pool worker act).1 ≡ pool
@@ -135,7 +135,7 @@ left_by_clone pool n source cause done b within is left told =
       left.changes,
     )
 
--- a clone that is refused in a balanced pool
+-- a clone that is refused in a balanced pool gives up what it made
 pub clone_given_up : (pool : Pool) (worker source : ℕ) (cause : Refusal) → IsBalanced pool →
     (perform pool worker (ClonePacket source)).0 ≡ Refused cause →
     IsGivenUp worker pool (perform pool worker (ClonePacket source)).1
@@ -154,7 +154,7 @@ clone_given_up pool worker source cause b told =
       changes = kept.3;
     }
 
--- in a pool that acts made of a new one
+-- a clone that is refused in a pool that acts made of a new one gives up what it made
 pub acts_clone_given_up : (l : Limits) (acts : List (ℕ × Act)) (worker source : ℕ) (cause : Refusal)
     → let pool =
     after_acts acts (new_pool l) in

@@ -66,7 +66,7 @@ free_in-same : (content : Option (List Seg)) (elsewhere : ℕ → ℕ) (slot : �
 free_in-same None elsewhere slot m s = same m s _
 free_in-same (Some segs) elsewhere slot m s = λ cause e. absurd cc
 
--- a change of lengths that is refused
+-- a change of lengths that is refused changes nothing
 resize_to-same : (o : Option (List Seg)) (why : Refusal) (slot : ℕ) (m : Member) (s : Shared) →
     SameIfRefused m s (told_beside s (resize_to o why slot m))
 resize_to-same None why slot m s = same m s _
@@ -159,7 +159,7 @@ take_off-same desk m s = elim (cases_Bool (nat_le (length s.desks) desk)) [
   | inr here ↦ rw here (take_into-same (free_slot m.table) desk m s)
 ]
 
--- each act but a clone
+-- each act but a clone changes nothing where it is refused
 pub same_if_refused : (act : Act) (held : ℕ → ℕ) (elsewhere : ℕ → ℕ → ℕ) (m : Member) (s : Shared) →
     ((source : ℕ) → act ≢ ClonePacket source) →
     SameIfRefused m s (member_act act held elsewhere m s)

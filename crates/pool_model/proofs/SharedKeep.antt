@@ -31,7 +31,7 @@ use Rattle.pool_model.proofs.LinkSteps.{OfBases, attach_links, clone_bases, clon
 use Rattle.pool_model.proofs.Leaves.{Keeps, StaysWithin, near, nothing_keeps, one_at_least, one_more, set_keeps}
 use Rattle.pool_model.specs.PacketModel.{beside}
 
--- one hold more of what is held already
+-- further holds of what is held already leave it held once as an element
 raise_min : (n add : ℕ) → (0 < add → 0 < n) → min 1 (n + add) ≡ min 1 n
 raise_min n add h = elim (cases_lt 0 add) [
   | inl some ↦ omega (arith, h some)
@@ -156,7 +156,7 @@ record Follows (from s : Shared) : Type 0 where
   desks : s.desks ≡ from.desks
   changes : from.changes ≤ s.changes
 
--- one state after another
+-- a state that follows one that follows a first one follows the first
 follows_on : (from s t : Shared) → t.desks ≡ s.desks → s.changes ≤ t.changes → Follows from s → Follows from t
 follows_on from s t same more f = record { desks = same ∙ f.desks; changes = omega (arith, more, f.changes) }
 
@@ -195,7 +195,7 @@ element-near limit held places had from cache s (Err cause, left, t) met refused
     b cause left t (λ i. omega (arith, got.moved i))
     (follows_on from s t got.desks got.changes same)
 
--- the own elements of one clone more
+-- with one segment more a packet has that segment's element more
 own-more : (segs : List Seg) (seg : Seg) → own_of_packet (segs ++ seg ∷ []) ≡ own_of_packet segs ++ seg.elem ∷ []
 own-more segs seg = map-append (λ (s : Seg). s.elem) segs (seg ∷ [])
 

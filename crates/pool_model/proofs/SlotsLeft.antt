@@ -164,7 +164,7 @@ take_off-writes desk m s = elim (cases_Bool (nat_le (length s.desks) desk)) [
   | inr here ↦ rw here (take_into-writes (free_slot m.table) desk m s refl)
 ]
 
--- each act
+-- each act writes no slot of its worker but those that it names or that were free
 act_writes : (act : Act) (held : ℕ → ℕ) (elsewhere : ℕ → ℕ → ℕ) (m : Member) (s : Shared) →
     Wrote (named_slots act) m (member_act act held elsewhere m s)
 act_writes Alloc held elsewhere m s = alloc_in-writes (free_slot m.table) m s refl

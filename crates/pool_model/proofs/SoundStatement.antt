@@ -27,7 +27,7 @@ listed_stands pool seg (ListedOnADesk packet there within) =
     (λ desk packet lies. OnADesk desk packet lies) in
     subst (λ (x : DeskPacket). Contains x.segs seg → IsOfAPacket pool seg) there.2 (all there.0 packet there.1) within
 
--- the statement of a sound pool
+-- the statement of a sound pool lists sound packets
 lists_sound_packets : (pool : Pool) → IsSound pool → ListsSoundPackets pool.limits (statement_of pool)
 lists_sound_packets pool sound = record {
   in_slots = listed_in_slots (IsPacketOf pool.limits.buf) pool sound.in_slots;
@@ -36,7 +36,7 @@ lists_sound_packets pool sound = record {
   direct = λ seg other one two e. sound.direct seg other (listed_stands pool seg one) (listed_stands pool other two) e;
 }
 
--- after any acts
+-- after any acts of its workers a new pool's statement lists sound packets
 pub acts_list_sound_packets : (l : Limits) (acts : List (ℕ × Act)) → IsPool l →
     ListsSoundPackets l (statement_of (after_acts acts (new_pool l)))
 acts_list_sound_packets l acts p =

@@ -26,6 +26,7 @@ abbrev replies : List TwinAct → TwinPool → List Reply
 replies [] twin = []
 replies (act ∷ acts) twin = let done = perform_twin twin 1 act in done.0 ∷ replies acts done.1
 
+-- both pools after one worker's acts
 abbrev end : List TwinAct → TwinPool → TwinPool
 end [] twin = twin
 end (act ∷ acts) twin = end acts (perform_twin twin 1 act).1
@@ -55,7 +56,7 @@ row_first = (refl, refl, refl, refl)
 clone : Seg
 clone = record { elem = 0; base = Some 0; data_off = 128; data_len = 100; buf_len = 2048 }
 
--- the second lists the clone
+-- the second pool's statement lists the clone
 row_second : let s = second_statement (end row (new_twin_pool one two)) in
     (s.available ≡ 1) × (s.common ≡ 1 ∷ []) × (s.packets ≡ record { worker = 1; slot = 0; segs = clone ∷ [] } ∷ [])
     × (s.held ≡ record { elem = 0; count = 1; holders = Worker 1 ∷ [] } ∷ [])
@@ -81,7 +82,7 @@ small = record { population = 1; cache = 0; workers = 1; desks = 0; buf = 0; ref
 abbrev refused_row : List TwinAct
 refused_row = OnFirst Alloc ∷ OnFirst Alloc ∷ OnFirst (Chain 0 1) ∷ CloneInto 0 ∷ OnFirst (CountOf 0) ∷ []
 
--- it is refused, and the one element is back
+-- the clone of two segments is refused, and the second pool's one element is back
 refused_ends : (replies refused_row (new_twin_pool one small)
     ≡ reply.Allocated 0 0 ∷ reply.Allocated 1 1 ∷ reply.Chained 2 0 ∷ reply.Refused NoEntries ∷ reply.Count 1 ∷ [])
     × ((end refused_row (new_twin_pool one small)).second.shared.common ≡ 0 ∷ [])

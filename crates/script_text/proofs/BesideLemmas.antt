@@ -59,21 +59,21 @@ module _ {C : Type 0} (language : Language C) (unknown : language.knows_second �
   alone_after before after number line (commands read) h =
       subst (λ (s : State C). AreAlone s) (sym read.after_is) h
 
-  -- nor do lines one after another
+  -- lines one after another tell of no second pool
   alone_at_end : (lines : List (List ℕ)) (before after : State C) (number : ℕ) →
       AreRead language before number lines after → AreAlone before → AreAlone after
   alone_at_end [] before after number read h = subst (λ (s : State C). AreAlone s) (sym read) h
   alone_at_end (line ∷ lines) before after number read h =
       alone_at_end lines read.0 after (number + 1) read.3 (alone_after before read.0 number line read.1.takes h)
 
-  -- so a script has no second pool
+  -- where a language knows no second pool, a script has none
   pub script_alone : (bytes : List ℕ) (pools : Pools) (lines : List (Line C)) →
       IsScript language bytes pools lines → pools.second ≡ None
   script_alone bytes pools lines h =
       none_mapped pools.second (alone_at_end h.texts start
       (record { numbers = Some (numbers_of_pools pools); lines = lines }) 1 h.read tt)
 
-  -- and is one of one pool
+  -- such a script is one of its first pool alone
   pub script_of_one : (bytes : List ℕ) (pools : Pools) (lines : List (Line C)) →
       IsScript language bytes pools lines → IsScript language bytes (one_pool pools.first) lines
   script_of_one bytes pools lines h =

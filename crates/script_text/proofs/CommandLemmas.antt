@@ -34,7 +34,7 @@ only_name_is (word ∷ other ∷ words) name e = absurd cc
 verb_from : (word : List ℕ) (verb : Verb) → verb_at word ≡ Some verb → word ≡ verb_word verb
 verb_from word verb e = spelled_from verb_word all_verbs word verb e
 
--- the command of a verb and one name
+-- words that are read as a verb and one name are that command
 named_is : (verb : Verb) (make : List ℕ → Command) →
     ((all : List (List ℕ)) (name : List ℕ) → AreVerbAndName all (verb_word verb) name →
     IsCommand all (make name)) → (words : List (List ℕ)) (command : Command) →
@@ -52,7 +52,7 @@ name_is_at word name e =
     let h = cond_some (is_name_word word) word name e in
     (h.1, name_from name (sym (ap is_name_word h.1) ∙ h.0))
 
--- two words that are names
+-- two words that are read as names are those names
 names_found : (words : List (List ℕ)) (both found : List ℕ × List ℕ) (first second : List ℕ) →
     words ≡ both.0 ∷ both.1 ∷ [] → name_at both.0 ≡ Some first → name_at both.1 ≡ Some second →
     (first, second) ≡ found →
@@ -78,7 +78,7 @@ both_names_are words found e =
     let l = and_then_some (λ second. Some (n.0, second)) (name_at b.0.1) found n.2 in
     names_found words b.0 found n.0 l.0 (both_is words b.0 b.1) n.1 l.1 (found_is (n.0, l.0) found l.2)
 
--- the command of a verb and two names
+-- words that are read as a verb and two names are that command
 both_named_is : (verb : Verb) (make : List ℕ → List ℕ → Command) →
     ((all : List (List ℕ)) (first second : List ℕ) →
     AreVerbAndNames all (verb_word verb) first second → IsCommand all (make first second)) →
@@ -114,7 +114,7 @@ numbered_name_from words order word other found words_are e =
       short = number.1;
     })
 
--- the two orders
+-- the name first, and then the number
 abbrev name_first : List ℕ → List ℕ → List (List ℕ)
 name_first name number = name ∷ number ∷ []
 
@@ -135,7 +135,7 @@ number_and_name_from words found e =
     let b = and_then_some (λ both. numbered_name both.1 both.0) (both_of words) found e in
     numbered_name_from words number_first b.0.1 b.0.0 found (both_is words b.0 b.1) b.2
 
--- the command of a verb, a name and a number
+-- words that are read as a verb, a name and a number are that command
 numbered_is : (verb : Verb) (order : List ℕ → List ℕ → List (List ℕ)) (make : List ℕ → ℕ → Command)
     → ((all : List (List ℕ)) (name : List ℕ) (n : ℕ) →
     AreWithNumber all (λ number. verb_word verb ∷ order name number) name n →
@@ -156,7 +156,7 @@ numbered_is verb order make by words o from command e =
       short = h.short;
     }))
 
--- 1 to 256 names
+-- words that pass the test of names are 1 to 256 names
 names_from : (words : List (List ℕ)) → are_names words ≡ true → AreNames words
 names_from words e =
     let a = and_parts (leb 1 (length words) && leb (length words) 256) (list_all is_name_word words) e in

@@ -11,7 +11,7 @@ use Rattle.script_text.specs.inside.Reading.{parts, words_of}
 use Rattle.script_text.proofs.LineLemmas.{parts_of, parts-line, parts-rest}
 use Rattle.script_text.proofs.WordLemmas.{words-none, words-begin}
 
--- each element of a front
+-- what holds of each element below a place holds of the front up to it
 front_all : (P : ℕ → Type 0) (xs : List ℕ) (n : ℕ) → n ≤ length xs →
     ((k : ℕ) → k < n → P (get_or xs k 0)) → AllByRecursion P (take n xs)
 front_all P xs n le h =

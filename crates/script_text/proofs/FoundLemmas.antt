@@ -50,7 +50,7 @@ if_none false o y e = (refl, e)
 
 -- ---- the words behind a verb
 
--- the only word is that one
+-- words whose only word is found are that word
 pub only_is : (words : List (List ℕ)) (word : List ℕ) → only_of words ≡ Some word → words ≡ word ∷ []
 only_is [] word e = absurd cc
 only_is (first ∷ []) word e = ap (λ (w : List ℕ). w ∷ []) (found_is first word e)

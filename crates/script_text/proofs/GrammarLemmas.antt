@@ -9,11 +9,11 @@ use Rattle.script_text.specs.declared.pool_line.PoolNumbers.{PoolNumbers}
 use Rattle.script_text.specs.Text.{IsPrinted, IsPlain}
 use Rattle.script_text.specs.Scripts.{State, with_command, ReadsPool, ReadsCommand, Takes, skips, gives_pool, commands, Reads}
 use Rattle.script_text.specs.inside.Reading.{words_of, is_printed, is_plain, is_skipped, numbers_from}
-use Rattle.script_text.specs.inside.ScriptReading.{Lexicon, repeats, order_from, with_numbers, lacks_second, add_made, add_command, read_command, read_pool, read_words, read_line, is_made}
+use Rattle.script_text.specs.inside.ScriptReading.{Lexicon, repeats, worker_command_from, with_numbers, lacks_second, add_made, add_command, read_command, read_pool, read_words, read_line, is_made}
 use Rattle.script_text.proofs.WordLemmas.{spelled_once, words_are, skipped_is, skipped_from}
 use Rattle.script_text.proofs.NumberLemmas.{all_from, all_to, within_from, within_to}
 use Rattle.script_text.proofs.PoolLineLemmas.{pool_line_from, pool_line_is}
-use Rattle.script_text.proofs.OrderLemmas.{order_comes, order_is, counted_line}
+use Rattle.script_text.proofs.WorkerCommandLemmas.{worker_command_comes, worker_command_is, counted_line}
 use Rattle.script_text.proofs.JudgedLemmas.{read_skipped, read_as}
 use Rattle.script_text.proofs.MakingLemmas.{anew_is, anew_from}
 use Rattle.script_text.proofs.FoundLemmas.{and_then_some, found_is, if_some, if_none}
@@ -77,10 +77,10 @@ module _ {C : Type 0} (lexicon : Lexicon C) (right : IsRight lexicon) where
       let few =
       if_some (ltb (length state.lines) 10000)
       (option_and_then (add_command lexicon numbers state number)
-      (order_from lexicon numbers.first.workers (words_of line))) after e in
+      (worker_command_from lexicon numbers.first.workers (words_of line))) after e in
       let c =
       and_then_some (add_command lexicon numbers state number)
-      (order_from lexicon numbers.first.workers (words_of line)) after few.1 in
+      (worker_command_from lexicon numbers.first.workers (words_of line)) after few.1 in
       let second = if_none (lacks_second lexicon numbers c.0.1) (add_made lexicon state number c.0) after c.2 in
       let anew =
       if_none (repeats (is_made lexicon state.lines) c.0.0 (lexicon.language.names_made c.0.1))
@@ -93,7 +93,7 @@ module _ {C : Type 0} (lexicon : Lexicon C) (right : IsRight lexicon) where
         spelled = words_are line;
         worker = c.0.0;
         command = c.0.1;
-        is_command_line = order_comes lexicon right numbers.first.workers (words_of line) c.0 c.1;
+        is_command_line = worker_command_comes lexicon right numbers.first.workers (words_of line) c.0 c.1;
         has_second = second_from (lexicon.language.needs_second c.0.1) numbers.second second.0;
         anew = anew_from lexicon state.lines c.0.0 c.0.1 anew.0;
         after_is = sym (found_is (with_command state number c.0.0 c.0.1) after anew.1);
@@ -145,18 +145,18 @@ module _ {C : Type 0} (lexicon : Lexicon C) (right : IsRight lexicon) where
       ReadsCommand lexicon.language state number line after → read_line lexicon state number line ≡ Some after
   command_is_read state after number line plain h =
       let words : words_of line ≡ h.words = spelled_once h.words line h.spelled in
-      let order : order_from lexicon h.numbers.first.workers (words_of line) ≡ Some (h.worker, h.command) =
-      ap (order_from lexicon h.numbers.first.workers) words
-      ∙ order_is lexicon right h.numbers.first.workers h.words h.worker h.command h.is_command_line in
+      let found : worker_command_from lexicon h.numbers.first.workers (words_of line) ≡ Some (h.worker, h.command) =
+      ap (worker_command_from lexicon h.numbers.first.workers) words
+      ∙ worker_command_is lexicon right h.numbers.first.workers h.words h.worker h.command h.is_command_line in
       let counted : is_skipped (words_of line) ≡ false =
       ap is_skipped words
       ∙ counted_line lexicon right h.numbers.first.workers h.words h.worker h.command h.is_command_line in
       read_as lexicon state number line (Some h.numbers) (plain_is line plain) counted h.behind_pool
       ∙ cond-true (ltb (length state.lines) 10000)
       (option_and_then (add_command lexicon h.numbers state number)
-      (order_from lexicon h.numbers.first.workers (words_of line)))
+      (worker_command_from lexicon h.numbers.first.workers (words_of line)))
       None (lt-ltb (length state.lines) 10000 h.few)
-      ∙ ap (option_and_then (add_command lexicon h.numbers state number)) order
+      ∙ ap (option_and_then (add_command lexicon h.numbers state number)) found
       ∙ cond-false (lacks_second lexicon h.numbers h.command) None (add_made lexicon state number (h.worker, h.command))
       (second_is (lexicon.language.needs_second h.command) h.numbers.second h.has_second)
       ∙ cond-false (repeats (is_made lexicon state.lines) h.worker (lexicon.language.names_made h.command)) None

@@ -16,7 +16,7 @@ module _ {C : Type 0} where
   pub of_pool : (workers : ℕ) (lines : List (Line C)) → AllByRecursion (λ line. IsAmong workers line.worker) lines → AreOfPool workers lines
   of_pool workers lines h = All-from_recursion (λ line. (1 ≤ line.worker) × (line.worker ≤ workers)) lines h
 
-  -- one more line of a worker of the pool
+  -- with one more line of a worker of the pool all lines are of workers of the pool
   pub workers-push : (workers : ℕ) (lines : List (Line C)) (line : Line C) → IsAmong workers line.worker →
       AllByRecursion (λ l. IsAmong workers l.worker) lines →
       AllByRecursion (λ l. IsAmong workers l.worker) (lines ++ line ∷ [])

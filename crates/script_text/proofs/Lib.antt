@@ -11,7 +11,7 @@ pub mod MadeLemmas
 pub mod MakingLemmas
 pub mod NameRuns
 pub mod NumberLemmas
-pub mod OrderLemmas
+pub mod WorkerCommandLemmas
 pub mod PoolLemmas
 pub mod PoolLineLemmas
 pub mod PutInLemmas

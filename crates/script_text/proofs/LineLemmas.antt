@@ -78,7 +78,7 @@ AreLines-grow byte bytes (line ∷ lines) rest ne h = record {
   last = h.last;
 }
 
--- and it has that one
+-- the lines and the rest that are read of a text are a reading of it
 pub parts_are : (text : List ℕ) → AreLines text (parts text).lines (parts text).rest
 unfolding parts
 parts_are [] = record { whole = refl; each = tt; last = tt }

@@ -95,7 +95,7 @@ some_from (name ∷ names) made Made worker is e =
 abbrev pub AreAlike : (ℕ → List ℕ → Bool) → (ℕ → List ℕ → Bool) → Type 0
 AreAlike one other = (worker : ℕ) (name : List ℕ) → IsName name → one worker name ≡ other worker name
 
--- so they say the same of whether names repeat
+-- names repeat by one test where they repeat by another that says the same of each name
 pub repeats-alike : (names : List (List ℕ)) (one other : ℕ → List ℕ → Bool) (worker : ℕ) →
     AllByRecursion IsName names → AreAlike one other → repeats one worker names ≡ repeats other worker names
 repeats-alike [] one other worker h alike = refl

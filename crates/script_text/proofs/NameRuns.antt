@@ -24,12 +24,12 @@ one_more true false true d = refl
 one_more true false false d = refl
 one_more false b c d = refl
 
--- of no names, none
+-- no names more make no name more
 no_more : (a d : Bool) → d ≡ ((a && false) || d)
 no_more true d = refl
 no_more false d = refl
 
--- what they make
+-- what was made with the names is what they are, and what was made before
 pub with_names-made : (names : List (List ℕ)) (made : ℕ → List ℕ → Bool) (worker w : ℕ)
     (other : List ℕ) → with_names made worker names w other
     ≡ ((w == worker && is_one_of names other) || made w other)

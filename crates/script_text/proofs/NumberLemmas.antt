@@ -27,7 +27,7 @@ pub all_to : {X : Type 0} (p : X → Bool) (P : X → Type 0) → ((x : X) → P
 all_to p P each [] h = refl
 all_to p P each (x ∷ xs) h = and_from (p x) (list_all p xs) (each x h.0) (all_to p P each xs h.1)
 
--- a byte within bounds
+-- a byte that passes the test of bounds is within them
 pub within_from : (low high byte : ℕ) → (leb low byte && leb byte high) ≡ true → (low ≤ byte) × (byte ≤ high)
 within_from low high byte e =
     let both = and_parts (leb low byte) (leb byte high) e in
@@ -80,7 +80,7 @@ number_is word value h =
     (lt-ltb (digits_value word) (2 ^ 64) below) in
     cond-true (is_number word) (Some (digits_value word)) None a ∙ ap (λ (n : ℕ). Some n) (sym h.value_is)
 
--- one digit more
+-- with one digit more the value is ten times that of the others, and the digit's
 digits_value-push : (digits : List ℕ) (digit : ℕ) →
     digits_value (digits ++ digit ∷ []) ≡ digits_value digits * 10 + (digit - 48)
 digits_value-push [] digit = omega arith

@@ -34,7 +34,7 @@ rule_short : (rule : PutRule) → rule_number rule ≤ 1
 rule_short Keep = omega arith
 rule_short Whole = omega arith
 
--- and each of the two is that of a rule
+-- 0 and 1 are each the number of a put rule
 rule_with : (number : ℕ) → number ≤ 1 → (rule : PutRule) × (number ≡ rule_number rule)
 rule_with zero h = (Keep, refl)
 rule_with (suc zero) h = (Whole, refl)
@@ -175,7 +175,7 @@ limits_pass l h = pool_is (numbers_of l) (record { limits = l; numbers_are = ref
 
 -- ---- pools
 
--- the limits of a second pool with the same numbers are the same, if there are any
+-- two pools' limits, if there are any, are the same where their numbers are
 second_once : (o p : Option Limits) → option_map numbers_of o ≡ option_map numbers_of p → o ≡ p
 second_once None None e = refl
 second_once None (Some m) e = absurd cc

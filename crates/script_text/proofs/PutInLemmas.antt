@@ -46,7 +46,7 @@ one_word so_far word words ne = cond-false (length so_far == 32) None
     (option_and_then (λ segment. segments_from (so_far ++ segment ∷ []) words) (segment_at word))
     (ne_eqb (length so_far) 32 ne)
 
--- and so where that segment has a name
+-- where it is known which segment a word is, the others are read with that one
 pub one_more : (so_far : List StepSegment) (word : List ℕ) (words : List (List ℕ))
     (found : Option StepSegment) → length so_far ≢ 32 → found ≡ segment_at word →
     segments_from so_far (word ∷ words) ≡ option_and_then
@@ -60,7 +60,7 @@ one_more so_far word words found ne e = one_word so_far word words ne
 abbrev other_byte : ℕ → Bool
 other_byte byte = not (byte == 62)
 
--- lengths of short lists
+-- a list of one byte has the length 1
 one_byte : length {A = ℕ} (62 ∷ []) ≡ 1
 one_byte = refl
 
@@ -94,7 +94,7 @@ mark-none word h =
     cond-false (ltb (prefix_len other_byte word) (length word)) (Some (prefix_len other_byte word)) None
     (le-ltb (prefix_len other_byte word) (length word) (omega (arith, whole)))
 
--- and one behind digits is the first
+-- the first `>` of a word is the one that its leading digits end at
 mark-here : (own other : List ℕ) → AllByRecursion IsDigit own →
     position (λ byte. byte == 62) (own ++ (codes ">" ++ other)) ≡ Some (length own)
 mark-here own other h =

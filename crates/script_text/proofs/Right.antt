@@ -11,14 +11,14 @@ pub record BeginsPlainly (words : List (List ℕ)) : Type 0 where
   pub no_colon : before_colon word ≡ None
   pub unmarked : is_marked word ≡ false
 
--- words that begin with a verb do: it has no colon at its end and isn't marked by `#`
+-- words that begin with a verb begin plainly: it has no colon at its end and isn't marked by `#`
 pub begins : (words : List (List ℕ)) (word : List ℕ) (rest : List (List ℕ)) → words ≡ word ∷ rest →
     before_colon word ≡ None → is_marked word ≡ false → BeginsPlainly words
 begins words word rest e no_colon unmarked = record
     { word = word; rest = rest; words_are = e; no_colon = no_colon; unmarked = unmarked }
 
--- exactly the words of a command are read as it, and its first word is neither a worker's number
--- nor marked
+-- Of the words of a command: exactly they are read as it, and their first is neither a worker's
+-- number nor marked.
 pub record IsRight {C : Type 0} (lexicon : Lexicon C) : Type 0 where
   pub comes : (words : List (List ℕ)) (command : C) → lexicon.command_from words ≡ Some command → lexicon.language.IsCommand words command
   pub is : (words : List (List ℕ)) (command : C) → lexicon.language.IsCommand words command → lexicon.command_from words ≡ Some command

@@ -481,7 +481,7 @@ module _ {C : Type 0} (lexicon : Lexicon C) (right : IsRight lexicon) where
   is_caused (Ok script) bytes h = tt
   is_caused (Err refusal) bytes h = cause_of refusal bytes h
 
-  -- the one script that is read
+  -- what is read of a text that is a script is that script
   pub only_one : (result : Result (Script C) Refusal) (bytes : List ℕ) (pools : Pools)
       (lines : List (Line C)) → IsScript lexicon.language bytes pools lines → Gives result (read_text lexicon bytes) →
       MatchResult result (λ script. (script.pools ≡ pools) × (script.lines ≡ lines))

@@ -15,7 +15,7 @@ pub no_number : (settings : Settings) (key : List ℕ) → settings_from setting
 unfolding settings_from
 no_number settings key = refl
 
--- what follows a pair
+-- words that begin with a pair are read on with the settings that the pair gives
 pub one_pair : (settings : Settings) (key number : List ℕ) (words : List (List ℕ)) →
     settings_from settings (key ∷ number ∷ words)
     ≡ option_and_then (λ more. settings_from more words) (add_pair settings key number)

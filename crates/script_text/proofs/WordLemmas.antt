@@ -130,7 +130,7 @@ Spells-in byte (next ∷ bytes) words ne h =
     (λ e. Spells-new words byte (next ∷ bytes) ne (eqb-true next 32 e) h)
     (λ e. Spells-grow words byte next bytes ne (eqb-false next 32 e) h)
 
--- and it has that one
+-- the words that are read of a line are a reading of it
 pub words_are : (line : List ℕ) → Spells line (words_of line)
 unfolding words_of
 words_are [] = tt

@@ -7,10 +7,10 @@ ghost use Rattle.script_text.specs.inside.Reading.{words_of, both_of};
 ghost use Rattle.script_text.specs.inside.CommandReading.{both_names, command_with as command_by, name_and_number as name_and_number_of, name_at, names_with, number_and_name as number_and_name_of, numbered_name as numbered_name_of, only_name_of, verb_at};
 
 use crate::commands::{Command, Name};
+use crate::from_words::FromWords;
 use crate::line::{both_words, next_word};
 use crate::name::is_name;
 use crate::number::short_number_of;
-use crate::spelled::Spelled;
 use commons::change::Change;
 use commons::seq::Seq;
 use std::alloc::{AllocError, Global};
@@ -261,12 +261,12 @@ fn command_with(alloc: Global, verb: Verb, rest: &[u8]) -> Result<Option<Command
     }
 }
 
-impl Spelled for Command {
+impl FromWords for Command {
     ghost use Rattle.script_text.specs.inside.CommandReading.{command_lexicon};
 
     ghost lexicon = { command_lexicon };
 
-    fn spelled(alloc: Global, words: &[u8]) -> Result<Option<Command>, AllocError> {
+    fn from_words(alloc: Global, words: &[u8]) -> Result<Option<Command>, AllocError> {
         let Some((word, rest)) = next_word(words) else {
             return Ok(None);
         };

@@ -7,19 +7,19 @@
 
 mod command_line;
 pub mod commands;
+mod from_words;
 pub mod laws;
 mod line;
 pub mod lines;
 mod made_names;
 mod name;
 mod number;
-mod order;
 mod pool_line;
 mod put_in;
 mod reader;
 pub mod reading;
-mod spelled;
 mod step_line;
 pub mod steps;
+mod worker_command;
 
 pub use reading::{MAX_BYTES, parse, parse_steps};

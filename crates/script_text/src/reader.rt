@@ -8,12 +8,12 @@ ghost use Rattle.script_text.specs.inside.Reading.{words_of, numbers_from, are_p
 ghost use Rattle.script_text.specs.inside.ScriptReading.{lacks_second, read_command as read_command_line, judged};
 ghost use Rattle.script_text.specs.declared.reader.Stop.TheVariants.{OutOfMemory};
 
+use crate::from_words::FromWords;
 use crate::line::{is_plain, is_skipped};
 use crate::lines::{Line, Pools, Script};
 use crate::made_names::MadeNames;
-use crate::order::order_of;
 use crate::pool_line::line_numbers_of;
-use crate::spelled::Spelled;
+use crate::worker_command::worker_command;
 use commons::seq::Seq;
 use std::alloc::{AllocError, AllocFailed, Global};
 
@@ -87,13 +87,13 @@ fn made_pools(knows_second: bool, line: &[u8]) -> Result<Pools, Stop>
 }
 
 /// Whether a command is of a second pool that isn't there.
-fn lacks_second<C: Spelled>(pools: &Pools, command: &C) -> bool
+fn lacks_second<C: FromWords>(pools: &Pools, command: &C) -> bool
     ensures { result ≡ lacks_second C.lexicon (numbers_of_pools pools.now) command.now }
 {
     command.needs_second() && pools.second.is_none()
 }
 
-impl<C: Spelled> Reader<C> {
+impl<C: FromWords> Reader<C> {
     ghost use Rattle.script_text.specs.inside.Agreement.{state_of, IsKept, StopsCommand, StopsLine};
 
     /// Before the first line.
@@ -153,7 +153,7 @@ impl<C: Spelled> Reader<C> {
         if self.lines.len() >= MAX_COMMANDS {
             return Err(Stop::Fault);
         }
-        let Some((worker, command)) = order_of::<C>(alloc, pools.first.workers, line)? else {
+        let Some((worker, command)) = worker_command::<C>(alloc, pools.first.workers, line)? else {
             return Err(Stop::Fault);
         };
         if lacks_second(pools, &command) {

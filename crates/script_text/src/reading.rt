@@ -48,10 +48,10 @@ ghost use Rattle.script_text.specs.inside.ScriptReading.{read_text};
 ghost use Rattle.script_text.specs.inside.Agreement.{Gives, refusal_at};
 
 use crate::commands::{Command, Script};
+use crate::from_words::FromWords;
 use crate::line::next_line;
 use crate::lines;
 use crate::reader::{Reader, Stop};
-use crate::spelled::Spelled;
 use crate::steps::{Step, StepScript};
 use commons::refusal::Refusal;
 use std::alloc::Global;
@@ -71,7 +71,7 @@ fn refused_at(stop: Stop, number: u32) -> Refusal
 }
 
 /// Reads the lines of a script one after another.
-fn script_of<C: Spelled>(alloc: Global, bytes: &[u8]) -> Result<lines::Script<C>, Refusal>
+fn script_of<C: FromWords>(alloc: Global, bytes: &[u8]) -> Result<lines::Script<C>, Refusal>
     ensures { Gives result (read_text C.lexicon bytes.now) }
 {
     if bytes.len() > MAX_BYTES {

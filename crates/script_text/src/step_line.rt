@@ -6,10 +6,10 @@ ghost use Rattle.script_text.specs.inside.Reading.{number_at, short_number_at, w
 ghost use Rattle.script_text.specs.inside.StepReading.{one_at, element_at, step_verb_at, step_with as step_by, two_at};
 
 use crate::commands::Name;
+use crate::from_words::FromWords;
 use crate::line::{both_words, next_word, only_word};
 use crate::number::{number_of, short_number_of};
 use crate::put_in::put_in_of;
-use crate::spelled::Spelled;
 use crate::steps::{ElementOrEnd, Step};
 use std::alloc::{AllocError, Global};
 
@@ -253,12 +253,12 @@ fn is_put_in(word: &[u8]) -> bool
     word == b"putin".as_slice()
 }
 
-impl Spelled for Step {
+impl FromWords for Step {
     ghost use Rattle.script_text.specs.inside.StepReading.{step_lexicon};
 
     ghost lexicon = { step_lexicon };
 
-    fn spelled(alloc: Global, words: &[u8]) -> Result<Option<Step>, AllocError> {
+    fn from_words(alloc: Global, words: &[u8]) -> Result<Option<Step>, AllocError> {
         let Some((word, rest)) = next_word(words) else {
             return Ok(None);
         };

@@ -45,7 +45,7 @@ HasLeastDouble d elem first second =
     (common : List ℕ) × (get (codes "common") d ≡ Some (counts_data common)) × IsLeastDouble common elem first second
 
 -- what a fault says beside that there is no snapshot
-abbrev pub Tells : List ℕ → SnapshotFault → Type 0
-Tells bytes (NotJson byte) = IsNoJson bytes
-Tells bytes (Doubled elem first second) = IsSomeAnd (read bytes) (λ d. HasLeastDouble d elem first second)
-Tells bytes _ = ⊤
+abbrev pub IsFaultOf : List ℕ → SnapshotFault → Type 0
+IsFaultOf bytes (NotJson byte) = IsNoJson bytes
+IsFaultOf bytes (Doubled elem first second) = IsSomeAnd (read bytes) (λ d. HasLeastDouble d elem first second)
+IsFaultOf bytes _ = ⊤

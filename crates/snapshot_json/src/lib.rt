@@ -13,7 +13,7 @@ ghost use Rattle.std.specs.Prelude.{◌≡◌, ◌≢◌, ◌++◌, codes, IfErr
 ghost use Rattle.json.specs.Json.{document};
 ghost use Rattle.json.specs.Strict.{HasUniqueKeys};
 ghost use Rattle.serde_json.specs.Read.{read};
-ghost use Rattle.snapshot_json.specs.Reading.{IsNoSnapshotText, IsSnapshotText, Tells};
+ghost use Rattle.snapshot_json.specs.Reading.{IsFaultOf, IsNoSnapshotText, IsSnapshotText};
 ghost use Rattle.snapshot_json.specs.Readings.{IsBroken, IsFlaw, IsKeyFault};
 ghost use Rattle.snapshot_json.specs.SnapshotData.{IsSnapshotData, json_of, snapshot_data};
 
@@ -30,7 +30,7 @@ use std::alloc::{AllocError, Global};
 pub fn read_snapshot(alloc: Global, bytes: &[u8]) -> Result<Snapshot, SnapshotFault>
     ensures ok { IfOk result (λ s. IsSnapshotText bytes.now s) }
     ensures none { IfErr result (λ f. f ≢ SnapshotFault.OutOfMemory → IsNoSnapshotText bytes.now) }
-    ensures tells { IfErr result (λ f. Tells bytes.now f) }
+    ensures tells { IfErr result (λ f. IsFaultOf bytes.now f) }
 {
     let text = match std::str::from_utf8(bytes) {
         Ok(text) => text,

@@ -12,7 +12,7 @@ use Rattle.step_core.specs.declared.view.View.{View}
 use Rattle.step_core.specs.declared.step.Step.{Step}
 use Rattle.step_core.specs.declared.step.Outcome.{Outcome}
 use Rattle.ground.specs.Seats.{Grounded, Seated, IsOf, Note, after, Steps, MayLie, KnowsLength, KnowsCount}
-use Rattle.step_core.specs.Sights.{view_after}
+use Rattle.step_core.specs.Views.{view_after}
 use Rattle.stack_lf.specs.Tries.{Try, notes, notes_of}
 use Rattle.stack_lf.specs.Effects.{HasLost, EndsAfter, Repeats, tried_to, seen_as}
 

@@ -10,13 +10,13 @@ use Rattle.commons.specs.declared.packet.Seg.{Seg}
 use Rattle.commons.specs.declared.refusal.Refusal.{Refusal}
 use Rattle.commons.specs.declared.refusal.Refusal.TheVariants.{NoSuchDesk, DeskTaken, DeskEmpty}
 use Rattle.step_core.specs.Bags.{minus, has}
-use Rattle.step_core.specs.Sights.{at_desk, phase_at, working}
+use Rattle.step_core.specs.Views.{at_desk, phase_at, working}
 use Rattle.step_core.specs.declared.view.Phase.{Phase}
 use Rattle.step_core.specs.declared.view.Phase.TheVariants.{ToFill, Filled}
 use Rattle.step_core.specs.declared.view.View.{View}
 use Rattle.ground.specs.DeskSeats.{MayOpen, Holds, Fills}
 use Rattle.ground.specs.Own.{Owned}
-use Rattle.ground.specs.Seats.{Seated, sight}
+use Rattle.ground.specs.Seats.{Seated, view_with_slot}
 use Rattle.stack_lf.specs.Effects.{Offers, Takes, offered_as, taken_as}
 use Rattle.stack_lf.specs.Sides.{side_of}
 use Rattle.stack_lf.specs.Tries.{OfferFailed, Offered, TakeFailed, Taken, DidOnWords}
@@ -29,29 +29,29 @@ phase_here : (d : ℕ) (ph : Phase) → phase_at d (at_desk d ph) ≡ Some ph
 phase_here d ph = cond-true (d == d) (Some ph) None (eq-eqb d d refl)
 
 -- a view with this work is so far
-phase_seen : (d : ℕ) (ph : Phase) (s : Seated) (v : View) → sight s ≡ working v (at_desk d ph) →
-    phase_at d (sight s).work ≡ Some ph
+phase_seen : (d : ℕ) (ph : Phase) (s : Seated) (v : View) → view_with_slot s ≡ working v (at_desk d ph) →
+    phase_at d (view_with_slot s).work ≡ Some ph
 phase_seen d ph s v e = ap (λ (w : View). phase_at d w.work) e ∙ phase_here d ph
 
-pub held_phase : (d : ℕ) (s t : Seated) → Holds d s t → phase_at d (sight t).work ≡ Some ToFill
-held_phase d s t h = phase_seen d ToFill t (sight s) h.1
+pub held_phase : (d : ℕ) (s t : Seated) → Holds d s t → phase_at d (view_with_slot t).work ≡ Some ToFill
+held_phase d s t h = phase_seen d ToFill t (view_with_slot s) h.1
 
 -- and so where the packet is in
 filled_phase : (d : ℕ) (p : List Seg) (t u : Seated) → Fills d p t u →
-    phase_at d (sight u).work ≡ Some (Filled p)
-filled_phase d p t u f = phase_seen d (Filled p) u (sight t) f.1
+    phase_at d (view_with_slot u).work ≡ Some (Filled p)
+filled_phase d p t u f = phase_seen d (Filled p) u (view_with_slot t) f.1
 
 -- ---- an offer
 
 -- what the seat holds, and its headers, are the same once the packet is in
 same_holds : (d : ℕ) (p : List Seg) (s t u : Seated) → Holds d s t → Fills d p t u →
-    (sight u).holds ≡ s.known.view.holds
+    (view_with_slot u).holds ≡ s.known.view.holds
 same_holds d p s t u h f =
     ap (λ (x : Seated). x.known.view.holds) f.0 ∙ ap (λ (x : Seated). x.known.view.holds) h.0
 
 -- and its headers
 same_headers : (d : ℕ) (p : List Seg) (s t u : Seated) → Holds d s t → Fills d p t u →
-    (sight u).headers ≡ s.known.view.headers
+    (view_with_slot u).headers ≡ s.known.view.headers
 same_headers d p s t u h f =
     ap (λ (x : Seated). x.known.view.headers) f.0 ∙ ap (λ (x : Seated). x.known.view.headers) h.0
 
@@ -59,7 +59,7 @@ same_headers d p s t u h f =
 pub may_open : (d : ℕ) (p : List Seg) (s t u : Seated) → Owned s.known.limits s.known.view →
     ((i : ℕ) → bag (holds_of_packet p) i ≤ bag s.known.view.holds i) →
     ((i : ℕ) → bag (own_of_packet p) i ≤ bag s.known.view.headers i) → Holds d s t → Fills d p t u →
-    MayOpen d (sight u)
+    MayOpen d (view_with_slot u)
 may_open d p s t u o held own h f = record {
   packet = p;
   phase = filled_phase d p t u f;

@@ -12,7 +12,7 @@ use Rattle.commons.specs.declared.refusal.Refusal.TheVariants.{NoEntries, Conten
 use Rattle.commons.specs.declared.refusal.Refusal.{Refusal}
 use Rattle.step_core.specs.declared.view.View.{View}
 use Rattle.step_core.specs.Bags.{has, without, still_held}
-use Rattle.step_core.specs.Sights.{claimed}
+use Rattle.step_core.specs.Views.{claimed}
 use Rattle.step_core.proofs.Bags.{times-without}
 use Rattle.step_core.specs.declared.step.Step.TheVariants.{LoadLength, Sole, Claim as ClaimStep}
 use Rattle.step_core.specs.declared.step.Outcome.TheVariants.{Value}

@@ -17,7 +17,7 @@ use Rattle.step_core.specs.declared.step.Outcome.TheVariants.{Done, HeadIs, Won,
 use Rattle.step_core.specs.declared.step.Outcome.{Outcome}
 use Rattle.commons.specs.Calls.{spent}
 use Rattle.ground.specs.Seats.{Seated, Note, after, Steps, element_of}
-use Rattle.step_core.specs.Sights.{view_after, MayPush, chain_after}
+use Rattle.step_core.specs.Views.{view_after, MayPush, chain_after}
 use Rattle.stack_lf.specs.Effects.{start}
 use Rattle.stack_lf.specs.Tries.{last_of, stores, notes, Pushed, PushFailed}
 use Rattle.stack_lf.specs.Effects.{chain_of, Stored, push_as, seen_as}

@@ -3,7 +3,7 @@ use Rattle.std.proofs.Common.{◌≡◌, ◌≢◌, ◌==◌, ℕ, Bool, true, f
 use Rattle.std.specs.Prelude.{if◌then◌else◌}
 use Rattle.std.proofs.lemmas.Bool.{ne_eqb, eq-eqb, cond-true}
 use Rattle.step_core.specs.Bags.{without}
-use Rattle.step_core.specs.Sights.{freed, hold_ended}
+use Rattle.step_core.specs.Views.{freed, hold_ended}
 use Rattle.step_core.specs.declared.step.Step.TheVariants.{Sole, Lower, Reset}
 use Rattle.step_core.specs.declared.step.Outcome.TheVariants.{Value, Done}
 use Rattle.ground.specs.Seats.{Seated, after, Steps}

@@ -9,7 +9,7 @@ use Rattle.step_core.specs.declared.step.Step.TheVariants.{LoadLink, LoadHead, C
 use Rattle.step_core.specs.declared.step.Outcome.{Outcome}
 use Rattle.step_core.specs.declared.step.Outcome.TheVariants.{Value, HeadIs, Got}
 use Rattle.ground.specs.Seats.{Seated, Note, after, Steps, front_of, KnowsEnd}
-use Rattle.step_core.specs.Sights.{view_after, MayCut}
+use Rattle.step_core.specs.Views.{view_after, MayCut}
 use Rattle.stack_lf.specs.Effects.{start}
 use Rattle.stack_lf.specs.Tries.{Popped, notes, Walk, IsWalk, elements, element_in, link_note}
 use Rattle.stack_lf.specs.Effects.{cut_as, Walked, walking}

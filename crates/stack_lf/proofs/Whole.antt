@@ -8,7 +8,7 @@ use Rattle.step_core.specs.declared.view.Look.{Look}
 use Rattle.step_core.specs.declared.step.Step.TheVariants.{Add}
 use Rattle.step_core.specs.declared.step.Outcome.TheVariants.{Done}
 use Rattle.step_core.specs.Bags.{minus}
-use Rattle.step_core.specs.Sights.{raised}
+use Rattle.step_core.specs.Views.{raised}
 use Rattle.ground.specs.Seats.{Seated, Steps, KnowsCount}
 use Rattle.stack_lf.specs.Tries.{Try, Reserved, Short, Added, Raised, Counted, IsLostReserve, IsLostCut, IsLostPush, IsLostRaise, KnowsShort, KnowsEnough, KnowsSpent, KnowsRaised}
 use Rattle.stack_lf.specs.Effects.{tried_to, seen_as, cut_as, push_as, IsAlone, Repeats, EndsReserve, EndsCut, EndsPush, EndsRaise, Gets, Puts, Raises}

@@ -11,7 +11,7 @@ use Rattle.step_core.specs.declared.view.Look.{Look}
 use Rattle.step_core.specs.declared.view.Chain.{Chain}
 use Rattle.step_core.specs.declared.view.View.{View}
 use Rattle.step_core.specs.Bags.{minus}
-use Rattle.step_core.specs.Sights.{raised, freed, hold_ended, working, opened, seized}
+use Rattle.step_core.specs.Views.{raised, freed, hold_ended, working, opened, seized}
 use Rattle.ground.specs.DeskSeats.{laid}
 use Rattle.ground.specs.Seats.{Seated, after, KnowsLength, KnowsCount, KnowsThere, KnowsEmpty, KnowsFull}
 use Rattle.stack_lf.specs.declared.tried.Tried.{Tried}

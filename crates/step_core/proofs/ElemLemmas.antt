@@ -1,7 +1,6 @@
 -- Lists of elements that are searched and shortened.
 use Rattle.std.proofs.Common.{◌≡◌, ◌≢◌, ℕ, zero, suc, ◌+◌, ◌-◌, ◌<◌, ◌≤◌, ◌==◌, true, false, List, [], ◌∷◌, ◌++◌, length, get_or, take, remove, refl, sym, ap, ◌∙◌, subst, arith, ⊎_elim}
-use Rattle.std.proofs.Math.Seq.{take-suc}
-use Rattle.std.proofs.lemmas.List.{map-append}
+use Rattle.std.proofs.lemmas.List.{map-append, take_more}
 use Rattle.step_core.specs.Links.{last_value}
 use Rattle.std.proofs.lemmas.Bool.{cases_eq, lt-ltb, le-ltb, cond-true, cond-false, eq-eqb, ne_eqb}
 use Rattle.commons.specs.Bag.{bag}
@@ -27,8 +26,7 @@ has_none xs x e = le-ltb 0 (bag xs x) (omega arith)
 pub none_so_far : (xs : List ℕ) (i x : ℕ) → i < length xs → bag (take i xs) x ≡ 0 →
     get_or xs i 0 ≢ x → bag (take (i + 1) xs) x ≡ 0
 none_so_far xs i x h e n =
-    let t : take (i + 1) xs ≡ take i xs ++ get_or xs i 0 ∷ [] =
-    ap (λ k. take k xs) (let g : i + 1 ≡ suc i = omega arith in g) ∙ take-suc xs i 0 h in
+    let t : take (i + 1) xs ≡ take i xs ++ get_or xs i 0 ∷ [] = take_more xs i 0 h in
     ap (λ ys. bag ys x) t ∙ (times-but_last x (get_or xs i 0) (take i xs) n ∙ e)
 
 pub take_none : (xs : List ℕ) (x : ℕ) → bag (take 0 xs) x ≡ 0
@@ -71,16 +69,19 @@ minus_nothing xs ys = refl
 pub minus_suc : (xs ys now : List ℕ) (i x : ℕ) → i < length ys → get_or ys i 0 ≡ x →
     now ≡ minus xs (take i ys) → without x now ≡ minus xs (take (i + 1) ys)
 minus_suc xs ys now i x h e is =
-    let t : take (i + 1) ys ≡ take i ys ++ get_or ys i 0 ∷ [] =
-    ap (λ k. take k ys) (let g : i + 1 ≡ suc i = omega arith in g) ∙ take-suc ys i 0 h in
+    let t : take (i + 1) ys ≡ take i ys ++ get_or ys i 0 ∷ [] = take_more ys i 0 h in
     ap (without x) is ∙ (ap (λ y. without y (minus xs (take i ys))) (sym e)
     ∙ (sym (minus_push xs (take i ys) (get_or ys i 0)) ∙ ap (minus xs) (sym t)))
 
--- an element read with any default
+-- an element that was read, with any default
 pub read_at : (xs : List ℕ) (i y : ℕ) → i < length xs → y ≡ get_or xs i y → get_or xs i 0 ≡ y
 read_at [] i y h e = absurd (omega arith)
 read_at (x ∷ xs) zero y h e = sym e
 read_at (x ∷ xs) (suc i) y h e = read_at xs i y (omega arith) e
+
+-- an element that was read from a list that is this one
+pub read_same : (xs ys : List ℕ) (i y : ℕ) → xs ≡ ys → i < length ys → y ≡ get_or xs i y → get_or ys i 0 ≡ y
+read_same xs ys i y same h e = read_at ys i y h (e ∙ ap (λ (zs : List ℕ). get_or zs i y) same)
 
 pub none_in_all : (xs : List ℕ) (n x : ℕ) → length xs ≤ n → bag (take n xs) x ≡ 0 → bag xs x ≡ 0
 none_in_all [] n x h e = times-nil x
@@ -112,8 +113,7 @@ last_is xs x e h is =
 pub count_more : (xs : List ℕ) (i x y n : ℕ) → i < length xs → y ≡ get_or xs i 0 →
     n ≡ bag (take i xs) x → y ≡ x → n + 1 ≡ bag (take (i + 1) xs) x
 count_more xs i x y n h e is s =
-    let t : take (i + 1) xs ≡ take i xs ++ get_or xs i 0 ∷ [] =
-    ap (λ k. take k xs) (let g : i + 1 ≡ suc i = omega arith in g) ∙ take-suc xs i 0 h in
+    let t : take (i + 1) xs ≡ take i xs ++ get_or xs i 0 ∷ [] = take_more xs i 0 h in
     let a = ap (λ ys. bag ys x) t in
     let b : bag (take i xs ++ get_or xs i 0 ∷ []) x ≡ bag (take i xs ++ x ∷ []) x =
     ap (λ z. bag (take i xs ++ z ∷ []) x) (sym e ∙ s) in
@@ -122,8 +122,7 @@ count_more xs i x y n h e is s =
 pub count_same : (xs : List ℕ) (i x y n : ℕ) → i < length xs → y ≡ get_or xs i 0 →
     n ≡ bag (take i xs) x → y ≢ x → n ≡ bag (take (i + 1) xs) x
 count_same xs i x y n h e is s =
-    let t : take (i + 1) xs ≡ take i xs ++ get_or xs i 0 ∷ [] =
-    ap (λ k. take k xs) (let g : i + 1 ≡ suc i = omega arith in g) ∙ take-suc xs i 0 h in
+    let t : take (i + 1) xs ≡ take i xs ++ get_or xs i 0 ∷ [] = take_more xs i 0 h in
     let a = ap (λ ys. bag ys x) t in
     omega (arith, times-but_last x (get_or xs i 0) (take i xs) (λ z. s (e ∙ z)))
 
@@ -150,11 +149,10 @@ minus_none xs = refl
 own_suc : (segs : List Seg) (i : ℕ) (d : Seg) → i < length segs →
     own_of_packet (take (i + 1) segs) ≡ own_of_packet (take i segs) ++ (get_or segs i d).elem ∷ []
 own_suc segs i d h =
-    let t : take (i + 1) segs ≡ take i segs ++ get_or segs i d ∷ [] =
-    ap (λ k. take k segs) (let g : i + 1 ≡ suc i = omega arith in g) ∙ take-suc segs i d h in
+    let t : take (i + 1) segs ≡ take i segs ++ get_or segs i d ∷ [] = take_more segs i d h in
     ap own_of_packet t ∙ map-append (λ (s : Seg). s.elem) (take i segs) (get_or segs i d ∷ [])
 
--- and that element taken out
+-- the own element of one segment more taken out
 pub minus_owns : (xs now : List ℕ) (segs : List Seg) (i : ℕ) (d : Seg) → i < length segs →
     now ≡ minus xs (own_of_packet (take i segs)) →
     without (get_or segs i d).elem now ≡ minus xs (own_of_packet (take (i + 1) segs))

@@ -92,7 +92,7 @@ counts_kept w k h n ls u here zeros holds part law = record {
 abbrev pub moved : World → ℕ → Head → ℕ → List ℕ → List ℕ → View → World
 moved w k h n ls cs u = record w { head = h; length = n; links = ls; counts = cs; views = set w.views k u }
 
--- no such step opens the desks' rule
+-- a step that touches no desk keeps the desks' rule
 pub desks_kept : (w : World) (k : ℕ) (h : Head) (n : ℕ) (ls cs : List ℕ) (u : View) →
     k < length w.views → u.work ≡ (view_at w.views k).work → u.part ≡ (view_at w.views k).part →
     BoardLaw w → BoardLaw (moved w k h n ls cs u)

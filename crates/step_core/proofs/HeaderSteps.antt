@@ -147,7 +147,8 @@ module _ (w : World) (k : ℕ) (four : FourLaws w) (here : k < length w.views)
       (law.held k i (subst (λ (xs : List ℕ). 0 < bag xs i) headers h)))
       (λ i. let a = ap (λ (xs : List ℕ). bag xs i) headers in let b = law.once i in omega arith)
 
-  -- the same, on a desk that is not full before or afterwards
+  -- a step on a desk that is full neither before nor afterwards, which changes neither headers nor
+  -- holds
   same_desk : (d : ℕ) (x : Desk) (u : View) (m n : ℕ) → d < length w.desks → (desk_at w.desks d).word ≡ m → m ≢ 2 →
       x.word ≡ n → n ≢ 2 → u.headers ≡ (view_at w.views k).headers →
       u.holds ≡ (view_at w.views k).holds → HaveHeaders (set w.views k u) (set w.desks d x)
@@ -237,7 +238,7 @@ module _ (w : World) (k : ℕ) (four : FourLaws w) (here : k < length w.views)
         times-minus i v.headers (own_of_packet p),
       ))
 
-  -- and own elements pass from the desk to the headers
+  -- a desk is seized, and its packet's own elements pass to the headers
   takes_over : (d : ℕ) (p : Packet) (u : View) → d < length w.desks → (desk_at w.desks d).word ≡ 2 →
       (desk_at w.desks d).slot ≡ Some p → u.headers ≡ (view_at w.views k).headers ++ own_of_packet p
       → u.holds ≡ (view_at w.views k).holds ++ holds_of_packet p →

@@ -1,6 +1,6 @@
 -- The links of a new pool, one after another.
 use Rattle.std.proofs.Common.{◌≡◌, ℕ, zero, suc, ◌+◌, ◌<◌, ◌≤◌, List, [], ◌∷◌, ◌++◌, length, get_or, take, refl, sym, ap, ◌∙◌, arith}
-use Rattle.std.proofs.Math.Seq.{take-suc}
+use Rattle.std.proofs.lemmas.List.{take_more}
 use Rattle.step_core.specs.Links.{first_value}
 use Rattle.step_core.specs.Opening.{count_up, links_up}
 use Rattle.step_core.proofs.OpeningLaw.{length-links_up}
@@ -24,11 +24,9 @@ link_last i (suc (suc n)) (suc j) h = link_last (suc i) (suc n) j (omega arith)
 next : (n j link : ℕ) (so_far : List ℕ) → j < n → so_far ≡ take j (links_up 0 n) →
     get_or (links_up 0 n) j 0 ≡ link → so_far ++ link ∷ [] ≡ take (j + 1) (links_up 0 n)
 next n j link so_far h is e =
-    let g : suc j ≡ j + 1 = omega arith in
     let l : j < length (links_up 0 n) = (let a = length-links_up 0 n in omega arith) in
     ap (λ (xs : List ℕ). xs ++ link ∷ []) is
-    ∙ (ap (λ (x : ℕ). take j (links_up 0 n) ++ x ∷ []) (sym e)
-    ∙ (sym (take-suc (links_up 0 n) j 0 l) ∙ ap (λ (k : ℕ). take k (links_up 0 n)) g))
+    ∙ (ap (λ (x : ℕ). take j (links_up 0 n) ++ x ∷ []) (sym e) ∙ sym (take_more (links_up 0 n) j 0 l))
 
 pub next_inner : (n j : ℕ) (so_far : List ℕ) → j + 1 < n → so_far ≡ take j (links_up 0 n) →
     so_far ++ (j + 2) ∷ [] ≡ take (j + 1) (links_up 0 n)

@@ -1,9 +1,9 @@
 -- Tests of a packet's holds, segment by segment.
 use Rattle.std.proofs.Common.{◌≡◌, ℕ, suc, ◌+◌, ◌<◌, ◌≤◌, Bool, true, false, List, [], ◌∷◌, ◌++◌, Option, Some, None, length, take, drop, get_or, refl, sym, ap, ◌∙◌, arith}
 use Rattle.std.specs.Prelude.{◌&&◌, nat_lt, nat_le}
-use Rattle.std.proofs.Math.Seq.{take-suc, drop-cons}
+use Rattle.std.proofs.Math.Seq.{drop-cons}
 use Rattle.std.proofs.lemmas.Bool.{and_left, and_right, and_from}
-use Rattle.std.proofs.lemmas.List.{take-append-drop}
+use Rattle.std.proofs.lemmas.List.{take-append-drop, take_more}
 use Rattle.std.proofs.lemmas.Grind.{flat_map-append}
 use Rattle.commons.specs.Bag.{bag, one}
 use Rattle.commons.specs.Packets.{holds_of_packet, holds_of_seg, hold_of}
@@ -30,8 +30,9 @@ includes-append hs ps (x ∷ xs) ys =
     ap (λ (b : Bool). nat_le (bag ps x) (bag hs x) && b) (includes-append hs ps xs ys)
     ∙ and_assoc (nat_le (bag ps x) (bag hs x)) (includes_from hs ps xs) (includes_from hs ps ys)
 
--- a test of lists that goes by their parts
-module _ (F : List ℕ → Bool) (by_parts : (xs ys : List ℕ) → F (xs ++ ys) ≡ (F xs && F ys)) (segs : List Seg) where
+-- a test of lists that goes by their parts, of the holds of a packet with these segments
+module _ (F : List ℕ → Bool) (by_parts : (xs ys : List ℕ) → F (xs ++ ys) ≡ (F xs && F ys))
+    (packet segs : List Seg) (same : segs ≡ packet) where
   pub test_more : (i : ℕ) (d : Seg) → i < length segs → F (holds_of_packet (take i segs)) ≡ true →
       F (holds_of_seg (get_or segs i d)) ≡ true → F (holds_of_packet (take (i + 1) segs)) ≡ true
   test_more i d l e s =
@@ -40,7 +41,7 @@ module _ (F : List ℕ → Bool) (by_parts : (xs ys : List ℕ) → F (xs ++ ys)
       ∙ and_from _ _ e s)
 
   pub test_fails : (i : ℕ) (d : Seg) → i < length segs →
-      F (holds_of_seg (get_or segs i d)) ≡ false → F (holds_of_packet segs) ≡ false
+      F (holds_of_seg (get_or segs i d)) ≡ false → false ≡ F (holds_of_packet packet)
   test_fails i d l e =
       let cut : holds_of_packet segs ≡ holds_of_packet (take i segs)
       ++ holds_of_packet (drop i segs) =
@@ -50,19 +51,18 @@ module _ (F : List ℕ → Bool) (by_parts : (xs ys : List ℕ) → F (xs ++ ys)
       ap (λ (ss : List Seg). F (holds_of_packet ss)) (drop-cons segs i d l)
       ∙ (by_parts (holds_of_seg (get_or segs i d)) (holds_of_packet (drop (suc i) segs))
       ∙ and_left _ _ e) in
-      ap F cut ∙ (by_parts (holds_of_packet (take i segs)) (holds_of_packet (drop i segs)) ∙ and_right _ _ rest)
+      sym (ap (λ (ss : List Seg). F (holds_of_packet ss)) (sym same)
+      ∙ (ap F cut ∙ (by_parts (holds_of_packet (take i segs)) (holds_of_packet (drop i segs)) ∙ and_right _ _ rest)))
 
   pub test_whole : (i : ℕ) → length segs ≤ i → F (holds_of_packet (take i segs)) ≡ true →
-      F (holds_of_packet segs) ≡ true
-  test_whole i l e = ap (λ (ss : List Seg). F (holds_of_packet ss)) (sym (take_whole segs i l)) ∙ e
+      true ≡ F (holds_of_packet packet)
+  test_whole i l e = sym (ap (λ (ss : List Seg). F (holds_of_packet ss)) (sym (take_whole segs i l ∙ same)) ∙ e)
 
 -- one segment more of a copy
 pub copy_more : (segs copy : List Seg) (i : ℕ) (d : Seg) → i < length segs → copy ≡ take i segs →
     copy ++ get_or segs i d ∷ [] ≡ take (i + 1) segs
 copy_more segs copy i d l e =
-    let g : suc i ≡ i + 1 = omega arith in
-    ap (λ (ss : List Seg). ss ++ get_or segs i d ∷ []) e
-    ∙ (sym (take-suc segs i d l) ∙ ap (λ (n : ℕ). take n segs) g)
+    ap (λ (ss : List Seg). ss ++ get_or segs i d ∷ []) e ∙ sym (take_more segs i d l)
 
 pub copy_one : (segs : List Seg) (d : Seg) → 1 ≤ length segs → get_or segs 0 d ∷ [] ≡ take 1 segs
 copy_one [] d l = absurd (omega arith)

@@ -68,7 +68,7 @@ total_times n (x ∷ xs) h =
     let sum = total_add n (λ i. bag (x ∷ []) i) (λ i. bag xs i) in
     omega (arith, total_hit n x, below-at n x inside)
 
--- the same over the views
+-- how often each number stands in the lists of all views is how long they are together
 pub total_views : (f : View → List ℕ) (n : ℕ) (views : List View) →
     ((x : ℕ) → n ≤ x → sum_by (λ v. bag (f v) x) views ≡ 0) →
     total n (λ i. sum_by (λ v. bag (f v) i) views) ≡ sum_by (λ v. length (f v)) views

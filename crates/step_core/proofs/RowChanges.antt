@@ -10,7 +10,7 @@ use Rattle.step_core.specs.Changes.{OneWord, Neither, HeadWord, LengthWord, Link
 use Rattle.step_core.specs.Steps.{Step, LoadLength, Reserve, Add, LoadHead, LoadLink, Cut, StoreLink, Push, Claim, Sole, Raise, Lower, Reset, Hold, PutIn, Open, Seize, TakeOut, Clear, Play, given, row, reserve, add, cut, push, claim, sole, raise, lower, reset, hold, put_in, open_desk, open_with, seize, seize_with, take_out, clear, load_link, store_link, same_head, phase_at}
 use Rattle.step_core.proofs.Rows.{when_played, given_played}
 
--- and the head's count stays in its bits
+-- a play changes at most one word or slot, and the head's count stays in its bits
 abbrev pub ChangesIn : World → ℕ → Play → Type 0
 ChangesIn w k p = ChangesOne (suc k) w p.after × (w.head.count ≤ spent → p.after.head.count ≤ spent)
 

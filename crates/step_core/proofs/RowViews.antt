@@ -5,7 +5,7 @@ use Rattle.std.proofs.lemmas.Bool.{cond_both, and_parts}
 use Rattle.std.proofs.lemmas.List.{set-get_or}
 use Rattle.step_core.specs.Links.{link_value}
 use Rattle.step_core.specs.Schedules.{slot_at}
-use Rattle.step_core.specs.Sights.{view_after, walked_on, cut_look, seen_by, push_view, push_chain, freed, opened_from, seized_from}
+use Rattle.step_core.specs.Views.{view_after, walked_on, cut_look, seen_by, push_view, push_chain, freed, opened_from, seized_from}
 use Rattle.step_core.specs.Steps.{Step, LoadLength, Reserve, Add, LoadHead, LoadLink, Cut, StoreLink, Push, Claim, Sole, Raise, Lower, Reset, Hold, PutIn, Open, Seize, TakeOut, Clear, Play, given, row, reserve, add, cut, push, claim, sole, raise, lower, reset, hold, put_in, open_desk, open_with, seize, seize_with, take_out, clear, load_link, store_link, same_head, phase_at}
 use Rattle.step_core.specs.World.{Look, Chain, Phase, ToFill, Filled, Seized, TakenOut, Packet, World, view_at, desk_at, link_in, empty_view}
 use Rattle.step_core.proofs.Rows.{when_played, given_played}

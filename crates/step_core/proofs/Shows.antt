@@ -89,7 +89,7 @@ module _ (s : Standing) (one : OnePlace s) where
       (λ (m : (d : ℕ) × (0 < s.desk d)). let a = (one.hand_alone k c m.0).1 in let b = m.1 in omega arith)
       (held_by s ws ds h))
 
-  -- the same numbers, the same place
+  -- two standings with the same numbers stand in the same place
   pub same_place : (r : Standing) (other : OnePlace r) → s.common ≡ r.common →
       ((k : ℕ) → s.hand k ≡ r.hand k) → ((k : ℕ) → s.holder k ≡ r.holder k) →
       ((d : ℕ) → s.desk d ≡ r.desk d) → (p q : Place) → Stands s p → Stands r q → Same p q

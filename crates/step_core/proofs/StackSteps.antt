@@ -41,7 +41,7 @@ two_views f (x ∷ xs) (suc j) (suc k) e n =
     omega (arith, sum_by-cons f x xs) in
     g
 
--- the same by the workers' numbers
+-- one view and two views are part of the sum, by their workers' numbers
 pub one_worker : (f : View → ℕ) (views : List View) (n : ℕ) → f (empty_view 0) ≡ 0 →
     f (view_of views n) ≤ sum_by f views
 one_worker f views zero e = omega arith

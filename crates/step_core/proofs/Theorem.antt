@@ -11,7 +11,7 @@ use Rattle.step_core.specs.Steps.{Step, Outcome, Play, row, turn, played, play, 
 use Rattle.step_core.specs.Opening.{opening}
 use Rattle.step_core.specs.Changes.{ChangesOne}
 use Rattle.step_core.specs.Schedules.{OpensLawful, KeepsLaw, MakesItsEvent, ChangesLittle, MakesItsView, LawfulShows, slot_at}
-use Rattle.step_core.specs.Sights.{view_after}
+use Rattle.step_core.specs.Views.{view_after}
 use Rattle.step_core.proofs.Rules.{FourLaws}
 use Rattle.step_core.proofs.Regroup.{four_of_eight, eight_of_four}
 use Rattle.step_core.proofs.Rows.{row_lawful}

@@ -1,8 +1,8 @@
 -- Every schedule walks.
 use Rattle.std.proofs.Common.{◌≡◌, ℕ, suc, ◌+◌, ◌<◌, List, [], ◌∷◌, ◌++◌, Option, Some, None, Err, length, take, drop, get_or, inl, inr, refl, sym, ap, subst, ◌∙◌, arith}
 use Rattle.std.specs.Prelude.{MatchOption}
-use Rattle.std.proofs.Math.Seq.{take-suc, drop-cons}
-use Rattle.std.proofs.lemmas.List.{take-append-drop}
+use Rattle.std.proofs.Math.Seq.{drop-cons}
+use Rattle.std.proofs.lemmas.List.{take-append-drop, take_more}
 use Rattle.commons.specs.declared.refusal.Refusal.{Refusal}
 use Rattle.commons.specs.declared.refusal.Refusal.TheVariants.{OutOfMemory, StepRefused}
 use Rattle.step_core.specs.World.{World, view_of, view_at}
@@ -64,9 +64,7 @@ pub reaches_next : (w : World) (steps : Schedule) (i : ℕ) (d : ℕ × Step) (o
     (u : World) (o : Outcome) (v : World) → i < length steps → Reaches w (take i steps) os u
     → play u (get_or steps i d).0 (get_or steps i d).1 ≡ Some (o, v) → Reaches w (take (i + 1) steps) (os ++ o ∷ []) v
 reaches_next w steps i d os u o v l r e =
-    let g : suc i ≡ i + 1 = omega arith in
-    subst (λ (front : Schedule). Reaches w front (os ++ o ∷ []) v)
-    (sym (take-suc steps i d l) ∙ ap (λ (n : ℕ). take n steps) g)
+    subst (λ (front : Schedule). Reaches w front (os ++ o ∷ []) v) (sym (take_more steps i d l))
     (reaches_on w (take i steps) os u (get_or steps i d) o v r e)
 
 pub nothing_reached : (w : World) (steps : Schedule) → Reaches w (take 0 steps) [] w
@@ -122,7 +120,7 @@ stops w steps i d os u v OutOfMemory is l r a =
     (stops_without w steps i d os u is l r a.0)
 stops w steps i d os u v _ is l r a = absurd a
 
--- the same by the step that was read
+-- a run goes on, or stops, by the step that was read
 module _ (w : World) (steps : Schedule) (i : ℕ) (x : ℕ × Step) (os : List Outcome) (u : World)
     (is : IsWorld w) (l : i < length steps) (r : Reaches w (take i steps) os u)
     (read : x ≡ get_or steps i x) where

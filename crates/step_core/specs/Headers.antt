@@ -48,7 +48,8 @@ abbrev pub OpensOwn : View → Step → Type 0
 OpensOwn v (Open d) = IfSome (phase_at d v.work) (λ ph. IfSome (given_away ph) (OwnsHeaders v))
 OpensOwn v _ = ⊤
 
--- so does each step of the schedule, in the world in which it is played
+-- each Open of the schedule is of a packet whose own elements are distinct headers of its worker,
+-- in the world in which it is played
 abbrev pub AllOpenOwn : World → Schedule → Type 0
 AllOpenOwn w [] = ⊤
 AllOpenOwn w (p ∷ rest) =
@@ -65,7 +66,7 @@ KeepsHeaders =
     0 < (view_of w.views worker).part → OpensOwn (view_of w.views worker) s →
     play w worker s ≡ Some (o, u) → HeaderLaw u
 
--- and so does every schedule of such steps
+-- every schedule of such steps keeps the law of headers
 abbrev pub SchedulesKeepHeaders : Type 0
 SchedulesKeepHeaders =
     (w : World) (schedule : Schedule) (os : List Outcome) (u : World) → IsWorld w → HeaderLaw w →

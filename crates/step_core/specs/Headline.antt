@@ -116,7 +116,7 @@ Puts i (Free w j) = ⊥
 Puts i (Offer w d xs) = ⊥
 Puts i (Take w d xs) = ⊥
 
--- no event is so
+-- this is true of no event of the list
 abbrev pub Never : (Event → Type 0) → List Event → Type 0
 Never P [] = ⊤
 Never P (e ∷ es) = (P e → ⊥) × Never P es

@@ -9,7 +9,7 @@ pub mod Opening
 pub mod Changes
 pub mod Schedules
 pub mod Kept
-pub mod Sights
+pub mod Views
 pub mod Runs
 pub mod Headline
 pub mod Headers

@@ -17,8 +17,9 @@ Reaches w (p ∷ rest) (o ∷ os) u = (v : World) × (play w p.0 p.1 ≡ Some (o
 Reaches w [] (o ∷ os) u = ⊥
 Reaches w (p ∷ rest) [] u = ⊥
 
--- The same, and each world on the way is lawful and shows a table, from this one on: the next
--- table follows by the step's one event, by the worker that steps, or is the same.
+-- the schedule with these outcomes leads from w to u, and each world on the way is lawful and shows
+-- a table, from this one on: the next table follows by the step's one event, by the worker that
+-- steps, or is the same
 abbrev pub Walks : World → Table → Schedule → List Outcome → World → Type 0
 Walks w t [] [] u = Lawful w × Shows w t × (u ≡ w)
 Walks w t (p ∷ rest) (o ∷ os) u =

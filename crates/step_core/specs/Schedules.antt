@@ -5,7 +5,7 @@ use Rattle.step_core.specs.World.{World, Limits, Packet, Desk, view_of, desk_at}
 use Rattle.step_core.specs.Shows.{Shows, Happens}
 use Rattle.step_core.specs.Law.{Lawful}
 use Rattle.step_core.specs.Steps.{Step, Hold, PutIn, Open, Seize, TakeOut, Clear, Outcome, play, event_of}
-use Rattle.step_core.specs.Sights.{view_after}
+use Rattle.step_core.specs.Views.{view_after}
 use Rattle.step_core.specs.Opening.{opening}
 use Rattle.step_core.specs.Changes.{ChangesOne}
 

@@ -9,8 +9,8 @@ use Rattle.commons.specs.Packets.{holds_of_packet}
 use Rattle.step_core.specs.Bags.{has, includes, all_below}
 use Rattle.step_core.specs.Links.{link_value, first_value}
 use Rattle.step_core.specs.World.{Head, Look, Chain, Phase, ToFill, Filled, Seized, TakenOut, Work, View, Desk, World, Packet, view_at, link_in, desk_at}
-pub use Rattle.step_core.specs.Sights.{can_cut, chain_after, can_push, chain_without, at_desk, phase_at, headers_left}
-use Rattle.step_core.specs.Sights.{reserved, given_back, looking_at, walked_on, cut_view, lost_look, chained, push_view, lost_push, claimed, freed, raised, hold_ended, was_reset, working, opened, seized}
+pub use Rattle.step_core.specs.Views.{can_cut, chain_after, can_push, chain_without, at_desk, phase_at, headers_left}
+use Rattle.step_core.specs.Views.{reserved, given_back, looking_at, walked_on, cut_view, lost_look, chained, push_view, lost_push, claimed, freed, raised, hold_ended, was_reset, working, opened, seized}
 use Rattle.step_core.specs.Table.{Event, Get, Put, Claim as ClaimEvent, Attach, Free, Offer, Take}
 
 -- what a step makes of the world, what it answers, and the event of the table that it is, if any
@@ -262,11 +262,11 @@ row w k v (Seize d) = if is_none v.work then seize w k v d else None
 row w k v (TakeOut d) = given (phase_at d v.work) (take_out w k v d)
 row w k v (Clear d) = given (phase_at d v.work) (clear w k v d)
 
--- the same, where what the step names is of the pool
+-- what becomes of a step by the worker with this view, where what the step names is of the pool
 abbrev pub turn : World → ℕ → Step → Option Play
 turn w k s = if in_range w s then row w k (view_at w.views k) s else None
 
--- the same of a worker by its number, who is of the pool
+-- what becomes of a step by the worker with this number, where it is one of the pool
 abbrev pub played : World → ℕ → Step → Option Play
 played w zero s = None
 played w (suc k) s = if nat_lt k (length w.views) then turn w k s else None

@@ -4,7 +4,7 @@ ghost use Rattle.std.specs.Prelude.{◌≡◌, ◌<◌, ◌≤◌, vec_len, Opti
 ghost use Rattle.commons.specs.Bounds.{max_population};
 ghost use Rattle.step_core.specs.Kept.{world_of, IsWorld, Turns};
 ghost use Rattle.step_core.specs.Steps.{turn, same_head};
-ghost use Rattle.step_core.specs.Sights.{LinkOf};
+ghost use Rattle.step_core.specs.Views.{LinkOf};
 
 use crate::elems::Elems;
 use crate::step::{Outcome, Step};

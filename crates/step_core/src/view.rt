@@ -4,7 +4,7 @@ ghost use Rattle.std.specs.Prelude.{◌≡◌, ◌==◌, ◌+◌, ◌^◌, suc, 
 ghost use Rattle.commons.specs.Calls.{spent};
 ghost use Rattle.commons.specs.Bounds.{max_population};
 ghost use Rattle.step_core.specs.Steps.{chain_after, phase_at};
-ghost use Rattle.step_core.specs.Sights.{walks_to, walked_on, MayCut, MayNotCut, cut_view, MayPush, MayNotPush, push_view, claimed, freed, hold_ended, opened, seized, was_reset};
+ghost use Rattle.step_core.specs.Views.{walks_to, walked_on, MayCut, MayNotCut, cut_view, MayPush, MayNotPush, push_view, claimed, freed, hold_ended, opened, seized, was_reset};
 ghost use Rattle.step_core.specs.Links.{first_value as first, last_value};
 
 use crate::elems::Elems;

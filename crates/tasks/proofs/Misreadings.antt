@@ -1,6 +1,6 @@
 -- What is reported of bytes that are no snapshot's.
 use Rattle.std.proofs.Common.{ℕ, List, ◌≡◌, ◌≢◌, subst, sym}
-use Rattle.snapshot_json.specs.Reading.{IsNoSnapshotText, Tells}
+use Rattle.snapshot_json.specs.Reading.{IsFaultOf, IsNoSnapshotText}
 use Rattle.snapshot_json.specs.declared.fault.SnapshotFault.{SnapshotFault}
 use Rattle.snapshot_json.specs.declared.fault.SnapshotFault.TheVariants as reads
 use Rattle.tasks.specs.Audits.{FailsBytes, IsMisread}
@@ -9,8 +9,8 @@ use Rattle.tasks.specs.declared.failures.Failure.TheVariants.{Unreadable, Fault,
 
 -- what is reported of a fault of their reading is the failure that came of them
 pub told_of_bytes : (bytes : List ℕ) (fault : SnapshotFault) (failure : Failure) → (fault ≢ reads.OutOfMemory → IsNoSnapshotText bytes)
-    → Tells bytes fault → IsMisread fault failure → FailsBytes bytes failure
-told_of_bytes bytes fault (Misread told text) none tells so = (none so.1, subst (Tells bytes) (sym so.0) tells)
+    → IsFaultOf bytes fault → IsMisread fault failure → FailsBytes bytes failure
+told_of_bytes bytes fault (Misread told text) none tells so = (none so.1, subst (IsFaultOf bytes) (sym so.0) tells)
 told_of_bytes bytes fault (Unreadable file) none tells so = so
 told_of_bytes bytes fault (Fault refusal) none tells so = so
 told_of_bytes bytes fault (Audited line) none tells so = so

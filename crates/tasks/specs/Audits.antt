@@ -11,7 +11,7 @@ use Rattle.snapshot.specs.declared.snapshot.Snapshot.{Snapshot}
 use Rattle.snapshot.specs.Faults.{IsFirstFault}
 use Rattle.snapshot.specs.Snapshots.{IsLawful, statement_in}
 use Rattle.snapshot.specs.declared.fault.Fault as faults
-use Rattle.snapshot_json.specs.Reading.{IsNoSnapshotText, IsSnapshotText, Tells}
+use Rattle.snapshot_json.specs.Reading.{IsFaultOf, IsNoSnapshotText, IsSnapshotText}
 use Rattle.snapshot_json.specs.declared.fault.SnapshotFault.{SnapshotFault}
 use Rattle.snapshot_json.specs.declared.fault.SnapshotFault.TheVariants as reads
 use Rattle.statement_text.specs.StatementText.{text_of}
@@ -71,7 +71,7 @@ pub record FailsSnapshot (bytes : List ℕ) (failure : Failure) : Type 0 where
 
 -- that of bytes which aren't, or of memory that was refused for their reading
 abbrev pub FailsBytes : List ℕ → Failure → Type 0
-FailsBytes bytes (Misread fault text) = IsNoSnapshotText bytes × Tells bytes fault
+FailsBytes bytes (Misread fault text) = IsNoSnapshotText bytes × IsFaultOf bytes fault
 FailsBytes bytes failure = failure ≡ Fault refusals.OutOfMemory
 
 -- the failure that came of the audit of bytes

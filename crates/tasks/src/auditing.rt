@@ -3,7 +3,7 @@
 ghost use Rattle.std.specs.Prelude.{◌≡◌, ◌≢◌, IfErr, IfOk};
 ghost use Rattle.pool_model.specs.declared.statement.Statement.{Statement};
 ghost use Rattle.snapshot.specs.Faults.{IsFirstFault};
-ghost use Rattle.snapshot_json.specs.Reading.{IsNoSnapshotText, Tells};
+ghost use Rattle.snapshot_json.specs.Reading.{IsFaultOf, IsNoSnapshotText};
 ghost use Rattle.tasks.specs.Audits.{IsAuditCause, IsAuditPrintedAs, IsFailureIn, IsFaultIn, IsMisread, IsPlacedAs, IsStatementAs};
 
 use crate::failures::Failure;

@@ -6,7 +6,7 @@ use Rattle.commons.specs.Calls.{spent}
 use Rattle.step_core.specs.declared.view.Head.{Head}
 use Rattle.step_core.specs.declared.step.Step.TheVariants.{LoadLink, LoadHead}
 use Rattle.step_core.specs.declared.step.Outcome.TheVariants.{Value, HeadIs}
-use Rattle.step_core.specs.Sights.{view_after, MayCut}
+use Rattle.step_core.specs.Views.{view_after, MayCut}
 use Rattle.ground.specs.Seats.{Seated, after, Steps}
 
 -- it may be tried where a head was read whose count isn't spent, and the link of its top

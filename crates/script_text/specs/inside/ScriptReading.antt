@@ -86,20 +86,20 @@ module _ {C : Type 0} where
 
 module _ {C : Type 0} (lexicon : Lexicon C) where
   -- the command of words, with its worker
-  abbrev pub order_of : ℕ → List (List ℕ) → Option (ℕ × C)
-  order_of worker words = option_and_then (λ command. Some (worker, command))
+  abbrev pub command_of_worker : ℕ → List (List ℕ) → Option (ℕ × C)
+  command_of_worker worker words = option_and_then (λ command. Some (worker, command))
       (lexicon.command_from words)
 
-  -- the same, where the line's words are these, with or without a worker's number in front
-  abbrev pub order_by : ℕ → Option (List ℕ) → List (List ℕ) → List (List ℕ) → Option (ℕ × C)
-  order_by workers None all behind = order_of 1 all
-  order_by workers (Some number) all behind =
-      option_and_then (λ worker. order_of worker behind) (worker_at workers number)
+  -- the worker and the command of a line's words, with or without a worker's number in front
+  abbrev pub command_by_prefix : ℕ → Option (List ℕ) → List (List ℕ) → List (List ℕ) → Option (ℕ × C)
+  command_by_prefix workers None all behind = command_of_worker 1 all
+  command_by_prefix workers (Some number) all behind =
+      option_and_then (λ worker. command_of_worker worker behind) (worker_at workers number)
 
   -- the worker and the command that the words of a line are, in a pool of this many workers
-  abbrev pub order_from : ℕ → List (List ℕ) → Option (ℕ × C)
-  order_from workers [] = None
-  order_from workers (word ∷ words) = order_by workers (before_colon word) (word ∷ words) words
+  abbrev pub worker_command_from : ℕ → List (List ℕ) → Option (ℕ × C)
+  worker_command_from workers [] = None
+  worker_command_from workers (word ∷ words) = command_by_prefix workers (before_colon word) (word ∷ words) words
 
   -- whether one of the lines makes the worker's name
   abbrev pub is_made : List (Line C) → ℕ → List ℕ → Bool
@@ -115,21 +115,22 @@ module _ {C : Type 0} (lexicon : Lexicon C) where
   -- what is told after the worker's command on the line with this number,
   -- if it makes no name that was made before
   abbrev pub add_made : State C → ℕ → ℕ × C → Option (State C)
-  add_made state number order =
-      if repeats (is_made state.lines) order.0 (lexicon.language.names_made order.1) then None
-      else Some (with_command state number order.0 order.1)
+  add_made state number found =
+      if repeats (is_made state.lines) found.0 (lexicon.language.names_made found.1) then None
+      else Some (with_command state number found.0 found.1)
 
-  -- the same, if the pools have what it needs
+  -- what is told after the worker's command, if the pools have what it needs and it makes no name
+  -- that was made before
   abbrev pub add_command : LineNumbers → State C → ℕ → ℕ × C → Option (State C)
-  add_command numbers state number order =
-      if lacks_second numbers order.1 then None else add_made state number order
+  add_command numbers state number found =
+      if lacks_second numbers found.1 then None else add_made state number found
 
   -- what is told after these words, where the pools' numbers are told
   abbrev pub read_command : LineNumbers → State C → ℕ → List (List ℕ) → Option (State C)
   read_command numbers state number words =
       if nat_lt (length state.lines) 10000
       then option_and_then (add_command numbers state number)
-      (order_from numbers.first.workers words)
+      (worker_command_from numbers.first.workers words)
       else None
 
   -- a line that isn't skipped, by whether the pools' numbers are told

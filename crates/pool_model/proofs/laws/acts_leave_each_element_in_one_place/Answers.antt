@@ -1,5 +1,5 @@
 -- A new pool is balanced and numbered, and each act keeps it so.
-use Rattle.pool_model.proofs.Listed.{acts_list_each_once}
+use Rattle.pool_model.proofs.Alone.{acts_list_each_once}
 use Rattle.pool_model.proofs.Placed.{acts_place_each_once}
 use Rattle.pool_model.proofs.laws.acts_leave_each_element_in_one_place.Goals as goal
 

@@ -9,8 +9,8 @@ abbrev pub invariant-loop-line : goal.invariant-loop-line
 invariant-loop-line g l = record {
   positive : 1 ≤ l.number;
   counted : l.number + length l.rest ≤ length l.bytes + 1;
-  kept : IsKept g.C.Spelled.lexicon l.reader;
-  same : read_from g.C.Spelled.lexicon (state_of l.reader) l.number l.rest ≡ read_from g.C.Spelled.lexicon start 1 l.bytes;
+  kept : IsKept g.C.FromWords.lexicon l.reader;
+  same : read_from g.C.FromWords.lexicon (state_of l.reader) l.number l.rest ≡ read_from g.C.FromWords.lexicon start 1 l.bytes;
 }
 
 abbrev pub decreases-loop-line : goal.decreases-loop-line

@@ -9,7 +9,7 @@ loop-i-preserved-then-not-has c =
     (let a = c.loop-i.invariant.long in let b = c.loop-i-test.true in omega (arith, c.args.items.now.ok, c.len-i-end.ensures)) in
     FiltersInPlace-more_no c.loop-i.invariant inside (sym c.if-not-has.ensures) c.index-element.ensures
 
--- one that is held goes to the front
+-- an element that is held goes to the front
 pub loop-i-preserved : goal.loop-i-preserved
 loop-i-preserved c =
     let inside : c.loop-i.i < length c.loop-i.items.items =

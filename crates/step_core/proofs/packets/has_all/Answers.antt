@@ -1,6 +1,5 @@
-use Rattle.std.proofs.Common.{List, ap, sym, ◌∙◌}
+use Rattle.std.proofs.Common.{sym}
 use Rattle.commons.specs.Packets.{holds_of_packet, no_seg}
-use Rattle.commons.specs.declared.packet.Seg.{Seg}
 use Rattle.step_core.specs.Bags.{includes_from}
 use Rattle.step_core.proofs.PacketTests.{includes-append, test_more, test_fails, test_whole}
 use Rattle.step_core.proofs.packets.has_all.Goals as goal
@@ -9,27 +8,22 @@ use Rattle.step_core.proofs.packets.has_all.Goals as goal
 pub returns-then-not-has_seg : goal.returns-then-not-has_seg
 returns-then-not-has_seg c =
     let all = holds_of_packet c.args.packet.now in
-    let fails =
     test_fails (includes_from c.args.holds.now all) (includes-append c.args.holds.now all)
-    c.segs-segs.result.now c.loop-i.i no_seg c.loop-i-test.true (sym c.if-not-has_seg.ensures)
-    in
-    sym (ap (λ (ss : List Seg). includes_from c.args.holds.now all (holds_of_packet ss))
-    (sym c.segs-segs.ensures.segs) ∙ fails)
+    c.args.packet.now c.segs-segs.result.now c.segs-segs.ensures.segs c.loop-i.i no_seg
+    c.loop-i-test.true (sym c.if-not-has_seg.ensures)
 
 -- what one segment more holds is among the holds
 pub loop-i-preserved : goal.loop-i-preserved
 loop-i-preserved c =
     let all = holds_of_packet c.args.packet.now in
     test_more (includes_from c.args.holds.now all) (includes-append c.args.holds.now all)
-    c.segs-segs.result.now c.loop-i.i no_seg c.loop-i-test.true c.loop-i.invariant
-    (sym c.if-not-has_seg.ensures)
+    c.args.packet.now c.segs-segs.result.now c.segs-segs.ensures.segs c.loop-i.i no_seg
+    c.loop-i-test.true c.loop-i.invariant (sym c.if-not-has_seg.ensures)
 
--- all are there
+-- all that the packet holds is among the holds
 pub returns : goal.returns
 returns c =
     let all = holds_of_packet c.args.packet.now in
-    let holds =
     test_whole (includes_from c.args.holds.now all) (includes-append c.args.holds.now all)
-    c.segs-segs.result.now c.loop-i.i c.loop-i-test.false c.loop-i.invariant in
-    sym (ap (λ (ss : List Seg). includes_from c.args.holds.now all (holds_of_packet ss))
-    (sym c.segs-segs.ensures.segs) ∙ holds)
+    c.args.packet.now c.segs-segs.result.now c.segs-segs.ensures.segs c.loop-i.i
+    c.loop-i-test.false c.loop-i.invariant

@@ -3,6 +3,7 @@ use Rattle.step_core.specs.Kept.{IsWorld}
 use Rattle.step_core.specs.Runs.{Reaches}
 use Rattle.step_core.proofs.run.run.Given as goal
 
+-- the steps so far lead to the world as it is now, which is one of a pool, with these outcomes
 abbrev pub invariant-loop-i : goal.invariant-loop-i
 invariant-loop-i l = record {
   first : IsWorld l.fn.world;

@@ -10,7 +10,7 @@ push_expected-requires c = record {
       c.index_mut-view.result.now c.index_mut-view.ensures.value;
 }
 
--- and so is their number
+-- the number of a chain's elements, with the credit, is within the population
 pub win_push-requires : goal.win_push-requires
 win_push-requires c = record {
   credit =

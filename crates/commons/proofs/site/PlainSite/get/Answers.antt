@@ -16,16 +16,6 @@ place-requires c =
       c.self.inside.places.ok,
     ))
 
--- each element taken was in the list once and is now in the hand once; the room stays
-pub invariant_of-self : goal.invariant_of-self
-invariant_of-self c = record {
-  table = rw (c.place.ensures.items, c.take_top.ensures.out, c.take_top.ensures.common)
-      (table_get (lists_of c.self.inside) c.args.worker (length c.args.out.now)
-      c.self.invariant.table c.requires.low (rw (sym c.self.view_is) at c.requires.high)
-      (omega (arith, c.self.invariant.table.changed, c.if-self-eq-SPENT.false)));
-  room = omega (arith, c.take_top.ensures.capacity, c.self.invariant.room);
-}
-
 -- the table after the get: the count of changes was below the spent one, so one more is in range
 pub returns-clause-kept : goal.returns-clause-kept
 returns-clause-kept c =
@@ -39,3 +29,10 @@ pub returns-clause-others : goal.returns-clause-others
 returns-clause-others c =
     rw (sym c.self.view_is, c.place.ensures.items, c.take_top.ensures.out, c.take_top.ensures.common)
     (others_get (lists_of c.self.inside) c.args.worker (length c.args.out.now) c.self.invariant.table)
+
+-- the lists are kept as that table, and the common list has the room that it had
+pub invariant_of-self : goal.invariant_of-self
+invariant_of-self c = record {
+  table = returns-clause-kept c;
+  room = omega (arith, c.take_top.ensures.capacity, c.self.invariant.room);
+}

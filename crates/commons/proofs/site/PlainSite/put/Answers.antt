@@ -2,6 +2,7 @@ use Rattle.std.proofs.Common.{rules, ◌≡◌, ◌++◌, sym, arith}
 use Rattle.std.proofs.lemmas.List.{length-reverse, reverse-append}
 use Rattle.commons.specs.inside.Site.{lists_of}
 use Rattle.commons.proofs.Tables.{table_put, others_put, room_put, put_below}
+use Rattle.commons.proofs.site.PlainSite.put.Goals.{After-place}
 use Rattle.commons.proofs.site.PlainSite.put.Goals as goal
 
 -- elements of a hand aren't in the common list, so with them it still fits the population's room
@@ -29,25 +30,14 @@ place-requires c = λ k d l.
       c.self.inside.places.ok,
     )
 
--- each element put was in the hand once and is now in the list once; the room stays
-pub invariant_of-self : goal.invariant_of-self
-invariant_of-self c =
-    let items : c.extend_from_slice.new.self.items ≡ c.self.inside.common.items ++ c.args.list.now =
-    search (rules, c.extend_from_slice.ensures.items, c.unwrap.ensures) in
-    record {
-      table = rw (c.place.ensures.items, items, reverse-append)
-          (table_put (lists_of c.self.inside) c.args.worker c.args.list.now c.self.invariant.table
-          (rw (sym c.self.view_is) at c.requires.in_hand)
-          (omega (arith, c.self.invariant.table.changed, c.if-self-eq-SPENT.false)));
-      room = omega (arith, c.extend_from_slice.ensures.capacity, c.self.invariant.room);
-    }
+-- the common list, its top last, has the elements put at its end
+longer : (c : After-place) → c.extend_from_slice.new.self.items ≡ c.self.inside.common.items ++ c.args.list.now
+longer c = search (rules, c.extend_from_slice.ensures.items, c.unwrap.ensures)
 
 -- the table after the put: the list, its top last, got the elements, and their places say so
 pub returns-clause-kept : goal.returns-clause-kept
 returns-clause-kept c =
-    let items : c.extend_from_slice.new.self.items ≡ c.self.inside.common.items ++ c.args.list.now =
-    search (rules, c.extend_from_slice.ensures.items, c.unwrap.ensures) in
-    rw (c.place.ensures.items, items, reverse-append)
+    rw (c.place.ensures.items, longer (goal.at.returns-clause-kept c).After-place, reverse-append)
     (table_put (lists_of c.self.inside) c.args.worker c.args.list.now c.self.invariant.table
     (rw (sym c.self.view_is) at c.requires.in_hand)
     (omega (arith, c.self.invariant.table.changed, c.if-self-eq-SPENT.false)))
@@ -55,8 +45,13 @@ returns-clause-kept c =
 -- the elements put were in this worker's hand, so no other hand loses one; no hold changes
 pub returns-clause-others : goal.returns-clause-others
 returns-clause-others c =
-    let items : c.extend_from_slice.new.self.items ≡ c.self.inside.common.items ++ c.args.list.now =
-    search (rules, c.extend_from_slice.ensures.items, c.unwrap.ensures) in
-    rw (sym c.self.view_is, c.place.ensures.items, items, reverse-append)
+    rw (sym c.self.view_is, c.place.ensures.items, longer (goal.at.returns-clause-others c).After-place, reverse-append)
     (others_put (lists_of c.self.inside) c.args.worker c.args.list.now c.self.invariant.table
     (rw (sym c.self.view_is) at c.requires.in_hand))
+
+-- the lists are kept as that table, and the common list has the room that it had
+pub invariant_of-self : goal.invariant_of-self
+invariant_of-self c = record {
+  table = returns-clause-kept c;
+  room = omega (arith, c.extend_from_slice.ensures.capacity, c.self.invariant.room);
+}

@@ -14,7 +14,7 @@ use Rattle.ground.proofs.pool.Ground.close.Goals as goal
 pub read_row-requires-clause-small : goal.read_row-requires-clause-small
 read_row-requires-clause-small c = small_words _ _ _ _ _ c.close_with-left.ensures.values.2
 
--- so do counts
+-- counts fit the words that they are read into
 pub read_row-requires-2-clause-small : goal.read_row-requires-2-clause-small
 read_row-requires-2-clause-small c i past =
     small_words _ _ _ _ _ c.close_with-left.ensures.values.2 i (omega arith)
@@ -29,7 +29,7 @@ closed_by c = record {
   desks = c.new-3.result;
 }
 
--- it is of the last world, which has the view of this seat
+-- what was read is of the last world, which has the view of this seat
 left_of : (c : goal.After-new-3) → Closes c.self.inside.limits c.args.seat.known.view c.seat.inside.seat.me.0 (closed_by c)
 left_of c =
     let view : c.seat.inside.seat.me.0.view ≡ c.args.seat.known.view =
@@ -45,15 +45,18 @@ left_of c =
     (slots_items c.close_with-left.result.slots) xs) (sym c.new-3.ensures) c.read_desks.ensures.desks)
     c.seat.invariant.0.busy
 
+-- the words are those of that world, by the limits of the ground as its contract sees it
 pub returns-clause-closed : goal.returns-clause-closed
 returns-clause-closed c =
     subst (λ (l : Limits). LeftOf l c.args.seat.known.view (closed_by c))
     (ap (λ (z : Grounded). z.limits) c.self.view_is) (left_of c).0
 
+-- the packets of full desks are those that the seat knows to lie there
 pub returns-clause-desks : goal.returns-clause-desks
 returns-clause-desks c =
     subst (λ (z : Seated). IfSome z.known.lying (λ ds. c.new-3.result ≡ ds)) c.seat.view_is (left_of c).1
 
+-- where nobody has done anything, the words are those that the ground was made with
 pub returns-clause-fresh : goal.returns-clause-fresh
 returns-clause-fresh c =
     subst (λ (z : Grounded × Seated). IsFresh z.1.known → closed_by c ≡ closed_at_start z.0.limits)

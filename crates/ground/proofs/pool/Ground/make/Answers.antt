@@ -1,8 +1,7 @@
 use Rattle.std.proofs.Common.{◌≡◌, ◌∙◌, refl, rules, ap, sym, subst, length, arith}
 use Rattle.commons.specs.Bounds.{IsPool}
 use Rattle.ground.specs.Opening.{opening_words}
-use Rattle.ground.specs.Own.{Owned, AtDesk, KnowsDesks}
-use Rattle.ground.specs.Rule.{Sat}
+use Rattle.ground.proofs.Calls.{Keeps}
 use Rattle.ground.proofs.Opens.{opens, length_words, owned_none}
 use Rattle.ground.proofs.pool.Ground.make.Goals as goal
 
@@ -24,5 +23,5 @@ invariant_of-result c =
     let l = c.args.limits.now in
     let pool : IsPool l = search rules in
     let e = c.in-Ok-vacant.ensures in
-    subst (λ (m : Sat). Owned m.0.limits m.0.view × AtDesk m.0.view.work m.1 × KnowsDesks m.0) (sym e.4)
+    subst Keeps (sym e.4)
     (owned_none l l.workers pool pool.workers_low (omega arith), refl, λ _. refl)

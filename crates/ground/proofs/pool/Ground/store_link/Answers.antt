@@ -1,32 +1,21 @@
-use Rattle.std.proofs.Common.{◌≡◌, ◌<◌, sym, ap, subst, rules, arith}
+use Rattle.std.proofs.Common.{◌<◌, ap, rules, arith}
 use Rattle.commons.specs.Bag.{bag}
 use Rattle.commons.specs.declared.limits.Limits.{Limits}
-use Rattle.ground.specs.Seats.{Seated, Grounded}
+use Rattle.ground.proofs.Calls.{of_view, sits, allowed, key_is, link_within}
 use Rattle.ground.proofs.Stepping.{stores_link, hand_inside}
 use Rattle.ground.proofs.pool.Ground.store_link.Goals as goal
 
 -- the word is one of the table, and the store keeps the rule
 pub store-requires : goal.store-requires
 store-requires c =
-    let seat = c.args.seat.now in
-    let hand =
-    subst (λ (z : Seated). 0 < bag z.known.view.hand c.args.element) (sym c.seat.view_is)
-    c.requires.hand in
-    let inside =
-    hand_inside seat.known.limits seat.known.view c.args.element c.owned.ensures
-    c.requires.hand in
+    let at = c.link_word.ensures in
+    let inside = hand_inside _ _ c.args.element c.owned.ensures c.requires.hand in
+    let has = of_view c.seat.view_is (λ v. 0 < bag v.hand c.args.element) c.requires.hand in
+    let population = ap (λ (z : Limits). z.population) (key_is c.self.invariant c.self.view_is) in
     let link = c.requires.link in
-    let value = c.from.ensures in
-    let mine : seat.known.limits.population ≡ c.args.self.now.limits.population =
-    ap (λ (z : Limits). z.population) c.requires.of.limits in
-    let here : c.self.inside.limits.population ≡ c.args.self.now.limits.population =
-    ap (λ (z : Grounded). z.limits.population) c.self.view_is in
-    let key : c.self.inside.table.shared.key.population ≡ c.self.inside.limits.population =
-    ap (λ (z : Limits). z.population) c.self.invariant.2 in
-    let words = c.self.invariant.0 in
-    let at = c.link_word.ensures in (
+    let value = c.from.ensures in (
       search rules,
-      omega arith,
-      stores_link _ _ _ _ c.args.element _ _ at hand (omega arith) (c.seat.invariant.0.busy, c.seat.invariant.1, c.seat.invariant.2)
-          c.seat.invariant.0,
+      link_within c.self.invariant c.self.view_is c.requires.of inside at,
+      allowed (stores_link _ _ _ _ c.args.element _ _ at has (omega arith) (sits c.seat.invariant)
+          c.seat.invariant.0),
     )

@@ -9,8 +9,8 @@ use Rattle.script_text.specs.inside.Agreement.{has_made}
 use Rattle.script_text.proofs.NameRuns.{not_so, with_names, with_names-more, with_names-made}
 use Rattle.script_text.proofs.made_names.MadeNames.claim.Goals as goal
 
--- the name was new, so the set has what the lines and the names so far make,
--- and whether one repeats is left to the names behind.
+-- The name was new, so the set has what the lines and the names so far make; whether one repeats
+-- is left to the names behind.
 pub loop-name-preserved : goal.loop-name-preserved
 loop-name-preserved c =
     let inv = c.loop-name.invariant in

@@ -6,18 +6,18 @@ use Rattle.script_text.specs.declared.lines.Line.{Line}
 use Rattle.script_text.specs.PoolLine.{numbers_of_pools}
 use Rattle.script_text.specs.Scripts.{with_command}
 use Rattle.script_text.specs.inside.Reading.{words_of}
-use Rattle.script_text.specs.inside.ScriptReading.{repeats, is_one_of, is_made, order_from, add_command, add_made, lacks_second}
+use Rattle.script_text.specs.inside.ScriptReading.{repeats, is_one_of, is_made, worker_command_from, add_command, add_made, lacks_second}
 use Rattle.script_text.specs.inside.Agreement.{state_of, has_made, AreMade, AreWithin}
 use Rattle.script_text.proofs.PoolLemmas.{pools_of_limits}
 use Rattle.script_text.proofs.KeptLemmas.{workers-push, made-push}
 use Rattle.script_text.proofs.NameRuns.{not_so}
 use Rattle.script_text.proofs.MakingLemmas.{repeats-alike}
-use Rattle.script_text.proofs.OrderLemmas.{order_among}
+use Rattle.script_text.proofs.WorkerCommandLemmas.{worker_command_among}
 use Rattle.script_text.proofs.reader.Reader.read_command.Goals as goal
 
 -- pools that are told are a pool's, which has a number of workers in range
-pub order_of-requires : goal.order_of-requires
-order_of-requires g c =
+pub worker_command-requires : goal.worker_command-requires
+worker_command-requires g c =
     let pools = pools_of_limits c.args.pools.now (rw c.requires.told at c.requires.kept.ready) in
     pools.first.workers
 
@@ -27,7 +27,7 @@ claim-requires g c = let named = rw c.in-Some.is at c.in_ok-worker.ensures.named
 -- a name was made before, or stands twice
 pub returns-then-not-branch-clause-read : goal.returns-then-not-branch-clause-read
 returns-then-not-branch-clause-read g c =
-    let lexicon = g.C.Spelled.lexicon in
+    let lexicon = g.C.FromWords.lexicon in
     let state = state_of c.args.self.now in
     let pools = c.args.pools.now in
     let numbers = numbers_of_pools pools in
@@ -43,7 +43,7 @@ returns-then-not-branch-clause-read g c =
     (is_made lexicon lines) worker named c.requires.kept.made)
     ∙ not-false (repeats (has_made c.args.self.now.made) worker names) (sym first ∙ c.if-not-branch.true) in
     cond-true (ltb (length lines) 10000) (option_and_then (add_command lexicon numbers state c.args.number)
-    (order_from lexicon workers words)) None
+    (worker_command_from lexicon workers words)) None
     (lt-ltb (length lines) 10000 (omega (arith, c.len.ensures, c.if-len-ge-MAX_COMMANDS.false)))
     ∙ ap (option_and_then (add_command lexicon numbers state c.args.number))
     (sym c.in_ok-worker.ensures.read ∙ c.in-Some.is)
@@ -55,7 +55,7 @@ returns-then-not-branch-clause-read g c =
 -- the line is added as the grammar has it.
 pub returns-clause-read : goal.returns-clause-read
 returns-clause-read g c =
-    let lexicon = g.C.Spelled.lexicon in
+    let lexicon = g.C.FromWords.lexicon in
     let state = state_of c.args.self.now in
     let pools = c.args.pools.now in
     let numbers = numbers_of_pools pools in
@@ -73,7 +73,7 @@ returns-clause-read g c =
     (is_made lexicon lines) worker named c.requires.kept.made)
     ∙ not_so (repeats (has_made c.args.self.now.made) worker names) (rw c.names_made.ensures at first) in
     cond-true (ltb (length lines) 10000)
-    (option_and_then (add_command lexicon numbers state c.args.number) (order_from lexicon workers words)) None
+    (option_and_then (add_command lexicon numbers state c.args.number) (worker_command_from lexicon workers words)) None
     (lt-ltb (length lines) 10000 (omega (arith, c.len.ensures, c.if-len-ge-MAX_COMMANDS.false)))
     ∙ ap (option_and_then (add_command lexicon numbers state c.args.number))
     (sym c.in_ok-worker.ensures.read ∙ c.in-Some.is)
@@ -86,7 +86,7 @@ returns-clause-read g c =
 -- the pools stay, the line's worker is of the pool, and the names noted are those that lines make
 pub returns-clause-kept : goal.returns-clause-kept
 returns-clause-kept g c =
-    let lexicon = g.C.Spelled.lexicon in
+    let lexicon = g.C.FromWords.lexicon in
     let pools = c.args.pools.now in
     let worker = c.in-Some.worker in
     let command = c.in-Some.command in
@@ -94,7 +94,7 @@ returns-clause-kept g c =
     let lines = c.args.self.now.lines.items in
     let pool = pools_of_limits pools (rw c.requires.told at c.requires.kept.ready) in
     let among =
-    order_among lexicon pools.first.workers (words_of c.args.line.now) (worker, command)
+    worker_command_among lexicon pools.first.workers (words_of c.args.line.now) (worker, command)
     pool.first.workers_low (sym c.in_ok-worker.ensures.read ∙ c.in-Some.is) in
     let names = lexicon.language.names_made command in
     let made = rw c.names_made.ensures at c.in_ok-claim.ensures.made (ap Ok c.if-not-branch.false) in

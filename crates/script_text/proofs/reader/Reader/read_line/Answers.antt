@@ -12,14 +12,14 @@ use Rattle.script_text.proofs.reader.Reader.read_line.Goals as goal
 pub returns-then-not-is_plain-clause-read : goal.returns-then-not-is_plain-clause-read
 returns-then-not-is_plain-clause-read g c =
     let s = state_of c.args.self.now in
-    judged_fault g.C.Spelled.lexicon s c.args.number c.args.line.now (read_not_plain g.C.Spelled.lexicon s c.args.number c.args.line.now
+    judged_fault g.C.FromWords.lexicon s c.args.number c.args.line.now (read_not_plain g.C.FromWords.lexicon s c.args.number c.args.line.now
     (sym c.is_plain.ensures ∙ c.if-not-is_plain.true))
 
 -- a skipped line tells nothing, and what was told is still a pool's
 pub returns-then-is_skipped-clause-read : goal.returns-then-is_skipped-clause-read
 returns-then-is_skipped-clause-read g c =
     let s = state_of c.args.self.now in
-    judged_ok g.C.Spelled.lexicon s s c.args.number c.args.line.now (read_skipped g.C.Spelled.lexicon s c.args.number c.args.line.now
+    judged_ok g.C.FromWords.lexicon s s c.args.number c.args.line.now (read_skipped g.C.FromWords.lexicon s c.args.number c.args.line.now
     (sym c.is_plain.ensures ∙ c.if-not-is_plain.false)
     (sym c.is_skipped.ensures ∙ c.if-is_skipped.true)) c.requires.ready
 
@@ -29,10 +29,10 @@ returns-in_err-made_pools-in-None-clause-read g c =
     let s = state_of c.args.self.now in
     let p = err_from_is_err_and c.from_residual.result c.from_residual.ensures.1 in
     let read =
-    read_as g.C.Spelled.lexicon s c.args.number c.args.line.now None
+    read_as g.C.FromWords.lexicon s c.args.number c.args.line.now None
     (sym c.is_plain.ensures ∙ c.if-not-is_plain.false)
     (sym c.is_skipped.ensures ∙ c.if-is_skipped.false) (ap (option_map numbers_of_pools) c.in-None.is) in
-    rw (p.1, p.2) (stops_pool g.C.Spelled.lexicon c.in_err-made_pools-in-None.field-0.0 s c.args.number c.args.line.now
+    rw (p.1, p.2) (stops_pool g.C.FromWords.lexicon c.in_err-made_pools-in-None.field-0.0 s c.args.number c.args.line.now
     read (rw c.knows_second.ensures at c.in_err-made_pools-in-None.ensures))
 
 -- with no pools told the line is the pool line, and its pools are a pool's
@@ -41,10 +41,10 @@ returns-in_ok-made_pools-in-None-clause-read g c =
     let s = state_of c.args.self.now in
     let pools = c.in_ok-made_pools-in-None.field-0 in
     let read =
-    read_as g.C.Spelled.lexicon s c.args.number c.args.line.now None
+    read_as g.C.FromWords.lexicon s c.args.number c.args.line.now None
     (sym c.is_plain.ensures ∙ c.if-not-is_plain.false)
     (sym c.is_skipped.ensures ∙ c.if-is_skipped.false) (ap (option_map numbers_of_pools) c.in-None.is) in
-    judged_ok g.C.Spelled.lexicon s (with_numbers s (numbers_of_pools pools)) c.args.number c.args.line.now (read
+    judged_ok g.C.FromWords.lexicon s (with_numbers s (numbers_of_pools pools)) c.args.number c.args.line.now (read
     ∙ ap (option_and_then (λ n. Some (with_numbers s n)))
     (rw c.knows_second.ensures at c.in_ok-made_pools-in-None.ensures.0))
     c.in_ok-made_pools-in-None.ensures.1
@@ -57,11 +57,11 @@ returns-in-Some-clause-read g c =
     let n = c.args.number in
     let line = c.args.line.now in
     let read =
-    read_as g.C.Spelled.lexicon s n line (Some (numbers_of_pools c.in-Some.pools))
+    read_as g.C.FromWords.lexicon s n line (Some (numbers_of_pools c.in-Some.pools))
     (sym c.is_plain.ensures ∙ c.if-not-is_plain.false)
     (sym c.is_skipped.ensures ∙ c.if-is_skipped.false) (ap (option_map numbers_of_pools) c.in-Some.is) in
     MatchResult-weaker c.read_command.result c.read_command.ensures.read
-    (λ x h. judged_ok g.C.Spelled.lexicon s next n line (read ∙ h)
+    (λ x h. judged_ok g.C.FromWords.lexicon s next n line (read ∙ h)
     (ap (λ (o : Option Pools). are_ready (option_map numbers_of_pools o)) c.read_command.ensures.pools
     ∙ c.requires.ready))
-    (λ stop h. stops_command g.C.Spelled.lexicon stop s n line _ read h)
+    (λ stop h. stops_command g.C.FromWords.lexicon stop s n line _ read h)

@@ -1,6 +1,6 @@
-use Rattle.std.proofs.Common.{◌≡◌, ◌<◌, ◌∙◌, List, ℕ, refl, sym, ap, arith, length, remove, get_or}
+use Rattle.std.proofs.Common.{◌≡◌, ◌<◌, ◌∙◌, List, ℕ, refl, sym, ap, arith, length, remove}
 use Rattle.step_core.specs.Bags.{without}
-use Rattle.step_core.proofs.ElemLemmas.{none_so_far, take_none, without_at, without_none, read_at, none_in_all}
+use Rattle.step_core.proofs.ElemLemmas.{none_so_far, take_none, without_at, without_none, read_same, none_in_all}
 use Rattle.step_core.proofs.elems.Elems.take_out.Goals as goal
 
 pub loop-i-init : goal.loop-i-init
@@ -11,12 +11,9 @@ pub returns-then-index-element : goal.returns-then-index-element
 returns-then-index-element c =
     let items : c.loop-i.self-inside.items.items ≡ c.self.inside.items.items = cc (c.loop-i.invariant.same) in
     let inside : c.loop-i.i < length c.self.inside.items.items = omega (arith, c.self.inside.items.ok) in
-    let there : c.index.result.now
-    ≡ get_or c.self.inside.items.items c.loop-i.i c.index.result.now =
-    c.index.ensures ∙ ap (λ (xs : List ℕ). get_or xs c.loop-i.i c.index.result.now) items in
     c.remove.ensures.items ∙ ap (λ (xs : List ℕ). remove xs c.loop-i.i) items
     ∙ without_at c.self.inside.items.items c.loop-i.i c.args.element inside c.loop-i.invariant.none
-    (read_at _ c.loop-i.i _ inside there ∙ c.if-index-element.true)
+    (read_same _ _ c.loop-i.i _ items inside c.index.ensures ∙ c.if-index-element.true)
     ∙ ap (without c.args.element) c.self.view_is
 
 -- the next element isn't the one to be taken out, and the list is as it was
@@ -24,18 +21,15 @@ pub loop-i-preserved : goal.loop-i-preserved
 loop-i-preserved c =
     let items : c.loop-i.self-inside.items.items ≡ c.self.inside.items.items = cc (c.loop-i.invariant.same) in
     let inside : c.loop-i.i < length c.self.inside.items.items = omega (arith, c.self.inside.items.ok) in
-    let there : c.index.result.now
-    ≡ get_or c.self.inside.items.items c.loop-i.i c.index.result.now =
-    c.index.ensures ∙ ap (λ (xs : List ℕ). get_or xs c.loop-i.i c.index.result.now) items in
     record {
       same = c.loop-i.invariant.same;
       none =
           none_so_far c.self.inside.items.items c.loop-i.i c.args.element inside
           c.loop-i.invariant.none
-          (λ e. c.if-index-element.false (sym (read_at _ c.loop-i.i _ inside there) ∙ e));
+          (λ e. c.if-index-element.false (sym (read_same _ _ c.loop-i.i _ items inside c.index.ensures) ∙ e));
     }
 
--- it stands nowhere
+-- the element stands nowhere, and nothing is taken out
 pub returns : goal.returns
 returns c =
     let items : c.loop-i.self-inside.items.items ≡ c.self.inside.items.items = cc (c.loop-i.invariant.same) in

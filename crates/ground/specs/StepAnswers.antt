@@ -1,4 +1,4 @@
--- What each step tells its seat.
+-- What each step on the stack or on a count answers its seat.
 use Rattle.std.specs.Prelude.{◌≡◌, ◌≢◌, ℕ, ◌-◌, ◌<◌, ◌≤◌, ◌==◌, Bool, true, false, List, [], ◌∷◌, ◌++◌, Option, None}
 use Rattle.atomic_table.specs.Table as table
 use Rattle.head_word.specs.Heads.{low_in, no_low}
@@ -8,7 +8,7 @@ use Rattle.step_core.specs.declared.step.Step.{Step}
 use Rattle.step_core.specs.declared.step.Step.TheVariants.{LoadLength, Reserve, Add, LoadHead, LoadLink, Cut, StoreLink, Push, Claim, Sole, Raise, Lower, Reset}
 use Rattle.step_core.specs.declared.step.Outcome.{Outcome}
 use Rattle.step_core.specs.declared.step.Outcome.TheVariants.{Value, HeadIs, Won, Got, Lost, LostTo, Done}
-use Rattle.step_core.specs.Sights.{view_after}
+use Rattle.step_core.specs.Views.{view_after}
 use Rattle.ground.specs.declared.known.Known.{Known}
 use Rattle.ground.specs.Changing.{KnowsChanges, KnowsOpening}
 use Rattle.ground.specs.Layout.{unpack, element_linked_at, element_counted_at}
@@ -29,10 +29,10 @@ noted st o m = (
   m.1,
 )
 
--- a step tells what it made of the seat, what is true of the new view by itself, where the slots
--- are, and that a seat of every part knows the desks
-abbrev pub Tells : Step → Outcome → Sat → Sat → Type 0
-Tells st o m m' =
+-- the seat has noted the step, and learns what is true of its new view by itself, that the slot of
+-- its busy desk is out with it and no other is, and that it knows the desks, if it is the only seat
+abbrev pub Noted : Step → Outcome → Sat → Sat → Type 0
+Noted st o m m' =
     (m' ≡ noted st o m) × Owned m.0.limits (view_after None st o m.0.view)
     × AtDesk (view_after None st o m.0.view).work m.1 × KnowsDesks (noted st o m).0
 
@@ -54,51 +54,51 @@ abbrev pub IsLater : Bool → Known → ℕ → Type 0
 IsLater true n found = Unit {0}
 IsLater false n found = (low_in found < no_low) × (count_of n.view.look < (unpack found).count)
 
--- and the seat doesn't have every part
+-- where an exchange of the head lost, its seat isn't the only one of its pool
 abbrev pub IsShared : Bool → Known → Type 0
 IsShared true n = Unit {0}
 IsShared false n = n.view.part ≢ n.limits.workers
 
 abbrev pub loaded_length : table.Step Slot → Sat → ℕ → Sat → Type 0
 loaded_length st m found m' =
-    Tells LoadLength (Value found) m m' × (found ≤ m.0.limits.population)
+    Noted LoadLength (Value found) m m' × (found ≤ m.0.limits.population)
     × KnowsLength m.0 found
 
 abbrev pub reserved : table.Step Slot → Sat → ℕ → Sat → Type 0
 reserved st m found m' =
-    Tells (Reserve st.first (st.first - st.second)) (exchanged (found == st.first) found) m m'
+    Noted (Reserve st.first (st.first - st.second)) (exchanged (found == st.first) found) m m'
     × KnowsLength m.0 found
 
 abbrev pub added : table.Step Slot → Sat → ℕ → Sat → Type 0
-added st m found m' = Tells (Add st.first) Done m m'
+added st m found m' = Noted (Add st.first) Done m m'
 
 abbrev pub loaded_head : table.Step Slot → Sat → ℕ → Sat → Type 0
 loaded_head st m found m' =
-    Tells LoadHead (HeadIs (unpack found)) m m' × (low_in found ≤ m.0.limits.population)
+    Noted LoadHead (HeadIs (unpack found)) m m' × (low_in found ≤ m.0.limits.population)
     × (m.0.view.seen ≤ (unpack found).count) × KnowsChanges m.0 (unpack found).count
     × KnowsOpening m.0 (unpack found)
     × KnowsEnd m.0.limits (view_after None LoadHead (HeadIs (unpack found)) m.0.view)
 
 abbrev pub loaded_link : table.Step Slot → Sat → ℕ → Sat → Type 0
 loaded_link st m found m' =
-    Tells (LoadLink (element_linked_at st.word)) (Value found) m m' × (found ≤ m.0.limits.population)
+    Noted (LoadLink (element_linked_at st.word)) (Value found) m m' × (found ≤ m.0.limits.population)
     × KnowsEnd m.0.limits (view_after None (LoadLink (element_linked_at st.word)) (Value found) m.0.view)
 
-abbrev pub cut_tells : table.Step Slot → Sat → ℕ → Sat → Type 0
-cut_tells st m found m' =
-    Tells Cut (cut_found (found == st.first) (front_of m.0.view.look) found) m m'
+abbrev pub cut_answers : table.Step Slot → Sat → ℕ → Sat → Type 0
+cut_answers st m found m' =
+    Noted Cut (cut_found (found == st.first) (front_of m.0.view.look) found) m m'
     × IsLater (found == st.first) m.0 found × IsShared (found == st.first) m.0
 
 abbrev pub stored_link : table.Step Slot → Sat → ℕ → Sat → Type 0
-stored_link st m found m' = Tells (StoreLink (element_linked_at st.word) (element_of st.first)) Done m m'
+stored_link st m found m' = Noted (StoreLink (element_linked_at st.word) (element_of st.first)) Done m m'
 
-abbrev pub push_tells : table.Step Slot → Sat → ℕ → Sat → Type 0
-push_tells st m found m' =
-    Tells Push (push_found (found == st.first) found) m m'
+abbrev pub push_answers : table.Step Slot → Sat → ℕ → Sat → Type 0
+push_answers st m found m' =
+    Noted Push (push_found (found == st.first) found) m m'
     × IsLater (found == st.first) m.0 found × IsShared (found == st.first) m.0
 
--- a load that only looks tells what the seat's view is by itself, and a seat of every part what
--- lies on the desks
+-- A load that only looks answers what is true of the seat's view by itself, and the only seat of a
+-- pool what lies on the desks.
 abbrev pub looked : table.Step Slot → Sat → ℕ → Sat → Type 0
 looked st m found m' =
     (lying : Option (List (Option (List Seg)))) × (m' ≡ (record m.0 { lying = lying }, m.1))
@@ -109,25 +109,25 @@ looked st m found m' =
 abbrev pub counted_by : table.Step Slot → Known → ℕ
 counted_by st n = element_counted_at n.limits.population st.word
 
-abbrev pub claim_tells : table.Step Slot → Sat → ℕ → Sat → Type 0
-claim_tells st m found m' = Tells (Claim (counted_by st m.0)) (Value found) m m' × (found ≡ 1)
+abbrev pub claim_answers : table.Step Slot → Sat → ℕ → Sat → Type 0
+claim_answers st m found m' = Noted (Claim (counted_by st m.0)) (Value found) m m' × (found ≡ 1)
 
-abbrev pub sole_tells : Bool → table.Step Slot → Sat → ℕ → Sat → Type 0
-sole_tells free st m found m' =
-    Tells (Sole (counted_by st m.0) free) (Value found) m m'
+abbrev pub sole_answers : Bool → table.Step Slot → Sat → ℕ → Sat → Type 0
+sole_answers free st m found m' =
+    Noted (Sole (counted_by st m.0) free) (Value found) m m'
     × (bag m.0.view.holds (counted_by st m.0) ≤ found) × (found ≤ m.0.limits.ref_limit)
     × KnowsCount m.0 (counted_by st m.0) found
 
-abbrev pub raise_tells : table.Step Slot → Sat → ℕ → Sat → Type 0
-raise_tells st m found m' =
-    Tells (Raise (counted_by st m.0) st.first) (exchanged (found == st.first) found) m m'
+abbrev pub raise_answers : table.Step Slot → Sat → ℕ → Sat → Type 0
+raise_answers st m found m' =
+    Noted (Raise (counted_by st m.0) st.first) (exchanged (found == st.first) found) m m'
     × KnowsCount m.0 (counted_by st m.0) found
 
-abbrev pub lower_tells : table.Step Slot → Sat → ℕ → Sat → Type 0
-lower_tells st m found m' =
-    Tells (Lower (counted_by st m.0)) (Value found) m m'
+abbrev pub lower_answers : table.Step Slot → Sat → ℕ → Sat → Type 0
+lower_answers st m found m' =
+    Noted (Lower (counted_by st m.0)) (Value found) m m'
     × (bag m.0.view.holds (counted_by st m.0) ≤ found) × (found ≤ m.0.limits.ref_limit)
     × KnowsCount m.0 (counted_by st m.0) found
 
-abbrev pub reset_tells : table.Step Slot → Sat → ℕ → Sat → Type 0
-reset_tells st m found m' = Tells (Reset (counted_by st m.0)) Done m m'
+abbrev pub reset_answers : table.Step Slot → Sat → ℕ → Sat → Type 0
+reset_answers st m found m' = Noted (Reset (counted_by st m.0)) Done m m'

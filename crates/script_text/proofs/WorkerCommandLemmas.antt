@@ -9,7 +9,7 @@ use Rattle.std.proofs.lemmas.Slice.Eq.{bytes_eq-Decides}
 use Rattle.script_text.specs.Numbers.{IsNumber}
 use Rattle.script_text.specs.Scripts.{IsPrefix, IsCommandLine, alone, prefixed}
 use Rattle.script_text.specs.inside.Reading.{is_skipped, number_at}
-use Rattle.script_text.specs.inside.ScriptReading.{Lexicon, before_colon, of_workers, worker_at, order_of, order_by, order_from}
+use Rattle.script_text.specs.inside.ScriptReading.{Lexicon, before_colon, of_workers, worker_at, command_of_worker, command_by_prefix, worker_command_from}
 use Rattle.script_text.specs.inside.Agreement.{IsAmong}
 use Rattle.script_text.proofs.NumberLemmas.{number_from, number_is}
 use Rattle.script_text.proofs.FoundLemmas.{and_then_some, found_is, if_some}
@@ -75,83 +75,89 @@ counted_prefix word (byte ∷ number) workers worker rest e h =
 
 module _ {C : Type 0} (lexicon : Lexicon C) where
   -- the worker of a line is the first, or the one whose number stands in front
-  among_by : (workers : ℕ) (o : Option (List ℕ)) (all behind : List (List ℕ)) (order : ℕ × C) → 1 ≤ workers →
-      order_by lexicon workers o all behind ≡ Some order → IsAmong workers order.0
-  among_by workers None all behind order some e =
-      let c = and_then_some (λ command. Some (1, command)) (lexicon.command_from all) order e in
-      subst (λ (o : ℕ × C). IsAmong workers o.0) (found_is (1, c.0) order c.2) (omega arith, some)
-  among_by workers (Some number) all behind order some e =
-      let w = and_then_some (λ worker. order_of lexicon worker behind) (worker_at workers number) order e in
+  among_by : (workers : ℕ) (o : Option (List ℕ)) (all behind : List (List ℕ)) (found : ℕ × C) → 1 ≤ workers →
+      command_by_prefix lexicon workers o all behind ≡ Some found → IsAmong workers found.0
+  among_by workers None all behind found some e =
+      let c = and_then_some (λ command. Some (1, command)) (lexicon.command_from all) found e in
+      subst (λ (o : ℕ × C). IsAmong workers o.0) (found_is (1, c.0) found c.2) (omega arith, some)
+  among_by workers (Some number) all behind found some e =
+      let w = and_then_some (λ worker. command_of_worker lexicon worker behind) (worker_at workers number) found e in
       let n = and_then_some (of_workers workers) (number_at number) w.0 w.1 in
       let a = among workers n.0 w.0 n.2 in
-      let c = and_then_some (λ command. Some (w.0, command)) (lexicon.command_from behind) order w.2 in
-      subst (λ (o : ℕ × C). IsAmong workers o.0) (found_is (w.0, c.0) order c.2) (subst (IsAmong workers) a.2 (a.0, a.1))
+      let c = and_then_some (λ command. Some (w.0, command)) (lexicon.command_from behind) found w.2 in
+      subst (λ (o : ℕ × C). IsAmong workers o.0) (found_is (w.0, c.0) found c.2) (subst (IsAmong workers) a.2 (a.0, a.1))
 
   -- what is read as a command line is one, and its worker is of the pool
-  pub order_among : (workers : ℕ) (words : List (List ℕ)) (order : ℕ × C) → 1 ≤ workers →
-      order_from lexicon workers words ≡ Some order → IsAmong workers order.0
-  order_among workers [] order some e = absurd cc
-  order_among workers (word ∷ words) order some e = among_by workers (before_colon word) (word ∷ words) words order some e
+  pub worker_command_among : (workers : ℕ) (words : List (List ℕ)) (found : ℕ × C) → 1 ≤ workers →
+      worker_command_from lexicon workers words ≡ Some found → IsAmong workers found.0
+  worker_command_among workers [] found some e = absurd cc
+  worker_command_among workers (word ∷ words) found some e =
+      among_by workers (before_colon word) (word ∷ words) words found some e
 
 module _ {C : Type 0} (lexicon : Lexicon C) (right : IsRight lexicon) where
   -- a command that is read with a worker is that worker's, and the words are it
-  order_is_of : (worker : ℕ) (words : List (List ℕ)) (order : ℕ × C) →
-      order_of lexicon worker words ≡ Some order → (worker ≡ order.0) × lexicon.language.IsCommand words order.1
-  order_is_of worker words order e =
-      let c = and_then_some (λ command. Some (worker, command)) (lexicon.command_from words) order e in
-      let same : ◌≡◌ {A = ℕ × C} (worker, c.0) order = found_is (worker, c.0) order c.2 in (
+  worker_command_is_of : (worker : ℕ) (words : List (List ℕ)) (found : ℕ × C) →
+      command_of_worker lexicon worker words ≡ Some found → (worker ≡ found.0) × lexicon.language.IsCommand words found.1
+  worker_command_is_of worker words found e =
+      let c = and_then_some (λ command. Some (worker, command)) (lexicon.command_from words) found e in
+      let same : ◌≡◌ {A = ℕ × C} (worker, c.0) found = found_is (worker, c.0) found c.2 in (
         ap (λ (o : ℕ × C). o.0) same,
         subst (λ (command : C). lexicon.language.IsCommand words command)
             (ap (λ (o : ℕ × C). o.1) same) (right.comes words c.0 c.1),
       )
 
   -- the command is the first worker's, or behind a prefix that of the worker whose number it is
-  order_comes_by : (workers : ℕ) (o : Option (List ℕ)) (word : List ℕ) (words : List (List ℕ))
-      (order : ℕ × C) → before_colon word ≡ o →
-      order_by lexicon workers o (word ∷ words) words ≡ Some order →
-      IsCommandLine lexicon.language workers (word ∷ words) order.0 order.1
-  order_comes_by workers None word words order e f =
-      let c = order_is_of 1 (word ∷ words) order f in alone (sym c.0) c.1
-  order_comes_by workers (Some number) word words order e f =
-      let w = and_then_some (λ worker. order_of lexicon worker words) (worker_at workers number) order f in
-      let c = order_is_of w.0 words order w.2 in
+  worker_command_comes_by : (workers : ℕ) (o : Option (List ℕ)) (word : List ℕ) (words : List (List ℕ))
+      (found : ℕ × C) → before_colon word ≡ o →
+      command_by_prefix lexicon workers o (word ∷ words) words ≡ Some found →
+      IsCommandLine lexicon.language workers (word ∷ words) found.0 found.1
+  worker_command_comes_by workers None word words found e f =
+      let c = worker_command_is_of 1 (word ∷ words) found f in alone (sym c.0) c.1
+  worker_command_comes_by workers (Some number) word words found e f =
+      let w = and_then_some (λ worker. command_of_worker lexicon worker words) (worker_at workers number) found f in
+      let c = worker_command_is_of w.0 words found w.2 in
       prefixed word words refl (subst (λ (worker : ℕ). IsPrefix word workers worker) c.0
       (prefix_from word number workers w.0 e w.1)) c.1
 
   -- a command line has a first word, which is a prefix or not
-  pub order_comes : (workers : ℕ) (words : List (List ℕ)) (order : ℕ × C) →
-      order_from lexicon workers words ≡ Some order → IsCommandLine lexicon.language workers words order.0 order.1
-  order_comes workers [] order e = absurd cc
-  order_comes workers (word ∷ words) order e = order_comes_by workers (before_colon word) word words order refl e
+  pub worker_command_comes : (workers : ℕ) (words : List (List ℕ)) (found : ℕ × C) →
+      worker_command_from lexicon workers words ≡ Some found → IsCommandLine lexicon.language workers words found.0 found.1
+  worker_command_comes workers [] found e = absurd cc
+  worker_command_comes workers (word ∷ words) found e =
+      worker_command_comes_by workers (before_colon word) word words found refl e
 
   -- a verb has no colon at its end, so a line that begins with one is the first worker's
   no_prefix : (words : List (List ℕ)) (command : C) (workers : ℕ) → lexicon.language.IsCommand words command →
-      order_from lexicon workers words ≡ order_of lexicon 1 words
+      worker_command_from lexicon workers words ≡ command_of_worker lexicon 1 words
   no_prefix words command workers h =
       let v = right.plainly words command h in
-      ap (order_from lexicon workers) v.words_are
-      ∙ ap (λ (o : Option (List ℕ)). order_by lexicon workers o (v.word ∷ v.rest) v.rest) v.no_colon
-      ∙ ap (order_of lexicon 1) (sym v.words_are)
+      ap (worker_command_from lexicon workers) v.words_are
+      ∙ ap (λ (o : Option (List ℕ)). command_by_prefix lexicon workers o (v.word ∷ v.rest) v.rest) v.no_colon
+      ∙ ap (command_of_worker lexicon 1) (sym v.words_are)
 
   -- the words of a command begin with a verb, which isn't marked by `#`
   pub counted_command : (words : List (List ℕ)) (command : C) → lexicon.language.IsCommand words command → is_skipped words ≡ false
   counted_command words command h = let v = right.plainly words command h in ap is_skipped v.words_are ∙ v.unmarked
 
   -- a command is read as itself, with the worker that is given
-  order_as : (worker : ℕ) (words : List (List ℕ)) (command : C) → lexicon.language.IsCommand words command →
-      order_of lexicon worker words ≡ Some (worker, command)
-  order_as worker words command h = ap (option_and_then (λ c. Some (worker, c))) (right.is words command h)
+  worker_command_as : (worker : ℕ) (words : List (List ℕ)) (command : C) → lexicon.language.IsCommand words command →
+      command_of_worker lexicon worker words ≡ Some (worker, command)
+  worker_command_as worker words command h = ap (option_and_then (λ c. Some (worker, c))) (right.is words command h)
 
   -- a line with a prefix is its worker's, and one without is the first worker's
-  pub order_is : (workers : ℕ) (words : List (List ℕ)) (worker : ℕ) (command : C) →
-      IsCommandLine lexicon.language workers words worker command → order_from lexicon workers words ≡ Some (worker, command)
-  order_is workers words worker command (alone one h) =
-      no_prefix words command workers h ∙ ap (λ (w : ℕ). order_of lexicon w words) (sym one) ∙ order_as worker words command h
-  order_is workers words worker command (prefixed word rest e p h) =
-      ap (order_from lexicon workers) e
-      ∙ ap (λ (o : Option (List ℕ)). order_by lexicon workers o (word ∷ rest) rest) (ap before_colon p.whole ∙ colon_is p.number)
-      ∙ ap (option_and_then (λ w. order_of lexicon w rest)) (worker_is p.number workers worker p.is_number p.first p.last)
-      ∙ order_as worker rest command h
+  pub worker_command_is : (workers : ℕ) (words : List (List ℕ)) (worker : ℕ) (command : C) →
+      IsCommandLine lexicon.language workers words worker command →
+      worker_command_from lexicon workers words ≡ Some (worker, command)
+  worker_command_is workers words worker command (alone one h) =
+      no_prefix words command workers h ∙ ap (λ (w : ℕ). command_of_worker lexicon w words) (sym one)
+      ∙ worker_command_as worker words command h
+  worker_command_is workers words worker command (prefixed word rest e p h) =
+      ap (worker_command_from lexicon workers) e
+      ∙ ap (λ (o : Option (List ℕ)). command_by_prefix lexicon workers o (word ∷ rest) rest)
+      (ap before_colon p.whole ∙ colon_is p.number)
+      ∙ ap (option_and_then (λ w. command_of_worker lexicon w rest))
+      (worker_is p.number workers worker p.is_number p.first p.last)
+      ∙ worker_command_as worker rest command h
 
   -- neither a verb nor a worker's number begins with `#`, so a command line isn't skipped
   pub counted_line : (workers : ℕ) (words : List (List ℕ)) (worker : ℕ) (command : C) →

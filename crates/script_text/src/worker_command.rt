@@ -7,11 +7,11 @@ ghost use Rattle.std.specs.List.{AllByRecursion};
 ghost use Rattle.std.specs.Option.{option_copied};
 ghost use Rattle.script_text.specs.Names.{IsName};
 ghost use Rattle.script_text.specs.inside.Reading.{words_of};
-ghost use Rattle.script_text.specs.inside.ScriptReading.{before_colon, order_from, worker_at};
+ghost use Rattle.script_text.specs.inside.ScriptReading.{before_colon, worker_command_from, worker_at};
 
+use crate::from_words::FromWords;
 use crate::line::next_word;
 use crate::number::number_of;
-use crate::spelled::Spelled;
 use std::alloc::{AllocError, Global};
 
 /// The part of a word before a colon at its end.
@@ -36,15 +36,16 @@ fn worker_of(workers: u64, number: &[u8]) -> Option<u32>
 
 /// The worker and the command that a line spells in a pool of this many workers, or `None` where
 /// it spells none. A line that names no worker is of the first.
-pub(crate) fn order_of<C: Spelled>(
+pub(crate) fn worker_command<C: FromWords>(
     alloc: Global,
     workers: u64,
     line: &[u8],
 ) -> Result<Option<(u32, C)>, AllocError>
     requires { workers ≤ max_workers }
-    ensures read { IfOk result (λ order. order ≡ order_from C.lexicon workers (words_of line.now)) }
+    ensures read { IfOk result (λ found.
+        found ≡ worker_command_from C.lexicon workers (words_of line.now)) }
     ensures named { IfOk result
-        (λ order. IfSome order (λ o. AllByRecursion IsName (C.lexicon.language.names_made o.1))) }
+        (λ found. IfSome found (λ o. AllByRecursion IsName (C.lexicon.language.names_made o.1))) }
 {
     let Some((word, rest)) = next_word(line) else {
         return Ok(None);
@@ -56,7 +57,7 @@ pub(crate) fn order_of<C: Spelled>(
             Some(worker) => (worker, rest),
         },
     };
-    match C::spelled(alloc, words)? {
+    match C::from_words(alloc, words)? {
         None => Ok(None),
         Some(command) => Ok(Some((worker, command))),
     }

@@ -1,4 +1,4 @@
--- What each step on a desk's word tells its seat. The desk is the one whose word it is.
+-- What each step on a desk's word answers its seat. The desk is the one whose word it is.
 use Rattle.std.specs.Prelude.{◌≡◌, ℕ, ◌==◌, Bool, true, false, List, [], ◌∷◌, ◌++◌, Option, Some, None}
 use Rattle.atomic_table.specs.Table as table
 use Rattle.commons.specs.declared.packet.Seg.{Seg}
@@ -7,13 +7,13 @@ use Rattle.step_core.specs.declared.step.Step.TheVariants.{Hold, Open, Seize, Cl
 use Rattle.step_core.specs.declared.step.Outcome.{Outcome}
 use Rattle.step_core.specs.declared.step.Outcome.TheVariants.{Won, Lost, Done, Found}
 use Rattle.step_core.specs.declared.view.View.{View}
-use Rattle.step_core.specs.Sights.{view_after, working, opened}
+use Rattle.step_core.specs.Views.{view_after, working, opened}
 use Rattle.ground.specs.declared.known.Known.{Known}
 use Rattle.ground.specs.Layout.{desk_standing_at}
 use Rattle.ground.specs.Own.{Owned, AtDesk, KnowsDesks}
 use Rattle.ground.specs.Rule.{Slot, Sat}
 use Rattle.ground.specs.Seats.{laid_on, KnowsThere, KnowsEmpty, KnowsFull}
-use Rattle.ground.specs.Tells.{Tells}
+use Rattle.ground.specs.StepAnswers.{Noted}
 
 abbrev pub desk_by : table.Step Slot → Known → ℕ
 desk_by st n = desk_standing_at n.limits.population st.word
@@ -34,14 +34,14 @@ abbrev pub hold_found : Bool → ℕ → ℕ → Sat → Sat → Type 0
 hold_found true d found m m' =
     Moved (Hold d) Won (view_after None (Hold d) Won m.0.view) m.0.lying ((d, None) ∷ []) m m'
     × KnowsEmpty d m.0
-hold_found false d found m m' = Tells (Hold d) (Lost found) m m' × KnowsFull d m.0
+hold_found false d found m m' = Noted (Hold d) (Lost found) m m' × KnowsFull d m.0
 
-abbrev pub hold_tells : table.Step Slot → Sat → ℕ → Sat → Type 0
-hold_tells st m found m' = hold_found (found == st.first) (desk_by st m.0) found m m'
+abbrev pub hold_answers : table.Step Slot → Sat → ℕ → Sat → Type 0
+hold_answers st m found m' = hold_found (found == st.first) (desk_by st m.0) found m m'
 
 -- what was in the slot is noted with the step
-abbrev pub open_tells : table.Step Slot → Sat → ℕ → Sat → Type 0
-open_tells st m found m' =
+abbrev pub open_answers : table.Step Slot → Sat → ℕ → Sat → Type 0
+open_answers st m found m' =
     (p : List Seg) × (m.1 ≡ (desk_by st m.0, Some p) ∷ [])
     × Moved (Open (desk_by st m.0)) (Found p) (working (opened m.0.view p) None)
     (laid_on (desk_by st m.0) (Some p) m.0.lying) [] m m'
@@ -52,11 +52,11 @@ seize_found true d found m m' =
     × Moved (Seize d) (Found p) (view_after (Some p) (Seize d) Won m.0.view)
     (laid_on d None m.0.lying) ((d, Some p) ∷ []) m m'
     × KnowsThere d p m.0
-seize_found false d found m m' = Tells (Seize d) (Lost found) m m' × KnowsEmpty d m.0
+seize_found false d found m m' = Noted (Seize d) (Lost found) m m' × KnowsEmpty d m.0
 
-abbrev pub seize_tells : table.Step Slot → Sat → ℕ → Sat → Type 0
-seize_tells st m found m' = seize_found (found == st.first) (desk_by st m.0) found m m'
+abbrev pub seize_answers : table.Step Slot → Sat → ℕ → Sat → Type 0
+seize_answers st m found m' = seize_found (found == st.first) (desk_by st m.0) found m m'
 
-abbrev pub clear_tells : table.Step Slot → Sat → ℕ → Sat → Type 0
-clear_tells st m found m' =
+abbrev pub clear_answers : table.Step Slot → Sat → ℕ → Sat → Type 0
+clear_answers st m found m' =
     Moved (Clear (desk_by st m.0)) Done (working m.0.view None) m.0.lying [] m m'

@@ -1,6 +1,6 @@
 use Rattle.script_text.specs.inside.Reading.{words_of}
 use Rattle.script_text.proofs.CommandLemmas.{read_is_named}
-use Rattle.script_text.proofs.command_line.CommandSpelled.spelled.Goals as goal
+use Rattle.script_text.proofs.command_line.CommandFromWords.from_words.Goals as goal
 
 -- the command of a verb makes names alone
 pub returns-clause-named : goal.returns-clause-named

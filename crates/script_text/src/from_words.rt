@@ -11,12 +11,12 @@ use std::alloc::{AllocError, Global};
 
 /// A command that words spell, as one kind of script has them in its lines, after the pool line
 /// and a worker's number.
-pub(crate) trait Spelled: Drop {
+pub(crate) trait FromWords: Drop {
     /// Which words are which command, and which names it makes.
     ghost lexicon: { Lexicon Self };
 
     /// The command that words spell, or `None` where they spell none.
-    fn spelled(alloc: Global, words: &[u8]) -> Result<Option<Self>, AllocError>
+    fn from_words(alloc: Global, words: &[u8]) -> Result<Option<Self>, AllocError>
         ensures read { IfOk result
             (λ command. command ≡ lexicon.command_from (words_of words.now)) }
         ensures named { IfOk result (λ command.
