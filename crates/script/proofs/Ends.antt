@@ -1,5 +1,5 @@
 -- What pools that threads played on come to, as they were left.
-use Rattle.std.proofs.Common.{ℕ, ◌≡◌, ◌≤◌, List, Option, None, Some, Result, Ok, Err, IfOk, sym, ap, ◌∙◌, subst}
+use Rattle.std.proofs.Common.{ℕ, ◌≡◌, ◌≤◌, List, Option, None, Some, Result, Ok, Err, IfOk, refl, sym, ap, ◌∙◌, subst}
 use Rattle.std.specs.Prelude.{All}
 use Rattle.commons.specs.declared.closed.Closed.{Closed}
 use Rattle.commons.specs.declared.limits.Limits.{Limits}
@@ -15,7 +15,7 @@ use Rattle.pool_model.specs.declared.statement.Statement.{Statement}
 use Rattle.share_book.specs.Locked.{AreLeftBy}
 use Rattle.script.specs.Running.{EndByActs, EndsByActs, LeftOnWords, ReachedByActs}
 use Rattle.script.specs.Settling.{ListsOnlyPacketsInEach, ListsPacketsInEach, ListsSoundInEach, of_one_or_two}
-use Rattle.script.specs.Snapshots.{AreLawful, AreLeftByRun, settled_in}
+use Rattle.script.specs.Snapshots.{AreLawful, AreLeftByRun, limits_of, settled_in}
 use Rattle.script.specs.declared.left.Left.{Left}
 use Rattle.script.specs.declared.left.Left.TheVariants as left
 use Rattle.script.specs.declared.snapshots.Snapshots.{Snapshots}
@@ -100,15 +100,26 @@ sound_when_settled pools l (Ok s) limits sound reached same only =
     (subst (λ (p : Pools). ListsOnlyPacketsInEach p s) limits only)
 sound_when_settled pools l (Err e) limits sound reached same only = tt
 
+-- what pools left has their limits as snapshots too
+pub limits_as_left : (l : Left) → limits_of (snapshots_of l) ≡ limits_left l
+limits_as_left (left.One limits closed shares) = refl
+limits_as_left (left.Two c) = refl
+
+pub limits_as_snapshots : (pools : Pools) (l : Left) (r : Result Snapshots Refusal) → limits_left l ≡ pools →
+    IfOk r (λ s. s ≡ snapshots_of l) → IfOk r (λ s. limits_of s ≡ pools)
+limits_as_snapshots pools l (Ok s) limits same = ap limits_of same ∙ limits_as_left l ∙ limits
+limits_as_snapshots pools l (Err e) limits same = tt
+
 -- what a run left, as snapshots
-pub left_by_run : (grounds : Grounds) (pools : Pools) (l : Left) (r : Result Snapshots Refusal) →
+pub left_by_run : (grounds : Grounds) (pools : Pools) (l : Left) (r : Result Snapshots Refusal) → limits_left l ≡ pools →
     (grounds ≡ Locked → ReachedByActs pools (settled_in (snapshots_of l))) →
     (grounds ≡ Words → AreLawful (snapshots_of l) → LeftOnWords pools (settled_in (snapshots_of l))) →
     IfOk r (λ s. s ≡ snapshots_of l) → IfOk r AreLawful → IfOk r (AreLeftByRun grounds pools)
-left_by_run grounds pools l (Ok s) reached ended same lawful = record {
+left_by_run grounds pools l (Ok s) limits reached ended same lawful = record {
   lawful = lawful;
+  limits = limits_as_snapshots pools l (Ok s) limits same;
   reached = λ locked. subst (λ (x : Snapshots). ReachedByActs pools (settled_in x)) (sym same) (reached locked);
   ended = λ words. subst (λ (x : Snapshots). LeftOnWords pools (settled_in x)) (sym same)
       (ended words (subst AreLawful same lawful));
 }
-left_by_run grounds pools l (Err e) reached ended same lawful = tt
+left_by_run grounds pools l (Err e) limits reached ended same lawful = tt

@@ -23,6 +23,10 @@ abbrev pub IsLawfulBeside : Option Snapshot → Type 0
 IsLawfulBeside None = Unit {0}
 IsLawfulBeside (Some s) = IsLawful s
 
+-- the limits of the pools that they are of
+abbrev pub limits_of : Snapshots → Pools
+limits_of s = record { first = s.first.limits; second = option_map (λ (t : Snapshot). t.limits) s.second }
+
 -- each is lawful
 pub record AreLawful (s : Snapshots) : Type 0 where
   pub first : IsLawful s.first
@@ -49,10 +53,12 @@ pub record Leaves (stock : Stock) (s : Snapshots) : Type 0 where
   pub settled : settled_in s ≡ settled_of stock
   pub of_one : IsOfOne stock s
 
--- this is the text of what a script's pools leave at the end of its replay
+-- This is the text of what a script's pools leave at the end of its replay: of snapshots with the
+-- script's limits.
 pub record IsTextOfEnd (pools : Pools) (lines : List Line) (out : List ℕ) : Type 0 where
   pub snapshots : Snapshots
   pub left : Leaves (end_of lines (new_run pools)).stock snapshots
+  pub limits : limits_of snapshots ≡ pools
   pub printed : out ≡ text_of snapshots
 
 -- the bytes are a script, and this is the text of what its pools leave at the end of its replay
@@ -62,10 +68,11 @@ pub record IsSnapshotFor (bytes out : List ℕ) : Type 0 where
   pub script : IsScript bytes pools lines
   pub ended : IsTextOfEnd pools lines out
 
--- What a script's pools leave at the end of a run in threads on such a ground: lawful snapshots,
--- whose statements are what the pools come to there.
+-- What a script's pools leave at the end of a run in threads on such a ground: lawful snapshots with
+-- the script's limits, whose statements are what the pools come to there.
 pub record AreLeftByRun (grounds : Grounds) (pools : Pools) (s : Snapshots) : Type 0 where
   pub lawful : AreLawful s
+  pub limits : limits_of s ≡ pools
   pub reached : grounds ≡ Locked → ReachedByActs pools (settled_in s)
   pub ended : grounds ≡ Words → LeftOnWords pools (settled_in s)
 

@@ -4,10 +4,14 @@ ghost use Rattle.script_text.specs.declared.lines.Pools.{Pools};
 ghost use Rattle.script_text.specs.Commands.{Line};
 ghost use Rattle.script_text.specs.Grammar.{IsCause, IsScript};
 ghost use Rattle.script.specs.Printed.{json_for, IsJsonFor};
+ghost use Rattle.script.specs.Replay.{end_of, settled_of};
+ghost use Rattle.script.specs.inside.Standing.{fresh_run};
 
-use crate::playing::replay;
+use crate::playing::obey_all;
+use crate::sites::Sites;
 use commons::refusal::Refusal;
-use script_text::commands::Script;
+use pool_model::settled::Settled;
+use script_text::commands::{Line, Script};
 use script_text::parse;
 use statement_text::statement_json;
 use std::alloc::Global;
@@ -39,6 +43,21 @@ fn end(alloc: Global, script: &Script) -> Result<Vec<u8>, Refusal>
     ensures text { IfOk result (λ out. out.items ≡ json_for script.now.pools script.now.lines) }
     ensures memory { IfErr result (λ refusal. refusal ≡ Refusal.OutOfMemory) }
 {
-    let (_replies, settled) = replay(alloc, script)?;
+    let sites = Sites::make(alloc, &script.pools)?;
+    let settled = settled_after(alloc, sites, script.lines.as_slice())?;
     statement_json(alloc, &settled)
+}
+
+/// What pools in which no name stands for anything come to after these lines, which end them.
+fn settled_after(alloc: Global, mut sites: Sites, lines: &[Line]) -> Result<Settled, Refusal>
+    ensures settled { IfOk result (λ s. s ≡ settled_of (end_of lines.now (fresh_run sites)).stock) }
+    ensures memory { IfErr result (λ refusal. refusal ≡ Refusal.OutOfMemory) }
+{
+    match obey_all(alloc, &mut sites, lines) {
+        Ok(()) => sites.settled(alloc),
+        Err(_) => {
+            sites.lose();
+            Err(Refusal::OutOfMemory)
+        }
+    }
 }

@@ -79,6 +79,52 @@ pub(crate) fn play(
     Ok(replies)
 }
 
+/// Performs each line in turn, and keeps no reply.
+pub(crate) fn obey_all(alloc: Global, sites: &mut Sites, lines: &[Line]) -> Result<(), AllocError>
+    ensures sites { OnOk result (stock_of sites.new ≡ (end_of lines.now (fresh_run sites.old)).stock) }
+    ensures limits { OnOk result (limits_in (stock_of sites.new) ≡ limits_in (stock_of sites.old)) }
+{
+    let mut names = Names::new(alloc);
+    for line in lines {
+        obey_line(sites, &mut names, line)?;
+    }
+    Ok(())
+}
+
+/// Performs one line, and drops its reply, which has no more room than it needs.
+fn obey_line<'a>(sites: &mut Sites, names: &mut Names<'a>, line: &'a Line) -> Result<(), AllocError>
+    ensures run { OnOk result (run_of sites.new names.new ≡ (obeyed line.now.worker line.now.command (run_of sites.old names.old)).1) }
+    ensures limits { limits_in (stock_of sites.new) ≡ limits_in (stock_of sites.old) }
+{
+    match &line.command {
+        Command::Bulk(_) => obey_any(sites, names, line),
+        _ => obey_small(sites, names, line),
+    }
+}
+
+/// Performs one line with room for a bulk in its reply, which is dropped.
+fn obey_any<'a>(sites: &mut Sites, names: &mut Names<'a>, line: &'a Line) -> Result<(), AllocError>
+    ensures run { OnOk result (run_of sites.new names.new ≡ (obeyed line.now.worker line.now.command (run_of sites.old names.old)).1) }
+    ensures limits { limits_in (stock_of sites.new) ≡ limits_in (stock_of sites.old) }
+{
+    let _reply = obey(sites, names, line)?;
+    Ok(())
+}
+
+/// Performs one line with no room for a bulk in its reply, which is dropped.
+fn obey_small<'a>(
+    sites: &mut Sites,
+    names: &mut Names<'a>,
+    line: &'a Line,
+) -> Result<(), AllocError>
+    requires room { CommandHasRoom 0 line.now.command }
+    ensures run { OnOk result (run_of sites.new names.new ≡ (obeyed line.now.worker line.now.command (run_of sites.old names.old)).1) }
+    ensures limits { limits_in (stock_of sites.new) ≡ limits_in (stock_of sites.old) }
+{
+    let _reply = obey_in::<0>(sites, names, line)?;
+    Ok(())
+}
+
 /// Lets a worker's names stand for new packets, one after another.
 fn name_all<'a>(
     names: &mut Names<'a>,

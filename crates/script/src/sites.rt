@@ -4,8 +4,8 @@ ghost use Rattle.std.specs.Prelude.{◌≡◌, IfErr, IfOk};
 ghost use Rattle.mbuf.specs.Acts.{as_reply};
 ghost use Rattle.script.specs.Replay.{new_stock, perform_on, settled_of};
 ghost use Rattle.script.specs.Settling.{ListsEachPoolOnce, ListsSoundInEach, PlacesInEach};
-ghost use Rattle.script.specs.Snapshots.{IsOfOne, Leaves, settled_in};
-ghost use Rattle.script.specs.inside.Leaving.{AreWhole, snapshots_of};
+ghost use Rattle.script.specs.Snapshots.{IsOfOne, Leaves, limits_of, settled_in};
+ghost use Rattle.script.specs.inside.Leaving.{AreWhole, limits_left, snapshots_of};
 ghost use Rattle.script.specs.inside.Standing.{limits_in, stock_of};
 ghost use Rattle.script_text.specs.PoolLine.{ArePools};
 ghost use Rattle.twin_acts.specs.TwinActs.{HasTwinRoom};
@@ -93,6 +93,7 @@ impl Sites {
     /// Refused `OutOfMemory` where memory was refused. The pools are ended then too.
     pub(crate) fn snapshots(self, alloc: Global) -> Result<Snapshots, Refusal>
         ensures left { IfOk result (λ s. Leaves (stock_of self) s) }
+        ensures limits { IfOk result (λ s. limits_of s ≡ limits_in (stock_of self)) }
         ensures memory { IfErr result (λ e. e ≡ Refusal.OutOfMemory) }
     {
         let left = self.close(alloc)?;
@@ -103,6 +104,7 @@ impl Sites {
     ///
     /// Refused `OutOfMemory` where memory was refused. The pools are ended then too.
     fn close(self, alloc: Global) -> Result<Left, Refusal>
+        ensures limits { IfOk result (λ left. limits_left left ≡ limits_in (stock_of self)) }
         ensures whole { IfOk result (λ left. AreWhole left) }
         ensures settled { IfOk result (λ left. settled_in (snapshots_of left) ≡ settled_of (stock_of self)) }
         ensures of_one { IfOk result (λ left. IsOfOne (stock_of self) (snapshots_of left)) }

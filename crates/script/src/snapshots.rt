@@ -5,12 +5,12 @@ ghost use Rattle.script_text.specs.declared.lines.Pools.{Pools};
 ghost use Rattle.script_text.specs.Commands.{Line};
 ghost use Rattle.script_text.specs.Grammar.{IsCause, IsScript};
 ghost use Rattle.script.specs.Replay.{end_of, new_run};
-ghost use Rattle.script.specs.Snapshots.{AreLeftByRun, IsRunSnapshotFor, IsSnapshotFor, IsTextOfEnd, IsTextOfRun, Leaves, text_of};
-ghost use Rattle.script.specs.inside.Standing.{fresh_run};
+ghost use Rattle.script.specs.Snapshots.{AreLeftByRun, IsRunSnapshotFor, IsSnapshotFor, IsTextOfEnd, IsTextOfRun, Leaves, limits_of, text_of};
+ghost use Rattle.script.specs.inside.Standing.{fresh_run, limits_in, stock_of};
 ghost use Rattle.snapshot_json.specs.SnapshotData.{json_of};
 
 use crate::gate::OpenGate;
-use crate::playing::play;
+use crate::playing::obey_all;
 use crate::sites::Sites;
 use crate::threaded::{Grounds, run_to_end};
 use commons::refusal::Refusal;
@@ -123,6 +123,7 @@ fn replayed(alloc: Global, script: &Script) -> Result<Vec<u8>, Refusal>
 /// The snapshots of what a script's pools leave at the end of its replay.
 fn left_by_replay(alloc: Global, script: &Script) -> Result<Snapshots, Refusal>
     ensures left { IfOk result (λ s. Leaves (end_of script.now.lines (new_run script.now.pools)).stock s) }
+    ensures limits { IfOk result (λ s. limits_of s ≡ script.now.pools) }
     ensures memory { IfErr result (λ refusal. refusal ≡ Refusal.OutOfMemory) }
 {
     let sites = Sites::make(alloc, &script.pools)?;
@@ -132,10 +133,11 @@ fn left_by_replay(alloc: Global, script: &Script) -> Result<Snapshots, Refusal>
 /// The snapshots of what these pools leave after these lines, which ends them.
 fn left_on(alloc: Global, mut sites: Sites, lines: &[Line]) -> Result<Snapshots, Refusal>
     ensures left { IfOk result (λ s. Leaves (end_of lines.now (fresh_run sites)).stock s) }
+    ensures limits { IfOk result (λ s. limits_of s ≡ limits_in (stock_of sites)) }
     ensures memory { IfErr result (λ refusal. refusal ≡ Refusal.OutOfMemory) }
 {
-    match play(alloc, &mut sites, lines) {
-        Ok(_) => sites.snapshots(alloc),
+    match obey_all(alloc, &mut sites, lines) {
+        Ok(()) => sites.snapshots(alloc),
         Err(_) => {
             sites.lose();
             Err(Refusal::OutOfMemory)
