@@ -6,7 +6,6 @@ use Rattle.std.proofs.lemmas.List.Elements.{All-from_recursion}
 use Rattle.script_text.specs.declared.lines.Line.{Line}
 use Rattle.script_text.specs.declared.made_names.MadeNames.{MadeNames}
 use Rattle.script_text.specs.Scripts.{AreOfPool}
-use Rattle.script_text.specs.Names.{IsName}
 use Rattle.script_text.specs.inside.ScriptReading.{Lexicon, is_one_of, is_made}
 use Rattle.script_text.specs.inside.Agreement.{has_made, AreMade, IsAmong}
 use Rattle.script_text.proofs.MadeLemmas.{is_made-push}
@@ -25,9 +24,9 @@ module _ {C : Type 0} where
 
 -- the line that is added makes the names that were noted of its command
 pub made-push : {C : Type 0} (lexicon : Lexicon C) (made : MadeNames) (lines : List (Line C)) (line : Line C) (worker : ℕ) →
-    line.worker ≡ worker → ((other : ℕ) (name : List ℕ) → IsName name →
+    line.worker ≡ worker → ((other : ℕ) (name : List ℕ) →
     has_made made other name ≡ ((other == worker && is_one_of (lexicon.language.names_made line.command) name)
     || is_made lexicon lines other name)) → AreMade lexicon made (lines ++ line ∷ [])
-made-push lexicon made lines line worker e h other name k =
-    h other name k ∙ ap (λ (w : ℕ). (other == w && is_one_of (lexicon.language.names_made line.command) name)
+made-push lexicon made lines line worker e h other name =
+    h other name ∙ ap (λ (w : ℕ). (other == w && is_one_of (lexicon.language.names_made line.command) name)
     || is_made lexicon lines other name) (sym e) ∙ sym (is_made-push lexicon lines line other name)

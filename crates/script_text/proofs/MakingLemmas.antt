@@ -1,12 +1,10 @@
 -- The names that were made are what their tests say.
 use Rattle.std.proofs.Common.{◌≡◌, ℕ, Bool, true, false, List, [], ◌∷◌, refl, sym, ap, ◌∙◌, subst, inl, inr}
 use Rattle.std.specs.Prelude.{◌&&◌, ◌||◌, ◌==◌, ◌⊎◌}
-use Rattle.std.specs.List.{AllByRecursion}
 use Rattle.std.specs.Str.{bytes_eq}
 use Rattle.std.proofs.lemmas.Bool.{eqb-true, eq-eqb, and_parts, and_from, or_cases, or_left, or_right, both_ways, false≢true, false_from_ne_true}
 use Rattle.std.proofs.lemmas.Slice.Eq.{bytes_eq-Decides}
 use Rattle.script_text.specs.declared.lines.Line.{Line}
-use Rattle.script_text.specs.Names.{IsName}
 use Rattle.script_text.specs.Scripts.{IsOneOf, AreApart, IsMade, MakesAnew}
 use Rattle.script_text.specs.inside.ScriptReading.{Lexicon, with_name, repeats, is_one_of, is_made}
 
@@ -93,17 +91,17 @@ some_from (name ∷ names) made Made worker is e =
 
 -- two tests say the same of each name
 abbrev pub AreAlike : (ℕ → List ℕ → Bool) → (ℕ → List ℕ → Bool) → Type 0
-AreAlike one other = (worker : ℕ) (name : List ℕ) → IsName name → one worker name ≡ other worker name
+AreAlike one other = (worker : ℕ) (name : List ℕ) → one worker name ≡ other worker name
 
 -- names repeat by one test where they repeat by another that says the same of each name
 pub repeats-alike : (names : List (List ℕ)) (one other : ℕ → List ℕ → Bool) (worker : ℕ) →
-    AllByRecursion IsName names → AreAlike one other → repeats one worker names ≡ repeats other worker names
-repeats-alike [] one other worker h alike = refl
-repeats-alike (name ∷ names) one other worker h alike =
-    ap (λ (b : Bool). b || repeats (with_name one worker name) worker names) (alike worker name h.0)
+    AreAlike one other → repeats one worker names ≡ repeats other worker names
+repeats-alike [] one other worker alike = refl
+repeats-alike (name ∷ names) one other worker alike =
+    ap (λ (b : Bool). b || repeats (with_name one worker name) worker names) (alike worker name)
     ∙ ap (λ (b : Bool). other worker name || b)
-    (repeats-alike names (with_name one worker name) (with_name other worker name) worker h.1
-    (λ w n k. ap (λ (b : Bool). (w == worker && bytes_eq n name) || b) (alike w n k)))
+    (repeats-alike names (with_name one worker name) (with_name other worker name) worker
+    (λ w n. ap (λ (b : Bool). (w == worker && bytes_eq n name) || b) (alike w n)))
 
 -- ---- names that lines make
 

@@ -2,7 +2,6 @@
 
 ghost use Rattle.std.specs.Prelude.{◌≡◌, ◌≤◌, [], ◌∷◌, codes, IfOk, MatchOption, Option, None, Some};
 ghost use Rattle.std.specs.Str.{bytes_eq};
-ghost use Rattle.std.specs.Option.{option_copied};
 ghost use Rattle.script_text.specs.inside.Reading.{words_of, both_of};
 ghost use Rattle.script_text.specs.inside.CommandReading.{both_names, command_with as command_by, name_and_number as name_and_number_of, name_at, names_with, number_and_name as number_and_name_of, numbered_name as numbered_name_of, only_name_of, verb_at};
 
@@ -81,28 +80,18 @@ fn verb_of(word: &[u8]) -> Option<Verb>
 }
 
 /// The only word of a rest of a line, where it is a name.
-fn only_name(rest: &[u8]) -> Option<&[u8]>
-    ensures { option_copied result ≡ only_name_of (words_of rest.now) }
+fn only_name(rest: &[u8]) -> Option<Name>
+    ensures { result ≡ only_name_of (words_of rest.now) }
 {
     let (word, after) = next_word(rest)?;
     if is_name(word) && next_word(after).is_none() {
-        Some(word)
+        Some(Name::new(word))
     } else {
         None
     }
 }
 
-/// A copy of the only word of a rest of a line, where it is a name.
-fn copied_name(alloc: Global, rest: &[u8]) -> Result<Option<Name>, AllocError>
-    ensures { IfOk result (λ name. name ≡ only_name_of (words_of rest.now)) }
-{
-    match only_name(rest) {
-        Some(name) => Ok(Some(Seq::new(Vec::from_slice(alloc, name)?))),
-        None => Ok(None),
-    }
-}
-
-/// Copies of the words of a rest of a line, where they are 1 to 256 names.
+/// The words of a rest of a line, where they are 1 to 256 names.
 fn names_of(alloc: Global, rest: &[u8]) -> Result<Option<Seq<Name>>, AllocError>
     ensures { IfOk result (λ names. names ≡ names_with (words_of rest.now)) }
 {
@@ -112,7 +101,7 @@ fn names_of(alloc: Global, rest: &[u8]) -> Result<Option<Seq<Name>>, AllocError>
         if names.len() == MAX_NAMES {
             return Ok(None);
         }
-        let Some(name) = name_of(alloc, word)? else {
+        let Some(name) = name_of(word) else {
             return Ok(None);
         };
         names.push(name)?;
@@ -125,68 +114,50 @@ fn names_of(alloc: Global, rest: &[u8]) -> Result<Option<Seq<Name>>, AllocError>
     }
 }
 
-/// A copy of a word, where it is a name.
-fn name_of(alloc: Global, word: &[u8]) -> Result<Option<Name>, AllocError>
-    ensures { IfOk result (λ name. name ≡ name_at word.now) }
+/// A word, where it is a name.
+fn name_of(word: &[u8]) -> Option<Name>
+    ensures { result ≡ name_at word.now }
 {
     if is_name(word) {
-        Ok(Some(Seq::new(Vec::from_slice(alloc, word)?)))
+        Some(Name::new(word))
     } else {
-        Ok(None)
+        None
     }
 }
 
-/// A copy of a word that is a name, and the number, at most 65,535, that another word spells.
-fn numbered_name(
-    alloc: Global,
-    word: &[u8],
-    other: &[u8],
-) -> Result<Option<(Name, u16)>, AllocError>
-    ensures { IfOk result (λ found. found ≡ numbered_name_of word.now other.now) }
+/// A word that is a name, and the number, at most 65,535, that another word spells.
+fn numbered_name(word: &[u8], other: &[u8]) -> Option<(Name, u16)>
+    ensures { result ≡ numbered_name_of word.now other.now }
 {
-    let Some(number) = short_number_of(other) else {
-        return Ok(None);
-    };
-    match name_of(alloc, word)? {
-        Some(name) => Ok(Some((name, number))),
-        None => Ok(None),
-    }
+    let number = short_number_of(other)?;
+    let name = name_of(word)?;
+    Some((name, number))
 }
 
 /// The name and the number after it that are the only words of a rest of a line.
-fn name_and_number(alloc: Global, rest: &[u8]) -> Result<Option<(Name, u16)>, AllocError>
-    ensures { IfOk result (λ found. found ≡ name_and_number_of (words_of rest.now)) }
+fn name_and_number(rest: &[u8]) -> Option<(Name, u16)>
+    ensures { result ≡ name_and_number_of (words_of rest.now) }
 {
-    match both_words(rest) {
-        Some((word, other)) => numbered_name(alloc, word, other),
-        None => Ok(None),
-    }
+    let (word, other) = both_words(rest)?;
+    numbered_name(word, other)
 }
 
 /// The name and the number in front of it that are the only words of a rest of a line.
-fn number_and_name(alloc: Global, rest: &[u8]) -> Result<Option<(Name, u16)>, AllocError>
-    ensures { IfOk result (λ found. found ≡ number_and_name_of (words_of rest.now)) }
+fn number_and_name(rest: &[u8]) -> Option<(Name, u16)>
+    ensures { result ≡ number_and_name_of (words_of rest.now) }
 {
-    match both_words(rest) {
-        Some((word, other)) => numbered_name(alloc, other, word),
-        None => Ok(None),
-    }
+    let (word, other) = both_words(rest)?;
+    numbered_name(other, word)
 }
 
-/// Copies of the only two words of a rest of a line, where they are names.
-fn two_names(alloc: Global, rest: &[u8]) -> Result<Option<(Name, Name)>, AllocError>
-    ensures { IfOk result (λ names. names ≡ both_names (words_of rest.now)) }
+/// The only two words of a rest of a line, where they are names.
+fn two_names(rest: &[u8]) -> Option<(Name, Name)>
+    ensures { result ≡ both_names (words_of rest.now) }
 {
-    let Some((word, other)) = both_words(rest) else {
-        return Ok(None);
-    };
-    let Some(first) = name_of(alloc, word)? else {
-        return Ok(None);
-    };
-    match name_of(alloc, other)? {
-        Some(second) => Ok(Some((first, second))),
-        None => Ok(None),
-    }
+    let (word, other) = both_words(rest)?;
+    let first = name_of(word)?;
+    let second = name_of(other)?;
+    Some((first, second))
 }
 
 /// The command of a verb and the words after it, or `None` where they are none.
@@ -194,7 +165,7 @@ fn command_with(alloc: Global, verb: Verb, rest: &[u8]) -> Result<Option<Command
     ensures { IfOk result (λ command. command ≡ command_by verb (words_of rest.now)) }
 {
     match verb {
-        Verb::Alloc => match copied_name(alloc, rest)? {
+        Verb::Alloc => match only_name(rest) {
             Some(name) => Ok(Some(Command::Alloc(name))),
             None => Ok(None),
         },
@@ -202,55 +173,55 @@ fn command_with(alloc: Global, verb: Verb, rest: &[u8]) -> Result<Option<Command
             Some(names) => Ok(Some(Command::Bulk(names))),
             None => Ok(None),
         },
-        Verb::Free => match copied_name(alloc, rest)? {
+        Verb::Free => match only_name(rest) {
             Some(name) => Ok(Some(Command::Free(name))),
             None => Ok(None),
         },
-        Verb::Append => match name_and_number(alloc, rest)? {
+        Verb::Append => match name_and_number(rest) {
             Some((name, len)) => Ok(Some(Command::Resize(name, Change::Append(len)))),
             None => Ok(None),
         },
-        Verb::Prepend => match name_and_number(alloc, rest)? {
+        Verb::Prepend => match name_and_number(rest) {
             Some((name, len)) => Ok(Some(Command::Resize(name, Change::Prepend(len)))),
             None => Ok(None),
         },
-        Verb::Adj => match name_and_number(alloc, rest)? {
+        Verb::Adj => match name_and_number(rest) {
             Some((name, len)) => Ok(Some(Command::Resize(name, Change::Adj(len)))),
             None => Ok(None),
         },
-        Verb::Trim => match name_and_number(alloc, rest)? {
+        Verb::Trim => match name_and_number(rest) {
             Some((name, len)) => Ok(Some(Command::Resize(name, Change::Trim(len)))),
             None => Ok(None),
         },
-        Verb::Chain => match two_names(alloc, rest)? {
+        Verb::Chain => match two_names(rest) {
             Some((head, tail)) => Ok(Some(Command::Chain(head, tail))),
             None => Ok(None),
         },
-        Verb::Attach => match two_names(alloc, rest)? {
+        Verb::Attach => match two_names(rest) {
             Some((first, second)) => Ok(Some(Command::Attach(first, second))),
             None => Ok(None),
         },
-        Verb::Detach => match copied_name(alloc, rest)? {
+        Verb::Detach => match only_name(rest) {
             Some(name) => Ok(Some(Command::Detach(name))),
             None => Ok(None),
         },
-        Verb::Clone => match two_names(alloc, rest)? {
+        Verb::Clone => match two_names(rest) {
             Some((packet, made)) => Ok(Some(Command::Clone(packet, made))),
             None => Ok(None),
         },
-        Verb::CloneTo => match two_names(alloc, rest)? {
+        Verb::CloneTo => match two_names(rest) {
             Some((packet, made)) => Ok(Some(Command::CloneTo(packet, made))),
             None => Ok(None),
         },
-        Verb::Count => match copied_name(alloc, rest)? {
+        Verb::Count => match only_name(rest) {
             Some(name) => Ok(Some(Command::Count(name))),
             None => Ok(None),
         },
-        Verb::Offer => match name_and_number(alloc, rest)? {
+        Verb::Offer => match name_and_number(rest) {
             Some((packet, desk)) => Ok(Some(Command::Offer(packet, desk))),
             None => Ok(None),
         },
-        Verb::Take => match number_and_name(alloc, rest)? {
+        Verb::Take => match number_and_name(rest) {
             Some((made, desk)) => Ok(Some(Command::Take(desk, made))),
             None => Ok(None),
         },

@@ -2,12 +2,10 @@
 
 use crate::lines;
 pub use crate::lines::Pools;
+pub use crate::name::Name;
 use commons::change::Change;
 use commons::seq::Seq;
 use std::slice;
-
-/// A packet's name: 1 to 16 of `a` to `z` and `0` to `9`, beginning with a letter.
-pub type Name = Seq<u8>;
 
 /// What a line asks a worker to do.
 #[derive(Debug, Drop)]

@@ -1,32 +1,20 @@
 //! The names that the lines of a script have made so far.
 
-ghost use Rattle.std.specs.Prelude.{◌≡◌, ◌≤◌, ◌&&◌, ◌||◌, ◌==◌, ℕ, List, true, false, not, length, slice_index, EachIndex, IfOk, OnOk, Ok};
+ghost use Rattle.std.specs.Prelude.{◌≡◌, ◌&&◌, ◌||◌, ◌==◌, ℕ, List, true, false, not, IfOk, OnOk, Ok};
 ghost use Rattle.std.specs.List.{AllByRecursion};
 ghost use Rattle.script_text.specs.Names.{IsName};
 ghost use Rattle.script_text.specs.inside.ScriptReading.{with_name, is_one_of, repeats};
 
 use crate::commands::Name;
-use crate::name::MAX_NAME;
+use crate::name::{MAX_NAME, in_place};
+use arrayvec::ArrayVec;
 use std::alloc::{AllocError, Global};
 use std::collections::HashSet;
 
 /// The names that were made, each with the worker whose name it is.
 #[derive(Drop)]
 pub(crate) struct MadeNames {
-    keys: HashSet<(u32, [u8; MAX_NAME])>,
-}
-
-/// The name with zeros after it.
-fn padded_name(name: &[u8]) -> [u8; MAX_NAME]
-    requires { length name.now ≤ 16 }
-    ensures sized { length result ≡ 16 }
-    ensures bytes { EachIndex result (λ k. slice_index result k ≡ slice_index name.now k) }
-{
-    let mut key = [0; MAX_NAME];
-    for (i, byte) in name.iter().enumerate() {
-        key[i] = *byte;
-    }
-    key
+    keys: HashSet<(u32, ArrayVec<u8, MAX_NAME>)>,
 }
 
 impl MadeNames {
@@ -45,10 +33,10 @@ impl MadeNames {
     pub(crate) fn add(&mut self, worker: u32, name: &[u8]) -> Result<bool, AllocError>
         requires { IsName name.now }
         ensures added { IfOk result (λ added. added ≡ not (has_made self.old worker name.now)) }
-        ensures more { OnOk result ((w : ℕ) (other : List ℕ) → IsName other →
+        ensures more { OnOk result ((w : ℕ) (other : List ℕ) →
             has_made self.new w other ≡ with_name (has_made self.old) worker name.now w other) }
     {
-        let added = self.keys.insert((worker, padded_name(name)))?;
+        let added = self.keys.insert((worker, in_place(name)))?;
         Ok(added)
     }
 
@@ -58,7 +46,7 @@ impl MadeNames {
         requires { AllByRecursion IsName names.now }
         ensures first { IfOk result
             (λ first. first ≡ not (repeats (has_made self.old) worker names.now)) }
-        ensures made { result ≡ Ok true → (other : ℕ) (name : List ℕ) → IsName name →
+        ensures made { result ≡ Ok true → (other : ℕ) (name : List ℕ) →
             has_made self.new other name
             ≡ ((other == worker && is_one_of names.now name) || has_made self.old other name) }
     {

@@ -4,12 +4,12 @@ ghost use Rattle.std.specs.List.{flat_map};
 ghost use Rattle.element_text.specs.Elements.{joined};
 ghost use Rattle.statement_text.specs.StatementText.{held_text, holder_text};
 
+use element_text::write_number;
 use pool_model::statement::{Held, Holder};
-use std::io;
-use std::io::Write;
+use std::alloc::AllocError;
 
 /// A line for each held element.
-pub(crate) fn write_held(out: &mut Vec<u8>, held: &[Held]) -> io::Result<()>
+pub(crate) fn write_held(out: &mut Vec<u8>, held: &[Held]) -> Result<(), AllocError>
     ensures { OnOk result (out.new.items ≡ out.old.items ++ flat_map held_text held.now) }
 {
     for element in held {
@@ -19,31 +19,33 @@ pub(crate) fn write_held(out: &mut Vec<u8>, held: &[Held]) -> io::Result<()>
 }
 
 #[tactic(auto, unfolding(crate::specs::StatementText::held_text))]
-fn write_element(out: &mut Vec<u8>, held: &Held) -> io::Result<()>
+fn write_element(out: &mut Vec<u8>, held: &Held) -> Result<(), AllocError>
     ensures { OnOk result (out.new.items ≡ out.old.items ++ held_text held.now) }
 {
-    write!(out, "held {} count {}:", held.elem, held.count)?;
+    write_number(out, b"held ", held.elem)?;
+    write_number(out, b" count ", held.count)?;
+    out.extend_from_slice(b":")?;
     write_joined(out, held.holders.as_slice())?;
-    writeln!(out)
+    out.extend_from_slice(b"\n")
 }
 
 /// Each holder after a space.
-fn write_joined(out: &mut Vec<u8>, holders: &[Holder]) -> io::Result<()>
+fn write_joined(out: &mut Vec<u8>, holders: &[Holder]) -> Result<(), AllocError>
     ensures { OnOk result (out.new.items ≡ out.old.items ++ joined holder_text holders.now) }
 {
     for holder in holders {
-        write!(out, " ")?;
+        out.extend_from_slice(b" ")?;
         write_holder(out, *holder)?;
     }
     Ok(())
 }
 
 #[tactic(auto, unfolding(crate::specs::StatementText::holder_text))]
-fn write_holder(out: &mut Vec<u8>, holder: Holder) -> io::Result<()>
+fn write_holder(out: &mut Vec<u8>, holder: Holder) -> Result<(), AllocError>
     ensures { OnOk result (out.new.items ≡ out.old.items ++ holder_text holder) }
 {
     match holder {
-        Holder::Worker(number) => write!(out, "{number}"),
-        Holder::Desk(number) => write!(out, "d{number}"),
+        Holder::Worker(number) => write_number(out, b"", number),
+        Holder::Desk(number) => write_number(out, b"d", number),
     }
 }

@@ -6,13 +6,12 @@ ghost use Rattle.element_text.specs.Elements.{joined};
 ghost use Rattle.statement_text.specs.StatementText.{desk_text, packet_text, segment_text, segments_text};
 
 use commons::packet::Seg;
-use element_text::write_base;
+use element_text::{write_base, write_number};
 use pool_model::statement::{DeskPacket, PlacedPacket};
-use std::io;
-use std::io::Write;
+use std::alloc::AllocError;
 
 /// A line for each packet of a worker.
-pub(crate) fn write_packets(out: &mut Vec<u8>, packets: &[PlacedPacket]) -> io::Result<()>
+pub(crate) fn write_packets(out: &mut Vec<u8>, packets: &[PlacedPacket]) -> Result<(), AllocError>
     ensures { OnOk result (out.new.items ≡ out.old.items ++ flat_map packet_text packets.now) }
 {
     for packet in packets {
@@ -22,15 +21,16 @@ pub(crate) fn write_packets(out: &mut Vec<u8>, packets: &[PlacedPacket]) -> io::
 }
 
 #[tactic(auto, unfolding(crate::specs::StatementText::packet_text))]
-fn write_packet(out: &mut Vec<u8>, packet: &PlacedPacket) -> io::Result<()>
+fn write_packet(out: &mut Vec<u8>, packet: &PlacedPacket) -> Result<(), AllocError>
     ensures { OnOk result (out.new.items ≡ out.old.items ++ packet_text packet.now) }
 {
-    write!(out, "packet {} {}", packet.worker, packet.slot)?;
+    write_number(out, b"packet ", packet.worker)?;
+    write_number(out, b" ", packet.slot)?;
     write_segments(out, packet.segs.as_slice())
 }
 
 /// A line for each packet on a desk.
-pub(crate) fn write_desks(out: &mut Vec<u8>, desks: &[DeskPacket]) -> io::Result<()>
+pub(crate) fn write_desks(out: &mut Vec<u8>, desks: &[DeskPacket]) -> Result<(), AllocError>
     ensures { OnOk result (out.new.items ≡ out.old.items ++ flat_map desk_text desks.now) }
 {
     for desk in desks {
@@ -40,21 +40,23 @@ pub(crate) fn write_desks(out: &mut Vec<u8>, desks: &[DeskPacket]) -> io::Result
 }
 
 #[tactic(auto, unfolding(crate::specs::StatementText::desk_text))]
-fn write_desk(out: &mut Vec<u8>, desk: &DeskPacket) -> io::Result<()>
+fn write_desk(out: &mut Vec<u8>, desk: &DeskPacket) -> Result<(), AllocError>
     ensures { OnOk result (out.new.items ≡ out.old.items ++ desk_text desk.now) }
 {
-    write!(out, "desk {}", desk.desk)?;
+    write_number(out, b"desk ", desk.desk)?;
     write_segments(out, desk.segs.as_slice())
 }
 
 /// How many segments these are, how long their data is, and which they are, to the end of the line.
 #[tactic(auto, unfolding(crate::specs::StatementText::segments_text))]
-fn write_segments(out: &mut Vec<u8>, segs: &[Seg]) -> io::Result<()>
+fn write_segments(out: &mut Vec<u8>, segs: &[Seg]) -> Result<(), AllocError>
     ensures { OnOk result (out.new.items ≡ out.old.items ++ segments_text segs.now) }
 {
-    write!(out, " segs {} len {}:", segs.len(), data_len(segs))?;
+    write_number(out, b" segs ", segs.len())?;
+    write_number(out, b" len ", data_len(segs))?;
+    out.extend_from_slice(b":")?;
     write_joined(out, segs)?;
-    writeln!(out)
+    out.extend_from_slice(b"\n")
 }
 
 /// How long the data of these segments is. A sum of this many lengths fits 128 bits.
@@ -65,21 +67,23 @@ fn data_len(segs: &[Seg]) -> u128
 }
 
 /// Each segment after a space.
-fn write_joined(out: &mut Vec<u8>, segs: &[Seg]) -> io::Result<()>
+fn write_joined(out: &mut Vec<u8>, segs: &[Seg]) -> Result<(), AllocError>
     ensures { OnOk result (out.new.items ≡ out.old.items ++ joined segment_text segs.now) }
 {
     for seg in segs {
-        write!(out, " ")?;
+        out.extend_from_slice(b" ")?;
         write_segment(out, seg)?;
     }
     Ok(())
 }
 
 #[tactic(auto, unfolding(crate::specs::StatementText::segment_text))]
-fn write_segment(out: &mut Vec<u8>, seg: &Seg) -> io::Result<()>
+fn write_segment(out: &mut Vec<u8>, seg: &Seg) -> Result<(), AllocError>
     ensures { OnOk result (out.new.items ≡ out.old.items ++ segment_text seg.now) }
 {
-    write!(out, "{}", seg.elem)?;
+    write_number(out, b"", seg.elem)?;
     write_base(out, seg.base)?;
-    write!(out, "@{}+{}/{}", seg.data_off, seg.data_len, seg.buf_len)
+    write_number(out, b"@", seg.data_off)?;
+    write_number(out, b"+", seg.data_len)?;
+    write_number(out, b"/", seg.buf_len)
 }

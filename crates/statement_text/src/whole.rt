@@ -6,12 +6,10 @@ use crate::caches::write_caches;
 use crate::held::write_held;
 use crate::segments::{write_desks, write_packets};
 use commons::refusal::Refusal;
-use element_text::write_elements;
+use element_text::{write_elements, write_number};
 use pool_model::settled::Settled;
 use pool_model::statement::Statement;
-use std::alloc::Global;
-use std::io;
-use std::io::Write;
+use std::alloc::{AllocError, Global};
 
 /// The text of one pool's statement: its totals, the common list from the top, and then a line for
 /// each cache, packet, desk with a packet, and held element.
@@ -43,7 +41,7 @@ pub fn statement_text(alloc: Global, settled: &Settled) -> Result<Vec<u8>, Refus
     }
 }
 
-fn write_settled(out: &mut Vec<u8>, settled: &Settled) -> io::Result<()>
+fn write_settled(out: &mut Vec<u8>, settled: &Settled) -> Result<(), AllocError>
     ensures { OnOk result (out.new.items ≡ out.old.items ++ text_of_settled settled.now) }
 {
     write_statement(out, &settled.first)?;
@@ -54,19 +52,19 @@ fn write_settled(out: &mut Vec<u8>, settled: &Settled) -> io::Result<()>
 }
 
 #[tactic(auto, unfolding(crate::specs::StatementText::second_text))]
-fn write_second(out: &mut Vec<u8>, second: &Statement) -> io::Result<()>
+fn write_second(out: &mut Vec<u8>, second: &Statement) -> Result<(), AllocError>
     ensures { OnOk result (out.new.items ≡ out.old.items ++ second_text second.now) }
 {
-    writeln!(out, "second")?;
+    out.extend_from_slice(b"second\n")?;
     write_statement(out, second)
 }
 
 #[tactic(auto, unfolding(crate::specs::StatementText::text_of))]
-fn write_statement(out: &mut Vec<u8>, statement: &Statement) -> io::Result<()>
+fn write_statement(out: &mut Vec<u8>, statement: &Statement) -> Result<(), AllocError>
     ensures { OnOk result (out.new.items ≡ out.old.items ++ text_of statement.now) }
 {
     write_totals(out, statement)?;
-    write!(out, "common")?;
+    out.extend_from_slice(b"common")?;
     write_elements(out, statement.common.as_slice())?;
     write_caches(out, statement.caches.as_slice())?;
     write_packets(out, statement.packets.as_slice())?;
@@ -76,7 +74,7 @@ fn write_statement(out: &mut Vec<u8>, statement: &Statement) -> io::Result<()>
 
 /// The population, how many elements are available, and how many are in use.
 #[tactic(auto, unfolding(crate::specs::StatementText::totals_text))]
-fn write_totals(out: &mut Vec<u8>, statement: &Statement) -> io::Result<()>
+fn write_totals(out: &mut Vec<u8>, statement: &Statement) -> Result<(), AllocError>
     ensures { OnOk result (out.new.items ≡ out.old.items ++ totals_text statement.now) }
 {
     write_total(out, "population", statement.population)?;
@@ -85,8 +83,10 @@ fn write_totals(out: &mut Vec<u8>, statement: &Statement) -> io::Result<()>
 }
 
 #[tactic(auto, unfolding(crate::specs::StatementText::total_line))]
-fn write_total(out: &mut Vec<u8>, name: &str, count: u64) -> io::Result<()>
+fn write_total(out: &mut Vec<u8>, name: &str, count: u64) -> Result<(), AllocError>
     ensures { OnOk result (out.new.items ≡ out.old.items ++ total_line name.now count) }
 {
-    writeln!(out, "{name} {count}")
+    out.extend_from_slice(name.as_bytes())?;
+    write_number(out, b" ", count)?;
+    out.extend_from_slice(b"\n")
 }

@@ -35,7 +35,7 @@ fn write_segment(out: &mut Vec<u8>, seg: &Seg) -> io::Result<()>
     ensures { OnOk result (out.new.items ≡ out.old.items ++ segment_text seg.now) }
 {
     write!(out, "{}", seg.elem)?;
-    write_base(out, seg.base)
+    Ok(write_base(out, seg.base)?)
 }
 
 /// A head: its top and its count.

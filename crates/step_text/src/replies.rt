@@ -27,7 +27,7 @@ pub(crate) fn write_outcome(out: &mut Vec<u8>, link: bool, outcome: &Outcome) ->
         Outcome::Won => write!(out, "won"),
         Outcome::Got(elements) => {
             write!(out, "won")?;
-            write_joined(out, elements.as_slice())
+            Ok(write_joined(out, elements.as_slice())?)
         }
         Outcome::Lost(value) => write!(out, "lost {value}"),
         Outcome::LostTo(head) => {

@@ -30,5 +30,5 @@ fn write_view(out: &mut Vec<u8>, worker: usize, view: &View) -> io::Result<()>
     write!(out, "hand {worker}")?;
     write_elements(out, &hand)?;
     write!(out, "holds {worker}")?;
-    write_elements(out, &holds)
+    Ok(write_elements(out, &holds)?)
 }

@@ -4,9 +4,7 @@ ghost use Rattle.script.specs.Losing.{lost_text};
 
 use commons::refusal::Refusal;
 use element_text::write_elements;
-use std::alloc::Global;
-use std::io;
-use std::io::Write;
+use std::alloc::{AllocError, Global};
 
 /// How many elements are lost, and which, as one line.
 ///
@@ -22,9 +20,9 @@ pub fn lost_text(alloc: Global, elems: &[u32]) -> Result<Vec<u8>, Refusal>
     }
 }
 
-fn write_lost(out: &mut Vec<u8>, elems: &[u32]) -> io::Result<()>
+fn write_lost(out: &mut Vec<u8>, elems: &[u32]) -> Result<(), AllocError>
     ensures { OnOk result (out.new.items ≡ out.old.items ++ lost_text elems.now) }
 {
-    write!(out, "lost")?;
+    out.extend_from_slice(b"lost")?;
     write_elements(out, elems)
 }

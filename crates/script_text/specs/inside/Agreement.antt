@@ -1,6 +1,7 @@
 -- How what the crate's own functions return agrees with the functions on lists.
 -- No public clause cites this module.
-use Rattle.std.specs.Prelude.{◌≡◌, ◌≤◌, ℕ, zero, suc, Bool, true, false, ◌&&◌, ◌==◌, nat_eq, List, [], ◌∷◌, Option, Some, None, option_map, Result, Ok, Err}
+use Rattle.arrayvec.specs.ArrayVec.{ArrayVec}
+use Rattle.std.specs.Prelude.{◌≡◌, ◌≤◌, ℕ, Bool, true, false, ◌&&◌, ◌==◌, nat_eq, List, [], Option, Some, None, option_map, Result, Ok, Err}
 use Rattle.std.specs.List.{AllByRecursion}
 use Rattle.std.specs.Cmp.Lexicographic.{pointwise}
 use Rattle.std.specs.HashSet.{contains}
@@ -14,7 +15,6 @@ use Rattle.script_text.specs.declared.pool_line.LineNumbers.{LineNumbers}
 use Rattle.script_text.specs.declared.reader.Reader.{Reader}
 use Rattle.script_text.specs.declared.reader.Stop.{Stop}
 use Rattle.script_text.specs.declared.reader.Stop.TheVariants.{Fault, BadPool, OutOfMemory}
-use Rattle.script_text.specs.Names.{IsName}
 use Rattle.script_text.specs.PoolLine.{numbers_of_pools}
 use Rattle.script_text.specs.Scripts.{State}
 use Rattle.script_text.specs.inside.Reading.{are_pools}
@@ -22,24 +22,18 @@ use Rattle.script_text.specs.inside.ScriptReading.{Lexicon, is_made, are_ready}
 
 -- ---- names that were made
 
--- a name with zeros after it
-unfoldable pub padded_to : ℕ → List ℕ → List ℕ
-padded_to zero name = []
-padded_to (suc n) [] = 0 ∷ padded_to n []
-padded_to (suc n) (byte ∷ name) = byte ∷ padded_to n name
-
 -- whether two keys are the same
-abbrev pub same_made : ℕ × List ℕ → ℕ × List ℕ → Bool
-same_made one other = one.0 == other.0 && pointwise nat_eq one.1 other.1
+abbrev pub same_made : ℕ × ArrayVec ℕ → ℕ × ArrayVec ℕ → Bool
+same_made one other = one.0 == other.0 && pointwise nat_eq one.1.items other.1.items
 
 -- whether the worker's name is there
 unfoldable pub has_made : MadeNames → ℕ → List ℕ → Bool
-has_made made worker name = contains same_made made.keys (worker, padded_to 16 name)
+has_made made worker name = contains same_made made.keys (worker, record { items = name })
 
 -- the names are those that the lines make
 abbrev pub AreMade : {C : Type 0} → Lexicon C → MadeNames → List (Line C) → Type 0
 AreMade lexicon made lines =
-    (worker : ℕ) (name : List ℕ) → IsName name →
+    (worker : ℕ) (name : List ℕ) →
     has_made made worker name ≡ is_made lexicon lines worker name
 
 -- ---- a reader

@@ -1,9 +1,7 @@
-use Rattle.std.proofs.Common.{◌≡◌, ℕ, ◌+◌, Bool, false, List, [], ◌∷◌, ◌++◌, take, drop, sym, ap, ◌∙◌, subst}
+use Rattle.std.proofs.Common.{◌≡◌, ℕ, ◌+◌, Bool, false, List, [], ◌∷◌, ◌++◌, take, drop, sym, ap, ◌∙◌}
 use Rattle.std.specs.Prelude.{◌&&◌, ◌||◌, ◌==◌}
 use Rattle.std.specs.Str.{bytes_eq}
 use Rattle.std.proofs.lemmas.List.{take_all, take_more, drop_more}
-use Rattle.std.proofs.lemmas.List.Elements.{All-from_recursion}
-use Rattle.script_text.specs.Names.{IsName}
 use Rattle.script_text.specs.inside.ScriptReading.{repeats, with_name}
 use Rattle.script_text.specs.inside.Agreement.{has_made}
 use Rattle.script_text.proofs.NameRuns.{not_so, with_names, with_names-more, with_names-made}
@@ -29,16 +27,13 @@ loop-name-preserved c =
     let here : drop i names ≡ name ∷ drop (i + 1) names =
     drop_more names i name within
     ∙ ap (λ (n : List ℕ). n ∷ drop (i + 1) names) (sym c.name-item.is) in
-    let named : IsName name =
-    subst IsName (sym c.name-item.is)
-    (All-from_recursion IsName names c.requires i name within) in
     let done = rw c.as_slice.ensures at c.in_ok-add.ensures in
     let anew : so_far worker name ≡ false =
-    sym (inv.made worker name named) ∙ not_so _ (sym done.added ∙ c.if-not-branch.false) in
+    sym (inv.made worker name) ∙ not_so _ (sym done.added ∙ c.if-not-branch.false) in
     record {
       made =
-          λ w other h. done.more w other h
-          ∙ ap (λ (b : Bool). (w == worker && bytes_eq other name) || b) (inv.made w other h)
+          λ w other. done.more w other
+          ∙ ap (λ (b : Bool). (w == worker && bytes_eq other name) || b) (inv.made w other)
           ∙ sym (ap (λ (m : ℕ → List ℕ → Bool). m w other) next);
       left = ap (λ (m : ℕ → List ℕ → Bool). repeats m worker (drop (i + 1) names)) next
           ∙ sym (ap (λ (b : Bool). b || repeats (with_name so_far worker name) worker (drop (i + 1) names)) anew)
@@ -47,10 +42,10 @@ loop-name-preserved c =
 
 -- no name is left, so the set has what the lines and all these names make
 pub returns-clause-made : goal.returns-clause-made
-returns-clause-made c = λ e other name h.
+returns-clause-made c = λ e other name.
     let names = c.args.names.now in
     let made = has_made c.args.self.now in
-    c.loop-name.invariant.made other name h
+    c.loop-name.invariant.made other name
     ∙ ap (λ (ns : List (List ℕ)). with_names made c.args.worker ns other name)
     (take_all c.loop-name.name-index names c.loop-name-test.false)
     ∙ with_names-made names made c.args.worker other name

@@ -38,9 +38,8 @@ returns-then-not-branch-clause-read g c =
     let names = lexicon.language.names_made command in
     let lines = c.args.self.now.lines.items in
     let first = rw c.names_made.ensures at c.in_ok-claim.ensures.first in
-    let named = rw c.in-Some.is at c.in_ok-worker.ensures.named in
     let before = sym (repeats-alike names (has_made c.args.self.now.made)
-    (is_made lexicon lines) worker named c.requires.kept.made)
+    (is_made lexicon lines) worker c.requires.kept.made)
     ∙ not-false (repeats (has_made c.args.self.now.made) worker names) (sym first ∙ c.if-not-branch.true) in
     cond-true (ltb (length lines) 10000) (option_and_then (add_command lexicon numbers state c.args.number)
     (worker_command_from lexicon workers words)) None
@@ -68,9 +67,8 @@ returns-clause-read g c =
     let line : Line _ = record { number = c.args.number; worker = worker; command = command } in
     let items : c.push.new.self.items ≡ lines ++ line ∷ [] = c.in_ok-push.ensures.items in
     let first = sym c.in_ok-claim.ensures.first ∙ c.if-not-branch.false in
-    let named = rw c.in-Some.is at c.in_ok-worker.ensures.named in
     let anew = sym (repeats-alike names (has_made c.args.self.now.made)
-    (is_made lexicon lines) worker named c.requires.kept.made)
+    (is_made lexicon lines) worker c.requires.kept.made)
     ∙ not_so (repeats (has_made c.args.self.now.made) worker names) (rw c.names_made.ensures at first) in
     cond-true (ltb (length lines) 10000)
     (option_and_then (add_command lexicon numbers state c.args.number) (worker_command_from lexicon workers words)) None
@@ -107,7 +105,7 @@ returns-clause-kept g c =
           among (rw c.requires.told at c.requires.kept.workers)));
       made =
           subst (AreMade lexicon c.claim.new.self) (sym items) (made-push lexicon c.claim.new.self lines
-          line worker refl (λ other name h. made other name h
+          line worker refl (λ other name. made other name
           ∙ ap (λ (b : Bool). (other == worker && is_one_of names name) || b)
-          (c.requires.kept.made other name h)));
+          (c.requires.kept.made other name)));
     }
