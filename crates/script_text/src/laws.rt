@@ -52,7 +52,7 @@ pub fn one_fault_as_steps()
         IsFirstStepFault bytes number → HasBadStepPool bytes → ⊥ }
 {}
 
-/// No text with such a faulty line or a bad pool is a script of steps.
+/// No text with a line that is faulty in a script of steps, or with a bad pool, is one.
 pub fn no_faulty_script_of_steps()
     ensures line { (bytes : List ℕ) (number : ℕ) (limits : Limits) (lines : List StepLine) →
         IsFirstStepFault bytes number → IsStepScript bytes limits lines → ⊥ }

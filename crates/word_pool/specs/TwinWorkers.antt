@@ -92,8 +92,8 @@ pub record AreNewTwins (l k : Limits) (ms : List TwinManned) : Type 0 where
   pub firsts : firsts_of ms ≡ new_members l 1 l.workers
   pub seconds : seconds_of ms ≡ new_members k 1 k.workers
 
--- The statements of what two grounds left, each closed by one seat with every part, and of these
--- workers' caches, packets and clones, which are what those seats had.
+-- The statements of what two grounds left, each closed by its only seat, and of these workers'
+-- caches, packets and clones, which are what those seats had.
 pub record AreStatementsOfTwins (g h : Grounded) (ms : List TwinManned) (s : Statement × Statement) : Type 0 where
   pub first_view : View
   pub second_view : View

@@ -95,8 +95,8 @@ pub record IsSeatOf (ms : List Manned) (n : Known) : Type 0 where
   -- it is between calls
   pub rest : AtRest n.view
 
--- The statement of what a ground left, closed by the one seat with every part that the seats of
--- these workers were joined to, and of their caches and packets, which are what that seat has.
+-- The statement of what a ground left, closed by the only seat, to which the seats of these workers
+-- were joined, and of their caches and packets, which are what that seat has.
 pub record IsStatementOfWorkers (g : Grounded) (ms : List Manned) (s : Statement) : Type 0 where
   pub known : Known
   pub seat : IsSeatOf ms known
