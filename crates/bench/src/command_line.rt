@@ -161,46 +161,70 @@ fn command<'a>(alloc: Global) -> Result<Command<'a>, Error> {
     let workload = Arg::new(alloc, "WORKLOAD").help(
         "What is measured; none: the list of workloads",
     );
-    let names = Arg::new(alloc, "names")
+    let bench = Command::new(alloc, "bench")
+        .about("Measures the pool on the lists, and on its words")
+        .arg(workload)?
+        .arg(whole(alloc, "rounds", 1_000_000_000, "How many rounds a run has"))?
+        .arg(whole(alloc, "runs", 1_000, "Of how many runs the least is told"))?;
+    of_words(alloc, bench)
+}
+
+/// The options for the words of a pool, beside those that there are.
+fn of_words<'a>(alloc: Global, bench: Command<'a>) -> Result<Command<'a>, Error> {
+    let population = whole(
+        alloc,
+        "population",
+        1_000_000,
+        "Words: how many elements a pool has",
+    );
+    let millis = whole(
+        alloc,
+        "ms",
+        60_000,
+        "Words and handovers: how long a run is, without --rounds",
+    );
+    Ok(
+        bench
+            .arg(names(alloc))?
+            .arg(threads(alloc))?
+            .arg(caches(alloc))?
+            .arg(put_rule(alloc))?
+            .arg(population)?
+            .arg(millis)?,
+    )
+}
+
+/// Which rounds.
+fn names<'a>(alloc: Global) -> Arg<'a> {
+    Arg::new(alloc, "names")
         .long("workload")
         .value_name("NAMES")
-        .help("Words: which rounds, with commas between");
-    let threads = Arg::new(alloc, "threads")
+        .help("Words: which rounds, with commas between")
+}
+
+/// By how many threads.
+fn threads<'a>(alloc: Global) -> Arg<'a> {
+    Arg::new(alloc, "threads")
         .long("threads")
         .value_name("LIST")
-        .help("Words: by how many threads, 1, 2 or 4, with commas between");
-    let caches = Arg::new(alloc, "cache")
+        .help("Words: by how many threads, 1, 2 or 4, with commas between")
+}
+
+/// How large the caches are.
+fn caches<'a>(alloc: Global) -> Arg<'a> {
+    Arg::new(alloc, "cache")
         .long("cache")
         .value_name("LIST")
-        .help("Words and memory: how large the caches are, with commas between");
-    let put_rule = Arg::new(alloc, "putrule")
+        .help("Words and memory: how large the caches are, with commas between")
+}
+
+/// What a full cache flushes.
+fn put_rule<'a>(alloc: Global) -> Arg<'a> {
+    Arg::new(alloc, "putrule")
         .long("putrule")
         .value_name("RULE")
         .value_parser(ValueParser::unsigned(0, 1))
-        .help("Words: what a full cache flushes, 0: what is beyond its size (the default), 1: all");
-    Ok(
-        Command::new(alloc, "bench")
-            .about("Measures the pool on the lists, and on its words")
-            .arg(workload)?
-            .arg(whole(alloc, "rounds", 1_000_000_000, "How many rounds a run has"))?
-            .arg(whole(alloc, "runs", 1_000, "Of how many runs the least is told"))?
-            .arg(names)?
-            .arg(threads)?
-            .arg(caches)?
-            .arg(put_rule)?
-            .arg(whole(
-                alloc,
-                "population",
-                1_000_000,
-                "Words: how many elements a pool has",
-            ))?
-            .arg(whole(
-                alloc,
-                "ms",
-                60_000,
-                "Words and handovers: how long a run is, without --rounds",
-            ))?,
-    )
+        .help("Words: what a full cache flushes, 0: what is beyond its size (the default), 1: all")
 }
 
 /// An option for a whole number from 1 on.

@@ -2,7 +2,7 @@
 use crate::unasked::Unasked;
 use clap::builder::ValueParser;
 use clap::error::ErrorKind;
-use clap::{Arg, ArgAction, Command, Error};
+use clap::{Arg, ArgAction, ArgMatches, Command, Error};
 use script::Grounds;
 use std::alloc::Global;
 use std::env::Env;
@@ -43,54 +43,63 @@ pub fn request_of<'a>(alloc: Global, words: &'a [String]) -> Result<Request<'a>,
 /// The request that a parse of the words finds.
 fn requested<'a>(alloc: Global, words: &'a [String]) -> Result<Option<Request<'a>>, Error> {
     let matches = command(alloc)?.try_get_matches_from(words)?;
+    Ok(request_in(&matches))
+}
+
+/// The request that the matches of a parse are.
+fn request_in<'a>(matches: &ArgMatches<'a>) -> Option<Request<'a>> {
     if let Some(replay) = matches.subcommand_matches("replay") {
-        let task = if replay.get_flag("snapshot") {
-            Task::ReplaySnapshot
-        } else {
-            Task::Replay(form_of(replay.get_flag("json")))
-        };
-        return Ok(replay.get_str("FILE").map(|file| Request { file, task }));
+        return of_file(replay, replay_in(replay));
     }
     if let Some(steps) = matches.subcommand_matches("steps") {
-        let task = Task::Steps;
-        return Ok(steps.get_str("FILE").map(|file| Request { file, task }));
+        return of_file(steps, Task::Steps);
     }
     if let Some(audit) = matches.subcommand_matches("audit") {
-        let task = Task::Audit(form_of(audit.get_flag("json")));
-        return Ok(audit.get_str("FILE").map(|file| Request { file, task }));
+        return of_file(audit, Task::Audit(form_in(audit)));
     }
-    let Some(run) = matches.subcommand_matches("run") else {
-        return Ok(None);
-    };
-    let turns = Turns::new(
-        run.get_str("turns")
-            .and_then(|word| word.parse().ok())
-            .unwrap_or(0),
-    );
-    match (
-        run.get_str("FILE"),
-        run.get_str("ground").and_then(grounds_of),
-        turns,
-    ) {
-        (Some(file), Some(grounds), Some(turns)) => {
-            let lose = run.get_str("lose").and_then(|word| word.parse().ok());
-            let form = form_of(run.get_flag("json"));
-            let task = if run.get_flag("snapshot") {
-                Task::RunSnapshot(grounds, turns)
-            } else {
-                task_of(grounds, turns, lose, form)
-            };
-            Ok(Some(Request { file, task }))
-        }
-        _ => Ok(None),
+    let run = matches.subcommand_matches("run")?;
+    of_file(run, run_in(run)?)
+}
+
+/// What is to be done with the file that is named.
+fn of_file<'a>(matches: &ArgMatches<'a>, task: Task) -> Option<Request<'a>> {
+    matches.get_str("FILE").map(|file| Request { file, task })
+}
+
+/// The replay that is asked for.
+fn replay_in<'a>(matches: &ArgMatches<'a>) -> Task {
+    if matches.get_flag("snapshot") {
+        Task::ReplaySnapshot
+    } else {
+        Task::Replay(form_in(matches))
     }
 }
 
-/// The run that is asked for, and the worker that is to be lost at its end, if one is named.
-fn task_of(grounds: Grounds, turns: Turns, lose: Option<u32>, form: Form) -> Task {
-    match lose {
+/// The run that is asked for.
+fn run_in<'a>(matches: &ArgMatches<'a>) -> Option<Task> {
+    let grounds = grounds_of(matches.get_str("ground")?)?;
+    let turns = Turns::new(number(matches.get_str("turns")).unwrap_or(0))?;
+    if matches.get_flag("snapshot") {
+        return Some(Task::RunSnapshot(grounds, turns));
+    }
+    let form = form_in(matches);
+    Some(match number(matches.get_str("lose")) {
         Some(worker) => Task::RunLost(grounds, turns, worker, form),
         None => Task::Run(grounds, turns, form),
+    })
+}
+
+/// The number that a word spells.
+fn number(word: Option<&str>) -> Option<u32> {
+    word.and_then(|word| word.parse().ok())
+}
+
+/// The form that is asked for.
+fn form_in<'a>(matches: &ArgMatches<'a>) -> Form {
+    if matches.get_flag("json") {
+        Form::Json
+    } else {
+        Form::Text
     }
 }
 
@@ -101,11 +110,6 @@ fn grounds_of(word: &str) -> Option<Grounds> {
         "locked" => Some(Grounds::Locked),
         _ => None,
     }
-}
-
-/// The form that is asked for.
-fn form_of(json: bool) -> Form {
-    if json { Form::Json } else { Form::Text }
 }
 
 /// What is said of words that are wrong in a way that a parse doesn't tell.
@@ -119,78 +123,110 @@ fn wrong_words(alloc: Global, message: &str) -> Result<Error, Error> {
     Ok(command(alloc)?.error(ErrorKind::InvalidValue, message)?)
 }
 
-/// `mbufpool replay FILE [--json | --snapshot]`, `mbufpool run FILE [--ground words|locked] [--turns
-/// T] [--lose W] [--json | --snapshot]`, where `--lose` and `--snapshot` go together neither,
-/// `mbufpool steps FILE` and `mbufpool audit FILE [--json]`.
+/// `mbufpool`, with its four commands.
 fn command<'a>(alloc: Global) -> Result<Command<'a>, Error> {
-    let replay = Command::new(alloc, "replay")
-        .about("Replays a script, and prints each reply and where each element is at the end")
-        .arg(script_file(alloc))?
-        .arg(json(alloc).help(
-            "Print where each element is at the end as one line of JSON, and no replies",
-        ))?
-        .arg(
-            snapshot(alloc)
-                .help(
-                    "Print what the pool leaves at the end as a snapshot, for audit, and no replies",
-                )
-                .conflicts_with("json")?,
-        )?;
-    let ground = Arg::new(alloc, "ground")
-        .long("ground")
-        .value_name("GROUND")
-        .value_parser(&["words", "locked"][..])
-        .default_value("words")
-        .help("What the threads share: words without a lock, or lists under one lock");
-    let turns = Arg::new(alloc, "turns")
-        .long("turns")
-        .value_name("T")
-        .value_parser(ValueParser::unsigned(1, MAX_TURNS))
-        .default_value("1000")
-        .help("How often a line is tried in all where others are in its way");
-    let lose = Arg::new(alloc, "lose")
-        .long("lose")
-        .value_name("W")
-        .value_parser(ValueParser::unsigned(0, MAX_WORKER))
-        .help("Lose worker W at the end, and print which elements are lost with it");
-    let run = Command::new(alloc, "run")
-        .about(
-            "Runs a script with a thread for each worker, and prints where each element is at the end",
-        )
-        .arg(script_file(alloc))?
-        .arg(ground)?
-        .arg(turns)?
-        .arg(lose)?
-        .arg(json(alloc).help("Print it as one line of JSON"))?
-        .arg(
-            snapshot(alloc)
-                .help("Print what the pool leaves at the end as a snapshot, for audit")
-                .conflicts_with("json")?
-                .conflicts_with("lose")?,
-        )?;
-    let steps = Command::new(alloc, "steps")
-        .about(
-            "Plays a script of steps on the words of the stack, and prints what each saw and the words",
-        )
-        .arg(script_file(alloc))?;
-    let audit = Command::new(alloc, "audit")
-        .about("Audits a snapshot of a pool, and prints where each element is, or its first fault")
-        .arg(
-            Arg::new(alloc, "FILE")
-                .required(true)
-                .help("The snapshot, as JSON; - is the standard input"),
-        )?
-        .arg(json(alloc).help("Print it as one line of JSON"))?;
     Ok(
         Command::new(alloc, "mbufpool")
             .about("A pool of packet buffers")
             .version(VERSION)
             .subcommand_required(true)
-            .subcommand(replay)?
-            .subcommand(run)?
-            .subcommand(steps)?
-            .subcommand(audit)?,
+            .subcommand(replay(alloc)?)?
+            .subcommand(run(alloc)?)?
+            .subcommand(steps(alloc)?)?
+            .subcommand(audit(alloc)?)?,
     )
+}
+
+/// `mbufpool replay FILE [--json | --snapshot]`.
+fn replay<'a>(alloc: Global) -> Result<Command<'a>, Error> {
+    let json = json(alloc).help(
+        "Print where each element is at the end as one line of JSON, and no replies",
+    );
+    let snapshot = snapshot(alloc)?.help(
+        "Print what the pool leaves at the end as a snapshot, for audit, and no replies",
+    );
+    Ok(
+        Command::new(alloc, "replay")
+            .about("Replays a script, and prints each reply and where each element is at the end")
+            .arg(script_file(alloc))?
+            .arg(json)?
+            .arg(snapshot)?,
+    )
+}
+
+/// `mbufpool run FILE [--ground words|locked] [--turns T] [--lose W] [--json | --snapshot]`, where
+/// `--lose` and `--snapshot` don't go together either.
+fn run<'a>(alloc: Global) -> Result<Command<'a>, Error> {
+    let snapshot = snapshot(alloc)?
+        .help("Print what the pool leaves at the end as a snapshot, for audit")
+        .conflicts_with("lose")?;
+    Ok(
+        Command::new(alloc, "run")
+            .about(
+                "Runs a script with a thread for each worker, and prints where each element is at the end",
+            )
+            .arg(script_file(alloc))?
+            .arg(ground(alloc))?
+            .arg(turns(alloc))?
+            .arg(lose(alloc))?
+            .arg(json(alloc).help("Print it as one line of JSON"))?
+            .arg(snapshot)?,
+    )
+}
+
+/// `mbufpool steps FILE`.
+fn steps<'a>(alloc: Global) -> Result<Command<'a>, Error> {
+    Ok(
+        Command::new(alloc, "steps")
+            .about(
+                "Plays a script of steps on the words of the stack, and prints what each saw and the words",
+            )
+            .arg(script_file(alloc))?,
+    )
+}
+
+/// `mbufpool audit FILE [--json]`.
+fn audit<'a>(alloc: Global) -> Result<Command<'a>, Error> {
+    let file = Arg::new(alloc, "FILE")
+        .required(true)
+        .help("The snapshot, as JSON; - is the standard input");
+    Ok(
+        Command::new(alloc, "audit")
+            .about(
+                "Audits a snapshot of a pool, and prints where each element is, or its first fault",
+            )
+            .arg(file)?
+            .arg(json(alloc).help("Print it as one line of JSON"))?,
+    )
+}
+
+/// What the threads share.
+fn ground<'a>(alloc: Global) -> Arg<'a> {
+    Arg::new(alloc, "ground")
+        .long("ground")
+        .value_name("GROUND")
+        .value_parser(&["words", "locked"][..])
+        .default_value("words")
+        .help("What the threads share: words without a lock, or lists under one lock")
+}
+
+/// How often a line is tried.
+fn turns<'a>(alloc: Global) -> Arg<'a> {
+    Arg::new(alloc, "turns")
+        .long("turns")
+        .value_name("T")
+        .value_parser(ValueParser::unsigned(1, MAX_TURNS))
+        .default_value("1000")
+        .help("How often a line is tried in all where others are in its way")
+}
+
+/// The worker that is lost.
+fn lose<'a>(alloc: Global) -> Arg<'a> {
+    Arg::new(alloc, "lose")
+        .long("lose")
+        .value_name("W")
+        .value_parser(ValueParser::unsigned(0, MAX_WORKER))
+        .help("Lose worker W at the end, and print which elements are lost with it")
 }
 
 /// The file that is named.
@@ -198,11 +234,14 @@ fn script_file<'a>(alloc: Global) -> Arg<'a> {
     Arg::new(alloc, "FILE").required(true).help("The script")
 }
 
-/// The flag that asks for snapshots.
-fn snapshot<'a>(alloc: Global) -> Arg<'a> {
-    Arg::new(alloc, "snapshot")
-        .long("snapshot")
-        .action(ArgAction::SetTrue)
+/// The flag that asks for snapshots, which isn't given with that for JSON.
+fn snapshot<'a>(alloc: Global) -> Result<Arg<'a>, Error> {
+    Ok(
+        Arg::new(alloc, "snapshot")
+            .long("snapshot")
+            .action(ArgAction::SetTrue)
+            .conflicts_with("json")?,
+    )
 }
 
 /// The flag that asks for JSON.

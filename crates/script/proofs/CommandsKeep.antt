@@ -1,6 +1,6 @@
 -- What each act of a worker keeps of the pools, each command keeps; so what commands make of a pool
 -- alone, acts make of it.
-use Rattle.std.proofs.Common.{ℕ, ◌≡◌, List, [], ◌∷◌, ◌++◌, length, Result, Ok, Err, refl, sym, ap, ◌∙◌, subst, inl, inr, ◌&&◌, nat_le}
+use Rattle.std.proofs.Common.{ℕ, ◌≡◌, List, [], ◌∷◌, ◌++◌, length, Result, Ok, Err, refl, sym, ap, ◌∙◌, inl, inr, ◌&&◌, nat_le}
 use Rattle.std.proofs.lemmas.Bool.{cases_Bool}
 use Rattle.commons.specs.declared.limits.Limits.{Limits}
 use Rattle.commons.specs.declared.refusal.Refusal.{Refusal}
@@ -11,7 +11,7 @@ use Rattle.script_text.specs.PoolLine.{one_pool}
 use Rattle.pool_model.specs.Pool.{Pool, new_pool}
 use Rattle.pool_model.specs.PacketModel.{perform, after_acts}
 use Rattle.pool_model.proofs.AfterActs.{after_one_more}
-use Rattle.script.specs.Replay.{One, Run, Stock, Two, asked, done_for, end_of, new_run, obey, perform_on}
+use Rattle.script.specs.Replay.{One, Run, Stock, asked, done_for, end_of, new_run, obey, perform_on}
 use Rattle.twin_acts.specs.declared.acts.TwinAct.{TwinAct}
 use Rattle.twin_acts.specs.declared.acts.TwinAct.TheVariants.{OnFirst}
 

@@ -21,7 +21,7 @@ use Rattle.script.specs.declared.left.Left.TheVariants as left
 use Rattle.script.specs.declared.snapshots.Snapshots.{Snapshots}
 use Rattle.script.specs.declared.threaded.Grounds.{Grounds}
 use Rattle.script.specs.declared.threaded.Grounds.TheVariants.{Words, Locked}
-use Rattle.script.specs.inside.Leaving.{AreWhole, CountsAreWithin, limits_left, snapshots_of}
+use Rattle.script.specs.inside.Leaving.{CountsAreWithin, limits_left, snapshots_of}
 use Rattle.script_text.specs.declared.lines.Pools.{Pools}
 use Rattle.snapshot.specs.Closing.{snapshot_of}
 use Rattle.snapshot.specs.Snapshots.{statement_in}

@@ -1,6 +1,5 @@
 -- What runs of two pools come to.
 use Rattle.std.proofs.Common.{ℕ, ◌≡◌, ◌++◌, List, take, drop, length, sym, ap, ◌∙◌, subst}
-use Rattle.std.specs.Prelude.{map}
 use Rattle.std.proofs.lemmas.List.{length-map, take_at}
 use Rattle.std.proofs.lemmas.List.FromFn.{length-range_with_len}
 use Rattle.commons.specs.declared.limits.Limits.{Limits}

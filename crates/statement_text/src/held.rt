@@ -1,5 +1,5 @@
 //! The held elements and their holders.
-ghost use Rattle.std.specs.Prelude.{◌≡◌, ◌++◌, OnOk};
+ghost use Rattle.std.specs.Prelude.{◌≡◌, ◌++◌, OnOk, codes};
 ghost use Rattle.std.specs.List.{flat_map};
 ghost use Rattle.element_text.specs.Elements.{joined};
 ghost use Rattle.statement_text.specs.StatementText.{held_text, holder_text};
@@ -34,18 +34,18 @@ fn write_joined(out: &mut Vec<u8>, holders: &[Holder]) -> Result<(), AllocError>
     ensures { OnOk result (out.new.items ≡ out.old.items ++ joined holder_text holders.now) }
 {
     for holder in holders {
-        out.extend_from_slice(b" ")?;
         write_holder(out, *holder)?;
     }
     Ok(())
 }
 
+/// A holder after a space.
 #[tactic(auto, unfolding(crate::specs::StatementText::holder_text))]
 fn write_holder(out: &mut Vec<u8>, holder: Holder) -> Result<(), AllocError>
-    ensures { OnOk result (out.new.items ≡ out.old.items ++ holder_text holder) }
+    ensures { OnOk result (out.new.items ≡ out.old.items ++ codes " " ++ holder_text holder) }
 {
     match holder {
-        Holder::Worker(number) => write_number(out, b"", number),
-        Holder::Desk(number) => write_number(out, b"d", number),
+        Holder::Worker(number) => write_number(out, b" ", number),
+        Holder::Desk(number) => write_number(out, b" d", number),
     }
 }

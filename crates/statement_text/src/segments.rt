@@ -1,5 +1,5 @@
 //! Segments, and the packets that are made of them.
-ghost use Rattle.std.specs.Prelude.{◌≡◌, ◌++◌, OnOk};
+ghost use Rattle.std.specs.Prelude.{◌≡◌, ◌++◌, OnOk, codes, decimal};
 ghost use Rattle.std.specs.List.{flat_map};
 ghost use Rattle.mbuf.specs.Lengths.{pkt_len};
 ghost use Rattle.element_text.specs.Elements.{joined};
@@ -71,18 +71,26 @@ fn write_joined(out: &mut Vec<u8>, segs: &[Seg]) -> Result<(), AllocError>
     ensures { OnOk result (out.new.items ≡ out.old.items ++ joined segment_text segs.now) }
 {
     for seg in segs {
-        out.extend_from_slice(b" ")?;
         write_segment(out, seg)?;
     }
     Ok(())
 }
 
+/// A segment after a space.
 #[tactic(auto, unfolding(crate::specs::StatementText::segment_text))]
 fn write_segment(out: &mut Vec<u8>, seg: &Seg) -> Result<(), AllocError>
-    ensures { OnOk result (out.new.items ≡ out.old.items ++ segment_text seg.now) }
+    ensures { OnOk result (out.new.items ≡ out.old.items ++ codes " " ++ segment_text seg.now) }
 {
-    write_number(out, b"", seg.elem)?;
+    write_number(out, b" ", seg.elem)?;
     write_base(out, seg.base)?;
+    write_lengths(out, seg)
+}
+
+/// Where a segment's data begins in its buffer, how long it is, and how long the buffer is.
+fn write_lengths(out: &mut Vec<u8>, seg: &Seg) -> Result<(), AllocError>
+    ensures { OnOk result (out.new.items ≡ out.old.items ++ codes "@" ++ decimal seg.now.data_off
+        ++ codes "+" ++ decimal seg.now.data_len ++ codes "/" ++ decimal seg.now.buf_len) }
+{
     write_number(out, b"@", seg.data_off)?;
     write_number(out, b"+", seg.data_len)?;
     write_number(out, b"/", seg.buf_len)

@@ -5,7 +5,7 @@ use super::threads::GROUNDS;
 use super::{same, text_of_end};
 use commons::refusal::Refusal;
 use pool_model::statement::Statement;
-use script::{replay, run_script};
+use script::{Grounds, replay, run_script};
 use script_text::parse;
 use std::alloc::{AllocError, Global};
 use std::process::Abort;
@@ -94,31 +94,45 @@ fn totals(statement: &Statement) -> (u64, u64) {
     (statement.population, all)
 }
 
-/// A script's run on either ground ends as its replay does, with each element of either pool
-/// accounted for.
+/// Each element of a pool is accounted for.
+fn assert_all<R: Abort>(rt: &R, statement: &Statement, text: &str) {
+    let (population, all) = totals(statement);
+    same(rt, &all, &population, text);
+}
+
+/// What the replay of a script of two pools comes to, with each element of either accounted for.
+fn end_by_replay<R: Abort + AllocGlobal>(rt: &R, text: &str) -> Result<String, Fail> {
+    let script = parse(rt.alloc(), text.as_bytes())?;
+    let (_replies, settled) = replay(rt.alloc(), &script)?;
+    let Some(second) = &settled.second else {
+        return Err(Fail::from(Refusal::BadPool));
+    };
+    assert_all(rt, &settled.first, text);
+    assert_all(rt, second, text);
+    text_of_end(rt.alloc(), &settled)
+}
+
+/// A script's run on this ground ends so.
+fn assert_end_on<R: Threads + Wait + Sync + Abort + AllocGlobal>(
+    rt: &R,
+    text: &str,
+    grounds: Grounds,
+    wanted: &str,
+) -> Result<(), Fail> {
+    let ran = run_script(rt, rt.alloc(), text.as_bytes(), grounds, 1)?;
+    let end = text_of_end(rt.alloc(), &ran)?;
+    same(rt, &(grounds, end.as_str()), &(grounds, wanted), text);
+    Ok(())
+}
+
+/// A script's run on either ground ends as its replay does.
 fn assert_one_end<R: Threads + Wait + Sync + Abort + AllocGlobal>(
     rt: &R,
     text: &str,
 ) -> Result<(), Fail> {
-    let script = parse(rt.alloc(), text.as_bytes())?;
-    let (_replies, settled) = replay(rt.alloc(), &script)?;
-    let (population, all) = totals(&settled.first);
-    same(rt, &all, &population, text);
-    let Some(second) = &settled.second else {
-        return Err(Fail::from(Refusal::BadPool));
-    };
-    let (population, all) = totals(second);
-    same(rt, &all, &population, text);
-    let wanted = text_of_end(rt.alloc(), &settled)?;
+    let wanted = end_by_replay(rt, text)?;
     for grounds in GROUNDS {
-        let ran = run_script(rt, rt.alloc(), text.as_bytes(), grounds, 1)?;
-        let end = text_of_end(rt.alloc(), &ran)?;
-        same(
-            rt,
-            &(grounds, end.as_str()),
-            &(grounds, wanted.as_str()),
-            text,
-        );
+        assert_end_on(rt, text, grounds, wanted.as_str())?;
     }
     Ok(())
 }

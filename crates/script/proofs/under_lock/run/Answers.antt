@@ -1,7 +1,4 @@
 -- The pool was left by acts, which leave packets sound.
-use Rattle.std.proofs.Common.{ap, None}
-use Rattle.commons.specs.declared.limits.Limits.{Limits}
-use Rattle.script_text.specs.declared.lines.Pools.{Pools}
 use Rattle.script.proofs.Ends.{counts_by_acts, ends_by_acts}
 use Rattle.script.proofs.under_lock.run.Goals as goal
 

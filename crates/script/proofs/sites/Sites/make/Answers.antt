@@ -1,8 +1,8 @@
 -- Pools on new lists are new pools of the model, two where the limits are of two.
-use Rattle.std.proofs.Common.{◌≡◌, Option, Some, sym, ap, ◌∙◌}
+use Rattle.std.proofs.Common.{Option, sym, ap, ◌∙◌}
 use Rattle.commons.specs.declared.limits.Limits.{Limits}
 use Rattle.pool_model.specs.TwinModel.{TwinPool}
-use Rattle.script.specs.Replay.{Stock, Two, new_beside}
+use Rattle.script.specs.Replay.{Two, new_beside}
 use Rattle.script.proofs.sites.Sites.make.Goals as goal
 
 pub returns-in_ok-make-in-Some-clause-new : goal.returns-in_ok-make-in-Some-clause-new
