@@ -33,7 +33,7 @@ pub struct Snapshots {
 
 /// What a script's pool leaves at the end of its replay, as a line of JSON, or with a second pool
 /// what both leave, the first pool's line first: the snapshots that audits of them read. Each is
-/// lawful, and its statement is the one that the replay ends with.
+/// lawful, has the script's limits, and its statement is the one that the replay ends with.
 ///
 /// Refused as `run_replay` is.
 pub fn run_replay_snapshot(alloc: Global, bytes: &[u8]) -> Result<Vec<u8>, Refusal>
@@ -55,8 +55,8 @@ pub fn run_replay_snapshot(alloc: Global, bytes: &[u8]) -> Result<Vec<u8>, Refus
 }
 
 /// What a script's pools leave at the end of a run with a thread for each worker, as the lines of
-/// JSON that `run_replay_snapshot` gives. The run is as `run_script`'s, and the statements of these
-/// snapshots are what such a run comes to.
+/// JSON that `run_replay_snapshot` gives. The run is as `run_script`'s; these snapshots have the
+/// script's limits, and their statements are what such a run comes to.
 ///
 /// Refused as `run_script` is.
 pub fn run_script_snapshot<R: Threads + Wait + Sync>(

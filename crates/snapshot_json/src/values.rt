@@ -17,21 +17,15 @@ use std::alloc::{AllocError, Global};
 pub(crate) fn snapshot(alloc: Global, snapshot: &Snapshot) -> Result<Value, AllocError>
     ensures { IfOk result (λ v. view v ≡ snapshot_data snapshot.now) }
 {
-    let counts = numbers(alloc, snapshot.counts.as_slice())?;
-    let desks = places(alloc, snapshot.desks.as_slice())?;
-    let guests = guests(alloc, snapshot.guests.as_slice())?;
-    let limits = limits(alloc, &snapshot.limits)?;
-    let links = numbers(alloc, snapshot.links.as_slice())?;
-    let shares = shares(alloc, snapshot.shares.as_slice())?;
     json!(in alloc; {
-        "counts": counts,
-        "desks": desks,
+        "counts": numbers(alloc, snapshot.counts.as_slice())?,
+        "desks": places(alloc, snapshot.desks.as_slice())?,
         "foreign": snapshot.foreign,
-        "guests": guests,
+        "guests": guests(alloc, snapshot.guests.as_slice())?,
         "length": snapshot.length,
-        "limits": limits,
-        "links": links,
-        "shares": shares,
+        "limits": limits(alloc, &snapshot.limits)?,
+        "links": numbers(alloc, snapshot.links.as_slice())?,
+        "shares": shares(alloc, snapshot.shares.as_slice())?,
         "top": snapshot.top
     })
 }
@@ -44,20 +38,14 @@ pub(crate) fn with_common(
 ) -> Result<Value, AllocError>
     ensures { IfOk result (λ v. view v ≡ common_data snapshot.now common.now) }
 {
-    let common = numbers(alloc, common)?;
-    let counts = numbers(alloc, snapshot.counts.as_slice())?;
-    let desks = places(alloc, snapshot.desks.as_slice())?;
-    let guests = guests(alloc, snapshot.guests.as_slice())?;
-    let limits = limits(alloc, &snapshot.limits)?;
-    let shares = shares(alloc, snapshot.shares.as_slice())?;
     json!(in alloc; {
-        "common": common,
-        "counts": counts,
-        "desks": desks,
+        "common": numbers(alloc, common)?,
+        "counts": numbers(alloc, snapshot.counts.as_slice())?,
+        "desks": places(alloc, snapshot.desks.as_slice())?,
         "foreign": snapshot.foreign,
-        "guests": guests,
-        "limits": limits,
-        "shares": shares
+        "guests": guests(alloc, snapshot.guests.as_slice())?,
+        "limits": limits(alloc, &snapshot.limits)?,
+        "shares": shares(alloc, snapshot.shares.as_slice())?
     })
 }
 
@@ -159,9 +147,11 @@ fn shares(alloc: Global, shares: &[ShareData]) -> Result<Value, AllocError>
 fn a_share(alloc: Global, share: &ShareData) -> Result<Value, AllocError>
     ensures { IfOk result (λ v. view v ≡ share_data share.now) }
 {
-    let cache = numbers(alloc, share.cache.as_slice())?;
-    let slots = places(alloc, share.slots.as_slice())?;
-    json!(in alloc; {"cache": cache, "slots": slots, "worker": share.worker})
+    json!(in alloc; {
+        "cache": numbers(alloc, share.cache.as_slice())?,
+        "slots": places(alloc, share.slots.as_slice())?,
+        "worker": share.worker
+    })
 }
 
 /// The guests.

@@ -16,19 +16,14 @@ use std::alloc::{AllocError, Global};
 pub(crate) fn statement(alloc: Global, statement: &Statement) -> Result<Value, AllocError>
     ensures { IfOk result (λ v. view v ≡ statement_data statement.now) }
 {
-    let caches = caches(alloc, statement.caches.as_slice())?;
-    let common = numbers(alloc, statement.common.as_slice())?;
-    let desks = desks(alloc, statement.desks.as_slice())?;
-    let held = all_held(alloc, statement.held.as_slice())?;
-    let packets = packets(alloc, statement.packets.as_slice())?;
     json!(in alloc; {
         "available": statement.available,
-        "caches": caches,
-        "common": common,
-        "desks": desks,
-        "held": held,
+        "caches": caches(alloc, statement.caches.as_slice())?,
+        "common": numbers(alloc, statement.common.as_slice())?,
+        "desks": desks(alloc, statement.desks.as_slice())?,
+        "held": all_held(alloc, statement.held.as_slice())?,
         "in_use": statement.in_use,
-        "packets": packets,
+        "packets": packets(alloc, statement.packets.as_slice())?,
         "population": statement.population
     })
 }
@@ -84,8 +79,11 @@ fn packets(alloc: Global, packets: &[PlacedPacket]) -> Result<Value, AllocError>
 fn placed(alloc: Global, packet: &PlacedPacket) -> Result<Value, AllocError>
     ensures { IfOk result (λ v. view v ≡ packet_data packet.now) }
 {
-    let segs = segs(alloc, packet.segs.as_slice())?;
-    json!(in alloc; {"segs": segs, "slot": packet.slot, "worker": packet.worker})
+    json!(in alloc; {
+        "segs": segs(alloc, packet.segs.as_slice())?,
+        "slot": packet.slot,
+        "worker": packet.worker
+    })
 }
 
 /// The packets on desks.
@@ -103,8 +101,7 @@ fn desks(alloc: Global, desks: &[DeskPacket]) -> Result<Value, AllocError>
 fn on_desk(alloc: Global, packet: &DeskPacket) -> Result<Value, AllocError>
     ensures { IfOk result (λ v. view v ≡ desk_data packet.now) }
 {
-    let segs = segs(alloc, packet.segs.as_slice())?;
-    json!(in alloc; {"desk": packet.desk, "segs": segs})
+    json!(in alloc; {"desk": packet.desk, "segs": segs(alloc, packet.segs.as_slice())?})
 }
 
 /// The segments of a packet.
@@ -146,8 +143,11 @@ fn all_held(alloc: Global, held: &[Held]) -> Result<Value, AllocError>
 fn one_held(alloc: Global, held: &Held) -> Result<Value, AllocError>
     ensures { IfOk result (λ v. view v ≡ held_data held.now) }
 {
-    let holders = holders(alloc, held.holders.as_slice())?;
-    json!(in alloc; {"count": held.count, "elem": held.elem, "holders": holders})
+    json!(in alloc; {
+        "count": held.count,
+        "elem": held.elem,
+        "holders": holders(alloc, held.holders.as_slice())?
+    })
 }
 
 /// The holders of an element.
