@@ -24,10 +24,33 @@ pub fn measure<R: Runtime + AllocGlobal>(
     let limits = LARGE;
     limits.check()?;
     let snapshot = large(rt.alloc(), &limits)?;
-    let elements = rounds.saturating_mul(limits.population);
-    let nanos = audit_runs(rt, &snapshot, rounds, runs)?;
-    print_each(rt, "audit of 65534 elements, for each", nanos, elements)?;
-    let (nanos, sum) = pass_runs(rt, &snapshot, rounds, runs)?;
+    print_audits(rt, &snapshot, rounds, runs)?;
+    print_passes(rt, &snapshot, rounds, runs)
+}
+
+/// Prints what an audit takes for an element.
+fn print_audits<R: Runtime + AllocGlobal>(
+    rt: &R,
+    snapshot: &Snapshot,
+    rounds: u64,
+    runs: u64,
+) -> Result<(), Failure>
+    requires pool { IsPool snapshot.now.limits }
+{
+    let nanos = audit_runs(rt, snapshot, rounds, runs)?;
+    let elements = rounds.saturating_mul(snapshot.limits.population);
+    print_each(rt, "audit of 65534 elements, for each", nanos, elements)
+}
+
+/// Prints what a pass that only reads takes for an element.
+fn print_passes<R: Runtime + AllocGlobal>(
+    rt: &R,
+    snapshot: &Snapshot,
+    rounds: u64,
+    runs: u64,
+) -> Result<(), Failure> {
+    let (nanos, sum) = pass_runs(rt, snapshot, rounds, runs)?;
+    let elements = rounds.saturating_mul(snapshot.limits.population);
     let name = format!(in rt.alloc(); "plain pass with sum {sum}, for each")?;
     print_each(rt, name.as_str(), nanos, elements)
 }
@@ -45,13 +68,21 @@ fn audit_runs<R: Clock + AllocGlobal>(
     for _run in 0..runs {
         let start = Instant::now(rt)?;
         for _round in 0..rounds {
-            if let Err(fault) = audit(rt.alloc(), snapshot) {
-                return Err(Failure::Unlawful(fault));
-            }
+            audited(rt.alloc(), snapshot)?;
         }
         least = least.min(since(rt, start)?);
     }
     Ok(least)
+}
+
+/// One audit.
+fn audited(alloc: Global, snapshot: &Snapshot) -> Result<(), Failure>
+    requires pool { IsPool snapshot.now.limits }
+{
+    match audit(alloc, snapshot) {
+        Ok(_) => Ok(()),
+        Err(fault) => Err(Failure::Unlawful(fault)),
+    }
 }
 
 /// The least of this many runs of the plain pass, and the sum of all its words.
@@ -160,13 +191,20 @@ fn count(elem: u32) -> u32 {
 fn shares(alloc: Global) -> Result<Seq<ShareData>, AllocError> {
     let mut shares = Vec::new(alloc);
     for index in 0..64 {
-        shares.push(ShareData {
-            worker: index + 1,
-            cache: cache(alloc, index)?,
-            slots: table(alloc, index)?,
-        })?;
+        shares.push(share(alloc, index)?)?;
     }
     Ok(Seq::new(shares))
+}
+
+/// What one worker handed in.
+fn share(alloc: Global, index: u32) -> Result<ShareData, AllocError>
+    requires { index < 64 }
+{
+    Ok(ShareData {
+        worker: index + 1,
+        cache: cache(alloc, index)?,
+        slots: table(alloc, index)?,
+    })
 }
 
 /// A worker's cache of 512 elements.

@@ -154,12 +154,14 @@ fn settled_book<R: Clock + AllocGlobal>(
     let start = Instant::now(rt);
     match settle(rt.alloc(), closed, book) {
         Ok(statement) => {
-            let settle = taken(rt, start)?;
+            let settle = taken(rt, start);
+            let packets = statement.packets.len() as u64;
+            drop(statement);
             Ok(Times {
                 close: close?,
                 deposit: deposit?,
-                settle,
-                packets: statement.packets.len() as u64,
+                settle: settle?,
+                packets,
             })
         }
         Err((cause, _, book)) => {

@@ -193,8 +193,23 @@ fn by_acts<R: Clock + AllocGlobal + Threads + Sync>(
     let (Some(second), Some(first)) = (workers.pop(), workers.pop()) else {
         return Err(Failure::NotHanded);
     };
-    let mut first = Acted::new(&ground, first);
-    let mut second = Acted::new(&ground, second);
+    handed_by_acts(
+        rt,
+        span,
+        threads,
+        Acted::new(&ground, first),
+        Acted::new(&ground, second),
+    )
+}
+
+/// A run by the acts of these two workers.
+fn handed_by_acts<R: Clock + Threads + Sync>(
+    rt: &R,
+    span: Span,
+    threads: u64,
+    mut first: Acted<'_>,
+    mut second: Acted<'_>,
+) -> Result<Tally, Failure> {
     if threads < 2 {
         return play(rt, &mut first, Part::Alone, &span);
     }

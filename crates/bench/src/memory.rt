@@ -38,11 +38,32 @@ fn of_cache<R: Runtime + AllocGlobal>(rt: &R, cache: u64) -> Result<(), Failure>
     print_resident(rt, cache, "nothing", before, before)?;
     let (_alone, seat) = Ground::make(rt.alloc(), &limits)?;
     seat.lose();
-    let ground = resident(rt)?;
-    print_resident(rt, cache, "a ground", ground, before)?;
-    let (_ground, _workers) = pool::make(rt.alloc(), &limits)?;
-    let whole = resident(rt)?;
-    print_resident(rt, cache, "a ground with 64 workers", whole, ground)
+    let ground = print_more(rt, cache, "a ground", before)?;
+    with_workers(rt, cache, &limits, ground)
+}
+
+/// Prints it once there is a second ground too, with its workers.
+fn with_workers<R: Runtime + AllocGlobal>(
+    rt: &R,
+    cache: u64,
+    limits: &Limits,
+    before: u64,
+) -> Result<(), Failure> {
+    let (_ground, _workers) = pool::make(rt.alloc(), limits)?;
+    print_more(rt, cache, "a ground with 64 workers", before)?;
+    Ok(())
+}
+
+/// Prints how much is in memory now, and answers it.
+fn print_more<R: Runtime + AllocGlobal>(
+    rt: &R,
+    cache: u64,
+    made: &str,
+    before: u64,
+) -> Result<u64, Failure> {
+    let now = resident(rt)?;
+    print_resident(rt, cache, made, now, before)?;
+    Ok(now)
 }
 
 fn print_resident<R: Print>(

@@ -82,40 +82,47 @@ fn script_of(alloc: Global, commands: Commands) -> Result<String, Failure> {
 /// A pool line, and the commands.
 fn write_script(script: &mut String, commands: Commands) -> fmt::Result {
     match commands {
-        Commands::Alloc => {
-            writeln!(script, "pool 65534")?;
-            for n in 0..5_000 {
-                writeln!(script, "alloc p{n}\nfree p{n}")?;
-            }
+        Commands::Alloc => write_allocs(script),
+        Commands::Held => write_held(script),
+        Commands::Bulk => write_bulks(script),
+        Commands::Flush => write_flushes(script),
+        Commands::Pass => write_passes(script),
+    }
+}
+
+fn write_allocs(script: &mut String) -> fmt::Result {
+    writeln!(script, "pool 65534")?;
+    for n in 0..5_000 {
+        writeln!(script, "alloc p{n}\nfree p{n}")?;
+    }
+    Ok(())
+}
+
+fn write_held(script: &mut String) -> fmt::Result {
+    writeln!(script, "pool 65534")?;
+    for n in 0..5_128u32 {
+        match n.checked_sub(256) {
+            Some(oldest) => writeln!(script, "free p{oldest}\nalloc p{n}")?,
+            None => writeln!(script, "alloc p{n}")?,
         }
-        Commands::Held => {
-            writeln!(script, "pool 65534")?;
-            for n in 0..5_128u32 {
-                match n.checked_sub(256) {
-                    Some(oldest) => writeln!(script, "free p{oldest}\nalloc p{n}")?,
-                    None => writeln!(script, "alloc p{n}")?,
-                }
-            }
-        }
-        Commands::Bulk => write_bulks(script)?,
-        Commands::Flush => {
-            writeln!(script, "pool 65534")?;
-            for _ in 0..10_000 {
-                writeln!(script, "flush")?;
-            }
-        }
-        Commands::Pass => {
-            writeln!(script, "pool 65534 workers 2 desks 1\n1: alloc p0")?;
-            for n in 0..4_999u32 {
-                let from = n % 2 + 1;
-                writeln!(
-                    script,
-                    "{from}: offer p{n} 0\n{}: take 0 p{}",
-                    3 - from,
-                    n + 1
-                )?;
-            }
-        }
+    }
+    Ok(())
+}
+
+fn write_flushes(script: &mut String) -> fmt::Result {
+    writeln!(script, "pool 65534")?;
+    for _ in 0..10_000 {
+        writeln!(script, "flush")?;
+    }
+    Ok(())
+}
+
+fn write_passes(script: &mut String) -> fmt::Result {
+    writeln!(script, "pool 65534 workers 2 desks 1\n1: alloc p0")?;
+    for n in 0..4_999u32 {
+        let from = n % 2 + 1;
+        let to = 3 - from;
+        writeln!(script, "{from}: offer p{n} 0\n{to}: take 0 p{}", n + 1)?;
     }
     Ok(())
 }

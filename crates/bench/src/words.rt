@@ -28,8 +28,9 @@ pub fn measure<R: Runtime + AllocGlobal + Threads + Sync>(
     let caches = numbers_of(rt.alloc(), asked.caches)?;
     cells::print_head(rt)?;
     for kind in kinds.as_slice() {
+        let caches = cells::caches_of(*kind, caches.as_slice());
         for count in threads.as_slice() {
-            for cache in cells::caches_of(*kind, caches.as_slice()) {
+            for cache in caches {
                 cells::measure(rt, asked, *kind, *count, *cache, rounds, runs)?;
             }
         }

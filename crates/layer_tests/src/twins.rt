@@ -6,12 +6,14 @@ ghost use Rattle.layer_tests.specs.OwnAtSite.{OwnAtSites};
 
 use crate::equal::same;
 use commons::limits::{Limits, PutRule};
+use commons::packet::Seg;
 use commons::place::Place;
 use commons::plain::PlainCommons;
 use commons::site::PlainSite;
 use mbuf::acts::Act;
 use mbuf::twin::Twin;
-use std::alloc::Global;
+use std::alloc::{AllocError, Global};
+use std::fmt::Write;
 use std::test::Fail;
 
 /// What a worker of two pools does at one step.
@@ -314,21 +316,18 @@ fn segs_of(alloc: Global, twin: &Twin, slot: u32) -> Result<String, Fail> {
         if !text.is_empty() {
             text.push_str(" ")?;
         }
-        let one = match seg.base {
-            Some(base) => {
-                format!(in alloc;
-                    "{}>{}@{}+{}/{}",
-                    seg.elem, base, seg.data_off, seg.data_len, seg.buf_len
-                )?
-            }
-            None => format!(in alloc;
-                "{}@{}+{}/{}",
-                seg.elem, seg.data_off, seg.data_len, seg.buf_len
-            )?,
-        };
-        text.push_str(&one)?;
+        write_seg(&mut text, seg)?;
     }
     Ok(text)
+}
+
+// Adds a segment as a statement prints it.
+fn write_seg(text: &mut String, seg: &Seg) -> Result<(), AllocError> {
+    write!(text, "{}", seg.elem)?;
+    if let Some(base) = seg.base {
+        write!(text, ">{base}")?;
+    }
+    write!(text, "@{}+{}/{}", seg.data_off, seg.data_len, seg.buf_len)
 }
 
 // Lets a worker take a step, and reports what came of it.
@@ -393,17 +392,23 @@ fn differs(
     Ok(None)
 }
 
+// How often what is in this place is held.
+fn holds_of(place: Place) -> u32 {
+    match place {
+        Place::Held(count) => count,
+        _ => 0,
+    }
+}
+
 // Whether this is left of a pool.
 fn is_left(site: &PlainSite, left: Left) -> bool {
-    let mut same = site.common() == left.common;
-    for (element, place) in site.places().iter().enumerate() {
-        let held = match place {
-            Place::Held(count) => *count,
-            _ => 0,
-        };
-        same = same && left.held.get(element) == Some(&held);
-    }
-    same
+    let places = site.places();
+    site.common() == left.common
+        && places.len() == left.held.len()
+        && places
+            .iter()
+            .zip(left.held)
+            .all(|(place, held)| holds_of(*place) == *held)
 }
 
 // Lets a worker of two new pools take its steps, and reports the first thing that isn't as

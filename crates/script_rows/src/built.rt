@@ -18,7 +18,12 @@ const FRESH: &str = "@128+0/2048\n";
 /// 32 names after a bulk.
 const NAMES_OF_32: Part = Part::Each(32, &[Field(" p", 0, 1)], "");
 
-pub const ROWS: &[BuiltRow] = &[
+/// All rows.
+pub fn rows() -> &'static [BuiltRow] {
+    ROWS
+}
+
+const ROWS: &[BuiltRow] = &[
     // 33 packets, of which the others are chained onto the first.
     (
         "thirty three segments",

@@ -174,13 +174,22 @@ fn text_of_replies(alloc: Global, replies: &[(u32, Reply)]) -> Result<String, Fa
 /// What the replies of a script and its end print, each by its own call.
 fn replayed_in_parts(alloc: Global, script: &str) -> Result<String, Fail> {
     let (replies, settled) = played(alloc, script)?;
-    let mut text = text_of_replies(alloc, replies.as_slice())?;
-    text.push_str(text_of_end(alloc, &settled)?.as_str())?;
+    text_of_parts(alloc, replies.as_slice(), &settled)
+}
+
+/// The text of replies, and behind it that of the end.
+fn text_of_parts(
+    alloc: Global,
+    replies: &[(u32, Reply)],
+    settled: &Settled,
+) -> Result<String, Fail> {
+    let mut text = text_of_replies(alloc, replies)?;
+    text.push_str(text_of_end(alloc, settled)?.as_str())?;
     Ok(text)
 }
 
-/// A script prints this text, at once and by its parts.
-fn print_text<R: Abort + AllocGlobal>(
+/// A script prints this text at once.
+fn print_at_once<R: Abort + AllocGlobal>(
     rt: &R,
     script: &str,
     text: &str,
@@ -188,19 +197,26 @@ fn print_text<R: Abort + AllocGlobal>(
 ) -> Result<(), Fail> {
     let whole = replayed(rt.alloc(), script)?;
     same(rt, &("at once", whole.as_str()), &("at once", text), name);
+    Ok(())
+}
+
+/// It does so by its parts.
+fn print_by_parts<R: Abort + AllocGlobal>(
+    rt: &R,
+    script: &str,
+    text: &str,
+    name: &str,
+) -> Result<(), Fail> {
     let parts = replayed_in_parts(rt.alloc(), script)?;
-    same(
-        rt,
-        &("by its parts", parts.as_str()),
-        &("by its parts", text),
-        name,
-    );
+    let (how, printed) = ("by its parts", parts.as_str());
+    same(rt, &(how, printed), &(how, text), name);
     Ok(())
 }
 
 fn print_texts<R: Abort + AllocGlobal>(rt: &R, rows: &[Row]) -> Result<(), Fail> {
     for (name, script, text) in rows {
-        print_text(rt, script, text, name)?;
+        print_at_once(rt, script, text, name)?;
+        print_by_parts(rt, script, text, name)?;
     }
     Ok(())
 }
@@ -227,7 +243,7 @@ fn print_long_texts<R: Abort + AllocGlobal>(rt: &R, rows: &[BuiltRow]) -> Result
 
 #[test]
 fn each_long_script_prints_its_text(rt: HostRuntime) -> Result<(), Fail> {
-    print_long_texts(&rt, built::ROWS)
+    print_long_texts(&rt, built::rows())
 }
 
 /// Each line is put after those before it.
@@ -277,7 +293,11 @@ fn json_of(alloc: Global, script: &str) -> Result<String, Fail> {
 /// What a script's pools come to as JSON.
 fn json_of_end(alloc: Global, script: &str) -> Result<String, Fail> {
     let (_replies, settled) = played(alloc, script)?;
-    let bytes = statement_json(alloc, &settled)?;
+    json_of_settled(alloc, &settled)
+}
+
+fn json_of_settled(alloc: Global, settled: &Settled) -> Result<String, Fail> {
+    let bytes = statement_json(alloc, settled)?;
     Ok(String::from_utf8(bytes)?)
 }
 

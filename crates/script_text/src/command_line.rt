@@ -3,7 +3,7 @@
 ghost use Rattle.std.specs.Prelude.{◌≡◌, ◌≤◌, [], ◌∷◌, codes, IfOk, MatchOption, Option, None, Some};
 ghost use Rattle.std.specs.Str.{bytes_eq};
 ghost use Rattle.script_text.specs.inside.Reading.{words_of, both_of};
-ghost use Rattle.script_text.specs.inside.CommandReading.{both_names, command_with as command_by, name_and_number as name_and_number_of, name_at, names_with, number_and_name as number_and_name_of, numbered_name as numbered_name_of, only_name_of, verb_at};
+ghost use Rattle.script_text.specs.inside.CommandReading.{both_names, command_with as command_by, name_and_number as name_and_number_of, name_at, names_with, number_and_name as number_and_name_of, numbered_name as numbered_name_of, only_name_of, buffer_verbs, sharing_verbs, verb_among, verb_at};
 
 use crate::commands::{Command, Name};
 use crate::from_words::FromWords;
@@ -42,6 +42,16 @@ enum Verb {
 fn verb_of(word: &[u8]) -> Option<Verb>
     ensures { result ≡ verb_at word.now }
 {
+    match buffer_verb_of(word) {
+        Some(verb) => Some(verb),
+        None => sharing_verb_of(word),
+    }
+}
+
+/// The verb that a word spells, of those that make a packet, end it, or change its data.
+fn buffer_verb_of(word: &[u8]) -> Option<Verb>
+    ensures { result ≡ verb_among buffer_verbs word.now }
+{
     if word == b"alloc".as_slice() {
         Some(Verb::Alloc)
     } else if word == b"bulk".as_slice() {
@@ -56,7 +66,16 @@ fn verb_of(word: &[u8]) -> Option<Verb>
         Some(Verb::Adj)
     } else if word == b"trim".as_slice() {
         Some(Verb::Trim)
-    } else if word == b"chain".as_slice() {
+    } else {
+        None
+    }
+}
+
+/// The verb that a word spells, of those that bring packets together, share, count or move them.
+fn sharing_verb_of(word: &[u8]) -> Option<Verb>
+    ensures { result ≡ verb_among sharing_verbs word.now }
+{
+    if word == b"chain".as_slice() {
         Some(Verb::Chain)
     } else if word == b"attach".as_slice() {
         Some(Verb::Attach)

@@ -3,7 +3,7 @@
 ghost use Rattle.std.specs.Prelude.{◌≡◌, ◌<◌, false, MatchOption, codes};
 ghost use Rattle.std.specs.Str.{bytes_eq};
 ghost use Rattle.script_text.specs.inside.Reading.{words_of, key_at, add_value, value_of, settings_from, none_given, numbers_by, line_numbers_by, numbers_from, are_pools};
-ghost use Rattle.script_text.specs.PoolLine.{rule_number, numbers_of, numbers_of_pools, second_beside};
+ghost use Rattle.script_text.specs.PoolLine.{key_word, rule_number, numbers_of, numbers_of_pools, second_beside};
 
 use crate::commands::Key;
 use crate::line::next_word;
@@ -11,33 +11,43 @@ use crate::lines::Pools;
 use crate::number::number_of;
 use commons::limits::{Limits, MAX_REFS, PutRule};
 
+/// Each key once.
+const KEYS: [Key; 10] = [
+    Key::Cache,
+    Key::Workers,
+    Key::Desks,
+    Key::Buf,
+    Key::Refs,
+    Key::Tries,
+    Key::Start,
+    Key::Rule,
+    Key::Second,
+    Key::SecondCache,
+];
+
+/// How a key is written.
+fn word_of(key: Key) -> &'static [u8]
+    ensures { result.now ≡ key_word key }
+{
+    match key {
+        Key::Cache => b"cache".as_slice(),
+        Key::Workers => b"workers".as_slice(),
+        Key::Desks => b"desks".as_slice(),
+        Key::Buf => b"buf".as_slice(),
+        Key::Refs => b"refs".as_slice(),
+        Key::Tries => b"tries".as_slice(),
+        Key::Start => b"start".as_slice(),
+        Key::Rule => b"putrule".as_slice(),
+        Key::Second => b"second".as_slice(),
+        Key::SecondCache => b"secondcache".as_slice(),
+    }
+}
+
 /// The key that a word spells.
 fn key_of(word: &[u8]) -> Option<Key>
     ensures { result ≡ key_at word.now }
 {
-    if word == b"cache".as_slice() {
-        Some(Key::Cache)
-    } else if word == b"workers".as_slice() {
-        Some(Key::Workers)
-    } else if word == b"desks".as_slice() {
-        Some(Key::Desks)
-    } else if word == b"buf".as_slice() {
-        Some(Key::Buf)
-    } else if word == b"refs".as_slice() {
-        Some(Key::Refs)
-    } else if word == b"tries".as_slice() {
-        Some(Key::Tries)
-    } else if word == b"start".as_slice() {
-        Some(Key::Start)
-    } else if word == b"putrule".as_slice() {
-        Some(Key::Rule)
-    } else if word == b"second".as_slice() {
-        Some(Key::Second)
-    } else if word == b"secondcache".as_slice() {
-        Some(Key::SecondCache)
-    } else {
-        None
-    }
+    KEYS.iter().copied().find(|key| word == word_of(*key))
 }
 
 /// The values that the keys of a pool line were given so far.

@@ -3,7 +3,7 @@
 ghost use Rattle.std.specs.Prelude.{◌≡◌, codes, IfOk, Option, None, Some};
 ghost use Rattle.std.specs.Str.{bytes_eq};
 ghost use Rattle.script_text.specs.inside.Reading.{number_at, short_number_at, without_words, words_of};
-ghost use Rattle.script_text.specs.inside.StepReading.{one_at, element_at, step_verb_at, step_with as step_by, two_at};
+ghost use Rattle.script_text.specs.inside.StepReading.{one_at, element_at, step_verb_at, step_with as step_by, step_word, two_at};
 
 use crate::commands::Name;
 use crate::from_words::FromWords;
@@ -37,51 +37,63 @@ enum StepVerb {
     Clear,
 }
 
+/// Each verb once.
+const STEP_VERBS: [StepVerb; 19] = [
+    StepVerb::LoadLength,
+    StepVerb::Reserve,
+    StepVerb::Add,
+    StepVerb::LoadHead,
+    StepVerb::LoadLink,
+    StepVerb::Cut,
+    StepVerb::StoreLink,
+    StepVerb::Push,
+    StepVerb::Claim,
+    StepVerb::Sole,
+    StepVerb::SoleFree,
+    StepVerb::Raise,
+    StepVerb::Lower,
+    StepVerb::Reset,
+    StepVerb::Hold,
+    StepVerb::Open,
+    StepVerb::Seize,
+    StepVerb::TakeOut,
+    StepVerb::Clear,
+];
+
+impl StepVerb {
+    /// How the verb is written.
+    fn word(self) -> &'static [u8]
+        ensures { result.now ≡ step_word self }
+    {
+        match self {
+            StepVerb::LoadLength => b"loadlength".as_slice(),
+            StepVerb::Reserve => b"reserve".as_slice(),
+            StepVerb::Add => b"add".as_slice(),
+            StepVerb::LoadHead => b"loadhead".as_slice(),
+            StepVerb::LoadLink => b"loadlink".as_slice(),
+            StepVerb::Cut => b"cut".as_slice(),
+            StepVerb::StoreLink => b"storelink".as_slice(),
+            StepVerb::Push => b"push".as_slice(),
+            StepVerb::Claim => b"claim".as_slice(),
+            StepVerb::Sole => b"sole".as_slice(),
+            StepVerb::SoleFree => b"solefree".as_slice(),
+            StepVerb::Raise => b"raise".as_slice(),
+            StepVerb::Lower => b"lower".as_slice(),
+            StepVerb::Reset => b"reset".as_slice(),
+            StepVerb::Hold => b"hold".as_slice(),
+            StepVerb::Open => b"open".as_slice(),
+            StepVerb::Seize => b"seize".as_slice(),
+            StepVerb::TakeOut => b"takeout".as_slice(),
+            StepVerb::Clear => b"clear".as_slice(),
+        }
+    }
+}
+
 /// The verb that a word spells.
 fn step_verb_of(word: &[u8]) -> Option<StepVerb>
     ensures { result ≡ step_verb_at word.now }
 {
-    if word == b"loadlength".as_slice() {
-        Some(StepVerb::LoadLength)
-    } else if word == b"reserve".as_slice() {
-        Some(StepVerb::Reserve)
-    } else if word == b"add".as_slice() {
-        Some(StepVerb::Add)
-    } else if word == b"loadhead".as_slice() {
-        Some(StepVerb::LoadHead)
-    } else if word == b"loadlink".as_slice() {
-        Some(StepVerb::LoadLink)
-    } else if word == b"cut".as_slice() {
-        Some(StepVerb::Cut)
-    } else if word == b"storelink".as_slice() {
-        Some(StepVerb::StoreLink)
-    } else if word == b"push".as_slice() {
-        Some(StepVerb::Push)
-    } else if word == b"claim".as_slice() {
-        Some(StepVerb::Claim)
-    } else if word == b"sole".as_slice() {
-        Some(StepVerb::Sole)
-    } else if word == b"solefree".as_slice() {
-        Some(StepVerb::SoleFree)
-    } else if word == b"raise".as_slice() {
-        Some(StepVerb::Raise)
-    } else if word == b"lower".as_slice() {
-        Some(StepVerb::Lower)
-    } else if word == b"reset".as_slice() {
-        Some(StepVerb::Reset)
-    } else if word == b"hold".as_slice() {
-        Some(StepVerb::Hold)
-    } else if word == b"open".as_slice() {
-        Some(StepVerb::Open)
-    } else if word == b"seize".as_slice() {
-        Some(StepVerb::Seize)
-    } else if word == b"takeout".as_slice() {
-        Some(StepVerb::TakeOut)
-    } else if word == b"clear".as_slice() {
-        Some(StepVerb::Clear)
-    } else {
-        None
-    }
+    STEP_VERBS.iter().copied().find(|verb| word == verb.word())
 }
 
 /// The element that a word spells, or the end.

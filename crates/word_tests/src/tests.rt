@@ -297,7 +297,7 @@ fn play_long_rows<R: Abort>(rt: &R, alloc: Global, rows: &[BuiltRow]) -> Result<
 
 #[test]
 fn each_script_is_answered_as_its_replay(rt: HostRuntime) -> Result<(), Fail> {
-    let mut played = play_long_rows(&rt, rt.alloc(), built::ROWS)?;
+    let mut played = play_long_rows(&rt, rt.alloc(), built::rows())?;
     for rows in [
         pools::ROWS,
         caches::ROWS,

@@ -194,7 +194,7 @@ fn end_long_rows<R: Threads + Wait + Sync + Abort + AllocGlobal>(
 
 #[test]
 fn a_script_of_one_worker_ends_on_either_ground_as_its_replay(rt: HostRuntime) -> Result<(), Fail> {
-    let mut ended = end_long_rows(&rt, built::ROWS)?;
+    let mut ended = end_long_rows(&rt, built::rows())?;
     for rows in [
         pools::ROWS,
         caches::ROWS,

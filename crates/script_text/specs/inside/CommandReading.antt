@@ -1,6 +1,6 @@
 -- How the words of a command are read, as functions on lists, for the crate's own functions.
 -- No public clause cites this module.
-use Rattle.std.specs.Prelude.{ℕ, Bool, ◌&&◌, if◌then◌else◌, nat_le, List, [], ◌∷◌, length, Option, Some, None, option_and_then, codes}
+use Rattle.std.specs.Prelude.{ℕ, Bool, ◌&&◌, ◌++◌, if◌then◌else◌, nat_le, List, [], ◌∷◌, length, Option, Some, None, option_and_then, codes}
 use Rattle.std.specs.List.{find, list_all}
 use Rattle.std.specs.Str.{bytes_eq}
 use Rattle.commons.specs.declared.change.Change.{Change}
@@ -32,16 +32,27 @@ verb_word verbs.Offer = codes "offer"
 verb_word verbs.Take = codes "take"
 verb_word verbs.Flush = codes "flush"
 
+-- the verbs of commands that make a packet, end it, or change its data
+abbrev pub buffer_verbs : List Verb
+buffer_verbs = verbs.Alloc ∷ verbs.Bulk ∷ verbs.Free ∷ verbs.Append ∷ verbs.Prepend ∷ verbs.Adj
+    ∷ verbs.Trim ∷ []
+
+-- the verbs of commands that bring packets together, share, count or move them
+abbrev pub sharing_verbs : List Verb
+sharing_verbs = verbs.Chain ∷ verbs.Attach ∷ verbs.Detach ∷ verbs.Clone ∷ verbs.CloneTo ∷ verbs.Count
+    ∷ verbs.Offer ∷ verbs.Take ∷ verbs.Flush ∷ []
+
 -- all verbs
 abbrev pub all_verbs : List Verb
-all_verbs =
-    verbs.Alloc ∷ verbs.Bulk ∷ verbs.Free ∷ verbs.Append ∷ verbs.Prepend ∷ verbs.Adj ∷ verbs.Trim
-    ∷ verbs.Chain ∷ verbs.Attach ∷ verbs.Detach ∷ verbs.Clone ∷ verbs.CloneTo ∷ verbs.Count
-    ∷ verbs.Offer ∷ verbs.Take ∷ verbs.Flush ∷ []
+all_verbs = buffer_verbs ++ sharing_verbs
+
+-- the verb of these that a word spells
+abbrev pub verb_among : List Verb → List ℕ → Option Verb
+verb_among verbs word = find (λ verb. bytes_eq word (verb_word verb)) verbs
 
 -- the verb that a word spells
 abbrev pub verb_at : List ℕ → Option Verb
-verb_at word = find (λ verb. bytes_eq word (verb_word verb)) all_verbs
+verb_at word = verb_among all_verbs word
 
 -- the only one of the words, where it is a name
 abbrev pub only_name_of : List (List ℕ) → Option (List ℕ)
