@@ -145,6 +145,11 @@ fn text_of_end(alloc: Global, settled: &Settled) -> Result<String, Fail> {
     Ok(String::from_utf8(bytes)?)
 }
 
+/// The same text, of what ends here.
+fn into_text(alloc: Global, settled: Settled) -> Result<String, Fail> {
+    text_of_end(alloc, &settled)
+}
+
 /// What is printed for a text.
 fn printed(alloc: Global, text: &str) -> Result<Vec<u8>, Refusal> {
     run_replay(alloc, text.as_bytes())

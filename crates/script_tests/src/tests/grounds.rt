@@ -3,7 +3,7 @@
 ghost use Rattle.std.specs.Prelude.{◌≤◌};
 
 use super::threads::{GROUNDS, Handover, TURNS, run, run_pools};
-use super::{assert_given, json, same, text_of, text_of_end};
+use super::{assert_given, into_text, json, same, text_of, text_of_end};
 use commons::refusal::Refusal;
 use script::{Grounds, OpenGate, replay, run_script, statement_text};
 use script_rows::parts::written;
@@ -140,7 +140,7 @@ fn assert_ends_on<R: Threads + Wait + Sync + Abort + AllocGlobal>(
     requires turns { 1 ≤ turns }
 {
     let settled = run_pools(rt, text, grounds, turns, &OpenGate)?;
-    let end = text_of_end(rt.alloc(), &settled)?;
+    let end = into_text(rt.alloc(), settled)?;
     same(rt, &(grounds, end.as_str()), &(grounds, wanted), name);
     Ok(())
 }

@@ -2,11 +2,9 @@
 //! does.
 
 use super::threads::GROUNDS;
-use super::{same, text_of_end};
-use commons::refusal::Refusal;
+use super::{into_text, played, same};
 use pool_model::statement::Statement;
-use script::{Grounds, replay, run_script};
-use script_text::parse;
+use script::{Grounds, run_script};
 use std::alloc::{AllocError, Global};
 use std::process::Abort;
 use std::sync::Wait;
@@ -102,14 +100,18 @@ fn assert_all<R: Abort>(rt: &R, statement: &Statement, text: &str) {
 
 /// What the replay of a script of two pools comes to, with each element of either accounted for.
 fn end_by_replay<R: Abort + AllocGlobal>(rt: &R, text: &str) -> Result<String, Fail> {
-    let script = parse(rt.alloc(), text.as_bytes())?;
-    let (_replies, settled) = replay(rt.alloc(), &script)?;
-    let Some(second) = &settled.second else {
-        return Err(Fail::from(Refusal::BadPool));
-    };
+    let (_replies, settled) = played(rt.alloc(), text)?;
+    same(
+        rt,
+        &("two pools", settled.second.is_some()),
+        &("two pools", true),
+        text,
+    );
     assert_all(rt, &settled.first, text);
-    assert_all(rt, second, text);
-    text_of_end(rt.alloc(), &settled)
+    if let Some(second) = &settled.second {
+        assert_all(rt, second, text);
+    }
+    into_text(rt.alloc(), settled)
 }
 
 /// A script's run on this ground ends so.
@@ -120,7 +122,7 @@ fn assert_end_on<R: Threads + Wait + Sync + Abort + AllocGlobal>(
     wanted: &str,
 ) -> Result<(), Fail> {
     let ran = run_script(rt, rt.alloc(), text.as_bytes(), grounds, 1)?;
-    let end = text_of_end(rt.alloc(), &ran)?;
+    let end = into_text(rt.alloc(), ran)?;
     same(rt, &(grounds, end.as_str()), &(grounds, wanted), text);
     Ok(())
 }
