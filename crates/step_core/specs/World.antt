@@ -1,5 +1,5 @@
 -- The words, the slots and what each worker knows.
-use Rattle.std.specs.Prelude.{ℕ, zero, suc, ◌+◌, List, [], None, sum_by, slice_index, slice_index_or, if◌then◌else◌, ◌==◌}
+use Rattle.std.specs.Prelude.{ℕ, zero, suc, ◌+◌, ◌*◌, ◌^◌, List, [], None, sum_by, slice_index, slice_index_or, if◌then◌else◌, ◌==◌}
 use Rattle.commons.specs.Bag.{bag}
 use Rattle.commons.specs.Calls.{desk_empty, desk_full}
 use Rattle.commons.specs.Packets.{holds_in_slot}
@@ -79,3 +79,12 @@ credits views = sum_by (λ v. v.credit) views
 
 abbrev pub parts : List View → ℕ
 parts views = sum_by (λ v. v.part) views
+
+-- A part is counted in shares, so that it can be given away little by little: a worker's part is
+-- this many.
+abbrev pub shares : ℕ
+shares = 2 ^ 56
+
+-- all shares of a pool: a part for each worker
+abbrev pub whole : Limits → ℕ
+whole l = l.workers * shares

@@ -57,6 +57,10 @@ pub struct Work {
     pub phase: Phase,
 }
 
+/// A worker's part of a pool, in shares: a part can be given away little by little. The parts of 64
+/// workers are a number of 64 bits.
+pub const SHARES: u64 = 1 << 56;
+
 /// What one worker has and has seen.
 #[derive(Debug, Drop)]
 pub struct View {
@@ -75,7 +79,7 @@ pub struct View {
     pub seen: u64,
     pub chain: Option<Chain>,
     pub work: Option<Work>,
-    /// The worker's part of the pool.
+    /// The worker's part of the pool, in shares.
     pub part: u64,
 }
 
