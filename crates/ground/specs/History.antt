@@ -1,6 +1,6 @@
 -- How the words of a pool came to be: by steps of the machine, each by one seat, by seats that were
 -- split and seats that were joined. Seats are numbered from 0, and the machine's workers from 1.
-use Rattle.std.specs.Prelude.{◌≡◌, ◌≢◌, ℕ, suc, ◌<◌, ◌≤◌, List, [], ◌∷◌, ◌++◌, Option, Some, None, map, slice_set, ⊤}
+use Rattle.std.specs.Prelude.{◌≡◌, ◌≢◌, ℕ, suc, ◌<◌, ◌≤◌, List, [], ◌∷◌, ◌++◌, Option, Some, None, map, slice_set, ⊤, ◌*◌}
 use mathlib.Core.Option.{some}
 use lib.ListN.{get_elem?}
 use Rattle.commons.specs.declared.limits.Limits.{Limits}
@@ -14,7 +14,7 @@ use Rattle.step_core.specs.Shows.{Shows, Happens}
 use Rattle.step_core.specs.Steps.{play, event_of}
 use Rattle.step_core.specs.Table.{Table}
 use Rattle.step_core.specs.Handing.{put_by}
-use Rattle.step_core.specs.World.{World, Packet, desk_at, view_at, empty_view}
+use Rattle.step_core.specs.World.{World, Packet, desk_at, view_at, empty_view, shares}
 use Rattle.ground.specs.declared.known.Known.{Known}
 use Rattle.ground.specs.Opening.{opening_alone}
 use Rattle.ground.specs.Own.{AtRest}
@@ -54,8 +54,8 @@ Leads (Stepped id step outcome) w logs u after =
     × ((log : Log) × (get_elem? logs id ≡ some log)
     × (after ≡ slice_set logs id (log.0 ++ notes_of step outcome (slot_at w.desks step), log.1)))
 Leads (Split id) w logs u after =
-    (2 ≤ (view_at w.views id).part)
-    × (u ≡ record w { views = slice_set w.views id (less (view_at w.views id)) ++ empty_view 1 ∷ [] })
+    (2 * shares ≤ (view_at w.views id).part)
+    × (u ≡ record w { views = slice_set w.views id (less (view_at w.views id)) ++ empty_view shares ∷ [] })
     × (after ≡ logs ++ ([], []) ∷ [])
 Leads (Joined id other) w logs u after =
     (other ≢ id) × AtRest (view_at w.views id) × AtRest (view_at w.views other)

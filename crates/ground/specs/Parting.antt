@@ -4,22 +4,22 @@ use Rattle.atomic_table.specs.Table.{Me}
 use Rattle.commons.specs.declared.packet.Seg.{Seg}
 use Rattle.commons.specs.declared.limits.PutRule.TheVariants.{Keep}
 use Rattle.step_core.specs.declared.view.View.{View}
-use Rattle.step_core.specs.World.{empty_view}
+use Rattle.step_core.specs.World.{empty_view, shares}
 use Rattle.ground.specs.declared.known.Known.{Known}
 use Rattle.ground.specs.Seats.{Seated}
 
--- all that was there, but for one part
+-- all that was there, but for a worker's part
 abbrev pub less : View → View
-less v = record v { part = v.part - 1 }
+less v = record v { part = v.part - shares }
 
--- what the seat knows, but for one part, and for what lies on the desks, since another seat may
+-- what the seat knows, but for a worker's part, and for what lies on the desks, since another seat may
 -- change that now
 abbrev pub less_part : Known → Known
 less_part n = record n { view = less n.view; lying = None }
 
--- one part, which names nothing and has taken no step
+-- a worker's part, which names nothing and has taken no step
 abbrev pub newcomer : Known → Known
-newcomer n = record { view = empty_view 1; steps = []; limits = n.limits; lying = None; joined = [] }
+newcomer n = record { view = empty_view shares; steps = []; limits = n.limits; lying = None; joined = [] }
 
 -- what two views at rest name, with the parts of both
 abbrev pub both_views : View → View → View

@@ -1,7 +1,7 @@
 //! The life of a ground: it is made with one seat, seats are split and joined, and it is closed
 //! with one.
 
-ghost use Rattle.std.specs.Prelude.{◌≡◌, ◌<◌, ◌≤◌, [], IfOk, IfErr, IfSome};
+ghost use Rattle.std.specs.Prelude.{◌≡◌, ◌*◌, ◌<◌, ◌≤◌, [], IfOk, IfErr, IfSome};
 ghost use Rattle.commons.specs.Bounds.{IsPool};
 ghost use Rattle.ground.specs.Changing.{IsFresh, closed_at_start};
 ghost use Rattle.ground.specs.Closing.{LeftOf};
@@ -10,6 +10,7 @@ ghost use Rattle.ground.specs.Own.{Owned, AtRest, KnowsDesks};
 ghost use Rattle.ground.specs.Parting.{less_part, newcomer, IsBoth, AreBoth};
 ghost use Rattle.ground.specs.Rule.{first_known};
 ghost use Rattle.ground.specs.Seats.{IsOf};
+ghost use Rattle.step_core.specs.World.{shares};
 
 use crate::head::head_of;
 use crate::known::Known;
@@ -61,12 +62,12 @@ impl Ground {
         Ok((ground, GroundSeat { seat }))
     }
 
-    /// Makes one more worker's seat, of one part of those that this seat has, which are two at
-    /// least. This seat keeps all that it names, and the new one names nothing and has taken no
+    /// Makes one more worker's seat, of a worker's part of what this seat has, which is two such
+    /// parts at least. This seat keeps all that it names, and the new one names nothing and has taken no
     /// step.
     pub fn split(&self, seat: &mut GroundSeat) -> GroundSeat
         requires of { IsOf self.now seat.old }
-        requires part { 2 ≤ seat.old.known.view.part }
+        requires part { 2 * shares ≤ seat.old.known.view.part }
         ensures old { seat.new ≡ record seat.old { known = less_part seat.old.known } }
         ensures of { IsOf self.now result }
         ensures known { result.known ≡ newcomer seat.old.known }

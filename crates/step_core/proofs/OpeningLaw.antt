@@ -6,7 +6,7 @@ use Rattle.std.proofs.lemmas.List.{length-replicate, get_or-replicate, get_or_pa
 use Rattle.std.proofs.lemmas.List.Folds.{sum_by-replicate}
 use Rattle.commons.specs.Bag.{bag}
 use Rattle.step_core.specs.Bags.{one_if, below}
-use Rattle.step_core.specs.World.{Limits, Head, View, Desk, Packet, empty_view, no_desk, desk_at, link_in, shelf, whole, shares}
+use Rattle.step_core.specs.World.{Limits, Head, View, Desk, Packet, empty_view, no_desk, desk_at, link_in, shelf, all_shares, shares}
 use Rattle.step_core.specs.Links.{Path, Spells, first_value}
 use Rattle.step_core.specs.Law.{left_in, fills, empties}
 use Rattle.step_core.specs.Opening.{count_up, links_up, opening}
@@ -107,8 +107,8 @@ opening_lawful l some = record {
         let c = no_sum (λ (v : View). v.credit) l.workers (empty_view shares) refl in
         omega (arith, length-count_up 0 l.population));
     views =
-        read_same (StackView l.population (whole l) _ _) l.workers (empty_view shares) (empty_view 0)
-        (quiet_view l.population (whole l) _ _ shares) (quiet_view l.population (whole l) _ _ 0);
+        read_same (StackView l.population (all_shares l) _ _) l.workers (empty_view shares) (empty_view 0)
+        (quiet_view l.population (all_shares l) _ _ shares) (quiet_view l.population (all_shares l) _ _ 0);
     parts = sum_by-replicate (λ (v : View). v.part) l.workers (empty_view shares) ∙ omega arith;
     all_links = length-links_up 0 l.population;
     links_in_range = λ i. (let a = links_up-range 0 l.population i in omega arith);

@@ -86,5 +86,5 @@ abbrev pub shares : ℕ
 shares = 2 ^ 56
 
 -- all shares of a pool: a part for each worker
-abbrev pub whole : Limits → ℕ
-whole l = l.workers * shares
+abbrev pub all_shares : Limits → ℕ
+all_shares l = l.workers * shares
