@@ -13,7 +13,7 @@ use Rattle.commons.specs.declared.limits.Limits.{Limits}
 use Rattle.step_core.specs.declared.view.Head.{Head}
 use Rattle.step_core.specs.declared.view.Desk.{Desk}
 use Rattle.step_core.specs.declared.view.View.{View}
-use Rattle.step_core.specs.World.{World, view_at, desk_at, all_shares}
+use Rattle.step_core.specs.World.{World, view_at, desk_at, every_part}
 use Rattle.step_core.specs.Law.{Lawful}
 use Rattle.step_core.specs.Opening.{opening}
 use Rattle.step_core.specs.Headers.{HeaderLaw}
@@ -143,7 +143,7 @@ none_of (x ∷ xs) h = absurd (let a = h x in omega (arith, times-head x xs))
 
 -- where one view has every part, no other view names anything
 others_none : (w : World) → Lawful w → HeaderLaw w → (id : ℕ) (v : View) → view_at w.views id ≡ v →
-    v.part ≡ all_shares w.limits → (k : ℕ) → k ≢ id → Nothing (view_at w.views k)
+    v.part ≡ every_part w.limits → (k : ℕ) → k ≢ id → Nothing (view_at w.views k)
 others_none w law headers id v same whole k ne =
     let idle = others_idle w law id (ap (λ (u : View). u.part) same ∙ whole) k ne in
     let held : (view_at w.views k).holds ≡ [] = none_in (view_at w.views k).holds idle.holds in
@@ -299,7 +299,7 @@ closes
       view = there l f.0 r id n f.1.1 ∙ ap some same;
       alone =
           λ whole. others_none w law r.counts.headers id v (is l f.0 r id n f.1.1 ∙ same)
-          (whole ∙ sym (ap (λ (k : Limits). all_shares k) r.limits));
+          (whole ∙ sym (ap (λ (k : Limits). every_part k) r.limits));
       top = ap (λ (h : Head). h.top) read;
       length =
           some-injective len w.length
@@ -325,9 +325,9 @@ closes
           ∙ (sym (ap (λ (hs : List (maybe.Option Slot)). length hs) r.homes_are) ∙ f.3)))
           r.desks.desks.words kept;
     } in
-    let lies : IfSome n.lying (λ ds. (n.view.part ≡ all_shares w.limits) × (ds ≡ lying_on w.desks)) = r.lies id n f.1.1 in (
+    let lies : IfSome n.lying (λ ds. (n.view.part ≡ every_part w.limits) × (ds ≡ lying_on w.desks)) = r.lies id n f.1.1 in (
       left,
-      as_known n.lying (n.view.part ≡ all_shares w.limits) (lying_on w.desks) c.desks left.desks lies,
+      as_known n.lying (n.view.part ≡ every_part w.limits) (lying_on w.desks) c.desks left.desks lies,
       λ fresh.
           let same_world : w ≡ record (opening l) { views = w.views } =
           r.opened (all_unmoved l f.0 r id n f.1.1 busy fresh) in

@@ -11,7 +11,7 @@ use Rattle.atomic_table.specs.Table.{Act, Joins, Allows, Valid, step, keeps, ste
 use Rattle.atomic_table.proofs.Lists.{at_map, at_set, set_again}
 use Rattle.commons.specs.declared.limits.Limits.{Limits}
 use Rattle.step_core.specs.declared.view.View.{View}
-use Rattle.step_core.specs.World.{World, empty_view, all_shares}
+use Rattle.step_core.specs.World.{World, empty_view, every_part}
 use Rattle.step_core.specs.Law.{Lawful}
 use Rattle.step_core.specs.Headers.{HeaderLaw}
 use Rattle.ground.specs.declared.known.Known.{Known}
@@ -109,15 +109,15 @@ merges l id n other o busy rest rest' s r at apart there =
 -- one of its pool, what lies on the desks is what it knows from now on.
 pub looks : (l : Limits) (slots id : ℕ) (me : Sat) → 0 < me.0.view.part →
     Allows (Ruled l) slots id me 0 (λ n. n) (looked (step slots 0 0 0 none) me)
-looks l slots id me busy s r _ at _ = dite (ℕ_discrete me.0.view.part (all_shares me.0.limits))
+looks l slots id me busy s r _ at _ = dite (ℕ_discrete me.0.view.part (every_part me.0.limits))
     (λ whole. look (Some (lying_on r.world.desks)) (whole ∙ every, refl) (λ _. refl))
     (λ shared. look None tt (λ whole. absurd (shared whole)))
   where
     limits : me.0.limits ≡ l
     limits = r.told id me.0 at busy
 
-    every : all_shares me.0.limits ≡ all_shares r.world.limits
-    every = ap (λ (z : Limits). all_shares z) (limits ∙ sym r.limits)
+    every : every_part me.0.limits ≡ every_part r.world.limits
+    every = ap (λ (z : Limits). every_part z) (limits ∙ sym r.limits)
 
     look : (lying : Option (List Slot)) → SeesDesks r.world (record me.0 { lying = lying }) →
         KnowsDesks (record me.0 { lying = lying }) →

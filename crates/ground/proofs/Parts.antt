@@ -8,7 +8,7 @@ use Rattle.atomic_table.specs.Table.{Splits}
 use Rattle.atomic_table.proofs.Lists.{at_snoc}
 use Rattle.commons.specs.declared.limits.Limits.{Limits}
 use Rattle.step_core.specs.declared.view.View.{View}
-use Rattle.step_core.specs.World.{World, view_at, empty_view, shares}
+use Rattle.step_core.specs.World.{World, view_at, empty_view, worker_part}
 use Rattle.step_core.specs.Law.{Lawful}
 use Rattle.step_core.specs.Headers.{HeaderLaw}
 use Rattle.ground.specs.declared.known.Known.{Known}
@@ -24,7 +24,7 @@ use Rattle.ground.proofs.Changing.{sum_split, unmoved_split}
 use Rattle.ground.proofs.Playing.{idle_again}
 use Rattle.ground.proofs.Sitting.{law_of, here, is, told_set, told_push, seen_set, seen_push}
 
-pub owned_less : (l : Limits) (v : View) → 2 * shares ≤ v.part → Owned l v → Owned l (less v)
+pub owned_less : (l : Limits) (v : View) → 2 * worker_part ≤ v.part → Owned l v → Owned l (less v)
 owned_less l v two o = record {
   pool = o.pool;
   busy = omega arith;
@@ -41,15 +41,15 @@ owned_less l v two o = record {
 
 -- the world once this view, at this index, is cut in two
 abbrev split_at : World → ℕ → View → World
-split_at w id v = record w { views = set w.views id (less v) ++ empty_view shares ∷ [] }
+split_at w id v = record w { views = set w.views id (less v) ++ empty_view worker_part ∷ [] }
 
-pub splits : (l : Limits) (id : ℕ) (n : Known) → 2 * shares ≤ n.view.part →
+pub splits : (l : Limits) (id : ℕ) (n : Known) → 2 * worker_part ≤ n.view.part →
     Splits (Ruled l) id n (less_part n) (newcomer n)
 splits l id n two s r at =
     let w = r.world in
     let mine : n.limits ≡ l = r.told id n at (omega arith) in
     let same = is l s r id n at in
-    let two' : 2 * shares ≤ (view_at w.views id).part = subst (λ (v : View). 2 * shares ≤ v.part) (sym same) two in
+    let two' : 2 * worker_part ≤ (view_at w.views id).part = subst (λ (v : View). 2 * worker_part ≤ v.part) (sym same) two in
     let law =
     subst (λ (v : View). Lawful (split_at w id v)) same
     (split_lawful w id (here l s r id n at) two' (law_of l s r) r.counts.headers) in
@@ -62,7 +62,7 @@ splits l id n two s r at =
       homes_are = r.homes_are;
       views_are =
           map-append view_in (set s.views id (less_part n)) (newcomer n ∷ [])
-          ∙ ap (λ (vs : List View). vs ++ empty_view shares ∷ [])
+          ∙ ap (λ (vs : List View). vs ++ empty_view worker_part ∷ [])
           (map-set view_in s.views id (less_part n)
           ∙ ap (λ (vs : List View). set vs id (less n.view)) r.views_are);
       limits = r.limits;

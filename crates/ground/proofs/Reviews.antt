@@ -9,7 +9,7 @@ use Rattle.std.proofs.lemmas.List.Sums.{sum_by-set, sum_by-cons, sum_by_push}
 use Rattle.commons.specs.Bag.{bag}
 use Rattle.commons.specs.declared.limits.Limits.{Limits}
 use Rattle.step_core.specs.declared.view.View.{View}
-use Rattle.step_core.specs.World.{World, view_at, desk_at, link_in, empty_view, shares, all_shares}
+use Rattle.step_core.specs.World.{World, view_at, desk_at, link_in, empty_view, worker_part, every_part}
 use Rattle.step_core.specs.Law.{Lawful, fills, empties, left_in}
 use Rattle.step_core.specs.Headers.{HeaderLaw}
 use Rattle.step_core.specs.Opening.{opening}
@@ -37,7 +37,7 @@ record SameSums (before after : List View) : Type 0 where
 
 -- what the laws say of one view
 record ViewLaw (w : World) (v : View) : Type 0 where
-  stack : StackView w.limits.population (all_shares w.limits) w.head (link_in w.links) v
+  stack : StackView w.limits.population (every_part w.limits) w.head (link_in w.links) v
   counts : CountView v
   desks : v.part ≡ 0 → v.work ≡ None
   slots : IfSome v.work (λ x. (desk_at w.desks x.desk).slot ≡ left_in x.phase)
@@ -138,7 +138,7 @@ abbrev pub cut_views : List View → ℕ → ℕ → List ℕ → ℕ → List �
 cut_views views k part hand given handed =
     set views k (keeping (view_at views k) part hand) ++ having given handed ∷ []
 
--- both have shares, and together what the one had
+-- both have worker_part, and together what the one had
 record IsCut (v : View) (part : ℕ) (hand : List ℕ) (given : ℕ) (handed : List ℕ) : Type 0 where
   some : 0 < part
   any : 0 < given
@@ -245,11 +245,11 @@ module _ (w : World) (k : ℕ) (here : k < length w.views) (lawful : Lawful w) (
 
 -- the views once a worker's part of the one at k goes to a new view that names nothing
 abbrev pub split_views : List View → ℕ → List View
-split_views views k = set views k (less (view_at views k)) ++ empty_view shares ∷ []
+split_views views k = set views k (less (view_at views k)) ++ empty_view worker_part ∷ []
 
-module _ (w : World) (k : ℕ) (here : k < length w.views) (two : 2 * shares ≤ (view_at w.views k).part)
+module _ (w : World) (k : ℕ) (here : k < length w.views) (two : 2 * worker_part ≤ (view_at w.views k).part)
     (lawful : Lawful w) (headers : HeaderLaw w) where
-  is_split : IsCut (view_at w.views k) ((view_at w.views k).part - shares) (view_at w.views k).hand shares []
+  is_split : IsCut (view_at w.views k) ((view_at w.views k).part - worker_part) (view_at w.views k).hand worker_part []
   is_split = record {
     some = omega arith;
     any = omega arith;
@@ -386,7 +386,7 @@ module _ (w : World) (k j : ℕ) (here : k < length w.views) (there : j < length
 
 -- at the start the view of the only seat stands in the place of one for each worker
 alone_same : (l : Limits) →
-    SameSums (replicate l.workers (empty_view shares)) (empty_view (all_shares l) ∷ [])
+    SameSums (replicate l.workers (empty_view worker_part)) (empty_view (every_part l) ∷ [])
 alone_same l = record {
   hand = λ i. quiet (λ v. bag v.hand i) (times-nil i) (times-nil i);
   zeros = λ i. quiet (λ v. bag v.zeros i) (times-nil i) (times-nil i);
@@ -396,31 +396,31 @@ alone_same l = record {
   part =
       omega (
         arith,
-        sum_by-cons (λ (v : View). v.part) (empty_view (all_shares l)) [],
-        sum_by-replicate (λ (v : View). v.part) l.workers (empty_view shares),
+        sum_by-cons (λ (v : View). v.part) (empty_view (every_part l)) [],
+        sum_by-replicate (λ (v : View). v.part) l.workers (empty_view worker_part),
       );
   fill = λ d. quiet (λ v. fills d v.work) refl refl;
   empty = λ d. quiet (λ v. empties d v.work) refl refl;
 }
   where
-    quiet : (f : View → ℕ) → f (empty_view (all_shares l)) ≡ 0 → f (empty_view shares) ≡ 0 →
-        sum_by f (empty_view (all_shares l) ∷ []) ≡ sum_by f (replicate l.workers (empty_view shares))
+    quiet : (f : View → ℕ) → f (empty_view (every_part l)) ≡ 0 → f (empty_view worker_part) ≡ 0 →
+        sum_by f (empty_view (every_part l) ∷ []) ≡ sum_by f (replicate l.workers (empty_view worker_part))
     quiet f a b =
-        let c : sum_by f (replicate l.workers (empty_view shares)) ≡ 0 =
-        sum_by-replicate f l.workers (empty_view shares)
+        let c : sum_by f (replicate l.workers (empty_view worker_part)) ≡ 0 =
+        sum_by-replicate f l.workers (empty_view worker_part)
         ∙ (ap (λ (n : ℕ). l.workers * n) b ∙ omega arith) in
-        omega (arith, sum_by-cons f (empty_view (all_shares l)) [])
+        omega (arith, sum_by-cons f (empty_view (every_part l)) [])
 
-alone_each : (l : Limits) (k : ℕ) → ViewLaw (opening l) (view_at (empty_view (all_shares l) ∷ []) k)
-alone_each l zero = nothing_known (opening l) (all_shares l)
+alone_each : (l : Limits) (k : ℕ) → ViewLaw (opening l) (view_at (empty_view (every_part l) ∷ []) k)
+alone_each l zero = nothing_known (opening l) (every_part l)
 alone_each l (suc k) = nothing_known (opening l) 0
 
 pub alone_lawful : (l : Limits) → 1 ≤ l.ref_limit → Lawful (opening_alone l)
 alone_lawful l some =
-    reviewed (opening l) (empty_view (all_shares l) ∷ []) (opening_lawful l some) (alone_same l)
+    reviewed (opening l) (empty_view (every_part l) ∷ []) (opening_lawful l some) (alone_same l)
     (alone_each l)
 
 pub alone_headers : (l : Limits) → HeaderLaw (opening_alone l)
 alone_headers l =
-    headed (opening l) (empty_view (all_shares l) ∷ []) (opens_with_headers l) (alone_same l)
+    headed (opening l) (empty_view (every_part l) ∷ []) (opens_with_headers l) (alone_same l)
     (alone_each l)

@@ -14,7 +14,7 @@ use Rattle.step_core.specs.Shows.{Shows, Happens}
 use Rattle.step_core.specs.Steps.{play, event_of}
 use Rattle.step_core.specs.Table.{Table}
 use Rattle.step_core.specs.Handing.{put_by}
-use Rattle.step_core.specs.World.{World, Packet, desk_at, view_at, empty_view, shares}
+use Rattle.step_core.specs.World.{World, Packet, desk_at, view_at, empty_view, worker_part}
 use Rattle.ground.specs.declared.known.Known.{Known}
 use Rattle.ground.specs.Opening.{opening_alone}
 use Rattle.ground.specs.Own.{AtRest}
@@ -54,8 +54,8 @@ Leads (Stepped id step outcome) w logs u after =
     × ((log : Log) × (get_elem? logs id ≡ some log)
     × (after ≡ slice_set logs id (log.0 ++ notes_of step outcome (slot_at w.desks step), log.1)))
 Leads (Split id) w logs u after =
-    (2 * shares ≤ (view_at w.views id).part)
-    × (u ≡ record w { views = slice_set w.views id (less (view_at w.views id)) ++ empty_view shares ∷ [] })
+    (2 * worker_part ≤ (view_at w.views id).part)
+    × (u ≡ record w { views = slice_set w.views id (less (view_at w.views id)) ++ empty_view worker_part ∷ [] })
     × (after ≡ logs ++ ([], []) ∷ [])
 Leads (Joined id other) w logs u after =
     (other ≢ id) × AtRest (view_at w.views id) × AtRest (view_at w.views other)

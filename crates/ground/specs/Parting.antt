@@ -4,13 +4,13 @@ use Rattle.atomic_table.specs.Table.{Me}
 use Rattle.commons.specs.declared.packet.Seg.{Seg}
 use Rattle.commons.specs.declared.limits.PutRule.TheVariants.{Keep}
 use Rattle.step_core.specs.declared.view.View.{View}
-use Rattle.step_core.specs.World.{empty_view, shares}
+use Rattle.step_core.specs.World.{empty_view, worker_part}
 use Rattle.ground.specs.declared.known.Known.{Known}
 use Rattle.ground.specs.Seats.{Seated}
 
 -- all that was there, but for a worker's part
 abbrev pub less : View → View
-less v = record v { part = v.part - shares }
+less v = record v { part = v.part - worker_part }
 
 -- what the seat knows, but for a worker's part, and for what lies on the desks, since another seat may
 -- change that now
@@ -19,7 +19,7 @@ less_part n = record n { view = less n.view; lying = None }
 
 -- a worker's part, which names nothing and has taken no step
 abbrev pub newcomer : Known → Known
-newcomer n = record { view = empty_view shares; steps = []; limits = n.limits; lying = None; joined = [] }
+newcomer n = record { view = empty_view worker_part; steps = []; limits = n.limits; lying = None; joined = [] }
 
 -- what two views at rest name, with the parts of both
 abbrev pub both_views : View → View → View

@@ -15,7 +15,7 @@ use Rattle.ground.specs.Layout.{unpack, element_linked_at, element_counted_at}
 use Rattle.ground.specs.Own.{Owned, AtDesk, KnowsDesks}
 use Rattle.ground.specs.Rule.{Slot, Sat}
 use Rattle.ground.specs.Seats.{KnowsLength, KnowsEnd, KnowsCount, front_of, count_of, element_of}
-use Rattle.step_core.specs.World.{all_shares}
+use Rattle.step_core.specs.World.{every_part}
 
 -- the seat after a step, with its slots as they were
 abbrev pub noted : Step → Outcome → Sat → Sat
@@ -58,7 +58,7 @@ IsLater false n found = (low_in found < no_low) × (count_of n.view.look < (unpa
 -- where an exchange of the head lost, its seat isn't the only one of its pool
 abbrev pub IsShared : Bool → Known → Type 0
 IsShared true n = Unit {0}
-IsShared false n = n.view.part ≢ all_shares n.limits
+IsShared false n = n.view.part ≢ every_part n.limits
 
 abbrev pub loaded_length : table.Step Slot → Sat → ℕ → Sat → Type 0
 loaded_length st m found m' =

@@ -10,7 +10,7 @@ ghost use Rattle.ground.specs.Own.{Owned, AtRest, KnowsDesks};
 ghost use Rattle.ground.specs.Parting.{less_part, newcomer, IsBoth, AreBoth};
 ghost use Rattle.ground.specs.Rule.{first_known};
 ghost use Rattle.ground.specs.Seats.{IsOf};
-ghost use Rattle.step_core.specs.World.{shares};
+ghost use Rattle.step_core.specs.World.{worker_part};
 
 use crate::head::head_of;
 use crate::known::Known;
@@ -67,7 +67,7 @@ impl Ground {
     /// step.
     pub fn split(&self, seat: &mut GroundSeat) -> GroundSeat
         requires of { IsOf self.now seat.old }
-        requires part { 2 * shares ≤ seat.old.known.view.part }
+        requires part { 2 * worker_part ≤ seat.old.known.view.part }
         ensures old { seat.new ≡ record seat.old { known = less_part seat.old.known } }
         ensures of { IsOf self.now result }
         ensures known { result.known ≡ newcomer seat.old.known }

@@ -6,9 +6,8 @@ use commons::packet::Packet;
 use std::marker::Model;
 
 /// A worker's seat at the table of a pool: what the worker knows, which has no bytes at run time.
-/// Each seat has a part of the pool, a number of shares, and all parts together are a worker's part
-/// for each worker. A seat that has every part is the only seat of its pool: no other acts beside
-/// it.
+/// Each seat has a part of the pool, a number, and all parts together are a worker's part for each
+/// worker. A seat that has every part is the only seat of its pool: no other acts beside it.
 ///
 /// It can't be dropped, since what it names would be lost unseen: it ends by `Ground::join`, by
 /// `Ground::close` or by `lose`.

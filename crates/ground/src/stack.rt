@@ -7,7 +7,7 @@ ghost use Rattle.commons.specs.Calls.{spent};
 ghost use Rattle.step_core.specs.declared.step.Step.TheVariants.{LoadLength, Reserve, Add, LoadHead, LoadLink, Cut, StoreLink, Push};
 ghost use Rattle.step_core.specs.declared.step.Outcome.TheVariants.{Value, HeadIs, Done};
 ghost use Rattle.step_core.specs.Views.{walks_to, MayCut, MayPush};
-ghost use Rattle.step_core.specs.World.{all_shares};
+ghost use Rattle.step_core.specs.World.{every_part};
 ghost use Rattle.ground.specs.Changing.{KnowsChanges, KnowsOpening};
 ghost use Rattle.ground.specs.Layout.{link_word};
 ghost use Rattle.ground.specs.Seats.{IsOf, Steps, outcome_of, cut_outcome, push_outcome, front_of, element_of, KnowsLength, KnowsEnd};
@@ -125,7 +125,7 @@ impl Ground {
         requires look { MayCut seat.old.known.view head next }
         ensures step { Steps Cut (cut_outcome result (front_of seat.old.known.view.look)) seat.old seat.new }
         ensures later { IfErr result (λ found. head.count < found.count) }
-        ensures alone { seat.old.known.view.part ≡ all_shares self.now.limits → IfErr result (λ _. ⊥) }
+        ensures alone { seat.old.known.view.part ≡ every_part self.now.limits → IfErr result (λ _. ⊥) }
     {
         seat.owned();
         let old = word_of(head);
@@ -167,7 +167,7 @@ impl Ground {
         requires look { MayPush seat.old.known.view head first }
         ensures step { Steps Push (push_outcome result) seat.old seat.new }
         ensures later { IfErr result (λ found. head.count < found.count) }
-        ensures alone { seat.old.known.view.part ≡ all_shares self.now.limits → IfErr result (λ _. ⊥) }
+        ensures alone { seat.old.known.view.part ≡ every_part self.now.limits → IfErr result (λ _. ⊥) }
     {
         seat.owned();
         let old = word_of(head);

@@ -1,9 +1,10 @@
 -- How an `OwnSeat` is kept. No public clause cites this module.
-use Rattle.std.specs.Prelude.{◌≡◌, [], Option, Some, None}
+use Rattle.std.specs.Prelude.{◌≡◌, [], Option, Some, None, ◌*◌}
 use Rattle.ground.specs.Own.{AtRest}
 use Rattle.ground.specs.Parting.{spent_seat}
 use Rattle.ground.specs.Seats.{Seated, IsOf}
 use Rattle.mbufpool_c.specs.declared.seats.OwnSeat.TheInside.{Inside}
+use Rattle.step_core.specs.World.{worker_part}
 
 -- stands for a seat where there is none
 abbrev pub no_seat : Seated
@@ -35,4 +36,4 @@ pub record IsKept (w : Inside) : Type 0 where
   pub of : IsOf w.ground.value (seat_in w.seat)
   pub rest : AtRest (seat_in w.seat).known.view
   pub slots : (seat_in w.seat).slots ≡ []
-  pub parts : (seat_in w.seat).known.view.part ≡ w.parts
+  pub parts : (seat_in w.seat).known.view.part ≡ w.parts * worker_part

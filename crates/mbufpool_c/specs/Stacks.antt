@@ -49,7 +49,7 @@ abbrev pub CountsIn : Option Seated → ℕ → Option Seated → Type 0
 CountsIn None count new = (count ≡ 0) × (new ≡ None)
 CountsIn (Some s) count new = (t : Seated) × Did DidOnWords side_of s (CommonCount count) t × (new ≡ Some t)
 
--- the seat of the first handle gave one of its parts to a new seat at its words, which is in the
+-- the seat of the first handle gave a worker's part to a new seat at its words, which is in the
 -- second
 abbrev pub Splits : Option Seated → Option Seated → Option Seated → Type 0
 Splits None new out = ⊥

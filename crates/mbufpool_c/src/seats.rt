@@ -27,7 +27,7 @@ pub struct OwnSeat {
     ground: Arc<Ground>,
     /// There is none within a call alone.
     seat: Option<GroundSeat>,
-    /// How many seats can be made of it, itself among them.
+    /// How many workers' parts it has: how many seats can be made of it, itself among them.
     parts: u32,
 }
 
@@ -81,7 +81,7 @@ impl OwnSeat {
         }
     }
 
-    /// Makes one more seat at the same words, of one part of this one.
+    /// Makes one more seat at the same words, of a worker's part of this one.
     ///
     /// Refused `StrangerShare` where the pool has no more workers, and `OutOfMemory` where there
     /// are too many owners.

@@ -80,11 +80,11 @@ credits views = sum_by (λ v. v.credit) views
 abbrev pub parts : List View → ℕ
 parts views = sum_by (λ v. v.part) views
 
--- A part is counted in shares, so that it can be given away little by little: a worker's part is
--- this many.
-abbrev pub shares : ℕ
-shares = 2 ^ 56
+-- a worker's part of a pool: so great a number that a little of it can be given away, again and
+-- again
+abbrev pub worker_part : ℕ
+worker_part = 2 ^ 56
 
--- all shares of a pool: a part for each worker
-abbrev pub all_shares : Limits → ℕ
-all_shares l = l.workers * shares
+-- all parts of a pool: one for each worker
+abbrev pub every_part : Limits → ℕ
+every_part l = l.workers * worker_part

@@ -57,9 +57,9 @@ pub struct Work {
     pub phase: Phase,
 }
 
-/// A worker's part of a pool, in shares: a part can be given away little by little. The parts of 64
-/// workers are a number of 64 bits.
-pub const SHARES: u64 = 1 << 56;
+/// A worker's part of a pool: so great a number that a little of it can be given away, again and
+/// again. The parts of 64 workers, the most, are a number of 64 bits.
+pub const WORKER_PART: u64 = 1 << 56;
 
 /// What one worker has and has seen.
 #[derive(Debug, Drop)]
@@ -79,7 +79,7 @@ pub struct View {
     pub seen: u64,
     pub chain: Option<Chain>,
     pub work: Option<Work>,
-    /// The worker's part of the pool, in shares.
+    /// The worker's part of the pool.
     pub part: u64,
 }
 

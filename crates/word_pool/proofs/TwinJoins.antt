@@ -12,6 +12,7 @@ use Rattle.mbuf.specs.Twins.{TwinMember}
 use Rattle.word_pool.specs.TwinWorkers.{TwinManned, AreTwinWorkers, IsTwinIdle, IsTwinWorker, firsts_of, twins_of}
 use Rattle.word_pool.specs.inside.TwinCrews.{AreTwinsJoined, IsWhole}
 use Rattle.word_pool.proofs.TwinJoined.{both_twin_shares, one_twin_share}
+use Rattle.step_core.specs.World.{worker_part}
 
 -- all workers are as many as the pools have
 pub count_of_twins : (g h : Grounded) (ms : List TwinManned) → AreTwinWorkers g h ms → length ms ≡ g.limits.workers
@@ -40,7 +41,7 @@ last_twin_joined g h all left m s u t handed each e idle first second twin share
 
 -- a seat that another was joined to has the parts of both
 joined_whole : (g : Grounded) (parts : ℕ) (mine other s : Seated) → IsOf g mine → mine.slots ≡ [] →
-    mine.known.view.part ≡ 1 → IsWhole g parts other → IsBoth mine other.known s → IsWhole g (parts + 1) s
+    mine.known.view.part ≡ worker_part → IsWhole g parts other → IsBoth mine other.known s → IsWhole g (parts + 1) s
 joined_whole g parts mine other s of slots one whole both =
     let part = whole.part in
     let here : IsWhole g (parts + 1) (record mine { known = both_with mine.known other.known both.0 }) = record {

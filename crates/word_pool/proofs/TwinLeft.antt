@@ -1,5 +1,5 @@
 -- What two grounds left is lawful, with the shares of the views that closed them.
-use Rattle.std.proofs.Common.{ℕ, ◌≡◌, ◌+◌, true, false, List, [], length, map, Option, refl, sym, ap, ◌∙◌, subst, arith}
+use Rattle.std.proofs.Common.{ℕ, ◌≡◌, ◌+◌, true, false, List, [], length, map, Option, refl, sym, ap, ◌∙◌, subst, arith, ◌*◌}
 use Rattle.std.specs.Prelude.{flat_map, sum_by}
 use Rattle.std.specs.List.{range_with_len}
 use Rattle.std.proofs.lemmas.List.{nil_from_length}
@@ -33,6 +33,7 @@ use Rattle.word_pool.specs.inside.TwinCrews.{AreTwinsClosed}
 use Rattle.word_pool.proofs.OneView.{common, words_show}
 use Rattle.word_pool.proofs.TwinJoins.{count_of_twins}
 use Rattle.word_pool.proofs.WholeLeft.{AreNumbered}
+use Rattle.step_core.specs.World.{worker_part, every_part}
 
 -- the parts of both pools, and their numbers
 abbrev pub firsts : List TwinMember → List Member
@@ -105,12 +106,13 @@ module _ (l : Limits) (c : Closed) (v : View) (members : List TwinMember) (h : I
 -- ---- of the workers of two grounds that were closed, each by the one seat of theirs
 
 module _ (g h : Grounded) (ms : List TwinManned) (s u : Seated) (c : ClosedTwin) (are : AreTwinsClosed g h ms s u c) where
-  first_parts : s.known.view.part ≡ g.limits.workers
-  first_parts = are.first_whole.part ∙ count_of_twins g h ms are.all
+  first_parts : s.known.view.part ≡ every_part g.limits
+  first_parts = are.first_whole.part ∙ ap (λ (n : ℕ). n * worker_part) (count_of_twins g h ms are.all)
 
-  second_parts : u.known.view.part ≡ h.limits.workers
+  second_parts : u.known.view.part ≡ every_part h.limits
   second_parts =
-      are.second_whole.part ∙ count_of_twins g h ms are.all ∙ sym are.all.pools.twins.workers
+      are.second_whole.part
+      ∙ ap (λ (n : ℕ). n * worker_part) (count_of_twins g h ms are.all ∙ sym are.all.pools.twins.workers)
 
   first_at_rest : IsLeftAtRest g.limits c.first s.known.view
   first_at_rest = record { left = are.first.left; whole = first_parts; rest = are.first_whole.rest }

@@ -31,6 +31,7 @@ use Rattle.word_pool.specs.Workers.{Manned, IsStatementOfWorkers, members_of}
 use Rattle.word_pool.specs.inside.Closing.{IsLeftAtRest}
 use Rattle.word_pool.specs.inside.Joins.{AreClosed}
 use Rattle.word_pool.proofs.OneView.{common, held_few, words_show}
+use Rattle.step_core.specs.World.{every_part}
 
 -- the numbers of all workers, in their order
 abbrev pub AreNumbered : ℕ → List Member → Type 0
@@ -104,7 +105,7 @@ module _ (g : Grounded) (ms : List Manned) (n : Known) (l : Limits) (c : Closed)
   pub statement_fresh : IsUnmoved n → statement_in (snapshot_of l c handed) ≡ statement_at_start g.limits (members_of ms)
   statement_fresh unmoved =
       let fresh : IsFresh n = record {
-        whole = are.whole ∙ ap (λ (k : Limits). k.workers) (sym are.limits);
+        whole = are.whole ∙ ap (λ (k : Limits). every_part k) (sym are.limits);
         unmoved = unmoved;
       } in
       rw (are.closed.limits, are.closed.start fresh, are.same) refl

@@ -19,6 +19,7 @@ use Rattle.twin_acts.specs.TwinActs.{AreFreshByAct, KeepsTwin, PerformsTwin, Twi
 use Rattle.twin_acts.specs.declared.acts.TwinAct.{TwinAct}
 use Rattle.word_pool.specs.TwinShares.{AreStatementsOf, AreTwinShares}
 use Rattle.step_core.specs.declared.view.View.{View}
+use Rattle.step_core.specs.World.{worker_part, every_part}
 
 -- a worker: its seat at the ground of either pool, and what it has of both
 pub record TwinManned : Type 0 where
@@ -63,12 +64,12 @@ pub record DoesTwin (act : TwinAct) (old : TwinManned) (reply : Reply) (new : Tw
       new.member (side_of new.first) (side_of new.second))
   pub stays : TwinStays old new
 
--- a worker of these grounds, with one part of either
+-- a worker of these grounds, with a worker's part of either
 pub record IsTwinWorker (g h : Grounded) (m : TwinManned) : Type 0 where
   pub first : IsOf g m.first
   pub second : IsOf h m.second
-  pub first_part : m.first.known.view.part ≡ 1
-  pub second_part : m.second.known.view.part ≡ 1
+  pub first_part : m.first.known.view.part ≡ worker_part
+  pub second_part : m.second.known.view.part ≡ worker_part
 
 -- what workers have of both pools, and of either
 abbrev pub twins_of : List TwinManned → List TwinMember
@@ -97,8 +98,8 @@ pub record AreNewTwins (l k : Limits) (ms : List TwinManned) : Type 0 where
 pub record AreStatementsOfTwins (g h : Grounded) (ms : List TwinManned) (s : Statement × Statement) : Type 0 where
   pub first_view : View
   pub second_view : View
-  pub first_whole : first_view.part ≡ g.limits.workers
-  pub second_whole : second_view.part ≡ h.limits.workers
+  pub first_whole : first_view.part ≡ every_part g.limits
+  pub second_whole : second_view.part ≡ every_part h.limits
   pub first_rest : AtRest first_view
   pub second_rest : AtRest second_view
   -- each worker was between its acts: packets and clones were its own

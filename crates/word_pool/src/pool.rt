@@ -1,6 +1,6 @@
 //! The pool of all workers on words.
 
-ghost use Rattle.std.specs.Prelude.{◌≡◌, ◌+◌, ◌<◌, ◌≤◌, ◌++◌, ◌∷◌, [], All, List, IfOk, IfErr, length, vec_len, vec_capacity};
+ghost use Rattle.std.specs.Prelude.{◌≡◌, ◌+◌, ◌<◌, ◌≤◌, ◌++◌, ◌∷◌, [], All, List, IfOk, IfErr, length, vec_len, vec_capacity, ◌*◌};
 ghost use Rattle.book.specs.Left.{IsLeftWhole};
 ghost use Rattle.book.specs.Listing.{ListsPackets};
 ghost use Rattle.book.specs.Lost.{IsOf as IsWorkerOf};
@@ -18,6 +18,7 @@ ghost use Rattle.word_pool.specs.Shares.{AreSharesOf};
 ghost use Rattle.word_pool.specs.inside.Crews.{IsUnused, new_member};
 ghost use Rattle.word_pool.specs.Lost.{AreLeft, AreLostOf, left_of};
 ghost use Rattle.word_pool.specs.Workers.{AreNew, AreWorkers, HasNotActed, IsIdle, IsSeatOf, IsStatementOfWorkers, IsWorker, members_of};
+ghost use Rattle.step_core.specs.World.{worker_part};
 
 use crate::closing::closed_by;
 use crate::worker::WordWorker;
@@ -32,7 +33,7 @@ use mbuf::packets::Packets;
 use pool_model::statement::Statement;
 use std::alloc::Global;
 
-/// Makes a pool on words, and its workers, numbered from 1, each with one part of it, and none of
+/// Makes a pool on words, and its workers, numbered from 1, each with a worker's part of it, and none of
 /// whom has anything yet, nor has acted. The words are those of a new ground (`Ground::make`): all
 /// elements are in the common list, element 0 on top. Settled as it is, the pool's statement is
 /// that of the start (`settled`).
@@ -257,7 +258,7 @@ fn joined(
     requires empty { shares.items ≡ [] }
     requires room { vec_len workers ≤ vec_capacity shares }
     ensures of { IsOf ground.now result.0 }
-    ensures part { result.0.known.view.part ≡ length workers.items }
+    ensures part { result.0.known.view.part ≡ length workers.items * worker_part }
     ensures rest { AtRest result.0.known.view }
     ensures made { IsSeatOf workers.items result.0.known }
     ensures idle { All IsIdle workers.items }

@@ -10,6 +10,7 @@ use Rattle.ground.specs.Own.{AtRest}
 use Rattle.ground.specs.Seats.{Grounded}
 use Rattle.ground.specs.declared.known.Known.{Known}
 use Rattle.step_core.specs.declared.view.View.{View}
+use Rattle.step_core.specs.World.{every_part}
 
 -- This ground was closed by a seat that knew this: these are its limits, and this is what it left.
 pub record IsClosedBy (g : Grounded) (n : Known) (l : Limits) (c : Closed) : Type 0 where
@@ -24,5 +25,5 @@ pub record IsClosedBy (g : Grounded) (n : Known) (l : Limits) (c : Closed) : Typ
 -- A ground of these limits left it, closed by a seat at rest with this view that had every part.
 pub record IsLeftAtRest (l : Limits) (c : Closed) (v : View) : Type 0 where
   pub left : LeftOf l v c
-  pub whole : v.part ≡ l.workers
+  pub whole : v.part ≡ every_part l
   pub rest : AtRest v

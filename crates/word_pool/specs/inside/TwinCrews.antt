@@ -1,5 +1,5 @@
 -- How the workers of two pools are made, one after another, and ended.
-use Rattle.std.specs.Prelude.{ℕ, ◌≡◌, ◌++◌, List, [], All, length, reverse}
+use Rattle.std.specs.Prelude.{ℕ, ◌≡◌, ◌++◌, List, [], All, length, reverse, ◌*◌}
 use Rattle.book.specs.declared.closed_twin.ClosedTwin.{ClosedTwin}
 use Rattle.ground.specs.Own.{AtRest}
 use Rattle.ground.specs.Seats.{Grounded, Seated, IsOf}
@@ -8,6 +8,7 @@ use Rattle.pool_model.specs.Pool.{new_members}
 use Rattle.word_pool.specs.TwinShares.{AreTwinShares}
 use Rattle.word_pool.specs.inside.Closing.{IsClosedBy}
 use Rattle.word_pool.specs.TwinWorkers.{TwinManned, AreTwinWorkers, IsTwinIdle, IsTwinWorker, firsts_of, seconds_of, twins_of}
+use Rattle.step_core.specs.World.{worker_part}
 
 -- the first n workers of new pools
 pub record AreFirstTwins (g h : Grounded) (n : ℕ) (ms : List TwinManned) : Type 0 where
@@ -15,12 +16,12 @@ pub record AreFirstTwins (g h : Grounded) (n : ℕ) (ms : List TwinManned) : Typ
   pub seconds : seconds_of ms ≡ new_members h.limits 1 n
   pub each : All (IsTwinWorker g h) ms
 
--- a seat at rest of this ground, with this many parts
+-- a seat at rest of this ground, with this many workers' parts
 pub record IsWhole (g : Grounded) (parts : ℕ) (s : Seated) : Type 0 where
   pub of : IsOf g s
   pub rest : AtRest s.known.view
   pub slots : s.slots ≡ []
-  pub part : s.known.view.part ≡ parts
+  pub part : s.known.view.part ≡ parts * worker_part
 
 -- The seats of the last workers are one seat of either ground, which is at rest and has their parts,
 -- and their shares are handed in, the last worker's first. The others are left.
