@@ -1,5 +1,5 @@
 -- How a history goes on, and that each of its steps is its event.
-use Rattle.std.proofs.Common.{◌≡◌, inl, ℕ, zero, suc, ◌<◌, List, [], ◌∷◌, ◌++◌, Option, Some, None, set, replicate, refl, sym, ap, ◌∙◌, subst, append-nil, ⊎_elim}
+use Rattle.std.proofs.Common.{◌≡◌, inl, ℕ, zero, suc, ◌<◌, List, [], ◌∷◌, ◌++◌, Option, Some, None, set, replicate, refl, sym, ap, ◌∙◌, subst, append-nil, ⊎_elim, arith}
 use mathlib.Core.Option.{some}
 use lib.ListN.{get_elem?}
 use lib.Seq.{map-set}
@@ -9,12 +9,14 @@ use Rattle.step_core.specs.declared.step.Step.{Step}
 use Rattle.step_core.specs.declared.step.Outcome.{Outcome}
 use Rattle.step_core.specs.Law.{Lawful}
 use Rattle.step_core.specs.Schedules.{slot_at}
+use Rattle.step_core.specs.Shows.{Shows}
 use Rattle.step_core.specs.Steps.{play}
 use Rattle.step_core.specs.World.{World, Packet, no_desk, desk_at, view_at}
 use Rattle.step_core.proofs.Handing.{SlotIs, slot_after}
 use Rattle.step_core.proofs.Theorem.{makes_its_event}
+use Rattle.ground.proofs.Lending.{goes_on}
 use Rattle.ground.specs.declared.known.Known.{Known}
-use Rattle.ground.specs.History.{Log, Move, Stepped, Split, Joined, Leads, Led, HistoriesAreEvents, DesksHaveWhatWasPutIn, put_in_last, log_of, logs_of, notes_of}
+use Rattle.ground.specs.History.{Log, Move, Stepped, Split, Lent, Joined, Leads, Led, HistoriesAreEvents, DesksHaveWhatWasPutIn, put_in_last, log_of, logs_of, notes_of}
 
 -- one step more, of the seat that knows n afterwards
 pub led_on : (l : Limits) (h : List Move) (w : World) (ns : List Known) (id : ℕ) (m n : Known) (st : Step) (o : Outcome)
@@ -70,6 +72,12 @@ histories_are_events l (Stepped id st o ∷ ms) w logs led =
       histories_are_events l ms led.0 led.1 led.3,
     )
 histories_are_events l (Split id ∷ ms) w logs led = histories_are_events l ms led.0 led.1 led.3
+histories_are_events l (Lent id i ∷ ms) w logs led =
+    let leads : Leads (Lent id i) led.0 led.1 w logs = led.4 in
+    let some : 0 < (view_at led.0.views id).part = (let two = leads.0 in omega arith) in (
+      λ t r a b. goes_on led.0 id i some leads.2 t r a (subst (λ (u : World). Shows u r) leads.3 b),
+      histories_are_events l ms led.0 led.1 led.3,
+    )
 histories_are_events l (Joined id other ∷ ms) w logs led = histories_are_events l ms led.0 led.1 led.3
 
 -- a desk's slot is empty, or has what was put in last
@@ -82,6 +90,9 @@ slot_led l (Stepped id st o ∷ ms) w logs led d =
 slot_led l (Split id ∷ ms) w logs led d =
     let leads : Leads (Split id) led.0 led.1 w logs = led.4 in
     subst (λ (u : World). SlotIs d u (put_in_last d ms)) (sym leads.1) (slot_led l ms led.0 led.1 led.3 d)
+slot_led l (Lent id i ∷ ms) w logs led d =
+    let leads : Leads (Lent id i) led.0 led.1 w logs = led.4 in
+    subst (λ (u : World). SlotIs d u (put_in_last d ms)) (sym leads.3) (slot_led l ms led.0 led.1 led.3 d)
 slot_led l (Joined id other ∷ ms) w logs led d =
     let leads : Leads (Joined id other) led.0 led.1 w logs = led.4 in
     subst (λ (u : World). SlotIs d u (put_in_last d ms)) (sym leads.3) (slot_led l ms led.0 led.1 led.3 d)

@@ -1,6 +1,7 @@
 pub mod Rules
 pub mod Owning
 pub mod Changing
+pub mod Lending
 pub mod History
 pub mod Ruling
 pub mod Playing

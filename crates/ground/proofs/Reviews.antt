@@ -1,6 +1,6 @@
 -- Other views that sum up to the same keep a world's laws: a view that is cut in two, two views
 -- that are made one, and the view of a pool's only seat in the place of one for each worker.
-use Rattle.std.proofs.Common.{◌≡◌, ℕ, zero, suc, ◌+◌, ◌-◌, ◌*◌, ◌<◌, ◌≤◌, ◌≢◌, List, [], ◌∷◌, ◌++◌, None, length, replicate, set, refl, ap, ◌∙◌, arith, ⊎_elim, get_or-set_other}
+use Rattle.std.proofs.Common.{◌≡◌, ℕ, zero, suc, ◌+◌, ◌-◌, ◌*◌, ◌<◌, ◌≤◌, ◌≢◌, List, [], ◌∷◌, ◌++◌, Option, None, length, replicate, set, refl, sym, ap, subst, ◌∙◌, arith, ⊎_elim, get_or-set_other}
 use Rattle.std.specs.Prelude.{sum_by, IfSome}
 use Rattle.std.proofs.lemmas.Bool.{cases_lt}
 use Rattle.std.proofs.lemmas.List.{length-append, length-set}
@@ -8,6 +8,8 @@ use Rattle.std.proofs.lemmas.List.Folds.{sum_by-replicate}
 use Rattle.std.proofs.lemmas.List.Sums.{sum_by-set, sum_by-cons, sum_by_push}
 use Rattle.commons.specs.Bag.{bag}
 use Rattle.commons.specs.declared.limits.Limits.{Limits}
+use Rattle.step_core.specs.Bags.{without}
+use Rattle.step_core.specs.declared.view.Chain.{Chain}
 use Rattle.step_core.specs.declared.view.View.{View}
 use Rattle.step_core.specs.World.{World, view_at, desk_at, link_in, empty_view, worker_part, every_part}
 use Rattle.step_core.specs.Law.{Lawful, fills, empties, left_in}
@@ -16,13 +18,13 @@ use Rattle.step_core.specs.Opening.{opening}
 use Rattle.step_core.proofs.Rules.{StackView, CountView, ChainParts, FourLaws}
 use Rattle.step_core.proofs.Regroup.{four_of_eight, eight_of_four}
 use Rattle.step_core.proofs.OpeningLaw.{opening_lawful}
-use Rattle.step_core.proofs.Bags.{times-nil, times-append}
+use Rattle.step_core.proofs.Bags.{times-nil, times-append, times-one, times-not_one, times-without_here, times-without_other, at_or_else}
 use Rattle.step_core.proofs.Frame.{each_view}
 use Rattle.step_core.proofs.HeaderWalks.{opens_with_headers}
 use Rattle.step_core.proofs.StackSteps.{one_view, if_some}
 use Rattle.ground.specs.Own.{AtRest}
 use Rattle.ground.specs.Opening.{opening_alone}
-use Rattle.ground.specs.Parting.{less, both_views}
+use Rattle.ground.specs.Parting.{less, lending, loan_of, both_views}
 
 -- what is summed over the views is as before
 record SameSums (before after : List View) : Type 0 where
@@ -264,6 +266,42 @@ module _ (w : World) (k : ℕ) (here : k < length w.views) (two : 2 * worker_par
   pub split_headers : HeaderLaw (record w { views = split_views w.views k })
   split_headers =
       cut_headers w k here lawful headers _ _ _ _ is_split ((four_of_eight w lawful).stack.views k).chain
+
+-- the views once one element of the hand of the one at k goes to a new view
+abbrev pub lent_views : List View → ℕ → ℕ → List View
+lent_views views k i = set views k (lending i (view_at views k)) ++ loan_of i ∷ []
+
+-- a hand is the element that is taken of it, and what is left
+pub lent_elements : (hand : List ℕ) (i : ℕ) → 0 < bag hand i → (j : ℕ) →
+    bag (without i hand) j + bag (i ∷ []) j ≡ bag hand j
+lent_elements hand i has =
+    at_or_else i (λ j. bag (without i hand) j + bag (i ∷ []) j ≡ bag hand j)
+    (omega (arith, times-without_here i hand, times-one i))
+    (λ j n. omega (arith, times-without_other j i hand n, times-not_one j i n))
+
+module _ (w : World) (k i : ℕ) (here : k < length w.views) (two : 2 ≤ (view_at w.views k).part)
+    (has : 0 < bag (view_at w.views k).hand i) (bare : (view_at w.views k).chain ≡ None) (lawful : Lawful w)
+    (headers : HeaderLaw w) where
+  is_lent : IsCut (view_at w.views k) ((view_at w.views k).part - 1) (without i (view_at w.views k).hand) 1 (i ∷ [])
+  is_lent = record {
+    some = omega arith;
+    any = omega arith;
+    all = omega arith;
+    elements = lent_elements (view_at w.views k).hand i has;
+  }
+
+  unchained : IfSome (view_at w.views k).chain
+      (ChainParts w.limits.population (link_in w.links) (without i (view_at w.views k).hand))
+  unchained =
+      subst (λ (c : Option Chain).
+      IfSome c (ChainParts w.limits.population (link_in w.links) (without i (view_at w.views k).hand)))
+      (sym bare) tt
+
+  pub lent_lawful : Lawful (record w { views = lent_views w.views k i })
+  lent_lawful = cut_lawful w k here lawful headers _ _ _ _ is_lent unchained
+
+  pub lent_headers : HeaderLaw (record w { views = lent_views w.views k i })
+  lent_headers = cut_headers w k here lawful headers _ _ _ _ is_lent unchained
 
 no_lengths : (xs ys : List ℕ) → length xs ≡ 0 → length ys ≡ 0 → length (xs ++ ys) ≡ 0
 no_lengths xs ys a b = omega (arith, length-append xs ys)

@@ -79,4 +79,5 @@ first_known l = record {
   limits = l;
   lying = Some (replicate l.desks None);
   joined = [];
+  loan = 0;
 }

@@ -26,6 +26,7 @@ noted st o m = (
     limits = m.0.limits;
     lying = m.0.lying;
     joined = m.0.joined;
+    loan = m.0.loan;
   },
   m.1,
 )
@@ -104,6 +105,10 @@ abbrev pub looked : table.Step Slot → Sat → ℕ → Sat → Type 0
 looked st m found m' =
     (lying : Option (List (Option (List Seg)))) × (m' ≡ (record m.0 { lying = lying }, m.1))
     × Owned m.0.limits m.0.view × KnowsDesks (record m.0 { lying = lying })
+
+-- A load of an element's link chooses the element: the seat lends this one next.
+abbrev pub chosen : table.Step Slot → Sat → ℕ → Sat → Type 0
+chosen st m found m' = m' ≡ (record m.0 { loan = element_linked_at st.word }, m.1)
 
 -- ---- the counts: the element is the one whose count the word is
 

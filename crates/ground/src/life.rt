@@ -2,24 +2,25 @@
 //! with one.
 
 ghost use Rattle.std.specs.Prelude.{◌≡◌, ◌*◌, ◌<◌, ◌≤◌, [], IfOk, IfErr, IfSome};
+ghost use Rattle.commons.specs.Bag.{bag};
 ghost use Rattle.commons.specs.Bounds.{IsPool};
 ghost use Rattle.ground.specs.Changing.{IsFresh, closed_at_start};
 ghost use Rattle.ground.specs.Closing.{LeftOf};
 ghost use Rattle.ground.specs.Opening.{IsGroundCause};
 ghost use Rattle.ground.specs.Own.{Owned, AtRest, KnowsDesks};
-ghost use Rattle.ground.specs.Parting.{less_part, newcomer, IsBoth, AreBoth};
+ghost use Rattle.ground.specs.Parting.{less_part, newcomer, left_by_lending, lent_part, IsBoth, AreBoth};
 ghost use Rattle.ground.specs.Rule.{first_known};
 ghost use Rattle.ground.specs.Seats.{IsOf};
 ghost use Rattle.step_core.specs.World.{worker_part};
 
 use crate::head::head_of;
 use crate::known::Known;
-use crate::plays::{Looks, Parts};
+use crate::plays::{Chooses, Lends, Looks, Parts};
 use crate::pool::Ground;
 use crate::rows::{opening_words, read_desks, read_row};
 use crate::rule::PoolRule;
 use crate::seat::GroundSeat;
-use crate::stack::{HEAD, LENGTH, LINKS};
+use crate::stack::{HEAD, LENGTH, LINKS, link_word};
 use atomic_table::{Seat, Shared, Table};
 use commons::closed::Closed;
 use commons::limits::Limits;
@@ -74,6 +75,32 @@ impl Ground {
         ensures slots { result.slots ≡ [] }
     {
         let seat = self.table.shared.split_seat::<Parts>(&mut seat.seat);
+        GroundSeat { seat }
+    }
+
+    /// Lends an element of the hand of a seat that is between calls: makes one more seat, which has
+    /// this element alone, and a part of 1 of those that this seat has, which are two at least. This
+    /// seat keeps all else.
+    ///
+    /// Whoever has the new seat has the element: it can be sent to another thread, and joined to any
+    /// seat of this ground, which has the element then and may put it. So what one lcore got another
+    /// puts (rte_mempool.h, rte_mempool_put_bulk). While an element is lent, no seat has every part.
+    ///
+    /// The load of the element's link says which one it is, in the proof alone.
+    pub fn lend(&self, seat: &mut GroundSeat, element: u32) -> GroundSeat
+        requires of { IsOf self.now seat.old }
+        requires rest { AtRest seat.old.known.view }
+        requires hand { 0 < bag seat.old.known.view.hand element }
+        requires part { 2 ≤ seat.old.known.view.part }
+        ensures old { seat.new ≡ record seat.old { known = left_by_lending element seat.old.known } }
+        ensures of { IsOf self.now result }
+        ensures known { result.known ≡ lent_part element seat.old.known }
+        ensures slots { result.slots ≡ [] }
+    {
+        seat.owned();
+        let word = link_word(element);
+        self.table.shared.load::<Chooses>(&mut seat.seat, word);
+        let seat = self.table.shared.split_seat::<Lends>(&mut seat.seat);
         GroundSeat { seat }
     }
 

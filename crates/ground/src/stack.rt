@@ -29,7 +29,7 @@ pub(crate) const LENGTH: usize = LINE_WORDS;
 pub(crate) const LINKS: usize = 2 * LINE_WORDS;
 
 /// Where the link of an element stands: after these cache lines.
-fn link_word(element: u32) -> usize
+pub(crate) fn link_word(element: u32) -> usize
     ensures { result ≡ link_word element }
 {
     LINKS + element as usize
