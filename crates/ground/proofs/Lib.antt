@@ -2,6 +2,7 @@ pub mod Rules
 pub mod Owning
 pub mod Changing
 pub mod Lending
+pub mod TakingOver
 pub mod History
 pub mod Ruling
 pub mod Playing

@@ -1,6 +1,6 @@
 -- How the words of a pool came to be: by steps of the machine, each by one seat, by seats that were
 -- split, elements that were lent, and seats that were joined. Seats are numbered from 0, and the machine's workers from 1.
-use Rattle.std.specs.Prelude.{◌≡◌, ◌≢◌, ℕ, suc, ◌<◌, ◌≤◌, List, [], ◌∷◌, ◌++◌, Option, Some, None, length, map, slice_set, ⊤, ◌*◌}
+use Rattle.std.specs.Prelude.{◌≡◌, ◌≢◌, ℕ, suc, ◌<◌, ◌≤◌, List, [], ◌∷◌, ◌++◌, Option, Some, None, length, map, slice_set, ⊤, ◌==◌, if◌then◌else◌, ◌*◌}
 use mathlib.Core.Option.{some}
 use lib.ListN.{get_elem?}
 use Rattle.commons.specs.Bag.{bag}
@@ -13,7 +13,7 @@ use Rattle.step_core.specs.Law.{Lawful}
 use Rattle.step_core.specs.Schedules.{slot_at}
 use Rattle.step_core.specs.Shows.{Shows, Happens}
 use Rattle.step_core.specs.Steps.{play, event_of}
-use Rattle.step_core.specs.Table.{Table, Hand, Same, Where}
+use Rattle.step_core.specs.Table.{Place, Common, Hand, Held, Table, Same, Where}
 use Rattle.step_core.specs.Handing.{put_by}
 use Rattle.step_core.specs.World.{World, Packet, desk_at, view_at, empty_view, worker_part}
 use Rattle.ground.specs.declared.known.Known.{Known}
@@ -86,9 +86,24 @@ abbrev pub GoesOn : (n i worker other : ℕ) → Table → Table → Type 0
 GoesOn n i worker other t r =
     (j : ℕ) → j < n → Where j (i ∷ []) ((t j ≡ Hand worker) × (r j ≡ Hand other)) (Same (t j) (r j))
 
--- Each step of a history is its one event of the table, by its seat's worker, or none, and an
--- element that is lent goes from that hand to the new one, whichever tables the worlds before and
--- after it are read as.
+-- the worker whose something is, once what the second had is the first's, and the place of an element
+-- then
+abbrev pub heir : (worker other w : ℕ) → ℕ
+heir worker other w = if w == other then worker else w
+
+abbrev pub taken_over : (worker other : ℕ) → Place → Place
+taken_over worker other Common = Common
+taken_over worker other (Hand w) = Hand (heir worker other w)
+taken_over worker other (Held ws ds) = Held (map (λ w. heir worker other w) ws) ds
+
+-- of n elements, what the second worker had and held the first has and holds, and all else is where it
+-- was
+abbrev pub TakesOver : (n worker other : ℕ) → Table → Table → Type 0
+TakesOver n worker other t r = (j : ℕ) → j < n → Same (taken_over worker other (t j)) (r j)
+
+-- Each step of a history is its one event of the table, by its seat's worker, or none; an
+-- element that is lent goes from that hand to the new one; and where seats are joined, what the other
+-- had is the seat's; whichever tables the worlds before and after are read as.
 abbrev pub AreEvents : (l : Limits) (ms : List Move) (w : World) (logs : List Log) → Led l ms w logs → Type 0
 AreEvents l [] w logs led = ⊤
 AreEvents l (Stepped id step outcome ∷ ms) w logs led =
@@ -100,7 +115,10 @@ AreEvents l (Lent id i ∷ ms) w logs led =
     ((t r : Table) → Shows led.0 t → Shows w r →
     GoesOn led.0.limits.population i (suc id) (suc (length led.0.views)) t r)
     × AreEvents l ms led.0 led.1 led.3
-AreEvents l (Joined id other ∷ ms) w logs led = AreEvents l ms led.0 led.1 led.3
+AreEvents l (Joined id other ∷ ms) w logs led =
+    ((t r : Table) → Shows led.0 t → Shows w r →
+    TakesOver led.0.limits.population (suc id) (suc other) t r)
+    × AreEvents l ms led.0 led.1 led.3
 
 -- the packet that was put into desk d last, by these moves, the last first
 abbrev pub put_in_last : ℕ → List Move → Option Packet
