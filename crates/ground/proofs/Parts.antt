@@ -26,7 +26,7 @@ use Rattle.ground.proofs.Changing.{sum_cut, unmoved_cut}
 use Rattle.ground.proofs.Playing.{idle_again}
 use Rattle.ground.proofs.Sitting.{law_of, here, is, told_set, told_push, seen_set, seen_push}
 
-pub owned_less : (l : Limits) (v : View) → 2 * worker_part ≤ v.part → Owned l v → Owned l (less v)
+pub owned_less : (l : Limits) (v : View) → worker_part < v.part → Owned l v → Owned l (less v)
 owned_less l v two o = record {
   pool = o.pool;
   busy = omega arith;
@@ -45,13 +45,13 @@ owned_less l v two o = record {
 abbrev split_at : World → ℕ → View → World
 split_at w id v = record w { views = set w.views id (less v) ++ empty_view worker_part ∷ [] }
 
-pub splits : (l : Limits) (id : ℕ) (n : Known) → 2 * worker_part ≤ n.view.part →
+pub splits : (l : Limits) (id : ℕ) (n : Known) → worker_part < n.view.part →
     Splits (Ruled l) id n (less_part n) (newcomer n)
 splits l id n two s r at =
     let w = r.world in
     let mine : n.limits ≡ l = r.told id n at (omega arith) in
     let same = is l s r id n at in
-    let two' : 2 * worker_part ≤ (view_at w.views id).part = subst (λ (v : View). 2 * worker_part ≤ v.part) (sym same) two in
+    let two' : worker_part < (view_at w.views id).part = subst (λ (v : View). worker_part < v.part) (sym same) two in
     let law =
     subst (λ (v : View). Lawful (split_at w id v)) same
     (split_lawful w id (here l s r id n at) two' (law_of l s r) r.counts.headers) in

@@ -249,7 +249,7 @@ module _ (w : World) (k : ℕ) (here : k < length w.views) (lawful : Lawful w) (
 abbrev pub split_views : List View → ℕ → List View
 split_views views k = set views k (less (view_at views k)) ++ empty_view worker_part ∷ []
 
-module _ (w : World) (k : ℕ) (here : k < length w.views) (two : 2 * worker_part ≤ (view_at w.views k).part)
+module _ (w : World) (k : ℕ) (here : k < length w.views) (two : worker_part < (view_at w.views k).part)
     (lawful : Lawful w) (headers : HeaderLaw w) where
   is_split : IsCut (view_at w.views k) ((view_at w.views k).part - worker_part) (view_at w.views k).hand worker_part []
   is_split = record {

@@ -56,7 +56,7 @@ Leads (Stepped id step outcome) w logs u after =
     × ((log : Log) × (get_elem? logs id ≡ some log)
     × (after ≡ slice_set logs id (log.0 ++ notes_of step outcome (slot_at w.desks step), log.1)))
 Leads (Split id) w logs u after =
-    (2 * worker_part ≤ (view_at w.views id).part)
+    (worker_part < (view_at w.views id).part)
     × (u ≡ record w { views = slice_set w.views id (less (view_at w.views id)) ++ empty_view worker_part ∷ [] })
     × (after ≡ logs ++ ([], []) ∷ [])
 Leads (Lent id i) w logs u after =

@@ -63,12 +63,11 @@ impl Ground {
         Ok((ground, GroundSeat { seat }))
     }
 
-    /// Makes one more worker's seat, of a worker's part of what this seat has, which is two such
-    /// parts at least. This seat keeps all that it names, and the new one names nothing and has taken no
-    /// step.
+    /// Makes one more worker's seat, of a worker's part of what this seat has, which is more than
+    /// that. This seat keeps all that it names, and the new one names nothing and has taken no step.
     pub fn split(&self, seat: &mut GroundSeat) -> GroundSeat
         requires of { IsOf self.now seat.old }
-        requires part { 2 * worker_part ≤ seat.old.known.view.part }
+        requires part { worker_part < seat.old.known.view.part }
         ensures old { seat.new ≡ record seat.old { known = less_part seat.old.known } }
         ensures of { IsOf self.now result }
         ensures known { result.known ≡ newcomer seat.old.known }

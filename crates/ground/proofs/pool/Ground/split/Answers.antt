@@ -1,4 +1,4 @@
-use Rattle.std.proofs.Common.{◌≤◌, refl, sym, subst, rules, arith, ◌*◌}
+use Rattle.std.proofs.Common.{◌<◌, refl, sym, subst, rules, arith}
 use Rattle.ground.proofs.Calls.{of_view, Keeps}
 use Rattle.ground.proofs.Opens.{owned_none}
 use Rattle.ground.proofs.Parts.{splits, owned_less}
@@ -8,13 +8,13 @@ use Rattle.step_core.specs.World.{worker_part}
 -- a part can go where there are two
 pub split_seat-seat-requires : goal.split_seat-seat-requires
 split_seat-seat-requires c =
-    let two = of_view c.seat.view_is (λ v. 2 * worker_part ≤ v.part) c.requires.part in
+    let two = of_view c.seat.view_is (λ v. worker_part < v.part) c.requires.part in
     (search rules, search rules, splits _ _ _ two)
 
 -- the seat names what it named
 pub invariant_of-seat : goal.invariant_of-seat
 invariant_of-seat c =
-    let two = of_view c.seat.view_is (λ v. 2 * worker_part ≤ v.part) c.requires.part in
+    let two = of_view c.seat.view_is (λ v. worker_part < v.part) c.requires.part in
     let e = c.split_seat-seat.ensures in
     let within = c.seat.invariant.0.within in
     subst Keeps (sym e.2) (
@@ -26,7 +26,7 @@ invariant_of-seat c =
 -- the new seat names nothing
 pub invariant_of-result : goal.invariant_of-result
 invariant_of-result c =
-    let two = of_view c.seat.view_is (λ v. 2 * worker_part ≤ v.part) c.requires.part in
+    let two = of_view c.seat.view_is (λ v. worker_part < v.part) c.requires.part in
     let e = c.split_seat-seat.ensures in
     let within = c.seat.invariant.0.within in
     subst Keeps (sym e.4) (
