@@ -1,0 +1,4 @@
+pub mod Finding
+pub mod Tokens
+pub mod Outs
+pub mod Crossing
