@@ -2,3 +2,4 @@ pub mod Finding
 pub mod Tokens
 pub mod Outs
 pub mod Crossing
+pub mod Moving
