@@ -3,3 +3,4 @@ pub mod Tokens
 pub mod Outs
 pub mod Crossing
 pub mod Moving
+pub mod Keeping

@@ -1,4 +1,5 @@
 pub mod Lent
 pub mod Pools
 pub mod Lending
+pub mod Lenders
 pub mod Stub

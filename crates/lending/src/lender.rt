@@ -19,6 +19,163 @@ use ground::seat::GroundSeat;
 use stack_lf::words::WordCommons;
 use std::marker::Model;
 
+/// A worker's seat that lends what it gets, so that its hand is empty between calls. It can't be
+/// dropped, as a seat can't.
+pub struct Lender {
+    seat: GroundSeat,
+    /// The seat's part of the pool, of which one goes with each element that it lends.
+    part: u64,
+}
+
+impl Model for Lender {
+    ghost use Rattle.ground.specs.Seats.{Seated};
+
+    ghost Value = { Seated };
+
+    ghost use Rattle.lending.specs.Lenders.{IsLender};
+
+    ghost view = { λ w. w.seat };
+
+    ghost invariant = { IsLender };
+}
+
+impl Lender {
+    ghost use Rattle.lending.specs.Lending.{GetsLoans, PutsLoans};
+
+    /// A lender by this seat, which has this part and nothing in its hand.
+    pub fn new(seat: GroundSeat, part: u64) -> Lender
+        requires rest { AtRest seat.known.view }
+        requires slots { seat.slots ≡ [] }
+        requires hand { seat.known.view.hand ≡ [] }
+        requires part { seat.known.view.part ≡ part }
+        ensures { result ≡ seat }
+    {
+        Lender { seat, part }
+    }
+
+    /// Gives the seat back.
+    pub fn into_seat(self) -> GroundSeat
+        ensures seat { result ≡ self }
+        ensures rest { AtRest self.known.view }
+        ensures slots { self.slots ≡ [] }
+        ensures hand { self.known.view.hand ≡ [] }
+    {
+        let Lender { seat, part: _ } = self;
+        seat
+    }
+
+    /// Gets as many elements as `out` has places, and adds their loans: all of them, or none.
+    ///
+    /// Refused as `Commons::get_list` is, and `StrangerShare` where the seat's part of the pool is
+    /// no greater than the list.
+    pub fn get(
+        self,
+        ground: &Ground,
+        out: &mut [u32],
+        loans: &mut Loans,
+    ) -> (Result<(), Refusal>, Lender)
+        requires of { IsOf ground.now self }
+        requires loans { AreOf ground.now loans.old }
+        requires some { 0 < length out.old }
+        ensures { GetsLoans (length out.old) (with_list result.0 out.new) self loans.old result.1 loans.new }
+    {
+        let Lender { seat, part } = self;
+        let n = out.len() as u64;
+        if part <= n {
+            return (Err(Refusal::StrangerShare), Lender { seat, part });
+        }
+        let (answer, mut seat) = get_by(ground, seat, out);
+        match answer {
+            Err(cause) => (Err(cause), Lender { seat, part }),
+            Ok(()) => {
+                lend_all(ground, &mut seat, out, loans);
+                (
+                    Ok(()),
+                    Lender {
+                        seat,
+                        part: part - n,
+                    },
+                )
+            }
+        }
+    }
+
+    /// Puts a list of elements of which there are loans, whichever seats got them: all of them, or
+    /// none. No two loans are of one element, so the list names each once.
+    ///
+    /// Refused as `Commons::put_list` is. The elements are lent as before then.
+    pub fn put(
+        self,
+        ground: &Ground,
+        list: &[u32],
+        loans: &mut Loans,
+    ) -> (Result<(), Refusal>, Lender)
+        requires of { IsOf ground.now self }
+        requires loans { AreOf ground.now loans.old }
+        requires some { 0 < length list.now }
+        requires lent { (i : ℕ) → bag list.now i ≤ bag loans.old.lent i }
+        ensures done { PutsLoans list.now result.0 self loans.old result.1 loans.new }
+        ensures once { (i : ℕ) → bag list.now i ≤ 1 }
+    {
+        let Lender { mut seat, part } = self;
+        let n = list.len() as u64;
+        join_all(ground, &mut seat, list, loans);
+        seat.owned();
+        let part = part + n;
+        let (answer, mut seat) = put_by(ground, seat, list);
+        match answer {
+            Ok(()) => (Ok(()), Lender { seat, part }),
+            Err(cause) => {
+                lend_all(ground, &mut seat, list, loans);
+                (
+                    Err(cause),
+                    Lender {
+                        seat,
+                        part: part - n,
+                    },
+                )
+            }
+        }
+    }
+}
+
+/// A get by this seat.
+#[inline(always)]
+fn get_by(ground: &Ground, seat: GroundSeat, out: &mut [u32]) -> (Result<(), Refusal>, GroundSeat)
+    requires some { 0 < length out.old }
+    requires of { IsOf ground.now seat }
+    requires rest { AtRest seat.known.view }
+    requires slots { seat.slots ≡ [] }
+    ensures did { Did DidOnWords side_of seat (GetList (length out.old) (with_list result.0 out.new)) result.1 }
+    ensures of { IsOf ground.now result.1 }
+    ensures rest { AtRest result.1.known.view }
+    ensures slots { result.1.slots ≡ [] }
+    ensures part { result.1.known.view.part ≡ seat.known.view.part }
+{
+    let mut c = WordCommons::new(ground, seat);
+    let answer = c.get_list(out);
+    (answer, c.into_seat())
+}
+
+/// A put by this seat.
+#[inline(always)]
+fn put_by(ground: &Ground, seat: GroundSeat, list: &[u32]) -> (Result<(), Refusal>, GroundSeat)
+    requires some { 0 < length list.now }
+    requires in_hand { (i : ℕ) → bag list.now i ≤ (side_of seat).hand i }
+    requires of { IsOf ground.now seat }
+    requires rest { AtRest seat.known.view }
+    requires slots { seat.slots ≡ [] }
+    ensures did { Did DidOnWords side_of seat (PutList list.now result.0) result.1 }
+    ensures of { IsOf ground.now result.1 }
+    ensures rest { AtRest result.1.known.view }
+    ensures slots { result.1.slots ≡ [] }
+    ensures part { result.1.known.view.part ≡ seat.known.view.part }
+{
+    let mut c = WordCommons::new(ground, seat);
+    let answer = c.put_list(list);
+    (answer, c.into_seat())
+}
+
 /// Lends each element of a list, which are in the hand: one part of the pool goes with each.
 fn lend_all(ground: &Ground, seat: &mut GroundSeat, list: &[u32], loans: &mut Loans)
     requires of { IsOf ground.now seat.old }
