@@ -8,12 +8,11 @@ use Rattle.commons.proofs.Bags.{bag-nil, bag-cons, bag-append, bag-single, bag-t
 use Rattle.step_core.specs.Bags.{without}
 use Rattle.step_core.proofs.Bags.{times-nil, times-cons, times-without, one_if-cases}
 use Rattle.ground.specs.Own.{AtRest}
-use Rattle.ground.specs.Parting.{both_with}
+use Rattle.ground.specs.Parting.{both_with, left_by_lending}
 use Rattle.ground.specs.Seats.{Seated}
 use Rattle.lending.specs.declared.loans.Loans.{Loans}
 use Rattle.lending.specs.Lending.{IsSame, IsLent}
 use Rattle.lending.specs.Lent.{loaned}
-use Rattle.lending.specs.Stub.{left_by_lending}
 
 pub nothing_lent : (s : Seated) (x : Loans) → IsLent [] s x s x
 nothing_lent s x = record {

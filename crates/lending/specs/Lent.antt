@@ -3,19 +3,14 @@ use Rattle.std.specs.Prelude.{ℕ, List, [], ◌∷◌, None}
 use base.Fml.{Fml, ftrue, fsep, fex}
 use Rattle.atomic_table.specs.Seated.{TableId, badge_owns, fact}
 use Rattle.commons.specs.declared.limits.Limits.{Limits}
-use Rattle.step_core.specs.declared.view.View.{View}
-use Rattle.step_core.specs.World.{empty_view}
 use Rattle.ground.specs.Own.{Owned, KnowsDesks}
+use Rattle.ground.specs.Parting.{loan_of}
 use Rattle.ground.specs.declared.known.Known.{Known}
 use Rattle.ground.specs.contracts.known.Known.{the_row as known}
 
--- one share, with this element in its hand, and nothing else
-abbrev pub loan_of : ℕ → View
-loan_of i = record (empty_view 1) { hand = i ∷ [] }
-
 -- what the seat of a loan knows
 abbrev pub loaned : Limits → ℕ → Known
-loaned l i = record { view = loan_of i; steps = []; limits = l; lying = None; joined = [] }
+loaned l i = record { view = loan_of i; steps = []; limits = l; lying = None; joined = []; loan = 0 }
 
 -- what the type of a seat keeps of it
 pub record IsLoan (l : Limits) (i : ℕ) : Type 0 where

@@ -2,4 +2,3 @@ pub mod Lent
 pub mod Pools
 pub mod Lending
 pub mod Lenders
-pub mod Stub

@@ -11,7 +11,6 @@ ghost use Rattle.lending.specs.Lending.{IsLent};
 ghost use Rattle.lending.specs.Pools.{AreOf};
 
 use crate::loans::Loans;
-use crate::stub::lend;
 use commons::refusal::Refusal;
 use commons::shared::Commons;
 use ground::pool::Ground;
@@ -188,7 +187,7 @@ fn lend_all(ground: &Ground, seat: &mut GroundSeat, list: &[u32], loans: &mut Lo
 {
     for k in 0..list.len() {
         let element = list[k];
-        let lent = lend(ground, seat, element);
+        let lent = ground.lend(seat, element);
         loans.add(lent, element);
     }
 }

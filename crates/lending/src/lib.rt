@@ -5,4 +5,3 @@
 pub mod lender;
 pub mod loans;
 pub mod sent;
-mod stub;
