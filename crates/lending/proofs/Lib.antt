@@ -3,4 +3,3 @@ pub mod Tokens
 pub mod Outs
 pub mod Crossing
 pub mod Moving
-pub mod Keeping
