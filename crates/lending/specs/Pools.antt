@@ -1,7 +1,7 @@
 -- Which pool loans are of.
 use Rattle.std.specs.Prelude.{◌≡◌, []}
 use Rattle.ground.specs.Parting.{spent_seat}
-use Rattle.ground.specs.Seats.{Grounded}
+use Rattle.ground.specs.Seats.{Grounded, Seated}
 use Rattle.lending.specs.declared.loans.Loans.{Loans}
 
 -- no loans, of this pool
@@ -27,3 +27,7 @@ no_pool = record {
 pub record AreOf (g : Grounded) (x : Loans) : Type 0 where
   pub table : x.table ≡ g.table
   pub limits : x.limits ≡ g.limits
+
+-- the loans are of this seat's pool
+abbrev pub AreAt : Seated → Loans → Type 0
+AreAt s x = AreOf (record { table = s.table; limits = s.known.limits }) x

@@ -9,7 +9,7 @@ ghost use Rattle.step_core.specs.World.{worker_part};
 ghost use Rattle.stack_lf.specs.Sides.{side_of};
 ghost use Rattle.stack_lf.specs.Tries.{DidOnWords};
 ghost use Rattle.lending.specs.Lending.{IsLent};
-ghost use Rattle.lending.specs.Pools.{AreOf};
+ghost use Rattle.lending.specs.Pools.{AreOf, none_of};
 
 use crate::loans::Loans;
 use commons::refusal::Refusal;
@@ -76,6 +76,13 @@ impl Lender {
         ensures { result ≡ self.now.known.view.part }
     {
         self.part
+    }
+
+    /// No loans, of the seat's pool.
+    pub fn no_loans(&self) -> Loans
+        ensures { result ≡ none_of (record { table = self.now.table; limits = self.now.known.limits }) }
+    {
+        Loans::of(&self.seat)
     }
 
     /// What is true of the seat's view by itself.
