@@ -1,7 +1,7 @@
 -- What C is answered by a seat, and what it owes of a list that it puts.
 use Rattle.std.specs.Prelude.{◌≡◌, ℕ, ◌≤◌, List, Option, Some, None, Result, Ok, Err, ⊤}
 use Rattle.commons.specs.Bag.{bag}
-use Rattle.commons.specs.Calls.{Call, CommonCount, Did}
+use Rattle.commons.specs.Calls.{Call, CommonCount, Did, with_list}
 use Rattle.commons.specs.declared.limits.Limits.{Limits}
 use Rattle.commons.specs.declared.limits.PutRule.TheVariants.{Keep}
 use Rattle.commons.specs.declared.refusal.Refusal.{Refusal}
@@ -9,13 +9,15 @@ use Rattle.commons.specs.declared.refusal.Refusal.TheVariants.{StrangerShare}
 use Rattle.commons.specs.Refusals.{number_of}
 use Rattle.ground.specs.Parting.{less_part, newcomer}
 use Rattle.ground.specs.Seats.{Seated}
+use Rattle.lending.specs.Lending.{GetsLoans, PutsLoans}
+use Rattle.lending.specs.declared.loans.Loans.{Loans}
 use Rattle.stack_lf.specs.Sides.{side_of}
 use Rattle.stack_lf.specs.Tries.{DidOnWords}
 
--- each element of the list is in the hand of the seat, and the list names it once
-abbrev pub InHand : Option Seated → List ℕ → Type 0
-InHand None xs = ⊤
-InHand (Some s) xs = (i : ℕ) → bag xs i ≤ (side_of s).hand i
+-- each element of the list is among the loans, and no two loans are of one
+abbrev pub AreLent : Option Seated → Loans → List ℕ → Type 0
+AreLent None x xs = ⊤
+AreLent (Some s) x xs = (i : ℕ) → bag xs i ≤ bag x.lent i
 
 -- 0, or the number of the refusal
 abbrev pub status_of : Result (Unit {0}) Refusal → ℕ
@@ -28,6 +30,21 @@ abbrev pub CallsIn : (Result (Unit {0}) Refusal → Call) → Option Seated → 
 CallsIn call None status new = (status ≡ number_of StrangerShare) × (new ≡ None)
 CallsIn call (Some s) status new =
     (answer : Result (Unit {0}) Refusal) × (t : Seated) × Did DidOnWords side_of s (call answer) t
+    × (new ≡ Some t) × (status ≡ status_of answer)
+
+-- The seat of a handle got elements and lent them, or was refused, and C has the status of the
+-- answer. Where there is no seat nothing was done, and C has the number of a stranger.
+abbrev pub GetsIn : ℕ → List ℕ → Option Seated → Loans → ℕ → Option Seated → Loans → Type 0
+GetsIn n xs None x status new y = (status ≡ number_of StrangerShare) × (new ≡ None) × (y ≡ x)
+GetsIn n xs (Some s) x status new y =
+    (answer : Result (Unit {0}) Refusal) × (t : Seated) × GetsLoans n (with_list answer xs) s x t y
+    × (new ≡ Some t) × (status ≡ status_of answer)
+
+-- the same of a put of elements that are lent
+abbrev pub PutsIn : List ℕ → Option Seated → Loans → ℕ → Option Seated → Loans → Type 0
+PutsIn xs None x status new y = (status ≡ number_of StrangerShare) × (new ≡ None) × (y ≡ x)
+PutsIn xs (Some s) x status new y =
+    (answer : Result (Unit {0}) Refusal) × (t : Seated) × PutsLoans xs answer s x t y
     × (new ≡ Some t) × (status ≡ status_of answer)
 
 -- the limits of a pool of the bare stack

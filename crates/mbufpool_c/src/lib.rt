@@ -14,6 +14,7 @@ mod marks;
 pub mod opening;
 pub mod packets;
 pub mod seat_handle;
+pub mod seat_with_loans;
 pub mod seats;
 pub mod sent;
 pub mod stack;
