@@ -27,8 +27,8 @@
  *   memory     `out` has room for n of its kind and `list` has n numbers, n > 0 or not. What the
  *              pointers of one call lead to doesn't overlap (two handles are two structs), and is
  *              the call's alone while it runs.
- *   elements   (seats alone) what is put was got by this seat and not put since, each element once
- *              in a list. See mbufpool_seat_put.
+ *   elements   (seats alone) what is put was got from this pool, by any of its seats and in any
+ *              thread, and not put since, each element once in a list. See mbufpool_seat_put.
  *   process    malloc, realloc and free are of one allocator and give blocks aligned as C asks; no
  *              call is made from a signal handler, or in a forked child of a process with threads.
  *
@@ -87,17 +87,19 @@ uint32_t mbufpool_seat_split(struct mbufpool_seat *seat, struct mbufpool_seat *o
 uint32_t mbufpool_seat_get(struct mbufpool_seat *seat, uint32_t *out, size_t n);
 
 /* Puts n elements back: all of them, or none.
- * Each was got by this seat, was not put since, and stands in the list once. */
+ * Each was got from this pool, was not put since, and stands in the list once. Which seat got it
+ * doesn't matter, nor whether that seat is ended by now: one thread may get what another puts. It
+ * passes from thread to thread as a handle does, or by any exchange of theirs that orders memory. */
 uint32_t mbufpool_seat_put(struct mbufpool_seat *seat, const uint32_t *list, size_t n);
 
 /* How many elements the stack's length word counts; 0 where the handle has no seat. While other
  * threads are within calls it may lag behind. To see at the end whether all elements are back: let
  * each seat put what it has got, wait for all threads, and call this by any seat before the seats
- * are ended. What is missing from the population then was not put, or was lost with a seat. */
+ * are ended. What is missing from the population then was not put. */
 uint32_t mbufpool_seat_count(struct mbufpool_seat *seat);
 
-/* Ends a seat; the handle has zeros then. What the seat has got and not put is lost to the pool, so
- * put it first. The pool's memory is freed with its last seat. */
+/* Ends a seat; the handle has zeros then. What the seat has got and not put may still be put, by any
+ * other seat; it is lost to the pool where nobody does. The pool's memory is freed with its last seat. */
 void mbufpool_seat_free(struct mbufpool_seat *seat);
 
 /* ---- the bare stack, checked ---- */
