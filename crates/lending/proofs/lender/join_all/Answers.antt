@@ -21,7 +21,7 @@ loop-k-preserved c =
     let h = c.loop-k.invariant in
     let e = get_or c.args.list.now c.loop-k.k 0 in
     let there = next_there c.args.list.now c.loop-k.k (λ i. bag c.args.loans.now.lent i) (λ i. bag c.loop-k.loans.lent i)
-        c.loop-k-test.true c.requires.lent h.lent.lent in
+    c.loop-k-test.true c.requires.lent h.lent.lent in
     rw (c.join.ensures.1, c.take-lent.ensures.known, c.take-lent.ensures.left, take_more c.args.list.now c.loop-k.k 0 c.loop-k-test.true)
     (record {
       lent = join_one (take c.loop-k.k c.args.list.now) e c.loop-k.loans.limits c.join.ensures.0 c.loop-k.seat c.loop-k.loans c.args.seat.now c.args.loans.now h.lent there;

@@ -54,9 +54,9 @@ loop-k-preserved c =
     let h = c.loop-k.invariant in
     let e = get_or c.args.list.now c.loop-k.k 0 in
     let there = next_there c.args.list.now c.loop-k.k (λ i. bag c.args.seat.now.known.view.hand i)
-        (λ i. bag c.loop-k.seat.known.view.hand i) c.loop-k-test.true c.requires.hand h.lent.hand in
+    (λ i. bag c.loop-k.seat.known.view.hand i) c.loop-k-test.true c.requires.hand h.lent.hand in
     let enough = part_left c.args.list.now c.loop-k.k c.args.seat.now.known.view.part c.loop-k.seat.known.view.part
-        c.loop-k-test.true h.lent.part c.requires.part in
+    c.loop-k-test.true h.lent.part c.requires.part in
     rw (c.lend-lent.ensures.old, c.add.ensures, take_more c.args.list.now c.loop-k.k 0 c.loop-k-test.true)
     (record {
       lent = lend_one (take c.loop-k.k c.args.list.now) e c.args.seat.now c.args.loans.now c.loop-k.seat c.loop-k.loans h.lent there enough;
