@@ -7,11 +7,10 @@ use Rattle.commons.specs.declared.packet.Seg.{Seg}
 use Rattle.commons.proofs.Bags.{bag-nil, bag-cons, bag-append, bag-single, bag-take-le}
 use Rattle.step_core.specs.Bags.{without}
 use Rattle.step_core.proofs.Bags.{times-nil, times-cons, times-without, one_if-cases}
-use Rattle.ground.specs.Own.{AtRest}
 use Rattle.ground.specs.Parting.{both_with, left_by_lending}
 use Rattle.ground.specs.Seats.{Seated}
 use Rattle.lending.specs.declared.loans.Loans.{Loans}
-use Rattle.lending.specs.Lending.{IsSame, IsLent}
+use Rattle.lending.specs.Lending.{IsLent}
 use Rattle.lending.specs.Lent.{loaned}
 
 pub nothing_lent : (s : Seated) (x : Loans) → IsLent [] s x s x
@@ -33,7 +32,7 @@ nothing_lent s x = record {
 }
 
 -- an element that is in a bag is there as often as it is one
-one_of : (xs : List ℕ) (e i : ℕ) → 0 < bag xs e → bag (e ∷ []) i ≤ bag xs i
+pub one_of : (xs : List ℕ) (e i : ℕ) → 0 < bag xs e → bag (e ∷ []) i ≤ bag xs i
 one_of xs e i h =
     let c = times-cons i e [] in
     let n = times-nil i in

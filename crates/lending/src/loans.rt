@@ -97,7 +97,7 @@ impl Loans {
     }
 
     /// Makes a seat that was lent one of the loans.
-    pub(crate) fn add(&mut self, seat: GroundSeat, element: u32)
+    pub fn add(&mut self, seat: GroundSeat, element: u32)
         requires seat { (seat.table ≡ self.old.table) × (seat.known ≡ loaned self.old.limits element) × (seat.slots ≡ []) }
         ensures { self.new ≡ record self.old { lent = element ∷ self.old.lent } }
     {
@@ -114,7 +114,7 @@ impl Loans {
     }
 
     /// Takes the seat of an element's loan.
-    pub(crate) fn take(&mut self, element: u32) -> GroundSeat
+    pub fn take(&mut self, element: u32) -> GroundSeat
         requires { 0 < bag self.old.lent element }
         ensures table { result.table ≡ self.old.table }
         ensures known { result.known ≡ loaned self.old.limits element }

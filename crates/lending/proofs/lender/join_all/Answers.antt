@@ -1,4 +1,4 @@
-use Rattle.std.proofs.Common.{◌≡◌, ℕ, List, ◌∷◌, [], take, get_or, refl, sym, ◌∙◌, ap, subst, arith}
+use Rattle.std.proofs.Common.{ℕ, List, take, get_or, refl, subst}
 use Rattle.std.proofs.lemmas.List.{take_all, take_more}
 use Rattle.commons.specs.Bag.{bag}
 use Rattle.lending.specs.Lending.{IsLent}

@@ -1,7 +1,6 @@
-use Rattle.std.proofs.Common.{◌≡◌, ℕ, ◌+◌, ◌<◌, ◌≤◌, List, ◌∷◌, [], length, take, get_or, sym, ◌∙◌, ap, subst, arith}
+use Rattle.std.proofs.Common.{◌≡◌, ℕ, ◌+◌, ◌<◌, ◌≤◌, List, length, take, get_or, sym, ◌∙◌, ap, subst, arith}
 use Rattle.std.proofs.lemmas.List.{take_all, take_more, length-take-le}
 use Rattle.commons.specs.Bag.{bag}
-use Rattle.ground.specs.Own.{AtRest}
 use Rattle.lending.specs.Lending.{IsLent}
 use Rattle.lending.specs.Lent.{loaned}
 use Rattle.lending.proofs.Moving.{nothing_lent, lend_one, next_there}
