@@ -17,6 +17,7 @@ use std::test::Fail;
 mod carrying;
 mod desks;
 mod left;
+mod passing;
 mod playing;
 mod rows;
 mod threads;
