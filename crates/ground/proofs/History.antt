@@ -16,7 +16,7 @@ use Rattle.step_core.specs.World.{World, Packet, no_desk, desk_at, view_at, empt
 use Rattle.step_core.proofs.Handing.{SlotIs, slot_after}
 use Rattle.step_core.proofs.Theorem.{makes_its_event, changes_little}
 use Rattle.ground.specs.Parting.{less, lending, loan_of, both_views}
-use Rattle.ground.proofs.Lending.{goes_on}
+use Rattle.ground.proofs.Lending.{goes_on, stays_put}
 use Rattle.ground.proofs.TakingOver.{takes_over}
 use Rattle.ground.specs.declared.known.Known.{Known}
 use Rattle.ground.specs.History.{Log, Move, Stepped, Split, Lent, Joined, Leads, Led, HistoriesAreEvents, DesksHaveWhatWasPutIn, put_in_last, log_of, logs_of, notes_of}
@@ -133,7 +133,12 @@ histories_are_events l (Stepped id st o ∷ ms) w logs led =
       λ t r a b. makes_its_event led.0 (suc id) st o w led.2 leads.0 leads.1 t r a b,
       histories_are_events l ms led.0 led.1 led.3,
     )
-histories_are_events l (Split id ∷ ms) w logs led = histories_are_events l ms led.0 led.1 led.3
+histories_are_events l (Split id ∷ ms) w logs led =
+    let leads : Leads (Split id) led.0 led.1 w logs = led.4 in
+    let some : 0 < (view_at led.0.views id).part = (let two = leads.0 in omega arith) in (
+      λ t r a b. stays_put led.0 id some t r a (subst (λ (u : World). Shows u r) leads.1 b),
+      histories_are_events l ms led.0 led.1 led.3,
+    )
 histories_are_events l (Lent id i ∷ ms) w logs led =
     let leads : Leads (Lent id i) led.0 led.1 w logs = led.4 in
     let some : 0 < (view_at led.0.views id).part = (let two = leads.0 in omega arith) in (

@@ -1,18 +1,19 @@
--- An element that is lent goes from hand to hand in the table, and nothing else moves.
+-- An element that is lent goes from hand to hand in the table, and nothing else moves; where a seat is
+-- split, nothing does.
 use Rattle.std.proofs.Common.{◌≡◌, ℕ, zero, suc, ◌<◌, ◌≤◌, List, [], ◌∷◌, ◌++◌, length, set, refl, sym, ap, ◌∙◌, ⊎_elim, arith}
 use Rattle.std.proofs.lemmas.Bool.{cases_lt}
 use Rattle.std.proofs.lemmas.List.{get_or_past, length-set}
 use Rattle.commons.specs.Bag.{bag}
 use Rattle.step_core.specs.declared.view.View.{View}
 use Rattle.step_core.specs.Shows.{standing, Shows}
-use Rattle.step_core.specs.Table.{Table}
-use Rattle.step_core.specs.World.{World, empty_view, view_at, view_of, link_in}
+use Rattle.step_core.specs.Table.{Table, SameTable}
+use Rattle.step_core.specs.World.{World, empty_view, view_at, view_of, link_in, worker_part}
 use Rattle.step_core.proofs.Bags.{times-nil}
 use Rattle.step_core.proofs.Events.{Alike, read_kept, same_at}
 use Rattle.step_core.proofs.Shows.{spells_same, is_in_hand}
 use Rattle.ground.specs.History.{GoesOn}
-use Rattle.ground.specs.Parting.{lending, loan_of}
-use Rattle.ground.proofs.Reviews.{lent_views, lent_elements}
+use Rattle.ground.specs.Parting.{less, lending, loan_of}
+use Rattle.ground.proofs.Reviews.{split_views, lent_views, lent_elements}
 
 -- a view with a part has a place among the views
 pub has_place : (views : List View) (k : ℕ) → 0 < (view_at views k).part → k < length views
@@ -38,6 +39,32 @@ push_kept f views u none (suc m) = at views m
 push_last : (views : List View) (u : View) → view_at (views ++ u ∷ []) (length views) ≡ u
 push_last [] u = refl
 push_last (v ∷ vs) u = push_last vs u
+
+-- a split moves nothing
+module _ (w : World) (k : ℕ) (some : 0 < (view_at w.views k).part) where
+  abbrev parted : World
+  parted = record w { views = split_views w.views k }
+
+  stayed : (f : View → ℕ) → f (less (view_at w.views k)) ≡ f (view_at w.views k) →
+      f (empty_view worker_part) ≡ f (empty_view 0) → (n : ℕ) → f (view_of w.views n) ≡ f (view_of parted.views n)
+  stayed f same none n =
+      sym (push_kept f (set w.views k (less (view_at w.views k))) (empty_view worker_part) none n
+      ∙ read_kept w.views k (less (view_at w.views k)) (has_place w.views k some) f same n)
+
+  pub stays_put : (t r : Table) → Shows w t → Shows parted r → SameTable w.limits.population t r
+  stays_put t r before later j below =
+      same_at w parted t r w.limits.population refl refl before later j below
+      (ap (λ (ys : List ℕ). bag ys j)
+      (spells_same (link_in w.links) w.head.top before.common later.common before.spelled later.spelled))
+      (record {
+        hand =
+            λ n.
+            (let a = stayed (λ v. bag v.hand j) refl refl n in
+            let b = stayed (λ v. bag v.zeros j) refl refl n in
+            omega arith);
+        holder = stayed (λ v. bag v.holds j) refl refl;
+        desk = λ d. refl;
+      })
 
 module _ (w : World) (k i : ℕ) (some : 0 < (view_at w.views k).part) (has : 0 < bag (view_at w.views k).hand i) where
   abbrev after : World

@@ -4,6 +4,7 @@ pub mod Changing
 pub mod Lending
 pub mod TakingOver
 pub mod History
+pub mod Held
 pub mod Ruling
 pub mod Playing
 pub mod Alone

@@ -13,7 +13,7 @@ use Rattle.step_core.specs.Law.{Lawful}
 use Rattle.step_core.specs.Schedules.{slot_at}
 use Rattle.step_core.specs.Shows.{Shows, Happens}
 use Rattle.step_core.specs.Steps.{play, event_of}
-use Rattle.step_core.specs.Table.{Place, Common, Hand, Held, Table, Same, Where}
+use Rattle.step_core.specs.Table.{Place, Common, Hand, Held, Table, Same, SameTable, Where}
 use Rattle.step_core.specs.Handing.{put_by}
 use Rattle.step_core.specs.World.{World, Packet, desk_at, view_at, empty_view, worker_part}
 use Rattle.ground.specs.declared.known.Known.{Known}
@@ -101,16 +101,19 @@ taken_over worker other (Held ws ds) = Held (map (λ w. heir worker other w) ws)
 abbrev pub TakesOver : (n worker other : ℕ) → Table → Table → Type 0
 TakesOver n worker other t r = (j : ℕ) → j < n → Same (taken_over worker other (t j)) (r j)
 
--- Each step of a history is its one event of the table, by its seat's worker, or none; an
--- element that is lent goes from that hand to the new one; and where seats are joined, what the other
--- had is the seat's; whichever tables the worlds before and after are read as.
+-- Each step of a history is its one event of the table, by its seat's worker, or none; where a seat is
+-- split, nothing moves; an element that is lent goes from that hand to the new one; and where seats
+-- are joined, what the other had is the seat's; whichever tables the worlds before and after are read
+-- as.
 abbrev pub AreEvents : (l : Limits) (ms : List Move) (w : World) (logs : List Log) → Led l ms w logs → Type 0
 AreEvents l [] w logs led = ⊤
 AreEvents l (Stepped id step outcome ∷ ms) w logs led =
     ((t r : Table) → Shows led.0 t → Shows w r →
     Happens led.0.limits.population (suc id) (event_of led.0 (suc id) step) t r)
     × AreEvents l ms led.0 led.1 led.3
-AreEvents l (Split id ∷ ms) w logs led = AreEvents l ms led.0 led.1 led.3
+AreEvents l (Split id ∷ ms) w logs led =
+    ((t r : Table) → Shows led.0 t → Shows w r → SameTable led.0.limits.population t r)
+    × AreEvents l ms led.0 led.1 led.3
 AreEvents l (Lent id i ∷ ms) w logs led =
     ((t r : Table) → Shows led.0 t → Shows w r →
     GoesOn led.0.limits.population i (suc id) (suc (length led.0.views)) t r)

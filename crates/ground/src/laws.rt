@@ -1,5 +1,6 @@
 //! Laws of the words of a pool. Each is a function that does nothing, and its contract is the law.
 
+ghost use Rattle.ground.specs.Held.{HeldIsNotGiven};
 ghost use Rattle.ground.specs.History.{DesksHaveWhatWasPutIn, HistoriesAreEvents};
 ghost use Rattle.ground.specs.Operations.{OperationsAreSteps};
 ghost use Rattle.ground.specs.Ruling.{WordsAreLedTo};
@@ -15,6 +16,13 @@ pub fn the_words_are_led_to()
 /// leads from any table that the world before it shows to any that the world after it shows.
 pub fn a_history_is_its_events()
     ensures { HistoriesAreEvents }
+{}
+
+/// No element is given again while a hold of it is left: in such a history, from a claim of an
+/// element until a step ends its last hold, no step gives it to anybody, and whatever table the
+/// worlds on the way show, it is held there.
+pub fn a_held_element_is_not_given()
+    ensures { HeldIsNotGiven }
 {}
 
 /// What is in a desk's slot is the packet that was put in last, by whichever seat, with its
