@@ -4,14 +4,16 @@ use Rattle.std.specs.Prelude.{◌≡◌, ℕ, suc, ◌<◌, true, List, [], ◌�
 use Rattle.commons.specs.Bag.{bag}
 use Rattle.commons.specs.declared.limits.Limits.{Limits}
 use Rattle.step_core.specs.declared.step.Step.{Step}
-use Rattle.step_core.specs.declared.step.Step.TheVariants.{Cut, Claim, Sole, Lower}
+use Rattle.step_core.specs.declared.step.Step.TheVariants.{Cut, Claim, Sole, Lower, PutIn, TakeOut}
 use Rattle.step_core.specs.declared.step.Outcome.{Outcome}
 use Rattle.step_core.specs.declared.step.Outcome.TheVariants.{Value, Got}
 use Rattle.step_core.specs.Headline.{Gets, Puts, IsHeld}
+use Rattle.step_core.specs.Headers.{HeaderLaw}
+use Rattle.step_core.specs.Law.{Lawful}
 use Rattle.step_core.specs.Shows.{Shows}
-use Rattle.step_core.specs.Steps.{event_of}
+use Rattle.step_core.specs.Steps.{event_of, play}
 use Rattle.step_core.specs.Table.{Table}
-use Rattle.step_core.specs.World.{World}
+use Rattle.step_core.specs.World.{World, view_of, desk_at, shelf}
 use Rattle.ground.specs.History.{Log, Move, Stepped, Split, Lent, Joined, Led}
 
 -- a step with this outcome gives the element to a worker: a cut that won, of a list that has it
@@ -62,3 +64,19 @@ HeldIsNotGiven =
     (l : Limits) (since earlier : List Move) (id i : ℕ) (o : Outcome) (w : World) (logs : List Log)
     (led : Led l (since ++ Stepped id (Claim i) o ∷ earlier) w logs) → NoStep (EndsLast i) since →
     IsHeldOver i l since (Stepped id (Claim i) o ∷ earlier) w logs led
+
+-- the step brings a packet into the slot of this desk, or takes it out
+abbrev pub MovesPacket : ℕ → Step → Type 0
+MovesPacket d (PutIn e p) = e ≡ d
+MovesPacket d (TakeOut e) = e ≡ d
+MovesPacket d step = ⊥
+
+-- Between a PutIn and its Open, and between a TakeOut and its Clear, the world is lawful too: no hold
+-- is counted on the desk, and the packet's are its worker's, as they were before.
+abbrev pub PassesLawful : Type 0
+PassesLawful =
+    (w : World) (worker d : ℕ) (s : Step) (o : Outcome) (v : World) → Lawful w → HeaderLaw w →
+    0 < (view_of w.views worker).part → MovesPacket d s → play w worker s ≡ Some (o, v)
+    → Lawful v × HeaderLaw v × (shelf (desk_at v.desks d) ≡ [])
+    × ((view_of v.views worker).holds ≡ (view_of w.views worker).holds)
+    × ((view_of v.views worker).headers ≡ (view_of w.views worker).headers)

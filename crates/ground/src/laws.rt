@@ -1,6 +1,6 @@
 //! Laws of the words of a pool. Each is a function that does nothing, and its contract is the law.
 
-ghost use Rattle.ground.specs.Held.{HeldIsNotGiven};
+ghost use Rattle.ground.specs.Held.{HeldIsNotGiven, PassesLawful};
 ghost use Rattle.ground.specs.History.{DesksHaveWhatWasPutIn, HistoriesAreEvents};
 ghost use Rattle.ground.specs.Operations.{OperationsAreSteps};
 ghost use Rattle.ground.specs.Ruling.{WordsAreLedTo};
@@ -23,6 +23,13 @@ pub fn a_history_is_its_events()
 /// worlds on the way show, it is held there.
 pub fn a_held_element_is_not_given()
     ensures { HeldIsNotGiven }
+{}
+
+/// The two worlds that an operation on a desk's word passes without leaving a word so, between the
+/// `PutIn` and the `Open` and between the `TakeOut` and the `Clear`, are lawful: the packet's holds are
+/// its worker's there, and the desk has none.
+pub fn a_packet_on_its_way_is_its_workers()
+    ensures { PassesLawful }
 {}
 
 /// What is in a desk's slot is the packet that was put in last, by whichever seat, with its
