@@ -357,7 +357,7 @@ module _ (l : Limits) (earlier : List Move) (id i : ℕ) (o : Outcome) where
       let before = lawful_shows led.0 led.2 in
       let events = histories_are_events l (Split k ∷ (since ++ Claimed_at)) w logs led in (
         (λ r b.
-        held_same (before.0 i) (r i) (held before.0 before.1) (events.0 before.0 r before.1 b i (omega arith))),
+            held_same (before.0 i) (r i) (held before.0 before.1) (events.0 before.0 r before.1 b i (omega arith))),
         tt,
         rest,
       )
@@ -369,10 +369,10 @@ module _ (l : Limits) (earlier : List Move) (id i : ℕ) (o : Outcome) where
       let before = lawful_shows led.0 led.2 in
       let events = histories_are_events l (Lent k j ∷ (since ++ Claimed_at)) w logs led in (
         (λ r b.
-        let goes = events.0 before.0 r before.1 b i (omega arith) in
-        pick (j ∷ []) i
-        (λ one. absurd (subst IsHeld (goes.0 one).0 (held before.0 before.1)))
-        (λ other. held_same (before.0 i) (r i) (held before.0 before.1) (goes.1 other))),
+            let goes = events.0 before.0 r before.1 b i (omega arith) in
+            pick (j ∷ []) i
+            (λ one. absurd (subst IsHeld (goes.0 one).0 (held before.0 before.1)))
+            (λ other. held_same (before.0 i) (r i) (held before.0 before.1) (goes.1 other))),
         tt,
         rest,
       )
@@ -384,9 +384,9 @@ module _ (l : Limits) (earlier : List Move) (id i : ℕ) (o : Outcome) where
       let before = lawful_shows led.0 led.2 in
       let events = histories_are_events l (Joined k other ∷ (since ++ Claimed_at)) w logs led in (
         (λ r b.
-        held_same (taken_over (suc k) (suc other) (before.0 i)) (r i)
-        (taken (suc k) (suc other) (before.0 i) (held before.0 before.1))
-        (events.0 before.0 r before.1 b i (omega arith))),
+            held_same (taken_over (suc k) (suc other) (before.0 i)) (r i)
+            (taken (suc k) (suc other) (before.0 i) (held before.0 before.1))
+            (events.0 before.0 r before.1 b i (omega arith))),
         tt,
         rest,
       )

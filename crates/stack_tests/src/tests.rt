@@ -115,7 +115,7 @@ fn each_call_answers_as_its_row_says(rt: HostRuntime) -> Result<(), Fail> {
         let (ground, seat) = Ground::make(rt.alloc(), &row.limits)?;
         let mut c = WordCommons::new(&ground, seat);
         follow(&rt, &mut c, row);
-        c.lose();
+        c.into_seat().lose();
     }
     Ok(())
 }

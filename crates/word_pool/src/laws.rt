@@ -1,7 +1,8 @@
 //! Laws of the workers of a pool, and of their shares and seats. Each is a function that does
 //! nothing, and its contract is the law.
 
-ghost use Rattle.std.specs.Prelude.{List, [], ◌∷◌, ◌++◌, ℕ};
+ghost use Rattle.std.specs.Prelude.{List, [], ◌∷◌, ◌++◌, ◌≤◌, length, ℕ};
+ghost use Rattle.book.specs.Lost.{IsOf as IsWorkerOf};
 ghost use Rattle.commons.specs.declared.closed.Closed.{Closed};
 ghost use Rattle.commons.specs.declared.limits.Limits.{Limits};
 ghost use Rattle.ground.specs.Parting.{both_views};
@@ -13,6 +14,7 @@ ghost use Rattle.snapshot.specs.Closing.{snapshot_of};
 ghost use Rattle.snapshot.specs.Lost.{AreLost};
 ghost use Rattle.step_core.specs.World.{empty_view};
 ghost use Rattle.step_core.specs.declared.view.View.{View};
+ghost use Rattle.word_pool.specs.Lost.{AreLeft, left_of};
 ghost use Rattle.word_pool.specs.LostViews.{AreLostBy, IsLeftWithout};
 ghost use Rattle.word_pool.specs.Shares.{AreSharesOf, side_in};
 ghost use Rattle.word_pool.specs.TwinShares.{AreTwinShares};
@@ -22,6 +24,15 @@ ghost use Rattle.word_pool.specs.Workers.{AllStay, AreWorkers, Manned};
 /// Where each of a pool's workers has stayed, whatever it did, they are all its workers, as before.
 pub fn workers_who_stay_are_all()
     ensures { (g : Grounded) (old new : List Manned) → AreWorkers g old → AllStay old new → AreWorkers g new }
+{}
+
+/// The number of each worker of a pool is one that `pool::lose` takes, and where the worker is lost, the
+/// others are those who are left, or an only one is.
+pub fn a_worker_is_lost_and_the_others_are_left()
+    ensures number { (g : Grounded) (ms : List Manned) (number : ℕ) → AreWorkers g ms → IsWorkerOf g.limits number →
+        (1 ≤ number) × (number ≤ length ms) }
+    ensures left { (g : Grounded) (ms : List Manned) (number : ℕ) → AreWorkers g ms → IsWorkerOf g.limits number →
+        AreLeft g (number ∷ []) (left_of number ms) }
 {}
 
 /// Where each of the workers of two pools has stayed, whatever it did, they are all their workers, as

@@ -3,7 +3,6 @@
 ghost use Rattle.std.specs.Prelude.{◌≡◌, ◌+◌, ◌<◌, ◌≤◌, ◌++◌, ◌∷◌, [], All, List, IfOk, IfErr, length, vec_len, vec_capacity, ◌*◌};
 ghost use Rattle.book.specs.Left.{IsLeftWhole};
 ghost use Rattle.book.specs.Listing.{ListsPackets};
-ghost use Rattle.book.specs.Lost.{IsOf as IsWorkerOf};
 ghost use Rattle.commons.specs.Bounds.{IsPool};
 ghost use Rattle.ground.specs.Changing.{IsUnmoved};
 ghost use Rattle.ground.specs.Opening.{IsGroundCause};
@@ -202,14 +201,14 @@ pub fn settled(
 }
 
 /// Ends the worker of this number, as one who died: its seat, its cache and its packets are lost.
-/// An only worker stays, since its seat has to close the ground.
-pub fn lose(ground: &Ground, workers: &mut Vec<WordWorker>, number: u32)
-    requires all { AreWorkers ground.now workers.old.items }
-    requires worker { IsWorkerOf ground.now.limits number }
-    ensures rest { workers.new.items ≡ left_of number workers.old.items }
-    ensures left { AreLeft ground.now (number ∷ []) workers.new.items }
+/// An only worker stays, since its seat has to close the ground. The call is given no ground, so it
+/// does nothing to one: the dead worker acts no more, and what it had stays where it is. The others
+/// are those who are left (law `a_worker_is_lost_and_the_others_are_left`).
+pub fn lose(workers: &mut Vec<WordWorker>, number: u32)
+    requires first { 1 ≤ number }
+    requires last { number ≤ length workers.old.items }
+    ensures { workers.new.items ≡ left_of number workers.old.items }
 {
-    let _known = ground;
     if workers.len() != 1 {
         let _lost = workers.remove(number as usize - 1);
     }
