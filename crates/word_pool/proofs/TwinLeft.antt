@@ -28,7 +28,7 @@ use Rattle.book.proofs.Spelled.{lawful}
 use Rattle.book.proofs.TwinGuests.{guests_are_bases, guests_of_workers, local_holds, sum_both, sum_same}
 use Rattle.word_pool.specs.TwinShares.{AreFirstShares, AreSecondShares, AreTwinShares}
 use Rattle.word_pool.specs.TwinWorkers.{TwinManned, AreStatementsOfTwins}
-use Rattle.word_pool.specs.inside.Closing.{IsLeftAtRest}
+use Rattle.word_pool.specs.Leaving.{IsLeftAtRest}
 use Rattle.word_pool.specs.inside.TwinCrews.{AreTwinsClosed}
 use Rattle.word_pool.proofs.OneView.{common, words_show}
 use Rattle.word_pool.proofs.TwinJoins.{count_of_twins}

@@ -25,10 +25,9 @@ use Rattle.snapshot.proofs.Times.{held-is}
 use Rattle.book.specs.Left.{IsLawfulByTypes, IsLeftWhole}
 use Rattle.book.proofs.Spelled.{lawful}
 use Rattle.step_core.specs.declared.view.View.{View}
-use Rattle.word_pool.specs.Leaving.{statement_at_start}
+use Rattle.word_pool.specs.Leaving.{IsLeftAtRest, statement_at_start}
 use Rattle.word_pool.specs.Shares.{AreSharesOf}
 use Rattle.word_pool.specs.Workers.{Manned, IsStatementOfWorkers, members_of}
-use Rattle.word_pool.specs.inside.Closing.{IsLeftAtRest}
 use Rattle.word_pool.specs.inside.Joins.{AreClosed}
 use Rattle.word_pool.proofs.OneView.{common, held_few, words_show}
 use Rattle.step_core.specs.World.{every_part}
