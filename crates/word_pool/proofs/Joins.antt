@@ -55,7 +55,7 @@ last_joined g all left m s p handed each e idle seat packets shares =
     })
 
 -- two seats that have taken no step are one that hasn't
-both_unmoved : (n o : Known) (lying : Option (List (Option (List Seg)))) → IsUnmoved n → IsUnmoved o →
+pub both_unmoved : (n o : Known) (lying : Option (List (Option (List Seg)))) → IsUnmoved n → IsUnmoved o →
     IsUnmoved (both_with n o lying)
 both_unmoved n o lying a b = record {
   steps = a.steps;
@@ -63,7 +63,7 @@ both_unmoved n o lying a b = record {
 }
 
 -- two seats that are joined note what both did, in their order
-both_notes : (n o : Known) (lying : Option (List (Option (List Seg)))) (notes : List Note) → o.steps ++ o.joined ≡ notes →
+pub both_notes : (n o : Known) (lying : Option (List (Option (List Seg)))) (notes : List Note) → o.steps ++ o.joined ≡ notes →
     (both_with n o lying).steps ++ (both_with n o lying).joined ≡ (n.steps ++ n.joined) ++ notes
 both_notes n o lying notes same =
     sym (append_assoc n.steps n.joined (o.steps ++ o.joined))

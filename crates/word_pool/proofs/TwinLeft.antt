@@ -27,7 +27,9 @@ use Rattle.book.specs.Left.{AreLeftWhole, IsLawfulByTypes, first_of, second_of}
 use Rattle.book.proofs.Spelled.{lawful}
 use Rattle.book.proofs.TwinGuests.{guests_are_bases, guests_of_workers, local_holds, sum_both, sum_same}
 use Rattle.word_pool.specs.TwinShares.{AreFirstShares, AreSecondShares, AreTwinShares}
-use Rattle.word_pool.specs.TwinWorkers.{TwinManned, AreStatementsOfTwins}
+use Rattle.word_pool.specs.TwinWorkers.{TwinManned, AreStatementsOfTwins, first_crew, second_crew}
+use Rattle.word_pool.specs.Workers.{Manned}
+use Rattle.ground.specs.Changing.{IsFresh, IsUnmoved, closed_at_start}
 use Rattle.word_pool.specs.Leaving.{IsLeftAtRest}
 use Rattle.word_pool.specs.inside.TwinCrews.{AreTwinsClosed}
 use Rattle.word_pool.proofs.OneView.{common, words_show}
@@ -103,22 +105,32 @@ module _ (l : Limits) (c : Closed) (v : View) (members : List TwinMember) (h : I
       (λ i. omega (arith, sum_by-map (λ (m : Member). own_in m.table i) (λ (m : TwinMember). m.second) members, are.headers i))
       numbers (guests_of_workers l.workers 1 [] (omega arith) (omega arith) refl))
 
+abbrev first_of_crew : TwinManned → Manned
+first_of_crew m = record { seat = m.first; member = m.member.first }
+
+abbrev second_of_crew : TwinManned → Manned
+second_of_crew m = record { seat = m.second; member = m.member.second }
+
 -- ---- of the workers of two grounds that were closed, each by the one seat of theirs
 
 module _ (g h : Grounded) (ms : List TwinManned) (s u : Seated) (c : ClosedTwin) (are : AreTwinsClosed g h ms s u c) where
   first_parts : s.known.view.part ≡ every_part g.limits
-  first_parts = are.first_whole.part ∙ ap (λ (n : ℕ). n * worker_part) (count_of_twins g h ms are.all)
+  first_parts =
+      are.first_whole.made.part
+      ∙ ap (λ (n : ℕ). n * worker_part) (length-map ms (λ (m : TwinManned). first_of_crew m) ∙ count_of_twins g h ms are.all)
 
   second_parts : u.known.view.part ≡ every_part h.limits
   second_parts =
-      are.second_whole.part
-      ∙ ap (λ (n : ℕ). n * worker_part) (count_of_twins g h ms are.all ∙ sym are.all.pools.twins.workers)
+      are.second_whole.made.part
+      ∙ ap (λ (n : ℕ). n * worker_part)
+      (length-map ms (λ (m : TwinManned). second_of_crew m) ∙ count_of_twins g h ms are.all
+      ∙ sym are.all.pools.twins.workers)
 
   first_at_rest : IsLeftAtRest g.limits c.first s.known.view
-  first_at_rest = record { left = are.first.left; whole = first_parts; rest = are.first_whole.rest }
+  first_at_rest = record { left = are.first.left; whole = first_parts; rest = are.first_whole.made.rest }
 
   second_at_rest : IsLeftAtRest h.limits c.second u.known.view
-  second_at_rest = record { left = are.second.left; whole = second_parts; rest = are.second_whole.rest }
+  second_at_rest = record { left = are.second.left; whole = second_parts; rest = are.second_whole.made.rest }
 
   first_numbers : AreNumbered g.limits.workers (firsts c.shares.items)
   first_numbers = rw are.same are.all.first_numbers
@@ -153,12 +165,16 @@ module _ (g h : Grounded) (ms : List TwinManned) (s u : Seated) (c : ClosedTwin)
       ListsItsElements second_snapshot (statement_in second_snapshot) →
       AreStatementsOfTwins g h ms (statement_in first_snapshot, statement_in second_snapshot)
   statements_of_twins = rw (are.first.limits, are.second.limits, are.same) (λ once again. record {
-    first_view = s.known.view;
-    second_view = u.known.view;
+    first_known = s.known;
+    second_known = u.known;
+    first_seat = are.first_whole.made;
+    second_seat = are.second_whole.made;
+    first_limits = are.first_whole.of.limits;
+    second_limits = are.second_whole.of.limits;
     first_whole = first_parts;
     second_whole = second_parts;
-    first_rest = are.first_whole.rest;
-    second_rest = are.second_whole.rest;
+    first_desks = are.first_desks;
+    second_desks = are.second_desks;
     idle = are.idle;
     shares = subst (λ (xs : List TwinMember). AreTwinShares xs s.known.view u.known.view) are.same are.shares;
     statements = record {
@@ -166,9 +182,27 @@ module _ (g h : Grounded) (ms : List TwinManned) (s u : Seated) (c : ClosedTwin)
       second = c.second;
       first_left = are.first.left;
       second_left = are.second.left;
+      first_desks = are.first.desks;
+      second_desks = are.second.desks;
+      first_start = are.first.start;
+      second_start = are.second.start;
       first_same = refl;
       second_same = refl;
       first_once = once;
       second_once = again;
     };
   })
+
+  -- where neither seat of theirs has taken a step, both left what they began with
+  pub twins_fresh : IsUnmoved s.known → IsUnmoved u.known →
+      (c.first ≡ closed_at_start g.limits) × (c.second ≡ closed_at_start h.limits)
+  twins_fresh one two =
+      let first : IsFresh s.known = record {
+        whole = first_parts ∙ ap (λ (l : Limits). every_part l) (sym are.first_whole.of.limits);
+        unmoved = one;
+      } in
+      let second : IsFresh u.known = record {
+        whole = second_parts ∙ ap (λ (l : Limits). every_part l) (sym are.second_whole.of.limits);
+        unmoved = two;
+      } in
+      (are.first.start first, are.second.start second)

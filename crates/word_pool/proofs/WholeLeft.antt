@@ -89,6 +89,7 @@ module _ (g : Grounded) (ms : List Manned) (n : Known) (l : Limits) (c : Closed)
     seat = are.seat;
     limits = are.limits;
     whole = are.whole;
+    desks = are.desks;
     idle = are.idle;
     shares = own_shares;
     statement = record {

@@ -5,7 +5,7 @@ use Rattle.commons.specs.Calls.{Calls}
 use Rattle.commons.specs.declared.limits.Limits.{Limits}
 use Rattle.commons.specs.Packets.{held_in}
 use Rattle.ground.specs.Changing.{IsUnmoved}
-use Rattle.ground.specs.Own.{AtRest}
+use Rattle.ground.specs.Own.{AtRest, KnowsDesks}
 use Rattle.ground.specs.Seats.{Grounded, Seated, IsOf}
 use Rattle.ground.specs.declared.known.Known.{Known}
 use Rattle.mbuf.specs.declared.acts.Act.{Act}
@@ -102,6 +102,8 @@ pub record IsStatementOfWorkers (g : Grounded) (ms : List Manned) (s : Statement
   pub seat : IsSeatOf ms known
   pub limits : known.limits ≡ g.limits
   pub whole : known.view.part ≡ every_part g.limits
+  -- it knows what lies on the desks, and that lay there (`desks` of the statement)
+  pub desks : KnowsDesks known
   -- each worker was between its acts: its packets were its own
   pub idle : All IsIdle ms
   pub shares : AreSharesOf (members_of ms) known.view

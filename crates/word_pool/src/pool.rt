@@ -6,7 +6,7 @@ ghost use Rattle.book.specs.Listing.{ListsPackets};
 ghost use Rattle.commons.specs.Bounds.{IsPool};
 ghost use Rattle.ground.specs.Changing.{IsUnmoved};
 ghost use Rattle.ground.specs.Opening.{IsGroundCause};
-ghost use Rattle.ground.specs.Own.{AtRest};
+ghost use Rattle.ground.specs.Own.{AtRest, KnowsDesks};
 ghost use Rattle.ground.specs.Rule.{first_known};
 ghost use Rattle.ground.specs.Seats.{IsOf};
 ghost use Rattle.pool_model.specs.Statements.{ListsEachOnce, PlacesEachOnce};
@@ -153,6 +153,7 @@ pub fn close(
     requires { AreWorkers ground workers.items }
     ensures limits { IfOk result (λ left. left.0 ≡ ground.limits) }
     ensures whole { IfOk result (λ left. IsLeftWhole left.0 left.1 left.2.items) }
+    ensures shares { IfOk result (λ left. left.2.items ≡ members_of workers.items) }
     ensures statement { IfOk result (λ left.
         IsStatementOfWorkers ground workers.items (statement_in (snapshot_of left.0 left.1 left.2.items))) }
     ensures fresh { All HasNotActed workers.items → IfOk result (λ left.
@@ -264,6 +265,7 @@ fn joined(
     ensures members { result.1.items ≡ members_of workers.items }
     ensures shares { AreSharesOf result.1.items result.0.known.view }
     ensures unmoved { All HasNotActed workers.items → IsUnmoved result.0.known }
+    ensures desks { KnowsDesks result.0.known }
 {
     let Some(last) = workers.pop() else {
         unreachable!()
@@ -277,6 +279,7 @@ fn joined(
         add_share(&mut shares, packets);
     }
     shares.reverse();
+    seat.knows_desks();
     (seat, shares)
 }
 

@@ -3,7 +3,7 @@ use Rattle.std.specs.Prelude.{◌≡◌, ◌++◌, List, [], All, length, revers
 use Rattle.commons.specs.declared.closed.Closed.{Closed}
 use Rattle.commons.specs.declared.limits.Limits.{Limits}
 use Rattle.ground.specs.Changing.{IsUnmoved}
-use Rattle.ground.specs.Own.{AtRest}
+use Rattle.ground.specs.Own.{AtRest, KnowsDesks}
 use Rattle.ground.specs.Seats.{Grounded, Seated, IsOf}
 use Rattle.ground.specs.declared.known.Known.{Known}
 use Rattle.mbuf.specs.Members.{Member}
@@ -37,6 +37,7 @@ pub record AreClosed (g : Grounded) (ms : List Manned) (n : Known) (l : Limits) 
   pub seat : IsSeatOf ms n
   pub limits : n.limits ≡ g.limits
   pub whole : n.view.part ≡ every_part g.limits
+  pub desks : KnowsDesks n
   pub idle : All IsIdle ms
   pub same : handed ≡ members_of ms
   pub shares : AreSharesOf handed n.view

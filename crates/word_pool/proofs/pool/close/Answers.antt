@@ -16,6 +16,7 @@ closed c = record {
   seat = c.joined-seat.ensures.made;
   limits = c.joined-seat.ensures.of.limits;
   whole = c.joined-seat.ensures.part ∙ ap (λ (n : ℕ). n * worker_part) (count_of_workers c.args.ground c.args.workers.items c.requires);
+  desks = c.joined-seat.ensures.desks;
   idle = c.joined-seat.ensures.idle;
   same = c.joined-seat.ensures.members;
   shares = c.joined-seat.ensures.shares;
