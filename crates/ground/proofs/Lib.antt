@@ -5,6 +5,7 @@ pub mod Lending
 pub mod TakingOver
 pub mod History
 pub mod Held
+pub mod Lying
 pub mod Passing
 pub mod Ruling
 pub mod Playing

@@ -3,6 +3,7 @@ pub mod Own
 pub mod Changing
 pub mod History
 pub mod Held
+pub mod Lying
 pub mod Seats
 pub mod DeskSeats
 pub mod StackRule

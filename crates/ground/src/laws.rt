@@ -2,6 +2,7 @@
 
 ghost use Rattle.ground.specs.Held.{HeldIsNotGiven, PassesLawful};
 ghost use Rattle.ground.specs.History.{DesksHaveWhatWasPutIn, HistoriesAreEvents};
+ghost use Rattle.ground.specs.Lying.{NotesTellOfDesks};
 ghost use Rattle.ground.specs.Operations.{OperationsAreSteps};
 ghost use Rattle.ground.specs.Ruling.{WordsAreLedTo};
 
@@ -36,6 +37,12 @@ pub fn a_packet_on_its_way_is_its_workers()
 /// lengths. So what a seizure notes is the packet with which the desk was opened last.
 pub fn a_desk_has_what_was_put_in()
     ensures { DesksHaveWhatWasPutIn }
+{}
+
+/// What lies on a desk is what the notes of all seats leave there: of the packets with which it was
+/// opened, those that weren't seized from it.
+pub fn desks_have_what_the_notes_leave()
+    ensures { NotesTellOfDesks }
 {}
 
 /// Each operation of a call on a word is a step of the machine by the seat's worker, whatever the
