@@ -20,13 +20,15 @@ use Rattle.step_core.specs.Headers.{HeaderLaw}
 use Rattle.step_core.proofs.Bags.{times-head, times-nil}
 use Rattle.ground.specs.declared.known.Known.{Known}
 use Rattle.ground.specs.Changing.{IsFresh, closed_at_start}
+use Rattle.ground.specs.Lying.{LieByNotes}
+use Rattle.ground.proofs.Lying.{lie_by_notes}
 use Rattle.ground.specs.Closing.{Nothing, LeftOf, IsKept, kept_on, packet_on, lying_on}
 use Rattle.ground.specs.Layout.{pack, unpack, lines, words_with, word_on, rows_of, words_of, length_word, links_at}
 use Rattle.ground.specs.Rule.{Slot, Ruled, home_by, home_of}
 use Rattle.ground.proofs.Alone.{others_idle}
 use Rattle.ground.proofs.Playing.{unpack_pack}
 use Rattle.ground.proofs.Opens.{none_lie}
-use Rattle.ground.proofs.Sitting.{law_of, there, is, all_unmoved}
+use Rattle.ground.proofs.Sitting.{law_of, there, is, all_unmoved, others_out}
 
 pub take_front : (xs ys : List ℕ) (n : ℕ) → length xs ≡ n → take n (xs ++ ys) ≡ xs
 take_front [] ys zero e = refl
@@ -259,11 +261,12 @@ left_at_start l v c left same =
     let desks = left.desks ∙ (ap (λ (w : World). lying_on w.desks) same ∙ sym (none_lie l.desks)) in
     λ i. record { top = top i; length = size i; links = links i; counts = counts i; desks = desks i }
 
--- what is left is of a lawful world, has the packets that the seat knew of, and is that of the
--- start where nobody did anything
+-- what is left is of a lawful world, has the packets that the seat knew of, is that of the start
+-- where nobody did anything, and of the only seat has on the desks what that seat's notes leave there
 abbrev pub Closes : Limits → View → Known → Closed → Type 0
 Closes l v n c =
     LeftOf l v c × IfSome n.lying (λ ds. c.desks ≡ ds) × (IsFresh n → c ≡ closed_at_start l)
+    × (n.view.part ≡ every_part l → LieByNotes (n.steps ++ n.joined) c.desks)
 
 -- what is left, by the words that were read
 pub closes : (key l : Limits) → key ≡ l → (v : View) (id : ℕ) (n : Known) → n.view ≡ v →
@@ -332,4 +335,9 @@ closes
           let same_world : w ≡ record (opening l) { views = w.views } =
           r.opened (all_unmoved l f.0 r id n f.1.1 busy fresh) in
           left_at_start l v c left same_world,
+      λ whole.
+          let every = whole ∙ sym (ap (λ (k : Limits). every_part k) r.limits) in
+          subst (λ (ds : List Slot). LieByNotes (n.steps ++ n.joined) ds) (sym left.desks)
+          (lie_by_notes l r.history w f.0.views r.led id n f.1.1
+          (λ j o ne e. r.idle j o e (others_out l f.0 r id n f.1.1 every j o ne e))),
     )

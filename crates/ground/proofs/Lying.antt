@@ -26,8 +26,10 @@ use Rattle.step_core.proofs.Rows.{when_played, given_played}
 use Rattle.step_core.proofs.Rules.{FourLaws}
 use Rattle.step_core.proofs.Theorem.{play_is, played_row}
 use Rattle.ground.specs.Closing.{lying_on, packet_on}
-use Rattle.ground.specs.History.{Log, Move, Stepped, Split, Lent, Joined, Leads, Led, notes_of}
-use Rattle.ground.specs.Lying.{opened_by, seized_by, opened_in, seized_in, count_on, notes_in, NotesTellOfDesks}
+use Rattle.ground.specs.History.{Log, Move, Stepped, Split, Lent, Joined, Leads, Led, log_of, logs_of, notes_of}
+use Rattle.ground.specs.Changing.{IsUnmoved}
+use Rattle.ground.specs.declared.known.Known.{Known}
+use Rattle.ground.specs.Lying.{opened_by, seized_by, opened_in, seized_in, count_on, notes_in, LieByNotes, NotesTellOfDesks}
 use Rattle.ground.specs.Seats.{on_desk}
 
 -- a desk that isn't full has no packet, and a full one has that of its slot
@@ -381,3 +383,44 @@ notes_tell_of_desks l ms w logs led d f =
     let told = logs_tell d f l ms w logs led in
     let there = ap (count_on f) (on_each w.desks d) in
     omega (arith, all_opened d f logs, all_seized d f logs)
+
+-- where no other seat has noted anything, the notes of this one are all
+module _ (g : Log → ℕ) (nothing : g ([], []) ≡ 0) where
+  none_noted : (o : Known) → IsUnmoved o → g (log_of o) ≡ 0
+  none_noted o h = ap g (λ i. (h.steps i, h.joined i)) ∙ nothing
+
+  log_alone : (ns : List Known) (id : ℕ) (n : Known) → get_elem? ns id ≡ some n →
+      ((j : ℕ) (o : Known) → j ≢ id → get_elem? ns j ≡ some o → IsUnmoved o) →
+      sum_by g (logs_of ns) ≡ g (log_of n)
+  log_alone [] id n at others = absurd (some-ne-none n (sym at))
+  log_alone (x ∷ xs) zero n at others =
+      let same = ap (λ (k : Known). g (log_of k)) (some-injective x n at) in
+      let rest = none_of xs (λ j o e. others (suc j) o (λ z. absurd (omega arith)) e) in
+      omega (arith, sum_by-cons g (log_of x) (logs_of xs))
+    where
+      none_of : (ys : List Known) → ((j : ℕ) (o : Known) → get_elem? ys j ≡ some o → IsUnmoved o) →
+          sum_by g (logs_of ys) ≡ 0
+      none_of [] h = refl
+      none_of (y ∷ ys) h =
+          let a = none_noted y (h 0 y refl) in
+          let b = none_of ys (λ j o e. h (suc j) o e) in
+          omega (arith, sum_by-cons g (log_of y) (logs_of ys))
+  log_alone (x ∷ xs) (suc id) n at others =
+      let a = none_noted x (others 0 x (λ z. absurd (omega arith)) refl) in
+      let b = log_alone xs id n at (λ j o ne e. others (suc j) o (λ z. ne (omega arith)) e) in
+      omega (arith, sum_by-cons g (log_of x) (logs_of xs))
+
+pub lie_by_notes : (l : Limits) (ms : List Move) (w : World) (ns : List Known) → Led l ms w (logs_of ns) →
+    (id : ℕ) (n : Known) → get_elem? ns id ≡ some n →
+    ((j : ℕ) (o : Known) → j ≢ id → get_elem? ns j ≡ some o → IsUnmoved o) →
+    LieByNotes (n.steps ++ n.joined) (lying_on w.desks)
+lie_by_notes l ms w ns led id n at others d f =
+    let told = logs_tell d f l ms w (logs_of ns) led in
+    let there = ap (count_on f) (on_each w.desks d) in
+    omega (
+      arith,
+      log_alone (opened_log d f) refl ns id n at others,
+      log_alone (seized_log d f) refl ns id n at others,
+      sum_by-append (opened_note d f) n.steps n.joined,
+      sum_by-append (seized_note d f) n.steps n.joined,
+    )

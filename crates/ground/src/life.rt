@@ -1,17 +1,18 @@
 //! The life of a ground: it is made with one seat, seats are split and joined, and it is closed
 //! with one.
 
-ghost use Rattle.std.specs.Prelude.{◌≡◌, ◌*◌, ◌<◌, ◌≤◌, [], IfOk, IfErr, IfSome};
+ghost use Rattle.std.specs.Prelude.{◌≡◌, ◌*◌, ◌<◌, ◌≤◌, ◌++◌, [], IfOk, IfErr, IfSome};
 ghost use Rattle.commons.specs.Bag.{bag};
 ghost use Rattle.commons.specs.Bounds.{IsPool};
 ghost use Rattle.ground.specs.Changing.{IsFresh, closed_at_start};
 ghost use Rattle.ground.specs.Closing.{LeftOf};
+ghost use Rattle.ground.specs.Lying.{LieByNotes};
 ghost use Rattle.ground.specs.Opening.{IsGroundCause};
 ghost use Rattle.ground.specs.Own.{Owned, AtRest, KnowsDesks};
 ghost use Rattle.ground.specs.Parting.{less_part, newcomer, left_by_lending, lent_part, IsBoth, AreBoth};
 ghost use Rattle.ground.specs.Rule.{first_known};
 ghost use Rattle.ground.specs.Seats.{IsOf};
-ghost use Rattle.step_core.specs.World.{worker_part};
+ghost use Rattle.step_core.specs.World.{every_part, worker_part};
 
 use crate::head::head_of;
 use crate::known::Known;
@@ -125,8 +126,9 @@ impl Ground {
     /// list, and each element's link and count, and the packets of the full desks. They are those
     /// of a lawful world in which this seat's view is a worker's. Where the seat has every part,
     /// all that is neither in the common list nor on a full desk is what this seat names, and the
-    /// packets are those that it knows to lie there. Where nobody has done anything, it is what the
-    /// ground was made with.
+    /// packets are those that it knows to lie there, and those with which a desk was opened, by its
+    /// notes and those that were joined to it, and that weren't seized. Where nobody has done anything,
+    /// it is what the ground was made with.
     ///
     /// Refused `OutOfMemory` where memory was refused. Ground and seat come back then, as they
     /// were.
@@ -134,7 +136,9 @@ impl Ground {
         requires { IsOf self seat }
         ensures closed { IfOk result (LeftOf self.limits seat.known.view) }
         ensures desks { IfOk result (λ closed. IfSome seat.known.lying (λ desks. closed.desks ≡ desks)) }
-        ensures fresh { IfOk result (λ closed. IsFresh seat.known → closed ≡ closed_at_start self.limits) }
+        ensures noted { IfOk result (λ closed. seat.known.view.part ≡ every_part self.limits →
+        LieByNotes (seat.known.steps ++ seat.known.joined) closed.desks) }
+    ensures fresh { IfOk result (λ closed. IsFresh seat.known → closed ≡ closed_at_start self.limits) }
         ensures memory { IfErr result (λ refused. refused.0 ≡ Refusal.OutOfMemory) }
         ensures back { IfErr result (λ refused. (refused.1 ≡ self) × (refused.2 ≡ seat)) }
     {
