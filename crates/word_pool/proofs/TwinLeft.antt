@@ -15,7 +15,8 @@ use Rattle.mbuf.specs.Members.{Member}
 use Rattle.mbuf.specs.Twins.{TwinMember}
 use Rattle.pool_model.specs.Guests.{guests_by, local_table}
 use Rattle.pool_model.proofs.Listed.{sum_by-map}
-use Rattle.ground.specs.Seats.{Grounded, Seated}
+use Rattle.ground.specs.Lying.{LieByNotes}
+use Rattle.ground.specs.Seats.{Grounded, Note, Seated}
 use Rattle.step_core.specs.declared.view.View.{View}
 use Rattle.snapshot.specs.Closing.{share_of}
 use Rattle.snapshot.specs.declared.snapshot.ShareData.{ShareData}
@@ -191,6 +192,12 @@ module _ (g h : Grounded) (ms : List TwinManned) (s u : Seated) (c : ClosedTwin)
       first_once = once;
       second_once = again;
     };
+    first_lying =
+        subst (λ (notes : List Note). LieByNotes notes c.first.desks) are.first_whole.made.notes
+        (are.first.noted first_parts);
+    second_lying =
+        subst (λ (notes : List Note). LieByNotes notes c.second.desks) are.second_whole.made.notes
+        (are.second.noted second_parts);
   })
 
   -- where neither seat of theirs has taken a step, both left what they began with

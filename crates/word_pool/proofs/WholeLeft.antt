@@ -9,7 +9,8 @@ use Rattle.commons.specs.Packets.{held_in, own_in}
 use Rattle.commons.specs.declared.closed.Closed.{Closed}
 use Rattle.commons.specs.declared.limits.Limits.{Limits}
 use Rattle.ground.specs.Changing.{IsFresh, IsUnmoved}
-use Rattle.ground.specs.Seats.{Grounded}
+use Rattle.ground.specs.Lying.{LieByNotes}
+use Rattle.ground.specs.Seats.{Grounded, Note}
 use Rattle.ground.specs.declared.known.Known.{Known}
 use Rattle.mbuf.specs.Members.{Member}
 use Rattle.pool_model.specs.declared.guest.Guest.{Guest}
@@ -99,6 +100,7 @@ module _ (g : Grounded) (ms : List Manned) (n : Known) (l : Limits) (c : Closed)
       start = are.closed.start;
       same = refl;
     };
+    lying = subst (λ (notes : List Note). LieByNotes notes c.desks) are.seat.notes (are.closed.noted are.whole);
   })
 
   -- where no seat of theirs has taken a step, that of the start

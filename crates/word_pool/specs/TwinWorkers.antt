@@ -20,7 +20,8 @@ use Rattle.twin_acts.specs.TwinActs.{AreFreshByAct, KeepsTwin, PerformsTwin, Twi
 use Rattle.twin_acts.specs.declared.acts.TwinAct.{TwinAct}
 use Rattle.word_pool.specs.TwinShares.{AreStatementsOf, AreTwinShares}
 use Rattle.ground.specs.declared.known.Known.{Known}
-use Rattle.word_pool.specs.Workers.{Manned, IsSeatOf}
+use Rattle.ground.specs.Lying.{LieByNotes}
+use Rattle.word_pool.specs.Workers.{Manned, IsSeatOf, notes_by}
 use Rattle.step_core.specs.World.{worker_part, every_part}
 
 -- a worker: its seat at the ground of either pool, and what it has of both
@@ -127,3 +128,6 @@ pub record AreStatementsOfTwins (g h : Grounded) (ms : List TwinManned) (s : Sta
   pub idle : All IsTwinIdle ms
   pub shares : AreTwinShares (twins_of ms) first_known.view second_known.view
   pub statements : AreStatementsOf g.limits h.limits first_known second_known (twins_of ms) s
+  -- on the desks lay what these workers' notes leave there
+  pub first_lying : LieByNotes (notes_by (first_crew ms)) statements.first.desks
+  pub second_lying : LieByNotes (notes_by (second_crew ms)) statements.second.desks

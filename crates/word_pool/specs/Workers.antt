@@ -5,8 +5,9 @@ use Rattle.commons.specs.Calls.{Calls}
 use Rattle.commons.specs.declared.limits.Limits.{Limits}
 use Rattle.commons.specs.Packets.{held_in}
 use Rattle.ground.specs.Changing.{IsUnmoved}
+use Rattle.ground.specs.Lying.{LieByNotes}
 use Rattle.ground.specs.Own.{AtRest, KnowsDesks}
-use Rattle.ground.specs.Seats.{Grounded, Seated, IsOf}
+use Rattle.ground.specs.Seats.{Grounded, Note, Seated, IsOf}
 use Rattle.ground.specs.declared.known.Known.{Known}
 use Rattle.mbuf.specs.declared.acts.Act.{Act}
 use Rattle.mbuf.specs.Acts.{Performs, Reply}
@@ -81,6 +82,10 @@ pub record AreNew (l : Limits) (ms : List Manned) : Type 0 where
   pub views : All (λ m. m.seat.known.view ≡ empty_view worker_part) ms
   pub unmoved : All HasNotActed ms
 
+-- the steps that the seats of these workers noted, and those of the seats that were joined to them
+abbrev pub notes_by : List Manned → List Note
+notes_by ms = flat_map (λ m. m.seat.known.steps ++ m.seat.known.joined) ms
+
 -- What the one seat knows that the seats of all these workers were joined to, in their order.
 pub record IsSeatOf (ms : List Manned) (n : Known) : Type 0 where
   -- it has the part of each
@@ -91,7 +96,7 @@ pub record IsSeatOf (ms : List Manned) (n : Known) : Type 0 where
   pub headers : n.view.headers ≡ flat_map (λ m. m.seat.known.view.headers) ms
   -- the steps that it noted, and those of the seats that were joined to it, are theirs, and no
   -- other
-  pub notes : n.steps ++ n.joined ≡ flat_map (λ m. m.seat.known.steps ++ m.seat.known.joined) ms
+  pub notes : n.steps ++ n.joined ≡ notes_by ms
   -- it is between calls
   pub rest : AtRest n.view
 
@@ -108,3 +113,6 @@ pub record IsStatementOfWorkers (g : Grounded) (ms : List Manned) (s : Statement
   pub idle : All IsIdle ms
   pub shares : AreSharesOf (members_of ms) known.view
   pub statement : IsStatementOf g.limits known (members_of ms) s
+  -- on the desks lay what these workers' notes leave there: of the packets with which they opened a
+  -- desk, those that none of them seized
+  pub lying : LieByNotes (notes_by ms) statement.closed.desks
