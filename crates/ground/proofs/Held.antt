@@ -1,34 +1,32 @@
 -- What is held is given to nobody, over a history.
-use Rattle.std.proofs.Common.{◌≡◌, ◌≢◌, ◌⊎◌, inl, inr, ℕ, suc, ◌+◌, ◌<◌, ◌≤◌, Bool, true, false, List, [], ◌∷◌, ◌++◌, Option, Some, None, refl, sym, ap, ◌∙◌, subst, ⊎_elim, arith}
-use Rattle.std.specs.Prelude.{⊤, MatchOption, IfSome, option_and_then, ◌==◌, ◌&&◌}
+use Rattle.std.proofs.Common.{◌≡◌, ◌≢◌, ◌⊎◌, inl, inr, ℕ, suc, ◌+◌, ◌<◌, ◌≤◌, true, false, List, [], ◌∷◌, ◌++◌, Option, Some, None, refl, sym, ap, ◌∙◌, subst, ⊎_elim, arith}
+use Rattle.std.specs.Prelude.{⊤, MatchOption, option_and_then, ◌==◌}
 use Rattle.std.proofs.lemmas.Bool.{cases_eq, cases_lt, cond_both, eqb-true}
 use Rattle.commons.specs.Bag.{bag}
 use Rattle.commons.specs.declared.limits.Limits.{Limits}
 use Rattle.step_core.specs.declared.step.Step.{Step}
-use Rattle.step_core.specs.declared.step.Step.TheVariants.{LoadLength, Reserve, Add, LoadHead, LoadLink, Cut, StoreLink, Push, Claim, Sole, Raise, Lower, Reset, Hold, PutIn, Open, Seize, TakeOut, Clear}
+use Rattle.step_core.specs.declared.step.Step.TheVariants.{Reserve, Add, LoadHead, LoadLink, Cut, StoreLink, Push, Claim, Sole, Raise, Lower, Reset, Hold, PutIn, Open, Seize, TakeOut, Clear}
 use Rattle.step_core.specs.declared.step.Outcome.{Outcome}
-use Rattle.step_core.specs.declared.step.Outcome.TheVariants.{Value, HeadIs, Won, Got, Lost, LostTo, Done, Found}
+use Rattle.step_core.specs.declared.step.Outcome.TheVariants.{Value, HeadIs, Won, Got, LostTo, Done, Found}
 use Rattle.step_core.specs.declared.view.View.{View}
-use Rattle.step_core.specs.Bags.{without, minus}
 use Rattle.step_core.specs.Headline.{Gets, Puts, IsHeld}
 use Rattle.step_core.specs.Law.{Lawful}
 use Rattle.step_core.specs.Schedules.{slot_at}
 use Rattle.step_core.specs.Shows.{standing, Shows, Happens, Stands}
-use Rattle.step_core.specs.Steps.{Play, play, played, event_of, row, claim, reset as reset_row}
-use Rattle.step_core.specs.Table.{Place, Common, Hand, Held, Table, Same, Event, Get, Put, Claim as ClaimEvent, Attach, Free, Offer, Take, Becomes, Where, SameTable, Claimed, Gained, Freed, Passed, worker_of}
+use Rattle.step_core.specs.Steps.{Play, play, event_of, claim, reset as reset_row}
+use Rattle.step_core.specs.Table.{Place, Common, Hand, Held, Table, Same, Event, Get, Put, Claim as ClaimEvent, Attach, Free, Offer, Take, Becomes, Claimed, Gained, Freed, Passed, worker_of}
 use Rattle.step_core.specs.Views.{view_after, phase_at, push_chain, opened_from, seized_from}
 use Rattle.step_core.specs.declared.view.Chain.{Chain}
 use Rattle.step_core.specs.declared.view.Phase.{Phase}
 use Rattle.step_core.specs.declared.view.Phase.TheVariants.{ToFill, Filled, Seized, TakenOut}
 use Rattle.step_core.specs.World.{World, Packet, view_at, view_of}
-use Rattle.step_core.proofs.Bags.{times-nil, times-one, times-not_one, times-last, times-but_last, times-push, times-without, times-minus, one_if-cases}
+use Rattle.step_core.proofs.Bags.{times-one, times-not_one, times-but_last, times-without, times-minus}
 use Rattle.step_core.proofs.Rows.{when_played}
 use Rattle.step_core.proofs.Shows.{is_in_hand}
 use Rattle.step_core.proofs.Telling.{cut_gets_all}
 use Rattle.step_core.proofs.Theorem.{play_is, played_row, makes_its_event, makes_its_view, changes_little, same_population, lawful_shows, keeps_law}
 use Rattle.ground.specs.Held.{Gives, EndsLast, NoStep, IsHeldIn, LeavesIt, IsHeldOver, HeldIsNotGiven}
-use Rattle.ground.specs.History.{Log, Move, Stepped, Split, Lent, Joined, Leads, Led, AreEvents, heir, taken_over}
-use Rattle.ground.specs.Opening.{opening_alone}
+use Rattle.ground.specs.History.{Log, Move, Stepped, Split, Lent, Joined, Leads, Led, taken_over}
 use Rattle.ground.proofs.History.{histories_are_events}
 
 held_same : (p q : Place) → IsHeld p → Same p q → IsHeld q

@@ -10,9 +10,7 @@ use Rattle.step_core.specs.declared.step.Step.{Step}
 use Rattle.step_core.specs.declared.step.Step.TheVariants.{LoadLength, Reserve, Add, LoadHead, LoadLink, Cut, StoreLink, Push, Claim, Sole, Raise, Lower, Reset, Hold, PutIn, Open, Seize, TakeOut, Clear}
 use Rattle.step_core.specs.declared.step.Outcome.{Outcome}
 use Rattle.step_core.specs.declared.step.Outcome.TheVariants.{Value, HeadIs, Won, Got, Lost, LostTo, Done, Found}
-use Rattle.step_core.specs.declared.view.Chain.{Chain}
 use Rattle.step_core.specs.declared.view.Desk.{Desk}
-use Rattle.step_core.specs.declared.view.Look.{Look}
 use Rattle.step_core.specs.declared.view.Phase.{Phase}
 use Rattle.step_core.specs.declared.view.Phase.TheVariants.{ToFill, Filled, Seized, TakenOut}
 use Rattle.step_core.specs.Law.{Lawful}
@@ -20,7 +18,7 @@ use Rattle.step_core.specs.Schedules.{slot_at}
 use Rattle.step_core.specs.Steps.{Play, play, row, given, reserve, cut, push, hold, put_in, open_desk, open_with, seize, seize_with, take_out, clear, load_link, same_head, in_range, phase_at}
 use Rattle.step_core.specs.World.{World, Packet, no_desk, desk_at, link_in, view_at}
 use Rattle.step_core.proofs.Bags.{at_or_else}
-use Rattle.step_core.proofs.Desks.{desk_inside, phase_there, slot_now, word_filling, word_emptying}
+use Rattle.step_core.proofs.Desks.{phase_there, slot_now, word_filling, word_emptying}
 use Rattle.step_core.proofs.Regroup.{four_of_eight}
 use Rattle.step_core.proofs.Rows.{when_played, given_played}
 use Rattle.step_core.proofs.Rules.{FourLaws}

@@ -1,8 +1,7 @@
 -- The world while a packet is put into a desk's slot, or taken out of it.
-use Rattle.std.proofs.Common.{◌≡◌, ◌≢◌, ℕ, zero, suc, ◌<◌, [], Option, Some, None, refl, sym, ap, ◌∙◌, subst, arith}
+use Rattle.std.proofs.Common.{◌≡◌, ◌≢◌, ℕ, zero, suc, ◌<◌, [], Some, refl, sym, ap, ◌∙◌, subst, arith}
 use Rattle.std.specs.Prelude.{IfSome, ◌==◌}
 use Rattle.std.proofs.lemmas.Bool.{cond-false, ne_eqb}
-use Rattle.step_core.specs.declared.step.Step.{Step}
 use Rattle.step_core.specs.declared.step.Step.TheVariants.{PutIn, TakeOut}
 use Rattle.step_core.specs.declared.step.Outcome.{Outcome}
 use Rattle.step_core.specs.declared.step.Outcome.TheVariants.{Done, Found}
@@ -10,17 +9,15 @@ use Rattle.step_core.specs.declared.view.Desk.{Desk}
 use Rattle.step_core.specs.declared.view.Phase.{Phase}
 use Rattle.step_core.specs.declared.view.Phase.TheVariants.{ToFill, Filled, Seized, TakenOut}
 use Rattle.step_core.specs.declared.view.View.{View}
-use Rattle.step_core.specs.Headers.{HeaderLaw}
 use Rattle.step_core.specs.Law.{Lawful}
-use Rattle.step_core.specs.Schedules.{slot_at}
-use Rattle.step_core.specs.Steps.{Play, play, put_in, take_out, phase_at, at_desk}
+use Rattle.step_core.specs.Steps.{play, put_in, take_out, phase_at, at_desk}
 use Rattle.step_core.specs.World.{World, Packet, view_at, view_of, desk_at, shelf}
 use Rattle.step_core.proofs.Desks.{word_filling, word_emptying}
 use Rattle.step_core.proofs.HeaderWalks.{keeps_headers}
 use Rattle.step_core.proofs.Regroup.{four_of_eight}
 use Rattle.step_core.proofs.Rows.{given_played}
 use Rattle.step_core.proofs.Theorem.{play_is, played_row, makes_its_view, keeps_law}
-use Rattle.ground.specs.Held.{MovesPacket, PassesLawful}
+use Rattle.ground.specs.Held.{PassesLawful}
 use Rattle.ground.proofs.Lending.{has_place}
 
 -- a desk that isn't full has no holds

@@ -1,6 +1,6 @@
 -- How the words of a pool came to be: by steps of the machine, each by one seat, by seats that were
 -- split, elements that were lent, and seats that were joined. Seats are numbered from 0, and the machine's workers from 1.
-use Rattle.std.specs.Prelude.{◌≡◌, ◌≢◌, ℕ, suc, ◌<◌, ◌≤◌, List, [], ◌∷◌, ◌++◌, Option, Some, None, length, map, slice_set, ⊤, ◌==◌, if◌then◌else◌, ◌*◌}
+use Rattle.std.specs.Prelude.{◌≡◌, ◌≢◌, ℕ, suc, ◌<◌, ◌≤◌, List, [], ◌∷◌, ◌++◌, Option, Some, None, length, map, slice_set, ⊤, ◌==◌, if◌then◌else◌}
 use mathlib.Core.Option.{some}
 use lib.ListN.{get_elem?}
 use Rattle.commons.specs.Bag.{bag}

@@ -137,8 +137,8 @@ impl Ground {
         ensures closed { IfOk result (LeftOf self.limits seat.known.view) }
         ensures desks { IfOk result (λ closed. IfSome seat.known.lying (λ desks. closed.desks ≡ desks)) }
         ensures noted { IfOk result (λ closed. seat.known.view.part ≡ every_part self.limits →
-        LieByNotes (seat.known.steps ++ seat.known.joined) closed.desks) }
-    ensures fresh { IfOk result (λ closed. IsFresh seat.known → closed ≡ closed_at_start self.limits) }
+            LieByNotes (seat.known.steps ++ seat.known.joined) closed.desks) }
+        ensures fresh { IfOk result (λ closed. IsFresh seat.known → closed ≡ closed_at_start self.limits) }
         ensures memory { IfErr result (λ refused. refused.0 ≡ Refusal.OutOfMemory) }
         ensures back { IfErr result (λ refused. (refused.1 ≡ self) × (refused.2 ≡ seat)) }
     {

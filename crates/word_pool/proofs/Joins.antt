@@ -11,9 +11,8 @@ use Rattle.ground.specs.Changing.{IsUnmoved}
 use Rattle.ground.specs.Parting.{both_with, both_views, IsBoth}
 use Rattle.ground.specs.Seats.{Grounded, Note, Seated, IsOf}
 use Rattle.mbuf.specs.Members.{Member}
-use Rattle.step_core.specs.declared.view.View.{View}
 use Rattle.word_pool.specs.Shares.{AreSharesOf}
-use Rattle.word_pool.specs.Workers.{Manned, AreWorkers, HasNotActed, IsIdle, IsSeatOf, IsWorker, members_of}
+use Rattle.word_pool.specs.Workers.{Manned, AreWorkers, HasNotActed, IsIdle, IsWorker, members_of}
 use Rattle.word_pool.specs.inside.Joins.{AreJoined}
 use Rattle.word_pool.proofs.Joined.{both_shares, one_share}
 use Rattle.step_core.specs.World.{worker_part}

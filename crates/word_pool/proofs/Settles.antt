@@ -1,12 +1,12 @@
 -- What a seat at rest left is a whole pool at rest, with the shares of that seat.
-use Rattle.std.proofs.Common.{ℕ, zero, suc, ◌≡◌, ◌+◌, ◌-◌, ◌<◌, ◌≤◌, List, [], ◌∷◌, Option, Some, None, length, map, refl, sym, ap, ◌∙◌, subst, arith}
+use Rattle.std.proofs.Common.{ℕ, suc, ◌≡◌, ◌+◌, ◌-◌, ◌<◌, List, [], ◌∷◌, Option, Some, None, length, map, refl, ap, ◌∙◌, subst, arith}
 use Rattle.std.specs.Prelude.{slice_index_or}
 use Rattle.std.specs.List.{range_with_len}
 use Rattle.commons.specs.Bounds.{IsPool}
 use Rattle.commons.specs.declared.closed.Closed.{Closed}
 use Rattle.commons.specs.declared.limits.Limits.{Limits}
 use Rattle.mbuf.specs.Members.{Member}
-use Rattle.book.specs.Books.{AreShares, IsFull, shares_in}
+use Rattle.book.specs.Books.{shares_in}
 use Rattle.book.specs.Left.{AreLeftWhole, IsLawfulByTypes, IsLeftWhole}
 use Rattle.book.specs.Places.{Places}
 use Rattle.book.specs.Settling.{snapshot_with}

@@ -1,6 +1,6 @@
 -- What two grounds left is lawful, with the shares of the views that closed them.
 use Rattle.std.proofs.Common.{ℕ, ◌≡◌, ◌+◌, true, false, List, [], length, map, Option, refl, sym, ap, ◌∙◌, subst, arith, ◌*◌}
-use Rattle.std.specs.Prelude.{flat_map, sum_by}
+use Rattle.std.specs.Prelude.{flat_map}
 use Rattle.std.specs.List.{range_with_len}
 use Rattle.std.proofs.lemmas.List.{nil_from_length}
 use Rattle.std.proofs.lemmas.List.FromFn.{length-range_with_len}
@@ -28,7 +28,7 @@ use Rattle.book.specs.Left.{AreLeftWhole, IsLawfulByTypes, first_of, second_of}
 use Rattle.book.proofs.Spelled.{lawful}
 use Rattle.book.proofs.TwinGuests.{guests_are_bases, guests_of_workers, local_holds, sum_both, sum_same}
 use Rattle.word_pool.specs.TwinShares.{AreFirstShares, AreSecondShares, AreTwinShares}
-use Rattle.word_pool.specs.TwinWorkers.{TwinManned, AreStatementsOfTwins, first_crew, second_crew}
+use Rattle.word_pool.specs.TwinWorkers.{TwinManned, AreStatementsOfTwins}
 use Rattle.word_pool.specs.Workers.{Manned}
 use Rattle.ground.specs.Changing.{IsFresh, IsUnmoved, closed_at_start}
 use Rattle.word_pool.specs.Leaving.{IsLeftAtRest}

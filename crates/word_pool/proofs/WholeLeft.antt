@@ -5,7 +5,7 @@ use Rattle.std.specs.Prelude.{All}
 use Rattle.std.specs.List.{range_with_len}
 use Rattle.std.proofs.lemmas.List.Elements.{All-nil}
 use Rattle.commons.specs.Bag.{bag}
-use Rattle.commons.specs.Packets.{held_in, own_in}
+use Rattle.commons.specs.Packets.{held_in}
 use Rattle.commons.specs.declared.closed.Closed.{Closed}
 use Rattle.commons.specs.declared.limits.Limits.{Limits}
 use Rattle.ground.specs.Changing.{IsFresh, IsUnmoved}
