@@ -217,9 +217,10 @@ pub fn lose(workers: &mut Vec<WordWorker>, number: u32)
 
 /// Ends a pool of which these workers are left, whose others are listed as missing, and tells which
 /// elements are lost, ascending: exactly those in the hand of a listed worker or held by listed
-/// workers alone, wherever these stopped, in mid-call too. The seats of those who are left become
-/// one, which closes the ground, and their packets are handed in. Where a listed worker is among
-/// them, as an only one whose seat was kept, its cache and its packets are lost.
+/// workers alone, wherever these stopped, in mid-call too: in a lawful world that left these words,
+/// since nobody asks the listed workers' threads what they knew. The seats of those who are left
+/// become one, which closes the ground, and their packets are handed in. Where a listed worker is
+/// among them, as an only one whose seat was kept, its cache and its packets are lost.
 ///
 /// Refused `OutOfMemory` where memory was refused. The pool is ended then too, and nothing is left
 /// of it.
