@@ -16,3 +16,20 @@ impl TableRule<Option<Packet>, Known, Limits> for PoolRule {
 
     ghost first = { first_known };
 }
+
+/// A rule that says of each state what `Ruled` does, and no more: the laws of this crate, which speak of
+/// `Ruled`, are laws of it.
+pub trait SaysRuled: TableRule<Option<Packet>, Known, Limits> {
+    ghost use Rattle.atomic_table.specs.Table.{State};
+    ghost use Rattle.ground.specs.Rule.{Ruled, Slot};
+
+    ghost says: { (l : Limits) (s : State Slot Known) → holds l s → Ruled l s };
+
+    ghost said: { (l : Limits) (s : State Slot Known) → Ruled l s → holds l s };
+}
+
+impl SaysRuled for PoolRule {
+    ghost says = { λ l s h. h };
+
+    ghost said = { λ l s h. h };
+}
