@@ -21,11 +21,13 @@ impl TableRule<Option<Packet>, Known, Limits> for PoolRule {
 /// `Ruled`, are laws of it.
 pub trait SaysRuled: TableRule<Option<Packet>, Known, Limits> {
     ghost use Rattle.atomic_table.specs.Table.{State};
+    ghost use Rattle.commons.specs.declared.limits.Limits.{Limits};
     ghost use Rattle.ground.specs.Rule.{Ruled, Slot};
+    ghost use Rattle.ground.specs.declared.known.Known.{Known};
 
-    ghost says: { (l : Limits) (s : State Slot Known) → holds l s → Ruled l s };
+    ghost says: { (l : Limits) (s : State Slot Known) → Self.TableRule.holds l s → Ruled l s };
 
-    ghost said: { (l : Limits) (s : State Slot Known) → Ruled l s → holds l s };
+    ghost said: { (l : Limits) (s : State Slot Known) → Ruled l s → Self.TableRule.holds l s };
 }
 
 impl SaysRuled for PoolRule {
