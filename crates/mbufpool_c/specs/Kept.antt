@@ -1,5 +1,5 @@
 -- How an `OwnSeat` is kept. No public clause cites this module.
-use Rattle.std.specs.Prelude.{◌≡◌, [], Option, Some, None, ◌*◌}
+use Rattle.std.specs.Prelude.{◌≡◌, [], Option, Some, None}
 use Rattle.ground.specs.Parting.{spent_seat}
 use Rattle.ground.specs.Seats.{Seated, IsOf}
 use Rattle.mbufpool_c.specs.declared.seats.OwnSeat.TheInside.{Inside}

@@ -1,13 +1,14 @@
 -- What C is answered by a seat, and what it owes of a list that it puts.
-use Rattle.std.specs.Prelude.{◌≡◌, ℕ, ◌≤◌, List, Option, Some, None, Result, Ok, Err, ⊤}
+use Rattle.std.specs.Prelude.{◌≡◌, ◌⊎◌, ℕ, ◌≤◌, List, Option, Some, None, Result, Ok, Err, ⊤}
 use Rattle.commons.specs.Bag.{bag}
 use Rattle.commons.specs.Calls.{Call, CommonCount, Did, with_list}
 use Rattle.commons.specs.declared.limits.Limits.{Limits}
 use Rattle.commons.specs.declared.limits.PutRule.TheVariants.{Keep}
 use Rattle.commons.specs.declared.refusal.Refusal.{Refusal}
-use Rattle.commons.specs.declared.refusal.Refusal.TheVariants.{StrangerShare}
+use Rattle.commons.specs.declared.refusal.Refusal.TheVariants.{OutOfMemory, StrangerShare}
 use Rattle.commons.specs.Refusals.{number_of}
-use Rattle.ground.specs.Parting.{less_part, newcomer}
+use Rattle.ground.specs.Opening.{IsGroundCause}
+use Rattle.ground.specs.Parting.{IsBoth, less_part, newcomer}
 use Rattle.ground.specs.Seats.{Seated}
 use Rattle.lending.specs.Lending.{GetsLoans, PutsLoans}
 use Rattle.lending.specs.declared.loans.Loans.{Loans}
@@ -61,6 +62,11 @@ stack_limits population seats tries = record {
   put_rule = Keep;
 }
 
+-- why a pool of the bare stack isn't made: its limits are those of no pool, or memory was refused; and
+-- C has the number of the cause
+abbrev pub RefusesStack : Limits → ℕ → Type 0
+RefusesStack l status = (cause : Refusal) × (status ≡ number_of cause) × IsGroundCause l cause
+
 -- the seat of a handle read this of the length word; where there is no seat, C has 0
 abbrev pub CountsIn : Option Seated → ℕ → Option Seated → Type 0
 CountsIn None count new = (count ≡ 0) × (new ≡ None)
@@ -73,3 +79,21 @@ Splits None new out = ⊥
 Splits (Some s) new out =
     (new ≡ Some (record s { known = less_part s.known }))
     × ((other : Seated) × (out ≡ Some other) × (other.table ≡ s.table) × (other.known ≡ newcomer s.known))
+
+-- The seat has back the part that it gave: it names what it named, and has forgotten what it had read
+-- of the common list.
+abbrev pub HasBack : Seated → Seated → Type 0
+HasBack s t = IsBoth (record s { known = less_part s.known }) (newcomer s.known) t
+
+-- Where no seat is made the first is as it was; or memory was refused for the second, and the first
+-- has its part back.
+abbrev pub KeepsSeat : ℕ → Option Seated → Option Seated → Type 0
+KeepsSeat status None new = new ≡ None
+KeepsSeat status (Some s) new =
+    (new ≡ Some s) ⊎ ((status ≡ number_of OutOfMemory) × ((t : Seated) × (new ≡ Some t) × HasBack s t))
+
+-- the same where that part is gone then
+abbrev pub KeepsSeatOrPart : ℕ → Option Seated → Option Seated → Type 0
+KeepsSeatOrPart status None new = new ≡ None
+KeepsSeatOrPart status (Some s) new =
+    (new ≡ Some s) ⊎ ((status ≡ number_of OutOfMemory) × (new ≡ Some (record s { known = less_part s.known })))

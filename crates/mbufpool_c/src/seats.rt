@@ -1,15 +1,17 @@
 //! A seat with the words that it is at.
 
-ghost use Rattle.std.specs.Prelude.{◌≡◌, ◌<◌, ◌≤◌, [], length, ℕ, None, Some, IfOk, IfErr};
+ghost use Rattle.std.specs.Prelude.{◌≡◌, ◌+◌, ◌^◌, ◌<◌, ◌≤◌, [], length, ℕ, None, Some, IfOk, IfErr};
 ghost use Rattle.commons.specs.Bag.{bag};
 ghost use Rattle.commons.specs.Calls.{Did, GetList, PutList, CommonCount, with_list};
 ghost use Rattle.ground.specs.Opening.{IsGroundCause};
 ghost use Rattle.ground.specs.Own.{Owned};
-ghost use Rattle.ground.specs.Parting.{less_part, newcomer};
+ghost use Rattle.ground.specs.Parting.{IsBoth, less_part, newcomer};
 ghost use Rattle.ground.specs.Rule.{first_known};
+ghost use Rattle.ground.specs.Seats.{IsOf};
 ghost use Rattle.lending.specs.Lending.{GetsLoans, PutsLoans};
 ghost use Rattle.lending.specs.Pools.{AreAt, none_of};
 ghost use Rattle.stack_lf.specs.Sides.{side_of};
+ghost use Rattle.step_core.specs.World.{worker_part};
 ghost use Rattle.stack_lf.specs.Tries.{DidOnWords};
 
 use commons::limits::Limits;
@@ -90,6 +92,8 @@ impl OwnSeat {
         ensures left { IfOk result (λ _. self.new ≡ record self.old { known = less_part self.old.known }) }
         ensures made { IfOk result (λ other. (other.table ≡ self.old.table) × (other.known ≡ newcomer self.old.known)) }
         ensures kept { IfErr result (λ _. self.new ≡ self.old) }
+        ensures part { IfOk result (λ _. (worker_part < self.old.known.view.part)
+            × (self.old.known.view.part < 2 ^ 64)) }
     {
         if self.parts < 2 || self.part() <= WORKER_PART {
             return Err(Refusal::StrangerShare);
@@ -108,6 +112,28 @@ impl OwnSeat {
             lender: Some(other),
             parts: 1,
         })
+    }
+
+    /// Takes a seat back that was split off this one, with its part.
+    pub fn rejoin(&mut self, other: OwnSeat)
+        requires table { other.table ≡ self.old.table }
+        requires limits { other.known.limits ≡ self.old.known.limits }
+        requires part { self.old.known.view.part + other.known.view.part < 2 ^ 64 }
+        ensures { IsBoth self.old other.known self.new }
+    {
+        let OwnSeat {
+            ground,
+            lender,
+            parts,
+        } = other;
+        let Some(own) = self.lender.take() else {
+            unreachable!()
+        };
+        let Some(other) = lender else { unreachable!() };
+        let lender = joined(&self.ground, own, other);
+        put_back(&mut self.lender, lender);
+        self.parts = self.parts.saturating_add(parts);
+        drop(ground);
     }
 
     /// The seat's part of the pool.
@@ -215,6 +241,19 @@ impl OwnSeat {
         put_back(&mut self.lender, lender);
         count
     }
+}
+
+/// Makes one lender of two of this ground.
+fn joined(ground: &Ground, own: Lender, other: Lender) -> Lender
+    requires of { IsOf ground.now own }
+    requires other_of { IsOf ground.now other }
+    requires part { own.known.view.part + other.known.view.part < 2 ^ 64 }
+    ensures { IsBoth own other.known result }
+{
+    let part = own.part() + other.part();
+    let mut seat = own.into_seat();
+    ground.join(&mut seat, other.into_seat());
+    Lender::new(seat, part)
 }
 
 /// Gives a lender back to its place.

@@ -1,12 +1,13 @@
 //! The bare stack for C: pools of elements without packets.
 
-ghost use Rattle.std.specs.Prelude.{◌≡◌, ◌≢◌, ◌<◌, None, Some, length, IfOk, IfErr};
+ghost use Rattle.std.specs.Prelude.{◌≡◌, ◌≢◌, ◌⊎◌, ◌<◌, None, Some, length, IfOk, IfErr};
 ghost use Rattle.commons.specs.Bounds.{IsPool};
 ghost use Rattle.commons.specs.Refusals.{number_of};
 ghost use Rattle.ground.specs.Opening.{IsGroundCause};
+ghost use Rattle.ground.specs.Parting.{less_part, newcomer};
 ghost use Rattle.ground.specs.Rule.{first_known};
 ghost use Rattle.ground.specs.Seats.{Seated};
-ghost use Rattle.mbufpool_c.specs.Stacks.{AreLent, GetsIn, PutsIn, CountsIn, Splits, stack_limits, status_of as status_in};
+ghost use Rattle.mbufpool_c.specs.Stacks.{AreLent, GetsIn, HasBack, KeepsSeat, PutsIn, CountsIn, RefusesStack, Splits, stack_limits, status_of as status_in};
 
 use crate::seat_with_loans::SeatWithLoans;
 use crate::seats::OwnSeat;
@@ -67,6 +68,7 @@ pub extern "C" fn mbufpool_seat_open(
     ensures opened { result ≡ 0 → (s : Seated) × (out.new.handle.value ≡ Some s)
         × (s.known ≡ first_known (stack_limits population seats tries)) }
     ensures kept { result ≢ 0 → out.new ≡ out.old }
+    ensures cause { result ≢ 0 → RefusesStack (stack_limits population seats tries) result }
 {
     match opened(alloc, population, seats, tries) {
         Ok(seat) => {
@@ -77,7 +79,9 @@ pub extern "C" fn mbufpool_seat_open(
     }
 }
 
-/// Makes one more seat of the pool, with no loans. A seat that was in its handle is lost.
+/// Makes one more seat of the pool, with no loans. A seat that was in its handle is lost. Where it is
+/// refused the first seat is as it was; or, where that is for memory, it has back what it gave, and
+/// has forgotten what it had read of the common list.
 #[unsafe(no_mangle)]
 pub extern "C" fn mbufpool_seat_split(
     alloc: Global,
@@ -86,32 +90,40 @@ pub extern "C" fn mbufpool_seat_split(
 ) -> u32
     ensures made { result ≡ 0 → Splits seat.old.handle.value seat.new.handle.value out.new.handle.value }
     ensures kept { result ≢ 0 → out.new ≡ out.old }
+    ensures first { result ≢ 0 → KeepsSeat result seat.old.handle.value seat.new.handle.value }
     ensures loans { seat.new.loans ≡ seat.old.loans }
 {
     match seat.handle.take(alloc) {
         None => Refusal::StrangerShare.number(),
         Some(mut own) => {
-            let answer = own.split();
+            let answer = split(alloc, &mut own);
             seat.handle.put(own);
             match answer {
-                Ok(other) => hand_out(alloc, other, out),
+                Ok(other) => {
+                    out.fill(other);
+                    0
+                }
                 Err(cause) => cause.number(),
             }
         }
     }
 }
 
-/// Puts a seat into a handle, unless memory is refused.
-fn hand_out(alloc: Global, seat: OwnSeat, out: &mut SeatWithLoans) -> u32
-    ensures made { result ≡ 0 → out.new.handle.value ≡ Some seat }
-    ensures kept { result ≢ 0 → out.new ≡ out.old }
+/// One more seat, on the heap; the first has its part back where memory is refused.
+fn split(alloc: Global, own: &mut OwnSeat) -> Result<Box<OwnSeat>, Refusal>
+    ensures left { IfOk result (λ _. own.new ≡ record own.old { known = less_part own.old.known }) }
+    ensures made { IfOk result (λ other.
+        (other.value.table ≡ own.old.table) × (other.value.known ≡ newcomer own.old.known)) }
+    ensures kept { IfErr result (λ cause. (own.new ≡ own.old)
+        ⊎ ((cause ≡ Refusal.OutOfMemory) × HasBack own.old own.new)) }
 {
-    match Box::new(alloc, seat) {
-        Ok(seat) => {
-            out.fill(seat);
-            0
+    let other = own.split()?;
+    match Box::new(alloc, other) {
+        Ok(other) => Ok(other),
+        Err(failed) => {
+            own.rejoin(failed.value);
+            Err(Refusal::OutOfMemory)
         }
-        Err(_) => Refusal::OutOfMemory.number(),
     }
 }
 
