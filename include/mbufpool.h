@@ -80,10 +80,11 @@ struct mbufpool_seat { void *at; };
  * that was in `out` is ended. */
 uint32_t mbufpool_seat_open(uint32_t population, uint32_t seats, uint32_t tries, struct mbufpool_seat *out);
 
-/* Makes one more seat of the pool, by its first seat. */
+/* Makes one more seat of the pool, by its first seat. Where memory is refused the first seat has its
+ * share of the pool back. */
 uint32_t mbufpool_seat_split(struct mbufpool_seat *seat, struct mbufpool_seat *out);
 
-/* Gets n elements: all of them, or none. */
+/* Gets n elements: all of them, or none. A refused get may have written to `out`. */
 uint32_t mbufpool_seat_get(struct mbufpool_seat *seat, uint32_t *out, size_t n);
 
 /* Puts n elements back: all of them, or none.
@@ -111,7 +112,7 @@ void mbufpool_seat_free(struct mbufpool_seat *seat);
 struct mbufpool_checked { void *at; };
 
 uint32_t mbufpool_checked_open(uint32_t population, uint32_t tries, struct mbufpool_checked *out);
-uint32_t mbufpool_checked_get(struct mbufpool_checked *seat, uint32_t *out, size_t n);
+uint32_t mbufpool_checked_get(struct mbufpool_checked *seat, uint32_t *out, size_t n);	/* as mbufpool_seat_get */
 uint32_t mbufpool_checked_put(struct mbufpool_checked *seat, const uint32_t *list, size_t n);
 uint32_t mbufpool_checked_count(struct mbufpool_checked *seat);
 void mbufpool_checked_free(struct mbufpool_checked *seat);

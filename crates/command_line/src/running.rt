@@ -54,7 +54,7 @@ pub fn serve<R: AllocGlobal + Threads + Wait + Sync, S: Scripts, O: Write, E: Wr
 ) -> u8
     requires { screen.old.failed ≡ false }
     // It is the status of the print of this task and file,
-    ensures done { IfOk asked (λ request. Ends
+    ensures done { IfOk asked.entry (λ request. Ends
         (S.gives scripts.now)
         (S.fails scripts.now)
         request.file.now
@@ -65,7 +65,7 @@ pub fn serve<R: AllocGlobal + Threads + Wait + Sync, S: Scripts, O: Write, E: Wr
         (E.contents errors.new)
         result) }
     // or of what is said of words that ask for none.
-    ensures said { IfErr asked (λ unasked. Says
+    ensures said { IfErr asked.entry (λ unasked. Says
         unasked
         (O.contents screen.old.inner)
         (O.contents screen.new.inner)
