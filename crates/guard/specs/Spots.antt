@@ -1,5 +1,5 @@
 -- Where the loan of an element rests while the element is out.
-use Rattle.std.specs.Prelude.{◌≡◌, ℕ, ◌<◌, List, [], ◌∷◌, length, slice_index_or, Option, Some}
+use Rattle.std.specs.Prelude.{◌≡◌, ℕ, ◌<◌, List, [], ◌∷◌, length, slice_index_or}
 use Rattle.atomic_table.specs.Seated.{TableId}
 use Rattle.commons.specs.declared.limits.Limits.{Limits}
 use Rattle.ground.specs.Seats.{Grounded, Seated}
@@ -28,7 +28,7 @@ first_of (i ∷ is) = i
 
 -- the places of the first n elements
 abbrev pub AreSpots : Grounded → List Spot → Type 0
-AreSpots g ps = (i : ℕ) → i < length ps → slice_index_or ps i (spot g i) ≡ spot g i
+AreSpots g ps = (i : ℕ) (d : Spot) → i < length ps → slice_index_or ps i d ≡ spot g i
 
 -- each element of a pool has a place
 pub record HasSpots (g : Grounded) (ps : List Spot) : Type 0 where

@@ -43,10 +43,7 @@ impl Place {
         loan.knows_desks();
         let seat: Seat<Option<Packet>, Known> = loan.into_badge().into_seat();
         let perch = Perch::new(&seat, 0);
-        (
-            Place { perch },
-            GroundSeat::of_badge(seat.into_badge()),
-        )
+        (Place { perch }, GroundSeat::of_badge(seat.into_badge()))
     }
 
     /// Lets the element's loan rest here, with this word. It comes back where there is no room.
@@ -70,10 +67,7 @@ impl Place {
         ensures loan { IfSome result.1 (IsLoanOf self.now) }
     {
         match self.perch.take(0) {
-            (word, Some(seat)) => (
-                word,
-                Some(GroundSeat::of_badge(seat.into_badge())),
-            ),
+            (word, Some(seat)) => (word, Some(GroundSeat::of_badge(seat.into_badge()))),
             (word, None) => (word, None),
         }
     }
