@@ -82,6 +82,13 @@ impl Guard {
         }
     }
 
+    /// The words.
+    pub(crate) fn ground(&self) -> &Ground
+        ensures { result.now ≡ self.now }
+    {
+        &self.ground
+    }
+
     /// The number that came with an element that is out, or 0: it isn't out, or is none of the pool.
     pub fn who(&self, element: u32) -> u64 {
         let element = element as usize;
@@ -190,7 +197,7 @@ impl Guard {
     /// Lends each element of a list, which are in the hand, and lets it rest at its place, with this
     /// word: all of them. Where a place has no room, it takes back what rests already, and answers
     /// how many were put since.
-    fn rest_all(&self, seat: &mut GroundSeat, who: u64, list: &[u32]) -> Result<(), u64>
+    pub(crate) fn rest_all(&self, seat: &mut GroundSeat, who: u64, list: &[u32]) -> Result<(), u64>
         requires of { IsOf self.now seat.old }
         requires who { 2 ≤ who }
         requires rest { AtRest seat.old.known.view }
@@ -259,7 +266,12 @@ impl Guard {
     /// Takes the numbers of a list off their places into the hand, as far as they are elements that
     /// rest there, and moves those to the front. Answers how many, and writes the word that was found
     /// of each.
-    fn take_all(&self, seat: &mut GroundSeat, list: &mut [u32], words: &mut [u64]) -> usize
+    pub(crate) fn take_all(
+        &self,
+        seat: &mut GroundSeat,
+        list: &mut [u32],
+        words: &mut [u64],
+    ) -> usize
         requires of { IsOf self.now seat.old }
         requires words { length words.old ≡ length list.old }
         requires rest { AtRest seat.old.known.view }

@@ -4,4 +4,5 @@
 
 pub mod cause;
 pub mod guard;
+pub mod lcore;
 pub mod place;
