@@ -154,6 +154,10 @@ uint32_t mbufpool_guard_put(struct mbufpool_guard *worker, uint32_t *list, size_
  * pool. */
 uint64_t mbufpool_guard_who(struct mbufpool_guard *worker, uint32_t element);
 
+/* How many elements of the pool are out: each word is read once, so what others get and put meanwhile
+ * may count or not. All that isn't out is on the stack or in a cache. */
+uint64_t mbufpool_guard_out(struct mbufpool_guard *worker);
+
 /* Puts the worker's cache onto the stack and ends the worker; the handle has zeros then. What is out may
  * still be put, by any other worker. Where the stack refuses the cache, it is lost. The pool's memory is
  * freed with its last worker. */

@@ -203,6 +203,7 @@ static void compare(struct thread *t, unsigned threads)
 	MUST(at == put.count);
 	for (k = 0; k < POPULATION; k++)
 		MUST(mbufpool_guard_who(&t[0].worker, (uint32_t)k) == out[k]);
+	MUST(mbufpool_guard_out(&t[0].worker) == left);
 	for (i = 1; i < threads; i++)
 		mbufpool_guard_end(&t[i].worker);
 	/* all else can be had again */
@@ -215,7 +216,7 @@ static void compare(struct thread *t, unsigned threads)
 	printf("%zu elements got, %zu put, %zu out at the end\n", got.count, put.count, left);
 	mbufpool_guard_end(&t[0].worker);
 	MUST(mbufpool_guard_get(&t[0].worker, 2, all, 1) == MBUFPOOL_STRANGER);
-	MUST(mbufpool_guard_who(&none, 0) == 0);
+	MUST(mbufpool_guard_who(&none, 0) == 0 && mbufpool_guard_out(&none) == 0);
 	free(got.all);
 	free(put.all);
 }

@@ -98,6 +98,20 @@ impl Guard {
         self.places[element].who()
     }
 
+    /// How many elements are out. Each is looked at once, so what others get and put meanwhile may
+    /// count or not.
+    pub fn count_out(&self) -> usize
+        ensures { result ≤ self.now.limits.population }
+    {
+        let mut count = 0;
+        for k in 0..self.places.len() {
+            if self.places[k].who() >= 2 {
+                count += 1;
+            }
+        }
+        count
+    }
+
     /// Gets as many elements as `out` has places: all of them, or none. Each is out then, with this
     /// number.
     #[inline(always)]

@@ -229,6 +229,14 @@ impl GuardWorker {
     pub fn who(&self, element: u32) -> u64 {
         self.guard.who(element)
     }
+
+    /// How many elements are out.
+    pub fn count_out(&self) -> usize
+        ensures { result ≤ self.now.cache.limits.population }
+    {
+        let _ = self.cache.limits();
+        self.guard.count_out()
+    }
 }
 
 /// Gives a seat back to its place.

@@ -204,6 +204,22 @@ pub extern "C" fn mbufpool_guard_who(alloc: Global, worker: &mut GuardHandle, el
     }
 }
 
+/// How many elements of the pool are out. Each is looked at once, so what others get and put meanwhile
+/// may count or not.
+#[unsafe(no_mangle)]
+pub extern "C" fn mbufpool_guard_out(alloc: Global, worker: &mut GuardHandle) -> u64
+    ensures { worker.new.value ≡ worker.old.value }
+{
+    match worker.take(alloc) {
+        None => 0,
+        Some(own) => {
+            let count = own.count_out();
+            worker.put(own);
+            count as u64
+        }
+    }
+}
+
 /// Ends a worker, once its cache is on the stack: the handle has none then. Where the stack refuses
 /// the cache, it is lost. The pool is freed with its last worker.
 #[unsafe(no_mangle)]
