@@ -4,5 +4,6 @@
 
 pub mod cause;
 pub mod guard;
+pub mod laws;
 pub mod lcore;
 pub mod place;
