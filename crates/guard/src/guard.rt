@@ -145,7 +145,8 @@ impl Guard {
     /// the pool. `words` has of each number of the list, as it stands now, the word that was found: who
     /// got it, or 0 where it wasn't out.
     ///
-    /// Where the push is refused, as `Commons::put_list` is, those that were out are out as before.
+    /// None of those is in the seat's hand before, nor twice in the list. Where the push is refused, as
+    /// `Commons::put_list` is, those that were out are out as before.
     #[inline(always)]
     pub fn put(
         &self,
@@ -160,7 +161,7 @@ impl Guard {
         ensures out { All (λ w. 2 ≤ w) (take result.0 words.new) }
         ensures refused { All (λ w. w < 2) (drop result.0 words.new) }
         ensures done { Puts (take result.0 list.new) result.1 seat result.2 }
-        ensures once { (i : ℕ) → bag (take result.0 list.new) i ≤ 1 }
+        ensures once { (i : ℕ) → bag seat.known.view.hand i + bag (take result.0 list.new) i ≤ 1 }
         ensures of { IsOf self.now result.2 }
     {
         let part = seat.part();

@@ -190,6 +190,9 @@ impl GuardWorker {
     /// that are none of the pool. `words` has of each number of the list, as it stands now, the word
     /// that was found: who got it, or 0 where it wasn't out.
     ///
+    /// None of those that were out is in the cache before, nor twice in the list: what this worker has
+    /// put, and nobody has got since, it can't put again.
+    ///
     /// What goes to the stack, and what stays in the cache where the stack refuses it, is said as of
     /// `Worker::put_bulk`.
     #[inline(always)]
@@ -200,7 +203,7 @@ impl GuardWorker {
         ensures out { All (λ w. 2 ≤ w) (take result.0 words.new) }
         ensures refused { All (λ w. w < 2) (drop result.0 words.new) }
         ensures done { CachedPuts (take result.0 list.new) result.1 self.old self.new }
-        ensures once { (i : ℕ) → bag (take result.0 list.new) i ≤ 1 }
+        ensures once { (i : ℕ) → bag self.old.cache.cache i + bag (take result.0 list.new) i ≤ 1 }
     {
         let Some(mut seat) = self.seat.take() else {
             unreachable!()

@@ -1,5 +1,5 @@
 -- What C is answered by a worker of a guarded pool.
-use Rattle.std.specs.Prelude.{◌≡◌, ◌<◌, ◌≤◌, ◌==◌, ℕ, All, List, [], length, take, drop, cond, Option, Some, None, Result, Ok, Err}
+use Rattle.std.specs.Prelude.{◌≡◌, ◌+◌, ◌<◌, ◌≤◌, ◌==◌, ℕ, All, List, [], length, take, drop, cond, Option, Some, None, Result, Ok, Err}
 use Rattle.commons.specs.Bag.{bag}
 use Rattle.commons.specs.declared.limits.Limits.{Limits}
 use Rattle.commons.specs.declared.limits.PutRule.TheVariants.{Keep}
@@ -71,10 +71,12 @@ abbrev pub status_of_put : ℕ → ℕ → ℕ
 status_of_put n taken = cond (taken == n) 0 not_out
 
 -- The worker of a handle put as many of a list as were out, which come first in it, and C has the words
--- that were found, of those at least 2, and of the others less.
+-- that were found, of those at least 2, and of the others less. None of those was in the worker's cache,
+-- nor is one of them twice.
 abbrev pub PutsGuard : List ℕ → List ℕ → ℕ → Option Cached → ℕ → Option Cached → Type 0
 PutsGuard list words taken None status new = (status ≡ number_of StrangerShare) × (new ≡ None) × (taken ≡ 0)
 PutsGuard list words taken (Some s) status new =
     (answer : Put) × (t : Cached) × CachedPuts (take taken list) answer s t × (new ≡ Some t)
     × All (λ w. 2 ≤ w) (take taken words) × All (λ w. w < 2) (drop taken words)
+    × ((i : ℕ) → bag s.cache.cache i + bag (take taken list) i ≤ 1)
     × (status ≡ status_of_put (length list) taken)

@@ -1,4 +1,4 @@
-use Rattle.std.proofs.Common.{◌≡◌, ◌++◌, ℕ, ap, ◌∙◌, arith}
+use Rattle.std.proofs.Common.{◌≡◌, ◌++◌, ap, arith}
 use Rattle.commons.specs.Bag.{bag}
 use Rattle.commons.proofs.Bags.{bag-append}
 use Rattle.ground.specs.Seats.{Seated}
