@@ -8,6 +8,8 @@ pub mod checked_stack;
 pub mod closing;
 pub mod ending;
 pub mod ending_handle;
+pub mod guard_handle;
+pub mod guarded;
 mod hall;
 mod loose;
 mod marks;
