@@ -154,6 +154,11 @@ fn a_base_goes_back_before_its_clones_own_element(rt: HostRuntime) -> Result<(),
     let kept = played(rt.alloc(), false)?;
     same(&rt, &kept, &124_124, "where the packet is there still");
     let last = played(rt.alloc(), true)?;
-    same(&rt, &last, &13_241_324, "where the clone's holds are the last");
+    same(
+        &rt,
+        &last,
+        &13_241_324,
+        "where the clone's holds are the last",
+    );
     Ok(())
 }
