@@ -1,8 +1,9 @@
 -- What two grounds left is lawful, with the shares of the views that closed them.
-use Rattle.std.proofs.Common.{ℕ, ◌≡◌, ◌+◌, true, false, List, [], length, map, Option, refl, sym, ap, ◌∙◌, subst, arith, ◌*◌}
-use Rattle.std.specs.Prelude.{flat_map}
+use Rattle.std.proofs.Common.{ℕ, ◌≡◌, ◌+◌, ◌≤◌, true, false, get_or, List, [], length, map, Option, refl, sym, ap, ◌∙◌, subst, arith, ◌*◌}
+use Rattle.std.specs.Prelude.{All, flat_map}
 use Rattle.std.specs.List.{range_with_len}
 use Rattle.std.proofs.lemmas.List.{nil_from_length}
+use Rattle.std.proofs.lemmas.List.Elements.{All-map}
 use Rattle.std.proofs.lemmas.List.FromFn.{length-range_with_len}
 use lib.ListN.{length-map}
 use Rattle.commons.specs.Bag.{bag}
@@ -21,7 +22,9 @@ use Rattle.step_core.specs.declared.view.View.{View}
 use Rattle.snapshot.specs.Closing.{share_of}
 use Rattle.snapshot.specs.declared.snapshot.ShareData.{ShareData}
 use Rattle.snapshot.specs.declared.snapshot.Snapshot.{Snapshot}
-use Rattle.snapshot.specs.Snapshots.{ListsItsElements, statement_in, times_held}
+use Rattle.pool_model.specs.Guests.{elements_with, entry_with}
+use Rattle.pool_model.specs.declared.statement.Held.{Held}
+use Rattle.snapshot.specs.Snapshots.{ListsItsElements, own_pool, statement_in, times_held}
 use Rattle.snapshot.proofs.Times.{held-is}
 use Rattle.book.specs.declared.closed_twin.ClosedTwin.{ClosedTwin}
 use Rattle.book.specs.Left.{AreLeftWhole, IsLawfulByTypes, first_of, second_of}
@@ -33,7 +36,7 @@ use Rattle.word_pool.specs.Workers.{Manned}
 use Rattle.ground.specs.Changing.{IsFresh, IsUnmoved, closed_at_start}
 use Rattle.word_pool.specs.Leaving.{IsLeftAtRest}
 use Rattle.word_pool.specs.inside.TwinCrews.{AreTwinsClosed}
-use Rattle.word_pool.proofs.OneView.{common, words_show}
+use Rattle.word_pool.proofs.OneView.{common, held_few, words_show}
 use Rattle.word_pool.proofs.TwinJoins.{count_of_twins}
 use Rattle.word_pool.proofs.WholeLeft.{AreNumbered}
 use Rattle.step_core.specs.World.{worker_part, every_part}
@@ -105,6 +108,12 @@ module _ (l : Limits) (c : Closed) (v : View) (members : List TwinMember) (h : I
       (second_held none are)
       (λ i. omega (arith, sum_by-map (λ (m : Member). own_in m.table i) (λ (m : TwinMember). m.second) members, are.headers i))
       numbers (guests_of_workers l.workers 1 [] (omega arith) (omega arith) refl))
+
+-- no count in a statement is above what each element is held
+counts_of : (s : Snapshot) (n : ℕ) → ((i : ℕ) → times_held s i ≤ n) → All (λ held. held.count ≤ n) (statement_in s).held
+counts_of s n few =
+    All-map (λ (held : Held). held.count ≤ n) (entry_with s.guests (own_pool s).members (own_pool s).shared.desks)
+    (elements_with s.guests (own_pool s)) (λ k d within. few (get_or (elements_with s.guests (own_pool s)) k d))
 
 abbrev first_of_crew : TwinManned → Manned
 first_of_crew m = record { seat = m.first; member = m.member.first }
@@ -199,6 +208,27 @@ module _ (g h : Grounded) (ms : List TwinManned) (s u : Seated) (c : ClosedTwin)
         subst (λ (notes : List Note). LieByNotes notes c.second.desks) are.second_whole.made.notes
         (are.second.noted second_parts);
   })
+
+  -- no count in them is above the reference limit of its pool
+  pub twin_counts : All (λ held. held.count ≤ c.first_limits.ref_limit) (statement_in first_snapshot).held
+      × All (λ held. held.count ≤ c.second_limits.ref_limit) (statement_in second_snapshot).held
+  twin_counts = rw (are.first.limits, are.second.limits) (
+    counts_of (first_of g.limits c.first c.shares.items) g.limits.ref_limit
+        (λ i.
+        omega (
+          arith,
+          first_held g.limits c.first s.known.view c.shares.items first_at_rest are.shares.first i,
+          held_few g.limits c.first s.known.view first_at_rest i,
+        )),
+    counts_of (second_of h.limits c.second c.shares.items) h.limits.ref_limit
+        (λ i.
+        omega (
+          arith,
+          second_held h.limits c.second u.known.view c.shares.items second_at_rest are.all.pools.no_desks
+              are.shares.second i,
+          held_few h.limits c.second u.known.view second_at_rest i,
+        )),
+  )
 
   -- where neither seat of theirs has taken a step, both left what they began with
   pub twins_fresh : IsUnmoved s.known → IsUnmoved u.known →

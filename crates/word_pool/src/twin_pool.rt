@@ -206,7 +206,7 @@ impl FreeSeats {
 /// pool its limits and what its ground left, and the share of each worker, from the first to the
 /// last: two whole pools at rest. Their statements, where they list each element of their pool once,
 /// are those of what the grounds left and of what these workers have. Where no worker has acted, both
-/// grounds left what they began with.
+/// grounds left what they began with. No count is above the reference limit of its pool.
 ///
 /// Refused `OutOfMemory` where memory was refused. The pools are ended then too, and nothing is left
 /// of them.
@@ -223,6 +223,9 @@ pub fn close(
     ensures shares { IfOk result (λ c. c.shares.items ≡ twins_of workers.items) }
     ensures fresh { All HasNotActedTwice workers.items → IfOk result (λ c.
         (c.first ≡ closed_at_start first.limits) × (c.second ≡ closed_at_start second.limits)) }
+    ensures counts { IfOk result (λ c.
+        All (λ held. held.count ≤ c.first_limits.ref_limit) (statement_in (first_of c.first_limits c.first c.shares.items)).held
+        × All (λ held. held.count ≤ c.second_limits.ref_limit) (statement_in (second_of c.second_limits c.second c.shares.items)).held) }
     // The statement of a lawful snapshot lists each element of its pool once.
     ensures statements { IfOk result (λ c.
         ListsItsElements (first_of c.first_limits c.first c.shares.items) (statement_in (first_of c.first_limits c.first c.shares.items)) →
@@ -268,6 +271,7 @@ pub fn close(
 /// left and of what these workers have: the bases of foreign clones are elements of the first pool,
 /// which their workers hold, and their own elements are of the second. What is available and what is
 /// in use are the population of each. Where no worker has acted, they are the statements of the start.
+/// No count is above the reference limit of its pool.
 ///
 /// Refused `OutOfMemory` where memory was refused. The pools are ended then too, and nothing is left
 /// of them.
@@ -285,6 +289,8 @@ pub fn settled(
     ensures each { IfOk result (λ s. ListsEachOnceWith (guests_listed s.1) s.0 × ListsEachOnce (local_statement true s.1)) }
     ensures places { IfOk result (λ s. PlacesEachOnce first.limits s.0 × PlacesEachOnce second.limits s.1) }
     ensures sound { IfOk result (λ s. ListsOnlyPackets s.0 × ListsOnlyPackets s.1) }
+    ensures counts { IfOk result (λ s. All (λ held. held.count ≤ first.limits.ref_limit) s.0.held
+        × All (λ held. held.count ≤ second.limits.ref_limit) s.1.held) }
     ensures whole { IfOk result (λ s. (s.0.available + s.0.in_use ≡ first.limits.population)
         × (s.1.available + s.1.in_use ≡ second.limits.population)) }
     ensures memory { IfErr result (λ e. e ≡ Refusal.OutOfMemory) }

@@ -2,7 +2,7 @@
 use Rattle.std.proofs.Common.{arith}
 use Rattle.word_pool.specs.inside.TwinCrews.{AreTwinsClosed}
 use Rattle.word_pool.proofs.TwinJoins.{count_of_twins}
-use Rattle.word_pool.proofs.TwinLeft.{statements_of_twins, twins_fresh, twins_left_whole}
+use Rattle.word_pool.proofs.TwinLeft.{statements_of_twins, twin_counts, twins_fresh, twins_left_whole}
 use Rattle.word_pool.proofs.twin_pool.close.Goals as goal
 use Rattle.word_pool.proofs.twin_pool.close.Goals.{In-Ok-closed_by-2}
 
@@ -51,3 +51,7 @@ pub returns-in-Ok-closed_by-2-clause-fresh : goal.returns-in-Ok-closed_by-2-clau
 returns-in-Ok-closed_by-2-clause-fresh c = λ none.
     let unmoved = c.joined-seats.ensures.unmoved none in
     twins_fresh _ _ _ _ _ _ (closed c) unmoved.0 unmoved.1
+
+-- no count is above the reference limit
+pub returns-in-Ok-closed_by-2-clause-counts : goal.returns-in-Ok-closed_by-2-clause-counts
+returns-in-Ok-closed_by-2-clause-counts c = twin_counts _ _ _ _ _ _ (closed c)

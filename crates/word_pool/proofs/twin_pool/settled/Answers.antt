@@ -1,6 +1,6 @@
 -- The statements are those of what was left.
-use Rattle.std.proofs.Common.{◌≡◌, List, Result, Ok, Err, ◌∙◌, sym, subst}
-use Rattle.std.specs.Prelude.{IfOk}
+use Rattle.std.proofs.Common.{◌≡◌, ◌≤◌, List, Result, Ok, Err, ◌∙◌, sym, subst}
+use Rattle.std.specs.Prelude.{All, IfOk}
 use Rattle.commons.specs.declared.closed.Closed.{Closed}
 use Rattle.commons.specs.declared.limits.Limits.{Limits}
 use Rattle.commons.specs.declared.refusal.Refusal.{Refusal}
@@ -39,6 +39,26 @@ returns-clause-fresh c = λ none.
     at_start c.settled_twins.result c.args.first.limits c.args.second.limits closed.first_limits closed.second_limits
     closed.first closed.second closed.shares.items (twins_of c.args.workers.items) left.first_limits left.second_limits
     left.shares (left.fresh none) c.settled_twins.ensures.first_statement c.settled_twins.ensures.second_statement
+
+-- counts that are within the limits of what was left are so of what is settled
+counts_told : (r : Result (Statement × Statement) Refusal) (l k m n : Limits) (one two : Statement) → m ≡ l → n ≡ k →
+    All (λ held. held.count ≤ m.ref_limit) one.held × All (λ held. held.count ≤ n.ref_limit) two.held →
+    IfOk r (λ s. s.0 ≡ one) → IfOk r (λ s. s.1 ≡ two)
+    → IfOk r (λ s. All (λ held. held.count ≤ l.ref_limit) s.0.held × All (λ held. held.count ≤ k.ref_limit) s.1.held)
+counts_told (Ok s) l k m n one two first second counts same also = (
+  rw same (subst (λ (x : Limits). All (λ held. held.count ≤ x.ref_limit) one.held) first counts.0),
+  rw also (subst (λ (x : Limits). All (λ held. held.count ≤ x.ref_limit) two.held) second counts.1),
+)
+counts_told (Err e) l k m n one two first second counts same also = tt
+
+pub returns-clause-counts : goal.returns-clause-counts
+returns-clause-counts c =
+    let left = c.in_ok-closed.ensures in
+    let closed = c.in_ok-closed.closed in
+    counts_told c.settled_twins.result c.args.first.limits c.args.second.limits closed.first_limits closed.second_limits
+    (statement_in (first_of closed.first_limits closed.first closed.shares.items))
+    (statement_in (second_of closed.second_limits closed.second closed.shares.items)) left.first_limits left.second_limits
+    left.counts c.settled_twins.ensures.first_statement c.settled_twins.ensures.second_statement
 
 pub returns-clause-statements : goal.returns-clause-statements
 returns-clause-statements c =
