@@ -1,11 +1,13 @@
 /* mbufpool.h - the packet-buffer pool as a C library (libmbufpool_c.a).
  *
- * Three faces, each behind handles that the caller keeps:
+ * Four faces, each behind handles that the caller keeps:
  *
  *   struct mbufpool_seat     the bare stack of elements, 0 to population - 1, which up to 64
  *                            threads use at once without a lock, each by a seat of its own: what
  *                            stands below a mempool
  *   struct mbufpool_checked  the same by one seat, which takes back only what it gave
+ *   struct mbufpool_guard    the same by up to 64 threads at once, each with a cache: what isn't out
+ *                            is refused, whoever puts it, and each element that is out says who got it
  *   struct mbufpool_worker   packets over such a pool: a worker has a cache and a table of 256
  *                            packets, with lengths, chains, reference counts, clones, and desks
  *                            over which a packet passes to another worker; a pool of packets that
@@ -27,8 +29,8 @@
  *   memory     `out` has room for n of its kind and `list` has n numbers, n > 0 or not. What the
  *              pointers of one call lead to doesn't overlap (two handles are two structs), and is
  *              the call's alone while it runs.
- *   elements   (seats alone) what is put was got by this seat and not put since, each element once
- *              in a list. See mbufpool_seat_put.
+ *   elements   (seats alone) what is put was got from this pool, by any of its seats and in any
+ *              thread, and not put since, each element once in a list. See mbufpool_seat_put.
  *   process    malloc, realloc and free are of one allocator and give blocks aligned as C asks; no
  *              call is made from a signal handler, or in a forked child of a process with threads.
  *
@@ -66,6 +68,9 @@ enum mbufpool_refusal {
 	MBUFPOOL_SAME_PACKET = 23,
 	MBUFPOOL_NOT_IN_HAND = 24,	/* (checked seats alone) the list names what the seat hasn't got, or something twice */
 	MBUFPOOL_MISUSED = 25,	/* (mbufpool_close alone) a handle was used by another thread meanwhile: the workers are ended */
+	MBUFPOOL_NOT_OUT = 26,		/* (guarded pools alone) of what was to be put not each was out */
+	MBUFPOOL_NOBODY = 27,		/* (guarded pools alone) a get with a number below 2 */
+	MBUFPOOL_UNRESTED = 28,		/* (guarded pools alone) a word that must be 0 wasn't: no run has met it */
 };
 
 #define MBUFPOOL_NONE { 0 }
@@ -80,24 +85,27 @@ struct mbufpool_seat { void *at; };
  * that was in `out` is ended. */
 uint32_t mbufpool_seat_open(uint32_t population, uint32_t seats, uint32_t tries, struct mbufpool_seat *out);
 
-/* Makes one more seat of the pool, by its first seat. */
+/* Makes one more seat of the pool, by its first seat. Where memory is refused the first seat has its
+ * share of the pool back. */
 uint32_t mbufpool_seat_split(struct mbufpool_seat *seat, struct mbufpool_seat *out);
 
-/* Gets n elements: all of them, or none. */
+/* Gets n elements: all of them, or none. A refused get may have written to `out`. */
 uint32_t mbufpool_seat_get(struct mbufpool_seat *seat, uint32_t *out, size_t n);
 
 /* Puts n elements back: all of them, or none.
- * Each was got by this seat, was not put since, and stands in the list once. */
+ * Each was got from this pool, was not put since, and stands in the list once. Which seat got it
+ * doesn't matter, nor whether that seat is ended by now: one thread may get what another puts. It
+ * passes from thread to thread as a handle does, or by any exchange of theirs that orders memory. */
 uint32_t mbufpool_seat_put(struct mbufpool_seat *seat, const uint32_t *list, size_t n);
 
 /* How many elements the stack's length word counts; 0 where the handle has no seat. While other
  * threads are within calls it may lag behind. To see at the end whether all elements are back: let
  * each seat put what it has got, wait for all threads, and call this by any seat before the seats
- * are ended. What is missing from the population then was not put, or was lost with a seat. */
+ * are ended. What is missing from the population then was not put. */
 uint32_t mbufpool_seat_count(struct mbufpool_seat *seat);
 
-/* Ends a seat; the handle has zeros then. What the seat has got and not put is lost to the pool, so
- * put it first. The pool's memory is freed with its last seat. */
+/* Ends a seat; the handle has zeros then. What the seat has got and not put may still be put, by any
+ * other seat; it is lost to the pool where nobody does. The pool's memory is freed with its last seat. */
 void mbufpool_seat_free(struct mbufpool_seat *seat);
 
 /* ---- the bare stack, checked ---- */
@@ -109,10 +117,52 @@ void mbufpool_seat_free(struct mbufpool_seat *seat);
 struct mbufpool_checked { void *at; };
 
 uint32_t mbufpool_checked_open(uint32_t population, uint32_t tries, struct mbufpool_checked *out);
-uint32_t mbufpool_checked_get(struct mbufpool_checked *seat, uint32_t *out, size_t n);
+uint32_t mbufpool_checked_get(struct mbufpool_checked *seat, uint32_t *out, size_t n);	/* as mbufpool_seat_get */
 uint32_t mbufpool_checked_put(struct mbufpool_checked *seat, const uint32_t *list, size_t n);
 uint32_t mbufpool_checked_count(struct mbufpool_checked *seat);
 void mbufpool_checked_free(struct mbufpool_checked *seat);
+
+/* ---- the bare stack, guarded ---- */
+
+/* A worker of a guarded pool: a cache of elements, over the stack that all workers of the pool share.
+ * An element is in one place: on the stack, in a worker's cache, or out. While it is out, a word of its
+ * own has the number that came with its get. A put takes each number of its list from there by one
+ * exchange, so that of two puts of one element one is refused, whichever threads make them and when.
+ * So the caller owes nothing of elements: any numbers may be put, by any worker, in any thread. */
+struct mbufpool_guard { void *at; };
+
+/* Makes a pool of 1 to 16,777,214 elements, all on the stack, for 1 to 64 workers with a cache of 0 to
+ * 512 each, 3/2 of it at most the population, and its first worker. `tries` as for a seat. A worker that
+ * was in `out` is ended. */
+uint32_t mbufpool_guard_open(uint32_t population, uint32_t cache, uint32_t workers, uint32_t tries, struct mbufpool_guard *out);
+
+/* Makes one more worker of the pool, by its first worker, with an empty cache. */
+uint32_t mbufpool_guard_split(struct mbufpool_guard *worker, struct mbufpool_guard *out);
+
+/* Gets n elements, from the cache or the stack: all of them, or none. Each is out then, with the number
+ * `who`, which is 2 at least, else the answer is MBUFPOOL_NOBODY. */
+uint32_t mbufpool_guard_get(struct mbufpool_guard *worker, uint64_t who, uint32_t *out, size_t n);
+
+/* Puts n numbers, as far as they are out: into the worker's cache, whichever worker got them. The list
+ * is put in another order: those that were put first, `*taken` of them, and behind them those that
+ * weren't out: put before, put twice in this list, never got, or none of the pool. words[k] is what was
+ * found of list[k], as it stands then: the number that came with its get, or 0 where it wasn't out.
+ * Answers 0 where all were out, else MBUFPOOL_NOT_OUT; MBUFPOOL_NO_ROOM where `words_n` isn't n, and
+ * then nothing was done. What the stack refuses stays in the cache, and goes there with the next. */
+uint32_t mbufpool_guard_put(struct mbufpool_guard *worker, uint32_t *list, size_t n, uint64_t *words, size_t words_n, uint64_t *taken);
+
+/* The number that came with the get of an element that is out, or 0: it isn't out, or is none of the
+ * pool. */
+uint64_t mbufpool_guard_who(struct mbufpool_guard *worker, uint32_t element);
+
+/* How many elements of the pool are out: each word is read once, so what others get and put meanwhile
+ * may count or not. All that isn't out is on the stack or in a cache. */
+uint64_t mbufpool_guard_out(struct mbufpool_guard *worker);
+
+/* Puts the worker's cache onto the stack and ends the worker; the handle has zeros then. What is out may
+ * still be put, by any other worker. Where the stack refuses the cache, it is lost. The pool's memory is
+ * freed with its last worker. */
+void mbufpool_guard_end(struct mbufpool_guard *worker);
 
 /* ---- packets ---- */
 

@@ -1,7 +1,7 @@
 /* any_numbers.c - every call of the library with any numbers: slots without a packet, desks that
  * there are not, lengths too great, elements that were never got, handles without a worker. What
  * is answered is held against what must be so, and at the end of a pool every element can be had
- * again. (A bare seat is put what it has got alone, as its contract asks.)
+ * again. (A bare seat is put what was got and not put since, as its contract asks.)
  *
  *     make any_numbers && ./any_numbers [CALLS [THREADS [SEED]]]
  *

@@ -4,10 +4,9 @@
  *     or --mbuf-pool-ops-name=mbufpool for mbuf pools
  *
  * "mbufpool": each enabled lcore has a seat of its own, with which it gets and puts without a lock;
- * threads that are no such lcores share one seat under a spinlock. What the library asks of a
- * seat's put, that the seat has got the elements, an application keeps where each lcore puts back
- * what it got. An object that passes from lcore to lcore is got by one seat and put by another: the
- * words of the stack are the same then, but the library's contract says nothing of it.
+ * threads that are no such lcores share one seat under a spinlock. The library asks of a put that
+ * its elements were got from the pool, by any seat, and not put since: an application keeps that
+ * where it frees no object twice. An object may pass from lcore to lcore in between.
  *
  * "mbufpool_checked": one checked seat under a spinlock, for all threads. Nothing is asked of the
  * application: an object that is put twice, or that the pool hasn't given, is refused and logged,

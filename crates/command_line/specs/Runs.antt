@@ -1,6 +1,6 @@
 -- What a run of the program comes to, and its status.
 use Rattle.std.specs.Prelude.{ℕ, ◌≡◌, List, Option, ◌⊎◌}
-use Rattle.command_line.specs.Statuses.{IsToldWith, status_of}
+use Rattle.command_line.specs.Statuses.{IsToldWith, OtherStays, status_of}
 use Rattle.command_line.specs.declared.unasked.Unasked.{Unasked}
 use Rattle.script_io.specs.declared.reading.ReadFault.{ReadFault}
 use Rattle.tasks.specs.Ends.{status_of_end}
@@ -10,23 +10,34 @@ use Rattle.tasks.specs.declared.kind.Kind.{Kind}
 use Rattle.tasks.specs.declared.printing.End.{End}
 use Rattle.tasks.specs.declared.task.Task.{Task}
 
--- A task with a file was asked for. It ended so, on the output and on the errors, and the status is
--- that of this end: 0 where the whole print was written, else 1.
-pub record RunsTask (Gives : Kind → List ℕ → List ℕ → Type 0) (Fails : Kind → List ℕ → ReadFault → Type 0)
-    (output output' errors errors' : Option (List ℕ)) (status : ℕ) : Type 0 where
-  pub file : List ℕ
-  pub task : Task
+-- A task with a file ended so, on the output and on the errors, and the status is that of this end: 0
+-- where the whole print was written, else 1.
+pub record Ends (Gives : Kind → List ℕ → List ℕ → Type 0) (Fails : Kind → List ℕ → ReadFault → Type 0)
+    (file : List ℕ) (task : Task) (output output' errors errors' : Option (List ℕ)) (status : ℕ) : Type 0 where
   pub end : End
   pub ends : EndsAs (Gives (kind_of task) file) (Fails (kind_of task) file) file task output output' errors errors' end
   pub tells : status ≡ status_of_end end
 
--- nothing was asked for that can be done, and the status says why: 2 where the words are wrong, 1
--- where memory was refused, and 0 or 1 for help and the version
-pub record TellsWhy (status : ℕ) : Type 0 where
-  pub unasked : Unasked
+-- so of some task and file
+pub record RunsTask (Gives : Kind → List ℕ → List ℕ → Type 0) (Fails : Kind → List ℕ → ReadFault → Type 0)
+    (output output' errors errors' : Option (List ℕ)) (status : ℕ) : Type 0 where
+  pub file : List ℕ
+  pub task : Task
+  pub ends : Ends Gives Fails file task output output' errors errors' status
+
+-- it was said why nothing was done, on one of the two: the other is as it was. The status is 2 where
+-- the words are wrong, 1 where memory was refused, and 0 or 1 for help and the version.
+pub record Says (unasked : Unasked) (output output' errors errors' : Option (List ℕ)) (status : ℕ) : Type 0 where
   pub tells : IsToldWith (status_of unasked) status
+  pub other : OtherStays unasked output output' errors errors'
+
+-- nothing was asked for that can be done
+pub record TellsWhy (output output' errors errors' : Option (List ℕ)) (status : ℕ) : Type 0 where
+  pub unasked : Unasked
+  pub says : Says unasked output output' errors errors' status
 
 -- one of these two
 abbrev pub RunsSo : (Kind → List ℕ → List ℕ → Type 0) → (Kind → List ℕ → ReadFault → Type 0)
     → Option (List ℕ) → Option (List ℕ) → Option (List ℕ) → Option (List ℕ) → ℕ → Type 0
-RunsSo Gives Fails output output' errors errors' status = RunsTask Gives Fails output output' errors errors' status ⊎ TellsWhy status
+RunsSo Gives Fails output output' errors errors' status =
+    RunsTask Gives Fails output output' errors errors' status ⊎ TellsWhy output output' errors errors' status

@@ -1,6 +1,6 @@
 -- The status that the program ends with where the words of its command line ask for nothing that
 -- can be done.
-use Rattle.std.specs.Prelude.{ℕ, ◌≡◌, ◌<◌, ◌≤◌}
+use Rattle.std.specs.Prelude.{ℕ, ◌≡◌, ◌≢◌, ◌<◌, ◌≤◌, List, Option}
 use Rattle.clap.specs.Values.{kind_of}
 use Rattle.clap.specs.declared.error.Error.{Error}
 use Rattle.clap.specs.declared.error.kind.ErrorKind.{ErrorKind}
@@ -31,3 +31,14 @@ status_of Memory = 1
 -- what is said of such words may end with this status: their own, or for help and the version 1 too
 abbrev pub IsToldWith : ℕ → ℕ → Type 0
 IsToldWith own status = (0 < own → status ≡ own) × (own ≡ 0 → status ≤ 1)
+
+-- an error is told on the errors: neither help nor the version was asked for
+abbrev pub IsMistake : Error → Type 0
+IsMistake error = (kind_of error ≢ DisplayHelp) × (kind_of error ≢ DisplayVersion)
+
+-- what is said goes to the errors, but help and the version to the output: the other of the two is as
+-- it was
+abbrev pub OtherStays : Unasked → Option (List ℕ) → Option (List ℕ) → Option (List ℕ) → Option (List ℕ) → Type 0
+OtherStays (Said error) output output' errors errors' =
+    (IsMistake error → output' ≡ output) × (¬ IsMistake error → errors' ≡ errors)
+OtherStays Memory output output' errors errors' = output' ≡ output

@@ -7,5 +7,5 @@ mod running;
 pub mod unasked;
 
 pub use parsing::{request_of, words};
-pub use running::run;
+pub use running::{run, serve};
 pub use unasked::{Unasked, tell};

@@ -1,9 +1,9 @@
 //! What the program does, and the status that it ends with.
-ghost use Rattle.std.specs.Prelude.{◌≡◌, ◌≤◌, false};
-ghost use Rattle.command_line.specs.Runs.{RunsSo};
+ghost use Rattle.std.specs.Prelude.{◌≡◌, ◌≤◌, IfErr, IfOk, false};
+ghost use Rattle.command_line.specs.Runs.{Ends, RunsSo, Says};
 
 use crate::parsing::{request_of, words};
-use crate::unasked::tell;
+use crate::unasked::{Unasked, tell};
 use script_io::Tally;
 use std::env::Env;
 use std::io::Write;
@@ -11,6 +11,7 @@ use std::sync::Wait;
 use std::thread::Threads;
 use tasks::print;
 use tasks::scripts::Scripts;
+use tasks::task::Request;
 
 /// Does what the command line asks for, and gives the status that the program ends with: 0 where
 /// the whole print was written, or help or the version; 1 where a failure was told or a writer
@@ -37,9 +38,45 @@ pub fn run<R: Env + AllocGlobal + Threads + Wait + Sync, S: Scripts, O: Write, E
 {
     let words = match words(rt) {
         Ok(words) => words,
-        Err(unasked) => return tell(screen, errors, &unasked),
+        Err(unasked) => return serve(rt, scripts, Err(unasked), screen, errors),
     };
-    match request_of(rt.alloc(), words.as_slice()) {
+    let asked = request_of(rt.alloc(), words.as_slice());
+    serve(rt, scripts, asked, screen, errors)
+}
+
+/// Does what is asked for, or says why nothing is, and gives the status that the program ends with.
+pub fn serve<R: AllocGlobal + Threads + Wait + Sync, S: Scripts, O: Write, E: Write>(
+    rt: &R,
+    scripts: &S,
+    asked: Result<Request<'_>, Unasked>,
+    screen: &mut Tally<O>,
+    errors: &mut E,
+) -> u8
+    requires { screen.old.failed ≡ false }
+    // It is the status of the print of this task and file,
+    ensures done { IfOk asked.entry (λ request. Ends
+        (S.gives scripts.now)
+        (S.fails scripts.now)
+        request.file.now
+        request.task
+        (O.contents screen.old.inner)
+        (O.contents screen.new.inner)
+        (E.contents errors.old)
+        (E.contents errors.new)
+        result) }
+    // or of what is said of words that ask for none.
+    ensures said { IfErr asked.entry (λ unasked. Says
+        unasked
+        (O.contents screen.old.inner)
+        (O.contents screen.new.inner)
+        (E.contents errors.old)
+        (E.contents errors.new)
+        result) }
+    // The output didn't fail.
+    ensures sound { result ≡ 0 → screen.new.failed ≡ false }
+    ensures status { result ≤ 2 }
+{
+    match asked {
         Ok(request) => print(rt, rt.alloc(), scripts, &request, screen, errors).status(),
         Err(unasked) => tell(screen, errors, &unasked),
     }

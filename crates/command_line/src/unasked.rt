@@ -1,6 +1,6 @@
 //! Why the words of the command line ask for nothing that can be done, and what is said of that.
 ghost use Rattle.std.specs.Prelude.{◌≡◌, false};
-ghost use Rattle.command_line.specs.Statuses.{IsToldWith, status_of, unasked_by};
+ghost use Rattle.command_line.specs.Statuses.{IsToldWith, OtherStays, status_of, unasked_by};
 
 use clap::Error;
 use clap::error::ErrorKind;
@@ -51,6 +51,9 @@ impl From<Error> for Unasked {
 /// of its errors.
 pub fn tell<O: Write, E: Write>(screen: &mut Tally<O>, errors: &mut E, unasked: &Unasked) -> u8
     ensures status { IsToldWith (status_of unasked.now) result }
+    // What isn't written to is as it was.
+    ensures other { OtherStays unasked.now (O.contents screen.old.inner) (O.contents screen.new.inner)
+        (E.contents errors.old) (E.contents errors.new) }
     // The output didn't fail.
     ensures sound { result ≡ 0 → screen.new.failed ≡ false }
 {
@@ -61,7 +64,10 @@ pub fn tell<O: Write, E: Write>(screen: &mut Tally<O>, errors: &mut E, unasked: 
 }
 
 /// Writes help and the version to the standard output, and all else as errors.
-fn say<O: Write, E: Write>(screen: &mut O, errors: &mut E, unasked: &Unasked) -> io::Result<()> {
+fn say<O: Write, E: Write>(screen: &mut O, errors: &mut E, unasked: &Unasked) -> io::Result<()>
+    ensures { OtherStays unasked.now (O.contents screen.old) (O.contents screen.new)
+        (E.contents errors.old) (E.contents errors.new) }
+{
     match unasked {
         Unasked::Said(error) if error.use_stderr() => write!(errors, "{error}"),
         Unasked::Said(error) => write!(screen, "{error}"),

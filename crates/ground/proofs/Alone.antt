@@ -16,7 +16,7 @@ use Rattle.step_core.specs.declared.view.View.{View}
 use Rattle.step_core.specs.declared.view.Desk.{Desk}
 use Rattle.step_core.specs.declared.view.Work.{Work}
 use Rattle.step_core.specs.Bags.{one_if}
-use Rattle.step_core.specs.World.{World, view_at, desk_at, empty_view, link_in, hands, all_zeros, all_holds, shelf, credits}
+use Rattle.step_core.specs.World.{World, view_at, desk_at, empty_view, link_in, hands, all_zeros, all_holds, shelf, credits, every_part}
 use Rattle.step_core.specs.Law.{Lawful, NamesNothing, LookRule, is_filling, fills, empties}
 use Rattle.step_core.specs.Headers.{HeaderLaw, all_headers, own_shelf}
 use Rattle.step_core.specs.Links.{Spells}
@@ -32,7 +32,7 @@ use Rattle.ground.specs.Rule.{SeesDesks}
 use Rattle.ground.specs.Seats.{held_below, MayLie, KnowsLength, KnowsEnd}
 
 -- without a part there is nothing
-pub others_idle : (w : World) → Lawful w → (k : ℕ) → (view_at w.views k).part ≡ w.limits.workers →
+pub others_idle : (w : World) → Lawful w → (k : ℕ) → (view_at w.views k).part ≡ every_part w.limits →
     (j : ℕ) → j ≢ k → NamesNothing (view_at w.views j)
 others_idle w law k whole j ne =
     let two = two_views (λ (v : View). v.part) w.views k j refl (λ e. ne (sym e)) in
@@ -219,12 +219,12 @@ may_lie w law headers count packets l limits k v is =
     (subst (λ (u : View). MayLie w.limits u (lying_on w.desks)) is (lies_beside w law k headers count packets))
 
 -- what the only seat of a pool knows of the desks is what lies there
-pub lies_known : (w : World) (n : Known) → KnowsDesks n → SeesDesks w n → n.view.part ≡ n.limits.workers →
+pub lies_known : (w : World) (n : Known) → KnowsDesks n → SeesDesks w n → n.view.part ≡ every_part n.limits →
     n.lying ≡ Some (lying_on w.desks)
 lies_known w n knows_desks sees whole =
-    known_to_lie n.lying (n.view.part ≡ w.limits.workers) (lying_on w.desks) sees (knows_desks whole)
+    known_to_lie n.lying (n.view.part ≡ every_part w.limits) (lying_on w.desks) sees (knows_desks whole)
 
-module _ (w : World) (law : Lawful w) (k : ℕ) (here : k < length w.views) (whole : (view_at w.views k).part ≡ w.limits.workers) where
+module _ (w : World) (law : Lawful w) (k : ℕ) (here : k < length w.views) (whole : (view_at w.views k).part ≡ every_part w.limits) where
   abbrev pub v : View
   v = view_at w.views k
 
@@ -279,10 +279,10 @@ module _ (w : World) (law : Lawful w) (k : ℕ) (here : k < length w.views) (who
       omega arith
     where
       there : (o : Option Look) → o ≡ Some l →
-          IfSome o (LookRule w.limits.workers w.head (link_in w.links) v.part v.seen) →
-          LookRule w.limits.workers w.head (link_in w.links) v.part v.seen l
+          IfSome o (LookRule (every_part w.limits) w.head (link_in w.links) v.part v.seen) →
+          LookRule (every_part w.limits) w.head (link_in w.links) v.part v.seen l
       there o same h = subst
-          (λ (x : Option Look). IfSome x (LookRule w.limits.workers w.head (link_in w.links) v.part v.seen))
+          (λ (x : Option Look). IfSome x (LookRule (every_part w.limits) w.head (link_in w.links) v.part v.seen))
           same h
 
       nothing : (xs : List ℕ) → Spells (link_in w.links) 0 xs → length xs ≡ 0
@@ -311,7 +311,7 @@ knows w law headers count packets n limits k here is knows_desks sees whole = (
       + held_below w.limits.population (u.holds ++ flat_map holds_in_slot (lying_on w.desks))
       ≡ w.limits.population) is
       (length_known w law k here
-      (ap (λ (u : View). u.part) is ∙ (whole ∙ sym (ap (λ (m : Limits). m.workers) limits))))),
+      (ap (λ (u : View). u.part) is ∙ (whole ∙ sym (ap (λ (m : Limits). every_part m) limits))))),
 )
 
 -- the only seat of a pool knows that a walk to the end has passed all that is reserved
@@ -324,12 +324,12 @@ knows_end w law l limits k here v is whole = all v.look refl
     all (Some x) e = λ ends.
         subst (λ (u : View). u.credit ≤ length x.front) is
         (end_known w law k here
-        (ap (λ (u : View). u.part) is ∙ (whole ∙ sym (ap (λ (m : Limits). m.workers) limits))) x
+        (ap (λ (u : View). u.part) is ∙ (whole ∙ sym (ap (λ (m : Limits). every_part m) limits))) x
         (ap (λ (u : View). u.look) is ∙ e) ends)
 
 -- where its view works at no desk, no desk is busy
 pub none_in_work : (w : World) → Lawful w → (k : ℕ) → k < length w.views →
-    (view_at w.views k).part ≡ w.limits.workers → (view_at w.views k).work ≡ None → (d : ℕ) →
+    (view_at w.views k).part ≡ every_part w.limits → (view_at w.views k).work ≡ None → (d : ℕ) →
     ((desk_at w.desks d).word ≢ 1) × ((desk_at w.desks d).word ≢ 3)
 none_in_work w law k here whole idle d = (
   λ one.
@@ -350,6 +350,6 @@ none_in_work w law k here whole idle d = (
 
 -- all holds of an element are the only seat's and those of what lies on the desks
 pub holds_known : (w : World) → Lawful w → (k : ℕ) → k < length w.views →
-    (view_at w.views k).part ≡ w.limits.workers → (i : ℕ) →
+    (view_at w.views k).part ≡ every_part w.limits → (i : ℕ) →
     all_holds i w.views w.desks ≡ bag (view_at w.views k).holds i + held_in (lying_on w.desks) i
 holds_known w law k here whole i = my_holds w law k here whole i

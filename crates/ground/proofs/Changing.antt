@@ -9,7 +9,7 @@ use Rattle.step_core.specs.declared.step.Step.{Step}
 use Rattle.step_core.specs.declared.step.Outcome.{Outcome}
 use Rattle.ground.specs.declared.known.Known.{Known}
 use Rattle.ground.specs.Changing.{changes_by, changes_in, changes_of, IsUnmoved}
-use Rattle.ground.specs.Parting.{both, less_part, newcomer, spent_seat}
+use Rattle.ground.specs.Parting.{both, spent_seat}
 use Rattle.ground.specs.Rule.{AreUnmoved}
 
 -- what a list of seats has at an index
@@ -72,12 +72,13 @@ one_alone (x ∷ xs) (suc id) n at others =
     let d = ap changes_in a.joined in
     omega (arith, sum_by-cons changes_of x xs)
 
--- a split changes nothing of the sum
-pub sum_split : (ns : List Known) (id : ℕ) (n : Known) → get_elem? ns id ≡ some n →
-    sum_by changes_of (set ns id (less_part n) ++ newcomer n ∷ []) ≡ sum_by changes_of ns
-sum_split ns id n at =
-    let all = sum_set ns id n (less_part n) at in
-    omega (arith, sum_by_push changes_of (set ns id (less_part n)) (newcomer n))
+-- a seat that is cut in two, of which the new one has done nothing, changes nothing of the sum
+pub sum_cut : (ns : List Known) (id : ℕ) (n left right : Known) → get_elem? ns id ≡ some n →
+    changes_of left ≡ changes_of n → changes_of right ≡ 0 →
+    sum_by changes_of (set ns id left ++ right ∷ []) ≡ sum_by changes_of ns
+sum_cut ns id n left right at same none =
+    let all = sum_set ns id n left at in
+    omega (arith, sum_by_push changes_of (set ns id left) right)
 
 -- a join changes nothing of the sum
 pub sum_join : (ns : List Known) (id : ℕ) (n : Known) (other : ℕ) (o : Known) → get_elem? ns id ≡ some n →
@@ -136,11 +137,10 @@ unmoved_set ns id n m at back all j o e =
     (λ (ne : j ≢ id). all j o (set_other ns id j m o ne e))
     (cases_eq j id)
 
-pub unmoved_split : (ns : List Known) (id : ℕ) (n : Known) → get_elem? ns id ≡ some n →
-    AreUnmoved (set ns id (less_part n) ++ newcomer n ∷ []) → AreUnmoved ns
-unmoved_split ns id n at all =
-    unmoved_set ns id n (less_part n) at (λ h. record { steps = h.steps; joined = h.joined })
-    (λ j o e. all j o (push_there (set ns id (less_part n)) j (newcomer n) o e))
+pub unmoved_cut : (ns : List Known) (id : ℕ) (n left right : Known) → get_elem? ns id ≡ some n →
+    (IsUnmoved left → IsUnmoved n) → AreUnmoved (set ns id left ++ right ∷ []) → AreUnmoved ns
+unmoved_cut ns id n left right at back all =
+    unmoved_set ns id n left at back (λ j o e. all j o (push_there (set ns id left) j right o e))
 
 none_left : {A : Type 0} (xs ys : List A) → xs ++ ys ≡ [] → (xs ≡ []) × (ys ≡ [])
 none_left [] ys e = (refl, e)

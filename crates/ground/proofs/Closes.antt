@@ -13,20 +13,22 @@ use Rattle.commons.specs.declared.limits.Limits.{Limits}
 use Rattle.step_core.specs.declared.view.Head.{Head}
 use Rattle.step_core.specs.declared.view.Desk.{Desk}
 use Rattle.step_core.specs.declared.view.View.{View}
-use Rattle.step_core.specs.World.{World, view_at, desk_at}
+use Rattle.step_core.specs.World.{World, view_at, desk_at, every_part}
 use Rattle.step_core.specs.Law.{Lawful}
 use Rattle.step_core.specs.Opening.{opening}
 use Rattle.step_core.specs.Headers.{HeaderLaw}
 use Rattle.step_core.proofs.Bags.{times-head, times-nil}
 use Rattle.ground.specs.declared.known.Known.{Known}
 use Rattle.ground.specs.Changing.{IsFresh, closed_at_start}
+use Rattle.ground.specs.Lying.{LieByNotes}
+use Rattle.ground.proofs.Lying.{lie_by_notes}
 use Rattle.ground.specs.Closing.{Nothing, LeftOf, IsKept, kept_on, packet_on, lying_on}
 use Rattle.ground.specs.Layout.{pack, unpack, lines, words_with, word_on, rows_of, words_of, length_word, links_at}
 use Rattle.ground.specs.Rule.{Slot, Ruled, home_by, home_of}
 use Rattle.ground.proofs.Alone.{others_idle}
 use Rattle.ground.proofs.Playing.{unpack_pack}
 use Rattle.ground.proofs.Opens.{none_lie}
-use Rattle.ground.proofs.Sitting.{law_of, there, is, all_unmoved}
+use Rattle.ground.proofs.Sitting.{law_of, there, is, all_unmoved, others_out}
 
 pub take_front : (xs ys : List ℕ) (n : ℕ) → length xs ≡ n → take n (xs ++ ys) ≡ xs
 take_front [] ys zero e = refl
@@ -143,7 +145,7 @@ none_of (x ∷ xs) h = absurd (let a = h x in omega (arith, times-head x xs))
 
 -- where one view has every part, no other view names anything
 others_none : (w : World) → Lawful w → HeaderLaw w → (id : ℕ) (v : View) → view_at w.views id ≡ v →
-    v.part ≡ w.limits.workers → (k : ℕ) → k ≢ id → Nothing (view_at w.views k)
+    v.part ≡ every_part w.limits → (k : ℕ) → k ≢ id → Nothing (view_at w.views k)
 others_none w law headers id v same whole k ne =
     let idle = others_idle w law id (ap (λ (u : View). u.part) same ∙ whole) k ne in
     let held : (view_at w.views k).holds ≡ [] = none_in (view_at w.views k).holds idle.holds in
@@ -259,11 +261,12 @@ left_at_start l v c left same =
     let desks = left.desks ∙ (ap (λ (w : World). lying_on w.desks) same ∙ sym (none_lie l.desks)) in
     λ i. record { top = top i; length = size i; links = links i; counts = counts i; desks = desks i }
 
--- what is left is of a lawful world, has the packets that the seat knew of, and is that of the
--- start where nobody did anything
+-- what is left is of a lawful world, has the packets that the seat knew of, is that of the start
+-- where nobody did anything, and of the only seat has on the desks what that seat's notes leave there
 abbrev pub Closes : Limits → View → Known → Closed → Type 0
 Closes l v n c =
     LeftOf l v c × IfSome n.lying (λ ds. c.desks ≡ ds) × (IsFresh n → c ≡ closed_at_start l)
+    × (n.view.part ≡ every_part l → LieByNotes (n.steps ++ n.joined) c.desks)
 
 -- what is left, by the words that were read
 pub closes : (key l : Limits) → key ≡ l → (v : View) (id : ℕ) (n : Known) → n.view ≡ v →
@@ -299,7 +302,7 @@ closes
       view = there l f.0 r id n f.1.1 ∙ ap some same;
       alone =
           λ whole. others_none w law r.counts.headers id v (is l f.0 r id n f.1.1 ∙ same)
-          (whole ∙ sym (ap (λ (k : Limits). k.workers) r.limits));
+          (whole ∙ sym (ap (λ (k : Limits). every_part k) r.limits));
       top = ap (λ (h : Head). h.top) read;
       length =
           some-injective len w.length
@@ -325,11 +328,16 @@ closes
           ∙ (sym (ap (λ (hs : List (maybe.Option Slot)). length hs) r.homes_are) ∙ f.3)))
           r.desks.desks.words kept;
     } in
-    let lies : IfSome n.lying (λ ds. (n.view.part ≡ w.limits.workers) × (ds ≡ lying_on w.desks)) = r.lies id n f.1.1 in (
+    let lies : IfSome n.lying (λ ds. (n.view.part ≡ every_part w.limits) × (ds ≡ lying_on w.desks)) = r.lies id n f.1.1 in (
       left,
-      as_known n.lying (n.view.part ≡ w.limits.workers) (lying_on w.desks) c.desks left.desks lies,
+      as_known n.lying (n.view.part ≡ every_part w.limits) (lying_on w.desks) c.desks left.desks lies,
       λ fresh.
           let same_world : w ≡ record (opening l) { views = w.views } =
           r.opened (all_unmoved l f.0 r id n f.1.1 busy fresh) in
           left_at_start l v c left same_world,
+      λ whole.
+          let every = whole ∙ sym (ap (λ (k : Limits). every_part k) r.limits) in
+          subst (λ (ds : List Slot). LieByNotes (n.steps ++ n.joined) ds) (sym left.desks)
+          (lie_by_notes l r.history w f.0.views r.led id n f.1.1
+          (λ j o ne e. r.idle j o e (others_out l f.0 r id n f.1.1 every j o ne e))),
     )

@@ -21,7 +21,7 @@ use Rattle.step_core.specs.Law.{Lawful, empties}
 use Rattle.step_core.specs.Runs.{Reaches}
 use Rattle.step_core.specs.Views.{working, opened, seized}
 use Rattle.step_core.specs.Steps.{Play, quiet, given, hold, put_in, open_desk, open_with, seize, seize_with, take_out, clear, at_desk, phase_at, play}
-use Rattle.step_core.specs.World.{World, empty_view, no_desk, view_at, view_of, desk_at}
+use Rattle.step_core.specs.World.{World, empty_view, no_desk, view_at, view_of, desk_at, every_part}
 use Rattle.step_core.specs.declared.step.Step.{Step}
 use Rattle.step_core.specs.declared.step.Step.TheVariants.{Hold, PutIn, Open, Seize, TakeOut, Clear}
 use Rattle.step_core.specs.declared.step.Outcome.{Outcome}
@@ -73,10 +73,10 @@ module _ (l : Limits) (s : St) (r : Ruled l s) (id : ℕ) (me : Sat) (at : get_e
   abbrev this : Desk
   this = desk_at r.world.desks d
 
-  seen_by : (Q : Slot → Type 0) → (me.0.view.part ≡ r.world.limits.workers → Q (packet_on this)) →
+  seen_by : (Q : Slot → Type 0) → (me.0.view.part ≡ every_part r.world.limits → Q (packet_on this)) →
       IfSome me.0.lying (λ desks. Q (on_desk desks d))
   seen_by Q f =
-      if_seen me.0.lying (me.0.view.part ≡ r.world.limits.workers) (lying_on r.world.desks)
+      if_seen me.0.lying (me.0.view.part ≡ every_part r.world.limits) (lying_on r.world.desks)
       (λ desks. Q (on_desk desks d)) (r.lies id me.0 at) (λ whole. subst Q (sym (lying_at r.world.desks d)) (f whole))
 
   pub seen_empty : this.word ≢ 2 → KnowsEmpty d me.0
@@ -153,7 +153,7 @@ holds_desk l slots id me d k word inside idle busy s r _ at _ =
     let carried : carried_after me.1 (takes d None) ≡ (d, None) ∷ [] =
     ap (λ (c : List (ℕ × Slot)). (d, None) ∷ c) out in
     let empty : packet_on y ≡ None = λ i. kept_on (zero_word i) y.slot in
-    let sees = still_right me.0.lying (v.part ≡ w.limits.workers) w.desks d y' (sym empty) (r.lies id me.0 at) in
+    let sees = still_right me.0.lying (v.part ≡ every_part w.limits) w.desks d y' (sym empty) (r.lies id me.0 at) in
     let done = ruled l s r id me at busy d k word inside (Hold d) Won y' v' me.0.lying ((d, None) ∷ [])
     (takes d None) kept headers refl carried refl (None, refl, tt) refl (
       Stepped id (Hold d) Won ∷ r.history,
@@ -234,7 +234,7 @@ seizes_desk l slots id me d k word inside idle busy s r _ at _ =
     ap (λ (c : List (ℕ × Slot)). (d, Some p) ∷ c) out in
     let packet : IsPacket p = subst (λ (o : Slot). IfSome o IsPacket) has (r.packets d) in
     let lies : packet_on y ≡ Some p = λ i. kept_on (full_word i) (has i) in
-    let sees = laid_right me.0.lying (v.part ≡ w.limits.workers) w.desks d y' None refl (r.lies id me.0 at) in
+    let sees = laid_right me.0.lying (v.part ≡ every_part w.limits) w.desks d y' None refl (r.lies id me.0 at) in
     let done = ruled l s r id me at busy d k word inside (Seize d) (Found p) y' v' (laid_on d None me.0.lying)
     ((d, Some p) ∷ []) (takes d (Some p)) kept headers refl carried refl (Some p, refl, (packet, refl)) refl (
       Stepped id (Seize d) Won ∷ r.history,
@@ -382,7 +382,7 @@ opens_desk l slots id me d k p word inside work out packet holds owns busy s r _
     let kept = twice l s r id me at busy d k word inside y' v' refl (PutIn d p) Done tt first
     (Open d) Done 2 v'' gives_own again in
     let there : Desk = record { word = 2; slot = Some p } in
-    let sees = laid_right me.0.lying (v.part ≡ w.limits.workers) w.desks d there (Some p) refl (r.lies id me.0 at) in
+    let sees = laid_right me.0.lying (v.part ≡ every_part w.limits) w.desks d there (Some p) refl (r.lies id me.0 at) in
     let lying = laid_on d (Some p) me.0.lying in
     let done = ruled l s r id me at busy d k word inside (Open d) (Found p) there v'' lying [] gives kept.0 kept.1
     (ap (λ (c : List (ℕ × Slot)). put_back s.homes c) out) (ap rest out) refl refl refl (
@@ -443,7 +443,7 @@ clears_desk l slots id me d k p word inside work out busy s r _ at _ =
     (Clear d) Done 0 v'' tt again in
     let there : Desk = record { word = 0; slot = None } in
     let empty : packet_on y ≡ None = not_full y.word y.slot (seized_word l s r id me at busy d p work) in
-    let sees = still_right me.0.lying (v.part ≡ w.limits.workers) w.desks d there (sym empty) (r.lies id me.0 at) in
+    let sees = still_right me.0.lying (v.part ≡ every_part w.limits) w.desks d there (sym empty) (r.lies id me.0 at) in
     let done = ruled l s r id me at busy d k word inside (Clear d) Done there v'' me.0.lying [] gives kept.0 kept.1
     (ap (λ (c : List (ℕ × Slot)). put_back s.homes c) out) (ap rest out) refl refl refl (
       Stepped id (Clear d) Done ∷ Stepped id (TakeOut d) (Found p) ∷ r.history,

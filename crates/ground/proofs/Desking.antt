@@ -16,7 +16,7 @@ use Rattle.step_core.specs.declared.step.Step.{Step}
 use Rattle.step_core.specs.declared.step.Outcome.{Outcome}
 use Rattle.step_core.specs.declared.view.Desk.{Desk}
 use Rattle.step_core.specs.declared.view.View.{View}
-use Rattle.step_core.specs.World.{World, empty_view, no_desk, view_at, desk_at}
+use Rattle.step_core.specs.World.{World, empty_view, no_desk, view_at, desk_at, every_part}
 use Rattle.step_core.specs.Law.{Lawful}
 use Rattle.step_core.specs.Headers.{HeaderLaw}
 use Rattle.step_core.proofs.Bags.{at_or_else}
@@ -179,8 +179,8 @@ module _ (l : Limits) (s : St) (r : Ruled l s) (id : ℕ) (me : Sat) (at : get_e
 
   -- no other seat is the only one, or knows what lies on the desks
   others_blind : (u : World) (j : ℕ) (n : Known) → j ≢ id → get_elem? s.views j ≡ some n → SeesDesks u n
-  others_blind u j n ne there = if_seen n.lying (n.view.part ≡ r.world.limits.workers) (lying_on r.world.desks)
-      (λ ds. (n.view.part ≡ u.limits.workers) × (ds ≡ lying_on u.desks)) (r.lies j n there)
+  others_blind u j n ne there = if_seen n.lying (n.view.part ≡ every_part r.world.limits) (lying_on r.world.desks)
+      (λ ds. (n.view.part ≡ every_part u.limits) × (ds ≡ lying_on u.desks)) (r.lies j n there)
       (λ whole. absurd
       (let two = two_views (λ (z : View). z.part) r.world.views id j refl (λ e. ne (sym e)) in
       let all = r.stack.parts in

@@ -7,11 +7,11 @@ use mathlib.Core.Logic.{dite}
 use native.Mathlib.Decide.{ℕ_discrete}
 use lib.ListN.{get_elem?}
 use lib.Seq.{map-set}
-use Rattle.atomic_table.specs.Table.{Act, Joins, Allows, Valid, step, keeps, stepped as table_stepped, carried_after}
+use Rattle.atomic_table.specs.Table.{State, Act, Joins, Allows, Valid, step, keeps, stepped as table_stepped, carried_after}
 use Rattle.atomic_table.proofs.Lists.{at_map, at_set, set_again}
 use Rattle.commons.specs.declared.limits.Limits.{Limits}
 use Rattle.step_core.specs.declared.view.View.{View}
-use Rattle.step_core.specs.World.{World, empty_view}
+use Rattle.step_core.specs.World.{World, empty_view, every_part}
 use Rattle.step_core.specs.Law.{Lawful}
 use Rattle.step_core.specs.Headers.{HeaderLaw}
 use Rattle.ground.specs.declared.known.Known.{Known}
@@ -19,7 +19,9 @@ use Rattle.ground.specs.Own.{AtRest, KnowsDesks}
 use Rattle.ground.specs.Parting.{both_views, both, spent_seat}
 use Rattle.ground.specs.Closing.{lying_on}
 use Rattle.ground.specs.Rule.{Slot, Sat, Ruled, SeesDesks, view_in}
-use Rattle.ground.specs.StepAnswers.{looked}
+use Rattle.ground.specs.StepAnswers.{chosen, looked}
+use Rattle.ground.specs.Changing.{changes_in}
+use Rattle.ground.specs.Layout.{element_linked_at}
 use Rattle.ground.proofs.Reviews.{join_lawful, join_headers}
 use Rattle.ground.proofs.Rules.{stack_of, counts_of, desks_of}
 use Rattle.ground.specs.History.{Log, Joined, Led, log_of, logs_of}
@@ -105,61 +107,83 @@ merges l id n other o busy rest rest' s r at apart there =
       );
     }
 
+-- A load that changes no word, after which the seat knows something else of the same view and the same
+-- steps, keeps the rule.
+quiet : (l : Limits) (slots id : ℕ) (me : Sat) (word : ℕ) (n : Known) (s : State Slot Known) (r : Ruled l s) →
+    get_elem? s.views id ≡ some me.0 → 0 < me.0.view.part → n.view ≡ me.0.view → n.limits ≡ me.0.limits →
+    log_of n ≡ log_of me.0 → SeesDesks r.world n →
+    Ruled l (table_stepped s word (slice_index s.words word) id me.1 n keeps)
+quiet l slots id me word n s r at busy view limits log sees =
+    let words : set s.words word (slice_index s.words word) ≡ s.words = set-get_or s.words word 0 in
+    let views : map view_in (set s.views id n) ≡ map view_in s.views =
+    map-set view_in s.views id n
+    ∙ (ap (λ (v : View). set (map view_in s.views) id v) view
+    ∙ (sym (map-set view_in s.views id me.0) ∙ ap (λ (ns : List Known). map view_in ns) (set_again s.views id me.0 at))) in
+    let part = ap (λ (v : View). v.part) view in
+    let steps = ap (λ (x : Log). x.0) log in
+    let joined = ap (λ (x : Log). x.1) log in
+    record {
+      world = r.world;
+      words_are = words ∙ r.words_are;
+      homes_are = r.homes_are;
+      views_are = views ∙ r.views_are;
+      limits = r.limits;
+      pool = r.pool;
+      stack = r.stack;
+      counts = r.counts;
+      desks = r.desks;
+      told = told_set l s.views id n r.told (λ _. limits ∙ r.told id me.0 at busy);
+      packets = r.packets;
+      lies = λ j o e.
+          ⊎_elim (λ (x : (j ≡ id) × (n ≡ o)). subst (SeesDesks r.world) x.1 sees)
+          (λ (x : (j ≢ id) × (get_elem? s.views j ≡ some o)). r.lies j o x.1)
+          (at_set s.views id j n o e);
+      changed =
+          (let before = r.changed in
+          let sum = sum_set s.views id me.0 n at in
+          let a = ap changes_in steps in
+          let b = ap changes_in joined in
+          omega arith);
+      idle = idle_again s.views id n r.idle (λ none. absurd (omega arith));
+      opened = λ all.
+          r.opened
+          (unmoved_set s.views id me.0 n at
+          (λ h. record { steps = sym steps ∙ h.steps; joined = sym joined ∙ h.joined }) all);
+      history = r.history;
+      led = subst (λ (xs : List Log). Led l r.history r.world xs) (sym (same_logs s.views id me.0 n at log)) r.led;
+    }
+
 -- A load that changes no word answers what the seat's type keeps; and where the seat is the only
 -- one of its pool, what lies on the desks is what it knows from now on.
 pub looks : (l : Limits) (slots id : ℕ) (me : Sat) → 0 < me.0.view.part →
     Allows (Ruled l) slots id me 0 (λ n. n) (looked (step slots 0 0 0 none) me)
-looks l slots id me busy s r _ at _ = dite (ℕ_discrete me.0.view.part me.0.limits.workers)
-    (λ whole. look (Some (lying_on r.world.desks)) (whole ∙ workers, refl) (λ _. refl))
+looks l slots id me busy s r _ at _ = dite (ℕ_discrete me.0.view.part (every_part me.0.limits))
+    (λ whole. look (Some (lying_on r.world.desks)) (whole ∙ every, refl) (λ _. refl))
     (λ shared. look None tt (λ whole. absurd (shared whole)))
   where
-    limits : me.0.limits ≡ l
-    limits = r.told id me.0 at busy
-
-    workers : me.0.limits.workers ≡ r.world.limits.workers
-    workers = ap (λ (z : Limits). z.workers) (limits ∙ sym r.limits)
+    every : every_part me.0.limits ≡ every_part r.world.limits
+    every = ap (λ (z : Limits). every_part z) (r.told id me.0 at busy ∙ sym r.limits)
 
     look : (lying : Option (List Slot)) → SeesDesks r.world (record me.0 { lying = lying }) →
         KnowsDesks (record me.0 { lying = lying }) →
         (w : Known) × (a : Act Slot) × Valid s.homes me.1 a
         × Ruled l (table_stepped s 0 (slice_index s.words 0) id me.1 w a)
         × looked (step slots 0 0 0 none) me (slice_index s.words 0) (w, carried_after me.1 a)
-    look lying sees knows =
-        let n : Known = record me.0 { lying = lying } in
-        let words : set s.words 0 (slice_index s.words 0) ≡ s.words = set-get_or s.words 0 0 in
-        let views : map view_in (set s.views id n) ≡ map view_in s.views =
-        map-set view_in s.views id n
-        ∙ (sym (map-set view_in s.views id me.0) ∙ ap (λ (ns : List Known). map view_in ns) (set_again s.views id me.0 at)) in (
-          n,
-          keeps,
-          tt,
-          record {
-            world = r.world;
-            words_are = words ∙ r.words_are;
-            homes_are = r.homes_are;
-            views_are = views ∙ r.views_are;
-            limits = r.limits;
-            pool = r.pool;
-            stack = r.stack;
-            counts = r.counts;
-            desks = r.desks;
-            told = told_set l s.views id n r.told (λ _. limits);
-            packets = r.packets;
-            lies = λ j o e.
-                ⊎_elim (λ (x : (j ≡ id) × (n ≡ o)). subst (SeesDesks r.world) x.1 sees)
-                (λ (x : (j ≢ id) × (get_elem? s.views j ≡ some o)). r.lies j o x.1)
-                (at_set s.views id j n o e);
-            changed =
-                (let before = r.changed in
-                let sum = sum_set s.views id me.0 n at in
-                omega arith);
-            idle = idle_again s.views id n r.idle (λ none. absurd (omega arith));
-            opened = λ all.
-                r.opened
-                (unmoved_set s.views id me.0 n at (λ h. record { steps = h.steps; joined = h.joined }) all);
-            history = r.history;
-            led =
-                subst (λ (xs : List Log). Led l r.history r.world xs) (sym (same_logs s.views id me.0 n at refl)) r.led;
-          },
-          (lying, refl, owns l s r id me.0 at busy, knows),
-        )
+    look lying sees knows = (
+      record me.0 { lying = lying },
+      keeps,
+      tt,
+      quiet l slots id me 0 (record me.0 { lying = lying }) s r at busy refl refl refl sees,
+      (lying, refl, owns l s r id me.0 at busy, knows),
+    )
+
+-- So does a load of an element's link, by which the seat chooses the element.
+pub chooses : (l : Limits) (slots id word : ℕ) (me : Sat) → 0 < me.0.view.part →
+    Allows (Ruled l) slots id me word (λ n. n) (chosen (step slots word 0 0 none) me)
+chooses l slots id word me busy s r _ at _ = (
+  record me.0 { loan = element_linked_at word },
+  keeps,
+  tt,
+  quiet l slots id me word (record me.0 { loan = element_linked_at word }) s r at busy refl refl refl (r.lies id me.0 at),
+  refl,
+)

@@ -1,7 +1,12 @@
 pub mod Rules
 pub mod Owning
 pub mod Changing
+pub mod Lending
+pub mod TakingOver
 pub mod History
+pub mod Held
+pub mod Lying
+pub mod Passing
 pub mod Ruling
 pub mod Playing
 pub mod Alone

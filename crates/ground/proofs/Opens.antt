@@ -12,7 +12,7 @@ use Rattle.commons.specs.Bounds.{IsPool}
 use Rattle.commons.specs.Packets.{IsPacket}
 use Rattle.commons.specs.declared.limits.Limits.{Limits}
 use Rattle.step_core.specs.declared.view.Desk.{Desk}
-use Rattle.step_core.specs.World.{World, desk_at, empty_view, no_desk}
+use Rattle.step_core.specs.World.{World, desk_at, empty_view, no_desk, every_part}
 use Rattle.step_core.specs.Opening.{links_up}
 use Rattle.step_core.proofs.OpeningLaw.{length-links_up}
 use Rattle.step_core.proofs.LinksUp.{top_is}
@@ -96,7 +96,7 @@ length_words l =
     let f : length (opening_words l) ≡ links_at + length (links_up 0 l.population ++ rest) = omega arith in
     omega arith
 
-pub owned_none : (l : Limits) (part : ℕ) → IsPool l → 0 < part → part ≤ l.workers → Owned l (empty_view part)
+pub owned_none : (l : Limits) (part : ℕ) → IsPool l → 0 < part → part ≤ every_part l → Owned l (empty_view part)
 owned_none l part pool busy within = record {
   pool = pool;
   busy = busy;

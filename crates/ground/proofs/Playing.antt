@@ -18,7 +18,7 @@ use Rattle.step_core.specs.declared.view.View.{View}
 use Rattle.step_core.specs.declared.view.Work.{Work}
 use Rattle.step_core.specs.declared.step.Step.{Step}
 use Rattle.step_core.specs.declared.step.Outcome.{Outcome}
-use Rattle.step_core.specs.World.{World, desk_at, empty_view, view_at, view_of}
+use Rattle.step_core.specs.World.{World, desk_at, empty_view, view_at, view_of, every_part}
 use Rattle.step_core.specs.Law.{Lawful}
 use Rattle.step_core.specs.Headers.{HeaderLaw, OpensOwn}
 use Rattle.step_core.specs.Schedules.{slot_at}
@@ -75,15 +75,15 @@ seen_again w u views id m n at all limits desks lying part j o e =
     ⊎_elim
     (λ (x : (j ≡ id) × (n ≡ o)).
     subst (SeesDesks u) x.1
-    (subst (λ (z : Option (List Slot)). IfSome z (λ ds. (n.view.part ≡ u.limits.workers) × (ds ≡ lying_on u.desks)))
+    (subst (λ (z : Option (List Slot)). IfSome z (λ ds. (n.view.part ≡ every_part u.limits) × (ds ≡ lying_on u.desks)))
     (sym lying)
-    (subst (λ (p : ℕ). IfSome m.lying (λ ds. (p ≡ u.limits.workers) × (ds ≡ lying_on u.desks))) (sym part)
+    (subst (λ (p : ℕ). IfSome m.lying (λ ds. (p ≡ every_part u.limits) × (ds ≡ lying_on u.desks))) (sym part)
     (moved_on m (all id m at)))))
     (λ (x : (j ≢ id) × (get_elem? views j ≡ some o)). moved_on o (all j o x.1)) (at_set views id j n o e)
   where
     moved_on : (k : Known) → SeesDesks w k → SeesDesks u k
     moved_on k h = subst (λ (z : Limits × List Desk).
-        IfSome k.lying (λ ds. (k.view.part ≡ z.0.workers) × (ds ≡ lying_on z.1)))
+        IfSome k.lying (λ ds. (k.view.part ≡ every_part z.0) × (ds ≡ lying_on z.1)))
         (λ i. (sym limits i, sym desks i)) h
 
 -- a seat without a part has done nothing, also once one of them is another

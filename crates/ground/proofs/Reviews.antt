@@ -1,6 +1,6 @@
 -- Other views that sum up to the same keep a world's laws: a view that is cut in two, two views
 -- that are made one, and the view of a pool's only seat in the place of one for each worker.
-use Rattle.std.proofs.Common.{◌≡◌, ℕ, zero, suc, ◌+◌, ◌*◌, ◌<◌, ◌≤◌, ◌≢◌, List, [], ◌∷◌, ◌++◌, None, length, replicate, set, refl, ap, ◌∙◌, arith, ⊎_elim, get_or-set_other}
+use Rattle.std.proofs.Common.{◌≡◌, ℕ, zero, suc, ◌+◌, ◌-◌, ◌*◌, ◌<◌, ◌≤◌, ◌≢◌, List, [], ◌∷◌, ◌++◌, Option, None, length, replicate, set, refl, sym, ap, subst, ◌∙◌, arith, ⊎_elim, get_or-set_other}
 use Rattle.std.specs.Prelude.{sum_by, IfSome}
 use Rattle.std.proofs.lemmas.Bool.{cases_lt}
 use Rattle.std.proofs.lemmas.List.{length-append, length-set}
@@ -8,21 +8,23 @@ use Rattle.std.proofs.lemmas.List.Folds.{sum_by-replicate}
 use Rattle.std.proofs.lemmas.List.Sums.{sum_by-set, sum_by-cons, sum_by_push}
 use Rattle.commons.specs.Bag.{bag}
 use Rattle.commons.specs.declared.limits.Limits.{Limits}
+use Rattle.step_core.specs.Bags.{without}
+use Rattle.step_core.specs.declared.view.Chain.{Chain}
 use Rattle.step_core.specs.declared.view.View.{View}
-use Rattle.step_core.specs.World.{World, view_at, desk_at, link_in, empty_view}
+use Rattle.step_core.specs.World.{World, view_at, desk_at, link_in, empty_view, worker_part, every_part}
 use Rattle.step_core.specs.Law.{Lawful, fills, empties, left_in}
 use Rattle.step_core.specs.Headers.{HeaderLaw}
 use Rattle.step_core.specs.Opening.{opening}
-use Rattle.step_core.proofs.Rules.{StackView, CountView, FourLaws}
+use Rattle.step_core.proofs.Rules.{StackView, CountView, ChainParts, FourLaws}
 use Rattle.step_core.proofs.Regroup.{four_of_eight, eight_of_four}
 use Rattle.step_core.proofs.OpeningLaw.{opening_lawful}
-use Rattle.step_core.proofs.Bags.{times-nil, times-append}
+use Rattle.step_core.proofs.Bags.{times-nil, times-append, times-one, times-not_one, times-without_here, times-without_other, at_or_else}
 use Rattle.step_core.proofs.Frame.{each_view}
 use Rattle.step_core.proofs.HeaderWalks.{opens_with_headers}
 use Rattle.step_core.proofs.StackSteps.{one_view, if_some}
 use Rattle.ground.specs.Own.{AtRest}
 use Rattle.ground.specs.Opening.{opening_alone}
-use Rattle.ground.specs.Parting.{less, both_views}
+use Rattle.ground.specs.Parting.{less, lending, loan_of, both_views}
 
 -- what is summed over the views is as before
 record SameSums (before after : List View) : Type 0 where
@@ -37,7 +39,7 @@ record SameSums (before after : List View) : Type 0 where
 
 -- what the laws say of one view
 record ViewLaw (w : World) (v : View) : Type 0 where
-  stack : StackView w.limits.population w.limits.workers w.head (link_in w.links) v
+  stack : StackView w.limits.population (every_part w.limits) w.head (link_in w.links) v
   counts : CountView v
   desks : v.part ≡ 0 → v.work ≡ None
   slots : IfSome v.work (λ x. (desk_at w.desks x.desk).slot ≡ left_in x.phase)
@@ -126,50 +128,65 @@ each_push P [] u here past all (suc k) = past
 each_push P (x ∷ xs) u here past all zero = all 0
 each_push P (x ∷ xs) u here past all (suc k) = each_push P xs u here past (λ j. all (suc j)) k
 
--- the views once a part of 1 of the one at k goes to a new view that names nothing
-abbrev pub split_views : List View → ℕ → List View
-split_views views k = set views k (less (view_at views k)) ++ empty_view 1 ∷ []
+-- a view with this part and this hand, and a new one that has nothing else
+abbrev pub keeping : View → ℕ → List ℕ → View
+keeping v part hand = record v { part = part; hand = hand }
 
-module _ (w : World) (k : ℕ) (here : k < length w.views) (two : 2 ≤ (view_at w.views k).part)
-    (lawful : Lawful w) (headers : HeaderLaw w) where
-  -- a sum in which the new view has nothing
-  split_kept : (f : View → ℕ) → f (less (view_at w.views k)) ≡ f (view_at w.views k) →
-      f (empty_view 1) ≡ 0 →
-      sum_by f (split_views w.views k) ≡ sum_by f w.views
-  split_kept f a b =
-      let c = sum_by_push f (set w.views k (less (view_at w.views k))) (empty_view 1) in
-      let d = sum_by-set f w.views k (less (view_at w.views k)) (empty_view 0) here in
+abbrev pub having : ℕ → List ℕ → View
+having part hand = record (empty_view part) { hand = hand }
+
+-- the views once shares of the one at k, and elements of its hand, are a new view's
+abbrev pub cut_views : List View → ℕ → ℕ → List ℕ → ℕ → List ℕ → List View
+cut_views views k part hand given handed =
+    set views k (keeping (view_at views k) part hand) ++ having given handed ∷ []
+
+-- both have worker_part, and together what the one had
+record IsCut (v : View) (part : ℕ) (hand : List ℕ) (given : ℕ) (handed : List ℕ) : Type 0 where
+  some : 0 < part
+  any : 0 < given
+  all : part + given ≡ v.part
+  elements : (i : ℕ) → bag hand i + bag handed i ≡ bag v.hand i
+
+module _ (w : World) (k : ℕ) (here : k < length w.views) (lawful : Lawful w) (headers : HeaderLaw w)
+    (part : ℕ) (hand : List ℕ) (given : ℕ) (handed : List ℕ)
+    (cut : IsCut (view_at w.views k) part hand given handed)
+    (chained : IfSome (view_at w.views k).chain (ChainParts w.limits.population (link_in w.links) hand)) where
+  -- a sum to which the two views give what the one gave
+  cut_kept : (f : View → ℕ) →
+      f (keeping (view_at w.views k) part hand) + f (having given handed) ≡ f (view_at w.views k) →
+      sum_by f (cut_views w.views k part hand given handed) ≡ sum_by f w.views
+  cut_kept f both =
+      let left = keeping (view_at w.views k) part hand in
+      let c = sum_by_push f (set w.views k left) (having given handed) in
+      let d = sum_by-set f w.views k left (empty_view 0) here in
       omega arith
 
-  split_same : SameSums w.views (split_views w.views k)
-  split_same = record {
-    hand = λ i. split_kept (λ v. bag v.hand i) refl (times-nil i);
-    zeros = λ i. split_kept (λ v. bag v.zeros i) refl (times-nil i);
-    holds = λ i. split_kept (λ v. bag v.holds i) refl (times-nil i);
-    headers = λ i. split_kept (λ v. bag v.headers i) refl (times-nil i);
-    credit = split_kept (λ v. v.credit) refl refl;
-    part =
-        (let left = less (view_at w.views k) in
-        let c = sum_by_push (λ (x : View). x.part) (set w.views k left) (empty_view 1) in
-        let d = sum_by-set (λ (x : View). x.part) w.views k left (empty_view 0) here in
-        let whole = one_view (λ (x : View). x.part) w.views k refl in
-        omega arith);
-    fill = λ d. split_kept (λ v. fills d v.work) refl refl;
-    empty = λ d. split_kept (λ v. empties d v.work) refl refl;
+  cut_same : SameSums w.views (cut_views w.views k part hand given handed)
+  cut_same = record {
+    hand = λ i. cut_kept (λ v. bag v.hand i) (cut.elements i);
+    zeros = λ i. cut_kept (λ v. bag v.zeros i) (omega (arith, times-nil i));
+    holds = λ i. cut_kept (λ v. bag v.holds i) (omega (arith, times-nil i));
+    headers = λ i. cut_kept (λ v. bag v.headers i) (omega (arith, times-nil i));
+    credit = cut_kept (λ v. v.credit) (omega arith);
+    part = cut_kept (λ v. v.part) cut.all;
+    fill = λ d. cut_kept (λ v. fills d v.work) (omega arith);
+    empty = λ d. cut_kept (λ v. empties d v.work) (omega arith);
   }
 
-  split_mine : ViewLaw w (less (view_at w.views k))
-  split_mine =
+  cut_mine : ViewLaw w (keeping (view_at w.views k) part hand)
+  cut_mine =
       let law = four_of_eight w lawful in
       let mine = view_law w law headers k in
-      let v = view_at w.views k in
       let all = law.stack.parts in
       let whole = one_view (λ (x : View). x.part) w.views k refl in
+      let some = cut.some in
+      let any = cut.any in
+      let both = cut.all in
       record {
         stack = record {
           seen = mine.stack.seen;
           look =
-              if_some v.look _ _
+              if_some (view_at w.views k).look _ _
               (λ l m.
               record {
                 not_ahead = m.not_ahead;
@@ -181,7 +198,7 @@ module _ (w : World) (k : ℕ) (here : k < length w.views) (two : 2 ≤ (view_at
                 in_range = m.in_range;
               })
               mine.stack.look;
-          chain = mine.stack.chain;
+          chain = chained;
           no_hand = λ e. absurd (omega arith);
           no_credit = λ e. absurd (omega arith);
           no_look = λ e. absurd (omega arith);
@@ -196,18 +213,95 @@ module _ (w : World) (k : ℕ) (here : k < length w.views) (two : 2 ≤ (view_at
         headers = mine.headers;
       }
 
-  split_each : (j : ℕ) → ViewLaw w (view_at (split_views w.views k) j)
-  split_each =
-      each_push (ViewLaw w) (set w.views k (less (view_at w.views k))) (empty_view 1)
-      (nothing_known w 1) (nothing_known w 0)
-      (each_view (ViewLaw w) w.views k (less (view_at w.views k)) here split_mine
+  cut_new : ViewLaw w (having given handed)
+  cut_new =
+      let any = cut.any in
+      record {
+        stack = record {
+          seen = omega arith;
+          look = tt;
+          chain = tt;
+          no_hand = λ e. absurd (omega arith);
+          no_credit = λ e. refl;
+          no_look = λ e. refl;
+          no_chain = λ e. refl;
+        };
+        counts = record { no_zeros = λ e. refl; no_holds = λ e. refl };
+        desks = λ e. refl;
+        slots = tt;
+        headers = λ i h. absurd (omega (arith, times-nil i));
+      }
+
+  cut_each : (j : ℕ) → ViewLaw w (view_at (cut_views w.views k part hand given handed) j)
+  cut_each =
+      each_push (ViewLaw w) (set w.views k (keeping (view_at w.views k) part hand)) (having given handed)
+      cut_new (nothing_known w 0)
+      (each_view (ViewLaw w) w.views k (keeping (view_at w.views k) part hand) here cut_mine
       (λ j n. view_law w (four_of_eight w lawful) headers j))
 
+  cut_lawful : Lawful (record w { views = cut_views w.views k part hand given handed })
+  cut_lawful = reviewed w _ (four_of_eight w lawful) cut_same cut_each
+
+  cut_headers : HeaderLaw (record w { views = cut_views w.views k part hand given handed })
+  cut_headers = headed w _ headers cut_same cut_each
+
+-- the views once a worker's part of the one at k goes to a new view that names nothing
+abbrev pub split_views : List View → ℕ → List View
+split_views views k = set views k (less (view_at views k)) ++ empty_view worker_part ∷ []
+
+module _ (w : World) (k : ℕ) (here : k < length w.views) (two : worker_part < (view_at w.views k).part)
+    (lawful : Lawful w) (headers : HeaderLaw w) where
+  is_split : IsCut (view_at w.views k) ((view_at w.views k).part - worker_part) (view_at w.views k).hand worker_part []
+  is_split = record {
+    some = omega arith;
+    any = omega arith;
+    all = omega arith;
+    elements = λ i. omega (arith, times-nil i);
+  }
+
   pub split_lawful : Lawful (record w { views = split_views w.views k })
-  split_lawful = reviewed w _ (four_of_eight w lawful) split_same split_each
+  split_lawful =
+      cut_lawful w k here lawful headers _ _ _ _ is_split ((four_of_eight w lawful).stack.views k).chain
 
   pub split_headers : HeaderLaw (record w { views = split_views w.views k })
-  split_headers = headed w _ headers split_same split_each
+  split_headers =
+      cut_headers w k here lawful headers _ _ _ _ is_split ((four_of_eight w lawful).stack.views k).chain
+
+-- the views once one element of the hand of the one at k goes to a new view
+abbrev pub lent_views : List View → ℕ → ℕ → List View
+lent_views views k i = set views k (lending i (view_at views k)) ++ loan_of i ∷ []
+
+-- a hand is the element that is taken of it, and what is left
+pub lent_elements : (hand : List ℕ) (i : ℕ) → 0 < bag hand i → (j : ℕ) →
+    bag (without i hand) j + bag (i ∷ []) j ≡ bag hand j
+lent_elements hand i has =
+    at_or_else i (λ j. bag (without i hand) j + bag (i ∷ []) j ≡ bag hand j)
+    (omega (arith, times-without_here i hand, times-one i))
+    (λ j n. omega (arith, times-without_other j i hand n, times-not_one j i n))
+
+module _ (w : World) (k i : ℕ) (here : k < length w.views) (two : 2 ≤ (view_at w.views k).part)
+    (has : 0 < bag (view_at w.views k).hand i) (bare : (view_at w.views k).chain ≡ None) (lawful : Lawful w)
+    (headers : HeaderLaw w) where
+  is_lent : IsCut (view_at w.views k) ((view_at w.views k).part - 1) (without i (view_at w.views k).hand) 1 (i ∷ [])
+  is_lent = record {
+    some = omega arith;
+    any = omega arith;
+    all = omega arith;
+    elements = lent_elements (view_at w.views k).hand i has;
+  }
+
+  unchained : IfSome (view_at w.views k).chain
+      (ChainParts w.limits.population (link_in w.links) (without i (view_at w.views k).hand))
+  unchained =
+      subst (λ (c : Option Chain).
+      IfSome c (ChainParts w.limits.population (link_in w.links) (without i (view_at w.views k).hand)))
+      (sym bare) tt
+
+  pub lent_lawful : Lawful (record w { views = lent_views w.views k i })
+  lent_lawful = cut_lawful w k here lawful headers _ _ _ _ is_lent unchained
+
+  pub lent_headers : HeaderLaw (record w { views = lent_views w.views k i })
+  lent_headers = cut_headers w k here lawful headers _ _ _ _ is_lent unchained
 
 no_lengths : (xs ys : List ℕ) → length xs ≡ 0 → length ys ≡ 0 → length (xs ++ ys) ≡ 0
 no_lengths xs ys a b = omega (arith, length-append xs ys)
@@ -330,7 +424,7 @@ module _ (w : World) (k j : ℕ) (here : k < length w.views) (there : j < length
 
 -- at the start the view of the only seat stands in the place of one for each worker
 alone_same : (l : Limits) →
-    SameSums (replicate l.workers (empty_view 1)) (empty_view l.workers ∷ [])
+    SameSums (replicate l.workers (empty_view worker_part)) (empty_view (every_part l) ∷ [])
 alone_same l = record {
   hand = λ i. quiet (λ v. bag v.hand i) (times-nil i) (times-nil i);
   zeros = λ i. quiet (λ v. bag v.zeros i) (times-nil i) (times-nil i);
@@ -340,31 +434,31 @@ alone_same l = record {
   part =
       omega (
         arith,
-        sum_by-cons (λ (v : View). v.part) (empty_view l.workers) [],
-        sum_by-replicate (λ (v : View). v.part) l.workers (empty_view 1),
+        sum_by-cons (λ (v : View). v.part) (empty_view (every_part l)) [],
+        sum_by-replicate (λ (v : View). v.part) l.workers (empty_view worker_part),
       );
   fill = λ d. quiet (λ v. fills d v.work) refl refl;
   empty = λ d. quiet (λ v. empties d v.work) refl refl;
 }
   where
-    quiet : (f : View → ℕ) → f (empty_view l.workers) ≡ 0 → f (empty_view 1) ≡ 0 →
-        sum_by f (empty_view l.workers ∷ []) ≡ sum_by f (replicate l.workers (empty_view 1))
+    quiet : (f : View → ℕ) → f (empty_view (every_part l)) ≡ 0 → f (empty_view worker_part) ≡ 0 →
+        sum_by f (empty_view (every_part l) ∷ []) ≡ sum_by f (replicate l.workers (empty_view worker_part))
     quiet f a b =
-        let c : sum_by f (replicate l.workers (empty_view 1)) ≡ 0 =
-        sum_by-replicate f l.workers (empty_view 1)
+        let c : sum_by f (replicate l.workers (empty_view worker_part)) ≡ 0 =
+        sum_by-replicate f l.workers (empty_view worker_part)
         ∙ (ap (λ (n : ℕ). l.workers * n) b ∙ omega arith) in
-        omega (arith, sum_by-cons f (empty_view l.workers) [])
+        omega (arith, sum_by-cons f (empty_view (every_part l)) [])
 
-alone_each : (l : Limits) (k : ℕ) → ViewLaw (opening l) (view_at (empty_view l.workers ∷ []) k)
-alone_each l zero = nothing_known (opening l) l.workers
+alone_each : (l : Limits) (k : ℕ) → ViewLaw (opening l) (view_at (empty_view (every_part l) ∷ []) k)
+alone_each l zero = nothing_known (opening l) (every_part l)
 alone_each l (suc k) = nothing_known (opening l) 0
 
 pub alone_lawful : (l : Limits) → 1 ≤ l.ref_limit → Lawful (opening_alone l)
 alone_lawful l some =
-    reviewed (opening l) (empty_view l.workers ∷ []) (opening_lawful l some) (alone_same l)
+    reviewed (opening l) (empty_view (every_part l) ∷ []) (opening_lawful l some) (alone_same l)
     (alone_each l)
 
 pub alone_headers : (l : Limits) → HeaderLaw (opening_alone l)
 alone_headers l =
-    headed (opening l) (empty_view l.workers ∷ []) (opens_with_headers l) (alone_same l)
+    headed (opening l) (empty_view (every_part l) ∷ []) (opens_with_headers l) (alone_same l)
     (alone_each l)

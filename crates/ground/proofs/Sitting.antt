@@ -9,7 +9,7 @@ use Rattle.atomic_table.proofs.Lists.{at_set, at_snoc, at_map}
 use Rattle.commons.specs.Bounds.{IsPool}
 use Rattle.commons.specs.declared.limits.Limits.{Limits}
 use Rattle.step_core.specs.declared.view.View.{View}
-use Rattle.step_core.specs.World.{World, view_at}
+use Rattle.step_core.specs.World.{World, view_at, every_part}
 use Rattle.step_core.specs.Law.{Lawful}
 use Rattle.step_core.specs.Opening.{opening}
 use Rattle.step_core.proofs.StackSteps.{two_views}
@@ -55,7 +55,7 @@ seen_set w views id u all blind j n e =
     ⊎_elim
     (λ (x : (j ≡ id) × (u ≡ n)).
     subst (SeesDesks w) x.1
-    (subst (λ (z : Option (List Slot)). IfSome z (λ ds. (u.view.part ≡ w.limits.workers) × (ds ≡ lying_on w.desks)))
+    (subst (λ (z : Option (List Slot)). IfSome z (λ ds. (u.view.part ≡ every_part w.limits) × (ds ≡ lying_on w.desks)))
     (sym blind) tt))
     (λ (x : (j ≢ id) × (get_elem? views j ≡ some n)). all j n x.1)
     (at_set views id j u n e)
@@ -67,7 +67,7 @@ seen_push w views u all blind j n e =
     (λ (x : get_elem? views j ≡ some n). all j n x)
     (λ (x : u ≡ n).
     subst (SeesDesks w) x
-    (subst (λ (z : Option (List Slot)). IfSome z (λ ds. (u.view.part ≡ w.limits.workers) × (ds ≡ lying_on w.desks)))
+    (subst (λ (z : Option (List Slot)). IfSome z (λ ds. (u.view.part ≡ every_part w.limits) × (ds ≡ lying_on w.desks)))
     (sym blind) tt))
     (at_snoc views u n j e)
 
@@ -88,7 +88,7 @@ module _ (l : Limits) (s : State Slot Known) (r : Ruled l s) where
     is = (view_there r.world.views id n.view there).1
 
     -- where the seat is the only one of its pool, and so has every part, no other has one
-    pub others_out : n.view.part ≡ r.world.limits.workers → (j : ℕ) (o : Known) → j ≢ id →
+    pub others_out : n.view.part ≡ every_part r.world.limits → (j : ℕ) (o : Known) → j ≢ id →
         get_elem? s.views j ≡ some o → o.view.part ≡ 0
     others_out whole j o ne at_other =
         let two = two_views (λ (v : View). v.part) r.world.views id j refl (λ e. ne (sym e)) in
@@ -99,8 +99,8 @@ module _ (l : Limits) (s : State Slot Known) (r : Ruled l s) where
         let theirs = ap (λ (v : View). v.part) (view_there r.world.views j o.view found).1 in
         omega arith
 
-    workers_are : 0 < n.view.part → n.limits.workers ≡ r.world.limits.workers
-    workers_are busy = ap (λ (k : Limits). k.workers) (r.told id n at busy ∙ sym r.limits)
+    every_part_is : 0 < n.view.part → every_part n.limits ≡ every_part r.world.limits
+    every_part_is busy = ap (λ (k : Limits). every_part k) (r.told id n at busy ∙ sym r.limits)
 
     -- where the seat is the only one of its pool and hasn't moved, no seat has done anything
     pub all_unmoved : 0 < n.view.part → IsFresh n → AreUnmoved s.views
@@ -109,7 +109,7 @@ module _ (l : Limits) (s : State Slot Known) (r : Ruled l s) where
         (λ (same : j ≡ id).
         subst IsUnmoved
         (some-injective n o (sym at ∙ (ap (λ (k : ℕ). get_elem? s.views k) (sym same) ∙ e))) fresh.unmoved)
-        (λ (ne : j ≢ id). r.idle j o e (others_out (fresh.whole ∙ workers_are busy) j o ne e))
+        (λ (ne : j ≢ id). r.idle j o e (others_out (fresh.whole ∙ every_part_is busy) j o ne e))
         (cases_eq j id)
 
     pub changes_known : 0 < n.view.part → KnowsChanges n r.world.head.count
@@ -120,7 +120,7 @@ module _ (l : Limits) (s : State Slot Known) (r : Ruled l s) where
           all = λ whole.
               let alone =
               one_alone s.views id n at
-              (λ j o ne e. r.idle j o e (others_out (whole ∙ workers_are busy) j o ne e)) in
+              (λ j o ne e. r.idle j o e (others_out (whole ∙ every_part_is busy) j o ne e)) in
               omega arith;
         }
 

@@ -20,7 +20,7 @@ use Rattle.step_core.specs.declared.step.Step.{Step}
 use Rattle.step_core.specs.declared.step.Step.TheVariants.{LoadLength, Reserve, Add, LoadHead, LoadLink, Cut, StoreLink, Push}
 use Rattle.step_core.specs.declared.step.Outcome.{Outcome}
 use Rattle.step_core.specs.declared.step.Outcome.TheVariants.{Value, HeadIs, Won, Got, Lost, LostTo, Done}
-use Rattle.step_core.specs.World.{World, view_at, credits, link_in}
+use Rattle.step_core.specs.World.{World, view_at, credits, link_in, every_part}
 use Rattle.step_core.specs.Links.{link_value, first_value}
 use Rattle.step_core.specs.Runs.{Reaches}
 use Rattle.step_core.specs.Schedules.{slot_at}
@@ -404,17 +404,17 @@ module _ (l : Limits) (s : St) (r : Ruled l s) (id : ℕ) (me : Sat) (at : get_e
       my_look (head_other miss))
 
   -- an exchange loses to another seat, so its own isn't the only one
-  not_alone : (slice_index s.words 0 ≡ pack k.head → ⊥) → me.0.view.part ≢ me.0.limits.workers
+  not_alone : (slice_index s.words 0 ≡ pack k.head → ⊥) → me.0.view.part ≢ every_part me.0.limits
   not_alone miss all =
       let rule =
       there (view_at r.world.views id).look k
-      (LookRule r.world.limits.workers r.world.head (link_in r.world.links)
+      (LookRule (every_part r.world.limits) r.world.head (link_in r.world.links)
       (view_at r.world.views id).part (view_at r.world.views id).seen) my_look
       (r.stack.looks.look id) in
       let part : (view_at r.world.views id).part ≡ me.0.view.part =
       ap (λ (v : View). v.part) (is_view l s r id me at busy) in
-      let workers = ap (λ (z : Limits). z.workers) (my_limits l s r id me at busy ∙ sym r.limits) in
-      let same = rule.same_count (part ∙ (all ∙ workers)) in
+      let every = ap (λ (z : Limits). every_part z) (my_limits l s r id me at busy ∙ sym r.limits) in
+      let same = rule.same_count (part ∙ (all ∙ every)) in
       let later = found_later miss in
       let read = ap (λ (h : Head). h.count) (head_is l s r id me at busy) in
       absurd (omega arith)

@@ -17,7 +17,7 @@ use Rattle.step_core.specs.declared.step.Step.{Step}
 use Rattle.step_core.specs.declared.step.Step.TheVariants.{Claim, Sole, Raise, Lower, Reset}
 use Rattle.step_core.specs.declared.step.Outcome.{Outcome}
 use Rattle.step_core.specs.declared.step.Outcome.TheVariants.{Value, Won, Lost, Done}
-use Rattle.step_core.specs.World.{World, view_at, hands, all_zeros, all_holds}
+use Rattle.step_core.specs.World.{World, view_at, hands, all_zeros, all_holds, every_part}
 use Rattle.step_core.specs.Views.{view_after, claimed, freed, raised, hold_ended, was_reset}
 use Rattle.step_core.specs.Steps.{Play, in_range, quiet, knows, row, claim, sole, raise, lower, reset, play}
 use Rattle.step_core.specs.Runs.{Reaches}
@@ -174,7 +174,7 @@ module _ (l : Limits) (s : St) (r : Ruled l s) (id : ℕ) (me : Sat) (at : get_e
       let all = holds_known r.world (law l s r id me at busy) id
       (here l s r id me at busy)
       (ap (λ (v : View). v.part) my_view
-      ∙ (whole ∙ ap (λ (z : Limits). z.workers) (my_limits l s r id me at busy ∙ sym r.limits)))
+      ∙ (whole ∙ ap (λ (z : Limits). every_part z) (my_limits l s r id me at busy ∙ sym r.limits)))
       i in
       let same = ap (λ (v : View). bag v.holds i + held_in (lying_on r.world.desks) i) my_view in
       let limits = my_limits l s r id me at busy in (

@@ -9,6 +9,7 @@ use Rattle.step_core.specs.declared.step.Outcome.TheVariants.{Won, Got}
 use Rattle.step_core.specs.declared.view.Head.{Head}
 use Rattle.step_core.specs.Opening.{opening}
 use Rattle.ground.specs.declared.known.Known.{Known}
+use Rattle.step_core.specs.World.{every_part}
 
 -- how often a step with this outcome changes the stack: once, where a cut or a push won
 abbrev pub changes_by : Step → Outcome → ℕ
@@ -27,7 +28,7 @@ changes_of n = changes_in n.steps + changes_in n.joined
 -- seat of a pool, which has every part, knows that there are no others.
 pub record KnowsChanges (n : Known) (count : ℕ) : Type 0 where
   pub own : n.limits.start_count + changes_of n ≤ count
-  pub all : n.view.part ≡ n.limits.workers → count ≡ n.limits.start_count + changes_of n
+  pub all : n.view.part ≡ every_part n.limits → count ≡ n.limits.start_count + changes_of n
 
 -- neither the seat nor one that was joined to it has taken a step
 pub record IsUnmoved (n : Known) : Type 0 where
@@ -36,7 +37,7 @@ pub record IsUnmoved (n : Known) : Type 0 where
 
 -- the seat is the only one of its pool and hasn't moved: nobody has done anything
 pub record IsFresh (n : Known) : Type 0 where
-  pub whole : n.view.part ≡ n.limits.workers
+  pub whole : n.view.part ≡ every_part n.limits
   pub unmoved : IsUnmoved n
 
 -- a pool of which nobody has done anything shows this head, where it is asked for

@@ -8,7 +8,7 @@ use Rattle.commons.specs.Calls.{desk_full}
 use Rattle.commons.specs.declared.packet.Seg.{Seg}
 use Rattle.step_core.specs.declared.view.Desk.{Desk}
 use Rattle.step_core.specs.declared.view.View.{View}
-use Rattle.step_core.specs.World.{World, view_at}
+use Rattle.step_core.specs.World.{World, view_at, every_part}
 use Rattle.step_core.specs.Law.{Lawful}
 use Rattle.step_core.specs.Headers.{HeaderLaw}
 
@@ -50,7 +50,7 @@ pub record LeftOf (l : Limits) (v : View) (c : Closed) : Type 0 where
   pub limits : world.limits ≡ l
   pub desk_count : length world.desks ≡ l.desks
   pub view : get_elem? world.views id ≡ some v
-  pub alone : v.part ≡ l.workers → (k : ℕ) → k ≢ id → Nothing (view_at world.views k)
+  pub alone : v.part ≡ every_part l → (k : ℕ) → k ≢ id → Nothing (view_at world.views k)
   pub top : c.top ≡ world.head.top
   pub length : c.length ≡ world.length
   pub links : c.links ≡ world.links

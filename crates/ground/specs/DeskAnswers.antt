@@ -21,7 +21,14 @@ desk_by st n = desk_standing_at n.limits.population st.word
 -- the seat after a step that moved a slot, and what is known to lie on the desks then
 abbrev pub moved : Step → Outcome → View → Option (List Slot) → List (ℕ × Slot) → Sat → Sat
 moved st o v lying slots m = (
-  record { view = v; steps = m.0.steps ++ (st, o) ∷ []; limits = m.0.limits; lying = lying; joined = m.0.joined },
+  record {
+    view = v;
+    steps = m.0.steps ++ (st, o) ∷ [];
+    limits = m.0.limits;
+    lying = lying;
+    joined = m.0.joined;
+    loan = m.0.loan;
+  },
   slots,
 )
 

@@ -1,8 +1,9 @@
 -- How the words of a pool came to be: by steps of the machine, each by one seat, by seats that were
--- split and seats that were joined. Seats are numbered from 0, and the machine's workers from 1.
-use Rattle.std.specs.Prelude.{◌≡◌, ◌≢◌, ℕ, suc, ◌<◌, ◌≤◌, List, [], ◌∷◌, ◌++◌, Option, Some, None, map, slice_set, ⊤}
+-- split, elements that were lent, and seats that were joined. Seats are numbered from 0, and the machine's workers from 1.
+use Rattle.std.specs.Prelude.{◌≡◌, ◌≢◌, ℕ, suc, ◌<◌, ◌≤◌, List, [], ◌∷◌, ◌++◌, Option, Some, None, length, map, slice_set, ⊤, ◌==◌, if◌then◌else◌}
 use mathlib.Core.Option.{some}
 use lib.ListN.{get_elem?}
+use Rattle.commons.specs.Bag.{bag}
 use Rattle.commons.specs.declared.limits.Limits.{Limits}
 use Rattle.step_core.specs.declared.step.Step.{Step}
 use Rattle.step_core.specs.declared.step.Step.TheVariants.{PutIn, Open, Seize, TakeOut}
@@ -12,13 +13,13 @@ use Rattle.step_core.specs.Law.{Lawful}
 use Rattle.step_core.specs.Schedules.{slot_at}
 use Rattle.step_core.specs.Shows.{Shows, Happens}
 use Rattle.step_core.specs.Steps.{play, event_of}
-use Rattle.step_core.specs.Table.{Table}
+use Rattle.step_core.specs.Table.{Place, Common, Hand, Held, Table, Same, SameTable, Where}
 use Rattle.step_core.specs.Handing.{put_by}
-use Rattle.step_core.specs.World.{World, Packet, desk_at, view_at, empty_view}
+use Rattle.step_core.specs.World.{World, Packet, desk_at, view_at, empty_view, worker_part}
 use Rattle.ground.specs.declared.known.Known.{Known}
 use Rattle.ground.specs.Opening.{opening_alone}
 use Rattle.ground.specs.Own.{AtRest}
-use Rattle.ground.specs.Parting.{less, both_views}
+use Rattle.ground.specs.Parting.{less, lending, loan_of, both_views}
 
 -- the steps that a seat noted, and those of the seats that were joined to it
 abbrev pub Log : Type 0
@@ -41,10 +42,11 @@ notes_of (Seize d) Won (Some p) = (Seize d, Found p) ∷ []
 notes_of step outcome slot = (step, outcome) ∷ []
 
 -- one thing that was done: a step of the machine, by a seat; a part of a seat that went to a new
--- one; two seats made one
+-- one; an element of a seat's hand that went to a new one; two seats made one
 pub data Move : Type 0 where
   Stepped : (seat : ℕ) (step : Step) (outcome : Outcome) → Move
   Split : (seat : ℕ) → Move
+  Lent : (seat element : ℕ) → Move
   Joined : (seat other : ℕ) → Move
 
 -- from the world w, of which these are the logs, the move leads to the world u and its logs
@@ -54,8 +56,12 @@ Leads (Stepped id step outcome) w logs u after =
     × ((log : Log) × (get_elem? logs id ≡ some log)
     × (after ≡ slice_set logs id (log.0 ++ notes_of step outcome (slot_at w.desks step), log.1)))
 Leads (Split id) w logs u after =
-    (2 ≤ (view_at w.views id).part)
-    × (u ≡ record w { views = slice_set w.views id (less (view_at w.views id)) ++ empty_view 1 ∷ [] })
+    (worker_part < (view_at w.views id).part)
+    × (u ≡ record w { views = slice_set w.views id (less (view_at w.views id)) ++ empty_view worker_part ∷ [] })
+    × (after ≡ logs ++ ([], []) ∷ [])
+Leads (Lent id i) w logs u after =
+    (2 ≤ (view_at w.views id).part) × AtRest (view_at w.views id) × (0 < bag (view_at w.views id).hand i)
+    × (u ≡ record w { views = slice_set w.views id (lending i (view_at w.views id)) ++ loan_of i ∷ [] })
     × (after ≡ logs ++ ([], []) ∷ [])
 Leads (Joined id other) w logs u after =
     (other ≢ id) × AtRest (view_at w.views id) × AtRest (view_at w.views other)
@@ -74,22 +80,55 @@ Led l [] w logs = (w ≡ opening_alone l) × (logs ≡ ([], []) ∷ [])
 Led l (m ∷ ms) w logs =
     (v : World) × (before : List Log) × Lawful v × Led l ms v before × Leads m v before w logs
 
--- Each step of a history is its one event of the table, by its seat's worker, or none, whichever
--- tables the worlds before and after it are read as.
+-- of n elements, i has gone from the first worker's hand to the second's, and each other one is where
+-- it was
+abbrev pub GoesOn : (n i worker other : ℕ) → Table → Table → Type 0
+GoesOn n i worker other t r =
+    (j : ℕ) → j < n → Where j (i ∷ []) ((t j ≡ Hand worker) × (r j ≡ Hand other)) (Same (t j) (r j))
+
+-- the worker whose something is, once what the second had is the first's, and the place of an element
+-- then
+abbrev pub heir : (worker other w : ℕ) → ℕ
+heir worker other w = if w == other then worker else w
+
+abbrev pub taken_over : (worker other : ℕ) → Place → Place
+taken_over worker other Common = Common
+taken_over worker other (Hand w) = Hand (heir worker other w)
+taken_over worker other (Held ws ds) = Held (map (λ w. heir worker other w) ws) ds
+
+-- of n elements, what the second worker had and held the first has and holds, and all else is where it
+-- was
+abbrev pub TakesOver : (n worker other : ℕ) → Table → Table → Type 0
+TakesOver n worker other t r = (j : ℕ) → j < n → Same (taken_over worker other (t j)) (r j)
+
+-- Each step of a history is its one event of the table, by its seat's worker, or none; where a seat is
+-- split, nothing moves; an element that is lent goes from that hand to the new one; and where seats
+-- are joined, what the other had is the seat's; whichever tables the worlds before and after are read
+-- as.
 abbrev pub AreEvents : (l : Limits) (ms : List Move) (w : World) (logs : List Log) → Led l ms w logs → Type 0
 AreEvents l [] w logs led = ⊤
 AreEvents l (Stepped id step outcome ∷ ms) w logs led =
     ((t r : Table) → Shows led.0 t → Shows w r →
     Happens led.0.limits.population (suc id) (event_of led.0 (suc id) step) t r)
     × AreEvents l ms led.0 led.1 led.3
-AreEvents l (Split id ∷ ms) w logs led = AreEvents l ms led.0 led.1 led.3
-AreEvents l (Joined id other ∷ ms) w logs led = AreEvents l ms led.0 led.1 led.3
+AreEvents l (Split id ∷ ms) w logs led =
+    ((t r : Table) → Shows led.0 t → Shows w r → SameTable led.0.limits.population t r)
+    × AreEvents l ms led.0 led.1 led.3
+AreEvents l (Lent id i ∷ ms) w logs led =
+    ((t r : Table) → Shows led.0 t → Shows w r →
+    GoesOn led.0.limits.population i (suc id) (suc (length led.0.views)) t r)
+    × AreEvents l ms led.0 led.1 led.3
+AreEvents l (Joined id other ∷ ms) w logs led =
+    ((t r : Table) → Shows led.0 t → Shows w r →
+    TakesOver led.0.limits.population (suc id) (suc other) t r)
+    × AreEvents l ms led.0 led.1 led.3
 
 -- the packet that was put into desk d last, by these moves, the last first
 abbrev pub put_in_last : ℕ → List Move → Option Packet
 put_in_last d [] = None
 put_in_last d (Stepped id step outcome ∷ ms) = put_by d step (put_in_last d ms)
 put_in_last d (Split id ∷ ms) = put_in_last d ms
+put_in_last d (Lent id i ∷ ms) = put_in_last d ms
 put_in_last d (Joined id other ∷ ms) = put_in_last d ms
 
 -- where a packet is in a desk's slot, it is the one that was put in last, by whichever seat

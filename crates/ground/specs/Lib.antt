@@ -2,6 +2,8 @@ pub mod Layout
 pub mod Own
 pub mod Changing
 pub mod History
+pub mod Held
+pub mod Lying
 pub mod Seats
 pub mod DeskSeats
 pub mod StackRule

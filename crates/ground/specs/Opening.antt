@@ -4,14 +4,14 @@ use Rattle.commons.specs.Bounds.{IsPool}
 use Rattle.commons.specs.declared.limits.Limits.{Limits}
 use Rattle.commons.specs.declared.refusal.Refusal.{Refusal}
 use Rattle.commons.specs.declared.refusal.Refusal.TheVariants.{BadPool, OutOfMemory}
-use Rattle.step_core.specs.World.{World, empty_view}
+use Rattle.step_core.specs.World.{World, empty_view, every_part}
 use Rattle.step_core.specs.Opening.{opening, links_up}
 use Rattle.ground.specs.Layout.{pack, words_with}
 
 -- the world at the start: all elements are common, from 0 up, and one view, that of the only seat,
 -- has every part
 abbrev pub opening_alone : Limits → World
-opening_alone l = record (opening l) { views = empty_view l.workers ∷ [] }
+opening_alone l = record (opening l) { views = empty_view (every_part l) ∷ [] }
 
 -- the words of the world at the start
 abbrev pub opening_words : Limits → List ℕ

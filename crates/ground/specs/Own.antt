@@ -11,11 +11,12 @@ use Rattle.step_core.specs.declared.view.View.{View}
 use Rattle.step_core.specs.declared.view.Work.{Work}
 use Rattle.step_core.specs.Links.{first_value}
 use Rattle.ground.specs.declared.known.Known.{Known}
+use Rattle.step_core.specs.World.{every_part}
 
 pub record Owned (l : Limits) (v : View) : Type 0 where
   pub pool : IsPool l
   pub busy : 0 < v.part
-  pub within : v.part ≤ l.workers
+  pub within : v.part ≤ every_part l
   -- an element of the pool is in the hand, or of count 0 for the moment, at most once, and no other
   -- element is
   pub hand_once : (i : ℕ) → bag v.hand i + bag v.zeros i ≤ 1
@@ -47,7 +48,7 @@ AtDesk (Some x) slots =
 
 -- the only seat of a pool, which has every part of it, knows what lies on the desks
 abbrev pub KnowsDesks : Known → Type 0
-KnowsDesks n = n.view.part ≡ n.limits.workers → IsSome n.lying
+KnowsDesks n = n.view.part ≡ every_part n.limits → IsSome n.lying
 
 -- between calls: nothing is reserved, nothing chained, no element has count 0, and no desk is busy
 pub record AtRest (v : View) : Type 0 where

@@ -1,25 +1,63 @@
 -- What a seat knows, cut in two, and what two seats know, made one.
-use Rattle.std.specs.Prelude.{◌≡◌, ◌+◌, ◌-◌, max, List, [], ◌++◌, Option, None}
+use Rattle.std.specs.Prelude.{◌≡◌, ◌+◌, ◌-◌, ℕ, max, List, [], ◌∷◌, ◌++◌, Option, None}
 use Rattle.atomic_table.specs.Table.{Me}
 use Rattle.commons.specs.declared.packet.Seg.{Seg}
 use Rattle.commons.specs.declared.limits.PutRule.TheVariants.{Keep}
+use Rattle.step_core.specs.Bags.{without}
 use Rattle.step_core.specs.declared.view.View.{View}
-use Rattle.step_core.specs.World.{empty_view}
+use Rattle.step_core.specs.World.{empty_view, worker_part}
 use Rattle.ground.specs.declared.known.Known.{Known}
 use Rattle.ground.specs.Seats.{Seated}
 
--- all that was there, but for one part
+-- all that was there, but for a worker's part
 abbrev pub less : View → View
-less v = record v { part = v.part - 1 }
+less v = record v { part = v.part - worker_part }
 
--- what the seat knows, but for one part, and for what lies on the desks, since another seat may
+-- what the seat knows, but for a worker's part, and for what lies on the desks, since another seat may
 -- change that now
 abbrev pub less_part : Known → Known
 less_part n = record n { view = less n.view; lying = None }
 
--- one part, which names nothing and has taken no step
+-- a worker's part, which names nothing and has taken no step
 abbrev pub newcomer : Known → Known
-newcomer n = record { view = empty_view 1; steps = []; limits = n.limits; lying = None; joined = [] }
+newcomer n = record {
+  view = empty_view worker_part;
+  steps = [];
+  limits = n.limits;
+  lying = None;
+  joined = [];
+  loan = 0;
+}
+
+-- all that was there, but for one element of the hand, and a part of 1
+abbrev pub lending : ℕ → View → View
+lending i v = record v { hand = without i v.hand; part = v.part - 1 }
+
+-- a part of 1, with this element in its hand, which names nothing else
+abbrev pub loan_of : ℕ → View
+loan_of i = record (empty_view 1) { hand = i ∷ [] }
+
+-- what the seat knows, but for that element and that part, and for what lies on the desks
+abbrev pub left_by_lending : ℕ → Known → Known
+left_by_lending i n = record n { view = lending i n.view; lying = None; loan = i }
+
+-- a part of 1 with this element alone, which has taken no step
+abbrev pub lent_part : ℕ → Known → Known
+lent_part i n = record {
+  view = loan_of i;
+  steps = [];
+  limits = n.limits;
+  lying = None;
+  joined = [];
+  loan = 0;
+}
+
+-- so of the element that the seat has chosen
+abbrev pub left_by_loan : Known → Known
+left_by_loan n = left_by_lending n.loan n
+
+abbrev pub lent_loan : Known → Known
+lent_loan n = lent_part n.loan n
 
 -- what two views at rest name, with the parts of both
 abbrev pub both_views : View → View → View
@@ -75,4 +113,5 @@ spent_seat = record {
   };
   lying = None;
   joined = [];
+  loan = 0;
 }

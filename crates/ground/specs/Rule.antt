@@ -11,7 +11,7 @@ use Rattle.commons.specs.Packets.{IsPacket}
 use Rattle.step_core.specs.declared.view.Desk.{Desk}
 use Rattle.step_core.specs.declared.view.View.{View}
 use Rattle.step_core.specs.Opening.{opening}
-use Rattle.step_core.specs.World.{World, desk_at, empty_view}
+use Rattle.step_core.specs.World.{World, desk_at, empty_view, every_part}
 use Rattle.ground.specs.declared.known.Known.{Known}
 use Rattle.ground.specs.Changing.{changes_of, IsUnmoved}
 use Rattle.ground.specs.Closing.{lying_on}
@@ -42,7 +42,7 @@ home_of x = home_by x.word x.slot
 
 -- what a seat knows of the desks lies there, and it is the only seat of the pool
 abbrev pub SeesDesks : World → Known → Type 0
-SeesDesks w n = IfSome n.lying (λ desks. (n.view.part ≡ w.limits.workers) × (desks ≡ lying_on w.desks))
+SeesDesks w n = IfSome n.lying (λ desks. (n.view.part ≡ every_part w.limits) × (desks ≡ lying_on w.desks))
 
 abbrev pub AreUnmoved : List Known → Type 0
 AreUnmoved views = (id : ℕ) (n : Known) → get_elem? views id ≡ some n → IsUnmoved n
@@ -74,9 +74,10 @@ pub record Ruled (l : Limits) (s : State Slot Known) : Type 0 where
 -- what the first seat knows: it is the only one, names nothing, and nothing lies on a desk
 abbrev pub first_known : Limits → Known
 first_known l = record {
-  view = empty_view l.workers;
+  view = empty_view (every_part l);
   steps = [];
   limits = l;
   lying = Some (replicate l.desks None);
   joined = [];
+  loan = 0;
 }

@@ -17,10 +17,11 @@ use Rattle.step_core.specs.declared.step.Outcome.{Outcome}
 use Rattle.step_core.specs.declared.step.Outcome.TheVariants.{Won, Got, Lost, LostTo}
 use Rattle.step_core.specs.Views.{view_after}
 use Rattle.ground.specs.declared.known.Known.{Known}
+use Rattle.step_core.specs.World.{every_part}
 
 -- A seat: its table and number, what it knows, and the slots that are out with it. Its view has a
--- part, and all parts together are the number of workers: a seat that has every part is the only
--- seat of its pool, beside which no other acts.
+-- part, and all parts together are a worker's part for each worker: a seat that has every part is
+-- the only seat of its pool, beside which no other acts.
 pub record Seated : Type 0 where
   pub table : TableId
   pub id : ℕ
@@ -124,20 +125,20 @@ pub record MayLie (l : Limits) (v : View) (desks : List (Option (List Seg))) : T
 -- packet on a desk.
 abbrev pub KnowsLength : Known → ℕ → Type 0
 KnowsLength n found =
-    n.view.part ≡ n.limits.workers →
+    n.view.part ≡ every_part n.limits →
     (desks : List (Option (List Seg))) × (n.lying ≡ Some desks) × MayLie n.limits n.view desks
     × (found + n.view.credit + length n.view.hand + length n.view.zeros
     + held_below n.limits.population (n.view.holds ++ flat_map holds_in_slot desks) ≡ n.limits.population)
 
 -- the only seat of a pool knows that a walk to the end of the list has passed all that is reserved
 abbrev pub KnowsEnd : Limits → View → Type 0
-KnowsEnd l v = v.part ≡ l.workers → IfSome v.look (λ k. k.next ≡ 0 → v.credit ≤ length k.front)
+KnowsEnd l v = v.part ≡ every_part l → IfSome v.look (λ k. k.next ≡ 0 → v.credit ≤ length k.front)
 
 -- The only seat of a pool knows the count of each element that it holds, which is how often it and
 -- the packets on desks do.
 abbrev pub KnowsCount : Known → ℕ → ℕ → Type 0
 KnowsCount n i count =
-    n.view.part ≡ n.limits.workers →
+    n.view.part ≡ every_part n.limits →
     (desks : List (Option (List Seg))) × (n.lying ≡ Some desks) × MayLie n.limits n.view desks
     × (count ≡ bag n.view.holds i + held_in desks i)
 

@@ -15,6 +15,7 @@ use Rattle.ground.specs.Layout.{unpack, element_linked_at, element_counted_at}
 use Rattle.ground.specs.Own.{Owned, AtDesk, KnowsDesks}
 use Rattle.ground.specs.Rule.{Slot, Sat}
 use Rattle.ground.specs.Seats.{KnowsLength, KnowsEnd, KnowsCount, front_of, count_of, element_of}
+use Rattle.step_core.specs.World.{every_part}
 
 -- the seat after a step, with its slots as they were
 abbrev pub noted : Step → Outcome → Sat → Sat
@@ -25,6 +26,7 @@ noted st o m = (
     limits = m.0.limits;
     lying = m.0.lying;
     joined = m.0.joined;
+    loan = m.0.loan;
   },
   m.1,
 )
@@ -57,7 +59,7 @@ IsLater false n found = (low_in found < no_low) × (count_of n.view.look < (unpa
 -- where an exchange of the head lost, its seat isn't the only one of its pool
 abbrev pub IsShared : Bool → Known → Type 0
 IsShared true n = Unit {0}
-IsShared false n = n.view.part ≢ n.limits.workers
+IsShared false n = n.view.part ≢ every_part n.limits
 
 abbrev pub loaded_length : table.Step Slot → Sat → ℕ → Sat → Type 0
 loaded_length st m found m' =
@@ -103,6 +105,10 @@ abbrev pub looked : table.Step Slot → Sat → ℕ → Sat → Type 0
 looked st m found m' =
     (lying : Option (List (Option (List Seg)))) × (m' ≡ (record m.0 { lying = lying }, m.1))
     × Owned m.0.limits m.0.view × KnowsDesks (record m.0 { lying = lying })
+
+-- A load of an element's link chooses the element: the seat lends this one next.
+abbrev pub chosen : table.Step Slot → Sat → ℕ → Sat → Type 0
+chosen st m found m' = m' ≡ (record m.0 { loan = element_linked_at st.word }, m.1)
 
 -- ---- the counts: the element is the one whose count the word is
 

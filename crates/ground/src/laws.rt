@@ -1,6 +1,8 @@
 //! Laws of the words of a pool. Each is a function that does nothing, and its contract is the law.
 
+ghost use Rattle.ground.specs.Held.{HeldIsNotGiven, PassesLawful};
 ghost use Rattle.ground.specs.History.{DesksHaveWhatWasPutIn, HistoriesAreEvents};
+ghost use Rattle.ground.specs.Lying.{NotesTellOfDesks};
 ghost use Rattle.ground.specs.Operations.{OperationsAreSteps};
 ghost use Rattle.ground.specs.Ruling.{WordsAreLedTo};
 
@@ -17,10 +19,30 @@ pub fn a_history_is_its_events()
     ensures { HistoriesAreEvents }
 {}
 
+/// No element is given again while a hold of it is left: in such a history, from a claim of an
+/// element until a step ends its last hold, no step gives it to anybody, and whatever table the
+/// worlds on the way show, it is held there.
+pub fn a_held_element_is_not_given()
+    ensures { HeldIsNotGiven }
+{}
+
+/// The two worlds that an operation on a desk's word passes without leaving a word so, between the
+/// `PutIn` and the `Open` and between the `TakeOut` and the `Clear`, are lawful: the packet's holds are
+/// its worker's there, and the desk has none.
+pub fn a_packet_on_its_way_is_its_workers()
+    ensures { PassesLawful }
+{}
+
 /// What is in a desk's slot is the packet that was put in last, by whichever seat, with its
 /// lengths. So what a seizure notes is the packet with which the desk was opened last.
 pub fn a_desk_has_what_was_put_in()
     ensures { DesksHaveWhatWasPutIn }
+{}
+
+/// What lies on a desk is what the notes of all seats leave there: of the packets with which it was
+/// opened, those that weren't seized from it.
+pub fn desks_have_what_the_notes_leave()
+    ensures { NotesTellOfDesks }
 {}
 
 /// Each operation of a call on a word is a step of the machine by the seat's worker, whatever the

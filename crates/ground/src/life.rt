@@ -1,24 +1,27 @@
 //! The life of a ground: it is made with one seat, seats are split and joined, and it is closed
 //! with one.
 
-ghost use Rattle.std.specs.Prelude.{◌≡◌, ◌<◌, ◌≤◌, [], IfOk, IfErr, IfSome};
+ghost use Rattle.std.specs.Prelude.{◌≡◌, ◌*◌, ◌<◌, ◌≤◌, ◌++◌, [], IfOk, IfErr, IfSome};
+ghost use Rattle.commons.specs.Bag.{bag};
 ghost use Rattle.commons.specs.Bounds.{IsPool};
 ghost use Rattle.ground.specs.Changing.{IsFresh, closed_at_start};
 ghost use Rattle.ground.specs.Closing.{LeftOf};
+ghost use Rattle.ground.specs.Lying.{LieByNotes};
 ghost use Rattle.ground.specs.Opening.{IsGroundCause};
 ghost use Rattle.ground.specs.Own.{Owned, AtRest, KnowsDesks};
-ghost use Rattle.ground.specs.Parting.{less_part, newcomer, IsBoth, AreBoth};
+ghost use Rattle.ground.specs.Parting.{less_part, newcomer, left_by_lending, lent_part, IsBoth, AreBoth};
 ghost use Rattle.ground.specs.Rule.{first_known};
 ghost use Rattle.ground.specs.Seats.{IsOf};
+ghost use Rattle.step_core.specs.World.{every_part, worker_part};
 
 use crate::head::head_of;
 use crate::known::Known;
-use crate::plays::{Looks, Parts};
+use crate::plays::{Chooses, Lends, Looks, Parts};
 use crate::pool::Ground;
 use crate::rows::{opening_words, read_desks, read_row};
 use crate::rule::PoolRule;
 use crate::seat::GroundSeat;
-use crate::stack::{HEAD, LENGTH, LINKS};
+use crate::stack::{HEAD, LENGTH, LINKS, link_word};
 use atomic_table::{Seat, Shared, Table};
 use commons::closed::Closed;
 use commons::limits::Limits;
@@ -61,18 +64,43 @@ impl Ground {
         Ok((ground, GroundSeat { seat }))
     }
 
-    /// Makes one more worker's seat, of one part of those that this seat has, which are two at
-    /// least. This seat keeps all that it names, and the new one names nothing and has taken no
-    /// step.
+    /// Makes one more worker's seat, of a worker's part of what this seat has, which is more than
+    /// that. This seat keeps all that it names, and the new one names nothing and has taken no step.
     pub fn split(&self, seat: &mut GroundSeat) -> GroundSeat
         requires of { IsOf self.now seat.old }
-        requires part { 2 ≤ seat.old.known.view.part }
+        requires part { worker_part < seat.old.known.view.part }
         ensures old { seat.new ≡ record seat.old { known = less_part seat.old.known } }
         ensures of { IsOf self.now result }
         ensures known { result.known ≡ newcomer seat.old.known }
         ensures slots { result.slots ≡ [] }
     {
         let seat = self.table.shared.split_seat::<Parts>(&mut seat.seat);
+        GroundSeat { seat }
+    }
+
+    /// Lends an element of the hand of a seat that is between calls: makes one more seat, which has
+    /// this element alone, and a part of 1 of those that this seat has, which are two at least. This
+    /// seat keeps all else.
+    ///
+    /// Whoever has the new seat has the element: it can be sent to another thread, and joined to any
+    /// seat of this ground, which has the element then and may put it. So what one lcore got another
+    /// puts (rte_mempool.h, rte_mempool_put_bulk). While an element is lent, no seat has every part.
+    ///
+    /// The load of the element's link says which one it is, in the proof alone.
+    pub fn lend(&self, seat: &mut GroundSeat, element: u32) -> GroundSeat
+        requires of { IsOf self.now seat.old }
+        requires rest { AtRest seat.old.known.view }
+        requires hand { 0 < bag seat.old.known.view.hand element }
+        requires part { 2 ≤ seat.old.known.view.part }
+        ensures old { seat.new ≡ record seat.old { known = left_by_lending element seat.old.known } }
+        ensures of { IsOf self.now result }
+        ensures known { result.known ≡ lent_part element seat.old.known }
+        ensures slots { result.slots ≡ [] }
+    {
+        seat.owned();
+        let word = link_word(element);
+        self.table.shared.load::<Chooses>(&mut seat.seat, word);
+        let seat = self.table.shared.split_seat::<Lends>(&mut seat.seat);
         GroundSeat { seat }
     }
 
@@ -98,8 +126,9 @@ impl Ground {
     /// list, and each element's link and count, and the packets of the full desks. They are those
     /// of a lawful world in which this seat's view is a worker's. Where the seat has every part,
     /// all that is neither in the common list nor on a full desk is what this seat names, and the
-    /// packets are those that it knows to lie there. Where nobody has done anything, it is what the
-    /// ground was made with.
+    /// packets are those that it knows to lie there, and those with which a desk was opened, by its
+    /// notes and those that were joined to it, and that weren't seized. Where nobody has done anything,
+    /// it is what the ground was made with.
     ///
     /// Refused `OutOfMemory` where memory was refused. Ground and seat come back then, as they
     /// were.
@@ -107,6 +136,8 @@ impl Ground {
         requires { IsOf self seat }
         ensures closed { IfOk result (LeftOf self.limits seat.known.view) }
         ensures desks { IfOk result (λ closed. IfSome seat.known.lying (λ desks. closed.desks ≡ desks)) }
+        ensures noted { IfOk result (λ closed. seat.known.view.part ≡ every_part self.limits →
+            LieByNotes (seat.known.steps ++ seat.known.joined) closed.desks) }
         ensures fresh { IfOk result (λ closed. IsFresh seat.known → closed ≡ closed_at_start self.limits) }
         ensures memory { IfErr result (λ refused. refused.0 ≡ Refusal.OutOfMemory) }
         ensures back { IfErr result (λ refused. (refused.1 ≡ self) × (refused.2 ≡ seat)) }

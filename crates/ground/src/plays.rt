@@ -78,6 +78,24 @@ impl Split<Known> for Parts {
     ghost right = { newcomer };
 }
 
+pub(crate) struct Chooses;
+
+impl Play<Option<Packet>, Known> for Chooses {
+    ghost use Rattle.ground.specs.StepAnswers.{chosen};
+
+    ghost then = { chosen };
+}
+
+pub(crate) struct Lends;
+
+impl Split<Known> for Lends {
+    ghost use Rattle.ground.specs.Parting.{left_by_loan, lent_loan};
+
+    ghost left = { left_by_loan };
+
+    ghost right = { lent_loan };
+}
+
 impl Join<Known> for Parts {
     ghost use Rattle.ground.specs.Parting.{both, spent_seat};
 

@@ -16,3 +16,22 @@ impl TableRule<Option<Packet>, Known, Limits> for PoolRule {
 
     ghost first = { first_known };
 }
+
+/// A rule that says of each state what `Ruled` does, and no more: the laws of this crate, which speak of
+/// `Ruled`, are laws of it.
+pub trait SaysRuled: TableRule<Option<Packet>, Known, Limits> {
+    ghost use Rattle.atomic_table.specs.Table.{State};
+    ghost use Rattle.commons.specs.declared.limits.Limits.{Limits};
+    ghost use Rattle.ground.specs.Rule.{Ruled, Slot};
+    ghost use Rattle.ground.specs.declared.known.Known.{Known};
+
+    ghost says: { (l : Limits) (s : State Slot Known) → Self.TableRule.holds l s → Ruled l s };
+
+    ghost said: { (l : Limits) (s : State Slot Known) → Ruled l s → Self.TableRule.holds l s };
+}
+
+impl SaysRuled for PoolRule {
+    ghost says = { λ l s h. h };
+
+    ghost said = { λ l s h. h };
+}

@@ -7,6 +7,7 @@ ghost use Rattle.commons.specs.Calls.{spent};
 ghost use Rattle.step_core.specs.declared.step.Step.TheVariants.{LoadLength, Reserve, Add, LoadHead, LoadLink, Cut, StoreLink, Push};
 ghost use Rattle.step_core.specs.declared.step.Outcome.TheVariants.{Value, HeadIs, Done};
 ghost use Rattle.step_core.specs.Views.{walks_to, MayCut, MayPush};
+ghost use Rattle.step_core.specs.World.{every_part};
 ghost use Rattle.ground.specs.Changing.{KnowsChanges, KnowsOpening};
 ghost use Rattle.ground.specs.Layout.{link_word};
 ghost use Rattle.ground.specs.Seats.{IsOf, Steps, outcome_of, cut_outcome, push_outcome, front_of, element_of, KnowsLength, KnowsEnd};
@@ -28,7 +29,7 @@ pub(crate) const LENGTH: usize = LINE_WORDS;
 pub(crate) const LINKS: usize = 2 * LINE_WORDS;
 
 /// Where the link of an element stands: after these cache lines.
-fn link_word(element: u32) -> usize
+pub(crate) fn link_word(element: u32) -> usize
     ensures { result ≡ link_word element }
 {
     LINKS + element as usize
@@ -124,7 +125,7 @@ impl Ground {
         requires look { MayCut seat.old.known.view head next }
         ensures step { Steps Cut (cut_outcome result (front_of seat.old.known.view.look)) seat.old seat.new }
         ensures later { IfErr result (λ found. head.count < found.count) }
-        ensures alone { seat.old.known.view.part ≡ self.now.limits.workers → IfErr result (λ _. ⊥) }
+        ensures alone { seat.old.known.view.part ≡ every_part self.now.limits → IfErr result (λ _. ⊥) }
     {
         seat.owned();
         let old = word_of(head);
@@ -166,7 +167,7 @@ impl Ground {
         requires look { MayPush seat.old.known.view head first }
         ensures step { Steps Push (push_outcome result) seat.old seat.new }
         ensures later { IfErr result (λ found. head.count < found.count) }
-        ensures alone { seat.old.known.view.part ≡ self.now.limits.workers → IfErr result (λ _. ⊥) }
+        ensures alone { seat.old.known.view.part ≡ every_part self.now.limits → IfErr result (λ _. ⊥) }
     {
         seat.owned();
         let old = word_of(head);

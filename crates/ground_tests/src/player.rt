@@ -1,9 +1,10 @@
 //! A player: a seat of a ground, and the view that its contract says it has.
 
-ghost use Rattle.std.specs.Prelude.{◌≡◌, ◌≤◌, [], IfOk, IfSome, IsTrue, OnOk, OnErr};
+ghost use Rattle.std.specs.Prelude.{◌≡◌, ◌*◌, ◌<◌, ◌≤◌, [], IfOk, IfSome, IsTrue, OnOk, OnErr};
 ghost use Rattle.std.proofs.Props.{props};
-ghost use Rattle.step_core.specs.World.{empty_view};
-ghost use Rattle.ground.specs.Parting.{both_views};
+ghost use Rattle.commons.specs.Bag.{bag};
+ghost use Rattle.step_core.specs.World.{empty_view, worker_part};
+ghost use Rattle.ground.specs.Parting.{both_views, loan_of};
 ghost use Rattle.ground.specs.Own.{AtRest};
 ghost use Rattle.ground.specs.Seats.{IsOf};
 ghost use Rattle.ground_tests.specs.Playing.{IsInPool, Plays, Mirrors, IsOfSeat};
@@ -19,7 +20,7 @@ use ground::seat::GroundSeat;
 use std::alloc::{AllocError, Global};
 use step_core::elems::Elems;
 use step_core::step::{Outcome, Step};
-use step_core::view::View;
+use step_core::view::{View, WORKER_PART};
 
 /// A seat with its view at run time, which is what the seat knows, and a copy of the packet in its
 /// slot. While it has seized a desk, the view is that before the seizure. It can't be dropped.
@@ -154,22 +155,43 @@ fn play(
     }
 }
 
-/// One part of a seat, as a seat.
+/// A worker's part of a seat, as a seat.
 fn part_of(ground: &Ground, seat: &mut GroundSeat, view: &mut View) -> GroundSeat
     requires of { IsOf ground.now seat.old }
     requires same { view.old ≡ seat.old.known.view }
+    requires part { 2 * worker_part ≤ view.old.part }
+    ensures same { view.new ≡ seat.new.known.view }
+    ensures chain { view.new.chain ≡ view.old.chain }
+    ensures work { view.new.work ≡ view.old.work }
+    ensures slots { seat.new.slots ≡ seat.old.slots }
+    ensures of { IsOf ground.now seat.new }
+    ensures other { result.known.view ≡ empty_view worker_part }
+    ensures other_slots { result.slots ≡ [] }
+    ensures other_of { IsOf ground.now result }
+{
+    view.part -= WORKER_PART;
+    ground.split(seat)
+}
+
+/// An element of the hand of a seat between calls, as a seat.
+fn loan_of(ground: &Ground, seat: &mut GroundSeat, view: &mut View, element: u32) -> GroundSeat
+    requires of { IsOf ground.now seat.old }
+    requires same { view.old ≡ seat.old.known.view }
+    requires rest { AtRest view.old }
+    requires hand { 0 < bag view.old.hand element }
     requires part { 2 ≤ view.old.part }
     ensures same { view.new ≡ seat.new.known.view }
     ensures chain { view.new.chain ≡ view.old.chain }
     ensures work { view.new.work ≡ view.old.work }
     ensures slots { seat.new.slots ≡ seat.old.slots }
     ensures of { IsOf ground.now seat.new }
-    ensures other { result.known.view ≡ empty_view 1 }
+    ensures other { result.known.view ≡ loan_of element }
     ensures other_slots { result.slots ≡ [] }
     ensures other_of { IsOf ground.now result }
 {
+    view.hand.take_out(element);
     view.part -= 1;
-    ground.split(seat)
+    ground.lend(seat, element)
 }
 
 /// Whether a player sees all of its seat.
@@ -268,7 +290,7 @@ impl Player {
         let (ground, seat) = Ground::make(alloc, limits)?;
         let player = Player {
             seat,
-            view: empty_view(alloc, limits.workers),
+            view: empty_view(alloc, limits.workers * WORKER_PART),
             slot: None,
             sees: Sees::All,
             alloc,
@@ -276,21 +298,50 @@ impl Player {
         Ok((ground, player))
     }
 
-    /// Makes the player of one more seat, of one part of this one's, or none where this one has
-    /// but one, or has seized a desk.
+    /// Makes the player of one more seat, of a worker's part of this one's, or none where this one
+    /// hasn't two, or has seized a desk.
     pub fn split(&mut self, ground: &Ground) -> Option<Player>
         requires of { IsOf ground.now self.old.seat }
         ensures of { IsOf ground.now self.new.seat }
         ensures other { IfSome result (λ player. IsOf ground.now player.seat) }
     {
-        if self.view.part < 2 || !sees_all(&self.sees) {
+        if self.view.part < 2 * WORKER_PART || !sees_all(&self.sees) {
             return None;
         }
         let alloc = self.alloc;
         let seat = part_of(ground, &mut self.seat, &mut self.view);
         Some(Player {
             seat,
-            view: empty_view(alloc, 1),
+            view: empty_view(alloc, WORKER_PART),
+            slot: None,
+            sees: Sees::All,
+            alloc,
+        })
+    }
+
+    /// Lends an element: makes the player of one more seat, which has it alone. Or none, where this
+    /// one isn't between calls or hasn't the element in its hand, or memory was refused.
+    pub fn lend(&mut self, ground: &Ground, element: u32) -> Option<Player>
+        requires of { IsOf ground.now self.old.seat }
+        ensures of { IsOf ground.now self.new.seat }
+        ensures other { IfSome result (λ player. IsOf ground.now player.seat) }
+    {
+        if !is_between_calls(&self.view, &self.sees)
+            || !self.view.hand.has(element)
+            || self.view.part < 2
+        {
+            return None;
+        }
+        let alloc = self.alloc;
+        let Ok(hand) = Elems::single(alloc, element) else {
+            return None;
+        };
+        let seat = loan_of(ground, &mut self.seat, &mut self.view, element);
+        let mut view = empty_view(alloc, 1);
+        view.hand = hand;
+        Some(Player {
+            seat,
+            view,
             slot: None,
             sees: Sees::All,
             alloc,

@@ -4,7 +4,7 @@ use Rattle.std.specs.Prelude.{sum_by, IfSome}
 use Rattle.commons.specs.Bag.{bag}
 use Rattle.step_core.specs.Bags.{minus}
 use Rattle.step_core.specs.declared.view.View.{View}
-use Rattle.step_core.specs.World.{World, view_at, link_in, desk_at}
+use Rattle.step_core.specs.World.{World, view_at, link_in, desk_at, every_part}
 use Rattle.step_core.specs.Law.{LookRule, ChainRule, Lawful, NamesNothing, fills, empties, left_in}
 use Rattle.step_core.specs.Headers.{HeaderLaw}
 use Rattle.step_core.specs.Kept.{IsWorld}
@@ -89,7 +89,7 @@ module _ (w : World) (j k : ℕ) (xs left : List ℕ) (apart : j ≢ k) (giver :
       seen = each (λ v. v.seen ≤ w.head.count) (law.looks.seen j) (law.looks.seen k) law.looks.seen;
       look =
           each
-          (λ v. IfSome v.look (LookRule w.limits.workers w.head (link_in w.links) v.part v.seen))
+          (λ v. IfSome v.look (LookRule (every_part w.limits) w.head (link_in w.links) v.part v.seen))
           (law.looks.look j) (law.looks.look k) law.looks.look;
     };
     chains = record {

@@ -17,4 +17,6 @@ mod rows;
 #[cfg(test)]
 mod several;
 #[cfg(test)]
+mod turns;
+#[cfg(test)]
 mod twins;

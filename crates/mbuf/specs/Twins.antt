@@ -21,10 +21,11 @@ pub record OwnTwin (t : TwinMember) (s u : Side) : Type 0 where
   pub first : OwnWith (bases_in t.second.table) t.first s
   pub second : OwnForeign t.second u
 
--- why a twin isn't made: either limits are out of range or have no worker of this number, or memory
--- was refused
+-- why a twin isn't made: either limits are out of range or have no worker of this number; or neither
+-- are, and memory was refused
 abbrev pub IsTwinCause : Limits → Limits → ℕ → Refusal → Type 0
 IsTwinCause first second number BadPool =
     IsPool first → IsPool second → 1 ≤ number → number ≤ first.workers → number ≤ second.workers → ⊥
-IsTwinCause first second number OutOfMemory = IsPool first × (1 ≤ number) × (number ≤ first.workers)
+IsTwinCause first second number OutOfMemory =
+    IsPool first × IsPool second × (1 ≤ number) × (number ≤ first.workers) × (number ≤ second.workers)
 IsTwinCause first second number _ = ⊥

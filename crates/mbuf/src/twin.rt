@@ -51,7 +51,7 @@ impl Model for Twin {
 impl Twin {
     /// A worker with two empty caches and no packets. No other call takes memory.
     ///
-    /// Refused `BadPool` where either limits are out of range or have no worker of this number, and
+    /// Refused `BadPool` where either limits are out of range or have no worker of this number, else
     /// `OutOfMemory` where memory was refused.
     pub fn make(
         alloc: Global,
@@ -75,6 +75,10 @@ impl Twin {
         ensures second_pool { IfOk result (λ t. IsPool second.now × (number ≤ second.now.workers)) }
         ensures cause { IfErr result (IsTwinCause first.now second.now number) }
     {
+        second.check()?;
+        if u64::from(number) > second.workers {
+            return Err(Refusal::BadPool);
+        }
         let first = Packets::make(alloc, first, number)?;
         match Packets::make(alloc, second, number) {
             Ok(second) => Ok(Twin { first, second }),

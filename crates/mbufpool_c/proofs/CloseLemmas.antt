@@ -5,11 +5,11 @@ use Rattle.std.proofs.lemmas.Grind.{flat_map-append}
 use Rattle.std.proofs.lemmas.List.{get_or-map, length-map, map-append, take_more}
 use Rattle.std.proofs.lemmas.List.Elements.{All-from_get_or, All-get_or}
 use Rattle.std.proofs.Math.Seq.{map-set_same}
-use Rattle.std.specs.Prelude.{flat_map}
+use Rattle.std.specs.Prelude.{Some, flat_map, slice_index_or}
 use Rattle.ground.specs.Seats.{Grounded}
 use Rattle.word_pool.specs.Lost.{AreLeft, AreLostOf}
-use Rattle.word_pool.specs.Workers.{Manned}
-use Rattle.mbufpool_c.specs.Closes.{AreApart, AreEmpty, Closes, HasClosed, HaveSame, IsSettled, number_in, numbers_in, values_of}
+use Rattle.word_pool.specs.Workers.{IsWorker, Manned}
+use Rattle.mbufpool_c.specs.Closes.{AreApart, AreEmpty, Closes, HasClosed, HasOneOf, HaveSame, IsSettled, number_in, numbers_in, values_of}
 use Rattle.mbufpool_c.specs.inside.Halls.{AreAbove}
 use Rattle.mbufpool_c.specs.declared.ending.Ending.{Ending}
 use Rattle.mbufpool_c.specs.declared.worker_handle.WorkerHandle.{WorkerHandle}
@@ -91,9 +91,8 @@ empty_of (x ∷ xs) none = absurd (omega (arith, none))
 -- all workers are settled
 pub closed_all : (numbers : List ℕ) (g : Grounded) (ms : List Manned) (missing : List ℕ) (e : Ending) →
     AreAbove g 0 ms missing → missing ≡ [] → length ms ≡ length numbers → AreApart numbers missing →
-    IsSettled g [] ms e → HasClosed numbers e
+    IsSettled g [] ms e → HasClosed g numbers e
 closed_all numbers g ms missing e are none as_many apart settled = record {
-  ground = g;
   workers = ms;
   missing = missing;
   as_many = as_many;
@@ -110,9 +109,8 @@ settled_some g ms (w ∷ missing) e some none left lost = (none, left, lost)
 -- those who are left are settled
 pub closed_some : (numbers : List ℕ) (g : Grounded) (ms : List Manned) (missing : List ℕ) (e : Ending) →
     AreAbove g 0 ms missing → 0 < length missing → length ms ≡ length numbers → AreApart numbers missing →
-    e.statement ≡ None → AreLeft g missing ms → AreLostOf g missing ms e.lost.items → HasClosed numbers e
+    e.statement ≡ None → AreLeft g missing ms → AreLostOf g missing ms e.lost.items → HasClosed g numbers e
 closed_some numbers g ms missing e are some as_many apart none left lost = record {
-  ground = g;
   workers = ms;
   missing = missing;
   as_many = as_many;
@@ -121,6 +119,11 @@ closed_some numbers g ms missing e are some as_many apart none left lost = recor
   settled = settled_some g ms missing e some none left lost;
 }
 
+-- a worker that is in handles is in those that have the same
+pub one_same : (g : Grounded) (old new : List WorkerHandle) → HaveSame old new → HasOneOf g old → HasOneOf g new
+one_same g old new same (m, k, there, is) =
+    (m, k, subst (λ (vs : List (Option Manned)). slice_index_or vs k None ≡ Some m) (sym same) there, is)
+
 -- handles that were looked at first are closed as well
 pub closes_same : (old looked new : List WorkerHandle) (ending : Option Ending) → HaveSame old looked →
     Closes looked new ending → Closes old new ending
@@ -128,5 +131,7 @@ closes_same old looked new ending same closes = record {
   left = closes.left;
   found = closes.found;
   there = closes.there;
-  closed = subst (λ (vs : List (Option Manned)). HasClosed (flat_map number_in vs) closes.found) same closes.closed;
+  ground = closes.ground;
+  of = one_same closes.ground looked old (sym same) closes.of;
+  closed = subst (λ (vs : List (Option Manned)). HasClosed closes.ground (flat_map number_in vs) closes.found) same closes.closed;
 }

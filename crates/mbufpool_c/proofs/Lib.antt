@@ -2,6 +2,7 @@ mod CheckedHandles
 mod CloseLemmas
 mod EndingHandles
 mod FillLemmas
+mod GuardHandles
 mod HallLemmas
 mod Handles
 mod LooseSend

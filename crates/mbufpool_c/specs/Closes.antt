@@ -1,5 +1,5 @@
 -- What C is answered where it closes a pool of packets.
-use Rattle.std.specs.Prelude.{ℕ, ◌≡◌, ◌≢◌, ◌≤◌, ◌+◌, ◌⊎◌, List, [], ◌∷◌, Option, Some, None, All, flat_map, length, map}
+use Rattle.std.specs.Prelude.{ℕ, ◌≡◌, ◌≢◌, ◌+◌, ◌⊎◌, List, [], ◌∷◌, Option, Some, None, All, flat_map, length, map, slice_index_or}
 use Rattle.commons.specs.declared.refusal.Refusal.TheVariants.{InUse, OutOfMemory, StrangerShare}
 use Rattle.commons.specs.Refusals.{number_of}
 use Rattle.ground.specs.Seats.{Grounded}
@@ -7,7 +7,7 @@ use Rattle.pool_model.specs.declared.statement.Statement.{Statement}
 use Rattle.pool_model.specs.Statements.{ListsEachOnce, PlacesEachOnce}
 use Rattle.book.specs.Listing.{ListsPackets}
 use Rattle.word_pool.specs.Lost.{AreLeft, AreLostOf}
-use Rattle.word_pool.specs.Workers.{Manned, AreWorkers, IsStatementOfWorkers}
+use Rattle.word_pool.specs.Workers.{Manned, AreWorkers, IsStatementOfWorkers, IsWorker}
 use Rattle.mbufpool_c.specs.declared.ending.Ending.{Ending}
 use Rattle.mbufpool_c.specs.declared.worker_handle.WorkerHandle.{WorkerHandle}
 
@@ -51,10 +51,14 @@ IsSettled g [] ms e = (s : Statement) × (e.statement ≡ Some s) × (e.lost.ite
 IsSettled g (w ∷ missing) ms e = (e.statement ≡ None) × AreLeft g (w ∷ missing) ms
     × AreLostOf g (w ∷ missing) ms e.lost.items
 
--- Workers of one ground are settled, as many as there were in handles. Each worker whose number one
+-- one of these handles has a worker of this ground: the ground's words and limits are that worker's
+abbrev pub HasOneOf : Grounded → List WorkerHandle → Type 0
+HasOneOf g handles =
+    (m : Manned) × (k : ℕ) × (slice_index_or (values_of handles) k None ≡ Some m) × IsWorker g m
+
+-- Workers of this ground are settled, as many as there were in handles. Each worker whose number one
 -- of these had is among them: none of those who are missing has it.
-pub record HasClosed (numbers : List ℕ) (e : Ending) : Type 0 where
-  pub ground : Grounded
+pub record HasClosed (ground : Grounded) (numbers : List ℕ) (e : Ending) : Type 0 where
   pub workers : List Manned
   pub missing : List ℕ
   pub as_many : length workers ≡ length numbers
@@ -62,12 +66,15 @@ pub record HasClosed (numbers : List ℕ) (e : Ending) : Type 0 where
   pub all : length workers + length missing ≡ ground.limits.workers
   pub settled : IsSettled ground missing workers e
 
--- The handles have no workers then, and C has what their pool left.
+-- The handles have no workers then, and C has what their pool left: one of them was of its words and
+-- limits.
 pub record Closes (old new : List WorkerHandle) (ending : Option Ending) : Type 0 where
   pub left : AreEmpty new
   pub found : Ending
   pub there : ending ≡ Some found
-  pub closed : HasClosed (numbers_in old) found
+  pub ground : Grounded
+  pub of : HasOneOf ground old
+  pub closed : HasClosed ground (numbers_in old) found
 
 -- Why a pool isn't closed, while each handle keeps what it has: there is no worker, or one of
 -- another pool than the first's; one of the pool is in a handle elsewhere; or memory was refused.

@@ -1,6 +1,5 @@
 -- How an `OwnSeat` is kept. No public clause cites this module.
 use Rattle.std.specs.Prelude.{◌≡◌, [], Option, Some, None}
-use Rattle.ground.specs.Own.{AtRest}
 use Rattle.ground.specs.Parting.{spent_seat}
 use Rattle.ground.specs.Seats.{Seated, IsOf}
 use Rattle.mbufpool_c.specs.declared.seats.OwnSeat.TheInside.{Inside}
@@ -27,12 +26,9 @@ seat_in None = no_seat
 seat_in (Some s) = s
 
 abbrev pub seated_of : Inside → Seated
-seated_of w = seat_in w.seat
+seated_of w = seat_in w.lender
 
--- between calls the seat is there, of these words, and at rest, and its parts are counted
+-- between calls the lender is there, of these words
 pub record IsKept (w : Inside) : Type 0 where
-  pub there : w.seat ≡ Some (seat_in w.seat)
-  pub of : IsOf w.ground.value (seat_in w.seat)
-  pub rest : AtRest (seat_in w.seat).known.view
-  pub slots : (seat_in w.seat).slots ≡ []
-  pub parts : (seat_in w.seat).known.view.part ≡ w.parts
+  pub there : w.lender ≡ Some (seat_in w.lender)
+  pub of : IsOf w.ground.value (seat_in w.lender)

@@ -1,3 +1,4 @@
+pub mod Guarded
 pub mod Kept
 pub mod Owned
 pub mod Stacks

@@ -1,21 +1,24 @@
 -- What C is answered by a seat, and what it owes of a list that it puts.
-use Rattle.std.specs.Prelude.{◌≡◌, ℕ, ◌≤◌, List, Option, Some, None, Result, Ok, Err, ⊤}
+use Rattle.std.specs.Prelude.{◌≡◌, ◌⊎◌, ℕ, ◌≤◌, List, Option, Some, None, Result, Ok, Err, ⊤}
 use Rattle.commons.specs.Bag.{bag}
-use Rattle.commons.specs.Calls.{Call, CommonCount, Did}
+use Rattle.commons.specs.Calls.{Call, CommonCount, Did, with_list}
 use Rattle.commons.specs.declared.limits.Limits.{Limits}
 use Rattle.commons.specs.declared.limits.PutRule.TheVariants.{Keep}
 use Rattle.commons.specs.declared.refusal.Refusal.{Refusal}
-use Rattle.commons.specs.declared.refusal.Refusal.TheVariants.{StrangerShare}
+use Rattle.commons.specs.declared.refusal.Refusal.TheVariants.{OutOfMemory, StrangerShare}
 use Rattle.commons.specs.Refusals.{number_of}
-use Rattle.ground.specs.Parting.{less_part, newcomer}
+use Rattle.ground.specs.Opening.{IsGroundCause}
+use Rattle.ground.specs.Parting.{IsBoth, less_part, newcomer}
 use Rattle.ground.specs.Seats.{Seated}
+use Rattle.lending.specs.Lending.{GetsLoans, PutsLoans}
+use Rattle.lending.specs.declared.loans.Loans.{Loans}
 use Rattle.stack_lf.specs.Sides.{side_of}
 use Rattle.stack_lf.specs.Tries.{DidOnWords}
 
--- each element of the list is in the hand of the seat, and the list names it once
-abbrev pub InHand : Option Seated → List ℕ → Type 0
-InHand None xs = ⊤
-InHand (Some s) xs = (i : ℕ) → bag xs i ≤ (side_of s).hand i
+-- each element of the list is among the loans, and no two loans are of one
+abbrev pub AreLent : Option Seated → Loans → List ℕ → Type 0
+AreLent None x xs = ⊤
+AreLent (Some s) x xs = (i : ℕ) → bag xs i ≤ bag x.lent i
 
 -- 0, or the number of the refusal
 abbrev pub status_of : Result (Unit {0}) Refusal → ℕ
@@ -28,6 +31,21 @@ abbrev pub CallsIn : (Result (Unit {0}) Refusal → Call) → Option Seated → 
 CallsIn call None status new = (status ≡ number_of StrangerShare) × (new ≡ None)
 CallsIn call (Some s) status new =
     (answer : Result (Unit {0}) Refusal) × (t : Seated) × Did DidOnWords side_of s (call answer) t
+    × (new ≡ Some t) × (status ≡ status_of answer)
+
+-- The seat of a handle got elements and lent them, or was refused, and C has the status of the
+-- answer. Where there is no seat nothing was done, and C has the number of a stranger.
+abbrev pub GetsIn : ℕ → List ℕ → Option Seated → Loans → ℕ → Option Seated → Loans → Type 0
+GetsIn n xs None x status new y = (status ≡ number_of StrangerShare) × (new ≡ None) × (y ≡ x)
+GetsIn n xs (Some s) x status new y =
+    (answer : Result (Unit {0}) Refusal) × (t : Seated) × GetsLoans n (with_list answer xs) s x t y
+    × (new ≡ Some t) × (status ≡ status_of answer)
+
+-- the same of a put of elements that are lent
+abbrev pub PutsIn : List ℕ → Option Seated → Loans → ℕ → Option Seated → Loans → Type 0
+PutsIn xs None x status new y = (status ≡ number_of StrangerShare) × (new ≡ None) × (y ≡ x)
+PutsIn xs (Some s) x status new y =
+    (answer : Result (Unit {0}) Refusal) × (t : Seated) × PutsLoans xs answer s x t y
     × (new ≡ Some t) × (status ≡ status_of answer)
 
 -- the limits of a pool of the bare stack
@@ -44,15 +62,38 @@ stack_limits population seats tries = record {
   put_rule = Keep;
 }
 
+-- why a pool of the bare stack isn't made: its limits are those of no pool, or memory was refused; and
+-- C has the number of the cause
+abbrev pub RefusesStack : Limits → ℕ → Type 0
+RefusesStack l status = (cause : Refusal) × (status ≡ number_of cause) × IsGroundCause l cause
+
 -- the seat of a handle read this of the length word; where there is no seat, C has 0
 abbrev pub CountsIn : Option Seated → ℕ → Option Seated → Type 0
 CountsIn None count new = (count ≡ 0) × (new ≡ None)
 CountsIn (Some s) count new = (t : Seated) × Did DidOnWords side_of s (CommonCount count) t × (new ≡ Some t)
 
--- the seat of the first handle gave one of its parts to a new seat at its words, which is in the
+-- the seat of the first handle gave a worker's part to a new seat at its words, which is in the
 -- second
 abbrev pub Splits : Option Seated → Option Seated → Option Seated → Type 0
 Splits None new out = ⊥
 Splits (Some s) new out =
     (new ≡ Some (record s { known = less_part s.known }))
     × ((other : Seated) × (out ≡ Some other) × (other.table ≡ s.table) × (other.known ≡ newcomer s.known))
+
+-- The seat has back the part that it gave: it names what it named, and has forgotten what it had read
+-- of the common list.
+abbrev pub HasBack : Seated → Seated → Type 0
+HasBack s t = IsBoth (record s { known = less_part s.known }) (newcomer s.known) t
+
+-- Where no seat is made the first is as it was; or memory was refused for the second, and the first
+-- has its part back.
+abbrev pub KeepsSeat : ℕ → Option Seated → Option Seated → Type 0
+KeepsSeat status None new = new ≡ None
+KeepsSeat status (Some s) new =
+    (new ≡ Some s) ⊎ ((status ≡ number_of OutOfMemory) × ((t : Seated) × (new ≡ Some t) × HasBack s t))
+
+-- the same where that part is gone then
+abbrev pub KeepsSeatOrPart : ℕ → Option Seated → Option Seated → Type 0
+KeepsSeatOrPart status None new = new ≡ None
+KeepsSeatOrPart status (Some s) new =
+    (new ≡ Some s) ⊎ ((status ≡ number_of OutOfMemory) × (new ≡ Some (record s { known = less_part s.known })))

@@ -1,5 +1,5 @@
 -- What C is answered.
-use Rattle.std.specs.Prelude.{◌≡◌, ◌<◌, ℕ, ⊤, List, length, Option, Some, None, slice_index_or}
+use Rattle.std.specs.Prelude.{◌≡◌, ◌<◌, ℕ, List, length, Option, Some, None, slice_index_or}
 use Rattle.commons.specs.declared.refusal.Refusal.TheVariants.{StrangerShare}
 use Rattle.commons.specs.Refusals.{number_of}
 use Rattle.mbuf.specs.declared.acts.Act.{Act}
@@ -105,11 +105,11 @@ AreTold made out =
     slice_index_or out k e
     ≡ record { slot = (slice_index_or made k d).slot; element = (slice_index_or made k d).elem }
 
--- and of a bulk each packet
-abbrev pub BulkTold : Option Reply → List NewPacket → Type 0
-BulkTold (Some (reply.Bulk made)) out = AreTold made.items out
-BulkTold _ out = ⊤
+-- and of a bulk each packet; what was there stays where no bulk is made
+abbrev pub BulkTold : Option Reply → List NewPacket → List NewPacket → Type 0
+BulkTold (Some (reply.Bulk made)) was out = AreTold made.items out
+BulkTold _ was out = out ≡ was
 
-abbrev pub TellsBulk : Act → Option Manned → ℕ → List NewPacket → Option Manned → Type 0
-TellsBulk act old status out new =
-    (answer : Option Reply) × ActsIn act old answer new × (status ≡ status_of answer) × BulkTold answer out
+abbrev pub TellsBulk : Act → Option Manned → ℕ → List NewPacket → List NewPacket → Option Manned → Type 0
+TellsBulk act old status was out new =
+    (answer : Option Reply) × ActsIn act old answer new × (status ≡ status_of answer) × BulkTold answer was out

@@ -6,7 +6,7 @@ ghost use Rattle.ground.specs.Opening.{IsGroundCause};
 ghost use Rattle.ground.specs.Rule.{first_known};
 ghost use Rattle.ground.specs.Seats.{Seated};
 ghost use Rattle.mbufpool_c.specs.Marks.{PutsCheckedIn};
-ghost use Rattle.mbufpool_c.specs.Stacks.{CallsIn, CountsIn, stack_limits};
+ghost use Rattle.mbufpool_c.specs.Stacks.{CallsIn, CountsIn, RefusesStack, stack_limits};
 
 use crate::checked::CheckedSeat;
 use crate::checked_handle::CheckedHandle;
@@ -38,6 +38,7 @@ pub extern "C" fn mbufpool_checked_open(
     ensures opened { result ≡ 0 → (s : Seated) × (out.new.value ≡ Some s)
         × (s.known ≡ first_known (stack_limits population 1 tries)) }
     ensures kept { result ≢ 0 → out.new.value ≡ out.old.value }
+    ensures cause { result ≢ 0 → RefusesStack (stack_limits population 1 tries) result }
 {
     match opened(alloc, population, tries) {
         Ok(seat) => {

@@ -1,10 +1,10 @@
 //! How a pool of packets is closed for C.
 
-ghost use Rattle.std.specs.Prelude.{◌≡◌, ◌≢◌, ◌<◌, ◌≤◌, ◌+◌, ◌++◌, ◌∷◌, [], All, None, IfOk, IfErr, IfSome, IsTrue, length, vec_capacity, vec_len};
+ghost use Rattle.std.specs.Prelude.{◌≡◌, ◌≢◌, ◌<◌, ◌≤◌, ◌+◌, ◌++◌, ◌∷◌, [], All, None, Some, IfOk, IfErr, IfSome, IsTrue, length, vec_capacity, vec_len};
 ghost use Rattle.commons.specs.Refusals.{number_of};
-ghost use Rattle.word_pool.specs.Workers.{AreWorkers};
+ghost use Rattle.word_pool.specs.Workers.{AreWorkers, IsWorker, Manned};
 ghost use Rattle.word_pool.specs.Lost.{AreLeft, AreLostOf};
-ghost use Rattle.mbufpool_c.specs.Closes.{AreApart, AreEmpty, Closes, HasClosed, HaveSame, IsEnded, IsRefused, IsSettled, RefusesClose, number_in, numbers_in};
+ghost use Rattle.mbufpool_c.specs.Closes.{AreApart, AreEmpty, Closes, HasClosed, HasOneOf, HaveSame, IsEnded, IsRefused, IsSettled, RefusesClose, number_in, numbers_in};
 ghost use Rattle.mbufpool_c.specs.inside.Halls.{AreAbove, IsGathered};
 ghost use Rattle.mbufpool_c.specs.inside.Rooms.{IsRoom};
 
@@ -80,6 +80,8 @@ fn make_room(alloc: Global, handles: usize, workers: usize) -> Result<Room, Allo
 fn hall_of(alloc: Global, handle: &mut WorkerHandle) -> Option<Result<Arc<Hall>, AllocError>>
     ensures same { handle.new.value ≡ handle.old.value }
     ensures none { handle.old.value ≡ None → result ≡ None }
+    ensures of { IfSome result (λ found. IfOk found (λ hall.
+        (m : Manned) × (handle.old.value ≡ Some m) × IsWorker hall.value m)) }
 {
     match handle.take(alloc) {
         None => None,
@@ -95,6 +97,7 @@ fn hall_of(alloc: Global, handle: &mut WorkerHandle) -> Option<Result<Arc<Hall>,
 fn first_hall(alloc: Global, handles: &mut [WorkerHandle]) -> Option<Result<Arc<Hall>, AllocError>>
     ensures same { HaveSame handles.old handles.new }
     ensures none { AreEmpty handles.old → result ≡ None }
+    ensures of { IfSome result (λ found. IfOk found (λ hall. HasOneOf hall.value handles.old)) }
 {
     for k in 0..handles.len() {
         if let Some(hall) = hall_of(alloc, &mut handles[k]) {
@@ -341,7 +344,7 @@ fn settle(
     place: Box<Ending>,
 ) -> Result<Box<Ending>, u32>
     requires { AreAbove ground 0 found.0.items found.1.items }
-    ensures closed { IfOk result (λ ending. HasClosed numbers.now ending.value) }
+    ensures closed { IfOk result (λ ending. HasClosed ground numbers.now ending.value) }
     ensures ended { IfErr result IsEnded }
 {
     let (workers, missing) = found;
@@ -370,7 +373,7 @@ fn settle_hall(
 ) -> Result<Box<Ending>, u32>
     requires workers { workers.items ≡ [] }
     requires missing { missing.items ≡ [] }
-    ensures closed { IfOk result (λ ending. HasClosed numbers.now ending.value) }
+    ensures closed { IfOk result (λ ending. HasClosed hall numbers.now ending.value) }
     ensures ended { IfErr result IsEnded }
 {
     let (ground, chairs) = hall.into_parts();
@@ -392,7 +395,7 @@ fn ended(
 ) -> Result<Box<Ending>, u32>
     requires { IsRoom (length handles.old) room }
     ensures left { AreEmpty handles.new }
-    ensures closed { IfOk result (λ ending. HasClosed (numbers_in handles.old) ending.value) }
+    ensures closed { IfOk result (λ ending. HasClosed hall.value (numbers_in handles.old) ending.value) }
     ensures ended { IfErr result IsEnded }
 {
     let Room {
@@ -417,7 +420,8 @@ fn end(
     room: Room,
     out: &mut EndingHandle,
 ) -> u32
-    requires { IsRoom (length handles.old) room }
+    requires room { IsRoom (length handles.old) room }
+    requires of { HasOneOf hall.value handles.old }
     ensures closed { result ≡ 0 → Closes handles.old handles.new out.new.value }
     ensures kept { result ≢ 0 → out.new.value ≡ out.old.value }
     ensures ended { result ≢ 0 → AreEmpty handles.new × IsEnded result }
@@ -438,6 +442,7 @@ fn close(
     handles: &mut [WorkerHandle],
     out: &mut EndingHandle,
 ) -> u32
+    requires { HasOneOf hall.value handles.old }
     ensures closed { result ≡ 0 → Closes handles.old handles.new out.new.value }
     ensures kept { result ≢ 0 → out.new.value ≡ out.old.value }
     ensures refused { result ≢ 0 → RefusesClose handles.old result handles.new }

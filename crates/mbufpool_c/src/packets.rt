@@ -162,7 +162,7 @@ pub extern "C" fn mbufpool_alloc_bulk(
     worker: &mut WorkerHandle,
     out: &mut [NewPacket],
 ) -> u32
-    ensures { TellsBulk (Act.AllocBulk (length out.old)) worker.old.value result out.new worker.new.value }
+    ensures { TellsBulk (Act.AllocBulk (length out.old)) worker.old.value result out.old out.new worker.new.value }
 {
     let answer = act_bulk(alloc, worker, out.len());
     match &answer {

@@ -1,32 +1,35 @@
 //! A seat with the words that it is at.
 
-ghost use Rattle.std.specs.Prelude.{◌≡◌, ◌<◌, ◌≤◌, [], length, ℕ, None, Some, IfOk, IfErr};
+ghost use Rattle.std.specs.Prelude.{◌≡◌, ◌+◌, ◌^◌, ◌<◌, ◌≤◌, [], length, ℕ, None, Some, IfOk, IfErr};
 ghost use Rattle.commons.specs.Bag.{bag};
 ghost use Rattle.commons.specs.Calls.{Did, GetList, PutList, CommonCount, with_list};
 ghost use Rattle.ground.specs.Opening.{IsGroundCause};
-ghost use Rattle.ground.specs.Own.{AtRest, Owned};
-ghost use Rattle.ground.specs.Parting.{less_part, newcomer};
+ghost use Rattle.ground.specs.Own.{Owned};
+ghost use Rattle.ground.specs.Parting.{IsBoth, less_part, newcomer};
 ghost use Rattle.ground.specs.Rule.{first_known};
 ghost use Rattle.ground.specs.Seats.{IsOf};
+ghost use Rattle.lending.specs.Lending.{GetsLoans, PutsLoans};
+ghost use Rattle.lending.specs.Pools.{AreAt, none_of};
 ghost use Rattle.stack_lf.specs.Sides.{side_of};
+ghost use Rattle.step_core.specs.World.{worker_part};
 ghost use Rattle.stack_lf.specs.Tries.{DidOnWords};
 
 use commons::limits::Limits;
 use commons::refusal::Refusal;
-use commons::shared::Commons;
 use ground::pool::Ground;
-use ground::seat::GroundSeat;
-use stack_lf::words::WordCommons;
+use lending::lender::Lender;
+use lending::loans::Loans;
 use std::alloc::Global;
 use std::marker::Model;
 use std::sync::Arc;
+use step_core::view::WORKER_PART;
 
 /// A seat, with the words that it is at, which are freed with the last of their seats. It can be
 /// sent to a thread. One that is dropped is lost with what is in its hand.
 pub struct OwnSeat {
     ground: Arc<Ground>,
     /// There is none within a call alone.
-    seat: Option<GroundSeat>,
+    lender: Option<Lender>,
     /// How many seats can be made of it, itself among them.
     parts: u32,
 }
@@ -47,11 +50,11 @@ impl Drop for OwnSeat {
     fn drop(self) {
         let OwnSeat {
             ground,
-            seat,
+            lender,
             parts: _,
         } = self;
-        if let Some(seat) = seat {
-            seat.lose();
+        if let Some(lender) = lender {
+            lender.lose();
         }
         drop(ground);
     }
@@ -70,7 +73,7 @@ impl OwnSeat {
         match Arc::new(alloc, ground) {
             Ok(ground) => Ok(OwnSeat {
                 ground,
-                seat: Some(seat),
+                lender: Some(Lender::new(seat, limits.workers * WORKER_PART)),
                 parts: limits.workers as u32,
             }),
             Err(failed) => {
@@ -81,32 +84,76 @@ impl OwnSeat {
         }
     }
 
-    /// Makes one more seat at the same words, of one part of this one.
+    /// Makes one more seat at the same words, of a worker's part of this one.
     ///
-    /// Refused `StrangerShare` where the pool has no more workers, and `OutOfMemory` where there
-    /// are too many owners.
+    /// Refused `StrangerShare` where the pool has no more workers, or as much of the seat's part is
+    /// lent, and `OutOfMemory` where there are too many owners.
     pub fn split(&mut self) -> Result<OwnSeat, Refusal>
         ensures left { IfOk result (λ _. self.new ≡ record self.old { known = less_part self.old.known }) }
         ensures made { IfOk result (λ other. (other.table ≡ self.old.table) × (other.known ≡ newcomer self.old.known)) }
         ensures kept { IfErr result (λ _. self.new ≡ self.old) }
+        ensures part { IfOk result (λ _. (worker_part < self.old.known.view.part)
+            × (self.old.known.view.part < 2 ^ 64)) }
     {
-        if self.parts < 2 {
+        if self.parts < 2 || self.part() <= WORKER_PART {
             return Err(Refusal::StrangerShare);
         }
         let Ok(ground) = Arc::try_clone(&self.ground) else {
             return Err(Refusal::OutOfMemory);
         };
-        let Some(mut seat) = self.seat.take() else {
+        let Some(lender) = self.lender.take() else {
             unreachable!()
         };
-        let other = ground.split(&mut seat);
-        put_back(&mut self.seat, seat);
+        let (lender, other) = lender.split(&ground);
+        put_back(&mut self.lender, lender);
         self.parts -= 1;
         Ok(OwnSeat {
             ground,
-            seat: Some(other),
+            lender: Some(other),
             parts: 1,
         })
+    }
+
+    /// Takes a seat back that was split off this one, with its part.
+    pub fn rejoin(&mut self, other: OwnSeat)
+        requires table { other.table ≡ self.old.table }
+        requires limits { other.known.limits ≡ self.old.known.limits }
+        requires part { self.old.known.view.part + other.known.view.part < 2 ^ 64 }
+        ensures { IsBoth self.old other.known self.new }
+    {
+        let OwnSeat {
+            ground,
+            lender,
+            parts,
+        } = other;
+        let Some(own) = self.lender.take() else {
+            unreachable!()
+        };
+        let Some(other) = lender else { unreachable!() };
+        let lender = joined(&self.ground, own, other);
+        put_back(&mut self.lender, lender);
+        self.parts = self.parts.saturating_add(parts);
+        drop(ground);
+    }
+
+    /// The seat's part of the pool.
+    fn part(&self) -> u64
+        ensures { result ≡ self.now.known.view.part }
+    {
+        match &self.lender {
+            Some(lender) => lender.part(),
+            None => unreachable!(),
+        }
+    }
+
+    /// No loans, of the seat's pool.
+    pub fn no_loans(&self) -> Loans
+        ensures { result ≡ none_of (record { table = self.now.table; limits = self.now.known.limits }) }
+    {
+        match &self.lender {
+            Some(lender) => lender.no_loans(),
+            None => unreachable!(),
+        }
     }
 
     /// Takes as many elements off the stack into the hand as `out` has places: all of them, or
@@ -116,11 +163,11 @@ impl OwnSeat {
         requires { 0 < length out.old }
         ensures { Did DidOnWords side_of self.old (GetList (length out.old) (with_list result out.new)) self.new }
     {
-        let Some(seat) = self.seat.take() else {
+        let Some(lender) = self.lender.take() else {
             unreachable!()
         };
-        let (answer, seat) = get_by(&self.ground, seat, out);
-        put_back(&mut self.seat, seat);
+        let (answer, lender) = lender.get_own(&self.ground, out);
+        put_back(&mut self.lender, lender);
         answer
     }
 
@@ -131,11 +178,45 @@ impl OwnSeat {
         requires in_hand { (i : ℕ) → bag list.now i ≤ (side_of self.old).hand i }
         ensures { Did DidOnWords side_of self.old (PutList list.now result) self.new }
     {
-        let Some(seat) = self.seat.take() else {
+        let Some(lender) = self.lender.take() else {
             unreachable!()
         };
-        let (answer, seat) = put_by(&self.ground, seat, list);
-        put_back(&mut self.seat, seat);
+        let (answer, lender) = lender.put_own(&self.ground, list);
+        put_back(&mut self.lender, lender);
+        answer
+    }
+
+    /// Takes as many elements off the stack as `out` has places, and lends them: all of them, or
+    /// none.
+    #[inline(always)]
+    pub fn get_lent(&mut self, out: &mut [u32], loans: &mut Loans) -> Result<(), Refusal>
+        requires some { 0 < length out.old }
+        requires loans { AreAt self.old loans.old }
+        ensures { GetsLoans (length out.old) (with_list result out.new) self.old loans.old self.new loans.new }
+    {
+        let Some(lender) = self.lender.take() else {
+            unreachable!()
+        };
+        let (answer, lender) = lender.get(&self.ground, out, loans);
+        put_back(&mut self.lender, lender);
+        answer
+    }
+
+    /// Puts a list of elements that are lent onto the stack, whichever seats got them: all of them,
+    /// or none.
+    #[inline(always)]
+    pub fn put_lent(&mut self, list: &[u32], loans: &mut Loans) -> Result<(), Refusal>
+        requires some { 0 < length list.now }
+        requires loans { AreAt self.old loans.old }
+        requires lent { (i : ℕ) → bag list.now i ≤ bag loans.old.lent i }
+        ensures done { PutsLoans list.now result self.old loans.old self.new loans.new }
+        ensures once { (i : ℕ) → bag list.now i ≤ 1 }
+    {
+        let Some(lender) = self.lender.take() else {
+            unreachable!()
+        };
+        let (answer, lender) = lender.put(&self.ground, list, loans);
+        put_back(&mut self.lender, lender);
         answer
     }
 
@@ -143,8 +224,8 @@ impl OwnSeat {
     pub fn owned(&self)
         ensures { Owned self.now.known.limits self.now.known.view }
     {
-        match &self.seat {
-            Some(seat) => seat.owned(),
+        match &self.lender {
+            Some(lender) => lender.owned(),
             None => unreachable!(),
         }
     }
@@ -153,75 +234,35 @@ impl OwnSeat {
     pub fn count(&mut self) -> u32
         ensures { Did DidOnWords side_of self.old (CommonCount result) self.new }
     {
-        let Some(seat) = self.seat.take() else {
+        let Some(lender) = self.lender.take() else {
             unreachable!()
         };
-        let (count, seat) = count_by(&self.ground, seat);
-        put_back(&mut self.seat, seat);
+        let (count, lender) = lender.count(&self.ground);
+        put_back(&mut self.lender, lender);
         count
     }
 }
 
-/// A get by this seat.
-#[inline(always)]
-fn get_by(ground: &Ground, seat: GroundSeat, out: &mut [u32]) -> (Result<(), Refusal>, GroundSeat)
-    requires some { 0 < length out.old }
-    requires of { IsOf ground.now seat }
-    requires rest { AtRest seat.known.view }
-    requires slots { seat.slots ≡ [] }
-    ensures did { Did DidOnWords side_of seat (GetList (length out.old) (with_list result.0 out.new)) result.1 }
-    ensures of { IsOf ground.now result.1 }
-    ensures rest { AtRest result.1.known.view }
-    ensures slots { result.1.slots ≡ [] }
-    ensures part { result.1.known.view.part ≡ seat.known.view.part }
+/// Makes one lender of two of this ground.
+fn joined(ground: &Ground, own: Lender, other: Lender) -> Lender
+    requires of { IsOf ground.now own }
+    requires other_of { IsOf ground.now other }
+    requires part { own.known.view.part + other.known.view.part < 2 ^ 64 }
+    ensures { IsBoth own other.known result }
 {
-    let mut c = WordCommons::new(ground, seat);
-    let answer = c.get_list(out);
-    (answer, c.into_seat())
+    let part = own.part() + other.part();
+    let mut seat = own.into_seat();
+    ground.join(&mut seat, other.into_seat());
+    Lender::new(seat, part)
 }
 
-/// A put by this seat.
+/// Gives a lender back to its place.
 #[inline(always)]
-fn put_by(ground: &Ground, seat: GroundSeat, list: &[u32]) -> (Result<(), Refusal>, GroundSeat)
-    requires some { 0 < length list.now }
-    requires in_hand { (i : ℕ) → bag list.now i ≤ (side_of seat).hand i }
-    requires of { IsOf ground.now seat }
-    requires rest { AtRest seat.known.view }
-    requires slots { seat.slots ≡ [] }
-    ensures did { Did DidOnWords side_of seat (PutList list.now result.0) result.1 }
-    ensures of { IsOf ground.now result.1 }
-    ensures rest { AtRest result.1.known.view }
-    ensures slots { result.1.slots ≡ [] }
-    ensures part { result.1.known.view.part ≡ seat.known.view.part }
-{
-    let mut c = WordCommons::new(ground, seat);
-    let answer = c.put_list(list);
-    (answer, c.into_seat())
-}
-
-/// A read of the length word by this seat.
-fn count_by(ground: &Ground, seat: GroundSeat) -> (u32, GroundSeat)
-    requires of { IsOf ground.now seat }
-    requires rest { AtRest seat.known.view }
-    requires slots { seat.slots ≡ [] }
-    ensures did { Did DidOnWords side_of seat (CommonCount result.0) result.1 }
-    ensures of { IsOf ground.now result.1 }
-    ensures rest { AtRest result.1.known.view }
-    ensures slots { result.1.slots ≡ [] }
-    ensures part { result.1.known.view.part ≡ seat.known.view.part }
-{
-    let mut c = WordCommons::new(ground, seat);
-    let count = c.common_count();
-    (count, c.into_seat())
-}
-
-/// Gives a seat back to its place.
-#[inline(always)]
-fn put_back(place: &mut Option<GroundSeat>, seat: GroundSeat)
+fn put_back(place: &mut Option<Lender>, lender: Lender)
     requires empty { place.old ≡ None }
-    ensures { place.new ≡ Some seat }
+    ensures { place.new ≡ Some lender }
 {
-    if let Some(other) = place.replace(seat) {
+    if let Some(other) = place.replace(lender) {
         other.lose();
     }
 }

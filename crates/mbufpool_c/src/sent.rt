@@ -3,6 +3,7 @@
 use crate::checked::CheckedSeat;
 use crate::seats::OwnSeat;
 use crate::workers::OwnWorker;
+use guard::lcore::GuardWorker;
 
 /// A value of this type may go to another thread. It does nothing.
 fn may_be_sent<T: Send>() {}
@@ -11,5 +12,6 @@ fn may_be_sent<T: Send>() {}
 pub fn handles_may_be_sent() {
     may_be_sent::<OwnSeat>();
     may_be_sent::<CheckedSeat>();
+    may_be_sent::<GuardWorker>();
     may_be_sent::<OwnWorker>();
 }

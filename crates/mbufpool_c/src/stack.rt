@@ -1,15 +1,15 @@
 //! The bare stack for C: pools of elements without packets.
 
-ghost use Rattle.std.specs.Prelude.{◌≡◌, ◌≢◌, ◌<◌, None, Some, length, IfOk, IfErr};
+ghost use Rattle.std.specs.Prelude.{◌≡◌, ◌≢◌, ◌⊎◌, ◌<◌, None, Some, length, IfOk, IfErr};
 ghost use Rattle.commons.specs.Bounds.{IsPool};
-ghost use Rattle.commons.specs.Calls.{GetList, PutList, with_list};
 ghost use Rattle.commons.specs.Refusals.{number_of};
 ghost use Rattle.ground.specs.Opening.{IsGroundCause};
+ghost use Rattle.ground.specs.Parting.{less_part, newcomer};
 ghost use Rattle.ground.specs.Rule.{first_known};
 ghost use Rattle.ground.specs.Seats.{Seated};
-ghost use Rattle.mbufpool_c.specs.Stacks.{InHand, CallsIn, CountsIn, Splits, stack_limits, status_of as status_in};
+ghost use Rattle.mbufpool_c.specs.Stacks.{AreLent, GetsIn, HasBack, KeepsSeat, PutsIn, CountsIn, RefusesStack, Splits, stack_limits, status_of as status_in};
 
-use crate::seat_handle::SeatHandle;
+use crate::seat_with_loans::SeatWithLoans;
 use crate::seats::OwnSeat;
 use commons::limits::{Limits, PutRule};
 use commons::refusal::Refusal;
@@ -55,88 +55,100 @@ fn opened(alloc: Global, population: u32, seats: u32, tries: u32) -> Result<Box<
     }
 }
 
-/// Makes a pool of `population` elements, for as many as `seats` seats, and its first seat. A seat
-/// that was in the handle is lost.
+/// Makes a pool of `population` elements, for as many as `seats` seats, and its first seat, with no
+/// loans. A seat that was in the handle is lost.
 #[unsafe(no_mangle)]
 pub extern "C" fn mbufpool_seat_open(
     alloc: Global,
     population: u32,
     seats: u32,
     tries: u32,
-    out: &mut SeatHandle,
+    out: &mut SeatWithLoans,
 ) -> u32
-    ensures opened { result ≡ 0 → (s : Seated) × (out.new.value ≡ Some s)
+    ensures opened { result ≡ 0 → (s : Seated) × (out.new.handle.value ≡ Some s)
         × (s.known ≡ first_known (stack_limits population seats tries)) }
-    ensures kept { result ≢ 0 → out.new.value ≡ out.old.value }
+    ensures kept { result ≢ 0 → out.new ≡ out.old }
+    ensures cause { result ≢ 0 → RefusesStack (stack_limits population seats tries) result }
 {
     match opened(alloc, population, seats, tries) {
         Ok(seat) => {
-            out.put(seat);
+            out.fill(seat);
             0
         }
         Err(cause) => cause.number(),
     }
 }
 
-/// Makes one more seat of the pool. A seat that was in its handle is lost.
+/// Makes one more seat of the pool, with no loans. A seat that was in its handle is lost. Where it is
+/// refused the first seat is as it was; or, where that is for memory, it has back what it gave, and
+/// has forgotten what it had read of the common list.
 #[unsafe(no_mangle)]
 pub extern "C" fn mbufpool_seat_split(
     alloc: Global,
-    seat: &mut SeatHandle,
-    out: &mut SeatHandle,
+    seat: &mut SeatWithLoans,
+    out: &mut SeatWithLoans,
 ) -> u32
-    ensures made { result ≡ 0 → Splits seat.old.value seat.new.value out.new.value }
-    ensures kept { result ≢ 0 → out.new.value ≡ out.old.value }
+    ensures made { result ≡ 0 → Splits seat.old.handle.value seat.new.handle.value out.new.handle.value }
+    ensures kept { result ≢ 0 → out.new ≡ out.old }
+    ensures first { result ≢ 0 → KeepsSeat result seat.old.handle.value seat.new.handle.value }
+    ensures loans { seat.new.loans ≡ seat.old.loans }
 {
-    match seat.take(alloc) {
+    match seat.handle.take(alloc) {
         None => Refusal::StrangerShare.number(),
         Some(mut own) => {
-            let answer = own.split();
-            seat.put(own);
+            let answer = split(alloc, &mut own);
+            seat.handle.put(own);
             match answer {
-                Ok(other) => hand_out(alloc, other, out),
+                Ok(other) => {
+                    out.fill(other);
+                    0
+                }
                 Err(cause) => cause.number(),
             }
         }
     }
 }
 
-/// Puts a seat into a handle, unless memory is refused.
-fn hand_out(alloc: Global, seat: OwnSeat, out: &mut SeatHandle) -> u32
-    ensures made { result ≡ 0 → out.new.value ≡ Some seat }
-    ensures kept { result ≢ 0 → out.new.value ≡ out.old.value }
+/// One more seat, on the heap; the first has its part back where memory is refused.
+fn split(alloc: Global, own: &mut OwnSeat) -> Result<Box<OwnSeat>, Refusal>
+    ensures left { IfOk result (λ _. own.new ≡ record own.old { known = less_part own.old.known }) }
+    ensures made { IfOk result (λ other.
+        (other.value.table ≡ own.old.table) × (other.value.known ≡ newcomer own.old.known)) }
+    ensures kept { IfErr result (λ cause. (own.new ≡ own.old)
+        ⊎ ((cause ≡ Refusal.OutOfMemory) × HasBack own.old own.new)) }
 {
-    match Box::new(alloc, seat) {
-        Ok(seat) => {
-            out.put(seat);
-            0
+    let other = own.split()?;
+    match Box::new(alloc, other) {
+        Ok(other) => Ok(other),
+        Err(failed) => {
+            own.rejoin(failed.value);
+            Err(Refusal::OutOfMemory)
         }
-        Err(_) => Refusal::OutOfMemory.number(),
     }
 }
 
 /// A get of at least one element by the seat of a handle.
 #[inline(always)]
-fn get_some(alloc: Global, seat: &mut SeatHandle, out: &mut [u32]) -> u32
+fn get_some(alloc: Global, seat: &mut SeatWithLoans, out: &mut [u32]) -> u32
     requires { 0 < length out.old }
-    ensures { CallsIn (λ answer. GetList (length out.old) (with_list answer out.new)) seat.old.value result seat.new.value }
+    ensures { GetsIn (length out.old) out.new seat.old.handle.value seat.old.loans result seat.new.handle.value seat.new.loans }
 {
-    match seat.take(alloc) {
+    match seat.handle.take(alloc) {
         None => Refusal::StrangerShare.number(),
         Some(mut own) => {
-            let answer = own.get(out);
-            seat.put(own);
+            let answer = own.get_lent(out, &mut seat.loans);
+            seat.handle.put(own);
             status_of(answer)
         }
     }
 }
 
-/// Gets as many elements as `out` has places: all of them, or none.
+/// Gets as many elements as `out` has places, and lends them to C: all of them, or none.
 #[unsafe(no_mangle)]
-pub extern "C" fn mbufpool_seat_get(alloc: Global, seat: &mut SeatHandle, out: &mut [u32]) -> u32
-    ensures nothing { length out.old ≡ 0 → (result ≡ 0) × (seat.new.value ≡ seat.old.value) }
+pub extern "C" fn mbufpool_seat_get(alloc: Global, seat: &mut SeatWithLoans, out: &mut [u32]) -> u32
+    ensures nothing { length out.old ≡ 0 → (result ≡ 0) × (seat.new ≡ seat.old) }
     ensures called { 0 < length out.old →
-        CallsIn (λ answer. GetList (length out.old) (with_list answer out.new)) seat.old.value result seat.new.value }
+        GetsIn (length out.old) out.new seat.old.handle.value seat.old.loans result seat.new.handle.value seat.new.loans }
 {
     if out.len() == 0 {
         return 0;
@@ -146,28 +158,29 @@ pub extern "C" fn mbufpool_seat_get(alloc: Global, seat: &mut SeatHandle, out: &
 
 /// A put of at least one element by the seat of a handle.
 #[inline(always)]
-fn put_some(alloc: Global, seat: &mut SeatHandle, list: &[u32]) -> u32
+fn put_some(alloc: Global, seat: &mut SeatWithLoans, list: &[u32]) -> u32
     requires some { 0 < length list.now }
-    requires in_hand { InHand seat.old.value list.now }
-    ensures { CallsIn (PutList list.now) seat.old.value result seat.new.value }
+    requires lent { AreLent seat.old.handle.value seat.old.loans list.now }
+    ensures { PutsIn list.now seat.old.handle.value seat.old.loans result seat.new.handle.value seat.new.loans }
 {
-    match seat.take(alloc) {
+    match seat.handle.take(alloc) {
         None => Refusal::StrangerShare.number(),
         Some(mut own) => {
-            let answer = own.put(list);
-            seat.put(own);
+            let answer = own.put_lent(list, &mut seat.loans);
+            seat.handle.put(own);
             status_of(answer)
         }
     }
 }
 
-/// Puts a list of elements back: all of them, or none. Each is in the seat's hand, and the list
-/// names it once.
+/// Puts a list of elements back: all of them, or none. Each is lent to C: it was got, by whichever
+/// seat of the pool, and wasn't put since; the list names it once.
 #[unsafe(no_mangle)]
-pub extern "C" fn mbufpool_seat_put(alloc: Global, seat: &mut SeatHandle, list: &[u32]) -> u32
-    requires { InHand seat.old.value list.now }
-    ensures nothing { length list.now ≡ 0 → (result ≡ 0) × (seat.new.value ≡ seat.old.value) }
-    ensures called { 0 < length list.now → CallsIn (PutList list.now) seat.old.value result seat.new.value }
+pub extern "C" fn mbufpool_seat_put(alloc: Global, seat: &mut SeatWithLoans, list: &[u32]) -> u32
+    requires { AreLent seat.old.handle.value seat.old.loans list.now }
+    ensures nothing { length list.now ≡ 0 → (result ≡ 0) × (seat.new ≡ seat.old) }
+    ensures called { 0 < length list.now →
+        PutsIn list.now seat.old.handle.value seat.old.loans result seat.new.handle.value seat.new.loans }
 {
     if list.len() == 0 {
         return 0;
@@ -177,23 +190,26 @@ pub extern "C" fn mbufpool_seat_put(alloc: Global, seat: &mut SeatHandle, list: 
 
 /// How many elements the common stack has, as its length word says.
 #[unsafe(no_mangle)]
-pub extern "C" fn mbufpool_seat_count(alloc: Global, seat: &mut SeatHandle) -> u32
-    ensures { CountsIn seat.old.value result seat.new.value }
+pub extern "C" fn mbufpool_seat_count(alloc: Global, seat: &mut SeatWithLoans) -> u32
+    ensures count { CountsIn seat.old.handle.value result seat.new.handle.value }
+    ensures loans { seat.new.loans ≡ seat.old.loans }
 {
-    match seat.take(alloc) {
+    match seat.handle.take(alloc) {
         None => 0,
         Some(mut own) => {
             let count = own.count();
-            seat.put(own);
+            seat.handle.put(own);
             count
         }
     }
 }
 
-/// Ends a seat: the handle has none then. The pool is freed with its last seat.
+/// Ends a seat: the handle has none then. The pool is freed with its last seat. What the seat got
+/// and lent is lent still.
 #[unsafe(no_mangle)]
-pub extern "C" fn mbufpool_seat_free(alloc: Global, seat: &mut SeatHandle)
-    ensures { seat.new.value ≡ None }
+pub extern "C" fn mbufpool_seat_free(alloc: Global, seat: &mut SeatWithLoans)
+    ensures none { seat.new.handle.value ≡ None }
+    ensures loans { seat.new.loans ≡ seat.old.loans }
 {
-    drop(seat.take(alloc));
+    drop(seat.handle.take(alloc));
 }

@@ -1,6 +1,6 @@
 //! A worker with the words that it works on.
 
-ghost use Rattle.std.specs.Prelude.{◌≡◌, None, Some, slice_index_or};
+ghost use Rattle.std.specs.Prelude.{◌≡◌, IfOk, None, Some, slice_index_or};
 ghost use Rattle.mbuf.specs.Acts.{HasRoom, as_reply};
 ghost use Rattle.mbufpool_c.specs.Segments.{seg_at};
 ghost use Rattle.word_pool.specs.Workers.{Acts, IsWorker};
@@ -49,7 +49,9 @@ impl OwnWorker {
     }
 
     /// The hall of its pool, once more, unless there are too many owners.
-    pub(crate) fn hall(&self) -> Result<Arc<Hall>, AllocError> {
+    pub(crate) fn hall(&self) -> Result<Arc<Hall>, AllocError>
+        ensures { IfOk result (λ hall. IsWorker hall.value self.now) }
+    {
         Arc::try_clone(&self.hall)
     }
 

@@ -89,7 +89,8 @@ pub(crate) fn run_lost<G: Gate, R: Threads + Sync>(
     ensures memory { IfErr result (λ e. e ≡ Refusal.OutOfMemory) }
 {
     let (ground, mut workers) = played(rt, alloc, limits, lines, turns, gate)?;
-    lose(&ground, &mut workers, worker);
+    laws::a_worker_is_lost_and_the_others_are_left();
+    lose(&mut workers, worker);
     settled_without(alloc, ground, workers, &[worker])
 }
 

@@ -4,9 +4,11 @@
 pub mod reading;
 pub mod retrying;
 pub mod tally;
+pub mod told;
 pub mod writing;
 
 pub use reading::{BYTES_READ, ReadFault, read_bytes, read_script};
 pub use retrying::Retrying;
 pub use tally::Tally;
+pub use told::{Sink, Source};
 pub use writing::write_out;

@@ -4,6 +4,7 @@ ghost use Rattle.std.specs.Io.KnownBytes.{Consumes, IsAtEnd};
 ghost use Rattle.script_io.specs.Readings.{LosesSome, ReadsMore};
 
 use crate::tally::Tally;
+use crate::told::Source;
 use script_text::MAX_BYTES;
 use std::alloc::Global;
 use std::io::Read;
@@ -26,7 +27,7 @@ pub enum ReadFault {
 /// Reads a script: all bytes of the reader, or `BYTES_READ` of more, which no script has.
 ///
 /// The faults are those of `read_bytes`.
-pub fn read_script<R: Read>(alloc: Global, r: &mut Tally<R>) -> Result<Vec<u8>, ReadFault>
+pub fn read_script<R: Source>(alloc: Global, r: &mut Tally<R>) -> Result<Vec<u8>, ReadFault>
     requires { r.old.failed ≡ false }
 
     // The bytes are the reader's, all of them or as many as are read at most.
@@ -54,7 +55,7 @@ pub fn read_script<R: Read>(alloc: Global, r: &mut Tally<R>) -> Result<Vec<u8>, 
 /// reader that a signal may interrupt stands in a `Retrying`. `Memory` only where memory was
 /// refused for bytes that were read: an empty reader needs none. After either no byte is answered,
 /// and what was read so far is gone from the reader.
-pub fn read_bytes<R: Read>(
+pub fn read_bytes<R: Source>(
     alloc: Global,
     r: &mut Tally<R>,
     limit: usize,
@@ -89,7 +90,7 @@ pub fn read_bytes<R: Read>(
 
 /// One read, of which the bytes are put behind those that are there. Answers how many it gave: none
 /// only where the reader is at its end.
-fn read_more<R: Read>(
+fn read_more<R: Source>(
     r: &mut Tally<R>,
     bytes: &mut Vec<u8>,
     limit: usize,

@@ -1,9 +1,11 @@
 //! A reader or a writer that keeps in mind whether a call of it failed.
-ghost use Rattle.std.specs.Prelude.{◌≡◌, false};
+ghost use Rattle.std.specs.Prelude.{◌≡◌, ◌∷◌, [], false, length};
 ghost use Rattle.std.specs.Io.{ReadsAtMost, WritesAtMost};
 ghost use Rattle.std.specs.Io.KnownBytes.{Keeps, ReadConsumes, WriteAppends};
 ghost use Rattle.script_io.specs.Tallies.{MarksRead, MarksWrite};
+ghost use Rattle.script_io.specs.Told.{Tells, answer_of};
 
+use crate::told::{Sink, Source};
 use std::io;
 use std::io::{Read, Write};
 
@@ -29,7 +31,7 @@ impl<T> Tally<T> {
     }
 }
 
-impl<R: Read> Read for Tally<R> {
+impl<R: Source> Read for Tally<R> {
     ghost remaining = { λ tally. R.remaining tally.inner };
 
     /// Reads as the inner reader does. An error, of any kind, is marked; else the mark stays.
@@ -38,8 +40,11 @@ impl<R: Read> Read for Tally<R> {
         ensures bytes { ReadConsumes
             (R.remaining self.old.inner) (R.remaining self.new.inner) result buf.new }
         ensures marks { MarksRead self.old.failed self.new.failed result }
+        // The inner reader was asked once, for as many bytes, and this is what it answered.
+        ensures told { Tells (R.told self.old.inner) (R.told self.new.inner)
+            (record { bytes = length buf.old; answer = answer_of result } ∷ []) }
     {
-        match self.inner.read(buf) {
+        match self.inner.give(buf) {
             Ok(count) => Ok(count),
             Err(error) => {
                 self.failed = true;
@@ -49,7 +54,7 @@ impl<R: Read> Read for Tally<R> {
     }
 }
 
-impl<W: Write> Write for Tally<W> {
+impl<W: Sink> Write for Tally<W> {
     ghost contents = { λ tally. W.contents tally.inner };
 
     /// Writes as the inner writer does. An error, of any kind, is marked, and that none of some
@@ -59,8 +64,11 @@ impl<W: Write> Write for Tally<W> {
         ensures bytes { WriteAppends
             (W.contents self.old.inner) (W.contents self.new.inner) result buf.now }
         ensures marks { MarksWrite self.old.failed self.new.failed result buf.now }
+        // The inner writer was asked once, to take these bytes, and this is what it answered.
+        ensures told { Tells (W.told self.old.inner) (W.told self.new.inner)
+            (record { bytes = length buf.now; answer = answer_of result } ∷ []) }
     {
-        match self.inner.write(buf) {
+        match self.inner.accept(buf) {
             Ok(0) if !buf.is_empty() => {
                 self.failed = true;
                 Ok(0)
@@ -77,7 +85,8 @@ impl<W: Write> Write for Tally<W> {
     fn flush(&mut self) -> io::Result<()>
         ensures bytes { Keeps (W.contents self.old.inner) (W.contents self.new.inner) }
         ensures marks { self.new.failed ≡ self.old.failed }
+        ensures told { Tells (W.told self.old.inner) (W.told self.new.inner) [] }
     {
-        self.inner.flush()
+        self.inner.settle()
     }
 }

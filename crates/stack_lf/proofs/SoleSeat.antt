@@ -5,6 +5,7 @@ use Rattle.commons.specs.declared.packet.Seg.{Seg}
 use Rattle.commons.specs.Packets.{held_in, holds_in_slot}
 use Rattle.ground.specs.declared.known.Known.{Known}
 use Rattle.ground.specs.Seats.{held_below, KnowsLength, KnowsCount}
+use Rattle.step_core.specs.World.{every_part}
 
 -- what lies on the desks
 abbrev Desks : Type 0
@@ -26,7 +27,7 @@ same_desks n x y a b = same_some x y (sym a ∙ b)
 
 -- the length that is read twice
 pub same_length : (n : Known) (v found : ℕ) → KnowsLength n v → KnowsLength n found →
-    n.view.part ≡ n.limits.workers → found ≡ v
+    n.view.part ≡ every_part n.limits → found ≡ v
 same_length n v found knows again whole =
     let a = knows whole in
     let b = again whole in
@@ -38,7 +39,7 @@ same_length n v found knows again whole =
 
 -- and a count
 pub same_count : (n : Known) (i v found : ℕ) → KnowsCount n i v → KnowsCount n i found →
-    n.view.part ≡ n.limits.workers → found ≡ v
+    n.view.part ≡ every_part n.limits → found ≡ v
 same_count n i v found knows again whole =
     let a = knows whole in
     let b = again whole in

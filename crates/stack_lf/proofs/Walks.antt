@@ -14,6 +14,7 @@ use Rattle.stack_lf.specs.Effects.{start}
 use Rattle.stack_lf.specs.Tries.{Popped, notes, Walk, IsWalk, elements, element_in, link_note}
 use Rattle.stack_lf.specs.Effects.{cut_as, Walked, walking}
 use Rattle.stack_lf.proofs.Composing.{more, one_more}
+use Rattle.step_core.specs.World.{every_part}
 
 -- a walk with one link more leads on to what that link leads to
 pub walk-push : (v u i x : ℕ) (ps : Walk) → u ≡ suc i → IsWalk v ps u →
@@ -104,7 +105,7 @@ may_cut h ps next s t u e w some reserved less =
 
 -- the only seat of a pool that has reserved n doesn't come to the end of the list before n links
 pub goes_on : (h : Head) (ps : Walk) (next n : ℕ) (s t : Seated) → Walked h ps next s t →
-    KnowsEnd t.known.limits t.known.view → s.known.view.part ≡ s.known.limits.workers →
+    KnowsEnd t.known.limits t.known.view → s.known.view.part ≡ every_part s.known.limits →
     n ≤ s.known.view.credit → next ≡ 0 → length ps < n → ⊥
 goes_on h ps next n s t w known whole reserved end less =
     let all = subst (λ (z : Seated). KnowsEnd z.known.limits z.known.view) w.1 known in

@@ -17,6 +17,7 @@ use Rattle.ground.specs.Seats.{Seated, after, KnowsLength, KnowsCount, KnowsTher
 use Rattle.stack_lf.specs.declared.tried.Tried.{Tried}
 use Rattle.stack_lf.specs.declared.tried.Tried.TheVariants as tried
 use Rattle.stack_lf.specs.Tries.{Try, Walk, IsWalk, Short, Reserved, notes, notes_of, elements, link_note, stores, IsWonCut, IsWonPush, IsSpent, IsGet, IsPut, Raised, Counted, IsRaise, IsLower, OfferFailed, Offered, TakeFailed, Taken}
+use Rattle.step_core.specs.World.{every_part}
 
 -- the seat after these tries, with this view
 abbrev pub tried_to : Seated → List Try → View → Seated
@@ -28,7 +29,7 @@ seen_as v look seen = record v { look = look; seen = seen }
 
 -- the seat is the only one of its pool: it has every part of it, so that no other takes a step
 abbrev pub IsAlone : Seated → Type 0
-IsAlone s = s.known.view.part ≡ s.known.limits.workers
+IsAlone s = s.known.view.part ≡ every_part s.known.limits
 
 -- ---- a walk
 

@@ -11,6 +11,7 @@ use Rattle.step_core.specs.declared.view.Head.{Head}
 use Rattle.step_core.specs.declared.step.Step.TheVariants.{LoadLength, Reserve, Add, LoadHead, LoadLink, Cut, StoreLink, Push, Claim as ClaimStep, Sole, Raise as RaiseStep, Lower as LowerStep, Reset, Hold, Open, Seize, Clear}
 use Rattle.step_core.specs.declared.step.Outcome.TheVariants.{Value, HeadIs, Won, Got, Lost, LostTo, Done, Found}
 use Rattle.ground.specs.Seats.{Seated, Note, element_of, KnowsLength, KnowsCount, laid_on, KnowsThere, KnowsEmpty, KnowsFull}
+use Rattle.step_core.specs.World.{every_part}
 
 -- links that were walked, each an element with the value of its link
 abbrev pub Walk : Type 0
@@ -318,6 +319,6 @@ pub record DidOnWords (s : Seated) (call : Call) (rs : List Reading) (t : Seated
   pub lying : t.known.lying ≡ lying_after call s.known.lying
   pub read : rs ≡ readings_of tries
   -- the only seat of a pool is in nobody's way
-  pub alone : s.known.view.part ≡ s.known.limits.workers → IsContended call → ⊥
+  pub alone : s.known.view.part ≡ every_part s.known.limits → IsContended call → ⊥
   -- and knows what lies on the desks, and what a length and a count are
   pub told : IsTold s call

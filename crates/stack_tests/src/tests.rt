@@ -17,6 +17,7 @@ use std::test::Fail;
 mod carrying;
 mod desks;
 mod left;
+mod passing;
 mod playing;
 mod rows;
 mod threads;
@@ -114,7 +115,7 @@ fn each_call_answers_as_its_row_says(rt: HostRuntime) -> Result<(), Fail> {
         let (ground, seat) = Ground::make(rt.alloc(), &row.limits)?;
         let mut c = WordCommons::new(&ground, seat);
         follow(&rt, &mut c, row);
-        c.lose();
+        c.into_seat().lose();
     }
     Ok(())
 }

@@ -6,7 +6,7 @@ use Rattle.std.proofs.lemmas.List.{length-set}
 use Rattle.std.proofs.lemmas.List.Sums.{sum_by-set}
 use Rattle.commons.specs.Bag.{bag}
 use Rattle.step_core.specs.Bags.{one_if, without}
-use Rattle.step_core.specs.World.{Look, Chain, View, World, empty_view, view_at, link_in, hands, all_zeros, all_holds}
+use Rattle.step_core.specs.World.{Look, Chain, View, World, empty_view, view_at, link_in, hands, all_zeros, all_holds, every_part}
 use Rattle.step_core.specs.Steps.{chain_without}
 use Rattle.step_core.proofs.Rules.{StackLaw, StackView, LookParts, ChainParts, HoldLaw, CountView}
 use Rattle.step_core.proofs.Bags.{times-nil, times-cons, times-push, times-last, times-but_last, times-without, below-past, below-le, one_if-cases, times-without_here, times-without_other, at_or_else}
@@ -56,7 +56,7 @@ module _ (w : World) (k : ℕ) (here : k < length w.views) (busy : 0 < (view_at 
         let b = law.credited in
         omega arith);
     views =
-        each_view (StackView w.limits.population w.limits.workers w.head (link_in w.links)) w.views
+        each_view (StackView w.limits.population (every_part w.limits) w.head (link_in w.links)) w.views
         k u here mine (λ j n. law.views j);
     parts = sum_kept (λ (v : View). v.part) w.views k u here c.part ∙ law.parts;
     all_links = law.all_links;
@@ -64,12 +64,12 @@ module _ (w : World) (k : ℕ) (here : k < length w.views) (busy : 0 < (view_at 
     top_in_range = law.top_in_range;
   }
     where
-      mine : StackView w.limits.population w.limits.workers w.head (link_in w.links) u
+      mine : StackView w.limits.population (every_part w.limits) w.head (link_in w.links) u
       mine =
           let v = law.views k in let a = c.seen in let b = v.seen in let d = c.part in
           let P : Option Look → ℕ → ℕ → Type 0 =
           λ o part seen.
-          IfSome o (LookParts w.limits.population w.limits.workers w.head (link_in w.links)
+          IfSome o (LookParts w.limits.population (every_part w.limits) w.head (link_in w.links)
           part seen) in
           let l : P u.look u.part u.seen =
           subst (λ (o : Option Look). P o u.part u.seen) (sym c.look) (subst

@@ -6,7 +6,7 @@ use Rattle.std.proofs.lemmas.List.Sums.{sum_by-set}
 use Rattle.commons.specs.Bag.{bag}
 use Rattle.commons.specs.Packets.{holds_of_packet, holds_in_slot}
 use Rattle.step_core.specs.Bags.{one_if, minus, Includes}
-use Rattle.step_core.specs.World.{Work, View, Desk, Phase, ToFill, Filled, Seized, TakenOut, Packet, World, empty_view, view_at, no_desk, desk_at, link_in, shelf, all_holds}
+use Rattle.step_core.specs.World.{Work, View, Desk, Phase, ToFill, Filled, Seized, TakenOut, Packet, World, empty_view, view_at, no_desk, desk_at, link_in, shelf, all_holds, every_part}
 use Rattle.step_core.specs.Law.{is_filling, left_in, fills, empties}
 use Rattle.step_core.specs.Steps.{at_desk, phase_at}
 use Rattle.step_core.proofs.Rules.{StackView, CountView, FourLaws}
@@ -81,7 +81,7 @@ module _ (w : World) (k d : ℕ) (here : k < length w.views) (busy : 0 < (view_a
               let b = law.stack.credited in
               omega arith);
           views =
-              each_view (StackView w.limits.population w.limits.workers w.head (link_in w.links))
+              each_view (StackView w.limits.population (every_part w.limits) w.head (link_in w.links))
               w.views k u here (busy_view _ _ _ _ u busy v.seen v.look v.chain)
               (λ j n. law.stack.views j);
           parts = sum_kept (λ (v : View). v.part) w.views k u here refl ∙ law.stack.parts;

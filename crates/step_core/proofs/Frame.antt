@@ -4,7 +4,7 @@ use Rattle.std.specs.Prelude.{sum_by, IfSome}
 use Rattle.std.proofs.lemmas.Bool.{cases_eq}
 use Rattle.std.proofs.lemmas.List.Sums.{sum_by-set}
 use Rattle.commons.specs.Bag.{bag}
-use Rattle.step_core.specs.World.{Head, Work, View, World, empty_view, view_at, desk_at, link_in}
+use Rattle.step_core.specs.World.{Head, Work, View, World, empty_view, view_at, desk_at, link_in, every_part}
 use Rattle.step_core.specs.Links.{Spells}
 use Rattle.step_core.specs.Law.{left_in, fills, empties}
 use Rattle.step_core.proofs.Rules.{StackLaw, StackView, HoldLaw, CountView, BoardLaw, SlotLaw}
@@ -24,8 +24,8 @@ pub record StackStep (w : World) (k : ℕ) (h : Head) (n : ℕ) (ls : List ℕ) 
   pub all_links : length ls ≡ w.limits.population
   pub links_in_range : (i : ℕ) → link_in ls i ≤ w.limits.population
   pub top_in_range : h.top ≤ w.limits.population
-  pub mine : StackView w.limits.population w.limits.workers h (link_in ls) u
-  pub others : (j : ℕ) → j ≢ k → StackView w.limits.population w.limits.workers h (link_in ls) (view_at w.views j)
+  pub mine : StackView w.limits.population (every_part w.limits) h (link_in ls) u
+  pub others : (j : ℕ) → j ≢ k → StackView w.limits.population (every_part w.limits) h (link_in ls) (view_at w.views j)
 
 -- a sum over the views, of what the step leaves as it was
 pub sum_kept : (f : View → ℕ) (views : List View) (k : ℕ) (u : View) → k < length views →
@@ -60,7 +60,7 @@ stack_kept w k h n ls u here law c = record {
       let b = law.credited in
       let m = c.credited in
       omega arith;
-  views = each_view (StackView w.limits.population w.limits.workers h (link_in ls)) w.views k u here c.mine c.others;
+  views = each_view (StackView w.limits.population (every_part w.limits) h (link_in ls)) w.views k u here c.mine c.others;
   parts = sum_kept (λ (v : View). v.part) w.views k u here c.part ∙ law.parts;
   all_links = c.all_links;
   links_in_range = c.links_in_range;

@@ -3,7 +3,7 @@ use Rattle.std.proofs.Common.{◌≡◌, ℕ, zero, suc, ◌<◌, [], ◌∷◌,
 use Rattle.std.specs.Prelude.{sum_by}
 use Rattle.std.proofs.lemmas.List.Sums.{sum_by-cons}
 use Rattle.commons.specs.Bag.{bag}
-use Rattle.step_core.specs.World.{World, View, Desk, view_at, view_of, empty_view, no_desk}
+use Rattle.step_core.specs.World.{World, View, Desk, view_at, view_of, empty_view, no_desk, worker_part}
 use Rattle.step_core.specs.Steps.{Step, Play, played}
 use Rattle.step_core.specs.Kept.{IsWorld}
 use Rattle.step_core.specs.Headline.{after_of}
@@ -46,12 +46,12 @@ schedules_keep_headers w [] (o ∷ os) u is headers own r = absurd r
 schedules_keep_headers w (x ∷ rest) [] u is headers own r = absurd r
 
 -- no header in views that name nothing, and nothing on desks that are empty
-no_headers : (n i : ℕ) → sum_by (λ (v : View). bag v.headers i) (replicate n (empty_view 1)) ≡ 0
+no_headers : (n i : ℕ) → sum_by (λ (v : View). bag v.headers i) (replicate n (empty_view worker_part)) ≡ 0
 no_headers zero i = refl
 no_headers (suc n) i =
     omega (
       arith,
-      sum_by-cons (λ (v : View). bag v.headers i) (empty_view 1) (replicate n (empty_view 1)),
+      sum_by-cons (λ (v : View). bag v.headers i) (empty_view worker_part) (replicate n (empty_view worker_part)),
       no_headers n i,
       times-nil i,
     )
@@ -66,7 +66,7 @@ no_own (suc n) i =
       times-nil i,
     )
 
-none_at : (n k i : ℕ) → bag (view_at (replicate n (empty_view 1)) k).headers i ≡ 0
+none_at : (n k i : ℕ) → bag (view_at (replicate n (empty_view worker_part)) k).headers i ≡ 0
 none_at zero k i = times-nil i
 none_at (suc n) zero i = times-nil i
 none_at (suc n) (suc k) i = none_at n k i

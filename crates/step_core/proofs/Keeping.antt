@@ -6,7 +6,7 @@ use Rattle.std.proofs.lemmas.List.{length-set, length-replicate, get_or-replicat
 use Rattle.commons.specs.Bounds.{IsPool}
 use Rattle.commons.specs.declared.refusal.Refusal.{Refusal}
 use Rattle.commons.specs.declared.refusal.Refusal.TheVariants.{OutOfMemory, StepRefused}
-use Rattle.step_core.specs.World.{World, Limits, View, view_at, empty_view}
+use Rattle.step_core.specs.World.{World, Limits, View, view_at, empty_view, worker_part}
 use Rattle.step_core.specs.Steps.{Step, Outcome, Play, turn, played}
 use Rattle.step_core.specs.Opening.{opening}
 use Rattle.step_core.specs.Changes.{OneWord, Neither, HeadWord, LengthWord, LinkWord, CountWord, DeskWord, Slot, ChangesOne}
@@ -46,7 +46,7 @@ play_keeps w worker s p is e =
       law = eight_of_four p.after laws.3;
     }
   where
-    part : (k : ℕ) → ChangesOne (suc k) w p.after → (j : ℕ) → j < length w.views → (view_at p.after.views j).part ≡ 1
+    part : (k : ℕ) → ChangesOne (suc k) w p.after → (j : ℕ) → j < length w.views → (view_at p.after.views j).part ≡ worker_part
     part k one j l = ⊎_elim
         (λ (e : j ≡ k). ap (λ (i : ℕ). (view_at p.after.views i).part) e
         ∙ (one.part ∙ (ap (λ (i : ℕ). (view_at w.views i).part) (sym e) ∙ is.part j l)))
@@ -57,11 +57,11 @@ play_keeps w worker s p is e =
 pub opening_keeps : (l : Limits) → IsPool l → IsWorld (opening l)
 opening_keeps l is = record {
   pool = is;
-  views = length-replicate l.workers (empty_view 1);
+  views = length-replicate l.workers (empty_view worker_part);
   part =
       λ k h.
-      ap (λ (v : View). v.part) (get_or-replicate l.workers k (empty_view 1) (empty_view 0)
-      (let e = length-replicate l.workers (empty_view 1) in omega arith));
+      ap (λ (v : View). v.part) (get_or-replicate l.workers k (empty_view worker_part) (empty_view 0)
+      (let e = length-replicate l.workers (empty_view worker_part) in omega arith));
   desks = length-replicate l.desks _;
   count = is.start;
   law = eight_of_four (opening l) (opening_lawful l is.refs_low);

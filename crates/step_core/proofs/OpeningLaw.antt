@@ -6,7 +6,7 @@ use Rattle.std.proofs.lemmas.List.{length-replicate, get_or-replicate, get_or_pa
 use Rattle.std.proofs.lemmas.List.Folds.{sum_by-replicate}
 use Rattle.commons.specs.Bag.{bag}
 use Rattle.step_core.specs.Bags.{one_if, below}
-use Rattle.step_core.specs.World.{Limits, Head, View, Desk, Packet, empty_view, no_desk, desk_at, link_in, shelf}
+use Rattle.step_core.specs.World.{Limits, Head, View, Desk, Packet, empty_view, no_desk, desk_at, link_in, shelf, every_part, worker_part}
 use Rattle.step_core.specs.Links.{Path, Spells, first_value}
 use Rattle.step_core.specs.Law.{left_in, fills, empties}
 use Rattle.step_core.specs.Opening.{count_up, links_up, opening}
@@ -95,52 +95,52 @@ opening_lawful l some = record {
         spells_up (link_in (links_up 0 l.population)) 0 l.population
         (λ j le. ap (link_in (links_up 0 l.population)) (let e : 0 + j ≡ j = omega arith in e));
     one_place = λ i.
-        (let h = no_sum (λ (v : View). bag v.hand i) l.workers (empty_view 1) (times-nil i) in
-        let z = no_sum (λ (v : View). bag v.zeros i) l.workers (empty_view 1) (times-nil i) in
-        let b = no_sum (λ (v : View). bag v.holds i) l.workers (empty_view 1) (times-nil i) in
+        (let h = no_sum (λ (v : View). bag v.hand i) l.workers (empty_view worker_part) (times-nil i) in
+        let z = no_sum (λ (v : View). bag v.zeros i) l.workers (empty_view worker_part) (times-nil i) in
+        let b = no_sum (λ (v : View). bag v.holds i) l.workers (empty_view worker_part) (times-nil i) in
         let s = no_sum (λ (d : Desk). bag (shelf d) i) l.desks no_desk (times-nil i) in
         let e : 0 + l.population ≡ l.population = omega arith in
         let c = times-count_up i 0 l.population in let m = ap (λ n. below n i) e in
         omega (arith, below-past 0 i (omega arith)));
     credited =
         (
-        let c = no_sum (λ (v : View). v.credit) l.workers (empty_view 1) refl in
+        let c = no_sum (λ (v : View). v.credit) l.workers (empty_view worker_part) refl in
         omega (arith, length-count_up 0 l.population));
     views =
-        read_same (StackView l.population l.workers _ _) l.workers (empty_view 1) (empty_view 0)
-        (quiet_view l.population l.workers _ _ 1) (quiet_view l.population l.workers _ _ 0);
-    parts = sum_by-replicate (λ (v : View). v.part) l.workers (empty_view 1) ∙ omega arith;
+        read_same (StackView l.population (every_part l) _ _) l.workers (empty_view worker_part) (empty_view 0)
+        (quiet_view l.population (every_part l) _ _ worker_part) (quiet_view l.population (every_part l) _ _ 0);
+    parts = sum_by-replicate (λ (v : View). v.part) l.workers (empty_view worker_part) ∙ omega arith;
     all_links = length-links_up 0 l.population;
     links_in_range = λ i. (let a = links_up-range 0 l.population i in omega arith);
     top_in_range = first_up-range l.population;
   };
   counts = record {
     counted = λ i le.
-        (let z = no_sum (λ (v : View). bag v.zeros i) l.workers (empty_view 1) (times-nil i) in
-        let b = no_sum (λ (v : View). bag v.holds i) l.workers (empty_view 1) (times-nil i) in
+        (let z = no_sum (λ (v : View). bag v.zeros i) l.workers (empty_view worker_part) (times-nil i) in
+        let b = no_sum (λ (v : View). bag v.holds i) l.workers (empty_view worker_part) (times-nil i) in
         let s = no_sum (λ (d : Desk). bag (shelf d) i) l.desks no_desk (times-nil i) in
         let c : slice_index (replicate l.population 1) i ≡ 1 = get_or-replicate l.population i 1 0 le in omega arith);
     limited = read_same (λ n. n ≤ l.ref_limit) l.population 1 0 some (omega arith);
     some_limit = some;
     all_counts = length-replicate l.population 1;
     views =
-        read_same CountView l.workers (empty_view 1) (empty_view 0)
+        read_same CountView l.workers (empty_view worker_part) (empty_view 0)
         (record { no_zeros = λ e. refl; no_holds = λ e. refl })
         (record { no_zeros = λ e. refl; no_holds = λ e. refl });
   };
   desks = record {
     words = read_same (λ d. d.word ≤ 3) l.desks no_desk no_desk (omega arith) (omega arith);
     filled =
-        λ d. no_sum (λ (v : View). fills d v.work) l.workers (empty_view 1) refl
+        λ d. no_sum (λ (v : View). fills d v.work) l.workers (empty_view worker_part) refl
         ∙ sym (read_same (λ e. one_if (e.word == 1) ≡ 0) l.desks no_desk no_desk refl refl d);
     emptied =
-        λ d. no_sum (λ (v : View). empties d v.work) l.workers (empty_view 1) refl
+        λ d. no_sum (λ (v : View). empties d v.work) l.workers (empty_view worker_part) refl
         ∙ sym (read_same (λ e. one_if (e.word == 3) ≡ 0) l.desks no_desk no_desk refl refl d);
     empty = read_same (λ e. e.word ≡ 0 → e.slot ≡ None) l.desks no_desk no_desk (λ h. refl) (λ h. refl);
     full =
         read_same (λ e. e.word ≡ 2 → (p : Packet) × (e.slot ≡ Some p)) l.desks no_desk no_desk
         (λ h. absurd (omega arith)) (λ h. absurd (omega arith));
-    views = read_same (λ v. v.part ≡ 0 → v.work ≡ None) l.workers (empty_view 1) (empty_view 0) (λ e. refl) (λ e. refl);
+    views = read_same (λ v. v.part ≡ 0 → v.work ≡ None) l.workers (empty_view worker_part) (empty_view 0) (λ e. refl) (λ e. refl);
   };
   slots =
       record {
@@ -148,6 +148,6 @@ opening_lawful l some = record {
             read_same (λ v.
             IfSome v.work
             (λ x. (desk_at (replicate l.desks no_desk) x.desk).slot ≡ left_in x.phase))
-            l.workers (empty_view 1) (empty_view 0) tt tt;
+            l.workers (empty_view worker_part) (empty_view 0) tt tt;
       };
 }

@@ -1,7 +1,7 @@
 -- The eight laws, as the four parts that steps keep, and back.
 use Rattle.std.proofs.Common.{ℕ, ◌≤◌, Option, Some, None}
 use Rattle.std.specs.Prelude.{IfSome}
-use Rattle.step_core.specs.World.{Look, Chain, View, World, view_at, link_in}
+use Rattle.step_core.specs.World.{Look, Chain, View, World, view_at, link_in, every_part}
 use Rattle.step_core.specs.Law.{Lawful, LookRule, ChainRule}
 use Rattle.step_core.proofs.Rules.{FourLaws, LookParts, ChainParts}
 
@@ -61,7 +61,7 @@ four_of_eight w law = record {
     views = λ k. record {
       seen = law.looks.seen k;
       look =
-          both_looks w.limits.workers w.limits.population w.head (link_in w.links) _ _
+          both_looks (every_part w.limits) w.limits.population w.head (link_in w.links) _ _
           (view_at w.views k).look (law.looks.look k) (law.ranges.looks k);
       chain =
           both_chains w.limits.population (link_in w.links) (view_at w.views k)
@@ -134,12 +134,12 @@ eight_of_four w law = record {
   };
 }
   where
-    looked : (k : ℕ) → IfSome (view_at w.views k).look (LookRule w.limits.workers w.head
+    looked : (k : ℕ) → IfSome (view_at w.views k).look (LookRule (every_part w.limits) w.head
         (link_in w.links) (view_at w.views k).part (view_at w.views k).seen)
         × IfSome (view_at w.views k).look
         (λ l. (l.head.top ≤ w.limits.population) × (l.next ≤ w.limits.population))
     looked k =
-        look_rule w.limits.workers w.limits.population w.head (link_in w.links) _ _
+        look_rule (every_part w.limits) w.limits.population w.head (link_in w.links) _ _
         (view_at w.views k).look (law.stack.views k).look
 
     chained : (k : ℕ) →

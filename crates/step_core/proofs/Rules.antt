@@ -5,7 +5,7 @@ use Rattle.std.specs.Prelude.{sum_by, IfSome, slice_index, ◌==◌}
 use Rattle.commons.specs.Bag.{bag}
 use Rattle.step_core.specs.Bags.{one_if, below, Includes}
 use Rattle.step_core.specs.Links.{Path, Spells, first_value}
-use Rattle.step_core.specs.World.{Head, Look, Chain, View, World, Packet, view_at, desk_at, link_in, hands, all_zeros, all_holds, credits, parts}
+use Rattle.step_core.specs.World.{Head, Look, Chain, View, World, Packet, view_at, desk_at, link_in, hands, all_zeros, all_holds, credits, parts, every_part}
 use Rattle.step_core.specs.Law.{fills, empties, left_in}
 
 -- what a worker of this part saw of the head
@@ -44,8 +44,8 @@ pub record StackLaw (w : World) : Type 0 where
       bag common i + hands i w.views + all_zeros i w.views + min 1 (all_holds i w.views w.desks)
       ≡ below w.limits.population i
   pub credited : w.length + credits w.views ≡ length common
-  pub views : (k : ℕ) → StackView w.limits.population w.limits.workers w.head (link_in w.links) (view_at w.views k)
-  pub parts : parts w.views ≡ w.limits.workers
+  pub views : (k : ℕ) → StackView w.limits.population (every_part w.limits) w.head (link_in w.links) (view_at w.views k)
+  pub parts : parts w.views ≡ every_part w.limits
   pub all_links : length w.links ≡ w.limits.population
   pub links_in_range : (i : ℕ) → link_in w.links i ≤ w.limits.population
   pub top_in_range : w.head.top ≤ w.limits.population

@@ -6,7 +6,7 @@ use Rattle.std.proofs.lemmas.List.{length-append}
 use Rattle.std.proofs.lemmas.List.Sums.{sum_by-cons}
 use Rattle.commons.specs.Bag.{bag}
 use Rattle.step_core.specs.Bags.{minus}
-use Rattle.step_core.specs.World.{Head, Look, Chain, View, World, empty_view, view_at, view_of, link_in, hands}
+use Rattle.step_core.specs.World.{Head, Look, Chain, View, World, empty_view, view_at, view_of, link_in, hands, every_part}
 use Rattle.step_core.specs.Links.{first_value}
 use Rattle.step_core.specs.Steps.{next_head}
 use Rattle.step_core.proofs.Rules.{StackLaw, StackView, LookParts, ChainParts}
@@ -106,12 +106,12 @@ module _ (w : World) (k : ℕ) (law : StackLaw w) where
       within i = Rattle.std.proofs.lemmas.Bool.cases_lt i w.limits.population
 
   -- a worker with a part is not alone with all of them
-  pub no_whole : (j : ℕ) → 0 < (view_at w.views k).part → j ≢ k → (view_at w.views j).part ≢ w.limits.workers
+  pub no_whole : (j : ℕ) → 0 < (view_at w.views k).part → j ≢ k → (view_at w.views j).part ≢ every_part w.limits
   no_whole j h n e = let two = two_views (λ (v : View). v.part) w.views j k refl n in let p = law.parts in omega arith
 
   -- the other views when the head moves on
   pub head_moves : (top count : ℕ) → count ≡ w.head.count → 0 < (view_at w.views k).part → (j : ℕ) →
-      j ≢ k → StackView w.limits.population w.limits.workers (next_head top count) (link_in w.links)
+      j ≢ k → StackView w.limits.population (every_part w.limits) (next_head top count) (link_in w.links)
       (view_at w.views j)
   head_moves top count same h j n = let v = law.views j in record {
     seen = (let s = v.seen in omega arith);
@@ -137,7 +137,7 @@ module _ (w : World) (k : ℕ) (law : StackLaw w) where
       u.zeros ≡ (view_at w.views k).zeros → u.holds ≡ (view_at w.views k).holds →
       u.part ≡ (view_at w.views k).part
       → n + u.credit ≡ w.length + (view_at w.views k).credit →
-      StackView w.limits.population w.limits.workers w.head (link_in w.links) u →
+      StackView w.limits.population (every_part w.limits) w.head (link_in w.links) u →
       StackLaw (stepped w k w.head n w.links u)
   knows_kept n u here hand zeros holds part credit mine = stack_kept w k w.head n w.links u here law (record {
     common = law.common;
@@ -190,12 +190,12 @@ module _ (w : World) (k : ℕ) (law : StackLaw w) where
 
     -- the look of a view, where there is one
     pub look_of : (l : Look) → (view_at w.views k).look ≡ Some l →
-        LookParts w.limits.population w.limits.workers w.head (link_in w.links)
+        LookParts w.limits.population (every_part w.limits) w.head (link_in w.links)
         (view_at w.views k).part (view_at w.views k).seen l
     look_of l e =
         let P : Option Look → Type 0 =
         λ o.
-        IfSome o (LookParts w.limits.population w.limits.workers w.head (link_in w.links)
+        IfSome o (LookParts w.limits.population (every_part w.limits) w.head (link_in w.links)
         (view_at w.views k).part (view_at w.views k).seen) in
         subst P e (law.views k).look
 

@@ -4,7 +4,7 @@ use Rattle.std.specs.Prelude.{IfSome, ◌==◌, ◌&&◌}
 use Rattle.std.proofs.lemmas.Bool.{cases_eq, cond_both, eqb-true, and_parts}
 use Rattle.std.proofs.lemmas.List.{length-set}
 use Rattle.commons.specs.Bag.{bag}
-use Rattle.step_core.specs.World.{Look, Chain, View, World, view_at, link_in}
+use Rattle.step_core.specs.World.{Look, Chain, View, World, view_at, link_in, every_part}
 use Rattle.step_core.specs.Links.{Path, first_value, last_value}
 use Rattle.step_core.specs.Steps.{chain_after}
 use Rattle.step_core.proofs.Rules.{StackLaw, LookParts, ChainParts}
@@ -126,8 +126,8 @@ store_done w k law here part i j small mine =
     let beside = path_beside w.links i j inside in
     -- a look of any view, while its count stands, is over common elements
     let looks : (u : ℕ) (seen : ℕ) (l : Look) →
-    LookParts w.limits.population w.limits.workers w.head (link_in w.links) u seen l →
-    LookParts w.limits.population w.limits.workers w.head (link_in (set w.links i j)) u seen l
+    LookParts w.limits.population (every_part w.limits) w.head (link_in w.links) u seen l →
+    LookParts w.limits.population (every_part w.limits) w.head (link_in (set w.links i j)) u seen l
     = λ u seen l m. record {
       not_ahead = m.not_ahead;
       was_seen = m.was_seen;

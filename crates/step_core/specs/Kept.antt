@@ -4,7 +4,7 @@ use Rattle.commons.specs.Bounds.{IsPool}
 use Rattle.commons.specs.Calls.{spent}
 use Rattle.commons.specs.declared.refusal.Refusal.{Refusal}
 use Rattle.commons.specs.declared.refusal.Refusal.TheVariants.{OutOfMemory, StepRefused}
-use Rattle.step_core.specs.World.{World, view_at}
+use Rattle.step_core.specs.World.{World, view_at, worker_part}
 use Rattle.step_core.specs.Law.{Lawful}
 use Rattle.step_core.specs.Steps.{Step, LoadLink, Cut, StoreLink, Claim, Sole, Raise, Lower, Reset, Seize, Outcome, Value, Got, Won, Done, Play, turn}
 use Rattle.step_core.specs.declared.words.Words.{Words}
@@ -22,11 +22,11 @@ world_of w = record {
 }
 
 -- A lawful world of a pool: the limits are a pool's, there is a view for each worker, each with
--- part 1, and a desk for each desk, and the head's count is at most the spent count.
+-- a worker's part, and a desk for each desk, and the head's count is at most the spent count.
 pub record IsWorld (w : World) : Type 0 where
   pub pool : IsPool w.limits
   pub views : length w.views ≡ w.limits.workers
-  pub part : (k : ℕ) → k < length w.views → (view_at w.views k).part ≡ 1
+  pub part : (k : ℕ) → k < length w.views → (view_at w.views k).part ≡ worker_part
   pub desks : length w.desks ≡ w.limits.desks
   pub count : w.head.count ≤ spent
   pub law : Lawful w

@@ -3,7 +3,7 @@ use Rattle.std.specs.Prelude.{◌≡◌, ℕ, ◌+◌, ◌<◌, ◌≤◌, min, 
 use Rattle.commons.specs.Bag.{bag}
 use Rattle.step_core.specs.Bags.{one_if, below, Includes}
 use Rattle.step_core.specs.Links.{Path, Spells, first_value}
-use Rattle.step_core.specs.World.{Head, Look, Chain, Phase, ToFill, Filled, Seized, TakenOut, Work, View, World, view_at, link_in, hands, all_zeros, all_holds, credits, parts, Packet, desk_at}
+use Rattle.step_core.specs.World.{Head, Look, Chain, Phase, ToFill, Filled, Seized, TakenOut, Work, View, World, view_at, link_in, hands, all_zeros, all_holds, credits, parts, every_part, Packet, desk_at}
 
 -- The common list is spelled from the head's top, and each element below the population stands in
 -- exactly one place: once in the common list, once in one hand, or among the holds.
@@ -23,18 +23,18 @@ pub record LengthLaw (w : World) (common : List ℕ) : Type 0 where
   pub credited : w.length + credits w.views ≡ length common
 
 -- What a worker of this part saw of the head: never more than there is, and while the count
--- stands, the walk stands too.
-pub record LookRule (workers : ℕ) (head : Head) (link : ℕ → ℕ) (part seen : ℕ) (look : Look) : Type
+-- stands, the walk stands too. The count stands where the part is all there is.
+pub record LookRule (all : ℕ) (head : Head) (link : ℕ → ℕ) (part seen : ℕ) (look : Look) : Type
     0 where
   pub not_ahead : look.head.count ≤ head.count
   pub was_seen : look.head.count ≤ seen
-  pub same_count : part ≡ workers → look.head.count ≡ head.count
+  pub same_count : part ≡ all → look.head.count ≡ head.count
   pub same_top : look.head.count ≡ head.count → look.head.top ≡ head.top
   pub walked : look.head.count ≡ head.count → Path link look.head.top look.front look.next
 
 pub record LookLaw (w : World) : Type 0 where
   pub seen : (k : ℕ) → (view_at w.views k).seen ≤ w.head.count
-  pub look : (k : ℕ) → IfSome (view_at w.views k).look (LookRule w.limits.workers w.head
+  pub look : (k : ℕ) → IfSome (view_at w.views k).look (LookRule (every_part w.limits) w.head
       (link_in w.links) (view_at w.views k).part (view_at w.views k).seen)
 
 -- a chain's elements are of the hand, each once, and its links lead through them to its end
@@ -90,9 +90,9 @@ pub record NamesNothing (v : View) : Type 0 where
   pub chain : v.chain ≡ None
   pub work : v.work ≡ None
 
--- the parts add up to the number of workers, and a view of part 0 names nothing
+-- the parts add up to one for each worker, and a view of part 0 names nothing
 pub record PartLaw (w : World) : Type 0 where
-  pub parts : parts w.views ≡ w.limits.workers
+  pub parts : parts w.views ≡ every_part w.limits
   pub idle : (k : ℕ) → (view_at w.views k).part ≡ 0 → NamesNothing (view_at w.views k)
 
 -- Links and counts are one for each element. Link values, tops and ends are at most the

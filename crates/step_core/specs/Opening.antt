@@ -1,7 +1,7 @@
 -- The world at the start: all elements common, from 0 up.
 use Rattle.std.specs.Prelude.{ℕ, zero, suc, List, [], ◌∷◌, replicate}
 use Rattle.step_core.specs.Links.{first_value}
-use Rattle.step_core.specs.World.{World, Limits, empty_view, no_desk}
+use Rattle.step_core.specs.World.{World, Limits, empty_view, no_desk, worker_part}
 
 -- n numbers from i up
 abbrev pub count_up : ℕ → ℕ → List ℕ
@@ -23,5 +23,5 @@ opening l = record {
   links = links_up 0 l.population;
   counts = replicate l.population 1;
   desks = replicate l.desks no_desk;
-  views = replicate l.workers (empty_view 1);
+  views = replicate l.workers (empty_view worker_part);
 }

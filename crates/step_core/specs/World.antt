@@ -1,5 +1,5 @@
 -- The words, the slots and what each worker knows.
-use Rattle.std.specs.Prelude.{ℕ, zero, suc, ◌+◌, List, [], None, sum_by, slice_index, slice_index_or, if◌then◌else◌, ◌==◌}
+use Rattle.std.specs.Prelude.{ℕ, zero, suc, ◌+◌, ◌*◌, ◌^◌, List, [], None, sum_by, slice_index, slice_index_or, if◌then◌else◌, ◌==◌}
 use Rattle.commons.specs.Bag.{bag}
 use Rattle.commons.specs.Calls.{desk_empty, desk_full}
 use Rattle.commons.specs.Packets.{holds_in_slot}
@@ -79,3 +79,12 @@ credits views = sum_by (λ v. v.credit) views
 
 abbrev pub parts : List View → ℕ
 parts views = sum_by (λ v. v.part) views
+
+-- a worker's part of a pool: so great a number that a little of it can be given away, again and
+-- again
+abbrev pub worker_part : ℕ
+worker_part = 2 ^ 56
+
+-- all parts of a pool: one for each worker
+abbrev pub every_part : Limits → ℕ
+every_part l = l.workers * worker_part

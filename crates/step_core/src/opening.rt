@@ -4,10 +4,10 @@ ghost use Rattle.std.specs.Prelude.{◌≡◌, ◌≤◌, replicate, IfOk};
 ghost use Rattle.commons.specs.Bounds.{IsPool, max_population};
 ghost use Rattle.step_core.specs.Kept.{world_of};
 ghost use Rattle.step_core.specs.Opening.{opening, links_up};
-ghost use Rattle.step_core.specs.World.{no_desk, empty_view};
+ghost use Rattle.step_core.specs.World.{no_desk, empty_view, worker_part};
 
 use crate::elems::Elems;
-use crate::view::{Desk, Head, View};
+use crate::view::{Desk, Head, View, WORKER_PART};
 use crate::words::Words;
 use commons::limits::Limits;
 use std::alloc::{AllocError, Global};
@@ -73,9 +73,9 @@ fn empty_desks(alloc: Global, count: usize) -> Result<Vec<Desk>, AllocError>
     Ok(desks)
 }
 
-/// A view with part 1 that names nothing.
+/// A view with a worker's part that names nothing.
 fn empty_view(alloc: Global) -> View
-    ensures { result ≡ empty_view 1 }
+    ensures { result ≡ empty_view worker_part }
 {
     View {
         hand: Elems::new(alloc),
@@ -87,13 +87,13 @@ fn empty_view(alloc: Global) -> View
         seen: 0,
         chain: None,
         work: None,
-        part: 1,
+        part: WORKER_PART,
     }
 }
 
 /// This many of them.
 fn empty_views(alloc: Global, count: usize) -> Result<Vec<View>, AllocError>
-    ensures { IfOk result (λ v. v.items ≡ replicate count (empty_view 1)) }
+    ensures { IfOk result (λ v. v.items ≡ replicate count (empty_view worker_part)) }
 {
     let mut views = Vec::with_capacity(alloc, count)?;
     for _ in 0..count {

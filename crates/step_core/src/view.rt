@@ -57,6 +57,10 @@ pub struct Work {
     pub phase: Phase,
 }
 
+/// A worker's part of a pool: so great a number that a little of it can be given away, again and
+/// again. The parts of 64 workers, the most, are a number of 64 bits.
+pub const WORKER_PART: u64 = 1 << 56;
+
 /// What one worker has and has seen.
 #[derive(Debug, Drop)]
 pub struct View {

@@ -1,5 +1,5 @@
 -- The workers of a new pool, made one after another.
-use Rattle.std.proofs.Common.{ℕ, zero, suc, ◌≡◌, ◌+◌, ◌-◌, ◌≤◌, List, [], ◌∷◌, ◌++◌, map, refl, sym, ap, ◌∙◌, subst, arith}
+use Rattle.std.proofs.Common.{ℕ, zero, suc, ◌≡◌, ◌+◌, ◌-◌, ◌≤◌, List, [], ◌∷◌, ◌++◌, map, refl, sym, ap, ◌∙◌, subst, arith, ◌*◌}
 use Rattle.std.specs.List.{range_with_len}
 use Rattle.std.proofs.lemmas.List.{map-append}
 use Rattle.std.proofs.lemmas.List.Elements.{All-nil, All-push}
@@ -14,7 +14,7 @@ use Rattle.mbuf.proofs.OwnLemmas.{own_new}
 use Rattle.pool_model.specs.Pool.{new_members}
 use Rattle.stack_lf.specs.Sides.{side_of}
 use Rattle.step_core.specs.declared.view.View.{View}
-use Rattle.step_core.specs.World.{empty_view}
+use Rattle.step_core.specs.World.{empty_view, worker_part}
 use Rattle.word_pool.specs.Workers.{Manned, HasNotActed, IsWorker, AreNew, AreWorkers}
 use Rattle.word_pool.specs.inside.Crews.{AreFirst, IsUnused, new_member}
 
@@ -49,11 +49,11 @@ pub none_first : (g : Grounded) → AreFirst g 0 []
 none_first g = record {
   members = refl;
   each = All-nil (IsWorker g);
-  views = All-nil (λ (m : Manned). m.seat.known.view ≡ empty_view 1);
+  views = All-nil (λ (m : Manned). m.seat.known.view ≡ empty_view worker_part);
   unmoved = All-nil HasNotActed;
 }
 
--- a worker more, at a seat of one part that names nothing
+-- a worker more, at a seat of a worker's part that names nothing
 pub one_more : (g : Grounded) (number : ℕ) (ms more : List Manned) (l : Limits) (s : Seated) → l ≡ g.limits →
     1 ≤ number → AreFirst g (number - 1) ms → IsOf g s → IsUnused g.limits 1 s →
     more ≡ ms ++ record { seat = s; member = new_member l number } ∷ [] → AreFirst g number more
@@ -69,7 +69,7 @@ one_more g number ms more l s same first before of unused added =
       each =
           All-push (IsWorker g) ms m before.each
           (record { of = of; part = ap (λ (v : View). v.part) unused.view });
-      views = All-push (λ (x : Manned). x.seat.known.view ≡ empty_view 1) ms m before.views unused.view;
+      views = All-push (λ (x : Manned). x.seat.known.view ≡ empty_view worker_part) ms m before.views unused.view;
       unmoved = All-push HasNotActed ms m before.unmoved unused.unmoved;
     } in
     subst (AreFirst g number) (sym is) all
@@ -85,11 +85,11 @@ pub all_new : (g : Grounded) (ms : List Manned) → AreFirst g g.limits.workers 
 all_new g ms all = record { members = all.members; views = all.views; unmoved = all.unmoved }
 
 -- a seat from which a part was taken names nothing, as before
-pub rest_unused : (l : Limits) (part : ℕ) (s t : Seated) → t ≡ record s { known = less_part s.known } →
-    IsUnused l part s → IsUnused l (part - 1) t
-rest_unused l part s t split unused = record {
+pub rest_unused : (l : Limits) (parts : ℕ) (s t : Seated) → t ≡ record s { known = less_part s.known } →
+    IsUnused l parts s → IsUnused l (parts - 1) t
+rest_unused l parts s t split unused = record {
   limits = ap (λ (x : Seated). x.known.limits) split ∙ unused.limits;
-  view = ap (λ (x : Seated). x.known.view) split ∙ ap less unused.view;
+  view = ap (λ (x : Seated). x.known.view) split ∙ (ap less unused.view ∙ ap empty_view (let e : parts * worker_part - worker_part ≡ (parts - 1) * worker_part = omega arith in e));
   slots = ap (λ (x : Seated). x.slots) split ∙ unused.slots;
   unmoved = record {
     steps = ap (λ (x : Seated). x.known.steps) split ∙ unused.unmoved.steps;
@@ -98,9 +98,9 @@ rest_unused l part s t split unused = record {
 }
 
 -- nor does the new one
-pub part_unused : (l : Limits) (part : ℕ) (s t : Seated) → t.known ≡ newcomer s.known → t.slots ≡ [] →
-    IsUnused l part s → IsUnused l 1 t
-part_unused l part s t known slots unused = rw known (record { limits = unused.limits; view = refl; slots = slots; unmoved = record { steps = refl; joined = refl } })
+pub part_unused : (l : Limits) (parts : ℕ) (s t : Seated) → t.known ≡ newcomer s.known → t.slots ≡ [] →
+    IsUnused l parts s → IsUnused l 1 t
+part_unused l parts s t known slots unused = rw known (record { limits = unused.limits; view = refl; slots = slots; unmoved = record { steps = refl; joined = refl } })
 
 -- and the packets of a worker that has none are its own there
 pub new_is_own : (l : Limits) (number : ℕ) (s : Seated) (m : Member) → m ≡ new_member l number → IsUnused l 1 s →

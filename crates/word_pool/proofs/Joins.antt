@@ -11,11 +11,11 @@ use Rattle.ground.specs.Changing.{IsUnmoved}
 use Rattle.ground.specs.Parting.{both_with, both_views, IsBoth}
 use Rattle.ground.specs.Seats.{Grounded, Note, Seated, IsOf}
 use Rattle.mbuf.specs.Members.{Member}
-use Rattle.step_core.specs.declared.view.View.{View}
 use Rattle.word_pool.specs.Shares.{AreSharesOf}
-use Rattle.word_pool.specs.Workers.{Manned, AreWorkers, HasNotActed, IsIdle, IsSeatOf, IsWorker, members_of}
+use Rattle.word_pool.specs.Workers.{Manned, AreWorkers, HasNotActed, IsIdle, IsWorker, members_of}
 use Rattle.word_pool.specs.inside.Joins.{AreJoined}
 use Rattle.word_pool.proofs.Joined.{both_shares, one_share}
+use Rattle.step_core.specs.World.{worker_part}
 
 -- all workers are as many as the pool has
 pub count_of_workers : (g : Grounded) (ms : List Manned) → AreWorkers g ms → length ms ≡ g.limits.workers
@@ -30,7 +30,7 @@ pub last_joined : (g : Grounded) (all left : List Manned) (m : Manned) (s : Seat
     AreJoined g all left s handed
 last_joined g all left m s p handed each e idle seat packets shares =
     let split = All-pop (IsWorker g) all left (Some m) e each in
-    let part : m.seat.known.view.part ≡ 1 = split.1.part in
+    let part : m.seat.known.view.part ≡ worker_part = split.1.part in
     rw (seat, shares, packets) (record {
       each = split.0;
       done = m ∷ [];
@@ -54,7 +54,7 @@ last_joined g all left m s p handed each e idle seat packets shares =
     })
 
 -- two seats that have taken no step are one that hasn't
-both_unmoved : (n o : Known) (lying : Option (List (Option (List Seg)))) → IsUnmoved n → IsUnmoved o →
+pub both_unmoved : (n o : Known) (lying : Option (List (Option (List Seg)))) → IsUnmoved n → IsUnmoved o →
     IsUnmoved (both_with n o lying)
 both_unmoved n o lying a b = record {
   steps = a.steps;
@@ -62,7 +62,7 @@ both_unmoved n o lying a b = record {
 }
 
 -- two seats that are joined note what both did, in their order
-both_notes : (n o : Known) (lying : Option (List (Option (List Seg)))) (notes : List Note) → o.steps ++ o.joined ≡ notes →
+pub both_notes : (n o : Known) (lying : Option (List (Option (List Seg)))) (notes : List Note) → o.steps ++ o.joined ≡ notes →
     (both_with n o lying).steps ++ (both_with n o lying).joined ≡ (n.steps ++ n.joined) ++ notes
 both_notes n o lying notes same =
     sym (append_assoc n.steps n.joined (o.steps ++ o.joined))
@@ -76,7 +76,7 @@ pub next_joined : (g : Grounded) (all before left : List Manned) (m : Manned)
     AreJoined g all left t more
 next_joined g all before left m s o t p handed more joined e idle seat packets join shares =
     let split = All-pop (IsWorker g) before left (Some m) e joined.each in
-    let part : m.seat.known.view.part ≡ 1 = split.1.part in
+    let part : m.seat.known.view.part ≡ worker_part = split.1.part in
     let total = joined.part in
     let turned : reverse (handed ++ m.member ∷ []) ≡ m.member ∷ reverse handed =
     reverse-append handed (m.member ∷ []) in

@@ -1,7 +1,8 @@
 -- The workers that are left of all of a pool.
-use Rattle.std.proofs.Common.{ℕ, zero, suc, ◌≡◌, ◌⊎◌, ◌-◌, ◌<◌, inl, inr, List, [], ◌∷◌, length, get_or, map, take, drop, refl, sym, ap, ◌∙◌, subst, arith}
-use Rattle.std.specs.Prelude.{Contains}
+use Rattle.std.proofs.Common.{ℕ, zero, suc, ◌≡◌, ◌≢◌, ◌⊎◌, ◌-◌, ◌<◌, ◌≤◌, inl, inr, List, [], ◌∷◌, length, get_or, map, take, drop, refl, sym, ap, ◌∙◌, subst, arith}
+use Rattle.std.specs.Prelude.{Contains, ◌==◌}
 use Rattle.std.specs.List.{AllPairs, remove, range_with_len}
+use Rattle.std.proofs.lemmas.Bool.{cond_both, eqb-false, eqb-true}
 use Rattle.std.proofs.lemmas.List.{length-map}
 use Rattle.std.proofs.lemmas.List.Edits.{length-remove}
 use Rattle.std.proofs.lemmas.List.Elements.{All-append, All-drop, All-take, Contains-append_right}
@@ -12,7 +13,7 @@ use Rattle.ground.specs.Seats.{Grounded}
 use Rattle.mbuf.specs.Members.{Member}
 use Rattle.book.specs.Lost.{AreOrdered, IsOf}
 use Rattle.book.proofs.Lost.{all_ordered}
-use Rattle.word_pool.specs.Lost.{AreLeft}
+use Rattle.word_pool.specs.Lost.{AreLeft, left_of}
 use Rattle.word_pool.specs.Workers.{Manned, AreWorkers, IsWorker, members_of}
 use Rattle.word_pool.proofs.Joins.{count_of_workers}
 
@@ -96,3 +97,23 @@ module _ (g : Grounded) (ms : List Manned) (workers : AreWorkers g ms) (n : ℕ)
         subst (AreOrdered g.limits (n ∷ [])) (sym (map-remove (λ (m : Manned). m.member) ms (n - 1)))
         (ordered_without g.limits (members_of ms) workers.numbers n of);
   }
+
+-- the number of a worker is one of as many
+pub number_within : (g : Grounded) (ms : List Manned) (number : ℕ) → AreWorkers g ms → IsOf g.limits number →
+    (1 ≤ number) × (number ≤ length ms)
+number_within g ms number workers of =
+    (of.first, (let last = of.last in omega (arith, as_many g ms workers number of)))
+
+-- who is left once one is lost
+pub left_after : (g : Grounded) (ms : List Manned) (number : ℕ) → AreWorkers g ms → IsOf g.limits number →
+    AreLeft g (number ∷ []) (left_of number ms)
+left_after g ms number workers of =
+    cond_both (length ms == 1) ms (remove ms (number - 1)) (AreLeft g (number ∷ []))
+    (λ t. only_left g ms workers number of (eqb-true (length ms) 1 t))
+    (λ t.
+    let many : 1 < length ms =
+    (let n : length ms ≢ 1 = eqb-false (length ms) 1 t in
+    let first = of.first in
+    let last = of.last in
+    omega (arith, as_many g ms workers number of)) in
+    others_left g ms workers number of many)

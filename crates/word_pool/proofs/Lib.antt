@@ -7,6 +7,7 @@ mod Left
 mod Lost
 mod LostViews
 mod OneView
+mod Settles
 mod Staying
 mod Sums
 mod TwinCrews

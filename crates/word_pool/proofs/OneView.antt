@@ -29,7 +29,7 @@ use Rattle.snapshot.specs.Snapshots.{times_held}
 use Rattle.snapshot.proofs.FollowedLinks.{AreLinked}
 use Rattle.book.proofs.Spelled as at_most
 use Rattle.book.proofs.Spelled.{Shows}
-use Rattle.word_pool.specs.inside.Closing.{IsLeftAtRest}
+use Rattle.word_pool.specs.Leaving.{IsLeftAtRest}
 use Rattle.word_pool.proofs.Desks.{shelves_held, shelves_own}
 use Rattle.word_pool.proofs.Sums.{alone_sum}
 use Rattle.word_pool.proofs.Walked.{linked_by, top_of}

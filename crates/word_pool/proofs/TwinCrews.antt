@@ -12,7 +12,7 @@ use Rattle.mbuf.proofs.ForeignLemmas.{own_new_twin}
 use Rattle.pool_model.specs.Pool.{new_members}
 use Rattle.stack_lf.specs.Sides.{side_of}
 use Rattle.step_core.specs.declared.view.View.{View}
-use Rattle.word_pool.specs.TwinWorkers.{TwinManned, AreNewTwins, AreTwinPools, AreTwinWorkers, IsTwinWorker, firsts_of, seconds_of, twins_of}
+use Rattle.word_pool.specs.TwinWorkers.{TwinManned, AreNewTwins, AreTwinPools, AreTwinWorkers, HasNotActedTwice, IsTwinWorker, firsts_of, seconds_of, twins_of}
 use Rattle.word_pool.specs.inside.Crews.{IsUnused, new_member}
 use Rattle.word_pool.specs.inside.TwinCrews.{AreFirstTwins}
 use Rattle.word_pool.proofs.Crews.{members_upto, numbered_from}
@@ -27,7 +27,8 @@ newcomer_at l k number s u = record {
 
 -- at first there are none
 pub no_twins_yet : (g h : Grounded) → AreFirstTwins g h 0 []
-no_twins_yet g h = record { firsts = refl; seconds = refl; each = All-nil (IsTwinWorker g h) }
+no_twins_yet g h =
+    record { firsts = refl; seconds = refl; each = All-nil (IsTwinWorker g h); unmoved = All-nil HasNotActedTwice }
 
 -- one worker more, by its parts of either pool
 firsts_more : (ms : List TwinManned) (m : TwinManned) → firsts_of (ms ++ m ∷ []) ≡ firsts_of ms ++ m.member.first ∷ []
@@ -61,6 +62,7 @@ one_twin_more g h number ms more l k s u same also low before of over one two ad
         first_part = ap (λ (v : View). v.part) one.view;
         second_part = ap (λ (v : View). v.part) two.view;
       });
+      unmoved = All-push HasNotActedTwice ms m before.unmoved (record { first = one.unmoved; second = two.unmoved });
     } in
     subst (AreFirstTwins g h number) (sym is) all
 
@@ -97,6 +99,7 @@ pub all_new_twins : (g h : Grounded) (ms : List TwinManned) → AreTwinPools g.l
 all_new_twins g h ms pools all = record {
   firsts = all.firsts;
   seconds = all.seconds ∙ ap (new_members h.limits 1) (sym pools.twins.workers);
+  unmoved = all.unmoved;
 }
 
 -- what a worker has that has nothing is its own at seats that name nothing

@@ -1,17 +1,22 @@
 -- The seats of all workers of two pools are made one at either ground, and their shares are what
 -- those have.
-use Rattle.std.proofs.Common.{ℕ, ◌≡◌, ◌+◌, List, [], ◌∷◌, ◌++◌, append_assoc, length, reverse, refl, sym, ap, ◌∙◌, subst, arith}
-use Rattle.std.specs.Prelude.{All, Some}
-use Rattle.std.proofs.lemmas.List.{length-map, reverse-append}
+use Rattle.std.proofs.Common.{ℕ, ◌≡◌, List, [], ◌∷◌, ◌++◌, append_assoc, length, reverse, refl, sym, ap, ◌∙◌, subst, arith}
+use Rattle.std.specs.Prelude.{All, Some, flat_map}
+use Rattle.std.proofs.lemmas.List.{append-nil, length-map, reverse-append}
 use Rattle.std.proofs.lemmas.List.Elements.{All-cons, All-nil, All-pop}
 use Rattle.std.proofs.lemmas.List.FromFn.{length-range_with_len}
+use Rattle.ground.specs.Changing.{IsUnmoved}
+use Rattle.ground.specs.Own.{AtRest}
 use Rattle.ground.specs.Parting.{both_with, both_views, IsBoth}
 use Rattle.ground.specs.Seats.{Grounded, Seated, IsOf}
 use Rattle.mbuf.specs.Members.{Member}
 use Rattle.mbuf.specs.Twins.{TwinMember}
-use Rattle.word_pool.specs.TwinWorkers.{TwinManned, AreTwinWorkers, IsTwinIdle, IsTwinWorker, firsts_of, twins_of}
+use Rattle.word_pool.specs.TwinWorkers.{TwinManned, AreTwinWorkers, HasNotActedTwice, IsTwinIdle, IsTwinWorker, first_crew, firsts_of, second_crew, twins_of}
+use Rattle.word_pool.specs.Workers.{Manned}
 use Rattle.word_pool.specs.inside.TwinCrews.{AreTwinsJoined, IsWhole}
+use Rattle.word_pool.proofs.Joins.{both_notes, both_unmoved}
 use Rattle.word_pool.proofs.TwinJoined.{both_twin_shares, one_twin_share}
+use Rattle.step_core.specs.World.{worker_part}
 
 -- all workers are as many as the pools have
 pub count_of_twins : (g h : Grounded) (ms : List TwinManned) → AreTwinWorkers g h ms → length ms ≡ g.limits.workers
@@ -20,6 +25,22 @@ count_of_twins g h ms all =
     ∙ sym (length-map (twins_of ms) (λ (t : TwinMember). t.first))
     ∙ sym (length-map (firsts_of ms) (λ (m : Member). m.number))
     ∙ ap length all.first_numbers ∙ length-range_with_len 1 g.limits.workers
+
+-- a worker's seat is that of one worker
+lone_seat : (g : Grounded) (m : Manned) → IsOf g m.seat → m.seat.known.view.part ≡ worker_part →
+    AtRest m.seat.known.view → m.seat.slots ≡ [] → IsWhole g (m ∷ []) m.seat
+lone_seat g m of part rest slots = record {
+  of = of;
+  slots = slots;
+  made = record {
+    part = part;
+    hand = sym (append-nil m.seat.known.view.hand);
+    holds = sym (append-nil m.seat.known.view.holds);
+    headers = sym (append-nil m.seat.known.view.headers);
+    notes = sym (append-nil (m.seat.known.steps ++ m.seat.known.joined));
+    rest = rest;
+  };
+}
 
 -- the last worker's seats are the first of them
 pub last_twin_joined : (g h : Grounded) (all left : List TwinManned) (m : TwinManned) (s u : Seated)
@@ -32,24 +53,43 @@ last_twin_joined g h all left m s u t handed each e idle first second twin share
       done = m ∷ [];
       split = e;
       idle = All-cons IsTwinIdle m [] idle (All-nil IsTwinIdle);
-      first = record { of = split.1.first; rest = idle.first_rest; slots = idle.first_slots; part = split.1.first_part };
-      second = record { of = split.1.second; rest = idle.second_rest; slots = idle.second_slots; part = split.1.second_part };
+      first = lone_seat g (record { seat = m.first; member = m.member.first }) split.1.first split.1.first_part
+          idle.first_rest idle.first_slots;
+      second = lone_seat h (record { seat = m.second; member = m.member.second }) split.1.second split.1.second_part
+          idle.second_rest idle.second_slots;
       members = refl;
       shares = one_twin_share m.first.known.limits m.second.known.limits m.first.known.view m.second.known.view m.member idle.own;
+      unmoved = λ none.
+          let mine = All-pop HasNotActedTwice all left (Some m) e none in
+          (mine.0, mine.1.first, mine.1.second);
     })
 
--- a seat that another was joined to has the parts of both
-joined_whole : (g : Grounded) (parts : ℕ) (mine other s : Seated) → IsOf g mine → mine.slots ≡ [] →
-    mine.known.view.part ≡ 1 → IsWhole g parts other → IsBoth mine other.known s → IsWhole g (parts + 1) s
-joined_whole g parts mine other s of slots one whole both =
-    let part = whole.part in
-    let here : IsWhole g (parts + 1) (record mine { known = both_with mine.known other.known both.0 }) = record {
+-- a seat that another was joined to has what both had
+joined_whole : (g : Grounded) (m : Manned) (ms : List Manned) (other s : Seated) → IsOf g m.seat → m.seat.slots ≡ [] →
+    m.seat.known.view.part ≡ worker_part → IsWhole g ms other → IsBoth m.seat other.known s → IsWhole g (m ∷ ms) s
+joined_whole g m ms other s of slots one whole both =
+    let part = whole.made.part in
+    let here : IsWhole g (m ∷ ms) (record m.seat { known = both_with m.seat.known other.known both.0 }) = record {
       of = record { table = of.table; limits = of.limits };
-      rest = record { zeros = refl; credit = refl; chain = refl; work = refl };
       slots = slots;
-      part = omega (arith, one, part);
+      made = record {
+        part = omega (arith, one, part);
+        hand = ap (λ (xs : List ℕ). m.seat.known.view.hand ++ xs) whole.made.hand;
+        holds = ap (λ (xs : List ℕ). m.seat.known.view.holds ++ xs) whole.made.holds;
+        headers = ap (λ (xs : List ℕ). m.seat.known.view.headers ++ xs) whole.made.headers;
+        notes =
+            both_notes m.seat.known other.known both.0
+            (flat_map (λ (x : Manned). x.seat.known.steps ++ x.seat.known.joined) ms) whole.made.notes;
+        rest = record { zeros = refl; credit = refl; chain = refl; work = refl };
+      };
     } in
-    subst (IsWhole g (parts + 1)) (sym both.1) here
+    subst (IsWhole g (m ∷ ms)) (sym both.1) here
+
+-- two seats that have taken no step are one that hasn't
+joined_unmoved : (mine s : Seated) (other : Seated) → IsBoth mine other.known s → IsUnmoved mine.known →
+    IsUnmoved other.known → IsUnmoved s.known
+joined_unmoved mine s other both a b =
+    subst (λ (x : Seated). IsUnmoved x.known) (sym both.1) (both_unmoved mine.known other.known both.0 a b)
 
 -- its view has what both had
 joined_view : (mine s : Seated) (other : Seated) → IsBoth mine other.known s →
@@ -67,7 +107,6 @@ next_twin_joined g h all before left m s u o p s' u' t handed more joined e idle
     let more_is : more ≡ handed ++ m.member ∷ [] = shares ∙ ap (λ (x : TwinMember). handed ++ x ∷ []) twin in
     let both = subst (λ (x : Seated). IsBoth x s.known s') first join in
     let others = subst (λ (x : Seated). IsBoth x u.known u') second over in
-    let longer : length joined.done + 1 ≡ length (m ∷ joined.done) = omega arith in
     rw more_is (record {
       each = split.0;
       done = m ∷ joined.done;
@@ -75,18 +114,24 @@ next_twin_joined g h all before left m s u o p s' u' t handed more joined e idle
           joined.split ∙ ap (λ (xs : List TwinManned). xs ++ joined.done) e ∙ append_assoc left (m ∷ []) joined.done;
       idle = All-cons IsTwinIdle m joined.done idle joined.idle;
       first =
-          subst (λ (n : ℕ). IsWhole g n s') longer
-          (joined_whole g (length joined.done) m.first s s' split.1.first idle.first_slots split.1.first_part joined.first both);
+          joined_whole g (record { seat = m.first; member = m.member.first }) (first_crew joined.done) s s' split.1.first
+          idle.first_slots split.1.first_part joined.first both;
       second =
-          subst (λ (n : ℕ). IsWhole h n u') longer
-          (joined_whole h (length joined.done) m.second u u' split.1.second idle.second_slots split.1.second_part
-          joined.second others);
+          joined_whole h (record { seat = m.second; member = m.member.second }) (second_crew joined.done) u u'
+          split.1.second idle.second_slots split.1.second_part joined.second others;
       members = turned ∙ ap (λ (xs : List TwinMember). m.member ∷ xs) joined.members;
       shares =
           rw (turned, joined_view m.first s' s both, joined_view m.second u' u others)
           (both_twin_shares m.first.known.view s.known.view m.second.known.view u.known.view (m.member ∷ []) (reverse handed)
           (one_twin_share m.first.known.limits m.second.known.limits m.first.known.view m.second.known.view m.member idle.own)
           joined.shares);
+      unmoved = λ none.
+          let rest = joined.unmoved none in
+          let mine = All-pop HasNotActedTwice before left (Some m) e rest.0 in (
+            mine.0,
+            joined_unmoved m.first s' s both mine.1.first rest.1,
+            joined_unmoved m.second u' u others mine.1.second rest.2,
+          );
     })
 
 -- once none is left, all are joined
@@ -94,3 +139,10 @@ pub all_twins_done : (g h : Grounded) (all left : List TwinManned) (s u : Seated
     (joined : AreTwinsJoined g h all left s u handed) → length left ≡ 0 → joined.done ≡ all
 all_twins_done g h all [] s u handed joined none = sym joined.split
 all_twins_done g h all (m ∷ left) s u handed joined none = absurd (omega arith)
+
+-- the last of some workers is one of both grounds
+pub last_is_of_both : (g h : Grounded) (before left : List TwinManned) (m : TwinManned) (s u : Seated) →
+    All (IsTwinWorker g h) before → before ≡ left ++ m ∷ [] → s ≡ m.first → u ≡ m.second → IsOf g s × IsOf h u
+last_is_of_both g h before left m s u each e first second =
+    let split = All-pop (IsTwinWorker g h) before left (Some m) e each in
+    (subst (IsOf g) (sym first) split.1.first, subst (IsOf h) (sym second) split.1.second)

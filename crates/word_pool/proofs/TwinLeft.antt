@@ -1,8 +1,9 @@
 -- What two grounds left is lawful, with the shares of the views that closed them.
-use Rattle.std.proofs.Common.{ℕ, ◌≡◌, ◌+◌, true, false, List, [], length, map, Option, refl, sym, ap, ◌∙◌, subst, arith}
-use Rattle.std.specs.Prelude.{flat_map, sum_by}
+use Rattle.std.proofs.Common.{ℕ, ◌≡◌, ◌+◌, ◌≤◌, true, false, get_or, List, [], length, map, Option, refl, sym, ap, ◌∙◌, subst, arith, ◌*◌}
+use Rattle.std.specs.Prelude.{All, flat_map}
 use Rattle.std.specs.List.{range_with_len}
 use Rattle.std.proofs.lemmas.List.{nil_from_length}
+use Rattle.std.proofs.lemmas.List.Elements.{All-map}
 use Rattle.std.proofs.lemmas.List.FromFn.{length-range_with_len}
 use lib.ListN.{length-map}
 use Rattle.commons.specs.Bag.{bag}
@@ -15,12 +16,15 @@ use Rattle.mbuf.specs.Members.{Member}
 use Rattle.mbuf.specs.Twins.{TwinMember}
 use Rattle.pool_model.specs.Guests.{guests_by, local_table}
 use Rattle.pool_model.proofs.Listed.{sum_by-map}
-use Rattle.ground.specs.Seats.{Grounded, Seated}
+use Rattle.ground.specs.Lying.{LieByNotes}
+use Rattle.ground.specs.Seats.{Grounded, Note, Seated}
 use Rattle.step_core.specs.declared.view.View.{View}
 use Rattle.snapshot.specs.Closing.{share_of}
 use Rattle.snapshot.specs.declared.snapshot.ShareData.{ShareData}
 use Rattle.snapshot.specs.declared.snapshot.Snapshot.{Snapshot}
-use Rattle.snapshot.specs.Snapshots.{ListsItsElements, statement_in, times_held}
+use Rattle.pool_model.specs.Guests.{elements_with, entry_with}
+use Rattle.pool_model.specs.declared.statement.Held.{Held}
+use Rattle.snapshot.specs.Snapshots.{ListsItsElements, own_pool, statement_in, times_held}
 use Rattle.snapshot.proofs.Times.{held-is}
 use Rattle.book.specs.declared.closed_twin.ClosedTwin.{ClosedTwin}
 use Rattle.book.specs.Left.{AreLeftWhole, IsLawfulByTypes, first_of, second_of}
@@ -28,11 +32,14 @@ use Rattle.book.proofs.Spelled.{lawful}
 use Rattle.book.proofs.TwinGuests.{guests_are_bases, guests_of_workers, local_holds, sum_both, sum_same}
 use Rattle.word_pool.specs.TwinShares.{AreFirstShares, AreSecondShares, AreTwinShares}
 use Rattle.word_pool.specs.TwinWorkers.{TwinManned, AreStatementsOfTwins}
-use Rattle.word_pool.specs.inside.Closing.{IsLeftAtRest}
+use Rattle.word_pool.specs.Workers.{Manned}
+use Rattle.ground.specs.Changing.{IsFresh, IsUnmoved, closed_at_start}
+use Rattle.word_pool.specs.Leaving.{IsLeftAtRest}
 use Rattle.word_pool.specs.inside.TwinCrews.{AreTwinsClosed}
-use Rattle.word_pool.proofs.OneView.{common, words_show}
+use Rattle.word_pool.proofs.OneView.{common, held_few, words_show}
 use Rattle.word_pool.proofs.TwinJoins.{count_of_twins}
 use Rattle.word_pool.proofs.WholeLeft.{AreNumbered}
+use Rattle.step_core.specs.World.{worker_part, every_part}
 
 -- the parts of both pools, and their numbers
 abbrev pub firsts : List TwinMember → List Member
@@ -102,21 +109,38 @@ module _ (l : Limits) (c : Closed) (v : View) (members : List TwinMember) (h : I
       (λ i. omega (arith, sum_by-map (λ (m : Member). own_in m.table i) (λ (m : TwinMember). m.second) members, are.headers i))
       numbers (guests_of_workers l.workers 1 [] (omega arith) (omega arith) refl))
 
+-- no count in a statement is above what each element is held
+counts_of : (s : Snapshot) (n : ℕ) → ((i : ℕ) → times_held s i ≤ n) → All (λ held. held.count ≤ n) (statement_in s).held
+counts_of s n few =
+    All-map (λ (held : Held). held.count ≤ n) (entry_with s.guests (own_pool s).members (own_pool s).shared.desks)
+    (elements_with s.guests (own_pool s)) (λ k d within. few (get_or (elements_with s.guests (own_pool s)) k d))
+
+abbrev first_of_crew : TwinManned → Manned
+first_of_crew m = record { seat = m.first; member = m.member.first }
+
+abbrev second_of_crew : TwinManned → Manned
+second_of_crew m = record { seat = m.second; member = m.member.second }
+
 -- ---- of the workers of two grounds that were closed, each by the one seat of theirs
 
 module _ (g h : Grounded) (ms : List TwinManned) (s u : Seated) (c : ClosedTwin) (are : AreTwinsClosed g h ms s u c) where
-  first_parts : s.known.view.part ≡ g.limits.workers
-  first_parts = are.first_whole.part ∙ count_of_twins g h ms are.all
+  first_parts : s.known.view.part ≡ every_part g.limits
+  first_parts =
+      are.first_whole.made.part
+      ∙ ap (λ (n : ℕ). n * worker_part) (length-map ms (λ (m : TwinManned). first_of_crew m) ∙ count_of_twins g h ms are.all)
 
-  second_parts : u.known.view.part ≡ h.limits.workers
+  second_parts : u.known.view.part ≡ every_part h.limits
   second_parts =
-      are.second_whole.part ∙ count_of_twins g h ms are.all ∙ sym are.all.pools.twins.workers
+      are.second_whole.made.part
+      ∙ ap (λ (n : ℕ). n * worker_part)
+      (length-map ms (λ (m : TwinManned). second_of_crew m) ∙ count_of_twins g h ms are.all
+      ∙ sym are.all.pools.twins.workers)
 
   first_at_rest : IsLeftAtRest g.limits c.first s.known.view
-  first_at_rest = record { left = are.first.left; whole = first_parts; rest = are.first_whole.rest }
+  first_at_rest = record { left = are.first.left; whole = first_parts; rest = are.first_whole.made.rest }
 
   second_at_rest : IsLeftAtRest h.limits c.second u.known.view
-  second_at_rest = record { left = are.second.left; whole = second_parts; rest = are.second_whole.rest }
+  second_at_rest = record { left = are.second.left; whole = second_parts; rest = are.second_whole.made.rest }
 
   first_numbers : AreNumbered g.limits.workers (firsts c.shares.items)
   first_numbers = rw are.same are.all.first_numbers
@@ -151,12 +175,16 @@ module _ (g h : Grounded) (ms : List TwinManned) (s u : Seated) (c : ClosedTwin)
       ListsItsElements second_snapshot (statement_in second_snapshot) →
       AreStatementsOfTwins g h ms (statement_in first_snapshot, statement_in second_snapshot)
   statements_of_twins = rw (are.first.limits, are.second.limits, are.same) (λ once again. record {
-    first_view = s.known.view;
-    second_view = u.known.view;
+    first_known = s.known;
+    second_known = u.known;
+    first_seat = are.first_whole.made;
+    second_seat = are.second_whole.made;
+    first_limits = are.first_whole.of.limits;
+    second_limits = are.second_whole.of.limits;
     first_whole = first_parts;
     second_whole = second_parts;
-    first_rest = are.first_whole.rest;
-    second_rest = are.second_whole.rest;
+    first_desks = are.first_desks;
+    second_desks = are.second_desks;
     idle = are.idle;
     shares = subst (λ (xs : List TwinMember). AreTwinShares xs s.known.view u.known.view) are.same are.shares;
     statements = record {
@@ -164,9 +192,54 @@ module _ (g h : Grounded) (ms : List TwinManned) (s u : Seated) (c : ClosedTwin)
       second = c.second;
       first_left = are.first.left;
       second_left = are.second.left;
+      first_desks = are.first.desks;
+      second_desks = are.second.desks;
+      first_start = are.first.start;
+      second_start = are.second.start;
       first_same = refl;
       second_same = refl;
       first_once = once;
       second_once = again;
     };
+    first_lying =
+        subst (λ (notes : List Note). LieByNotes notes c.first.desks) are.first_whole.made.notes
+        (are.first.noted first_parts);
+    second_lying =
+        subst (λ (notes : List Note). LieByNotes notes c.second.desks) are.second_whole.made.notes
+        (are.second.noted second_parts);
   })
+
+  -- no count in them is above the reference limit of its pool
+  pub twin_counts : All (λ held. held.count ≤ c.first_limits.ref_limit) (statement_in first_snapshot).held
+      × All (λ held. held.count ≤ c.second_limits.ref_limit) (statement_in second_snapshot).held
+  twin_counts = rw (are.first.limits, are.second.limits) (
+    counts_of (first_of g.limits c.first c.shares.items) g.limits.ref_limit
+        (λ i.
+        omega (
+          arith,
+          first_held g.limits c.first s.known.view c.shares.items first_at_rest are.shares.first i,
+          held_few g.limits c.first s.known.view first_at_rest i,
+        )),
+    counts_of (second_of h.limits c.second c.shares.items) h.limits.ref_limit
+        (λ i.
+        omega (
+          arith,
+          second_held h.limits c.second u.known.view c.shares.items second_at_rest are.all.pools.no_desks
+              are.shares.second i,
+          held_few h.limits c.second u.known.view second_at_rest i,
+        )),
+  )
+
+  -- where neither seat of theirs has taken a step, both left what they began with
+  pub twins_fresh : IsUnmoved s.known → IsUnmoved u.known →
+      (c.first ≡ closed_at_start g.limits) × (c.second ≡ closed_at_start h.limits)
+  twins_fresh one two =
+      let first : IsFresh s.known = record {
+        whole = first_parts ∙ ap (λ (l : Limits). every_part l) (sym are.first_whole.of.limits);
+        unmoved = one;
+      } in
+      let second : IsFresh u.known = record {
+        whole = second_parts ∙ ap (λ (l : Limits). every_part l) (sym are.second_whole.of.limits);
+        unmoved = two;
+      } in
+      (are.first.start first, are.second.start second)

@@ -5,11 +5,12 @@ use Rattle.std.specs.Prelude.{All}
 use Rattle.std.specs.List.{range_with_len}
 use Rattle.std.proofs.lemmas.List.Elements.{All-nil}
 use Rattle.commons.specs.Bag.{bag}
-use Rattle.commons.specs.Packets.{held_in, own_in}
+use Rattle.commons.specs.Packets.{held_in}
 use Rattle.commons.specs.declared.closed.Closed.{Closed}
 use Rattle.commons.specs.declared.limits.Limits.{Limits}
 use Rattle.ground.specs.Changing.{IsFresh, IsUnmoved}
-use Rattle.ground.specs.Seats.{Grounded}
+use Rattle.ground.specs.Lying.{LieByNotes}
+use Rattle.ground.specs.Seats.{Grounded, Note}
 use Rattle.ground.specs.declared.known.Known.{Known}
 use Rattle.mbuf.specs.Members.{Member}
 use Rattle.pool_model.specs.declared.guest.Guest.{Guest}
@@ -25,12 +26,12 @@ use Rattle.snapshot.proofs.Times.{held-is}
 use Rattle.book.specs.Left.{IsLawfulByTypes, IsLeftWhole}
 use Rattle.book.proofs.Spelled.{lawful}
 use Rattle.step_core.specs.declared.view.View.{View}
-use Rattle.word_pool.specs.Leaving.{statement_at_start}
+use Rattle.word_pool.specs.Leaving.{IsLeftAtRest, statement_at_start}
 use Rattle.word_pool.specs.Shares.{AreSharesOf}
 use Rattle.word_pool.specs.Workers.{Manned, IsStatementOfWorkers, members_of}
-use Rattle.word_pool.specs.inside.Closing.{IsLeftAtRest}
 use Rattle.word_pool.specs.inside.Joins.{AreClosed}
 use Rattle.word_pool.proofs.OneView.{common, held_few, words_show}
+use Rattle.step_core.specs.World.{every_part}
 
 -- the numbers of all workers, in their order
 abbrev pub AreNumbered : ℕ → List Member → Type 0
@@ -89,6 +90,7 @@ module _ (g : Grounded) (ms : List Manned) (n : Known) (l : Limits) (c : Closed)
     seat = are.seat;
     limits = are.limits;
     whole = are.whole;
+    desks = are.desks;
     idle = are.idle;
     shares = own_shares;
     statement = record {
@@ -98,13 +100,14 @@ module _ (g : Grounded) (ms : List Manned) (n : Known) (l : Limits) (c : Closed)
       start = are.closed.start;
       same = refl;
     };
+    lying = subst (λ (notes : List Note). LieByNotes notes c.desks) are.seat.notes (are.closed.noted are.whole);
   })
 
   -- where no seat of theirs has taken a step, that of the start
   pub statement_fresh : IsUnmoved n → statement_in (snapshot_of l c handed) ≡ statement_at_start g.limits (members_of ms)
   statement_fresh unmoved =
       let fresh : IsFresh n = record {
-        whole = are.whole ∙ ap (λ (k : Limits). k.workers) (sym are.limits);
+        whole = are.whole ∙ ap (λ (k : Limits). every_part k) (sym are.limits);
         unmoved = unmoved;
       } in
       rw (are.closed.limits, are.closed.start fresh, are.same) refl

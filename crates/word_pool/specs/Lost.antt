@@ -1,5 +1,5 @@
 -- Some workers of a pool on words, whose others are missing, and what is lost with those.
-use Rattle.std.specs.Prelude.{ℕ, ◌≡◌, ◌-◌, ◌==◌, ◌<◌, ◌++◌, if◌then◌else◌, List, All, filter, length, map}
+use Rattle.std.specs.Prelude.{ℕ, ◌-◌, ◌==◌, ◌<◌, ◌++◌, if◌then◌else◌, List, All, filter, length, map}
 use Rattle.std.specs.List.{remove}
 use Rattle.book.specs.Lost.{AreOrdered, is_listed, unlisted_of}
 use Rattle.commons.specs.declared.closed.Closed.{Closed}

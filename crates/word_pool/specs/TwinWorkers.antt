@@ -2,7 +2,8 @@
 use Rattle.std.specs.Prelude.{◌≡◌, ◌<◌, ℕ, List, [], All, length, map, slice_index_or}
 use Rattle.std.specs.List.{range_with_len}
 use Rattle.commons.specs.declared.limits.Limits.{Limits}
-use Rattle.ground.specs.Own.{AtRest}
+use Rattle.ground.specs.Changing.{IsUnmoved}
+use Rattle.ground.specs.Own.{AtRest, KnowsDesks}
 use Rattle.ground.specs.Seats.{Grounded, Seated, IsOf}
 use Rattle.mbuf.specs.Acts.{Reply}
 use Rattle.mbuf.specs.Foreign.{BothCalls}
@@ -18,7 +19,10 @@ use Rattle.stack_lf.specs.Tries.{DidOnWords}
 use Rattle.twin_acts.specs.TwinActs.{AreFreshByAct, KeepsTwin, PerformsTwin, TwinAsBefore}
 use Rattle.twin_acts.specs.declared.acts.TwinAct.{TwinAct}
 use Rattle.word_pool.specs.TwinShares.{AreStatementsOf, AreTwinShares}
-use Rattle.step_core.specs.declared.view.View.{View}
+use Rattle.ground.specs.declared.known.Known.{Known}
+use Rattle.ground.specs.Lying.{LieByNotes}
+use Rattle.word_pool.specs.Workers.{Manned, IsSeatOf, notes_by}
+use Rattle.step_core.specs.World.{worker_part, every_part}
 
 -- a worker: its seat at the ground of either pool, and what it has of both
 pub record TwinManned : Type 0 where
@@ -63,12 +67,12 @@ pub record DoesTwin (act : TwinAct) (old : TwinManned) (reply : Reply) (new : Tw
       new.member (side_of new.first) (side_of new.second))
   pub stays : TwinStays old new
 
--- a worker of these grounds, with one part of either
+-- a worker of these grounds, with a worker's part of either
 pub record IsTwinWorker (g h : Grounded) (m : TwinManned) : Type 0 where
   pub first : IsOf g m.first
   pub second : IsOf h m.second
-  pub first_part : m.first.known.view.part ≡ 1
-  pub second_part : m.second.known.view.part ≡ 1
+  pub first_part : m.first.known.view.part ≡ worker_part
+  pub second_part : m.second.known.view.part ≡ worker_part
 
 -- what workers have of both pools, and of either
 abbrev pub twins_of : List TwinManned → List TwinMember
@@ -80,6 +84,18 @@ firsts_of ms = map (λ t. t.first) (twins_of ms)
 abbrev pub seconds_of : List TwinManned → List Member
 seconds_of ms = map (λ t. t.second) (twins_of ms)
 
+-- the workers as those of either pool: the seat at its ground, and what they have of it
+abbrev pub first_crew : List TwinManned → List Manned
+first_crew ms = map (λ m. record { seat = m.first; member = m.member.first }) ms
+
+abbrev pub second_crew : List TwinManned → List Manned
+second_crew ms = map (λ m. record { seat = m.second; member = m.member.second }) ms
+
+-- neither seat of the worker has taken a step, nor was one that has joined to it
+pub record HasNotActedTwice (m : TwinManned) : Type 0 where
+  pub first : IsUnmoved m.first.known
+  pub second : IsUnmoved m.second.known
+
 -- all workers of these grounds, in their order
 pub record AreTwinWorkers (g h : Grounded) (ms : List TwinManned) : Type 0 where
   pub pools : AreTwinPools g.limits h.limits
@@ -87,21 +103,31 @@ pub record AreTwinWorkers (g h : Grounded) (ms : List TwinManned) : Type 0 where
   pub second_numbers : map (λ m. m.number) (seconds_of ms) ≡ range_with_len 1 h.limits.workers
   pub each : All (IsTwinWorker g h) ms
 
--- They are the workers of new pools, who have nothing: their caches and tables are empty.
+-- They are the workers of new pools, who have nothing: their caches and tables are empty. None of
+-- them has taken a step.
 pub record AreNewTwins (l k : Limits) (ms : List TwinManned) : Type 0 where
   pub firsts : firsts_of ms ≡ new_members l 1 l.workers
   pub seconds : seconds_of ms ≡ new_members k 1 k.workers
+  pub unmoved : All HasNotActedTwice ms
 
--- The statements of what two grounds left, each closed by its only seat, and of these workers'
--- caches, packets and clones, which are what those seats had.
+-- The statements of what two grounds left, each closed by its only seat, to which the seats there of
+-- these workers were joined, and of their caches, packets and clones, which are what those seats had.
 pub record AreStatementsOfTwins (g h : Grounded) (ms : List TwinManned) (s : Statement × Statement) : Type 0 where
-  pub first_view : View
-  pub second_view : View
-  pub first_whole : first_view.part ≡ g.limits.workers
-  pub second_whole : second_view.part ≡ h.limits.workers
-  pub first_rest : AtRest first_view
-  pub second_rest : AtRest second_view
+  pub first_known : Known
+  pub second_known : Known
+  pub first_seat : IsSeatOf (first_crew ms) first_known
+  pub second_seat : IsSeatOf (second_crew ms) second_known
+  pub first_limits : first_known.limits ≡ g.limits
+  pub second_limits : second_known.limits ≡ h.limits
+  pub first_whole : first_known.view.part ≡ every_part g.limits
+  pub second_whole : second_known.view.part ≡ every_part h.limits
+  -- each knows what lies on the desks of its pool
+  pub first_desks : KnowsDesks first_known
+  pub second_desks : KnowsDesks second_known
   -- each worker was between its acts: packets and clones were its own
   pub idle : All IsTwinIdle ms
-  pub shares : AreTwinShares (twins_of ms) first_view second_view
-  pub statements : AreStatementsOf g.limits h.limits first_view second_view (twins_of ms) s
+  pub shares : AreTwinShares (twins_of ms) first_known.view second_known.view
+  pub statements : AreStatementsOf g.limits h.limits first_known second_known (twins_of ms) s
+  -- on the desks lay what these workers' notes leave there
+  pub first_lying : LieByNotes (notes_by (first_crew ms)) statements.first.desks
+  pub second_lying : LieByNotes (notes_by (second_crew ms)) statements.second.desks

@@ -1,12 +1,13 @@
 -- The workers of a pool on words.
-use Rattle.std.specs.Prelude.{◌≡◌, ◌<◌, ◌++◌, ℕ, List, [], All, flat_map, length, map, slice_index_or}
+use Rattle.std.specs.Prelude.{◌≡◌, ◌<◌, ◌++◌, ℕ, List, [], All, flat_map, length, map, slice_index_or, ◌*◌}
 use Rattle.std.specs.List.{range_with_len}
 use Rattle.commons.specs.Calls.{Calls}
 use Rattle.commons.specs.declared.limits.Limits.{Limits}
 use Rattle.commons.specs.Packets.{held_in}
 use Rattle.ground.specs.Changing.{IsUnmoved}
-use Rattle.ground.specs.Own.{AtRest}
-use Rattle.ground.specs.Seats.{Grounded, Seated, IsOf}
+use Rattle.ground.specs.Lying.{LieByNotes}
+use Rattle.ground.specs.Own.{AtRest, KnowsDesks}
+use Rattle.ground.specs.Seats.{Grounded, Note, Seated, IsOf}
 use Rattle.ground.specs.declared.known.Known.{Known}
 use Rattle.mbuf.specs.declared.acts.Act.{Act}
 use Rattle.mbuf.specs.Acts.{Performs, Reply}
@@ -18,7 +19,7 @@ use Rattle.pool_model.specs.declared.statement.Statement.{Statement}
 use Rattle.pool_model.specs.Pool.{new_members}
 use Rattle.stack_lf.specs.Sides.{side_of}
 use Rattle.stack_lf.specs.Tries.{DidOnWords}
-use Rattle.step_core.specs.World.{empty_view}
+use Rattle.step_core.specs.World.{empty_view, worker_part, every_part}
 use Rattle.word_pool.specs.Leaving.{IsStatementOf}
 use Rattle.word_pool.specs.Shares.{AreSharesOf}
 
@@ -56,10 +57,10 @@ pub record Acts (act : Act) (old : Manned) (reply : Reply) (new : Manned) : Type
   pub member : KeepsMember old.member new.member
   pub stays : Stays old new
 
--- a worker of this ground, with one part of it
+-- a worker of this ground, with a worker's part of it
 pub record IsWorker (g : Grounded) (m : Manned) : Type 0 where
   pub of : IsOf g m.seat
-  pub part : m.seat.known.view.part ≡ 1
+  pub part : m.seat.known.view.part ≡ worker_part
 
 -- the caches and packets of workers
 abbrev pub members_of : List Manned → List Member
@@ -78,20 +79,24 @@ HasNotActed m = IsUnmoved m.seat.known
 -- their views name nothing. None of them has taken a step.
 pub record AreNew (l : Limits) (ms : List Manned) : Type 0 where
   pub members : members_of ms ≡ new_members l 1 l.workers
-  pub views : All (λ m. m.seat.known.view ≡ empty_view 1) ms
+  pub views : All (λ m. m.seat.known.view ≡ empty_view worker_part) ms
   pub unmoved : All HasNotActed ms
+
+-- the steps that the seats of these workers noted, and those of the seats that were joined to them
+abbrev pub notes_by : List Manned → List Note
+notes_by ms = flat_map (λ m. m.seat.known.steps ++ m.seat.known.joined) ms
 
 -- What the one seat knows that the seats of all these workers were joined to, in their order.
 pub record IsSeatOf (ms : List Manned) (n : Known) : Type 0 where
   -- it has the part of each
-  pub part : n.view.part ≡ length ms
+  pub part : n.view.part ≡ length ms * worker_part
   -- the elements in its hand, those that it holds and its headers are theirs, all together
   pub hand : n.view.hand ≡ flat_map (λ m. m.seat.known.view.hand) ms
   pub holds : n.view.holds ≡ flat_map (λ m. m.seat.known.view.holds) ms
   pub headers : n.view.headers ≡ flat_map (λ m. m.seat.known.view.headers) ms
   -- the steps that it noted, and those of the seats that were joined to it, are theirs, and no
   -- other
-  pub notes : n.steps ++ n.joined ≡ flat_map (λ m. m.seat.known.steps ++ m.seat.known.joined) ms
+  pub notes : n.steps ++ n.joined ≡ notes_by ms
   -- it is between calls
   pub rest : AtRest n.view
 
@@ -101,8 +106,13 @@ pub record IsStatementOfWorkers (g : Grounded) (ms : List Manned) (s : Statement
   pub known : Known
   pub seat : IsSeatOf ms known
   pub limits : known.limits ≡ g.limits
-  pub whole : known.view.part ≡ g.limits.workers
+  pub whole : known.view.part ≡ every_part g.limits
+  -- it knows what lies on the desks, and that lay there (`desks` of the statement)
+  pub desks : KnowsDesks known
   -- each worker was between its acts: its packets were its own
   pub idle : All IsIdle ms
   pub shares : AreSharesOf (members_of ms) known.view
   pub statement : IsStatementOf g.limits known (members_of ms) s
+  -- on the desks lay what these workers' notes leave there: of the packets with which they opened a
+  -- desk, those that none of them seized
+  pub lying : LieByNotes (notes_by ms) statement.closed.desks

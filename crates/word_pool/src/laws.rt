@@ -1,7 +1,16 @@
 //! Laws of the workers of a pool, and of their shares and seats. Each is a function that does
 //! nothing, and its contract is the law.
 
-ghost use Rattle.std.specs.Prelude.{List, [], ◌∷◌, ◌++◌, ℕ};
+ghost use Rattle.std.specs.Prelude.{List, [], ◌∷◌, ◌++◌, ◌≡◌, ◌≤◌, length, map, ℕ};
+ghost use Rattle.std.specs.List.{range_with_len};
+ghost use Rattle.book.specs.Books.{shares_in};
+ghost use Rattle.book.specs.Left.{AreLeftWhole, IsLawfulByTypes, IsLeftWhole};
+ghost use Rattle.book.specs.Lost.{IsOf as IsWorkerOf};
+ghost use Rattle.book.specs.Places.{Places};
+ghost use Rattle.book.specs.Settling.{snapshot_with};
+ghost use Rattle.book.specs.TwinBooks.{AreTwinPools};
+ghost use Rattle.book.specs.declared.closed_twin.ClosedTwin.{ClosedTwin};
+ghost use Rattle.commons.specs.Bounds.{IsPool};
 ghost use Rattle.commons.specs.declared.closed.Closed.{Closed};
 ghost use Rattle.commons.specs.declared.limits.Limits.{Limits};
 ghost use Rattle.ground.specs.Parting.{both_views};
@@ -13,6 +22,8 @@ ghost use Rattle.snapshot.specs.Closing.{snapshot_of};
 ghost use Rattle.snapshot.specs.Lost.{AreLost};
 ghost use Rattle.step_core.specs.World.{empty_view};
 ghost use Rattle.step_core.specs.declared.view.View.{View};
+ghost use Rattle.word_pool.specs.Leaving.{HasAllShares, IsLeftAtRest};
+ghost use Rattle.word_pool.specs.Lost.{AreLeft, left_of};
 ghost use Rattle.word_pool.specs.LostViews.{AreLostBy, IsLeftWithout};
 ghost use Rattle.word_pool.specs.Shares.{AreSharesOf, side_in};
 ghost use Rattle.word_pool.specs.TwinShares.{AreTwinShares};
@@ -22,6 +33,15 @@ ghost use Rattle.word_pool.specs.Workers.{AllStay, AreWorkers, Manned};
 /// Where each of a pool's workers has stayed, whatever it did, they are all its workers, as before.
 pub fn workers_who_stay_are_all()
     ensures { (g : Grounded) (old new : List Manned) → AreWorkers g old → AllStay old new → AreWorkers g new }
+{}
+
+/// The number of each worker of a pool is one that `pool::lose` takes, and where the worker is lost, the
+/// others are those who are left, or an only one is.
+pub fn a_worker_is_lost_and_the_others_are_left()
+    ensures number { (g : Grounded) (ms : List Manned) (number : ℕ) → AreWorkers g ms → IsWorkerOf g.limits number →
+        (1 ≤ number) × (number ≤ length ms) }
+    ensures left { (g : Grounded) (ms : List Manned) (number : ℕ) → AreWorkers g ms → IsWorkerOf g.limits number →
+        AreLeft g (number ∷ []) (left_of number ms) }
 {}
 
 /// Where each of the workers of two pools has stayed, whatever it did, they are all their workers, as
@@ -41,6 +61,26 @@ pub fn own_packets_are_a_share()
 pub fn joined_seats_have_the_shares_of_both()
     ensures { (v u : View) (first second : List Member) → AreSharesOf first v → AreSharesOf second u →
         AreSharesOf (first ++ second) (both_views v u) }
+{}
+
+/// What a ground left that was closed (`Ground::close`) by a seat at rest with every part settles
+/// without a fault, with the shares of all workers, if they are what that seat had: together they are
+/// a whole pool at rest, as `book::settled_parts` asks, and so in a book that has them all, which
+/// `book::settle` then refuses for memory alone. So do two pools, each closed so, by the shares of their
+/// workers of both.
+///
+/// Where each seat is joined whose worker hands in what is its own, the shares are what the one seat
+/// has (laws `own_packets_are_a_share` and `joined_seats_have_the_shares_of_both`).
+pub fn what_a_seat_at_rest_left_settles()
+    ensures whole { (l : Limits) (c : Closed) (v : View) (members : List Member) → IsPool l → IsLeftAtRest l c v →
+        AreSharesOf members v → map (λ m. m.number) members ≡ range_with_len 1 l.workers → IsLeftWhole l c members }
+    ensures book { (b : Places) (c : Closed) (v : View) → HasAllShares b → IsLeftAtRest b.limits c v →
+        AreSharesOf (shares_in b.places) v → IsLawfulByTypes (snapshot_with b c) }
+    ensures twins { (c : ClosedTwin) (v u : View) → AreTwinPools c.first_limits c.second_limits →
+        IsLeftAtRest c.first_limits c.first v → IsLeftAtRest c.second_limits c.second u → AreTwinShares c.shares.items v u →
+        map (λ m. m.number) (map (λ m. m.first) c.shares.items) ≡ range_with_len 1 c.first_limits.workers →
+        map (λ m. m.number) (map (λ m. m.second) c.shares.items) ≡ range_with_len 1 c.second_limits.workers →
+        AreLeftWhole c }
 {}
 
 /// Of what a lawful world left, where some views are lost and the shares are all the others', what

@@ -1,13 +1,12 @@
 //! The pool of all workers on words.
 
-ghost use Rattle.std.specs.Prelude.{◌≡◌, ◌+◌, ◌<◌, ◌≤◌, ◌++◌, ◌∷◌, [], All, List, IfOk, IfErr, length, vec_len, vec_capacity};
+ghost use Rattle.std.specs.Prelude.{◌≡◌, ◌+◌, ◌<◌, ◌≤◌, ◌++◌, ◌∷◌, [], All, List, IfOk, IfErr, length, vec_len, vec_capacity, ◌*◌};
 ghost use Rattle.book.specs.Left.{IsLeftWhole};
 ghost use Rattle.book.specs.Listing.{ListsPackets};
-ghost use Rattle.book.specs.Lost.{IsOf as IsWorkerOf};
 ghost use Rattle.commons.specs.Bounds.{IsPool};
 ghost use Rattle.ground.specs.Changing.{IsUnmoved};
 ghost use Rattle.ground.specs.Opening.{IsGroundCause};
-ghost use Rattle.ground.specs.Own.{AtRest};
+ghost use Rattle.ground.specs.Own.{AtRest, KnowsDesks};
 ghost use Rattle.ground.specs.Rule.{first_known};
 ghost use Rattle.ground.specs.Seats.{IsOf};
 ghost use Rattle.pool_model.specs.Statements.{ListsEachOnce, PlacesEachOnce};
@@ -18,6 +17,7 @@ ghost use Rattle.word_pool.specs.Shares.{AreSharesOf};
 ghost use Rattle.word_pool.specs.inside.Crews.{IsUnused, new_member};
 ghost use Rattle.word_pool.specs.Lost.{AreLeft, AreLostOf, left_of};
 ghost use Rattle.word_pool.specs.Workers.{AreNew, AreWorkers, HasNotActed, IsIdle, IsSeatOf, IsStatementOfWorkers, IsWorker, members_of};
+ghost use Rattle.step_core.specs.World.{worker_part};
 
 use crate::closing::closed_by;
 use crate::worker::WordWorker;
@@ -32,7 +32,7 @@ use mbuf::packets::Packets;
 use pool_model::statement::Statement;
 use std::alloc::Global;
 
-/// Makes a pool on words, and its workers, numbered from 1, each with one part of it, and none of
+/// Makes a pool on words, and its workers, numbered from 1, each with a worker's part of it, and none of
 /// whom has anything yet, nor has acted. The words are those of a new ground (`Ground::make`): all
 /// elements are in the common list, element 0 on top. Settled as it is, the pool's statement is
 /// that of the start (`settled`).
@@ -153,6 +153,7 @@ pub fn close(
     requires { AreWorkers ground workers.items }
     ensures limits { IfOk result (λ left. left.0 ≡ ground.limits) }
     ensures whole { IfOk result (λ left. IsLeftWhole left.0 left.1 left.2.items) }
+    ensures shares { IfOk result (λ left. left.2.items ≡ members_of workers.items) }
     ensures statement { IfOk result (λ left.
         IsStatementOfWorkers ground workers.items (statement_in (snapshot_of left.0 left.1 left.2.items))) }
     ensures fresh { All HasNotActed workers.items → IfOk result (λ left.
@@ -201,14 +202,14 @@ pub fn settled(
 }
 
 /// Ends the worker of this number, as one who died: its seat, its cache and its packets are lost.
-/// An only worker stays, since its seat has to close the ground.
-pub fn lose(ground: &Ground, workers: &mut Vec<WordWorker>, number: u32)
-    requires all { AreWorkers ground.now workers.old.items }
-    requires worker { IsWorkerOf ground.now.limits number }
-    ensures rest { workers.new.items ≡ left_of number workers.old.items }
-    ensures left { AreLeft ground.now (number ∷ []) workers.new.items }
+/// An only worker stays, since its seat has to close the ground. The call is given no ground, so it
+/// does nothing to one: the dead worker acts no more, and what it had stays where it is. The others
+/// are those who are left (law `a_worker_is_lost_and_the_others_are_left`).
+pub fn lose(workers: &mut Vec<WordWorker>, number: u32)
+    requires first { 1 ≤ number }
+    requires last { number ≤ length workers.old.items }
+    ensures { workers.new.items ≡ left_of number workers.old.items }
 {
-    let _known = ground;
     if workers.len() != 1 {
         let _lost = workers.remove(number as usize - 1);
     }
@@ -216,9 +217,10 @@ pub fn lose(ground: &Ground, workers: &mut Vec<WordWorker>, number: u32)
 
 /// Ends a pool of which these workers are left, whose others are listed as missing, and tells which
 /// elements are lost, ascending: exactly those in the hand of a listed worker or held by listed
-/// workers alone, wherever these stopped, in mid-call too. The seats of those who are left become
-/// one, which closes the ground, and their packets are handed in. Where a listed worker is among
-/// them, as an only one whose seat was kept, its cache and its packets are lost.
+/// workers alone, wherever these stopped, in mid-call too: in a lawful world that left these words,
+/// since nobody asks the listed workers' threads what they knew. The seats of those who are left
+/// become one, which closes the ground, and their packets are handed in. Where a listed worker is
+/// among them, as an only one whose seat was kept, its cache and its packets are lost.
 ///
 /// Refused `OutOfMemory` where memory was refused. The pool is ended then too, and nothing is left
 /// of it.
@@ -257,13 +259,14 @@ fn joined(
     requires empty { shares.items ≡ [] }
     requires room { vec_len workers ≤ vec_capacity shares }
     ensures of { IsOf ground.now result.0 }
-    ensures part { result.0.known.view.part ≡ length workers.items }
+    ensures part { result.0.known.view.part ≡ length workers.items * worker_part }
     ensures rest { AtRest result.0.known.view }
     ensures made { IsSeatOf workers.items result.0.known }
     ensures idle { All IsIdle workers.items }
     ensures members { result.1.items ≡ members_of workers.items }
     ensures shares { AreSharesOf result.1.items result.0.known.view }
     ensures unmoved { All HasNotActed workers.items → IsUnmoved result.0.known }
+    ensures desks { KnowsDesks result.0.known }
 {
     let Some(last) = workers.pop() else {
         unreachable!()
@@ -277,6 +280,7 @@ fn joined(
         add_share(&mut shares, packets);
     }
     shares.reverse();
+    seat.knows_desks();
     (seat, shares)
 }
 

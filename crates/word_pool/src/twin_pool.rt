@@ -3,7 +3,8 @@
 
 ghost use Rattle.std.specs.Prelude.{◌≡◌, ◌+◌, ◌<◌, ◌≤◌, ◌++◌, ◌∷◌, [], All, IfOk, IfErr, length, true, vec_len, vec_capacity};
 ghost use Rattle.book.specs.Left.{AreLeftWhole, first_of, second_of};
-ghost use Rattle.ground.specs.Own.{AtRest};
+ghost use Rattle.ground.specs.Changing.{IsUnmoved, closed_at_start};
+ghost use Rattle.ground.specs.Own.{AtRest, KnowsDesks};
 ghost use Rattle.ground.specs.Parting.{IsBoth};
 ghost use Rattle.ground.specs.Rule.{first_known};
 ghost use Rattle.ground.specs.Seats.{IsOf};
@@ -12,10 +13,10 @@ ghost use Rattle.pool_model.specs.Guests.{ListsEachOnceWith, guests_listed, loca
 ghost use Rattle.pool_model.specs.Sound.{ListsOnlyPackets};
 ghost use Rattle.pool_model.specs.Statements.{ListsEachOnce, PlacesEachOnce};
 ghost use Rattle.snapshot.specs.Snapshots.{ListsItsElements, statement_in};
-ghost use Rattle.word_pool.specs.TwinShares.{AreTwinShares};
+ghost use Rattle.word_pool.specs.TwinShares.{AreTwinShares, first_at_start, second_at_start};
 ghost use Rattle.word_pool.specs.inside.Crews.{IsUnused, new_member};
 ghost use Rattle.word_pool.specs.inside.TwinCrews.{IsWhole};
-ghost use Rattle.word_pool.specs.TwinWorkers.{AreNewTwins, AreStatementsOfTwins, AreTwinPools, AreTwinWorkers, IsTwinIdle, IsTwinMakeCause, IsTwinWorker, twins_of};
+ghost use Rattle.word_pool.specs.TwinWorkers.{AreNewTwins, AreStatementsOfTwins, AreTwinPools, AreTwinWorkers, HasNotActedTwice, IsTwinIdle, IsTwinMakeCause, IsTwinWorker, first_crew, second_crew, twins_of};
 
 use crate::closing::closed_by;
 use crate::twin_worker::{Seats, WordTwin, lose};
@@ -204,7 +205,8 @@ impl FreeSeats {
 /// have is handed in, in the order of their numbers, and both grounds are closed. It gives of each
 /// pool its limits and what its ground left, and the share of each worker, from the first to the
 /// last: two whole pools at rest. Their statements, where they list each element of their pool once,
-/// are those of what the grounds left and of what these workers have.
+/// are those of what the grounds left and of what these workers have. Where no worker has acted, both
+/// grounds left what they began with. No count is above the reference limit of its pool.
 ///
 /// Refused `OutOfMemory` where memory was refused. The pools are ended then too, and nothing is left
 /// of them.
@@ -218,6 +220,12 @@ pub fn close(
     ensures first_limits { IfOk result (λ c. c.first_limits ≡ first.limits) }
     ensures second_limits { IfOk result (λ c. c.second_limits ≡ second.limits) }
     ensures whole { IfOk result (λ c. AreLeftWhole c) }
+    ensures shares { IfOk result (λ c. c.shares.items ≡ twins_of workers.items) }
+    ensures fresh { All HasNotActedTwice workers.items → IfOk result (λ c.
+        (c.first ≡ closed_at_start first.limits) × (c.second ≡ closed_at_start second.limits)) }
+    ensures counts { IfOk result (λ c.
+        All (λ held. held.count ≤ c.first_limits.ref_limit) (statement_in (first_of c.first_limits c.first c.shares.items)).held
+        × All (λ held. held.count ≤ c.second_limits.ref_limit) (statement_in (second_of c.second_limits c.second c.shares.items)).held) }
     // The statement of a lawful snapshot lists each element of its pool once.
     ensures statements { IfOk result (λ c.
         ListsItsElements (first_of c.first_limits c.first c.shares.items) (statement_in (first_of c.first_limits c.first c.shares.items)) →
@@ -262,7 +270,8 @@ pub fn close(
 /// fault. Each statement lists each element of its pool exactly once, and is that of what the ground
 /// left and of what these workers have: the bases of foreign clones are elements of the first pool,
 /// which their workers hold, and their own elements are of the second. What is available and what is
-/// in use are the population of each.
+/// in use are the population of each. Where no worker has acted, they are the statements of the start.
+/// No count is above the reference limit of its pool.
 ///
 /// Refused `OutOfMemory` where memory was refused. The pools are ended then too, and nothing is left
 /// of them.
@@ -274,10 +283,14 @@ pub fn settled(
 ) -> Result<(Statement, Statement), Refusal>
     requires { AreTwinWorkers first second workers.items }
     ensures statements { IfOk result (AreStatementsOfTwins first second workers.items) }
+    ensures fresh { All HasNotActedTwice workers.items → IfOk result (λ s.
+        (s.0 ≡ first_at_start first.limits (twins_of workers.items)) × (s.1 ≡ second_at_start second.limits (twins_of workers.items))) }
     // That each lists its elements once is read off both statements alone.
     ensures each { IfOk result (λ s. ListsEachOnceWith (guests_listed s.1) s.0 × ListsEachOnce (local_statement true s.1)) }
     ensures places { IfOk result (λ s. PlacesEachOnce first.limits s.0 × PlacesEachOnce second.limits s.1) }
     ensures sound { IfOk result (λ s. ListsOnlyPackets s.0 × ListsOnlyPackets s.1) }
+    ensures counts { IfOk result (λ s. All (λ held. held.count ≤ first.limits.ref_limit) s.0.held
+        × All (λ held. held.count ≤ second.limits.ref_limit) s.1.held) }
     ensures whole { IfOk result (λ s. (s.0.available + s.0.in_use ≡ first.limits.population)
         × (s.1.available + s.1.in_use ≡ second.limits.population)) }
     ensures memory { IfErr result (λ e. e ≡ Refusal.OutOfMemory) }
@@ -298,11 +311,14 @@ fn joined(
     requires each { All (IsTwinWorker first.now second.now) workers.items }
     requires empty { shares.items ≡ [] }
     requires room { vec_len workers ≤ vec_capacity shares }
-    ensures first { IsWhole first.now (length workers.items) result.0.first }
-    ensures second { IsWhole second.now (length workers.items) result.0.second }
+    ensures first { IsWhole first.now (first_crew workers.items) result.0.first }
+    ensures second { IsWhole second.now (second_crew workers.items) result.0.second }
     ensures idle { All IsTwinIdle workers.items }
     ensures members { result.1.items ≡ twins_of workers.items }
     ensures shares { AreTwinShares result.1.items result.0.first.known.view result.0.second.known.view }
+    ensures unmoved { All HasNotActedTwice workers.items → IsUnmoved result.0.first.known × IsUnmoved result.0.second.known }
+    ensures first_desks { KnowsDesks result.0.first.known }
+    ensures second_desks { KnowsDesks result.0.second.known }
 {
     let Some(last) = workers.pop() else {
         unreachable!()
@@ -315,6 +331,8 @@ fn joined(
         add_share(&mut shares, twin);
     }
     shares.reverse();
+    seats.first.knows_desks();
+    seats.second.knows_desks();
     (seats, shares)
 }
 

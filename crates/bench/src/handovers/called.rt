@@ -39,7 +39,7 @@ impl<'a> Called<'a> {
     pub fn end(self) {
         let Called { c, packets } = self;
         packets.lose();
-        c.lose();
+        c.into_seat().lose();
     }
 }
 

@@ -53,7 +53,7 @@ impl<'a> Bare<'a> {
             list: _,
             width: _,
         } = self;
-        c.lose();
+        c.into_seat().lose();
     }
 }
 

@@ -97,7 +97,7 @@ impl<'a> Cached<'a> {
             }
         }
         worker.lose();
-        c.lose();
+        c.into_seat().lose();
     }
 }
 

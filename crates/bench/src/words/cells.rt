@@ -190,7 +190,7 @@ fn run_once<R: Clock + AllocGlobal + Threads + Sync>(
     }?;
     let mut c = WordCommons::new(&ground, own.into_seat());
     let left = u64::from(c.common_count());
-    c.lose();
+    c.into_seat().lose();
     if left != population {
         return Err(Failure::Missing(population.saturating_sub(left)));
     }

@@ -78,7 +78,7 @@ impl<'a> Held<'a> {
             }
         }
         packets.lose();
-        c.lose();
+        c.into_seat().lose();
     }
 
     /// Allocs a packet and frees it.

@@ -5,7 +5,7 @@ use arrayvec::ArrayVec;
 use commons::packet::{Packet, Seg};
 use random_steps::schedules::End;
 use std::process::Abort;
-use step_core::view::{Chain, Desk, Look, Phase, View, Work};
+use step_core::view::{Chain, Desk, Look, Phase, View, WORKER_PART, Work};
 use step_core::world::World;
 
 /// Whether the world is so.
@@ -190,7 +190,7 @@ impl Numbers {
         for elems in [&view.hand, &view.zeros, &view.holds, &view.headers] {
             self.add_elems(elems.as_slice());
         }
-        self.add_all(&[view.credit, view.seen, view.part]);
+        self.add_all(&[view.credit, view.seen, view.part / WORKER_PART]);
         self.add_look(&view.look);
         self.add_chain(&view.chain);
         self.add_work(&view.work);

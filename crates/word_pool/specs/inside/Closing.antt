@@ -1,15 +1,15 @@
 -- How a ground is closed, by the one seat that the seats of its workers were joined to. No public
 -- clause cites this module.
-use Rattle.std.specs.Prelude.{◌≡◌, IfSome}
+use Rattle.std.specs.Prelude.{◌≡◌, ◌++◌, IfSome}
 use Rattle.commons.specs.Bounds.{IsPool}
 use Rattle.commons.specs.declared.closed.Closed.{Closed}
 use Rattle.commons.specs.declared.limits.Limits.{Limits}
 use Rattle.ground.specs.Changing.{IsFresh, closed_at_start}
 use Rattle.ground.specs.Closing.{LeftOf}
-use Rattle.ground.specs.Own.{AtRest}
+use Rattle.ground.specs.Lying.{LieByNotes}
 use Rattle.ground.specs.Seats.{Grounded}
 use Rattle.ground.specs.declared.known.Known.{Known}
-use Rattle.step_core.specs.declared.view.View.{View}
+use Rattle.step_core.specs.World.{every_part}
 
 -- This ground was closed by a seat that knew this: these are its limits, and this is what it left.
 pub record IsClosedBy (g : Grounded) (n : Known) (l : Limits) (c : Closed) : Type 0 where
@@ -18,11 +18,7 @@ pub record IsClosedBy (g : Grounded) (n : Known) (l : Limits) (c : Closed) : Typ
   pub left : LeftOf g.limits n.view c
   -- on the desks lay what the seat knew to lie there
   pub desks : IfSome n.lying (λ desks. c.desks ≡ desks)
+  -- the only seat's notes tell what lay there
+  pub noted : n.view.part ≡ every_part g.limits → LieByNotes (n.steps ++ n.joined) c.desks
   -- where nobody had done anything, all was as at the start
   pub start : IsFresh n → c ≡ closed_at_start g.limits
-
--- A ground of these limits left it, closed by a seat at rest with this view that had every part.
-pub record IsLeftAtRest (l : Limits) (c : Closed) (v : View) : Type 0 where
-  pub left : LeftOf l v c
-  pub whole : v.part ≡ l.workers
-  pub rest : AtRest v

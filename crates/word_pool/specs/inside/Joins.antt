@@ -1,18 +1,19 @@
 -- How the workers of a pool are ended, one after another.
-use Rattle.std.specs.Prelude.{◌≡◌, ◌++◌, List, [], All, length, reverse}
+use Rattle.std.specs.Prelude.{◌≡◌, ◌++◌, List, [], All, length, reverse, ◌*◌}
 use Rattle.commons.specs.declared.closed.Closed.{Closed}
 use Rattle.commons.specs.declared.limits.Limits.{Limits}
 use Rattle.ground.specs.Changing.{IsUnmoved}
-use Rattle.ground.specs.Own.{AtRest}
+use Rattle.ground.specs.Own.{AtRest, KnowsDesks}
 use Rattle.ground.specs.Seats.{Grounded, Seated, IsOf}
 use Rattle.ground.specs.declared.known.Known.{Known}
 use Rattle.mbuf.specs.Members.{Member}
 use Rattle.word_pool.specs.Shares.{AreSharesOf}
 use Rattle.word_pool.specs.Workers.{Manned, AreWorkers, HasNotActed, IsIdle, IsSeatOf, IsWorker, members_of}
 use Rattle.word_pool.specs.inside.Closing.{IsClosedBy}
+use Rattle.step_core.specs.World.{worker_part, every_part}
 
 -- The seats of the last workers are one seat, which is at rest and has their parts, and their
--- shares are handed in, the last worker's first. The others are left.
+-- worker_part are handed in, the last worker's first. The others are left.
 pub record AreJoined (g : Grounded) (all left : List Manned) (seat : Seated) (handed : List Member) : Type 0 where
   pub each : All (IsWorker g) left
   pub done : List Manned
@@ -21,7 +22,7 @@ pub record AreJoined (g : Grounded) (all left : List Manned) (seat : Seated) (ha
   pub of : IsOf g seat
   pub rest : AtRest seat.known.view
   pub slots : seat.slots ≡ []
-  pub part : seat.known.view.part ≡ length done
+  pub part : seat.known.view.part ≡ length done * worker_part
   pub made : IsSeatOf done seat.known
   pub members : reverse handed ≡ members_of done
   pub shares : AreSharesOf (reverse handed) seat.known.view
@@ -35,7 +36,8 @@ pub record AreClosed (g : Grounded) (ms : List Manned) (n : Known) (l : Limits) 
   pub closed : IsClosedBy g n l c
   pub seat : IsSeatOf ms n
   pub limits : n.limits ≡ g.limits
-  pub whole : n.view.part ≡ g.limits.workers
+  pub whole : n.view.part ≡ every_part g.limits
+  pub desks : KnowsDesks n
   pub idle : All IsIdle ms
   pub same : handed ≡ members_of ms
   pub shares : AreSharesOf handed n.view

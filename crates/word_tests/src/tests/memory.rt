@@ -6,7 +6,7 @@ use commons::refusal::Refusal;
 use std::alloc::Global;
 use std::fmt::Debug;
 use std::process::Abort;
-use word_pool::pool;
+use word_pool::{laws, pool};
 
 /// A pool of four elements and two workers.
 const TWO: Limits = Limits {
@@ -23,8 +23,9 @@ fn free_of_new(alloc: Global) -> Result<u64, Refusal> {
 
 /// How many elements of a new pool are lost with worker 2.
 fn lost_of_new(alloc: Global) -> Result<usize, Refusal> {
+    laws::a_worker_is_lost_and_the_others_are_left();
     let (ground, mut workers) = pool::make(alloc, &TWO)?;
-    pool::lose(&ground, &mut workers, 2);
+    pool::lose(&mut workers, 2);
     Ok(pool::settled_without(alloc, ground, workers, &[2])?.len())
 }
 

@@ -45,7 +45,7 @@ pub(super) struct Player<'a> {
 impl<'a> Drop for Player<'a> {
     fn drop(self) {
         let Player { c, packets } = self;
-        c.lose();
+        c.into_seat().lose();
         packets.lose();
     }
 }

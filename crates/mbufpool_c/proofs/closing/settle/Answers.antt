@@ -23,7 +23,7 @@ returns-then-len-eq0-2-clause-closed c =
     let apart : AreApart c.args.numbers.now missing =
     subst (AreApart c.args.numbers.now) c.as_slice.ensures.value (c.if-not-are_apart.ensures refl) in
     if_ok (λ (e : Box Ending Global). IsSettled c.args.ground [] ms e.value)
-    (λ (e : Box Ending Global). HasClosed c.args.numbers.now e.value)
+    (λ (e : Box Ending Global). HasClosed c.args.ground c.args.numbers.now e.value)
     (λ e settled. closed_all c.args.numbers.now c.args.ground ms missing e.value c.requires none as_many apart settled)
     c.settle_all.result c.settle_all.ensures.settled
 
@@ -48,7 +48,7 @@ returns-clause-closed c =
     let left : AreLeft c.args.ground missing ms = some_there c.args.ground ms missing c.requires some in
     if_ok_both (λ (e : Box Ending Global). e.value.statement ≡ None)
     (λ (e : Box Ending Global). AreLostOf c.args.ground c.as_slice-2.result.now ms e.value.lost.items)
-    (λ (e : Box Ending Global). HasClosed c.args.numbers.now e.value)
+    (λ (e : Box Ending Global). HasClosed c.args.ground c.args.numbers.now e.value)
     (λ e none lost. closed_some c.args.numbers.now c.args.ground ms missing e.value c.requires gone as_many apart none left
     (subst (λ (ws : List ℕ). AreLostOf c.args.ground ws ms e.value.lost.items) c.as_slice-2.ensures.value lost))
     c.settle_without.result c.settle_without.ensures.statement c.settle_without.ensures.lost

@@ -6,7 +6,7 @@ use Rattle.script_io.proofs.reading.read_bytes.Given as goal
 abbrev pub invariant-loop-r : goal.invariant-loop-r
 invariant-loop-r g l = record {
   most : vec_len l.bytes ≤ l.limit;
-  taken : Consumes (g.R.Read.remaining l.initial.r.inner) (g.R.Read.remaining l.r.inner) (vec_items l.bytes);
+  taken : Consumes (g.R.Source.remaining l.initial.r.inner) (g.R.Source.remaining l.r.inner) (vec_items l.bytes);
   sound : l.r.failed ≡ false;
 }
 

@@ -7,5 +7,6 @@ returns-in-Ok-clause-closed c = record {
   pool = c.limits-limits.ensures.pool;
   left = c.in-Ok.ensures.closed;
   desks = c.in-Ok.ensures.desks;
+  noted = c.in-Ok.ensures.noted;
   start = c.in-Ok.ensures.fresh;
 }

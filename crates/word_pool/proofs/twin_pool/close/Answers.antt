@@ -2,7 +2,7 @@
 use Rattle.std.proofs.Common.{arith}
 use Rattle.word_pool.specs.inside.TwinCrews.{AreTwinsClosed}
 use Rattle.word_pool.proofs.TwinJoins.{count_of_twins}
-use Rattle.word_pool.proofs.TwinLeft.{statements_of_twins, twins_left_whole}
+use Rattle.word_pool.proofs.TwinLeft.{statements_of_twins, twin_counts, twins_fresh, twins_left_whole}
 use Rattle.word_pool.proofs.twin_pool.close.Goals as goal
 use Rattle.word_pool.proofs.twin_pool.close.Goals.{In-Ok-closed_by-2}
 
@@ -29,6 +29,8 @@ closed c = record {
   second = c.in-Ok-closed_by-2.ensures.closed;
   first_whole = c.joined-seats.ensures.first;
   second_whole = c.joined-seats.ensures.second;
+  first_desks = c.joined-seats.ensures.first_desks;
+  second_desks = c.joined-seats.ensures.second_desks;
   idle = c.joined-seats.ensures.idle;
   same = c.joined-seats.ensures.members;
   shares = c.joined-seats.ensures.shares;
@@ -43,3 +45,13 @@ returns-in-Ok-closed_by-2-clause-whole c =
 pub returns-in-Ok-closed_by-2-clause-statements : goal.returns-in-Ok-closed_by-2-clause-statements
 returns-in-Ok-closed_by-2-clause-statements c =
     statements_of_twins _ _ _ _ _ _ (closed c)
+
+-- where no worker has acted, as at the start
+pub returns-in-Ok-closed_by-2-clause-fresh : goal.returns-in-Ok-closed_by-2-clause-fresh
+returns-in-Ok-closed_by-2-clause-fresh c = λ none.
+    let unmoved = c.joined-seats.ensures.unmoved none in
+    twins_fresh _ _ _ _ _ _ (closed c) unmoved.0 unmoved.1
+
+-- no count is above the reference limit
+pub returns-in-Ok-closed_by-2-clause-counts : goal.returns-in-Ok-closed_by-2-clause-counts
+returns-in-Ok-closed_by-2-clause-counts c = twin_counts _ _ _ _ _ _ (closed c)

@@ -1,7 +1,7 @@
 -- Each pair of seats that joins adds its worker's share, which is what the seats have.
 use Rattle.std.proofs.Common.{◌++◌, ◌∷◌, [], length, List, ap, ◌∙◌, arith}
 use Rattle.mbuf.specs.Twins.{TwinMember}
-use Rattle.word_pool.proofs.TwinJoins.{last_twin_joined, next_twin_joined}
+use Rattle.word_pool.proofs.TwinJoins.{last_is_of_both, last_twin_joined, next_twin_joined}
 use Rattle.word_pool.proofs.twin_pool.joined.Goals as goal
 
 -- the last worker's seats have what the worker has, and its share is the only one
@@ -30,6 +30,21 @@ loop-worker-init c =
           );
     }
 
+-- the next worker is one of those who are left, and so of both grounds
+pub both-seats-requires-clause-first_of : goal.both-seats-requires-clause-first_of
+both-seats-requires-clause-first_of c =
+    let parts = c.into_parts-others.ensures.parts in
+    (last_is_of_both c.args.first.now c.args.second.now c.loop-worker.workers.items c.pop-in-loop-worker.new.self.items
+    c.in-Some-pop.worker c.into_parts-others.result.0.first c.into_parts-others.result.0.second
+    c.loop-worker.invariant.joined.each c.in-Some-pop.ensures.items parts.0 parts.1).0
+
+pub both-seats-requires-clause-second_of : goal.both-seats-requires-clause-second_of
+both-seats-requires-clause-second_of c =
+    let parts = c.into_parts-others.ensures.parts in
+    (last_is_of_both c.args.first.now c.args.second.now c.loop-worker.workers.items c.pop-in-loop-worker.new.self.items
+    c.in-Some-pop.worker c.into_parts-others.result.0.first c.into_parts-others.result.0.second
+    c.loop-worker.invariant.joined.each c.in-Some-pop.ensures.items parts.0 parts.1).1
+
 -- so is what the joined seats have, with one share more
 pub loop-worker-preserved : goal.loop-worker-preserved
 loop-worker-preserved c =
@@ -52,3 +67,9 @@ loop-worker-preserved c =
             c.add_share-in-Some-pop.ensures.room,
           );
     }
+
+-- where no worker has acted, none of the seats that were joined has taken a step
+pub returns-clause-unmoved : goal.returns-clause-unmoved
+returns-clause-unmoved c = λ none.
+    let rest = c.loop-worker.invariant.joined.unmoved none in
+    (rest.1, rest.2)

@@ -1,13 +1,15 @@
-use Rattle.std.proofs.Common.{◌≡◌, ◌+◌, ◌*◌, ◌∙◌, IfSome, List, drop, length, sym, ap, subst, arith}
+use Rattle.std.proofs.Common.{◌≡◌, ◌+◌, ◌++◌, ◌*◌, ◌∙◌, IfSome, List, drop, length, sym, ap, subst, arith}
 use Rattle.std.specs.Slots.{slots_items}
 use Rattle.commons.specs.declared.closed.Closed.{Closed}
 use Rattle.commons.specs.declared.limits.Limits.{Limits}
 use Rattle.ground.specs.Layout.{links_at}
 use Rattle.ground.specs.Changing.{IsFresh, closed_at_start}
 use Rattle.ground.specs.Closing.{LeftOf, IsKept}
+use Rattle.ground.specs.Lying.{LieByNotes}
 use Rattle.ground.specs.Rule.{Slot}
 use Rattle.ground.specs.Seats.{Grounded, Seated}
 use Rattle.ground.proofs.Closes.{Closes, closes, small_words}
+use Rattle.step_core.specs.World.{every_part}
 use Rattle.ground.proofs.pool.Ground.close.Goals as goal
 
 -- links fit the words that they are read into
@@ -61,3 +63,10 @@ pub returns-clause-fresh : goal.returns-clause-fresh
 returns-clause-fresh c =
     subst (λ (z : Grounded × Seated). IsFresh z.1.known → closed_by c ≡ closed_at_start z.0.limits)
     (λ i. (c.self.view_is i, c.seat.view_is i)) (left_of c).2
+
+-- where the seat is the only one, its notes tell what lies on the desks
+pub returns-clause-noted : goal.returns-clause-noted
+returns-clause-noted c =
+    subst (λ (z : Grounded × Seated). z.1.known.view.part ≡ every_part z.0.limits →
+    LieByNotes (z.1.known.steps ++ z.1.known.joined) c.new-3.result)
+    (λ i. (c.self.view_is i, c.seat.view_is i)) (left_of c).3

@@ -4,6 +4,7 @@ use Rattle.ground.specs.Opening.{opening_words}
 use Rattle.ground.proofs.Calls.{Keeps}
 use Rattle.ground.proofs.Opens.{opens, length_words, owned_none}
 use Rattle.ground.proofs.pool.Ground.make.Goals as goal
+use Rattle.step_core.specs.World.{every_part}
 
 -- the rule holds of the words at the start
 pub vacant-requires : goal.vacant-requires
@@ -24,4 +25,4 @@ invariant_of-result c =
     let pool : IsPool l = search rules in
     let e = c.in-Ok-vacant.ensures in
     subst Keeps (sym e.4)
-    (owned_none l l.workers pool pool.workers_low (omega arith), refl, λ _. refl)
+    (owned_none l (every_part l) pool (let some = pool.workers_low in omega arith) (omega arith), refl, λ _. refl)

@@ -9,6 +9,7 @@ use Rattle.stack_lf.specs.Tries.{Stopped, Ended, PopFailed, Popped, IsLostCut, e
 use Rattle.stack_lf.proofs.Composing.{lost_once, spent_other}
 use Rattle.stack_lf.proofs.Walks.{cut_tried, cut_wins, walk_ended, may_cut, walked_part}
 use Rattle.stack_lf.proofs.getting.PopAttempt.attempt.Goals as goal
+use Rattle.step_core.specs.World.{every_part}
 
 -- the head was read, and is spent
 pub returns-then-head-ge-SPENT-clause-one : goal.returns-then-head-ge-SPENT-clause-one
@@ -87,4 +88,4 @@ returns-in-Err-clause-alone c = λ whole _.
     let w = c.in-Some.ensures.some in
     let part = walked_part c.load_head-head.result w.0 c.in-Some.next c.args.seat.now
     c.load_head-head.new.seat c.walk.new.seat c.load_head-head.ensures.step w.1 in
-    c.in-Err.ensures.alone (part ∙ (whole ∙ ap (λ (l : Limits). l.workers) c.requires.of.limits))
+    c.in-Err.ensures.alone (part ∙ (whole ∙ ap (λ (l : Limits). every_part l) c.requires.of.limits))

@@ -6,6 +6,7 @@ use Rattle.stack_lf.specs.Tries.{Stopped, Pushed, PushFailed, IsLostPush}
 use Rattle.stack_lf.proofs.Composing.{lost_once, spent_other}
 use Rattle.stack_lf.proofs.Storing.{may_push, push_wins, push_loses, linked_part}
 use Rattle.stack_lf.proofs.putting.PushAttempt.attempt.Goals as goal
+use Rattle.step_core.specs.World.{every_part}
 
 -- the head was read, and is spent
 pub returns-then-head-ge-SPENT-clause-one : goal.returns-then-head-ge-SPENT-clause-one
@@ -54,4 +55,4 @@ returns-in-Err-clause-alone c = λ whole _.
     let part = linked_part c.load_head-head.result c.args.self.list.now c.args.seat.now
     c.load_head-head.new.seat c.store_links-first.new.seat c.requires.may.0
     c.load_head-head.ensures.step c.store_links-first.ensures.stored in
-    c.in-Err.ensures.alone (part ∙ (whole ∙ ap (λ (l : Limits). l.workers) c.requires.of.limits))
+    c.in-Err.ensures.alone (part ∙ (whole ∙ ap (λ (l : Limits). every_part l) c.requires.of.limits))

@@ -1,0 +1,4 @@
+pub mod Spots
+pub mod Guarding
+pub mod Caching
+pub mod Kept

@@ -1,0 +1,5 @@
+pub mod Finding
+pub mod Tokens
+pub mod Outs
+pub mod Crossing
+pub mod Moving

@@ -1,0 +1,4 @@
+pub mod Lent
+pub mod Pools
+pub mod Lending
+pub mod Lenders

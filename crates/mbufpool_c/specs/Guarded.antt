@@ -1,0 +1,82 @@
+-- What C is answered by a worker of a guarded pool.
+use Rattle.std.specs.Prelude.{◌≡◌, ◌+◌, ◌<◌, ◌≤◌, ◌==◌, ℕ, All, List, [], length, take, drop, cond, Option, Some, None, Result, Ok, Err}
+use Rattle.commons.specs.Bag.{bag}
+use Rattle.commons.specs.declared.limits.Limits.{Limits}
+use Rattle.commons.specs.declared.limits.PutRule.TheVariants.{Keep}
+use Rattle.commons.specs.declared.refusal.Refusal.TheVariants.{StrangerShare}
+use Rattle.commons.specs.Refusals.{number_of}
+use Rattle.ground.specs.Parting.{less_part, newcomer}
+use Rattle.guard.specs.Caching.{Cached, CachedGets, CachedPuts}
+use Rattle.guard.specs.Guarding.{with_list}
+use Rattle.guard.specs.declared.cause.Cause.{Cause}
+use Rattle.guard.specs.declared.cause.Cause.TheVariants.{Refused, Unrested}
+use Rattle.mempool.specs.declared.put.Put.{Put}
+use Rattle.step_core.specs.World.{every_part}
+
+-- the limits of a guarded pool
+abbrev pub guard_limits : ℕ → ℕ → ℕ → ℕ → Limits
+guard_limits population cache workers tries = record {
+  population = population;
+  cache = cache;
+  workers = workers;
+  desks = 0;
+  buf = 0;
+  ref_limit = 1;
+  tries = tries;
+  start_count = 0;
+  put_rule = Keep;
+}
+
+-- what no refusal has: of a put of which not each number was out, of a get for nobody, and of a get
+-- whose elements couldn't rest
+abbrev pub not_out : ℕ
+not_out = 26
+
+abbrev pub nobody : ℕ
+nobody = 27
+
+abbrev pub unrested : ℕ
+unrested = 28
+
+-- 0, or the number of the cause
+abbrev pub status_of : Result (Unit {0}) Cause → ℕ
+status_of (Ok _) = 0
+status_of (Err (Refused cause)) = number_of cause
+status_of (Err Unrested) = unrested
+
+-- a new worker: nothing is in its hand or its cache, and it has every part
+pub record IsFirst (l : Limits) (s : Cached) : Type 0 where
+  pub cache : s.cache ≡ record { limits = l; number = 1; cache = [] }
+  pub empty : (i : ℕ) → bag s.seat.known.view.hand i ≡ 0
+  pub part : s.seat.known.view.part ≡ every_part l
+
+-- the worker of the first handle gave a worker's part to a new one, which is in the second
+abbrev pub SplitsGuard : Option Cached → Option Cached → Option Cached → Type 0
+SplitsGuard None new out = ⊥
+SplitsGuard (Some s) new out =
+    (new ≡ Some (record s { seat = record s.seat { known = less_part s.seat.known } }))
+    × ((other : Cached) × (out ≡ Some other) × (other.seat.table ≡ s.seat.table)
+    × (other.seat.known ≡ newcomer s.seat.known))
+
+-- The worker of a handle got elements, or was refused, and C has the status of the answer. Where there
+-- is no worker nothing was done, and C has the number of a stranger.
+abbrev pub GetsGuard : ℕ → List ℕ → Option Cached → ℕ → Option Cached → Type 0
+GetsGuard n xs None status new = (status ≡ number_of StrangerShare) × (new ≡ None)
+GetsGuard n xs (Some s) status new =
+    (answer : Result (Unit {0}) Cause) × (t : Cached) × CachedGets n (with_list answer xs) s t
+    × (new ≡ Some t) × (status ≡ status_of answer)
+
+-- 0 where all were out
+abbrev pub status_of_put : ℕ → ℕ → ℕ
+status_of_put n taken = cond (taken == n) 0 not_out
+
+-- The worker of a handle put as many of a list as were out, which come first in it, and C has the words
+-- that were found, of those at least 2, and of the others less. None of those was in the worker's cache,
+-- nor is one of them twice.
+abbrev pub PutsGuard : List ℕ → List ℕ → ℕ → Option Cached → ℕ → Option Cached → Type 0
+PutsGuard list words taken None status new = (status ≡ number_of StrangerShare) × (new ≡ None) × (taken ≡ 0)
+PutsGuard list words taken (Some s) status new =
+    (answer : Put) × (t : Cached) × CachedPuts (take taken list) answer s t × (new ≡ Some t)
+    × All (λ w. 2 ≤ w) (take taken words) × All (λ w. w < 2) (drop taken words)
+    × ((i : ℕ) → bag s.cache.cache i + bag (take taken list) i ≤ 1)
+    × (status ≡ status_of_put (length list) taken)

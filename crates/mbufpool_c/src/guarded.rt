@@ -1,0 +1,236 @@
+//! A guarded pool for C: what C puts may be any numbers, and each that isn't out is refused.
+
+ghost use Rattle.std.specs.Prelude.{◌≡◌, ◌≢◌, ◌<◌, ◌≤◌, ℕ, None, Some, length, IfOk, IfErr};
+ghost use Rattle.commons.specs.Bag.{bag};
+ghost use Rattle.commons.specs.Refusals.{number_of};
+ghost use Rattle.commons.specs.declared.refusal.Refusal.TheVariants.{NoRoom};
+ghost use Rattle.guard.specs.Caching.{Cached};
+ghost use Rattle.guard.specs.Guarding.{IsMakeCause};
+ghost use Rattle.mbufpool_c.specs.Guarded.{GetsGuard, IsFirst, PutsGuard, SplitsGuard, guard_limits, nobody, status_of as status_in, status_of_put as status_in_put};
+
+use crate::guard_handle::GuardHandle;
+use commons::limits::{Limits, PutRule};
+use commons::refusal::Refusal;
+use guard::cause::Cause;
+use guard::lcore::GuardWorker;
+use std::alloc::Global;
+
+/// The status of a put of which not each number was out.
+pub const NOT_OUT: u32 = 26;
+
+/// The status of a get for nobody: its number is below 2.
+pub const NOBODY: u32 = 27;
+
+/// The status of a get whose elements couldn't rest.
+pub const UNRESTED: u32 = 28;
+
+/// The status of an answer: 0, or the number of its cause.
+#[inline(always)]
+fn status_of(answer: Result<(), Cause>) -> u32
+    ensures { result ≡ status_in answer }
+{
+    match answer {
+        Ok(()) => 0,
+        Err(Cause::Refused(cause)) => cause.number(),
+        Err(Cause::Unrested) => UNRESTED,
+    }
+}
+
+/// The status of a put of a list of which this many were out.
+#[inline(always)]
+fn status_of_put(count: usize, taken: usize) -> u32
+    ensures { result ≡ status_in_put count taken }
+{
+    if taken == count { 0 } else { NOT_OUT }
+}
+
+/// The limits of a guarded pool.
+fn limits_of(population: u32, cache: u32, workers: u32, tries: u32) -> Limits
+    ensures { result ≡ guard_limits population cache workers tries }
+{
+    Limits {
+        population: population as u64,
+        cache: cache as u64,
+        workers: workers as u64,
+        desks: 0,
+        buf: 0,
+        ref_limit: 1,
+        tries: tries as u64,
+        start_count: 0,
+        put_rule: PutRule::Keep,
+    }
+}
+
+/// A guarded pool of these limits, with one worker, of which others are made.
+fn opened(alloc: Global, limits: &Limits) -> Result<Box<GuardWorker>, Refusal>
+    ensures first { IfOk result (λ own. IsFirst limits.now own.value) }
+    ensures cause { IfErr result (IsMakeCause limits.now) }
+{
+    let worker = GuardWorker::open(alloc, limits)?;
+    match Box::new(alloc, worker) {
+        Ok(worker) => Ok(worker),
+        Err(_) => Err(Refusal::OutOfMemory),
+    }
+}
+
+/// Makes a guarded pool of `population` elements for as many as `workers` workers, each with a cache of
+/// `cache`, and its first worker. A worker that was in the handle is lost.
+#[unsafe(no_mangle)]
+pub extern "C" fn mbufpool_guard_open(
+    alloc: Global,
+    population: u32,
+    cache: u32,
+    workers: u32,
+    tries: u32,
+    out: &mut GuardHandle,
+) -> u32
+    ensures opened { result ≡ 0 → (s : Cached) × (out.new.value ≡ Some s)
+        × IsFirst (guard_limits population cache workers tries) s }
+    ensures kept { result ≢ 0 → out.new.value ≡ out.old.value }
+{
+    match opened(alloc, &limits_of(population, cache, workers, tries)) {
+        Ok(worker) => {
+            out.put(worker);
+            0
+        }
+        Err(cause) => cause.number(),
+    }
+}
+
+/// Makes one more worker of the pool, with an empty cache. A worker that was in its handle is lost.
+#[unsafe(no_mangle)]
+pub extern "C" fn mbufpool_guard_split(
+    alloc: Global,
+    worker: &mut GuardHandle,
+    out: &mut GuardHandle,
+) -> u32
+    ensures made { result ≡ 0 → SplitsGuard worker.old.value worker.new.value out.new.value }
+    ensures kept { result ≢ 0 → out.new.value ≡ out.old.value }
+{
+    match worker.take(alloc) {
+        None => Refusal::StrangerShare.number(),
+        Some(mut own) => {
+            let answer = own.split(alloc);
+            worker.put(own);
+            match answer {
+                Ok(other) => hand_out(alloc, other, out),
+                Err(cause) => cause.number(),
+            }
+        }
+    }
+}
+
+/// Puts a worker into a handle, unless memory is refused.
+fn hand_out(alloc: Global, worker: GuardWorker, out: &mut GuardHandle) -> u32
+    ensures made { result ≡ 0 → out.new.value ≡ Some worker }
+    ensures kept { result ≢ 0 → out.new.value ≡ out.old.value }
+{
+    match Box::new(alloc, worker) {
+        Ok(worker) => {
+            out.put(worker);
+            0
+        }
+        Err(_) => Refusal::OutOfMemory.number(),
+    }
+}
+
+/// Gets as many elements as `out` has places: all of them, or none. Each is out then, with the number
+/// `who`, which is 2 at least.
+#[unsafe(no_mangle)]
+pub extern "C" fn mbufpool_guard_get(
+    alloc: Global,
+    worker: &mut GuardHandle,
+    who: u64,
+    out: &mut [u32],
+) -> u32
+    ensures nobody { who < 2 → (result ≡ nobody) × (worker.new.value ≡ worker.old.value) }
+    ensures called { 2 ≤ who → GetsGuard (length out.old) out.new worker.old.value result worker.new.value }
+{
+    if who < 2 {
+        return NOBODY;
+    }
+    match worker.take(alloc) {
+        None => Refusal::StrangerShare.number(),
+        Some(mut own) => {
+            let answer = own.get(who, out);
+            worker.put(own);
+            status_of(answer)
+        }
+    }
+}
+
+/// Puts a list of whatever numbers, as far as they are out, whichever worker got them. Those that were
+/// out come first in the list then: `taken` of them. `words` has of each number of the list, as it
+/// stands then, who got it, or 0 where it wasn't out. Refused `NoRoom` where the two aren't as long.
+#[unsafe(no_mangle)]
+pub extern "C" fn mbufpool_guard_put(
+    alloc: Global,
+    worker: &mut GuardHandle,
+    list: &mut [u32],
+    words: &mut [u64],
+    taken: &mut u64,
+) -> u32
+    ensures list { (i : ℕ) → bag list.new i ≡ bag list.old i }
+    ensures apart { length words.old ≢ length list.old → (result ≡ number_of NoRoom) × (worker.new.value ≡ worker.old.value) × (taken.new ≡ 0) }
+    ensures called { length words.old ≡ length list.old → PutsGuard list.new words.new taken.new worker.old.value result worker.new.value }
+{
+    *taken = 0;
+    if words.len() != list.len() {
+        return Refusal::NoRoom.number();
+    }
+    match worker.take(alloc) {
+        None => Refusal::StrangerShare.number(),
+        Some(mut own) => {
+            let (count, _) = own.put(list, words);
+            worker.put(own);
+            *taken = count as u64;
+            status_of_put(list.len(), count)
+        }
+    }
+}
+
+/// The number that came with an element that is out, or 0: it isn't out, or is none of the pool.
+#[unsafe(no_mangle)]
+pub extern "C" fn mbufpool_guard_who(alloc: Global, worker: &mut GuardHandle, element: u32) -> u64
+    ensures { worker.new.value ≡ worker.old.value }
+{
+    match worker.take(alloc) {
+        None => 0,
+        Some(own) => {
+            let who = own.who(element);
+            worker.put(own);
+            who
+        }
+    }
+}
+
+/// How many elements of the pool are out. Each is looked at once, so what others get and put meanwhile
+/// may count or not.
+#[unsafe(no_mangle)]
+pub extern "C" fn mbufpool_guard_out(alloc: Global, worker: &mut GuardHandle) -> u64
+    ensures { worker.new.value ≡ worker.old.value }
+{
+    match worker.take(alloc) {
+        None => 0,
+        Some(own) => {
+            let count = own.count_out();
+            worker.put(own);
+            count as u64
+        }
+    }
+}
+
+/// Ends a worker, once its cache is on the stack: the handle has none then. Where the stack refuses
+/// the cache, it is lost. The pool is freed with its last worker.
+#[unsafe(no_mangle)]
+pub extern "C" fn mbufpool_guard_end(alloc: Global, worker: &mut GuardHandle)
+    ensures { worker.new.value ≡ None }
+{
+    match worker.take(alloc) {
+        None => {}
+        Some(mut own) => {
+            let _ = own.flush();
+            drop(own);
+        }
+    }
+}
