@@ -23,7 +23,7 @@ use Rattle.ground.specs.Changing.{IsFresh, closed_at_start}
 use Rattle.ground.specs.Lying.{LieByNotes}
 use Rattle.ground.proofs.Lying.{lie_by_notes}
 use Rattle.ground.specs.Closing.{Nothing, LeftOf, IsKept, kept_on, packet_on, lying_on}
-use Rattle.ground.specs.Layout.{pack, unpack, lines, words_with, word_on, rows_of, words_of, length_word, links_at}
+use Rattle.ground.specs.Layout.{pack, unpack, head_word, lines, words_with, word_on, rows_of, words_of, length_word, links_at}
 use Rattle.ground.specs.Rule.{Slot, Ruled, home_by, home_of}
 use Rattle.ground.proofs.Alone.{others_idle}
 use Rattle.ground.proofs.Playing.{unpack_pack}
@@ -271,7 +271,7 @@ Closes l v n c =
 -- what is left, by the words that were read
 pub closes : (key l : Limits) → key ≡ l → (v : View) (id : ℕ) (n : Known) → n.view ≡ v →
     (ws : List ℕ) (slots : List Slot) → Final (Seen (Ruled key) id n) ws slots →
-    (word : ℕ) (head : Head) (len : ℕ) (links counts : List ℕ) → get_elem? ws 0 ≡ some word →
+    (word : ℕ) (head : Head) (len : ℕ) (links counts : List ℕ) → get_elem? ws head_word ≡ some word →
     head ≡ unpack word → get_elem? ws length_word ≡ some len → links ≡ take l.population (drop links_at ws) →
     counts ≡ take l.population (drop (links_at + l.population) ws) → (desks : List Slot) →
     length desks ≡ l.desks → IsKept (drop (links_at + 2 * l.population) ws) slots desks → 0 < n.view.part →
@@ -289,7 +289,7 @@ closes
     let as_many : length desks ≡ length w.desks =
     size ∙ sym (r.desks.count ∙ ap (λ (k : Limits). k.desks) r.limits) in
     let word_is : word ≡ pack w.head =
-    some-injective word (pack w.head) (sym at_head ∙ ap (λ (xs : List ℕ). get_elem? xs 0) words) in
+    some-injective word (pack w.head) (sym at_head ∙ ap (λ (xs : List ℕ). get_elem? xs head_word) words) in
     let read : head ≡ w.head = head_is ∙ (ap unpack word_is ∙ unpack_pack w.head (omega arith)) in
     let c : Closed = record { top = head.top; length = len; links = links; counts = counts; desks = desks } in
     let left : LeftOf l v c = record {

@@ -23,3 +23,4 @@ pub mod DeskSteps
 pub mod Operations
 pub mod Phasing
 pub mod Calls
+pub mod Lasts

@@ -29,7 +29,7 @@ use Rattle.step_core.proofs.HeaderWalks.{keeps_headers}
 use Rattle.ground.specs.declared.known.Known.{Known}
 use Rattle.ground.specs.Changing.{changes_by, IsUnmoved}
 use Rattle.ground.specs.Closing.{lying_on}
-use Rattle.ground.specs.Layout.{pack, unpack, lines, word_on, rows_of, words_of, length_word, links_at, link_word, element_linked_at}
+use Rattle.ground.specs.Layout.{pack, unpack, head_word, lines, word_on, rows_of, words_of, length_word, links_at, link_word, element_linked_at}
 use Rattle.ground.specs.Operations.{Sits}
 use Rattle.ground.specs.Own.{Owned, AtDesk}
 use Rattle.ground.specs.Rule.{Slot, Sat, Ruled, SeesDesks, view_in, home_of}
@@ -262,10 +262,10 @@ module _ (l : Limits) (s : St) (r : Ruled l s) (id : ℕ) (me : Sat) (at : get_e
   pub read_length : slice_index s.words length_word ≡ r.world.length
   read_length = read_at length_word
 
-  pub read_head : slice_index s.words 0 ≡ pack r.world.head
-  read_head = read_at 0
+  pub read_head : slice_index s.words head_word ≡ pack r.world.head
+  read_head = read_at head_word
 
-  pub head_is : unpack (slice_index s.words 0) ≡ r.world.head
+  pub head_is : unpack (slice_index s.words head_word) ≡ r.world.head
   head_is =
       let top = r.stack.top in
       let small = r.pool.population in

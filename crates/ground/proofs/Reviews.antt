@@ -140,7 +140,7 @@ abbrev pub cut_views : List View → ℕ → ℕ → List ℕ → ℕ → List �
 cut_views views k part hand given handed =
     set views k (keeping (view_at views k) part hand) ++ having given handed ∷ []
 
--- both have worker_part, and together what the one had
+-- both have a part, and together what the one had
 record IsCut (v : View) (part : ℕ) (hand : List ℕ) (given : ℕ) (handed : List ℕ) : Type 0 where
   some : 0 < part
   any : 0 < given

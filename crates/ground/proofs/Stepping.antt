@@ -31,7 +31,7 @@ use Rattle.step_core.specs.Table.{Get, Put}
 use Rattle.step_core.proofs.StackSteps.{one_view}
 use Rattle.step_core.proofs.Telling.{length_is_bounded, lost_is_later_law}
 use Rattle.ground.specs.declared.known.Known.{Known}
-use Rattle.ground.specs.Layout.{pack, unpack, lines, rows_of, words_of, length_word, link_word, element_linked_at}
+use Rattle.ground.specs.Layout.{pack, unpack, head_word, lines, rows_of, words_of, length_word, link_word, element_linked_at}
 use Rattle.ground.specs.Own.{Owned}
 use Rattle.ground.specs.Rule.{Slot, Sat, Ruled}
 use Rattle.ground.specs.Seats.{KnowsLength, KnowsEnd, front_of, count_of, element_of}
@@ -159,7 +159,7 @@ adds l slots id me n some_of within busy s r _ at _ =
 
 module _ (l : Limits) (s : St) (r : Ruled l s) (id : ℕ) (me : Sat) (at : get_elem? s.views id ≡ some me.0) (busy : Sits me) where
   -- the head's word may be written as it was found
-  head_kept : set (words_of r.world) 0 (slice_index s.words 0) ≡ words_of r.world
+  head_kept : set (words_of r.world) head_word (slice_index s.words head_word) ≡ words_of r.world
   head_kept =
       ap (λ (n : ℕ). lines n r.world.length ++ rows_of r.world)
       (read_head l s r id me at busy)
@@ -170,9 +170,9 @@ module _ (l : Limits) (s : St) (r : Ruled l s) (id : ℕ) (me : Sat) (at : get_e
       ∙ sym (ap (λ (k : Limits). k.population) r.limits)
 
   -- the top that was read is one of the pool's
-  top_read : low_in (slice_index s.words 0) ≤ me.0.limits.population
+  top_read : low_in (slice_index s.words head_word) ≤ me.0.limits.population
   top_read =
-      let same : low_in (slice_index s.words 0) ≡ r.world.head.top =
+      let same : low_in (slice_index s.words head_word) ≡ r.world.head.top =
       ap (λ (h : Head). h.top) (head_is l s r id me at busy) in
       let top = r.stack.top in
       let mine = my_population in
@@ -192,10 +192,10 @@ module _ (l : Limits) (s : St) (r : Ruled l s) (id : ℕ) (me : Sat) (at : get_e
       (limits_after l s r id me at busy st o u e) id there.0 (view_after None st o me.0.view) there.1)
 
 pub loads_head : (l : Limits) (slots id : ℕ) (me : Sat) → Sits me →
-    Moves l slots id me 0 (λ n. n) (LoadHead ∷ []) (λ x. HeadIs (unpack x) ∷ [])
-    (loaded_head (step slots 0 0 0 none) me)
+    Moves l slots id me head_word (λ n. n) (LoadHead ∷ []) (λ x. HeadIs (unpack x) ∷ [])
+    (loaded_head (step slots head_word 0 0 none) me)
 loads_head l slots id me busy s r _ at _ =
-    let x : ℕ = slice_index s.words 0 in
+    let x : ℕ = slice_index s.words head_word in
     let w = r.world in
     let v = me.0.view in
     let found = head_is l s r id me at busy in
@@ -203,7 +203,7 @@ loads_head l slots id me busy s r _ at _ =
     let played : play w (suc id) LoadHead ≡ Some (HeadIs (unpack x), u) =
     row_played w id v LoadHead (load_head w id v) (here l s r id me at busy) (is_view l s r id me at busy) refl refl
     ∙ ap (λ (h : Head). Some (HeadIs h, knows w id (looking_at v h))) (sym found) in
-    let done = steps l s r id me at busy 0 x LoadHead (HeadIs (unpack x)) u tt played
+    let done = steps l s r id me at busy head_word x LoadHead (HeadIs (unpack x)) u tt played
     (head_kept l s r id me at busy) refl refl refl (refl, refl, refl) in
     let seen : (view_at w.views id).seen ≤ w.head.count = r.stack.looks.seen id in
     let mine : v.seen ≤ w.head.count = subst (λ (y : View). y.seen ≤ w.head.count) (is_view l s r id me at busy) seen in (
@@ -366,17 +366,17 @@ module _ (l : Limits) (s : St) (r : Ruled l s) (id : ℕ) (me : Sat) (at : get_e
       omega arith
 
   -- an exchange that found what was read found the head of the look
-  head_found : slice_index s.words 0 ≡ pack k.head → r.world.head ≡ k.head
+  head_found : slice_index s.words head_word ≡ pack k.head → r.world.head ≡ k.head
   head_found hit =
       let small = r.pool.population in
       let top = look_top in
       sym (head_is l s r id me at busy) ∙ (ap unpack hit ∙ unpack_pack k.head (omega arith))
 
   -- the head that was found has one change less than the one that is written
-  raised : slice_index s.words 0 ≡ pack k.head → k.head.count + 1 ≡ r.world.head.count + 1
+  raised : slice_index s.words head_word ≡ pack k.head → k.head.count + 1 ≡ r.world.head.count + 1
   raised hit = ap (λ (h : Head). h.count + 1) (sym (head_found hit))
 
-  found_same : slice_index s.words 0 ≡ pack k.head → same_head r.world.head k.head ≡ true
+  found_same : slice_index s.words head_word ≡ pack k.head → same_head r.world.head k.head ≡ true
   found_same hit =
       let same = head_found hit in
       and_from (r.world.head.top == k.head.top) (r.world.head.count == k.head.count)
@@ -384,10 +384,10 @@ module _ (l : Limits) (s : St) (r : Ruled l s) (id : ℕ) (me : Sat) (at : get_e
       (eq-eqb r.world.head.count k.head.count (ap (λ (h : Head). h.count) same))
 
   -- an exchange that lost found another head than the look's
-  head_other : (slice_index s.words 0 ≡ pack k.head → ⊥) → r.world.head ≡ k.head → ⊥
+  head_other : (slice_index s.words head_word ≡ pack k.head → ⊥) → r.world.head ≡ k.head → ⊥
   head_other miss same = miss (read_head l s r id me at busy ∙ ap pack same)
 
-  found_other : (slice_index s.words 0 ≡ pack k.head → ⊥) → same_head r.world.head k.head ≡ false
+  found_other : (slice_index s.words head_word ≡ pack k.head → ⊥) → same_head r.world.head k.head ≡ false
   found_other miss =
       false_from_ne_true (same_head r.world.head k.head) (λ e.
       let both = and_parts (r.world.head.top == k.head.top) (r.world.head.count == k.head.count) e in
@@ -396,15 +396,15 @@ module _ (l : Limits) (s : St) (r : Ruled l s) (id : ℕ) (me : Sat) (at : get_e
       head_other miss (λ i. record { top = top i; count = count i }))
 
   -- an exchange that lost found a later head than the look's
-  found_later : (slice_index s.words 0 ≡ pack k.head → ⊥) →
-      k.head.count < (unpack (slice_index s.words 0)).count
+  found_later : (slice_index s.words head_word ≡ pack k.head → ⊥) →
+      k.head.count < (unpack (slice_index s.words head_word)).count
   found_later miss =
       subst (λ (h : Head). k.head.count < h.count) (sym (head_is l s r id me at busy))
       (lost_is_later_law r.world (suc id) k (law l s r id me at busy) (busy_here l s r id me at busy)
       my_look (head_other miss))
 
   -- an exchange loses to another seat, so its own isn't the only one
-  not_alone : (slice_index s.words 0 ≡ pack k.head → ⊥) → me.0.view.part ≢ every_part me.0.limits
+  not_alone : (slice_index s.words head_word ≡ pack k.head → ⊥) → me.0.view.part ≢ every_part me.0.limits
   not_alone miss all =
       let rule =
       there (view_at r.world.views id).look k
@@ -420,7 +420,7 @@ module _ (l : Limits) (s : St) (r : Ruled l s) (id : ℕ) (me : Sat) (at : get_e
       absurd (omega arith)
 
   -- what an exchange that lost answers
-  is_later : (slice_index s.words 0 ≡ pack k.head → ⊥) → IsLater false me.0 (slice_index s.words 0)
+  is_later : (slice_index s.words head_word ≡ pack k.head → ⊥) → IsLater false me.0 (slice_index s.words head_word)
   is_later miss =
       let top = top_read l s r id me at busy in
       let small = r.pool.population in
@@ -428,15 +428,15 @@ module _ (l : Limits) (s : St) (r : Ruled l s) (id : ℕ) (me : Sat) (at : get_e
       let pop = ap (λ (z : Limits). z.population) r.limits in
       let seen : count_of me.0.view.look ≡ k.head.count = ap count_of mine in (
         omega arith,
-        subst (λ (n : ℕ). n < (unpack (slice_index s.words 0)).count) (sym seen) (found_later miss),
+        subst (λ (n : ℕ). n < (unpack (slice_index s.words head_word)).count) (sym seen) (found_later miss),
       )
 
 pub cuts : (l : Limits) (slots id : ℕ) (me : Sat) (head : Head) (next old new : ℕ) → old ≡ pack head →
     new ≡ pack (next_head next head.count) → MayCut me.0.view head next → Sits me →
-    Moves l slots id me 0 (λ x. either (eqb x old) new x) (Cut ∷ [])
-    (λ x. cut_found (eqb x old) (front_of me.0.view.look) x ∷ []) (cut_answers (step slots 0 old new none) me)
+    Moves l slots id me head_word (λ x. either (eqb x old) new x) (Cut ∷ [])
+    (λ x. cut_found (eqb x old) (front_of me.0.view.look) x ∷ []) (cut_answers (step slots head_word old new none) me)
 cuts l slots id me head next old new was becomes may busy s r _ at _ =
-    let x : ℕ = slice_index s.words 0 in
+    let x : ℕ = slice_index s.words head_word in
     let w = r.world in
     let v = me.0.view in
     let k : Look = may.0 in
@@ -449,7 +449,7 @@ cuts l slots id me head next old new was becomes may busy s r _ at _ =
     let is_front : front ≡ k.front = ap front_of mine in
     let G : Bool → Type 0 = λ b.
     (u : Known) × (a : Act Slot) × Valid s.homes me.1 a
-    × ((after : Ruled l (stepped s 0 (either b new x) id me.1 u a))
+    × ((after : Ruled l (stepped s head_word (either b new x) id me.1 u a))
     × Reaches w ((suc id, Cut) ∷ []) (cut_found b front x ∷ []) after.world)
     × (Noted Cut (cut_found b front x) me (u, carried_after me.1 a) × IsLater b me.0 x × IsShared b me.0) in
     let asked : (p : Play) → cut w id v k ≡ p → play w (suc id) Cut ≡ Some (p.outcome, p.after) = λ p e.
@@ -470,9 +470,9 @@ cuts l slots id me head next old new was becomes may busy s r _ at _ =
     asked won e ∙ ap (λ (xs : List ℕ). Some (Got xs, u)) (sym is_front) in
     let work : (view_after None Cut (Got front) v).work ≡ v.work =
     ap (λ (o : Option Look). (cut_look v o).work) mine in
-    let words : set (words_of w) 0 new ≡ words_of u =
+    let words : set (words_of w) head_word new ≡ words_of u =
     ap (λ (n : ℕ). lines n w.length ++ rows_of w) written in
-    let done = steps_by l s r id me at busy 0 new Cut (Got front) u tt played words refl refl work
+    let done = steps_by l s r id me at busy head_word new Cut (Got front) u tt played words refl refl work
     (raised l s r id me at busy k mine (hit ∙ expected)) refl in
     subst G (sym (eq-eqb x old hit))
     ((noted Cut (Got front) me).0, keeps, tt, (done.0.0, (u, played, done.0.1)), (done.1, tt, tt)))
@@ -490,7 +490,7 @@ cuts l slots id me head next old new was becomes may busy s r _ at _ =
     let u : World = knows w id (lost_look v (unpack x).count) in
     let played : play w (suc id) Cut ≡ Some (LostTo (unpack x), u) =
     asked lost e ∙ ap (λ (h : Head). Some (LostTo h, knows w id (lost_look v h.count))) (sym found) in
-    let done = steps l s r id me at busy 0 x Cut (LostTo (unpack x)) u tt played
+    let done = steps l s r id me at busy head_word x Cut (LostTo (unpack x)) u tt played
     (head_kept l s r id me at busy) refl refl refl (refl, refl, refl) in
     subst G (sym (ne_eqb x old miss)) (
       (noted Cut (LostTo (unpack x)) me).0,
@@ -502,10 +502,10 @@ cuts l slots id me head next old new was becomes may busy s r _ at _ =
 
 pub pushes : (l : Limits) (slots id : ℕ) (me : Sat) (head : Head) (first old new : ℕ) → old ≡ pack head →
     new ≡ pack (next_head first head.count) → MayPush me.0.view head first → Sits me →
-    Moves l slots id me 0 (λ x. either (eqb x old) new x) (Push ∷ []) (λ x. push_found (eqb x old) x ∷ [])
-    (push_answers (step slots 0 old new none) me)
+    Moves l slots id me head_word (λ x. either (eqb x old) new x) (Push ∷ []) (λ x. push_found (eqb x old) x ∷ [])
+    (push_answers (step slots head_word old new none) me)
 pushes l slots id me head first old new was becomes may busy s r _ at _ =
-    let x : ℕ = slice_index s.words 0 in
+    let x : ℕ = slice_index s.words head_word in
     let w = r.world in
     let v = me.0.view in
     let k : Look = may.0 in
@@ -518,7 +518,7 @@ pushes l slots id me head first old new was becomes may busy s r _ at _ =
     becomes ∙ (λ i. pack (next_head (sym may.6 i) (sym may.5 i).count)) in
     let G : Bool → Type 0 = λ b.
     (u : Known) × (a : Act Slot) × Valid s.homes me.1 a
-    × ((after : Ruled l (stepped s 0 (either b new x) id me.1 u a))
+    × ((after : Ruled l (stepped s head_word (either b new x) id me.1 u a))
     × Reaches w ((suc id, Push) ∷ []) (push_found b x ∷ []) after.world)
     × (Noted Push (push_found b x) me (u, carried_after me.1 a) × IsLater b me.0 x × IsShared b me.0) in
     let asked : (p : Play) → push w id v k c ≡ p → play w (suc id) Push ≡ Some (p.outcome, p.after) = λ p e.
@@ -539,9 +539,9 @@ pushes l slots id me head first old new was becomes may busy s r _ at _ =
     let same : push_view v c (k.head.count + 1) ≡ view_after None Push Won v =
     (λ i. push_chain_of v (sym mine i) (sym chain i)) in
     let work : (view_after None Push Won v).work ≡ v.work = ap (λ (u : View). u.work) (sym same) in
-    let words : set (words_of w) 0 new ≡ words_of after =
+    let words : set (words_of w) head_word new ≡ words_of after =
     ap (λ (n : ℕ). lines n w.length ++ rows_of w) written in
-    let done = steps_by l s r id me at busy 0 new Push Won after tt (asked won e) words refl refl work
+    let done = steps_by l s r id me at busy head_word new Push Won after tt (asked won e) words refl refl work
     (raised l s r id me at busy k mine (hit ∙ expected)) refl in
     subst G (sym (eq-eqb x old hit))
     ((noted Push Won me).0, keeps, tt, (done.0.0, (after, asked won e, done.0.1)), (done.1, tt, tt)))
@@ -553,7 +553,7 @@ pushes l slots id me head first old new was becomes may busy s r _ at _ =
     let u : World = knows w id (lost_push v (unpack x).count) in
     let played : play w (suc id) Push ≡ Some (LostTo (unpack x), u) =
     asked lost e ∙ ap (λ (h : Head). Some (LostTo h, knows w id (lost_push v h.count))) (sym found) in
-    let done = steps l s r id me at busy 0 x Push (LostTo (unpack x)) u tt played
+    let done = steps l s r id me at busy head_word x Push (LostTo (unpack x)) u tt played
     (head_kept l s r id me at busy) refl refl refl (refl, refl, refl) in
     subst G (sym (ne_eqb x old miss)) (
       (noted Push (LostTo (unpack x)) me).0,

@@ -1,7 +1,8 @@
 -- Where each word of a pool stands. Every get and put of every worker exchanges the head and the
 -- length. So each of the two has a cache line for itself, and the links and counts begin after
 -- both: an exchange of the one takes away neither the other nor an element's words from a worker
--- that reads them.
+-- that reads them. Before both stands a cache line that nobody ever writes: where a seat is cut in
+-- two or two are made one, the first word of the table is loaded, which no exchange takes away.
 use Rattle.std.specs.Prelude.{ℕ, ◌+◌, ◌-◌, ◌*◌, List, ◌∷◌, ◌++◌, map, replicate}
 use Rattle.head_word.specs.Heads.{low_in, count_in, word_with}
 use Rattle.step_core.specs.declared.view.Head.{Head}
@@ -19,20 +20,28 @@ unpack n = record { top = low_in n; count = count_in n }
 abbrev pub line_words : ℕ
 line_words = 8
 
--- where the length stands, and where the links begin; the head stands at 0
+-- where the word stands that nobody writes, and is always 0; where the head and the length stand;
+-- and where the links begin
+abbrev pub quiet_word : ℕ
+quiet_word = 0
+
+abbrev pub head_word : ℕ
+head_word = line_words
+
 abbrev pub length_word : ℕ
-length_word = line_words
+length_word = 2 * line_words
 
 abbrev pub links_at : ℕ
-links_at = 2 * line_words
+links_at = 3 * line_words
 
 -- a word with a cache line for itself
 abbrev pub line_of : ℕ → List ℕ
 line_of word = word ∷ replicate (line_words - 1) 0
 
--- the words before the links: the cache line of the head and that of the length
+-- the words before the links: the cache line that nobody writes, that of the head and that of the
+-- length
 abbrev pub lines : ℕ → ℕ → List ℕ
-lines head length = line_of head ++ line_of length
+lines head length = line_of 0 ++ (line_of head ++ line_of length)
 
 -- the words of a table: these cache lines, then a link for each element, a count for each, and a
 -- word for each desk

@@ -22,7 +22,7 @@ use Rattle.step_core.specs.declared.view.Head.{Head}
 use Rattle.step_core.specs.declared.view.Phase.TheVariants.{ToFill, Seized}
 use Rattle.ground.specs.declared.known.Known.{Known}
 use Rattle.ground.specs.DeskAnswers.{hold_answers, open_answers, seize_answers, clear_answers}
-use Rattle.ground.specs.Layout.{pack, unpack, length_word, link_word, count_word, desk_word}
+use Rattle.ground.specs.Layout.{pack, unpack, head_word, length_word, link_word, count_word, desk_word}
 use Rattle.ground.specs.Own.{Owned, AtDesk, KnowsDesks}
 use Rattle.ground.specs.Rule.{Slot, Sat, Ruled}
 use Rattle.ground.specs.Seats.{element_of, front_of}
@@ -65,24 +65,24 @@ pub record OperationsAreSteps : Type 0 where
       Moves l slots id me length_word (λ x. (x + n) % 2 ^ 64) (Add n ∷ []) (λ _. Done ∷ [])
       (added (step slots length_word n 0 none) me)
   pub load_head : (l : Limits) (slots id : ℕ) (me : Sat) → Sits me →
-      Moves l slots id me 0 (λ n. n) (LoadHead ∷ []) (λ x. HeadIs (unpack x) ∷ [])
-      (loaded_head (step slots 0 0 0 none) me)
+      Moves l slots id me head_word (λ n. n) (LoadHead ∷ []) (λ x. HeadIs (unpack x) ∷ [])
+      (loaded_head (step slots head_word 0 0 none) me)
   pub load_link : (l : Limits) (slots id : ℕ) (me : Sat) (i k : ℕ) → k ≡ link_word i →
       walks_to me.0.view.look i ≡ true → Sits me → Owned me.0.limits me.0.view →
       Moves l slots id me k (λ n. n) (LoadLink i ∷ []) (λ x. Value x ∷ [])
       (loaded_link (step slots k 0 0 none) me)
   pub cut : (l : Limits) (slots id : ℕ) (me : Sat) (head : Head) (next old new : ℕ) → old ≡ pack head →
       new ≡ pack (next_head next head.count) → MayCut me.0.view head next → Sits me →
-      Moves l slots id me 0 (λ x. either (x == old) new x) (Cut ∷ [])
-      (λ x. cut_found (x == old) (front_of me.0.view.look) x ∷ []) (cut_answers (step slots 0 old new none) me)
+      Moves l slots id me head_word (λ x. either (x == old) new x) (Cut ∷ [])
+      (λ x. cut_found (x == old) (front_of me.0.view.look) x ∷ []) (cut_answers (step slots head_word old new none) me)
   pub store_link : (l : Limits) (slots id : ℕ) (me : Sat) (i k x : ℕ) → k ≡ link_word i →
       0 < bag me.0.view.hand i → x ≤ l.population → Sits me → Owned me.0.limits me.0.view →
       Moves l slots id me k (λ _. x) (StoreLink i (element_of x) ∷ []) (λ _. Done ∷ [])
       (λ _. stored_link (step slots k x 0 none) me x)
   pub push : (l : Limits) (slots id : ℕ) (me : Sat) (head : Head) (first old new : ℕ) → old ≡ pack head →
       new ≡ pack (next_head first head.count) → MayPush me.0.view head first → Sits me →
-      Moves l slots id me 0 (λ x. either (x == old) new x) (Push ∷ []) (λ x. push_found (x == old) x ∷ [])
-      (push_answers (step slots 0 old new none) me)
+      Moves l slots id me head_word (λ x. either (x == old) new x) (Push ∷ []) (λ x. push_found (x == old) x ∷ [])
+      (push_answers (step slots head_word old new none) me)
   pub claim : (l : Limits) (slots id : ℕ) (me : Sat) (i k : ℕ) → k ≡ count_word l.population i →
       i < l.population → 0 < bag me.0.view.hand i → Sits me →
       Moves l slots id me k (λ n. n) (Claim i ∷ []) (λ x. Value x ∷ []) (claim_answers (step slots k 0 0 none) me)

@@ -56,3 +56,9 @@ pub record AtRest (v : View) : Type 0 where
   pub credit : v.credit ≡ 0
   pub chain : v.chain ≡ None
   pub work : v.work ≡ None
+
+-- a seat that is taking others in: it has a part, is between calls, and no slot is out with it
+pub record IsGathering (n : Known) (out : List (ℕ × Option (List Seg))) : Type 0 where
+  pub busy : 0 < n.view.part
+  pub rest : AtRest n.view
+  pub slots : out ≡ []

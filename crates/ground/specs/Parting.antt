@@ -59,6 +59,19 @@ left_by_loan n = left_by_lending n.loan n
 abbrev pub lent_loan : Known → Known
 lent_loan n = lent_part n.loan n
 
+-- the last of a list
+abbrev pub last_element : List ℕ → ℕ
+last_element [] = 0
+last_element (x ∷ []) = x
+last_element (x ∷ y ∷ ys) = last_element (y ∷ ys)
+
+-- so of the element that stands last in the hand
+abbrev pub left_by_last : Known → Known
+left_by_last n = left_by_lending (last_element n.view.hand) n
+
+abbrev pub lent_last : Known → Known
+lent_last n = lent_part (last_element n.view.hand) n
+
 -- what two views at rest name, with the parts of both
 abbrev pub both_views : View → View → View
 both_views v u = record {
@@ -94,6 +107,11 @@ AreBoth m o m' = (lying : Option (List (Option (List Seg)))) × (m' ≡ (both_wi
 abbrev pub IsBoth : Seated → Known → Seated → Type 0
 IsBoth s o t =
     (lying : Option (List (Option (List Seg)))) × (t ≡ record s { known = both_with s.known o lying })
+
+-- the seat is the one that has taken others in, with what lies on the desks as it is read then
+abbrev pub IsGathered : Seated → Seated → Type 0
+IsGathered g t =
+    (lying : Option (List (Option (List Seg)))) × (t ≡ record g { known = record g.known { lying = lying } })
 
 -- what the second of two seats knows, once it is joined to the first
 abbrev pub spent_seat : Known

@@ -17,6 +17,6 @@ pub struct Known {
     pub lying: Option<LinkedList<Option<Packet>>>,
     /// The steps of the seats that were joined to it.
     pub joined: LinkedList<(Step, Outcome)>,
-    /// The element that it lends, or lent last: `Ground::lend` alone writes and reads it.
+    /// The element that it lends, or lent last, of which `Ground::lend` makes use.
     pub loan: u32,
 }

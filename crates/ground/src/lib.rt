@@ -5,6 +5,7 @@
 
 mod counts;
 mod desks;
+pub mod gathering;
 mod head;
 pub mod known;
 pub mod laws;

@@ -1,7 +1,7 @@
 //! The life of a ground: it is made with one seat, seats are split and joined, and it is closed
 //! with one.
 
-ghost use Rattle.std.specs.Prelude.{◌≡◌, ◌*◌, ◌<◌, ◌≤◌, ◌++◌, [], IfOk, IfErr, IfSome};
+ghost use Rattle.std.specs.Prelude.{◌≡◌, ◌*◌, ◌<◌, ◌≤◌, ◌++◌, [], IfOk, IfErr, IfSome, length};
 ghost use Rattle.commons.specs.Bag.{bag};
 ghost use Rattle.commons.specs.Bounds.{IsPool};
 ghost use Rattle.ground.specs.Changing.{IsFresh, closed_at_start};
@@ -9,19 +9,19 @@ ghost use Rattle.ground.specs.Closing.{LeftOf};
 ghost use Rattle.ground.specs.Lying.{LieByNotes};
 ghost use Rattle.ground.specs.Opening.{IsGroundCause};
 ghost use Rattle.ground.specs.Own.{Owned, AtRest, KnowsDesks};
-ghost use Rattle.ground.specs.Parting.{less_part, newcomer, left_by_lending, lent_part, IsBoth, AreBoth};
+ghost use Rattle.ground.specs.Parting.{less_part, newcomer, left_by_lending, lent_part, left_by_last, lent_last, IsBoth, AreBoth};
 ghost use Rattle.ground.specs.Rule.{first_known};
 ghost use Rattle.ground.specs.Seats.{IsOf};
 ghost use Rattle.step_core.specs.World.{every_part, worker_part};
 
 use crate::head::head_of;
 use crate::known::Known;
-use crate::plays::{Chooses, Lends, Looks, Parts};
+use crate::plays::{Chooses, Lends, LendsLast, Looks, Parts};
 use crate::pool::Ground;
 use crate::rows::{opening_words, read_desks, read_row};
 use crate::rule::PoolRule;
 use crate::seat::GroundSeat;
-use crate::stack::{HEAD, LENGTH, LINKS, link_word};
+use crate::stack::{HEAD, LENGTH, LINKS, QUIET, link_word};
 use atomic_table::{Seat, Shared, Table};
 use commons::closed::Closed;
 use commons::limits::Limits;
@@ -104,6 +104,23 @@ impl Ground {
         GroundSeat { seat }
     }
 
+    /// Lends the element that stands last in the hand of a seat that is between calls, as `lend` does.
+    /// What comes into a hand stands behind what was there. So a list that was got is lent from its
+    /// end, and no word has to say which element it is.
+    pub fn lend_last(&self, seat: &mut GroundSeat) -> GroundSeat
+        requires of { IsOf self.now seat.old }
+        requires rest { AtRest seat.old.known.view }
+        requires hand { 0 < length seat.old.known.view.hand }
+        requires part { 2 ≤ seat.old.known.view.part }
+        ensures old { seat.new ≡ record seat.old { known = left_by_last seat.old.known } }
+        ensures of { IsOf self.now result }
+        ensures known { result.known ≡ lent_last seat.old.known }
+        ensures slots { result.slots ≡ [] }
+    {
+        let seat = self.table.shared.split_seat::<LendsLast>(&mut seat.seat);
+        GroundSeat { seat }
+    }
+
     /// Makes one seat of two that are between calls: it has the elements, holds, headers and parts
     /// of both, the later of the two counts that they saw of the head, and its own steps. What it
     /// had read of the common list is forgotten. Where it is the only seat of the pool now, it
@@ -175,7 +192,7 @@ impl Ground {
     }
 }
 
-/// Makes one seat of two, and then reads a word, whatever it is: a view changes only at a step,
+/// Makes one seat of two, and then reads the word that nobody writes: a view changes only at a step,
 /// and the step tells what the rule says of the seat that came of both.
 fn merge(
     shared: &Shared<Option<Packet>, Known, Limits, PoolRule>,
@@ -195,5 +212,5 @@ fn merge(
     ensures desks { KnowsDesks seat.new.me.0 }
 {
     shared.join_seat::<Parts>(seat, other);
-    shared.load::<Looks>(seat, HEAD);
+    shared.load::<Looks>(seat, QUIET);
 }

@@ -96,6 +96,16 @@ impl Split<Known> for Lends {
     ghost right = { lent_loan };
 }
 
+pub(crate) struct LendsLast;
+
+impl Split<Known> for LendsLast {
+    ghost use Rattle.ground.specs.Parting.{left_by_last, lent_last};
+
+    ghost left = { left_by_last };
+
+    ghost right = { lent_last };
+}
+
 impl Join<Known> for Parts {
     ghost use Rattle.ground.specs.Parting.{both, spent_seat};
 

@@ -16,8 +16,8 @@ use commons::packet::Packet;
 use std::alloc::{AllocError, Global};
 use step_core::view::Head;
 
-/// The words at the start: the head and the length on a cache line each, then a link for each
-/// element, to the next, and a count of 1, and a word of 0 for each desk.
+/// The words at the start: a cache line that nobody writes, the head and the length on one each,
+/// then a link for each element, to the next, and a count of 1, and a word of 0 for each desk.
 pub(crate) fn opening_words(alloc: Global, limits: &Limits) -> Result<Vec<u64>, AllocError>
     requires { IsPool limits.now }
     ensures { IfOk result (λ v. v.items ≡ opening_words limits.now) }
@@ -26,6 +26,7 @@ pub(crate) fn opening_words(alloc: Global, limits: &Limits) -> Result<Vec<u64>, 
         alloc,
         LINKS + 2 * limits.population as usize + limits.desks as usize,
     )?;
+    push_many(&mut words, 0, LINE_WORDS as u64)?;
     words.push(word_of(Head {
         top: 1,
         count: limits.start_count,

@@ -21,12 +21,15 @@ use step_core::view::Head;
 /// How many words a cache line of 64 bytes has.
 pub(crate) const LINE_WORDS: usize = 8;
 
-/// Where the words stand: the head and the length each on a cache line, then the links.
-pub(crate) const HEAD: usize = 0;
+/// Where the words stand: on a cache line each the word that nobody writes, the head and the
+/// length, then the links.
+pub(crate) const QUIET: usize = 0;
 
-pub(crate) const LENGTH: usize = LINE_WORDS;
+pub(crate) const HEAD: usize = LINE_WORDS;
 
-pub(crate) const LINKS: usize = 2 * LINE_WORDS;
+pub(crate) const LENGTH: usize = 2 * LINE_WORDS;
+
+pub(crate) const LINKS: usize = 3 * LINE_WORDS;
 
 /// Where the link of an element stands: after these cache lines.
 pub(crate) fn link_word(element: u32) -> usize

@@ -134,13 +134,13 @@ pub offer_did : (d : ℕ) (p : List Seg) (r : Result (Unit {0}) Refusal) (s t : 
     Did DidOnWords side_of s (Offer d p r) t
 offer_did d p (Ok m) s t held own g =
     doing s (Offer d p (Ok m)) t (Offered d p ∷ []) (offered_as p s.known.view) (g.0, refl)
-    (offer_effect d p s t held own g) g.1 refl (λ whole c. c) g.2
+    (offer_effect d p s t held own g) g.1 refl (λ whole c. c) g.2 tt
 offer_did d p (Err NoSuchDesk) s t held own g =
     doing s (Offer d p (Err NoSuchDesk)) t [] s.known.view (g.0, refl) (ap side_of g.1)
-    (g.1 ∙ same_seat s) refl (λ whole c. c) tt
+    (g.1 ∙ same_seat s) refl (λ whole c. c) tt tt
 offer_did d p (Err DeskTaken) s t held own g =
     doing s (Offer d p (Err DeskTaken)) t (OfferFailed d g.0 ∷ []) s.known.view (g.0, g.1, g.2, refl)
-    (ap side_of g.3) g.3 refl (λ whole c. c) g.4
+    (ap side_of g.3) g.3 refl (λ whole c. c) g.4 tt
 offer_did d p (Err _) s t held own g = absurd g
 
 -- and what a take did
@@ -148,11 +148,11 @@ pub take_did : (d : ℕ) (r : Result (List Seg) Refusal) (s t : Seated) → Take
     Did DidOnWords side_of s (Take d r) t
 take_did d (Ok p) s t g =
     doing s (Take d (Ok p)) t (Taken d p ∷ []) (taken_as p s.known.view) (g.0, refl)
-    (take_effect d p s t g) g.1 refl (λ whole c. c) g.2
+    (take_effect d p s t g) g.1 refl (λ whole c. c) g.2 tt
 take_did d (Err NoSuchDesk) s t g =
     doing s (Take d (Err NoSuchDesk)) t [] s.known.view (g.0, refl) (ap side_of g.1)
-    (g.1 ∙ same_seat s) refl (λ whole c. c) tt
+    (g.1 ∙ same_seat s) refl (λ whole c. c) tt tt
 take_did d (Err DeskEmpty) s t g =
     doing s (Take d (Err DeskEmpty)) t (TakeFailed d g.0 ∷ []) s.known.view (g.0, g.1, g.2, refl)
-    (ap side_of g.3) g.3 refl (λ whole c. c) g.4
+    (ap side_of g.3) g.3 refl (λ whole c. c) g.4 tt
 take_did d (Err _) s t g = absurd g

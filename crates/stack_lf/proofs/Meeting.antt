@@ -19,7 +19,7 @@ use Rattle.step_core.specs.declared.step.Outcome.TheVariants.{Value}
 use Rattle.ground.specs.Seats.{Seated, Note, after, Steps, KnowsLength, KnowsCount}
 use Rattle.stack_lf.specs.Sides.{side_of}
 use Rattle.stack_lf.specs.Tries.{Try, Short, Claimed, Counted, notes, readings_of, IsOfCall, IsContended}
-use Rattle.stack_lf.specs.Tries.{KnowsShort, KnowsEnough, KnowsSpent, KnowsRaised, KnowsLowered, IsTold, lying_after, DidOnWords}
+use Rattle.stack_lf.specs.Tries.{KnowsShort, KnowsEnough, KnowsSpent, KnowsRaised, KnowsLowered, IsTold, lying_after, KeepsOrder, DidOnWords}
 use Rattle.stack_lf.specs.Effects.{IsAlone, tried_to, Gets, Puts, Raises, Lowers, lowered_as}
 use Rattle.stack_lf.proofs.Storing.{bag-minus}
 use Rattle.stack_lf.proofs.Reading.{causes}
@@ -32,8 +32,8 @@ lain call s = record s { known = record s.known { lying = lying_after call s.kno
 pub doing : (s : Seated) (call : Call) (t : Seated) (ts : List Try) (v : View) →
     IsOfCall s.known.limits call ts → HasEffect call (side_of s) (side_of t) →
     t ≡ lain call (tried_to s ts v) → v.part ≡ s.known.view.part → (IsAlone s → IsContended call → ⊥) →
-    IsTold s call → Did DidOnWords side_of s call t
-doing s call t ts v made effect e part alone told = record {
+    IsTold s call → KeepsOrder call s.known.view.hand v.hand → Did DidOnWords side_of s call t
+doing s call t ts v made effect e part alone told order = record {
   readings = readings_of ts;
   step = record {
     led = record {
@@ -46,6 +46,8 @@ doing s call t ts v made effect e part alone told = record {
       made = made;
       steps = ap (λ (x : Seated). x.known.steps) e;
       lying = ap (λ (x : Seated). x.known.lying) e;
+      order =
+          subst (λ (x : Seated). KeepsOrder call s.known.view.hand x.known.view.hand) (sym e) order;
       read = refl;
       alone = alone;
       told = told;
@@ -115,11 +117,11 @@ pub get_did : (n : ℕ) (xs : List ℕ) (r : Result (Unit {0}) Refusal) (s t : S
     Did DidOnWords side_of s (GetList n (with_list r xs)) t
 get_did n xs (Ok m) s t g alone told enough =
     doing s (GetList n (Ok xs)) t g.0 _ g.3
-    (get_effect s.known.limits.tries n xs (Ok m) s t g) g.4 refl (λ whole c. c) enough
+    (get_effect s.known.limits.tries n xs (Ok m) s t g) g.4 refl (λ whole c. c) enough refl
 get_did n xs (Err e) s t g alone told enough =
     doing s (GetList n (Err e)) t g.0 _ g.3
     (get_effect s.known.limits.tries n xs (Err e) s t g) g.4 refl
-    (λ whole c. alone whole (ap Err (get_contended n e c))) (get_told s n e told)
+    (λ whole c. alone whole (ap Err (get_contended n e c))) (get_told s n e told) refl
 
 -- ---- a put
 
@@ -144,11 +146,11 @@ pub put_did : (xs : List ℕ) (r : Result (Unit {0}) Refusal) (s t : Seated) →
     (IsAlone s → r ≢ Err Contended) → Did DidOnWords side_of s (PutList xs r) t
 put_did xs (Ok m) s t h g alone =
     doing s (PutList xs (Ok m)) t g.0 _ g.3
-    (put_effect s.known.limits.tries xs (Ok m) s t h g) g.4 refl (λ whole c. c) tt
+    (put_effect s.known.limits.tries xs (Ok m) s t h g) g.4 refl (λ whole c. c) tt tt
 put_did xs (Err e) s t h g alone =
     doing s (PutList xs (Err e)) t g.0 _ g.3
     (put_effect s.known.limits.tries xs (Err e) s t h g) g.4 refl
-    (λ whole c. alone whole (ap Err (put_contended xs e c))) tt
+    (λ whole c. alone whole (ap Err (put_contended xs e c))) tt refl
 
 -- ---- a count
 
@@ -156,7 +158,7 @@ put_did xs (Err e) s t h g alone =
 pub length_did : (n : ℕ) (s t : Seated) → Steps LoadLength (Value n) s t →
     KnowsLength s.known n → Did DidOnWords side_of s (CommonCount n) t
 length_did n s t g known =
-    doing s (CommonCount n) t (Short n ∷ []) s.known.view refl (ap side_of g) g refl (λ whole c. c) known
+    doing s (CommonCount n) t (Short n ∷ []) s.known.view refl (ap side_of g) g refl (λ whole c. c) known tt
 
 -- ---- the counts
 
@@ -216,7 +218,7 @@ pub claim_did : (e : ℕ) (s t : Seated) → 0 < bag s.known.view.hand e →
     Steps (ClaimStep e) (Value 1) s t → Did DidOnWords side_of s (Claim e) t
 claim_did e s t here g =
     doing s (Claim e) t (Claimed e ∷ []) (claimed s.known.view e) refl (claim_effect e s t here g) g
-    refl (λ whole c. c) tt
+    refl (λ whole c. c) tt tt
 
 -- what a load of a count did, which is one step
 pub count_did : (e n : ℕ) (s t : Seated) → Steps (Sole e false) (Value n) s t →
@@ -224,7 +226,7 @@ pub count_did : (e n : ℕ) (s t : Seated) → Steps (Sole e false) (Value n) s 
     KnowsCount s.known e n → Did DidOnWords side_of s (CountOf e n) t
 count_did e n s t g low high known =
     doing s (CountOf e n) t (Counted e n ∷ []) s.known.view refl
-    (record { same = ap side_of g; own = low; limited = high }) g refl (λ whole c. c) known
+    (record { same = ap side_of g; own = low; limited = high }) g refl (λ whole c. c) known tt
 
 -- a raise that succeeds makes one more hold, and a refused one leaves all as it was
 raise_effect : (l : Limits) (e : ℕ) (r : Result (Unit {0}) Refusal) (s t : Seated) →
@@ -246,11 +248,11 @@ pub raise_did : (e : ℕ) (r : Result (Unit {0}) Refusal) (s t : Seated) →
     Did DidOnWords side_of s (Raise e r) t
 raise_did e (Ok m) s t held g alone told below =
     doing s (Raise e (Ok m)) t g.0 _ g.3 (raise_effect s.known.limits e (Ok m) s t held g) g.4 refl
-    (λ whole c. c) below
+    (λ whole c. c) below tt
 raise_did e (Err cause) s t held g alone told below =
     doing s (Raise e (Err cause)) t g.0 _ g.3
     (raise_effect s.known.limits e (Err cause) s t held g) g.4 refl
-    (λ whole c. alone whole (ap Err (raise_contended e cause c))) (raise_told s e cause told)
+    (λ whole c. alone whole (ap Err (raise_contended e cause c))) (raise_told s e cause told) tt
 
 -- the last hold that ends brings the element into the hand, and no other does
 lower_hand : (e : ℕ) (answer : Answer) (s t : Seated) → Lowers e answer s t → (i : ℕ) →
@@ -306,7 +308,7 @@ lower_did e answer s t held g told =
     (lower_effect e answer s t held g)
     (g.2 ∙ ap (λ (l : List Note). after s l (lowered_as e answer s.known.view))
     (sym (append-nil (notes g.0))))
-    (part_lowered e answer s.known.view) (λ whole c. c) told
+    (part_lowered e answer s.known.view) (λ whole c. c) told tt
 
 -- the seat with no step more
 pub same_seat : (s : Seated) → s ≡ tried_to s [] s.known.view

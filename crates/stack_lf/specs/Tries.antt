@@ -305,6 +305,22 @@ lying_after (Offer d packet (Ok _)) known = laid_on d (Some packet) known
 lying_after (Take d (Ok packet)) known = laid_on d None known
 lying_after _ known = known
 
+-- In which order elements stand in the hand before and after a call: what a get brought stands behind
+-- what was there, as it was listed, and where a get or a put was refused the hand is as it was. Of all
+-- other calls the hand is told as a bag alone.
+abbrev pub KeepsOrder : Call → List ℕ → List ℕ → Type 0
+KeepsOrder (GetList n (Ok xs)) before now = now ≡ before ++ xs
+KeepsOrder (GetList n (Err _)) before now = now ≡ before
+KeepsOrder (PutList xs (Ok _)) before now = Unit {0}
+KeepsOrder (PutList xs (Err _)) before now = now ≡ before
+KeepsOrder (Claim i) before now = Unit {0}
+KeepsOrder (CountOf i n) before now = Unit {0}
+KeepsOrder (Raise i answer) before now = Unit {0}
+KeepsOrder (Lower i answer) before now = Unit {0}
+KeepsOrder (Offer d packet answer) before now = Unit {0}
+KeepsOrder (Take d answer) before now = Unit {0}
+KeepsOrder (CommonCount n) before now = Unit {0}
+
 -- what a call over words did: it took the steps of these tries, by this seat, and read what they
 -- read
 pub record DidOnWords (s : Seated) (call : Call) (rs : List Reading) (t : Seated) : Type 0 where
@@ -317,6 +333,7 @@ pub record DidOnWords (s : Seated) (call : Call) (rs : List Reading) (t : Seated
   pub made : IsOfCall s.known.limits call tries
   pub steps : t.known.steps ≡ s.known.steps ++ notes_of tries
   pub lying : t.known.lying ≡ lying_after call s.known.lying
+  pub order : KeepsOrder call s.known.view.hand t.known.view.hand
   pub read : rs ≡ readings_of tries
   -- the only seat of a pool is in nobody's way
   pub alone : s.known.view.part ≡ every_part s.known.limits → IsContended call → ⊥

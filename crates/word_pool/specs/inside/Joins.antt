@@ -13,7 +13,7 @@ use Rattle.word_pool.specs.inside.Closing.{IsClosedBy}
 use Rattle.step_core.specs.World.{worker_part, every_part}
 
 -- The seats of the last workers are one seat, which is at rest and has their parts, and their
--- worker_part are handed in, the last worker's first. The others are left.
+-- shares are handed in, the last worker's first. The others are left.
 pub record AreJoined (g : Grounded) (all left : List Manned) (seat : Seated) (handed : List Member) : Type 0 where
   pub each : All (IsWorker g) left
   pub done : List Manned
