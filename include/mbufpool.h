@@ -29,8 +29,8 @@
  *   memory     `out` has room for n of its kind and `list` has n numbers, n > 0 or not. What the
  *              pointers of one call lead to doesn't overlap (two handles are two structs), and is
  *              the call's alone while it runs.
- *   elements   (seats alone) what is put was got from this pool, by any of its seats and in any
- *              thread, and not put since, each element once in a list. See mbufpool_seat_put.
+ *   elements   (seats alone) each number that is put was got by a seat of this pool, by whichever
+ *              thread, and not put since. See mbufpool_seat_put.
  *   process    malloc, realloc and free are of one allocator and give blocks aligned as C asks; no
  *              call is made from a signal handler, or in a forked child of a process with threads.
  *
@@ -71,6 +71,8 @@ enum mbufpool_refusal {
 	MBUFPOOL_NOT_OUT = 26,		/* (guarded pools alone) of what was to be put not each was out */
 	MBUFPOOL_NOBODY = 27,		/* (guarded pools alone) a get with a number below 2 */
 	MBUFPOOL_UNRESTED = 28,		/* (guarded pools alone) a word that must be 0 wasn't: no run has met it */
+	MBUFPOOL_LENT_OUT = 29,		/* (seats, guarded pools) this seat has lent 2^56 elements more than it put: at
+					 * 10^8 a second that takes 22 years; get by another seat, or put by this one */
 };
 
 #define MBUFPOOL_NONE { 0 }
@@ -85,17 +87,25 @@ struct mbufpool_seat { void *at; };
  * that was in `out` is ended. */
 uint32_t mbufpool_seat_open(uint32_t population, uint32_t seats, uint32_t tries, struct mbufpool_seat *out);
 
-/* Makes one more seat of the pool, by its first seat. Where memory is refused the first seat has its
- * share of the pool back. */
+/* Makes one more seat of the pool, by its first seat.
+ * Refused:
+ *   MBUFPOOL_STRANGER   the handle has no seat, or the pool has no more of them
+ *   MBUFPOOL_LENT_OUT   so much of the first seat's share of the pool is lent that no seat's is left
+ *   MBUFPOOL_NO_MEMORY  memory was refused; the first seat has its share of the pool back */
 uint32_t mbufpool_seat_split(struct mbufpool_seat *seat, struct mbufpool_seat *out);
 
-/* Gets n elements: all of them, or none. A refused get may have written to `out`. */
+/* Gets n elements: all of them, or none. A refused get may have written to `out`.
+ * Refused:
+ *   MBUFPOOL_STRANGER   the handle has no seat
+ *   MBUFPOOL_LENT_OUT   the seat has lent 2^56 elements more than it put, or would have by this list
+ *   MBUFPOOL_NO_ENTRIES, MBUFPOOL_CONTENDED, MBUFPOOL_HEAD_SPENT   as their lines say */
 uint32_t mbufpool_seat_get(struct mbufpool_seat *seat, uint32_t *out, size_t n);
 
 /* Puts n elements back: all of them, or none.
- * Each was got from this pool, was not put since, and stands in the list once. Which seat got it
- * doesn't matter, nor whether that seat is ended by now: one thread may get what another puts. It
- * passes from thread to thread as a handle does, or by any exchange of theirs that orders memory. */
+ * Each number was got by a seat of this pool, by whichever thread, and not put since: so the list has
+ * it once. It doesn't matter whether that seat is ended by now. An element passes from thread to
+ * thread as a handle does, or by any exchange of theirs that orders memory.
+ * Refused: MBUFPOOL_STRANGER, MBUFPOOL_CONTENDED and MBUFPOOL_HEAD_SPENT, as their lines say. */
 uint32_t mbufpool_seat_put(struct mbufpool_seat *seat, const uint32_t *list, size_t n);
 
 /* How many elements the stack's length word counts; 0 where the handle has no seat. While other
@@ -136,11 +146,13 @@ struct mbufpool_guard { void *at; };
  * was in `out` is ended. */
 uint32_t mbufpool_guard_open(uint32_t population, uint32_t cache, uint32_t workers, uint32_t tries, struct mbufpool_guard *out);
 
-/* Makes one more worker of the pool, by its first worker, with an empty cache. */
+/* Makes one more worker of the pool, by its first worker, with an empty cache. Refused as
+ * mbufpool_seat_split is. */
 uint32_t mbufpool_guard_split(struct mbufpool_guard *worker, struct mbufpool_guard *out);
 
 /* Gets n elements, from the cache or the stack: all of them, or none. Each is out then, with the number
- * `who`, which is 2 at least, else the answer is MBUFPOOL_NOBODY. */
+ * `who`, which is 2 at least, else the answer is MBUFPOOL_NOBODY. Refused as mbufpool_seat_get is, and by
+ * MBUFPOOL_UNRESTED. */
 uint32_t mbufpool_guard_get(struct mbufpool_guard *worker, uint64_t who, uint32_t *out, size_t n);
 
 /* Puts n numbers, as far as they are out: into the worker's cache, whichever worker got them. The list

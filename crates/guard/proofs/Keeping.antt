@@ -1,5 +1,5 @@
 -- A worker's seat goes out of its place for a call, and back.
-use Rattle.std.proofs.Common.{◌≡◌, ℕ, ◌+◌, List, Option, Some, Result, Ok, Err, OnOk, OnErr, ap, ◌∙◌, sym, subst}
+use Rattle.std.proofs.Common.{◌≡◌, ℕ, ◌+◌, ◌<◌, List, Option, Some, Result, Ok, Err, OnOk, OnErr, ap, ◌∙◌, sym, subst, arith}
 use Rattle.commons.specs.Bag.{bag}
 use Rattle.commons.specs.Calls.{with_list}
 use Rattle.commons.specs.declared.refusal.Refusal.{Refusal}
@@ -25,6 +25,13 @@ given_back o s k is = ap (λ (p : Option Seated). with_cache (seat_in p) k) (sym
 -- so what is so of the two is so of the worker
 pub of_worker : (P : Cached → Cached → Type 0) (s s' t t' : Cached) → s ≡ s' → t ≡ t' → P s t → P s' t'
 of_worker P s s' t t' old new p = subst (λ (x : Cached). P s' x) new (subst (λ (x : Cached). P x t) old p)
+
+-- a worker has as much of the pool as it has counted, so its part is greater than what that is
+-- greater than
+pub greater_part : (n part : ℕ) (o : Option Seated) (k : WorkerCache) (v : Cached) → n < part →
+    (seat_in o).known.view.part ≡ part → with_cache (seat_in o) k ≡ v → n < v.seat.known.view.part
+greater_part n part o k v less counted view =
+    subst (λ (x : Cached). n < x.seat.known.view.part) view (omega (arith, less, counted))
 
 -- what a get that succeeded gave
 pub gave_by : (n : ℕ) (xs : List ℕ) (s u : Seated) (k l : WorkerCache) (v : Cached) (a : Result (Unit {0}) Refusal)

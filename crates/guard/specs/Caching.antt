@@ -1,9 +1,8 @@
 -- A seat with a cache, whose elements aren't out.
-use Rattle.std.specs.Prelude.{◌≡◌, ◌⊎◌, ℕ, ◌+◌, ◌≤◌, List, Result, Ok, Err}
+use Rattle.std.specs.Prelude.{◌≡◌, ℕ, ◌+◌, ◌<◌, ◌≤◌, List, Result, Ok, Err}
 use Rattle.commons.specs.Bag.{bag}
 use Rattle.commons.specs.Calls.{Call, Calls}
 use Rattle.commons.specs.declared.refusal.Refusal.{Refusal}
-use Rattle.commons.specs.declared.refusal.Refusal.TheVariants.{StrangerShare}
 use Rattle.ground.specs.Seats.{Seated}
 use Rattle.mempool.specs.Caches as cache
 use Rattle.mempool.specs.WorkerCache.{WorkerCache, KeepsNumber}
@@ -11,7 +10,7 @@ use Rattle.mempool.specs.declared.put.Put.{Put}
 use Rattle.stack_lf.specs.Sides.{side_of}
 use Rattle.stack_lf.specs.Tries.{DidOnWords}
 use Rattle.guard.specs.declared.cause.Cause.{Cause}
-use Rattle.guard.specs.declared.cause.Cause.TheVariants.{Refused, Unrested}
+use Rattle.guard.specs.declared.cause.Cause.TheVariants.{Refused, LentOut, Unrested}
 use Rattle.guard.specs.Guarding.{AreSome, Rest}
 
 -- a seat, and its cache
@@ -38,16 +37,18 @@ pub record Denied (n : ℕ) (cause : Refusal) (s t : Cached) : Type 0 where
   pub cache : t.cache.cache ≡ s.cache.cache
   pub number : KeepsNumber s.cache t.cache
 
--- What a get of n elements did, by its answer: the cache or the stack gave them, and each rests at its
--- place, out; or the seat has so small a part of the pool that it can't lend as many, and nothing was
--- done; or the stack refused; or a place had no room: the elements are in the seat's hand, but for
--- those that were put since.
+-- What a get of n elements did, by its answer: the seat has so small a part of the pool that it can't
+-- lend as many, and nothing was done; or its part is greater, and the cache or the stack gave them, and
+-- each rests at its place, out; or the stack refused; or a place had no room: the elements are in the
+-- seat's hand, but for those that were put since.
 abbrev pub CachedGets : ℕ → Result (List ℕ) Cause → Cached → Cached → Type 0
-CachedGets n (Ok xs) s t = (u : Seated) × Gave n xs s u t.cache × Rest xs u t.seat
-CachedGets n (Err (Refused cause)) s t =
-    ((cause ≡ StrangerShare) × (s.seat.known.view.part ≤ n) × (t ≡ s)) ⊎ Denied n cause s t
+CachedGets n (Err LentOut) s t = (s.seat.known.view.part ≤ n) × (t ≡ s)
+CachedGets n (Ok xs) s t =
+    (n < s.seat.known.view.part) × (u : Seated) × Gave n xs s u t.cache × Rest xs u t.seat
+CachedGets n (Err (Refused cause)) s t = (n < s.seat.known.view.part) × Denied n cause s t
 CachedGets n (Err Unrested) s t =
-    (xs : List ℕ) × (ys : List ℕ) × (u : Seated) × Gave n xs s u t.cache × AreSome ys xs × Rest ys u t.seat
+    (n < s.seat.known.view.part) × (xs : List ℕ) × (ys : List ℕ) × (u : Seated)
+    × Gave n xs s u t.cache × AreSome ys xs × Rest ys u t.seat
 
 -- What a put of the elements that rested at their places did, by the cache's answer: the seat took
 -- them, and they are in the cache, or on the stack.

@@ -1,17 +1,18 @@
 -- Elements that pass from a seat's hand to their places, and back.
-use Rattle.std.specs.Prelude.{◌≡◌, ◌⊎◌, ℕ, ◌+◌, ◌≤◌, List, [], length, Result, Ok, Err}
+use Rattle.std.specs.Prelude.{◌≡◌, ◌⊎◌, ℕ, ◌+◌, ◌<◌, ◌≤◌, List, [], length, Result, Ok, Err, ⊤}
 use Rattle.commons.specs.Bag.{bag}
 use Rattle.commons.specs.Bounds.{IsPool}
 use Rattle.commons.specs.Calls.{Did, GetList, PutList}
 use Rattle.commons.specs.declared.limits.Limits.{Limits}
 use Rattle.commons.specs.declared.refusal.Refusal.{Refusal}
-use Rattle.commons.specs.declared.refusal.Refusal.TheVariants.{BadPool, StrangerShare}
+use Rattle.commons.specs.declared.refusal.Refusal.TheVariants.{BadPool, OutOfMemory, StrangerShare}
 use Rattle.ground.specs.Seats.{Seated}
 use Rattle.stack_lf.specs.Sides.{side_of}
 use Rattle.stack_lf.specs.Tries.{DidOnWords}
+use Rattle.step_core.specs.World.{worker_part}
 use Rattle.lending.specs.Lending.{IsSame}
 use Rattle.guard.specs.declared.cause.Cause.{Cause}
-use Rattle.guard.specs.declared.cause.Cause.TheVariants.{Refused, Unrested}
+use Rattle.guard.specs.declared.cause.Cause.TheVariants.{Refused, LentOut, Unrested}
 
 -- These elements are in the hand of the seat before. After, each rests at its place, with a part of 1.
 pub record Rest (xs : List ℕ) (s t : Seated) : Type 0 where
@@ -28,17 +29,19 @@ pub record AreCut (ys zs xs : List ℕ) : Type 0 where
 abbrev pub AreSome : List ℕ → List ℕ → Type 0
 AreSome ys xs = (zs : List ℕ) × AreCut ys zs xs
 
--- What a get of n elements did, by its answer: the seat got them, and each rests at its place, out;
--- or the seat has so small a part of the pool that it can't lend as many, and nothing was done; or the
--- get was refused; or a place had no room: the elements are in the seat's hand, but for those that
--- were put since.
+-- What a get of n elements did, by its answer: the seat has so small a part of the pool that it can't
+-- lend as many, and nothing was done; or its part is greater, and the seat got them, and each rests at
+-- its place, out; or the get was refused; or a place had no room: the elements are in the seat's hand,
+-- but for those that were put since.
 abbrev pub Gets : ℕ → Result (List ℕ) Cause → Seated → Seated → Type 0
-Gets n (Ok xs) s t = (u : Seated) × Did DidOnWords side_of s (GetList n (Ok xs)) u × Rest xs u t
-Gets n (Err (Refused StrangerShare)) s t = (s.known.view.part ≤ n) × (t ≡ s)
-Gets n (Err (Refused cause)) s t = Did DidOnWords side_of s (GetList n (Err cause)) t
+Gets n (Err LentOut) s t = (s.known.view.part ≤ n) × (t ≡ s)
+Gets n (Ok xs) s t =
+    (n < s.known.view.part) × (u : Seated) × Did DidOnWords side_of s (GetList n (Ok xs)) u × Rest xs u t
+Gets n (Err (Refused cause)) s t =
+    (n < s.known.view.part) × Did DidOnWords side_of s (GetList n (Err cause)) t
 Gets n (Err Unrested) s t =
-    (xs : List ℕ) × (ys : List ℕ) × (u : Seated) × Did DidOnWords side_of s (GetList n (Ok xs)) u
-    × AreSome ys xs × Rest ys u t
+    (n < s.known.view.part) × (xs : List ℕ) × (ys : List ℕ) × (u : Seated)
+    × Did DidOnWords side_of s (GetList n (Ok xs)) u × AreSome ys xs × Rest ys u t
 
 -- What becomes of elements that were taken off their places, by the answer: they are on the stack; or
 -- the push was refused, and they rest as before; or some of them are in the seat's hand, since a place
@@ -47,6 +50,7 @@ abbrev pub GoesOn : List ℕ → Result (Unit {0}) Cause → Seated → Seated �
 GoesOn xs (Ok met) u t = Did DidOnWords side_of u (PutList xs (Ok met)) t
 GoesOn xs (Err (Refused cause)) u t =
     (w : Seated) × Did DidOnWords side_of u (PutList xs (Err cause)) w × Rest xs w t
+GoesOn xs (Err LentOut) u t = ⊥
 GoesOn xs (Err Unrested) u t =
     (cause : Refusal) × (ys : List ℕ) × (w : Seated) × Did DidOnWords side_of u (PutList xs (Err cause)) w
     × AreSome ys xs × Rest ys w t
@@ -66,3 +70,11 @@ with_list (Err cause) xs = Err cause
 abbrev pub IsMakeCause : Limits → Refusal → Type 0
 IsMakeCause l BadPool = ¬ (IsPool l)
 IsMakeCause l cause = IsPool l
+
+-- why a seat with this part of the pool isn't split: the pool has no more workers; or as much of the
+-- part is out; or memory was refused
+abbrev pub IsSplitCause : ℕ → Cause → Type 0
+IsSplitCause part (Refused StrangerShare) = ⊤
+IsSplitCause part LentOut = part ≤ worker_part
+IsSplitCause part (Refused OutOfMemory) = worker_part < part
+IsSplitCause part _ = ⊥

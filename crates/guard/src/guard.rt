@@ -114,6 +114,9 @@ impl Guard {
 
     /// Gets as many elements as `out` has places: all of them, or none. Each is out then, with this
     /// number.
+    ///
+    /// Refused `LentOut` where the seat's part of the pool is no greater than the list, else as
+    /// `Commons::get_list` is, and `Unrested` where a place has no room.
     #[inline(always)]
     pub fn get(&self, seat: Lender, who: u64, out: &mut [u32]) -> (Result<(), Cause>, Lender)
         requires of { IsOf self.now seat }
@@ -125,7 +128,7 @@ impl Guard {
         let part = seat.part();
         let n = out.len() as u64;
         if part <= n {
-            return (Err(Cause::Refused(Refusal::StrangerShare)), seat);
+            return (Err(Cause::LentOut), seat);
         }
         let (answer, seat) = seat.get_own(&self.ground, out);
         if let Err(cause) = answer {

@@ -11,9 +11,9 @@ ghost use Rattle.mempool.specs.Caches.{Gets, Puts, Flushes};
 ghost use Rattle.mempool.specs.WorkerCache.{KeepsNumber};
 ghost use Rattle.stack_lf.specs.Sides.{side_of};
 ghost use Rattle.stack_lf.specs.Tries.{DidOnWords};
-ghost use Rattle.step_core.specs.World.{every_part};
+ghost use Rattle.step_core.specs.World.{every_part, worker_part};
 ghost use Rattle.guard.specs.Caching.{CachedFlushes, CachedGets, CachedPuts};
-ghost use Rattle.guard.specs.Guarding.{IsMakeCause, with_list};
+ghost use Rattle.guard.specs.Guarding.{IsMakeCause, IsSplitCause, with_list};
 
 use crate::cause::Cause;
 use crate::guard::Guard;
@@ -112,24 +112,30 @@ impl GuardWorker {
     /// Makes one more worker at the same words and places, of a worker's part of this one, with an
     /// empty cache.
     ///
-    /// Refused `StrangerShare` where the pool has no more workers, or as much of the seat's part is out,
-    /// and `OutOfMemory` where memory was refused, or there are too many owners.
-    pub fn split(&mut self, alloc: Global) -> Result<GuardWorker, Refusal>
+    /// Refused `StrangerShare` where the pool has no more workers, `LentOut` where as much of the
+    /// seat's part is out, and `OutOfMemory` where memory was refused, or there are too many owners.
+    /// This worker is as before then.
+    pub fn split(&mut self, alloc: Global) -> Result<GuardWorker, Cause>
         ensures left { IfOk result (λ _. self.new ≡ record self.old { seat = record self.old.seat { known = less_part self.old.seat.known } }) }
         ensures made { IfOk result (λ other. (other.seat.table ≡ self.old.seat.table) × (other.seat.known ≡ newcomer self.old.seat.known)) }
         ensures cache { IfOk result (λ other. other.cache ≡ record { limits = self.old.cache.limits; number = 1; cache = [] }) }
+        ensures part { IfOk result (λ _. worker_part < self.old.seat.known.view.part) }
         ensures kept { IfErr result (λ _. self.new ≡ self.old) }
+        ensures cause { IfErr result (IsSplitCause self.old.seat.known.view.part) }
     {
-        if self.parts < 2 || self.part <= WORKER_PART {
-            return Err(Refusal::StrangerShare);
+        if self.parts < 2 {
+            return Err(Cause::Refused(Refusal::StrangerShare));
+        }
+        if self.part <= WORKER_PART {
+            return Err(Cause::LentOut);
         }
         let limits = *self.cache.limits();
         let Ok(cache) = Worker::make(alloc, &limits, 1) else {
-            return Err(Refusal::OutOfMemory);
+            return Err(Cause::Refused(Refusal::OutOfMemory));
         };
         let Ok(guard) = Arc::try_clone(&self.guard) else {
             cache.lose();
-            return Err(Refusal::OutOfMemory);
+            return Err(Cause::Refused(Refusal::OutOfMemory));
         };
         let Some(mut seat) = self.seat.take() else {
             unreachable!()
@@ -150,8 +156,8 @@ impl GuardWorker {
     /// Gets as many elements as `out` has places, from the cache or the stack: all of them, or none.
     /// Each is out then, with this number.
     ///
-    /// Refused as `Worker::get_bulk` is, and `StrangerShare` where the seat's part of the pool is no
-    /// greater than the list.
+    /// Refused `LentOut` where the seat's part of the pool is no greater than the list, else as
+    /// `Worker::get_bulk` is, and `Unrested` where a place has no room.
     #[inline(always)]
     pub fn get(&mut self, who: u64, out: &mut [u32]) -> Result<(), Cause>
         requires who { 2 ≤ who }
@@ -159,7 +165,7 @@ impl GuardWorker {
     {
         let n = out.len() as u64;
         if self.part <= n {
-            return Err(Cause::Refused(Refusal::StrangerShare));
+            return Err(Cause::LentOut);
         }
         let Some(seat) = self.seat.take() else {
             unreachable!()

@@ -1,12 +1,15 @@
 -- Elements that pass from a seat's hand into loans, and back.
-use Rattle.std.specs.Prelude.{◌≡◌, ℕ, ◌+◌, ◌≤◌, List, length, Result, Ok, Err}
+use Rattle.std.specs.Prelude.{◌≡◌, ℕ, ◌+◌, ◌<◌, ◌≤◌, List, length, Result, Ok, Err, ⊤}
 use Rattle.commons.specs.Bag.{bag}
 use Rattle.commons.specs.Calls.{Did, GetList, PutList}
 use Rattle.commons.specs.declared.refusal.Refusal.{Refusal}
-use Rattle.commons.specs.declared.refusal.Refusal.TheVariants.{StrangerShare}
+use Rattle.commons.specs.declared.refusal.Refusal.TheVariants.{OutOfMemory, StrangerShare}
 use Rattle.ground.specs.Seats.{Seated}
 use Rattle.stack_lf.specs.Sides.{side_of}
 use Rattle.stack_lf.specs.Tries.{DidOnWords}
+use Rattle.step_core.specs.World.{worker_part}
+use Rattle.lending.specs.declared.cause.Cause.{Cause}
+use Rattle.lending.specs.declared.cause.Cause.TheVariants.{Refused, LentOut}
 use Rattle.lending.specs.declared.loans.Loans.{Loans}
 
 -- it is the same seat, which has taken the same steps, and holds what it held
@@ -29,12 +32,20 @@ pub record IsLent (xs : List ℕ) (s : Seated) (x : Loans) (t : Seated) (y : Loa
   pub limits : y.limits ≡ x.limits
   pub lent : (i : ℕ) → bag y.lent i ≡ bag x.lent i + bag xs i
 
--- What a get of n elements did, by its answer: the seat got them, and they are lent; or it has so
--- small a part of the pool that it can't lend as many, and nothing was done; or the get was refused.
-abbrev pub GetsLoans : ℕ → Result (List ℕ) Refusal → Seated → Loans → Seated → Loans → Type 0
-GetsLoans n (Ok xs) s x t y = (u : Seated) × Did DidOnWords side_of s (GetList n (Ok xs)) u × IsLent xs u x t y
-GetsLoans n (Err StrangerShare) s x t y = (s.known.view.part ≤ n) × (t ≡ s) × (y ≡ x)
-GetsLoans n (Err cause) s x t y = Did DidOnWords side_of s (GetList n (Err cause)) t × (y ≡ x)
+-- the answer of a get, with the list that it gave
+abbrev pub with_list : Result (Unit {0}) Cause → List ℕ → Result (List ℕ) Cause
+with_list (Ok met) xs = Ok xs
+with_list (Err cause) xs = Err cause
+
+-- What a get of n elements did, by its answer: the seat has so small a part of the pool that it
+-- can't lend as many, and nothing was done; or its part is greater, and the seat got them, and they
+-- are lent; or the get was refused.
+abbrev pub GetsLoans : ℕ → Result (List ℕ) Cause → Seated → Loans → Seated → Loans → Type 0
+GetsLoans n (Err LentOut) s x t y = (s.known.view.part ≤ n) × (t ≡ s) × (y ≡ x)
+GetsLoans n (Ok xs) s x t y =
+    (n < s.known.view.part) × (u : Seated) × Did DidOnWords side_of s (GetList n (Ok xs)) u × IsLent xs u x t y
+GetsLoans n (Err (Refused cause)) s x t y =
+    (n < s.known.view.part) × Did DidOnWords side_of s (GetList n (Err cause)) t × (y ≡ x)
 
 -- what becomes of elements that were to be put: they are on the stack, or lent as before
 abbrev pub GoesOn : List ℕ → Result (Unit {0}) Refusal → Seated → Loans → Seated → Loans → Type 0
@@ -47,3 +58,11 @@ abbrev pub PutsLoans : List ℕ → Result (Unit {0}) Refusal → Seated → Loa
 PutsLoans xs answer s x t y =
     (u : Seated) × (w : Seated) × (z : Loans) × IsLent xs u z s x
     × Did DidOnWords side_of u (PutList xs answer) w × GoesOn xs answer w z t y
+
+-- why a seat with this part of the pool isn't split: the pool has no more workers; or as much of the
+-- part is lent; or memory was refused
+abbrev pub IsSplitCause : ℕ → Cause → Type 0
+IsSplitCause part (Refused StrangerShare) = ⊤
+IsSplitCause part LentOut = part ≤ worker_part
+IsSplitCause part (Refused OutOfMemory) = worker_part < part
+IsSplitCause part _ = ⊥

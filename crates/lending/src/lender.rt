@@ -1,8 +1,8 @@
 //! A worker's seat that lends what it gets.
 
-ghost use Rattle.std.specs.Prelude.{◌≡◌, ◌<◌, ◌≤◌, ℕ, [], length};
+ghost use Rattle.std.specs.Prelude.{◌≡◌, ◌<◌, ◌≤◌, ◌++◌, ℕ, List, [], length};
 ghost use Rattle.commons.specs.Bag.{bag};
-ghost use Rattle.commons.specs.Calls.{Did, GetList, PutList, CommonCount, with_list};
+ghost use Rattle.commons.specs.Calls.{Did, GetList, PutList, CommonCount, with_list as with_elements};
 ghost use Rattle.ground.specs.Own.{AtRest};
 ghost use Rattle.ground.specs.Seats.{IsOf};
 ghost use Rattle.step_core.specs.World.{worker_part};
@@ -11,6 +11,7 @@ ghost use Rattle.stack_lf.specs.Tries.{DidOnWords};
 ghost use Rattle.lending.specs.Lending.{IsLent};
 ghost use Rattle.lending.specs.Pools.{AreOf, none_of};
 
+use crate::cause::Cause;
 use crate::loans::Loans;
 use commons::refusal::Refusal;
 use commons::shared::Commons;
@@ -43,7 +44,7 @@ impl Model for Lender {
 impl Lender {
     ghost use Rattle.ground.specs.Own.{Owned};
     ghost use Rattle.ground.specs.Parting.{less_part, newcomer};
-    ghost use Rattle.lending.specs.Lending.{GetsLoans, PutsLoans};
+    ghost use Rattle.lending.specs.Lending.{GetsLoans, PutsLoans, with_list};
 
     /// A lender by this seat, which is at rest and has this part.
     pub fn new(seat: GroundSeat, part: u64) -> Lender
@@ -116,15 +117,15 @@ impl Lender {
 
     /// Gets as many elements as `out` has places, and adds their loans: all of them, or none.
     ///
-    /// Refused as `Commons::get_list` is, and `StrangerShare` where the seat's part of the pool is
-    /// no greater than the list.
+    /// Refused `LentOut` where the seat's part of the pool is no greater than the list, and else as
+    /// `Commons::get_list` is.
     #[inline(always)]
     pub fn get(
         self,
         ground: &Ground,
         out: &mut [u32],
         loans: &mut Loans,
-    ) -> (Result<(), Refusal>, Lender)
+    ) -> (Result<(), Cause>, Lender)
         requires of { IsOf ground.now self }
         requires loans { AreOf ground.now loans.old }
         requires some { 0 < length out.old }
@@ -133,11 +134,11 @@ impl Lender {
         let Lender { seat, part } = self;
         let n = out.len() as u64;
         if part <= n {
-            return (Err(Refusal::StrangerShare), Lender { seat, part });
+            return (Err(Cause::LentOut), Lender { seat, part });
         }
         let (answer, mut seat) = get_by(ground, seat, out);
         match answer {
-            Err(cause) => (Err(cause), Lender { seat, part }),
+            Err(cause) => (Err(Cause::Refused(cause)), Lender { seat, part }),
             Ok(()) => {
                 lend_all(ground, &mut seat, out, loans);
                 (
@@ -169,9 +170,9 @@ impl Lender {
         ensures done { PutsLoans list.now result.0 self loans.old result.1 loans.new }
         ensures once { (i : ℕ) → bag list.now i ≤ 1 }
     {
-        let Lender { mut seat, part } = self;
+        let Lender { seat, part } = self;
         let n = list.len() as u64;
-        join_all(ground, &mut seat, list, loans);
+        let seat = join_all(ground, seat, list, loans);
         seat.owned();
         let part = part + n;
         let (answer, mut seat) = put_by(ground, seat, list);
@@ -195,7 +196,7 @@ impl Lender {
     pub fn get_own(self, ground: &Ground, out: &mut [u32]) -> (Result<(), Refusal>, Lender)
         requires of { IsOf ground.now self }
         requires some { 0 < length out.old }
-        ensures { Did DidOnWords side_of self (GetList (length out.old) (with_list result.0 out.new)) result.1 }
+        ensures { Did DidOnWords side_of self (GetList (length out.old) (with_elements result.0 out.new)) result.1 }
     {
         let Lender { seat, part } = self;
         let (answer, seat) = get_by(ground, seat, out);
@@ -249,7 +250,7 @@ fn get_by(ground: &Ground, seat: GroundSeat, out: &mut [u32]) -> (Result<(), Ref
     requires of { IsOf ground.now seat }
     requires rest { AtRest seat.known.view }
     requires slots { seat.slots ≡ [] }
-    ensures did { Did DidOnWords side_of seat (GetList (length out.old) (with_list result.0 out.new)) result.1 }
+    ensures did { Did DidOnWords side_of seat (GetList (length out.old) (with_elements result.0 out.new)) result.1 }
     ensures of { IsOf ground.now result.1 }
     ensures rest { AtRest result.1.known.view }
     ensures slots { result.1.slots ≡ [] }
@@ -279,34 +280,39 @@ fn put_by(ground: &Ground, seat: GroundSeat, list: &[u32]) -> (Result<(), Refusa
     (answer, c.into_seat())
 }
 
-/// Lends each element of a list, which are in the hand: one part of the pool goes with each.
+/// Lends the elements of a list, which stand last in the hand, from its end: one part of the pool
+/// goes with each.
 fn lend_all(ground: &Ground, seat: &mut GroundSeat, list: &[u32], loans: &mut Loans)
     requires of { IsOf ground.now seat.old }
     requires loans { AreOf ground.now loans.old }
     requires rest { AtRest seat.old.known.view }
-    requires hand { (i : ℕ) → bag list.now i ≤ bag seat.old.known.view.hand i }
+    requires last { (front : List ℕ) × (seat.old.known.view.hand ≡ front ++ list.now) }
     requires part { length list.now < seat.old.known.view.part }
     ensures lent { IsLent list.now seat.old loans.old seat.new loans.new }
     ensures rest { AtRest seat.new.known.view }
 {
     for k in 0..list.len() {
-        let element = list[k];
-        let lent = ground.lend(seat, element);
+        seat.owned();
+        let element = list[list.len() - 1 - k];
+        let lent = ground.lend_last(seat);
         loans.add(lent, element);
     }
 }
 
-/// Takes the loans of a list into the hand.
-fn join_all(ground: &Ground, seat: &mut GroundSeat, list: &[u32], loans: &mut Loans)
-    requires of { IsOf ground.now seat.old }
+/// Takes the loans of a list into the hand, behind what is there, and looks once for all of them.
+fn join_all(ground: &Ground, seat: GroundSeat, list: &[u32], loans: &mut Loans) -> GroundSeat
+    requires of { IsOf ground.now seat }
     requires loans { AreOf ground.now loans.old }
-    requires rest { AtRest seat.old.known.view }
+    requires rest { AtRest seat.known.view }
     requires lent { (i : ℕ) → bag list.now i ≤ bag loans.old.lent i }
-    ensures lent { IsLent list.now seat.new loans.new seat.old loans.old }
-    ensures rest { AtRest seat.new.known.view }
+    ensures lent { IsLent list.now result loans.new seat loans.old }
+    ensures last { result.known.view.hand ≡ seat.known.view.hand ++ list.now }
+    ensures rest { AtRest result.known.view }
 {
+    let mut gathering = ground.gather(seat);
     for k in 0..list.len() {
         let lent = loans.take(list[k]);
-        ground.join(seat, lent);
+        ground.take_in(&mut gathering, lent);
     }
+    ground.gathered(gathering)
 }

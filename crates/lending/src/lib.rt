@@ -2,6 +2,7 @@
 //! seat that puts takes the loans in.
 #![tactic(auto)]
 
+pub mod cause;
 pub mod lender;
 pub mod loans;
 pub mod sent;

@@ -7,11 +7,12 @@ use Rattle.commons.specs.declared.refusal.Refusal.TheVariants.{StrangerShare}
 use Rattle.commons.specs.Refusals.{number_of}
 use Rattle.ground.specs.Parting.{less_part, newcomer}
 use Rattle.guard.specs.Caching.{Cached, CachedGets, CachedPuts}
-use Rattle.guard.specs.Guarding.{with_list}
+use Rattle.guard.specs.Guarding.{IsSplitCause, with_list}
 use Rattle.guard.specs.declared.cause.Cause.{Cause}
-use Rattle.guard.specs.declared.cause.Cause.TheVariants.{Refused, Unrested}
+use Rattle.guard.specs.declared.cause.Cause.TheVariants.{Refused, LentOut, Unrested}
 use Rattle.mempool.specs.declared.put.Put.{Put}
 use Rattle.step_core.specs.World.{every_part}
+use Rattle.mbufpool_c.specs.Stacks.{lent_out}
 
 -- the limits of a guarded pool
 abbrev pub guard_limits : ℕ → ℕ → ℕ → ℕ → Limits
@@ -38,11 +39,16 @@ nobody = 27
 abbrev pub unrested : ℕ
 unrested = 28
 
+-- the number of a cause
+abbrev pub number_in : Cause → ℕ
+number_in (Refused cause) = number_of cause
+number_in LentOut = lent_out
+number_in Unrested = unrested
+
 -- 0, or the number of the cause
 abbrev pub status_of : Result (Unit {0}) Cause → ℕ
 status_of (Ok _) = 0
-status_of (Err (Refused cause)) = number_of cause
-status_of (Err Unrested) = unrested
+status_of (Err cause) = number_in cause
 
 -- a new worker: nothing is in its hand or its cache, and it has every part
 pub record IsFirst (l : Limits) (s : Cached) : Type 0 where
@@ -57,6 +63,13 @@ SplitsGuard (Some s) new out =
     (new ≡ Some (record s { seat = record s.seat { known = less_part s.seat.known } }))
     × ((other : Cached) × (out ≡ Some other) × (other.seat.table ≡ s.seat.table)
     × (other.seat.known ≡ newcomer s.seat.known))
+
+-- Why no worker is made, by the number that C has: the first handle has none, or its worker isn't
+-- split.
+abbrev pub RefusesSplit : ℕ → Option Cached → Type 0
+RefusesSplit status None = status ≡ number_of StrangerShare
+RefusesSplit status (Some s) =
+    (cause : Cause) × (status ≡ number_in cause) × IsSplitCause s.seat.known.view.part cause
 
 -- The worker of a handle got elements, or was refused, and C has the status of the answer. Where there
 -- is no worker nothing was done, and C has the number of a stranger.

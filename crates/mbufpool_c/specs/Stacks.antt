@@ -1,7 +1,7 @@
 -- What C is answered by a seat, and what it owes of a list that it puts.
 use Rattle.std.specs.Prelude.{◌≡◌, ◌⊎◌, ℕ, ◌≤◌, List, Option, Some, None, Result, Ok, Err, ⊤}
 use Rattle.commons.specs.Bag.{bag}
-use Rattle.commons.specs.Calls.{Call, CommonCount, Did, with_list}
+use Rattle.commons.specs.Calls.{Call, CommonCount, Did}
 use Rattle.commons.specs.declared.limits.Limits.{Limits}
 use Rattle.commons.specs.declared.limits.PutRule.TheVariants.{Keep}
 use Rattle.commons.specs.declared.refusal.Refusal.{Refusal}
@@ -10,7 +10,9 @@ use Rattle.commons.specs.Refusals.{number_of}
 use Rattle.ground.specs.Opening.{IsGroundCause}
 use Rattle.ground.specs.Parting.{IsBoth, less_part, newcomer}
 use Rattle.ground.specs.Seats.{Seated}
-use Rattle.lending.specs.Lending.{GetsLoans, PutsLoans}
+use Rattle.lending.specs.Lending.{GetsLoans, IsSplitCause, PutsLoans, with_list}
+use Rattle.lending.specs.declared.cause.Cause.{Cause}
+use Rattle.lending.specs.declared.cause.Cause.TheVariants.{Refused, LentOut}
 use Rattle.lending.specs.declared.loans.Loans.{Loans}
 use Rattle.stack_lf.specs.Sides.{side_of}
 use Rattle.stack_lf.specs.Tries.{DidOnWords}
@@ -25,6 +27,20 @@ abbrev pub status_of : Result (Unit {0}) Refusal → ℕ
 status_of (Ok _) = 0
 status_of (Err cause) = number_of cause
 
+-- what no refusal has: of a get, or of a split, by a seat that has lent as much of its part as it can
+abbrev pub lent_out : ℕ
+lent_out = 29
+
+-- the number of a cause
+abbrev pub number_in : Cause → ℕ
+number_in (Refused cause) = number_of cause
+number_in LentOut = lent_out
+
+-- of a get: 0, or the number of its cause
+abbrev pub status_of_get : Result (Unit {0}) Cause → ℕ
+status_of_get (Ok _) = 0
+status_of_get (Err cause) = number_in cause
+
 -- The seat of a handle made this call, and C has the status of its answer. Where there is no seat
 -- nothing was done, and C has the number of a stranger.
 abbrev pub CallsIn : (Result (Unit {0}) Refusal → Call) → Option Seated → ℕ → Option Seated → Type 0
@@ -38,8 +54,8 @@ CallsIn call (Some s) status new =
 abbrev pub GetsIn : ℕ → List ℕ → Option Seated → Loans → ℕ → Option Seated → Loans → Type 0
 GetsIn n xs None x status new y = (status ≡ number_of StrangerShare) × (new ≡ None) × (y ≡ x)
 GetsIn n xs (Some s) x status new y =
-    (answer : Result (Unit {0}) Refusal) × (t : Seated) × GetsLoans n (with_list answer xs) s x t y
-    × (new ≡ Some t) × (status ≡ status_of answer)
+    (answer : Result (Unit {0}) Cause) × (t : Seated) × GetsLoans n (with_list answer xs) s x t y
+    × (new ≡ Some t) × (status ≡ status_of_get answer)
 
 -- the same of a put of elements that are lent
 abbrev pub PutsIn : List ℕ → Option Seated → Loans → ℕ → Option Seated → Loans → Type 0
@@ -79,6 +95,12 @@ Splits None new out = ⊥
 Splits (Some s) new out =
     (new ≡ Some (record s { known = less_part s.known }))
     × ((other : Seated) × (out ≡ Some other) × (other.table ≡ s.table) × (other.known ≡ newcomer s.known))
+
+-- Why no seat is made, by the number that C has: the first handle has no seat, or the seat isn't split.
+abbrev pub RefusesSplit : ℕ → Option Seated → Type 0
+RefusesSplit status None = status ≡ number_of StrangerShare
+RefusesSplit status (Some s) =
+    (cause : Cause) × (status ≡ number_in cause) × IsSplitCause s.known.view.part cause
 
 -- The seat has back the part that it gave: it names what it named, and has forgotten what it had read
 -- of the common list.

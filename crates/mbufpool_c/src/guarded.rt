@@ -3,12 +3,13 @@
 ghost use Rattle.std.specs.Prelude.{◌≡◌, ◌≢◌, ◌<◌, ◌≤◌, ℕ, None, Some, length, IfOk, IfErr};
 ghost use Rattle.commons.specs.Bag.{bag};
 ghost use Rattle.commons.specs.Refusals.{number_of};
-ghost use Rattle.commons.specs.declared.refusal.Refusal.TheVariants.{NoRoom};
+ghost use Rattle.commons.specs.declared.refusal.Refusal.TheVariants.{NoRoom, OutOfMemory};
 ghost use Rattle.guard.specs.Caching.{Cached};
 ghost use Rattle.guard.specs.Guarding.{IsMakeCause};
-ghost use Rattle.mbufpool_c.specs.Guarded.{GetsGuard, IsFirst, PutsGuard, SplitsGuard, guard_limits, nobody, status_of as status_in, status_of_put as status_in_put};
+ghost use Rattle.mbufpool_c.specs.Guarded.{GetsGuard, IsFirst, PutsGuard, RefusesSplit, SplitsGuard, guard_limits, nobody, number_in, status_of as status_in, status_of_put as status_in_put};
 
 use crate::guard_handle::GuardHandle;
+use crate::stack::LENT_OUT;
 use commons::limits::{Limits, PutRule};
 use commons::refusal::Refusal;
 use guard::cause::Cause;
@@ -24,6 +25,18 @@ pub const NOBODY: u32 = 27;
 /// The status of a get whose elements couldn't rest.
 pub const UNRESTED: u32 = 28;
 
+/// The number of a cause.
+#[inline(always)]
+fn number(cause: Cause) -> u32
+    ensures { result ≡ number_in cause }
+{
+    match cause {
+        Cause::Refused(cause) => cause.number(),
+        Cause::LentOut => LENT_OUT,
+        Cause::Unrested => UNRESTED,
+    }
+}
+
 /// The status of an answer: 0, or the number of its cause.
 #[inline(always)]
 fn status_of(answer: Result<(), Cause>) -> u32
@@ -31,8 +44,7 @@ fn status_of(answer: Result<(), Cause>) -> u32
 {
     match answer {
         Ok(()) => 0,
-        Err(Cause::Refused(cause)) => cause.number(),
-        Err(Cause::Unrested) => UNRESTED,
+        Err(cause) => number(cause),
     }
 }
 
@@ -98,6 +110,9 @@ pub extern "C" fn mbufpool_guard_open(
 }
 
 /// Makes one more worker of the pool, with an empty cache. A worker that was in its handle is lost.
+///
+/// Refused `StrangerShare` where the handle has no worker or the pool has no more of them, `LENT_OUT`
+/// where as much of the seat's part is out, and `OutOfMemory` where memory was refused.
 #[unsafe(no_mangle)]
 pub extern "C" fn mbufpool_guard_split(
     alloc: Global,
@@ -106,6 +121,7 @@ pub extern "C" fn mbufpool_guard_split(
 ) -> u32
     ensures made { result ≡ 0 → SplitsGuard worker.old.value worker.new.value out.new.value }
     ensures kept { result ≢ 0 → out.new.value ≡ out.old.value }
+    ensures cause { result ≢ 0 → RefusesSplit result worker.old.value }
 {
     match worker.take(alloc) {
         None => Refusal::StrangerShare.number(),
@@ -114,7 +130,7 @@ pub extern "C" fn mbufpool_guard_split(
             worker.put(own);
             match answer {
                 Ok(other) => hand_out(alloc, other, out),
-                Err(cause) => cause.number(),
+                Err(cause) => number(cause),
             }
         }
     }
@@ -124,6 +140,7 @@ pub extern "C" fn mbufpool_guard_split(
 fn hand_out(alloc: Global, worker: GuardWorker, out: &mut GuardHandle) -> u32
     ensures made { result ≡ 0 → out.new.value ≡ Some worker }
     ensures kept { result ≢ 0 → out.new.value ≡ out.old.value }
+    ensures cause { result ≢ 0 → result ≡ number_of OutOfMemory }
 {
     match Box::new(alloc, worker) {
         Ok(worker) => {
@@ -136,6 +153,10 @@ fn hand_out(alloc: Global, worker: GuardWorker, out: &mut GuardHandle) -> u32
 
 /// Gets as many elements as `out` has places: all of them, or none. Each is out then, with the number
 /// `who`, which is 2 at least.
+///
+/// Refused `NOBODY` where `who` is less, `StrangerShare` where the handle has no worker, `LENT_OUT`
+/// where the seat's part of the pool is no greater than `out`, `UNRESTED` where a place has no room,
+/// and else as `Worker::get_bulk` is.
 #[unsafe(no_mangle)]
 pub extern "C" fn mbufpool_guard_get(
     alloc: Global,

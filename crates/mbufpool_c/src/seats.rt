@@ -2,13 +2,13 @@
 
 ghost use Rattle.std.specs.Prelude.{◌≡◌, ◌+◌, ◌^◌, ◌<◌, ◌≤◌, [], length, ℕ, None, Some, IfOk, IfErr};
 ghost use Rattle.commons.specs.Bag.{bag};
-ghost use Rattle.commons.specs.Calls.{Did, GetList, PutList, CommonCount, with_list};
+ghost use Rattle.commons.specs.Calls.{Did, GetList, PutList, CommonCount, with_list as with_elements};
 ghost use Rattle.ground.specs.Opening.{IsGroundCause};
 ghost use Rattle.ground.specs.Own.{Owned};
 ghost use Rattle.ground.specs.Parting.{IsBoth, less_part, newcomer};
 ghost use Rattle.ground.specs.Rule.{first_known};
 ghost use Rattle.ground.specs.Seats.{IsOf};
-ghost use Rattle.lending.specs.Lending.{GetsLoans, PutsLoans};
+ghost use Rattle.lending.specs.Lending.{GetsLoans, IsSplitCause, PutsLoans, with_list};
 ghost use Rattle.lending.specs.Pools.{AreAt, none_of};
 ghost use Rattle.stack_lf.specs.Sides.{side_of};
 ghost use Rattle.step_core.specs.World.{worker_part};
@@ -17,6 +17,7 @@ ghost use Rattle.stack_lf.specs.Tries.{DidOnWords};
 use commons::limits::Limits;
 use commons::refusal::Refusal;
 use ground::pool::Ground;
+use lending::cause::Cause;
 use lending::lender::Lender;
 use lending::loans::Loans;
 use std::alloc::Global;
@@ -86,20 +87,25 @@ impl OwnSeat {
 
     /// Makes one more seat at the same words, of a worker's part of this one.
     ///
-    /// Refused `StrangerShare` where the pool has no more workers, or as much of the seat's part is
-    /// lent, and `OutOfMemory` where there are too many owners.
-    pub fn split(&mut self) -> Result<OwnSeat, Refusal>
+    /// Refused `StrangerShare` where the pool has no more workers, `LentOut` where as much of the
+    /// seat's part is lent, and `OutOfMemory` where there are too many owners. This seat is as before
+    /// then.
+    pub fn split(&mut self) -> Result<OwnSeat, Cause>
         ensures left { IfOk result (λ _. self.new ≡ record self.old { known = less_part self.old.known }) }
         ensures made { IfOk result (λ other. (other.table ≡ self.old.table) × (other.known ≡ newcomer self.old.known)) }
         ensures kept { IfErr result (λ _. self.new ≡ self.old) }
         ensures part { IfOk result (λ _. (worker_part < self.old.known.view.part)
             × (self.old.known.view.part < 2 ^ 64)) }
+        ensures cause { IfErr result (IsSplitCause self.old.known.view.part) }
     {
-        if self.parts < 2 || self.part() <= WORKER_PART {
-            return Err(Refusal::StrangerShare);
+        if self.parts < 2 {
+            return Err(Cause::Refused(Refusal::StrangerShare));
+        }
+        if self.part() <= WORKER_PART {
+            return Err(Cause::LentOut);
         }
         let Ok(ground) = Arc::try_clone(&self.ground) else {
-            return Err(Refusal::OutOfMemory);
+            return Err(Cause::Refused(Refusal::OutOfMemory));
         };
         let Some(lender) = self.lender.take() else {
             unreachable!()
@@ -161,7 +167,7 @@ impl OwnSeat {
     #[inline(always)]
     pub fn get(&mut self, out: &mut [u32]) -> Result<(), Refusal>
         requires { 0 < length out.old }
-        ensures { Did DidOnWords side_of self.old (GetList (length out.old) (with_list result out.new)) self.new }
+        ensures { Did DidOnWords side_of self.old (GetList (length out.old) (with_elements result out.new)) self.new }
     {
         let Some(lender) = self.lender.take() else {
             unreachable!()
@@ -188,8 +194,10 @@ impl OwnSeat {
 
     /// Takes as many elements off the stack as `out` has places, and lends them: all of them, or
     /// none.
+    ///
+    /// Refused as `Lender::get` is.
     #[inline(always)]
-    pub fn get_lent(&mut self, out: &mut [u32], loans: &mut Loans) -> Result<(), Refusal>
+    pub fn get_lent(&mut self, out: &mut [u32], loans: &mut Loans) -> Result<(), Cause>
         requires some { 0 < length out.old }
         requires loans { AreAt self.old loans.old }
         ensures { GetsLoans (length out.old) (with_list result out.new) self.old loans.old self.new loans.new }

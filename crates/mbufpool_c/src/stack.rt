@@ -7,13 +7,18 @@ ghost use Rattle.ground.specs.Opening.{IsGroundCause};
 ghost use Rattle.ground.specs.Parting.{less_part, newcomer};
 ghost use Rattle.ground.specs.Rule.{first_known};
 ghost use Rattle.ground.specs.Seats.{Seated};
-ghost use Rattle.mbufpool_c.specs.Stacks.{AreLent, GetsIn, HasBack, KeepsSeat, PutsIn, CountsIn, RefusesStack, Splits, stack_limits, status_of as status_in};
+ghost use Rattle.lending.specs.Lending.{IsSplitCause};
+ghost use Rattle.mbufpool_c.specs.Stacks.{AreLent, GetsIn, HasBack, KeepsSeat, PutsIn, CountsIn, RefusesSplit, RefusesStack, Splits, number_in, stack_limits, status_of as status_in, status_of_get as status_in_get};
 
 use crate::seat_with_loans::SeatWithLoans;
 use crate::seats::OwnSeat;
 use commons::limits::{Limits, PutRule};
 use commons::refusal::Refusal;
+use lending::cause::Cause;
 use std::alloc::Global;
+
+/// The status of a get, or of a split, by a seat that has lent as much of its part as it can.
+pub const LENT_OUT: u32 = 29;
 
 /// The status of an answer: 0, or the number of a refusal.
 #[inline(always)]
@@ -23,6 +28,28 @@ pub(crate) fn status_of(answer: Result<(), Refusal>) -> u32
     match answer {
         Ok(()) => 0,
         Err(cause) => cause.number(),
+    }
+}
+
+/// The number of a cause.
+#[inline(always)]
+fn number(cause: Cause) -> u32
+    ensures { result ≡ number_in cause }
+{
+    match cause {
+        Cause::Refused(cause) => cause.number(),
+        Cause::LentOut => LENT_OUT,
+    }
+}
+
+/// The status of a get: 0, or the number of its cause.
+#[inline(always)]
+fn status_of_get(answer: Result<(), Cause>) -> u32
+    ensures { result ≡ status_in_get answer }
+{
+    match answer {
+        Ok(()) => 0,
+        Err(cause) => number(cause),
     }
 }
 
@@ -79,9 +106,12 @@ pub extern "C" fn mbufpool_seat_open(
     }
 }
 
-/// Makes one more seat of the pool, with no loans. A seat that was in its handle is lost. Where it is
-/// refused the first seat is as it was; or, where that is for memory, it has back what it gave, and
-/// has forgotten what it had read of the common list.
+/// Makes one more seat of the pool, with no loans. A seat that was in its handle is lost.
+///
+/// Refused `StrangerShare` where the handle has no seat or the pool has no more workers, `LENT_OUT`
+/// where as much of the seat's part is lent, and `OutOfMemory` where memory was refused. The first
+/// seat is as it was then; or, where that is for memory, it has back what it gave, and has forgotten
+/// what it had read of the common list.
 #[unsafe(no_mangle)]
 pub extern "C" fn mbufpool_seat_split(
     alloc: Global,
@@ -91,6 +121,7 @@ pub extern "C" fn mbufpool_seat_split(
     ensures made { result ≡ 0 → Splits seat.old.handle.value seat.new.handle.value out.new.handle.value }
     ensures kept { result ≢ 0 → out.new ≡ out.old }
     ensures first { result ≢ 0 → KeepsSeat result seat.old.handle.value seat.new.handle.value }
+    ensures cause { result ≢ 0 → RefusesSplit result seat.old.handle.value }
     ensures loans { seat.new.loans ≡ seat.old.loans }
 {
     match seat.handle.take(alloc) {
@@ -103,26 +134,27 @@ pub extern "C" fn mbufpool_seat_split(
                     out.fill(other);
                     0
                 }
-                Err(cause) => cause.number(),
+                Err(cause) => number(cause),
             }
         }
     }
 }
 
 /// One more seat, on the heap; the first has its part back where memory is refused.
-fn split(alloc: Global, own: &mut OwnSeat) -> Result<Box<OwnSeat>, Refusal>
+fn split(alloc: Global, own: &mut OwnSeat) -> Result<Box<OwnSeat>, Cause>
     ensures left { IfOk result (λ _. own.new ≡ record own.old { known = less_part own.old.known }) }
     ensures made { IfOk result (λ other.
         (other.value.table ≡ own.old.table) × (other.value.known ≡ newcomer own.old.known)) }
     ensures kept { IfErr result (λ cause. (own.new ≡ own.old)
-        ⊎ ((cause ≡ Refusal.OutOfMemory) × HasBack own.old own.new)) }
+        ⊎ ((cause ≡ Cause.Refused Refusal.OutOfMemory) × HasBack own.old own.new)) }
+    ensures cause { IfErr result (IsSplitCause own.old.known.view.part) }
 {
     let other = own.split()?;
     match Box::new(alloc, other) {
         Ok(other) => Ok(other),
         Err(failed) => {
             own.rejoin(failed.value);
-            Err(Refusal::OutOfMemory)
+            Err(Cause::Refused(Refusal::OutOfMemory))
         }
     }
 }
@@ -138,12 +170,15 @@ fn get_some(alloc: Global, seat: &mut SeatWithLoans, out: &mut [u32]) -> u32
         Some(mut own) => {
             let answer = own.get_lent(out, &mut seat.loans);
             seat.handle.put(own);
-            status_of(answer)
+            status_of_get(answer)
         }
     }
 }
 
 /// Gets as many elements as `out` has places, and lends them to C: all of them, or none.
+///
+/// Refused `StrangerShare` where the handle has no seat, `LENT_OUT` where the seat's part of the pool
+/// is no greater than `out`, and else as `Commons::get_list` is.
 #[unsafe(no_mangle)]
 pub extern "C" fn mbufpool_seat_get(alloc: Global, seat: &mut SeatWithLoans, out: &mut [u32]) -> u32
     ensures nothing { length out.old ≡ 0 → (result ≡ 0) × (seat.new ≡ seat.old) }
@@ -173,8 +208,11 @@ fn put_some(alloc: Global, seat: &mut SeatWithLoans, list: &[u32]) -> u32
     }
 }
 
-/// Puts a list of elements back: all of them, or none. Each is lent to C: it was got, by whichever
-/// seat of the pool, and wasn't put since; the list names it once.
+/// Puts a list of elements back: all of them, or none. Each is lent to C: each number was got by a
+/// seat of this pool, by whichever thread, and not put since. So the list names it once.
+///
+/// Refused `StrangerShare` where the handle has no seat, and else as `Commons::put_list` is. What was
+/// lent is lent still then.
 #[unsafe(no_mangle)]
 pub extern "C" fn mbufpool_seat_put(alloc: Global, seat: &mut SeatWithLoans, list: &[u32]) -> u32
     requires { AreLent seat.old.handle.value seat.old.loans list.now }

@@ -1,64 +1,70 @@
-use Rattle.std.proofs.Common.{◌≡◌, ℕ, ◌+◌, ◌<◌, ◌≤◌, List, length, take, get_or, sym, ◌∙◌, ap, subst, arith}
-use Rattle.std.proofs.lemmas.List.{take_all, take_more, length-take-le}
+use Rattle.std.proofs.Common.{◌≤◌, ℕ, ◌∙◌, sym, arith}
 use Rattle.commons.specs.Bag.{bag}
-use Rattle.lending.specs.Lending.{IsLent}
 use Rattle.lending.specs.Lent.{loaned}
-use Rattle.lending.proofs.Moving.{nothing_lent, lend_one, next_there}
+use Rattle.lending.proofs.Moving.{none_lent, ends_whole, lend_next, next_is, some_left, part_left, all_lent}
 use Rattle.lending.proofs.lender.lend_all.Goals as goal
 
 pub loop-k-init : goal.loop-k-init
 loop-k-init c = record {
-  lent = nothing_lent c.args.seat.now c.args.loans.now;
+  lent = none_lent c.args.list.now c.args.seat.now c.args.loans.now;
+  last = (
+    c.requires.last.0,
+    ends_whole c.requires.last.0 c.args.list.now c.args.seat.now.known.view.hand c.requires.last.1,
+  );
   rest = c.requires.rest;
 }
 
-pub lend-lent-requires-clause-of : goal.lend-lent-requires-clause-of
-lend-lent-requires-clause-of c =
+pub lend_last-lent-requires-clause-of : goal.lend_last-lent-requires-clause-of
+lend_last-lent-requires-clause-of c =
     let h = c.loop-k.invariant.lent in record {
       table = h.same.table ∙ c.requires.of.table;
       limits = h.same.limits ∙ c.requires.of.limits;
     }
 
-pub lend-lent-requires-clause-rest : goal.lend-lent-requires-clause-rest
-lend-lent-requires-clause-rest c = c.loop-k.invariant.rest
+pub lend_last-lent-requires-clause-rest : goal.lend_last-lent-requires-clause-rest
+lend_last-lent-requires-clause-rest c = c.loop-k.invariant.rest
 
-pub lend-lent-requires-clause-hand : goal.lend-lent-requires-clause-hand
-lend-lent-requires-clause-hand c =
-    next_there c.args.list.now c.loop-k.k (λ i. bag c.args.seat.now.known.view.hand i)
-    (λ i. bag c.loop-k.seat.known.view.hand i) c.loop-k-test.true c.requires.hand c.loop-k.invariant.lent.hand
+-- one of the list is left in the hand
+pub lend_last-lent-requires-clause-hand : goal.lend_last-lent-requires-clause-hand
+lend_last-lent-requires-clause-hand c =
+    let last = c.loop-k.invariant.last in
+    some_left last.0 c.args.list.now c.loop-k.k c.loop-k.seat.known.view.hand c.loop-k-test.true last.1
 
--- a part is left for the next
-part_left : (xs : List ℕ) (k whole left : ℕ) → k < length xs → whole ≡ left + length (take k xs) → length xs < whole → 2 ≤ left
-part_left xs k whole left h e more = let n = length-take-le k xs (omega arith) in omega arith
-
-pub lend-lent-requires-clause-part : goal.lend-lent-requires-clause-part
-lend-lent-requires-clause-part c =
+-- and a part is left for it
+pub lend_last-lent-requires-clause-part : goal.lend_last-lent-requires-clause-part
+lend_last-lent-requires-clause-part c =
     part_left c.args.list.now c.loop-k.k c.args.seat.now.known.view.part c.loop-k.seat.known.view.part
     c.loop-k-test.true c.loop-k.invariant.lent.part c.requires.part
 
+-- what was lent is the element that is next in the list, from its end
 pub add-requires : goal.add-requires
 add-requires c =
     let h = c.loop-k.invariant.lent in
+    let last = c.loop-k.invariant.last in
     let table = h.table ∙ c.requires.loans.table in
-    let limits = h.same.limits ∙ (c.requires.of.limits ∙ sym (h.limits ∙ c.requires.loans.limits)) in record {
+    let limits = h.same.limits ∙ (c.requires.of.limits ∙ sym (h.limits ∙ c.requires.loans.limits)) in
+    let is = next_is last.0 c.args.list.now c.loop-k.k c.loop-k.seat.known.view.hand c.loop-k-test.true last.1 in record {
       seat = (
-        c.lend-lent.ensures.of.table ∙ sym table,
-        c.lend-lent.ensures.known ∙ ap (λ l. loaned l (get_or c.args.list.now c.loop-k.k 0)) limits,
-        c.lend-lent.ensures.slots,
+        c.lend_last-lent.ensures.of.table ∙ sym table,
+        c.lend_last-lent.ensures.known ∙ (λ i. loaned (limits i) (is i)),
+        c.lend_last-lent.ensures.slots,
       );
     }
 
+-- one more is lent
 pub loop-k-preserved : goal.loop-k-preserved
 loop-k-preserved c =
     let h = c.loop-k.invariant in
-    let e = get_or c.args.list.now c.loop-k.k 0 in
-    let there = next_there c.args.list.now c.loop-k.k (λ i. bag c.args.seat.now.known.view.hand i)
-    (λ i. bag c.loop-k.seat.known.view.hand i) c.loop-k-test.true c.requires.hand h.lent.hand in
     let enough = part_left c.args.list.now c.loop-k.k c.args.seat.now.known.view.part c.loop-k.seat.known.view.part
     c.loop-k-test.true h.lent.part c.requires.part in
-    rw (c.lend-lent.ensures.old, c.add.ensures, take_more c.args.list.now c.loop-k.k 0 c.loop-k-test.true)
+    let once : (i : ℕ) → bag c.loop-k.seat.known.view.hand i ≤ 1 =
+    λ i. let two = c.owned.ensures.hand_once i in omega arith in
+    let more = lend_next h.last.0 c.args.list.now c.loop-k.k c.args.seat.now c.args.loans.now c.loop-k.seat c.loop-k.loans
+    c.loop-k-test.true h.lent h.last.1 once enough in
+    rw (c.lend_last-lent.ensures.old, c.add.ensures)
     (record {
-      lent = lend_one (take c.loop-k.k c.args.list.now) e c.args.seat.now c.args.loans.now c.loop-k.seat c.loop-k.loans h.lent there enough;
+      lent = more.0;
+      last = (h.last.0, more.1);
       rest = record {
         zeros = h.rest.zeros;
         credit = h.rest.credit;
@@ -69,8 +75,8 @@ loop-k-preserved c =
 
 pub returns-clause-lent : goal.returns-clause-lent
 returns-clause-lent c =
-    let P : List ℕ → Type 0 = λ xs. IsLent xs c.args.seat.now c.args.loans.now c.loop-k.seat c.loop-k.loans in
-    subst P (take_all c.loop-k.k c.args.list.now c.loop-k-test.false) c.loop-k.invariant.lent
+    all_lent c.args.list.now c.loop-k.k c.args.seat.now c.args.loans.now c.loop-k.seat c.loop-k.loans
+    c.loop-k-test.false c.loop-k.invariant.lent
 
 pub returns-clause-rest : goal.returns-clause-rest
 returns-clause-rest c = c.loop-k.invariant.rest

@@ -3,7 +3,7 @@ use Rattle.lending.proofs.lender.Lender.put.Goals as goal
 
 pub invariant_of-result-in-Err : goal.invariant_of-result-in-Err
 invariant_of-result-in-Err c =
-    let joined = c.join_all.ensures.lent in
+    let joined = c.join_all-seat.ensures.lent in
     let lent = c.lend_all.ensures.lent in record {
       rest = c.lend_all.ensures.rest;
       slots = lent.same.slots ∙ c.put_by-answer.ensures.slots;
