@@ -9,7 +9,9 @@
  * Each thread, on an lcore of its own, gets a list and puts it back, again and again. A line of the
  * table has a cell for each list, the nanoseconds of processor time for each element got and put:
  * the median of the runs, and the least. A "packet" is a worker's alloc and free, or of a handler's
- * name with a p behind it, as lf_stack.p, rte_pktmbuf_alloc and rte_pktmbuf_free. */
+ * name with a p behind it, as lf_stack.p, rte_pktmbuf_alloc and rte_pktmbuf_free. Of a name with an
+ * h behind it, as lf_stack.h, one of two threads gets lists and hands them over a ring to the
+ * other, which puts them: a cell has the processor time of both, the ring's share in it. */
 #include <stdio.h>
 #include <stdlib.h>
 #include <string.h>
@@ -21,6 +23,7 @@
 #include <rte_mbuf.h>
 #include <rte_mempool.h>
 #include <rte_pause.h>
+#include <rte_ring.h>
 
 #include "mbufpool.h"
 
@@ -29,8 +32,9 @@
 #define MOST_RUNS 99
 #define ELEMENT 64
 #define TRIES 1000000
+#define RING 1024
 
-enum face { BY_MEMPOOL, BY_MBUF, BY_SEAT, BY_WORKER };
+enum face { BY_MEMPOOL, BY_MBUF, BY_SEAT, BY_WORKER, BY_HAND_OVER };
 
 struct thread {
 	struct mbufpool_seat seat;
@@ -42,6 +46,8 @@ struct thread {
 static struct {
 	enum face face;
 	struct rte_mempool *mp;
+	struct rte_ring *ring;
+	int is_all_sent;
 	unsigned int list, threads, waiting;
 	uint64_t ms;
 	struct thread thread[MOST_THREADS];
@@ -110,6 +116,58 @@ loop(enum face face, struct thread *t, struct rte_mempool_cache *cache, unsigned
 	t->ns = now_on(CLOCK_THREAD_CPUTIME_ID) - begun;
 }
 
+/* Hands lists over to the other thread. */
+static void
+get_lists(struct thread *t, struct rte_mempool_cache *cache, unsigned int n)
+{
+	uint64_t until = now_on(CLOCK_MONOTONIC) + cell.ms * 1000000;
+	void *objects[MOST_LIST];
+	int i;
+
+	do {
+		for (i = 0; i < 64; i++) {
+			if (rte_mempool_generic_get(cell.mp, objects, n, cache) != 0) {
+				rte_pause();
+				continue;
+			}
+			while (rte_ring_enqueue_bulk(cell.ring, objects, n, NULL) == 0)
+				rte_pause();
+			t->elements += n;
+		}
+	} while (now_on(CLOCK_MONOTONIC) < until);
+	__atomic_store_n(&cell.is_all_sent, 1, __ATOMIC_SEQ_CST);
+}
+
+/* Puts the lists of the other thread. */
+static void
+put_lists(struct rte_mempool_cache *cache, unsigned int n)
+{
+	void *objects[MOST_LIST];
+	unsigned int taken;
+	int is_last;
+
+	do {
+		is_last = __atomic_load_n(&cell.is_all_sent, __ATOMIC_SEQ_CST);
+		taken = rte_ring_dequeue_bulk(cell.ring, objects, n, NULL);
+		if (taken != 0)
+			rte_mempool_generic_put(cell.mp, objects, n, cache);
+		else
+			rte_pause();
+	} while (taken != 0 || !is_last);
+}
+
+static void
+hand_over(struct thread *t, struct rte_mempool_cache *cache, unsigned int n)
+{
+	uint64_t begun = now_on(CLOCK_THREAD_CPUTIME_ID);
+
+	if (t == &cell.thread[0])
+		get_lists(t, cache, n);
+	else
+		put_lists(cache, n);
+	t->ns = now_on(CLOCK_THREAD_CPUTIME_ID) - begun;
+}
+
 static int
 run_thread(void *arg)
 {
@@ -126,6 +184,7 @@ run_thread(void *arg)
 	case BY_MEMPOOL: loop(BY_MEMPOOL, t, cache, cell.list); break;
 	case BY_MBUF: loop(BY_MBUF, t, cache, cell.list); break;
 	case BY_SEAT: loop(BY_SEAT, t, cache, cell.list); break;
+	case BY_HAND_OVER: hand_over(t, cache, cell.list); break;
 	default: loop(BY_WORKER, t, cache, cell.list); break;
 	}
 	/* (so that no lcore's cache is left with what the next run lacks) */
@@ -141,6 +200,7 @@ run_once(void)
 	unsigned int lcore, i = 1;
 
 	cell.waiting = cell.threads;
+	cell.is_all_sent = 0;
 	RTE_LCORE_FOREACH_WORKER (lcore)
 		if (i < cell.threads)
 			rte_eal_remote_launch(run_thread, &cell.thread[i++], lcore);
@@ -172,6 +232,7 @@ make(const char *what, uint32_t population, uint32_t cache)
 	unsigned int i;
 
 	cell.mp = NULL;
+	cell.ring = NULL;
 	if (strcmp(what, "seat") == 0) {
 		cell.face = BY_SEAT;
 		if (cache != 0 ||
@@ -192,8 +253,14 @@ make(const char *what, uint32_t population, uint32_t cache)
 		return 0;
 	}
 	snprintf(ops, sizeof(ops), "%.*s", dot ? (int)(dot - what) : (int)strlen(what), what);
-	cell.face = dot ? BY_MBUF : BY_MEMPOOL;
-	if (dot) {
+	cell.face = !dot ? BY_MEMPOOL : dot[1] == 'h' ? BY_HAND_OVER : BY_MBUF;
+	if (cell.face == BY_HAND_OVER) {
+		cell.ring = rte_ring_create(
+			"bench", RING, SOCKET_ID_ANY, RING_F_SP_ENQ | RING_F_SC_DEQ);
+		if (cell.ring == NULL)
+			return -1;
+	}
+	if (cell.face == BY_MBUF) {
 		cell.mp = rte_pktmbuf_pool_create_by_ops(
 			"bench", population, cache, 0, 2176, SOCKET_ID_ANY, ops);
 		return cell.mp ? 0 : -1;
@@ -212,6 +279,7 @@ end(void)
 	unsigned int i;
 
 	rte_mempool_free(cell.mp);
+	rte_ring_free(cell.ring);
 	for (i = 0; i < cell.threads; i++) {
 		mbufpool_seat_free(&cell.thread[i].seat);
 		mbufpool_end(&cell.thread[i].worker);
@@ -238,6 +306,17 @@ next(const char *list, unsigned long *number)
 
 	*number = strtoul(list, &end_of, 10);
 	return *end_of == ',' ? end_of + 1 : NULL;
+}
+
+/* Seats have no cache, and two threads alone hand over. */
+static int
+is_line(const char *what, unsigned long cache)
+{
+	const char *dot = strchr(what, '.');
+
+	if (dot != NULL && dot[1] == 'h')
+		return cell.threads == 2;
+	return strcmp(what, "seat") != 0 || cache == 0;
 }
 
 /* One line: these elements, with a cell for each list. */
@@ -300,11 +379,11 @@ main(int argc, char **argv)
 			cache_list = next(cache_list, &cache);
 			what = value_of(words, "what",
 				"lf_stack,stack,ring_mp_mc,mbufpool,mbufpool_checked,seat,packet,"
-				"lf_stack.p,mbufpool.p");
+				"lf_stack.p,mbufpool.p,lf_stack.h,ring_mp_mc.h,mbufpool.h");
 			for (; *what != 0; what += n + (what[n] == ',')) {
 				n = strcspn(what, ",");
 				snprintf(name, sizeof(name), "%.*s", (int)n, what);
-				if (strcmp(name, "seat") != 0 || cache == 0)
+				if (is_line(name, cache))
 					line(name, population, cache, lists, runs);
 			}
 		}

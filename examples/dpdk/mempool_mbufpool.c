@@ -5,8 +5,8 @@
  *
  * "mbufpool": each enabled lcore has a seat of its own, with which it gets and puts without a lock;
  * threads that are no such lcores share one seat under a spinlock. The library asks of a put that
- * its elements were got from the pool, by any seat, and not put since: an application keeps that
- * where it frees no object twice. An object may pass from lcore to lcore in between.
+ * each number was got by a seat of this pool, by whichever thread, and not put since: an application
+ * keeps that where it frees no object twice. An object may pass from lcore to lcore in between.
  *
  * "mbufpool_checked": one checked seat under a spinlock, for all threads. Nothing is asked of the
  * application: an object that is put twice, or that the pool hasn't given, is refused and logged,
@@ -54,6 +54,7 @@ struct chunk {
 };
 
 struct pool {
+	const char *name;		 /* the mempool's */
 	struct mbufpool_checked checked; /* the only seat of a checked pool, else none */
 	struct seat shared; /* for the first filling, and threads without a seat of their own */
 	rte_spinlock_t lock;
@@ -68,6 +69,19 @@ struct pool {
 	uint32_t nb_chunks;
 	struct chunk chunks[MAX_CHUNKS];
 	void **objects; /* for each place its object, or NULL */
+	int is_fault_told;
+};
+
+/* The refusals that end a pool, and what is left to do then. */
+static const struct {
+	uint32_t cause;
+	const char *name, *advice;
+} faults[] = {
+	{ MBUFPOOL_HEAD_SPENT, "MBUFPOOL_HEAD_SPENT",
+		"2^40 - 1 changes were made of its stack, and another mempool is needed" },
+	{ MBUFPOOL_LENT_OUT, "MBUFPOOL_LENT_OUT",
+		"this lcore got 2^56 objects more than it put: let it put some, or others get" },
+	{ MBUFPOOL_STRANGER, "MBUFPOOL_STRANGER", "the handle of its seat was overwritten" },
 };
 
 /* At most this many places are needed: one for each object, and one for each page, as what is left
@@ -92,6 +106,7 @@ pool_alloc(struct rte_mempool *mp, int is_checked)
 	p = rte_zmalloc_socket("mbufpool", sizeof(*p), RTE_CACHE_LINE_SIZE, mp->socket_id);
 	if (p == NULL)
 		return -ENOMEM;
+	p->name = mp->name;
 	p->size = mp->size;
 	p->stride = mp->header_size + mp->elt_size + mp->trailer_size;
 	p->inverse = UINT64_MAX / p->stride + 1;
@@ -302,6 +317,25 @@ get(struct pool *p, uint32_t *out, size_t n, const int is_checked)
 	return cause;
 }
 
+/* Logs once for each pool that a call was refused for another cause than that objects are out. */
+static __rte_cold __rte_noinline void
+log_fault(struct pool *p, const char *call, uint32_t cause)
+{
+	const char *name = "no cause of such a call", *advice = "the library isn't its header's";
+	size_t i;
+
+	if (cause == MBUFPOOL_NO_ENTRIES || cause == MBUFPOOL_NOT_IN_HAND ||
+		__atomic_exchange_n(&p->is_fault_told, 1, __ATOMIC_RELAXED))
+		return;
+	for (i = 0; i < RTE_DIM(faults); i++)
+		if (faults[i].cause == cause) {
+			name = faults[i].name;
+			advice = faults[i].advice;
+		}
+	RTE_LOG(ERR, MEMPOOL, "mbufpool: mempool %s refused a %s: %u, %s: %s\n", p->name, call,
+		cause, name, advice);
+}
+
 /* Where a list isn't all in the pool's hand, what is goes back one by one. */
 static uint32_t
 put_checked(struct pool *p, const uint32_t *list, size_t n)
@@ -351,14 +385,15 @@ put_unknown(struct pool *p, void *object)
 static __rte_always_inline int
 enqueue(struct pool *p, void *const *objects, unsigned int n, const int is_checked)
 {
-	uint32_t list[BURST];
+	uint32_t list[BURST], cause;
 	unsigned int i, k, done;
 	int err = 0;
 
 	for (done = 0; done < n; done += i) {
 		k = RTE_MIN(n - done, (unsigned int)BURST);
 		i = numbers_of(p, objects + done, k, list, is_checked);
-		if (likely(i > 0) && unlikely(put(p, list, i, is_checked) != 0)) {
+		if (likely(i > 0) && unlikely((cause = put(p, list, i, is_checked)) != 0)) {
+			log_fault(p, "put", cause);
 			err = -ENOBUFS;
 			if (!is_checked)
 				return err;
@@ -372,28 +407,29 @@ enqueue(struct pool *p, void *const *objects, unsigned int n, const int is_check
 	return err;
 }
 
-/* (apart, as it needs a list of its own, and is rarely called) */
-static __rte_noinline void
-give_back(struct pool *p, void *const *objects, unsigned int n, int is_checked)
+/* A refused get gives back what it has. (apart, as it needs a list of its own, and is rarely called)
+ */
+static __rte_noinline int
+refuse_get(struct pool *p, void *const *objects, unsigned int n, uint32_t cause, int is_checked)
 {
 	if (is_checked)
 		enqueue(p, objects, n, 1);
 	else
 		enqueue(p, objects, n, 0);
+	log_fault(p, "get", cause);
+	return -ENOBUFS;
 }
 
 static __rte_always_inline int
 dequeue(struct pool *p, void **objects, unsigned int n, const int is_checked)
 {
-	uint32_t list[BURST];
+	uint32_t list[BURST], cause;
 	unsigned int k, done;
 
 	for (done = 0; done < n; done += k) {
 		k = RTE_MIN(n - done, (unsigned int)BURST);
-		if (unlikely(get(p, list, k, is_checked) != 0)) {
-			give_back(p, objects, done, is_checked);
-			return -ENOBUFS;
-		}
+		if (unlikely((cause = get(p, list, k, is_checked)) != 0))
+			return refuse_get(p, objects, done, cause, is_checked);
 		objects_of(p, list, k, objects + done);
 	}
 	return 0;
