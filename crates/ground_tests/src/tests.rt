@@ -17,6 +17,7 @@ use step_core::view::{Desk, View};
 use step_core::world::World;
 
 mod answers;
+mod operations;
 mod random;
 mod seats;
 

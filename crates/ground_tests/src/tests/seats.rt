@@ -62,7 +62,13 @@ fn got(answer: &Option<Outcome>) -> &[u32] {
 }
 
 /// Takes the element on top of a common list of this length.
-fn take_one<R: Abort>(rt: &R, pool: &Ground, player: &mut Player, element: u32, length: u64)
+pub(super) fn take_one<R: Abort>(
+    rt: &R,
+    pool: &Ground,
+    player: &mut Player,
+    element: u32,
+    length: u64,
+)
     requires { IsOf pool.now player.old.seat }
     ensures { IsOf pool.now player.new.seat }
 {
@@ -74,7 +80,13 @@ fn take_one<R: Abort>(rt: &R, pool: &Ground, player: &mut Player, element: u32, 
 }
 
 /// Joins a seat's player to the first, which takes over what it has.
-fn join_one<R: Abort>(rt: &R, pool: &Ground, first: &mut Player, other: Player, place: u32)
+pub(super) fn join_one<R: Abort>(
+    rt: &R,
+    pool: &Ground,
+    first: &mut Player,
+    other: Player,
+    place: u32,
+)
     requires of { IsOf pool.now first.old.seat }
     requires other_of { IsOf pool.now other.seat }
     ensures { IsOf pool.now first.new.seat }
