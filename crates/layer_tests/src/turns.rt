@@ -122,21 +122,23 @@ fn freed<C: Commons, D: Commons>(
     c.noted.get()
 }
 
-// The same with two new pools.
-fn played(alloc: Global, is_first_freed: bool) -> Result<u64, Fail> {
+// The same with two new pools of these limits.
+fn played(alloc: Global, limits: &Limits, is_first_freed: bool) -> Result<u64, Fail> {
     let noted = Cell::new(0);
-    let mut first = PlainSite::make(alloc, &LIMITS)?;
-    let mut second = PlainSite::make(alloc, &LIMITS)?;
-    let mut twin = Twin::make(alloc, &LIMITS, &LIMITS, 1)?;
+    let mut first = PlainSite::make(alloc, limits)?;
+    let mut second = PlainSite::make(alloc, limits)?;
+    let mut twin = Twin::make(alloc, limits, limits, 1)?;
     let order = {
+        let one = PlainCommons::new(&mut first, 1);
+        let two = PlainCommons::new(&mut second, 1);
         let mut c = Noting {
-            inner: PlainCommons::new(&mut first, 1),
+            inner: one,
             ends: 1,
             puts: 3,
             noted: &noted,
         };
         let mut d = Noting {
-            inner: PlainCommons::new(&mut second, 1),
+            inner: two,
             ends: 2,
             puts: 4,
             noted: &noted,
@@ -151,9 +153,9 @@ fn played(alloc: Global, is_first_freed: bool) -> Result<u64, Fail> {
 /// the own element's hold ends, and the element is put back.
 #[test]
 fn a_base_goes_back_before_its_clones_own_element(rt: HostRuntime) -> Result<(), Fail> {
-    let kept = played(rt.alloc(), false)?;
+    let kept = played(rt.alloc(), &LIMITS, false)?;
     same(&rt, &kept, &124_124, "where the packet is there still");
-    let last = played(rt.alloc(), true)?;
+    let last = played(rt.alloc(), &LIMITS, true)?;
     same(
         &rt,
         &last,
