@@ -262,7 +262,8 @@ left_at_start l v c left same =
     λ i. record { top = top i; length = size i; links = links i; counts = counts i; desks = desks i }
 
 -- what is left is of a lawful world, has the packets that the seat knew of, is that of the start
--- where nobody did anything, and of the only seat has on the desks what that seat's notes leave there
+-- where nobody did anything, and of the only seat has on the desks what that seat's notes leave
+-- there
 abbrev pub Closes : Limits → View → Known → Closed → Type 0
 Closes l v n c =
     LeftOf l v c × IfSome n.lying (λ ds. c.desks ≡ ds) × (IsFresh n → c ≡ closed_at_start l)

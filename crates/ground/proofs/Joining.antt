@@ -107,8 +107,8 @@ merges l id n other o busy rest rest' s r at apart there =
       );
     }
 
--- A load that changes no word, after which the seat knows something else of the same view and the same
--- steps, keeps the rule.
+-- A load that changes no word, after which the seat knows something else of the same view and the
+-- same steps, keeps the rule.
 quiet : (l : Limits) (slots id : ℕ) (me : Sat) (word : ℕ) (n : Known) (s : State Slot Known) (r : Ruled l s) →
     get_elem? s.views id ≡ some me.0 → 0 < me.0.view.part → n.view ≡ me.0.view → n.limits ≡ me.0.limits →
     log_of n ≡ log_of me.0 → SeesDesks r.world n →

@@ -1,5 +1,5 @@
--- An element that is lent goes from hand to hand in the table, and nothing else moves; where a seat is
--- split, nothing does.
+-- An element that is lent goes from hand to hand in the table, and nothing else moves; where a seat
+-- is split, nothing does.
 use Rattle.std.proofs.Common.{◌≡◌, ℕ, zero, suc, ◌<◌, ◌≤◌, List, [], ◌∷◌, ◌++◌, length, set, refl, sym, ap, ◌∙◌, ⊎_elim, arith}
 use Rattle.std.proofs.lemmas.Bool.{cases_lt}
 use Rattle.std.proofs.lemmas.List.{get_or_past, length-set}

@@ -1,4 +1,4 @@
--- Each operation of a call is a step of the machine.
+-- Each operation that a call notes is a step of the machine.
 use Rattle.ground.specs.Operations.{OperationsAreSteps}
 use Rattle.ground.proofs.Stepping.{loads_length, reserves, adds, loads_head, loads_link, cuts, stores_link, pushes}
 use Rattle.ground.proofs.Tallies.{claims, soles, raises, lowers, resets}

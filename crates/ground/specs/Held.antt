@@ -48,8 +48,8 @@ LeavesIt i w (Split id) = ⊤
 LeavesIt i w (Lent id j) = ⊤
 LeavesIt i w (Joined id other) = ⊤
 
--- These moves, the last first, followed on the earlier ones: in the world before each of them, and in
--- the last world, the element is held, and none of them gives it.
+-- These moves, the last first, followed on the earlier ones: in the world before each of them, and
+-- in the last world, the element is held, and none of them gives it.
 abbrev pub IsHeldOver : ℕ → (l : Limits) (since earlier : List Move) (w : World) (logs : List Log) →
     Led l (since ++ earlier) w logs → Type 0
 IsHeldOver i l [] earlier w logs led = IsHeldIn i w
@@ -57,8 +57,8 @@ IsHeldOver i l (m ∷ since) earlier w logs led =
     IsHeldIn i w × LeavesIt i led.0 m × IsHeldOver i l since earlier led.0 led.1 led.3
 
 -- From a claim of i on, by whichever seat, as long as no step ends the last hold of i: i is held in
--- every table that a world shows, and no step gives it to anybody, whatever the seats do and however
--- many there are.
+-- every table that a world shows, and no step gives it to anybody, whatever the seats do and
+-- however many there are.
 abbrev pub HeldIsNotGiven : Type 0
 HeldIsNotGiven =
     (l : Limits) (since earlier : List Move) (id i : ℕ) (o : Outcome) (w : World) (logs : List Log)
@@ -71,8 +71,8 @@ MovesPacket d (PutIn e p) = e ≡ d
 MovesPacket d (TakeOut e) = e ≡ d
 MovesPacket d step = ⊥
 
--- Between a PutIn and its Open, and between a TakeOut and its Clear, the world is lawful too: no hold
--- is counted on the desk, and the packet's are its worker's, as they were before.
+-- Between a PutIn and its Open, and between a TakeOut and its Clear, the world is lawful too: no
+-- hold is counted on the desk, and the packet's are its worker's, as they were before.
 abbrev pub PassesLawful : Type 0
 PassesLawful =
     (w : World) (worker d : ℕ) (s : Step) (o : Outcome) (v : World) → Lawful w → HeaderLaw w →

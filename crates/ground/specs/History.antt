@@ -1,5 +1,6 @@
 -- How the words of a pool came to be: by steps of the machine, each by one seat, by seats that were
--- split, elements that were lent, and seats that were joined. Seats are numbered from 0, and the machine's workers from 1.
+-- split, elements that were lent, and seats that were joined. Seats are numbered from 0, and the
+-- machine's workers from 1.
 use Rattle.std.specs.Prelude.{◌≡◌, ◌≢◌, ℕ, suc, ◌<◌, ◌≤◌, List, [], ◌∷◌, ◌++◌, Option, Some, None, length, map, slice_set, ⊤, ◌==◌, if◌then◌else◌}
 use mathlib.Core.Option.{some}
 use lib.ListN.{get_elem?}
@@ -80,14 +81,14 @@ Led l [] w logs = (w ≡ opening_alone l) × (logs ≡ ([], []) ∷ [])
 Led l (m ∷ ms) w logs =
     (v : World) × (before : List Log) × Lawful v × Led l ms v before × Leads m v before w logs
 
--- of n elements, i has gone from the first worker's hand to the second's, and each other one is where
--- it was
+-- of n elements, i has gone from the first worker's hand to the second's, and each other one is
+-- where it was
 abbrev pub GoesOn : (n i worker other : ℕ) → Table → Table → Type 0
 GoesOn n i worker other t r =
     (j : ℕ) → j < n → Where j (i ∷ []) ((t j ≡ Hand worker) × (r j ≡ Hand other)) (Same (t j) (r j))
 
--- the worker whose something is, once what the second had is the first's, and the place of an element
--- then
+-- the worker whose something is, once what the second had is the first's, and the place of an
+-- element then
 abbrev pub heir : (worker other w : ℕ) → ℕ
 heir worker other w = if w == other then worker else w
 
@@ -96,15 +97,15 @@ taken_over worker other Common = Common
 taken_over worker other (Hand w) = Hand (heir worker other w)
 taken_over worker other (Held ws ds) = Held (map (λ w. heir worker other w) ws) ds
 
--- of n elements, what the second worker had and held the first has and holds, and all else is where it
--- was
+-- of n elements, what the second worker had and held the first has and holds, and all else is where
+-- it was
 abbrev pub TakesOver : (n worker other : ℕ) → Table → Table → Type 0
 TakesOver n worker other t r = (j : ℕ) → j < n → Same (taken_over worker other (t j)) (r j)
 
--- Each step of a history is its one event of the table, by its seat's worker, or none; where a seat is
--- split, nothing moves; an element that is lent goes from that hand to the new one; and where seats
--- are joined, what the other had is the seat's; whichever tables the worlds before and after are read
--- as.
+-- Each step of a history is its one event of the table, by its seat's worker, or none; where a seat
+-- is split, nothing moves; an element that is lent goes from that hand to the new one; and where
+-- seats are joined, what the other had is the seat's; whichever tables the worlds before and after
+-- are read as.
 abbrev pub AreEvents : (l : Limits) (ms : List Move) (w : World) (logs : List Log) → Led l ms w logs → Type 0
 AreEvents l [] w logs led = ⊤
 AreEvents l (Stepped id step outcome ∷ ms) w logs led =

@@ -32,9 +32,9 @@ abbrev pub count_on : (List Seg → ℕ) → Option (List Seg) → ℕ
 count_on f None = 0
 count_on f (Some p) = f p
 
--- By these notes it lies there: of the packets with which a desk was opened, those that weren't seized
--- from it. So whatever is counted of packets: with a count of one packet alone, how often that one was
--- brought is how often it was taken, and once more where it lies there.
+-- By these notes it lies there: of the packets with which a desk was opened, those that weren't
+-- seized from it. So whatever is counted of packets: with a count of one packet alone, how often
+-- that one was brought is how often it was taken, and once more where it lies there.
 abbrev pub LieByNotes : List (Step × Outcome) → List (Option (List Seg)) → Type 0
 LieByNotes notes desks =
     (d : ℕ) (f : List Seg → ℕ) →

@@ -1,4 +1,5 @@
--- Each operation on a word is a step of the machine, whatever the other seats have done before it.
+-- Each operation on a word that a call notes is a step of the machine, whatever the other seats
+-- have done before it.
 use Rattle.std.specs.Prelude.{◌≡◌, ℕ, suc, ◌+◌, ◌-◌, ◌%◌, ◌^◌, ◌<◌, ◌≤◌, ◌==◌, Bool, true, List, [], ◌∷◌, length, map, slice_index, Some, None}
 use mathlib.Core.Option.{some, none}
 use lib.ListN.{get_elem?}
@@ -51,9 +52,9 @@ Moves l slots id me i f steps outcomes then =
     × Reaches r.world (by_worker (suc id) steps) (outcomes (slice_index s.words i)) after.world)
     × then (slice_index s.words i) (n, carried_after me.1 a)
 
--- So each operation of a call does, under the call's conditions. A packet is put in and taken out
--- by an exchange of a slot, which is with the seat then: its step comes with the one on the desk's
--- word.
+-- So each operation that a call notes does, under the call's conditions. A packet is put in and
+-- taken out by an exchange of a slot, which is with the seat then: its step comes with the one on
+-- the desk's word.
 pub record OperationsAreSteps : Type 0 where
   pub load_length : (l : Limits) (slots id : ℕ) (me : Sat) → Sits me →
       Moves l slots id me length_word (λ n. n) (LoadLength ∷ []) (λ x. Value x ∷ [])

@@ -13,8 +13,8 @@ use Rattle.ground.specs.Seats.{Seated}
 abbrev pub less : View → View
 less v = record v { part = v.part - worker_part }
 
--- what the seat knows, but for a worker's part, and for what lies on the desks, since another seat may
--- change that now
+-- what the seat knows, but for a worker's part, and for what lies on the desks, since another seat
+-- may change that now
 abbrev pub less_part : Known → Known
 less_part n = record n { view = less n.view; lying = None }
 

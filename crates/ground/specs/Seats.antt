@@ -120,9 +120,9 @@ pub record MayLie (l : Limits) (v : View) (desks : List (Option (List Seg))) : T
   pub own_once : (i : ℕ) → bag v.headers i + own_in desks i ≤ 1
   pub work : IfSome v.work (λ x. on_desk desks x.desk ≡ None)
 
--- The only seat of a pool knows what lies on the desks, and so the length word: it is the population
--- without the hand, the credit, and the elements that are held, each once, by the seat or by a
--- packet on a desk.
+-- The only seat of a pool knows what lies on the desks, and so the length word: it is the
+-- population without the hand, the credit, and the elements that are held, each once, by the seat
+-- or by a packet on a desk.
 abbrev pub KnowsLength : Known → ℕ → Type 0
 KnowsLength n found =
     n.view.part ≡ every_part n.limits →

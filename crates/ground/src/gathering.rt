@@ -14,8 +14,8 @@ use atomic_table::Seat;
 use commons::packet::Packet;
 use std::marker::Model;
 
-/// A seat that is taking others in. It has what it had and what they had, but what the type of a seat
-/// keeps isn't known of it: only a step tells that. So it is no seat until it has looked.
+/// A seat that is taking others in. It has what it had and what they had, but what the type of a
+/// seat keeps isn't known of it: only a step tells that. So it is no seat until it has looked.
 ///
 /// It can't be dropped, as a seat can't: it ends by `Ground::gathered`.
 pub struct Gathering {
@@ -46,8 +46,8 @@ impl Ground {
         Gathering { seat }
     }
 
-    /// Takes a seat in that is between calls, as `join` does, and doesn't look yet: the elements, holds,
-    /// headers and parts are those of both, and what lies on the desks isn't known.
+    /// Takes a seat in that is between calls, as `join` does, and doesn't look yet: the elements,
+    /// holds, headers and parts are those of both, and what lies on the desks isn't known.
     pub fn take_in(&self, gathering: &mut Gathering, other: GroundSeat)
         requires of { IsOf self.now gathering.old }
         requires other_of { IsOf self.now other }
@@ -61,8 +61,8 @@ impl Ground {
             .join_seat::<Parts>(&mut gathering.seat, other);
     }
 
-    /// Makes a seat of one that has taken others in: reads the word that nobody writes, once for all of
-    /// them. Where it is the only seat of the pool now, it knows what lies on the desks.
+    /// Makes a seat of one that has taken others in: reads the word that nobody writes, once for
+    /// all of them. Where it is the only seat of the pool now, it knows what lies on the desks.
     pub fn gathered(&self, gathering: Gathering) -> GroundSeat
         requires of { IsOf self.now gathering }
         ensures seat { IsGathered gathering result }

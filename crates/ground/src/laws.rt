@@ -27,8 +27,8 @@ pub fn a_held_element_is_not_given()
 {}
 
 /// The two worlds that an operation on a desk's word passes without leaving a word so, between the
-/// `PutIn` and the `Open` and between the `TakeOut` and the `Clear`, are lawful: the packet's holds are
-/// its worker's there, and the desk has none.
+/// `PutIn` and the `Open` and between the `TakeOut` and the `Clear`, are lawful: the packet's holds
+/// are its worker's there, and the desk has none.
 pub fn a_packet_on_its_way_is_its_workers()
     ensures { PassesLawful }
 {}
@@ -45,10 +45,11 @@ pub fn desks_have_what_the_notes_leave()
     ensures { NotesTellOfDesks }
 {}
 
-/// Each operation of a call on a word is a step of the machine by the seat's worker, whatever the
-/// other seats did before: from whatever ruled state it comes to, the machine plays that step, with
-/// the outcome that the seat notes, to the world of the state that it leaves. An `Open` and a
-/// `Clear` come with the step that put their packet in, or took it out.
+/// Each operation on a word that a call notes is a step of the machine by the seat's worker,
+/// whatever the other seats did before: from whatever ruled state it comes to, the machine plays
+/// that step, with the outcome that the seat notes, to the world of the state that it leaves. An
+/// `Open` and a `Clear` come with the step that put their packet in, or took it out. That a call
+/// makes no operation besides isn't said: it is counted.
 pub fn an_operation_is_a_step()
     ensures { OperationsAreSteps }
 {}

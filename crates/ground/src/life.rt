@@ -65,7 +65,8 @@ impl Ground {
     }
 
     /// Makes one more worker's seat, of a worker's part of what this seat has, which is more than
-    /// that. This seat keeps all that it names, and the new one names nothing and has taken no step.
+    /// that. This seat keeps all that it names, and the new one names nothing and has taken no
+    /// step.
     pub fn split(&self, seat: &mut GroundSeat) -> GroundSeat
         requires of { IsOf self.now seat.old }
         requires part { worker_part < seat.old.known.view.part }
@@ -79,12 +80,13 @@ impl Ground {
     }
 
     /// Lends an element of the hand of a seat that is between calls: makes one more seat, which has
-    /// this element alone, and a part of 1 of those that this seat has, which are two at least. This
-    /// seat keeps all else.
+    /// this element alone, and a part of 1 of those that this seat has, which are two at least.
+    /// This seat keeps all else.
     ///
-    /// Whoever has the new seat has the element: it can be sent to another thread, and joined to any
-    /// seat of this ground, which has the element then and may put it. So what one lcore got another
-    /// puts (rte_mempool.h, rte_mempool_put_bulk). While an element is lent, no seat has every part.
+    /// Whoever has the new seat has the element: it can be sent to another thread, and joined to
+    /// any seat of this ground, which has the element then and may put it. So what one lcore got
+    /// another puts (rte_mempool.h, rte_mempool_put_bulk). While an element is lent, no seat has
+    /// every part.
     ///
     /// The load of the element's link says which one it is, in the proof alone.
     pub fn lend(&self, seat: &mut GroundSeat, element: u32) -> GroundSeat
@@ -104,9 +106,9 @@ impl Ground {
         GroundSeat { seat }
     }
 
-    /// Lends the element that stands last in the hand of a seat that is between calls, as `lend` does.
-    /// What comes into a hand stands behind what was there. So a list that was got is lent from its
-    /// end, and no word has to say which element it is.
+    /// Lends the element that stands last in the hand of a seat that is between calls, as `lend`
+    /// does. What comes into a hand stands behind what was there. So a list that was got is lent
+    /// from its end, and no word has to say which element it is.
     pub fn lend_last(&self, seat: &mut GroundSeat) -> GroundSeat
         requires of { IsOf self.now seat.old }
         requires rest { AtRest seat.old.known.view }
@@ -144,8 +146,8 @@ impl Ground {
     /// of a lawful world in which this seat's view is a worker's. Where the seat has every part,
     /// all that is neither in the common list nor on a full desk is what this seat names, and the
     /// packets are those that it knows to lie there, and those with which a desk was opened, by its
-    /// notes and those that were joined to it, and that weren't seized. Where nobody has done anything,
-    /// it is what the ground was made with.
+    /// notes and those that were joined to it, and that weren't seized. Where nobody has done
+    /// anything, it is what the ground was made with.
     ///
     /// Refused `OutOfMemory` where memory was refused. Ground and seat come back then, as they
     /// were.
@@ -192,8 +194,8 @@ impl Ground {
     }
 }
 
-/// Makes one seat of two, and then reads the word that nobody writes: a view changes only at a step,
-/// and the step tells what the rule says of the seat that came of both.
+/// Makes one seat of two, and then reads the word that nobody writes: a view changes only at a
+/// step, and the step tells what the rule says of the seat that came of both.
 fn merge(
     shared: &Shared<Option<Packet>, Known, Limits, PoolRule>,
     seat: &mut Seat<Option<Packet>, Known>,

@@ -17,8 +17,8 @@ impl TableRule<Option<Packet>, Known, Limits> for PoolRule {
     ghost first = { first_known };
 }
 
-/// A rule that says of each state what `Ruled` does, and no more: the laws of this crate, which speak of
-/// `Ruled`, are laws of it.
+/// A rule that says of each state what `Ruled` does, and no more: the laws of this crate, which
+/// speak of `Ruled`, are laws of it.
 pub trait SaysRuled: TableRule<Option<Packet>, Known, Limits> {
     ghost use Rattle.atomic_table.specs.Table.{State};
     ghost use Rattle.commons.specs.declared.limits.Limits.{Limits};

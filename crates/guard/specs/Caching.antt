@@ -22,7 +22,8 @@ pub record Cached : Type 0 where
 abbrev pub Led : Seated → Seated → (List Call → Type 0) → Type 0
 Led s t rule = Calls DidOnWords side_of s t rule
 
--- The cache gave these elements, or the stack did: they are in the seat's hand, and not in the cache.
+-- The cache gave these elements, or the stack did: they are in the seat's hand, and not in the
+-- cache.
 pub record Gave (n : ℕ) (xs : List ℕ) (s : Cached) (u : Seated) (left : WorkerCache) : Type 0 where
   pub calls : Led s.seat u (λ calls. cache.Gets s.cache.limits s.cache.cache n calls (Ok xs) left.cache)
   pub hand :
@@ -37,10 +38,10 @@ pub record Denied (n : ℕ) (cause : Refusal) (s t : Cached) : Type 0 where
   pub cache : t.cache.cache ≡ s.cache.cache
   pub number : KeepsNumber s.cache t.cache
 
--- What a get of n elements did, by its answer: the seat has so small a part of the pool that it can't
--- lend as many, and nothing was done; or its part is greater, and the cache or the stack gave them, and
--- each rests at its place, out; or the stack refused; or a place had no room: the elements are in the
--- seat's hand, but for those that were put since.
+-- What a get of n elements did, by its answer: the seat has so small a part of the pool that it
+-- can't lend as many, and nothing was done; or its part is greater, and the cache or the stack gave
+-- them, and each rests at its place, out; or the stack refused; or a place had no room: the
+-- elements are in the seat's hand, but for those that were put since.
 abbrev pub CachedGets : ℕ → Result (List ℕ) Cause → Cached → Cached → Type 0
 CachedGets n (Err LentOut) s t = (s.seat.known.view.part ≤ n) × (t ≡ s)
 CachedGets n (Ok xs) s t =

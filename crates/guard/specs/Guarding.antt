@@ -14,7 +14,8 @@ use Rattle.lending.specs.Lending.{IsSame}
 use Rattle.guard.specs.declared.cause.Cause.{Cause}
 use Rattle.guard.specs.declared.cause.Cause.TheVariants.{Refused, LentOut, Unrested}
 
--- These elements are in the hand of the seat before. After, each rests at its place, with a part of 1.
+-- These elements are in the hand of the seat before. After, each rests at its place, with a part of
+-- 1.
 pub record Rest (xs : List ℕ) (s t : Seated) : Type 0 where
   pub same : IsSame s t
   pub hand : (i : ℕ) → bag s.known.view.hand i ≡ bag t.known.view.hand i + bag xs i
@@ -29,10 +30,10 @@ pub record AreCut (ys zs xs : List ℕ) : Type 0 where
 abbrev pub AreSome : List ℕ → List ℕ → Type 0
 AreSome ys xs = (zs : List ℕ) × AreCut ys zs xs
 
--- What a get of n elements did, by its answer: the seat has so small a part of the pool that it can't
--- lend as many, and nothing was done; or its part is greater, and the seat got them, and each rests at
--- its place, out; or the get was refused; or a place had no room: the elements are in the seat's hand,
--- but for those that were put since.
+-- What a get of n elements did, by its answer: the seat has so small a part of the pool that it
+-- can't lend as many, and nothing was done; or its part is greater, and the seat got them, and each
+-- rests at its place, out; or the get was refused; or a place had no room: the elements are in the
+-- seat's hand, but for those that were put since.
 abbrev pub Gets : ℕ → Result (List ℕ) Cause → Seated → Seated → Type 0
 Gets n (Err LentOut) s t = (s.known.view.part ≤ n) × (t ≡ s)
 Gets n (Ok xs) s t =
@@ -43,9 +44,9 @@ Gets n (Err Unrested) s t =
     (n < s.known.view.part) × (xs : List ℕ) × (ys : List ℕ) × (u : Seated)
     × Did DidOnWords side_of s (GetList n (Ok xs)) u × AreSome ys xs × Rest ys u t
 
--- What becomes of elements that were taken off their places, by the answer: they are on the stack; or
--- the push was refused, and they rest as before; or some of them are in the seat's hand, since a place
--- had no room.
+-- What becomes of elements that were taken off their places, by the answer: they are on the stack;
+-- or the push was refused, and they rest as before; or some of them are in the seat's hand, since a
+-- place had no room.
 abbrev pub GoesOn : List ℕ → Result (Unit {0}) Cause → Seated → Seated → Type 0
 GoesOn xs (Ok met) u t = Did DidOnWords side_of u (PutList xs (Ok met)) t
 GoesOn xs (Err (Refused cause)) u t =
@@ -71,8 +72,8 @@ abbrev pub IsMakeCause : Limits → Refusal → Type 0
 IsMakeCause l BadPool = ¬ (IsPool l)
 IsMakeCause l cause = IsPool l
 
--- why a seat with this part of the pool isn't split: the pool has no more workers; or as much of the
--- part is out; or memory was refused
+-- why a seat with this part of the pool isn't split: the pool has no more workers; or as much of
+-- the part is out; or memory was refused
 abbrev pub IsSplitCause : ℕ → Cause → Type 0
 IsSplitCause part (Refused StrangerShare) = ⊤
 IsSplitCause part LentOut = part ≤ worker_part

@@ -31,8 +31,8 @@ seat_in (Some s) = s
 abbrev pub cached_of : Inside → Cached
 cached_of w = record { seat = seat_in w.seat; cache = w.cache }
 
--- between calls the seat is there and at rest, of these words; its part is counted; and the cache is of
--- the same pool, and in its hand
+-- between calls the seat is there and at rest, of these words; its part is counted; and the cache
+-- is of the same pool, and in its hand
 pub record IsKept (w : Inside) : Type 0 where
   pub there : w.seat ≡ Some (seat_in w.seat)
   pub of : IsOf w.guard.value (seat_in w.seat)

@@ -89,7 +89,8 @@ impl Guard {
         &self.ground
     }
 
-    /// The number that came with an element that is out, or 0: it isn't out, or is none of the pool.
+    /// The number that came with an element that is out, or 0: it isn't out, or is none of the
+    /// pool.
     pub fn who(&self, element: u32) -> u64 {
         let element = element as usize;
         if element >= self.places.len() {
@@ -142,14 +143,14 @@ impl Guard {
         }
     }
 
-    /// Puts a list of whatever numbers, as far as they are out: by whichever seat they were got. Those
-    /// that were out come first in the list then, and the answer says how many; behind them are those
-    /// that weren't out: that were put before, or twice in this list, or never got, or that are none of
-    /// the pool. `words` has of each number of the list, as it stands now, the word that was found: who
-    /// got it, or 0 where it wasn't out.
+    /// Puts a list of whatever numbers, as far as they are out: by whichever seat they were got.
+    /// Those that were out come first in the list then, and the answer says how many; behind them
+    /// are those that weren't out: that were put before, or twice in this list, or never got, or
+    /// that are none of the pool. `words` has of each number of the list, as it stands now, the
+    /// word that was found: who got it, or 0 where it wasn't out.
     ///
-    /// None of those is in the seat's hand before, nor twice in the list. Where the push is refused, as
-    /// `Commons::put_list` is, those that were out are out as before.
+    /// None of those is in the seat's hand before, nor twice in the list. Where the push is
+    /// refused, as `Commons::put_list` is, those that were out are out as before.
     #[inline(always)]
     pub fn put(
         &self,
@@ -188,8 +189,8 @@ impl Guard {
         }
     }
 
-    /// Takes the loan of a number off its place, where it is an element of the pool and rests there.
-    /// Answers the word that was found.
+    /// Takes the loan of a number off its place, where it is an element of the pool and rests
+    /// there. Answers the word that was found.
     fn take(&self, element: u32) -> (u64, Option<GroundSeat>)
         ensures none { result.1 ≡ None → result.0 < 2 }
         ensures some { IfSome result.1 (λ s. (2 ≤ result.0) × IsLoanOf (spot self.now element) s) }
@@ -201,8 +202,8 @@ impl Guard {
         self.places[element].take()
     }
 
-    /// Lets a loan rest at the place of its element, with this word. It comes back where there is no
-    /// room.
+    /// Lets a loan rest at the place of its element, with this word. It comes back where there is
+    /// no room.
     fn rest(&self, loan: GroundSeat, element: u32, who: u64) -> Result<(), GroundSeat>
         requires who { 2 ≤ who }
         requires below { element < self.now.limits.population }
@@ -212,9 +213,9 @@ impl Guard {
         self.places[element as usize].rest(loan, who)
     }
 
-    /// Lends each element of a list, which are in the hand, and lets it rest at its place, with this
-    /// word: all of them. Where a place has no room, it takes back what rests already, and answers
-    /// how many were put since.
+    /// Lends each element of a list, which are in the hand, and lets it rest at its place, with
+    /// this word: all of them. Where a place has no room, it takes back what rests already, and
+    /// answers how many were put since.
     pub(crate) fn rest_all(&self, seat: &mut GroundSeat, who: u64, list: &[u32]) -> Result<(), u64>
         requires of { IsOf self.now seat.old }
         requires who { 2 ≤ who }
@@ -256,8 +257,8 @@ impl Guard {
         gone
     }
 
-    /// Lends each element of a list again, which are in the hand, and lets it rest at its place, with
-    /// the word that it had: all of them. Where a place has no room, it answers how many rest.
+    /// Lends each element of a list again, which are in the hand, and lets it rest at its place,
+    /// with the word that it had: all of them. Where a place has no room, it answers how many rest.
     fn rest_again(&self, seat: &mut GroundSeat, list: &[u32], words: &[u64]) -> Result<(), u64>
         requires of { IsOf self.now seat.old }
         requires words { All (λ w. 2 ≤ w) words.now }
@@ -282,8 +283,8 @@ impl Guard {
     }
 
     /// Takes the numbers of a list off their places into the hand, as far as they are elements that
-    /// rest there, and moves those to the front. Answers how many, and writes the word that was found
-    /// of each.
+    /// rest there, and moves those to the front. Answers how many, and writes the word that was
+    /// found of each.
     pub(crate) fn take_all(
         &self,
         seat: &mut GroundSeat,

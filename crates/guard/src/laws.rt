@@ -8,9 +8,9 @@ ghost use Rattle.ground.specs.Seats.{IsOf};
 use ground::pool::Ground;
 use ground::seat::GroundSeat;
 
-/// Of two seats of a pool between calls, a worker's or a loan at a place, never both have an element
-/// in their hands, and none twice. So what is in a cache, or was just got, is at no place, and no
-/// element has two loans. It joins the two.
+/// Of two seats of a pool between calls, a worker's or a loan at a place, never both have an
+/// element in their hands, and none twice. So what is in a cache, or was just got, is at no place,
+/// and no element has two loans. It joins the two.
 pub fn no_element_is_in_two_hands(ground: &Ground, first: &mut GroundSeat, second: GroundSeat)
     requires of { IsOf ground.now first.old }
     requires second_of { IsOf ground.now second }

@@ -30,9 +30,9 @@ use std::marker::Model;
 use std::sync::Arc;
 use step_core::view::WORKER_PART;
 
-/// A worker of a guarded pool: its seat and its cache, with a share of the words and the places, which
-/// are freed with the last of their workers. It can be sent to a thread. What is in its cache isn't out.
-/// A worker that is dropped is lost with what is in its cache.
+/// A worker of a guarded pool: its seat and its cache, with a share of the words and the places,
+/// which are freed with the last of their workers. It can be sent to a thread. What is in its cache
+/// isn't out. A worker that is dropped is lost with what is in its cache.
 pub struct GuardWorker {
     guard: Arc<Guard>,
     /// It is missing only within a call.
@@ -113,8 +113,8 @@ impl GuardWorker {
     /// empty cache.
     ///
     /// Refused `StrangerShare` where the pool has no more workers, `LentOut` where as much of the
-    /// seat's part is out, and `OutOfMemory` where memory was refused, or there are too many owners.
-    /// This worker is as before then.
+    /// seat's part is out, and `OutOfMemory` where memory was refused, or there are too many
+    /// owners. This worker is as before then.
     pub fn split(&mut self, alloc: Global) -> Result<GuardWorker, Cause>
         ensures left { IfOk result (λ _. self.new ≡ record self.old { seat = record self.old.seat { known = less_part self.old.seat.known } }) }
         ensures made { IfOk result (λ other. (other.seat.table ≡ self.old.seat.table) × (other.seat.known ≡ newcomer self.old.seat.known)) }
@@ -153,8 +153,8 @@ impl GuardWorker {
         })
     }
 
-    /// Gets as many elements as `out` has places, from the cache or the stack: all of them, or none.
-    /// Each is out then, with this number.
+    /// Gets as many elements as `out` has places, from the cache or the stack: all of them, or
+    /// none. Each is out then, with this number.
     ///
     /// Refused `LentOut` where the seat's part of the pool is no greater than the list, else as
     /// `Worker::get_bulk` is, and `Unrested` where a place has no room.
@@ -190,17 +190,17 @@ impl GuardWorker {
         }
     }
 
-    /// Puts a list of whatever numbers into the cache, as far as they are out, by whichever worker they
-    /// were got. Those that were out come first in the list then, and the answer says how many; behind
-    /// them are those that weren't out: that were put before, or twice in this list, or never got, or
-    /// that are none of the pool. `words` has of each number of the list, as it stands now, the word
-    /// that was found: who got it, or 0 where it wasn't out.
+    /// Puts a list of whatever numbers into the cache, as far as they are out, by whichever worker
+    /// they were got. Those that were out come first in the list then, and the answer says how
+    /// many; behind them are those that weren't out: that were put before, or twice in this list,
+    /// or never got, or that are none of the pool. `words` has of each number of the list, as it
+    /// stands now, the word that was found: who got it, or 0 where it wasn't out.
     ///
-    /// None of those that were out is in the cache before, nor twice in the list: what this worker has
-    /// put, and nobody has got since, it can't put again.
+    /// None of those that were out is in the cache before, nor twice in the list: what this worker
+    /// has put, and nobody has got since, it can't put again.
     ///
-    /// What goes to the stack, and what stays in the cache where the stack refuses it, is said as of
-    /// `Worker::put_bulk`.
+    /// What goes to the stack, and what stays in the cache where the stack refuses it, is said as
+    /// of `Worker::put_bulk`.
     #[inline(always)]
     pub fn put(&mut self, list: &mut [u32], words: &mut [u64]) -> (usize, Put)
         requires words { length words.old ≡ length list.old }
@@ -234,7 +234,8 @@ impl GuardWorker {
         answer
     }
 
-    /// The number that came with an element that is out, or 0: it isn't out, or is none of the pool.
+    /// The number that came with an element that is out, or 0: it isn't out, or is none of the
+    /// pool.
     pub fn who(&self, element: u32) -> u64 {
         self.guard.who(element)
     }

@@ -59,8 +59,8 @@ PutsLoans xs answer s x t y =
     (u : Seated) × (w : Seated) × (z : Loans) × IsLent xs u z s x
     × Did DidOnWords side_of u (PutList xs answer) w × GoesOn xs answer w z t y
 
--- why a seat with this part of the pool isn't split: the pool has no more workers; or as much of the
--- part is lent; or memory was refused
+-- why a seat with this part of the pool isn't split: the pool has no more workers; or as much of
+-- the part is lent; or memory was refused
 abbrev pub IsSplitCause : ℕ → Cause → Type 0
 IsSplitCause part (Refused StrangerShare) = ⊤
 IsSplitCause part LentOut = part ≤ worker_part

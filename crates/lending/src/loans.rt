@@ -12,8 +12,8 @@ use ground::seat::GroundSeat;
 use std::marker::Model;
 
 /// Loans of elements of one pool: for each a seat at the pool's words that has this element in its
-/// hand, and no other has it there. Whoever has the loan of an element, by whatever seat it was got,
-/// may put the element. No two loans are of one element.
+/// hand, and no other has it there. Whoever has the loan of an element, by whatever seat it was
+/// got, may put the element. No two loans are of one element.
 ///
 /// Loans have no bytes: at run time there are the elements' numbers alone. What is dropped is lost,
 /// with its elements.

@@ -56,8 +56,8 @@ abbrev pub HasOneOf : Grounded → List WorkerHandle → Type 0
 HasOneOf g handles =
     (m : Manned) × (k : ℕ) × (slice_index_or (values_of handles) k None ≡ Some m) × IsWorker g m
 
--- Workers of this ground are settled, as many as there were in handles. Each worker whose number one
--- of these had is among them: none of those who are missing has it.
+-- Workers of this ground are settled, as many as there were in handles. Each worker whose number
+-- one of these had is among them: none of those who are missing has it.
 pub record HasClosed (ground : Grounded) (numbers : List ℕ) (e : Ending) : Type 0 where
   pub workers : List Manned
   pub missing : List ℕ
@@ -66,8 +66,8 @@ pub record HasClosed (ground : Grounded) (numbers : List ℕ) (e : Ending) : Typ
   pub all : length workers + length missing ≡ ground.limits.workers
   pub settled : IsSettled ground missing workers e
 
--- The handles have no workers then, and C has what their pool left: one of them was of its words and
--- limits.
+-- The handles have no workers then, and C has what their pool left: one of them was of its words
+-- and limits.
 pub record Closes (old new : List WorkerHandle) (ending : Option Ending) : Type 0 where
   pub left : AreEmpty new
   pub found : Ending

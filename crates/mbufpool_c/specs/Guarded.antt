@@ -71,8 +71,8 @@ RefusesSplit status None = status ≡ number_of StrangerShare
 RefusesSplit status (Some s) =
     (cause : Cause) × (status ≡ number_in cause) × IsSplitCause s.seat.known.view.part cause
 
--- The worker of a handle got elements, or was refused, and C has the status of the answer. Where there
--- is no worker nothing was done, and C has the number of a stranger.
+-- The worker of a handle got elements, or was refused, and C has the status of the answer. Where
+-- there is no worker nothing was done, and C has the number of a stranger.
 abbrev pub GetsGuard : ℕ → List ℕ → Option Cached → ℕ → Option Cached → Type 0
 GetsGuard n xs None status new = (status ≡ number_of StrangerShare) × (new ≡ None)
 GetsGuard n xs (Some s) status new =
@@ -83,9 +83,9 @@ GetsGuard n xs (Some s) status new =
 abbrev pub status_of_put : ℕ → ℕ → ℕ
 status_of_put n taken = cond (taken == n) 0 not_out
 
--- The worker of a handle put as many of a list as were out, which come first in it, and C has the words
--- that were found, of those at least 2, and of the others less. None of those was in the worker's cache,
--- nor is one of them twice.
+-- The worker of a handle put as many of a list as were out, which come first in it, and C has the
+-- words that were found, of those at least 2, and of the others less. None of those was in the
+-- worker's cache, nor is one of them twice.
 abbrev pub PutsGuard : List ℕ → List ℕ → ℕ → Option Cached → ℕ → Option Cached → Type 0
 PutsGuard list words taken None status new = (status ≡ number_of StrangerShare) × (new ≡ None) × (taken ≡ 0)
 PutsGuard list words taken (Some s) status new =

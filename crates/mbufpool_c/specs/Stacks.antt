@@ -27,7 +27,8 @@ abbrev pub status_of : Result (Unit {0}) Refusal → ℕ
 status_of (Ok _) = 0
 status_of (Err cause) = number_of cause
 
--- what no refusal has: of a get, or of a split, by a seat that has lent as much of its part as it can
+-- what no refusal has: of a get, or of a split, by a seat that has lent as much of its part as it
+-- can
 abbrev pub lent_out : ℕ
 lent_out = 29
 
@@ -78,8 +79,8 @@ stack_limits population seats tries = record {
   put_rule = Keep;
 }
 
--- why a pool of the bare stack isn't made: its limits are those of no pool, or memory was refused; and
--- C has the number of the cause
+-- why a pool of the bare stack isn't made: its limits are those of no pool, or memory was refused;
+-- and C has the number of the cause
 abbrev pub RefusesStack : Limits → ℕ → Type 0
 RefusesStack l status = (cause : Refusal) × (status ≡ number_of cause) × IsGroundCause l cause
 
@@ -96,14 +97,15 @@ Splits (Some s) new out =
     (new ≡ Some (record s { known = less_part s.known }))
     × ((other : Seated) × (out ≡ Some other) × (other.table ≡ s.table) × (other.known ≡ newcomer s.known))
 
--- Why no seat is made, by the number that C has: the first handle has no seat, or the seat isn't split.
+-- Why no seat is made, by the number that C has: the first handle has no seat, or the seat isn't
+-- split.
 abbrev pub RefusesSplit : ℕ → Option Seated → Type 0
 RefusesSplit status None = status ≡ number_of StrangerShare
 RefusesSplit status (Some s) =
     (cause : Cause) × (status ≡ number_in cause) × IsSplitCause s.known.view.part cause
 
--- The seat has back the part that it gave: it names what it named, and has forgotten what it had read
--- of the common list.
+-- The seat has back the part that it gave: it names what it named, and has forgotten what it had
+-- read of the common list.
 abbrev pub HasBack : Seated → Seated → Type 0
 HasBack s t = IsBoth (record s { known = less_part s.known }) (newcomer s.known) t
 

@@ -139,8 +139,8 @@ fn count_marked(alloc: Global, handles: &mut [WorkerHandle]) -> Option<u64>
 /// The room to close the pool of this hall, whose workers are in these handles, each of them, and
 /// no other pool's.
 ///
-/// Refused `StrangerShare` where one is of another pool, `InUse` where one of the pool is elsewhere,
-/// and `OutOfMemory` where memory was refused.
+/// Refused `StrangerShare` where one is of another pool, `InUse` where one of the pool is
+/// elsewhere, and `OutOfMemory` where memory was refused.
 fn look(alloc: Global, hall: &Arc<Hall>, handles: &mut [WorkerHandle]) -> Result<Room, u32>
     ensures same { HaveSame handles.old handles.new }
     ensures room { IfOk result (IsRoom (length handles.old)) }
@@ -360,7 +360,8 @@ fn settle(
     settle_without(alloc, ground, workers, missing.as_slice(), place)
 }
 
-/// Settles the pool of a hall, in whose chairs its workers sit, those with these numbers among them.
+/// Settles the pool of a hall, in whose chairs its workers sit, those with these numbers among
+/// them.
 ///
 /// Refused `OutOfMemory` where memory was refused, and `MISUSED` where one isn't there.
 fn settle_hall(

@@ -11,8 +11,8 @@ use std::alloc::Global;
 use std::marker::Model;
 use std::ptr::null_mut;
 
-/// A worker of a guarded pool in the hands of C, or none. In C it is a struct of one pointer, which is null
-/// where there is none.
+/// A worker of a guarded pool in the hands of C, or none. In C it is a struct of one pointer, which
+/// is null where there is none.
 #[repr(C)]
 pub struct GuardHandle {
     at: *mut u8,

@@ -85,8 +85,8 @@ fn opened(alloc: Global, limits: &Limits) -> Result<Box<GuardWorker>, Refusal>
     }
 }
 
-/// Makes a guarded pool of `population` elements for as many as `workers` workers, each with a cache of
-/// `cache`, and its first worker. A worker that was in the handle is lost.
+/// Makes a guarded pool of `population` elements for as many as `workers` workers, each with a
+/// cache of `cache`, and its first worker. A worker that was in the handle is lost.
 #[unsafe(no_mangle)]
 pub extern "C" fn mbufpool_guard_open(
     alloc: Global,
@@ -111,8 +111,8 @@ pub extern "C" fn mbufpool_guard_open(
 
 /// Makes one more worker of the pool, with an empty cache. A worker that was in its handle is lost.
 ///
-/// Refused `StrangerShare` where the handle has no worker or the pool has no more of them, `LENT_OUT`
-/// where as much of the seat's part is out, and `OutOfMemory` where memory was refused.
+/// Refused `StrangerShare` where the handle has no worker or the pool has no more of them,
+/// `LENT_OUT` where as much of the seat's part is out, and `OutOfMemory` where memory was refused.
 #[unsafe(no_mangle)]
 pub extern "C" fn mbufpool_guard_split(
     alloc: Global,
@@ -151,12 +151,12 @@ fn hand_out(alloc: Global, worker: GuardWorker, out: &mut GuardHandle) -> u32
     }
 }
 
-/// Gets as many elements as `out` has places: all of them, or none. Each is out then, with the number
-/// `who`, which is 2 at least.
+/// Gets as many elements as `out` has places: all of them, or none. Each is out then, with the
+/// number `who`, which is 2 at least.
 ///
 /// Refused `NOBODY` where `who` is less, `StrangerShare` where the handle has no worker, `LENT_OUT`
-/// where the seat's part of the pool is no greater than `out`, `UNRESTED` where a place has no room,
-/// and else as `Worker::get_bulk` is.
+/// where the seat's part of the pool is no greater than `out`, `UNRESTED` where a place has no
+/// room, and else as `Worker::get_bulk` is.
 #[unsafe(no_mangle)]
 pub extern "C" fn mbufpool_guard_get(
     alloc: Global,
@@ -180,9 +180,10 @@ pub extern "C" fn mbufpool_guard_get(
     }
 }
 
-/// Puts a list of whatever numbers, as far as they are out, whichever worker got them. Those that were
-/// out come first in the list then: `taken` of them. `words` has of each number of the list, as it
-/// stands then, who got it, or 0 where it wasn't out. Refused `NoRoom` where the two aren't as long.
+/// Puts a list of whatever numbers, as far as they are out, whichever worker got them. Those that
+/// were out come first in the list then: `taken` of them. `words` has of each number of the list,
+/// as it stands then, who got it, or 0 where it wasn't out. Refused `NoRoom` where the two aren't
+/// as long.
 #[unsafe(no_mangle)]
 pub extern "C" fn mbufpool_guard_put(
     alloc: Global,
@@ -225,8 +226,8 @@ pub extern "C" fn mbufpool_guard_who(alloc: Global, worker: &mut GuardHandle, el
     }
 }
 
-/// How many elements of the pool are out. Each is looked at once, so what others get and put meanwhile
-/// may count or not.
+/// How many elements of the pool are out. Each is looked at once, so what others get and put
+/// meanwhile may count or not.
 #[unsafe(no_mangle)]
 pub extern "C" fn mbufpool_guard_out(alloc: Global, worker: &mut GuardHandle) -> u64
     ensures { worker.new.value ≡ worker.old.value }

@@ -88,8 +88,8 @@ impl OwnSeat {
     /// Makes one more seat at the same words, of a worker's part of this one.
     ///
     /// Refused `StrangerShare` where the pool has no more workers, `LentOut` where as much of the
-    /// seat's part is lent, and `OutOfMemory` where there are too many owners. This seat is as before
-    /// then.
+    /// seat's part is lent, and `OutOfMemory` where there are too many owners. This seat is as
+    /// before then.
     pub fn split(&mut self) -> Result<OwnSeat, Cause>
         ensures left { IfOk result (λ _. self.new ≡ record self.old { known = less_part self.old.known }) }
         ensures made { IfOk result (λ other. (other.table ≡ self.old.table) × (other.known ≡ newcomer self.old.known)) }

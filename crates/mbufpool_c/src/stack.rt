@@ -110,8 +110,8 @@ pub extern "C" fn mbufpool_seat_open(
 ///
 /// Refused `StrangerShare` where the handle has no seat or the pool has no more workers, `LENT_OUT`
 /// where as much of the seat's part is lent, and `OutOfMemory` where memory was refused. The first
-/// seat is as it was then; or, where that is for memory, it has back what it gave, and has forgotten
-/// what it had read of the common list.
+/// seat is as it was then; or, where that is for memory, it has back what it gave, and has
+/// forgotten what it had read of the common list.
 #[unsafe(no_mangle)]
 pub extern "C" fn mbufpool_seat_split(
     alloc: Global,
@@ -177,8 +177,8 @@ fn get_some(alloc: Global, seat: &mut SeatWithLoans, out: &mut [u32]) -> u32
 
 /// Gets as many elements as `out` has places, and lends them to C: all of them, or none.
 ///
-/// Refused `StrangerShare` where the handle has no seat, `LENT_OUT` where the seat's part of the pool
-/// is no greater than `out`, and else as `Commons::get_list` is.
+/// Refused `StrangerShare` where the handle has no seat, `LENT_OUT` where the seat's part of the
+/// pool is no greater than `out`, and else as `Commons::get_list` is.
 #[unsafe(no_mangle)]
 pub extern "C" fn mbufpool_seat_get(alloc: Global, seat: &mut SeatWithLoans, out: &mut [u32]) -> u32
     ensures nothing { length out.old ≡ 0 → (result ≡ 0) × (seat.new ≡ seat.old) }
@@ -211,8 +211,8 @@ fn put_some(alloc: Global, seat: &mut SeatWithLoans, list: &[u32]) -> u32
 /// Puts a list of elements back: all of them, or none. Each is lent to C: each number was got by a
 /// seat of this pool, by whichever thread, and not put since. So the list names it once.
 ///
-/// Refused `StrangerShare` where the handle has no seat, and else as `Commons::put_list` is. What was
-/// lent is lent still then.
+/// Refused `StrangerShare` where the handle has no seat, and else as `Commons::put_list` is. What
+/// was lent is lent still then.
 #[unsafe(no_mangle)]
 pub extern "C" fn mbufpool_seat_put(alloc: Global, seat: &mut SeatWithLoans, list: &[u32]) -> u32
     requires { AreLent seat.old.handle.value seat.old.loans list.now }

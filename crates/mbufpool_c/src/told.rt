@@ -95,8 +95,8 @@ fn give_text(alloc: Global, statement: &Option<Statement>, buf: &mut [u8]) -> us
     }
 }
 
-/// The statement as text, line by line: as much as there is room for. Answers how many bytes it has,
-/// or 0 where there is no statement, or memory was refused.
+/// The statement as text, line by line: as much as there is room for. Answers how many bytes it
+/// has, or 0 where there is no statement, or memory was refused.
 #[unsafe(no_mangle)]
 pub extern "C" fn mbufpool_statement_text(
     alloc: Global,

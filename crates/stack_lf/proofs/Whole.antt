@@ -236,7 +236,8 @@ put_unmet tries xs cause s t p = absurd p.4
 abbrev pub RaisesBy : Limits → ℕ → Result (Unit {0}) Refusal → Seated → Seated → Type 0
 RaisesBy l i r s t = Repeats l.tries (IsLostRaise l i) (EndsRaise l i) r s t
 
--- by its answer: one that won, behind tries that lost; the count was at the limit; or all tries lost
+-- by its answer: one that won, behind tries that lost; the count was at the limit; or all tries
+-- lost
 pub raise_whole : (l : Limits) (i : ℕ) (r : Result (Unit {0}) Refusal) (s t : Seated) →
     RaisesBy l i r s t → Raises l i r s t
 raise_whole l i (Ok met) s t r =

@@ -305,9 +305,9 @@ lying_after (Offer d packet (Ok _)) known = laid_on d (Some packet) known
 lying_after (Take d (Ok packet)) known = laid_on d None known
 lying_after _ known = known
 
--- In which order elements stand in the hand before and after a call: what a get brought stands behind
--- what was there, as it was listed, and where a get or a put was refused the hand is as it was. Of all
--- other calls the hand is told as a bag alone.
+-- In which order elements stand in the hand before and after a call: what a get brought stands
+-- behind what was there, as it was listed, and where a get or a put was refused the hand is as it
+-- was. Of all other calls the hand is told as a bag alone.
 abbrev pub KeepsOrder : Call → List ℕ → List ℕ → Type 0
 KeepsOrder (GetList n (Ok xs)) before now = now ≡ before ++ xs
 KeepsOrder (GetList n (Err _)) before now = now ≡ before

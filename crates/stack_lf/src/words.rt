@@ -23,8 +23,8 @@ use ground::seat::GroundSeat;
 /// What each call does is said by `Did`, as of any `Commons`, over `DidOnWords`: the tries that it
 /// made, the steps that its seat took, each one operation on one word, and what they read.
 ///
-/// It can't be dropped: `into_seat` gives the seat back, as it is. The seat of a worker that has died
-/// is ended by its own `lose`, which has no ground, and so can do nothing to one.
+/// It can't be dropped: `into_seat` gives the seat back, as it is. The seat of a worker that has
+/// died is ended by its own `lose`, which has no ground, and so can do nothing to one.
 ///
 /// After rte_stack_lf.h (DPDK 21.11), with a count in the head that never wraps.
 pub struct WordCommons<'a> {

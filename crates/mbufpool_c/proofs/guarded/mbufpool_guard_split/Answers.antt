@@ -6,7 +6,8 @@ use Rattle.step_core.specs.World.{worker_part}
 use Rattle.mbufpool_c.specs.Guarded.{RefusesSplit}
 use Rattle.mbufpool_c.proofs.guarded.mbufpool_guard_split.Goals as goal
 
--- the worker was split, so its part was greater than a worker's, and memory was refused for the new one
+-- the worker was split, so its part was greater than a worker's, and memory was refused for the new
+-- one
 pub returns-in-Ok-clause-cause : goal.returns-in-Ok-clause-cause
 returns-in-Ok-clause-cause c refused =
     let own = c.in-Some.own.value in

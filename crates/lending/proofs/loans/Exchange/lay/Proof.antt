@@ -42,7 +42,8 @@ lay_spec 𝓤 𝓛 𝓜 𝓡 wired =
     move ! (1 ∷ []) $ fsplit ! $ fpick ! (λ vss. fsplit ! $ move ! (1 ∷ []) $ fsplit ! $
     -- [the badge; the loans; the values; nothing; nothing]
     fsplit ! $ move ! (2 ∷ []) $ fsplit ! $ fsplit ! $
-    -- [data and loans of the loans; nothing; data and view of the badge; the values; nothing; nothing]
+    -- [data and loans of the loans; nothing; data and view of the badge; the values; nothing;
+    -- nothing]
     rewrite ! 4 (λ (x : List Known). ‵ (badge_owns known.coded.code d.badge.table_id d.badge.id x)) asked.2 refl $
     rewrite ! 4 (λ (x : TableId). ‵ (badge_owns known.coded.code x d.badge.id (loaned l asked.0 ∷ []))) asked.1 refl $
     nothing ! $ fpack ! (IsLoan l asked.0) (λ _. ftrue) asked.3 $

@@ -45,7 +45,8 @@ pick_spec 𝓤 𝓛 𝓜 𝓡 wired =
     fsplit ! $ move ! (2 ∷ []) $ fsplit ! $ fsplit ! $
     -- [data and loans of the loans; nothing; data and view of the badge; the values; nothing]
     rewrite ! 1 (λ (ys : List ℕ). ‵ (loans_own t l ys)) f.whole refl $ move ! (1 ∷ []) $ loan_out ! t l f.front n f.back (
-    -- [the loan; the other loans; data of the loans; nothing; data and view of the badge; the values; nothing]
+    -- [the loan; the other loans; data of the loans; nothing; data and view of the badge; the
+    -- values; nothing]
     fpick ! (λ id. fsplit ! $ fpick ! (λ loan. drop ! $
     rewrite ! 1 (λ (ys : List ℕ). ‵ (loans_own t l ys)) (sym f.left) refl $
     let d' : X.Denot = record { badge = record { marker = d.badge.marker; table_id = t; id = id; views = loaned l n ∷ [] }; loans = record d.loans { lent = without n xs } } in
