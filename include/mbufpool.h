@@ -87,6 +87,10 @@ struct mbufpool_seat { void *at; };
  * that was in `out` is ended. */
 uint32_t mbufpool_seat_open(uint32_t population, uint32_t seats, uint32_t tries, struct mbufpool_seat *out);
 
+/* The same, of a stack that counts its changes from `start` on, 0 to 2^40 - 1, as if so many had been
+ * made before: so the end of a pool can be met in a test. */
+uint32_t mbufpool_seat_open_at(uint32_t population, uint32_t seats, uint32_t tries, uint64_t start, struct mbufpool_seat *out);
+
 /* Makes one more seat of the pool, by its first seat.
  * Refused:
  *   MBUFPOOL_STRANGER   the handle has no seat, or the pool has no more of them
@@ -114,6 +118,11 @@ uint32_t mbufpool_seat_put(struct mbufpool_seat *seat, const uint32_t *list, siz
  * are ended. What is missing from the population then was not put. */
 uint32_t mbufpool_seat_count(struct mbufpool_seat *seat);
 
+/* How many changes of the stack are left: each get and each put that succeeds takes one, and once none
+ * is left each is refused by MBUFPOOL_HEAD_SPENT. By one read; other threads may take some meanwhile.
+ * 0 where the handle has no seat. mbufpool_renewing.h has a pool that goes over to a new stack before. */
+uint64_t mbufpool_seat_changes_left(struct mbufpool_seat *seat);
+
 /* Ends a seat; the handle has zeros then. What the seat has got and not put may still be put, by any
  * other seat; it is lost to the pool where nobody does. The pool's memory is freed with its last seat. */
 void mbufpool_seat_free(struct mbufpool_seat *seat);
@@ -127,9 +136,11 @@ void mbufpool_seat_free(struct mbufpool_seat *seat);
 struct mbufpool_checked { void *at; };
 
 uint32_t mbufpool_checked_open(uint32_t population, uint32_t tries, struct mbufpool_checked *out);
+uint32_t mbufpool_checked_open_at(uint32_t population, uint32_t tries, uint64_t start, struct mbufpool_checked *out);	/* as mbufpool_seat_open_at */
 uint32_t mbufpool_checked_get(struct mbufpool_checked *seat, uint32_t *out, size_t n);	/* as mbufpool_seat_get */
 uint32_t mbufpool_checked_put(struct mbufpool_checked *seat, const uint32_t *list, size_t n);
 uint32_t mbufpool_checked_count(struct mbufpool_checked *seat);
+uint64_t mbufpool_checked_changes_left(struct mbufpool_checked *seat);	/* as mbufpool_seat_changes_left */
 void mbufpool_checked_free(struct mbufpool_checked *seat);
 
 /* ---- the bare stack, guarded ---- */
@@ -145,6 +156,10 @@ struct mbufpool_guard { void *at; };
  * 512 each, 3/2 of it at most the population, and its first worker. `tries` as for a seat. A worker that
  * was in `out` is ended. */
 uint32_t mbufpool_guard_open(uint32_t population, uint32_t cache, uint32_t workers, uint32_t tries, struct mbufpool_guard *out);
+
+/* The same, of a stack that counts its changes from `start` on. To open it takes two of them: refused by
+ * MBUFPOOL_HEAD_SPENT where they aren't left. */
+uint32_t mbufpool_guard_open_at(uint32_t population, uint32_t cache, uint32_t workers, uint32_t tries, uint64_t start, struct mbufpool_guard *out);
 
 /* Makes one more worker of the pool, by its first worker, with an empty cache. Refused as
  * mbufpool_seat_split is. */
@@ -162,6 +177,9 @@ uint32_t mbufpool_guard_get(struct mbufpool_guard *worker, uint64_t who, uint32_
  * Answers 0 where all were out, else MBUFPOOL_NOT_OUT; MBUFPOOL_NO_ROOM where `words_n` isn't n, and
  * then nothing was done. What the stack refuses stays in the cache, and goes there with the next. */
 uint32_t mbufpool_guard_put(struct mbufpool_guard *worker, uint32_t *list, size_t n, uint64_t *words, size_t words_n, uint64_t *taken);
+
+/* How many changes of the stack are left: what a worker's cache can't serve takes one. As of a seat. */
+uint64_t mbufpool_guard_changes_left(struct mbufpool_guard *worker);
 
 /* The number that came with the get of an element that is out, or 0: it isn't out, or is none of the
  * pool. */
@@ -230,6 +248,12 @@ uint32_t mbufpool_pkt_len(struct mbufpool_worker *worker, uint32_t slot, uint32_
 uint32_t mbufpool_nb_segs(struct mbufpool_worker *worker, uint32_t slot, uint32_t *segments);
 uint32_t mbufpool_segment(struct mbufpool_worker *worker, uint32_t slot, uint32_t index, struct mbufpool_segment *out);
 uint32_t mbufpool_flush(struct mbufpool_worker *worker);	/* the cache's elements go to the common stack */
+
+/* How many changes of the pool's stack are left: an act that the worker's cache can't serve takes one or
+ * more, and once none is left it is refused by MBUFPOOL_HEAD_SPENT, while what the cache has still
+ * serves. By one read; other workers may take some meanwhile. 0 where the handle has no worker. A program
+ * that is to go on closes the pool before, and opens another. */
+uint64_t mbufpool_worker_changes_left(struct mbufpool_worker *worker);
 
 /* ---- the end of a pool of packets ---- */
 

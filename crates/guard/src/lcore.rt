@@ -9,6 +9,7 @@ ghost use Rattle.ground.specs.Parting.{less_part, newcomer};
 ghost use Rattle.ground.specs.Seats.{IsOf};
 ghost use Rattle.mempool.specs.Caches.{Gets, Puts, Flushes};
 ghost use Rattle.mempool.specs.WorkerCache.{KeepsNumber};
+ghost use Rattle.stack_lf.specs.Remaining.{ReadsRemaining};
 ghost use Rattle.stack_lf.specs.Sides.{side_of};
 ghost use Rattle.stack_lf.specs.Tries.{DidOnWords};
 ghost use Rattle.step_core.specs.World.{every_part, worker_part};
@@ -234,6 +235,20 @@ impl GuardWorker {
         answer
     }
 
+    /// How many changes of the stack are left until its gets and puts are refused `HeadSpent`, as one
+    /// read of the head tells: what the cache can't serve takes one. Others may take some meanwhile.
+    pub fn changes_left(&mut self) -> u64
+        ensures read { ReadsRemaining self.old.seat result self.new.seat }
+        ensures cache { self.new.cache ≡ self.old.cache }
+    {
+        let Some(seat) = self.seat.take() else {
+            unreachable!()
+        };
+        let (left, seat) = remaining_by(self.guard.ground(), seat);
+        put_back(&mut self.seat, seat);
+        left
+    }
+
     /// The number that came with an element that is out, or 0: it isn't out, or is none of the
     /// pool.
     pub fn who(&self, element: u32) -> u64 {
@@ -258,6 +273,22 @@ fn put_back(place: &mut Option<GroundSeat>, seat: GroundSeat)
     if let Some(other) = place.replace(seat) {
         other.lose();
     }
+}
+
+/// A read of the head by this seat, for the changes that are left.
+fn remaining_by(ground: &Ground, seat: GroundSeat) -> (u64, GroundSeat)
+    requires of { IsOf ground.now seat }
+    requires rest { AtRest seat.known.view }
+    requires slots { seat.slots ≡ [] }
+    ensures read { ReadsRemaining seat result.0 result.1 }
+    ensures of { IsOf ground.now result.1 }
+    ensures rest { AtRest result.1.known.view }
+    ensures slots { result.1.slots ≡ [] }
+    ensures part { result.1.known.view.part ≡ seat.known.view.part }
+{
+    let mut c = WordCommons::new(ground, seat);
+    let left = c.changes_left();
+    (left, c.into_seat())
 }
 
 /// A get of the cache over this seat.

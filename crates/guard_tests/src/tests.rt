@@ -1,6 +1,6 @@
 //! Elements that are got, put, and put once too often.
 
-use commons::limits::{Limits, PutRule};
+use commons::limits::{Limits, PutRule, SPENT};
 use commons::refusal::Refusal;
 use guard::cause::Cause;
 use guard::lcore::GuardWorker;
@@ -40,6 +40,8 @@ fn what_is_out_says_who_got_it(rt: HostRuntime) -> Result<(), Fail> {
     let mut out = [9u32; 3];
     assert!(rt; worker.get(7, &mut out) == Ok(()));
     assert!(rt; worker.count_out() == 3);
+    // The places were filled by a get of all and a put of all.
+    assert!(rt; worker.changes_left() == SPENT - 3);
     for element in 0..9 {
         let got = out[0] == element || out[1] == element || out[2] == element;
         let who = if got { 7 } else { 0 };

@@ -6,6 +6,7 @@ ghost use Rattle.commons.specs.Calls.{Did, GetList, PutList, CommonCount, with_l
 ghost use Rattle.ground.specs.Own.{AtRest};
 ghost use Rattle.ground.specs.Seats.{IsOf};
 ghost use Rattle.step_core.specs.World.{worker_part};
+ghost use Rattle.stack_lf.specs.Remaining.{ReadsRemaining};
 ghost use Rattle.stack_lf.specs.Sides.{side_of};
 ghost use Rattle.stack_lf.specs.Tries.{DidOnWords};
 ghost use Rattle.lending.specs.Lending.{IsLent};
@@ -225,6 +226,16 @@ impl Lender {
         let (count, seat) = count_by(ground, seat);
         (count, Lender { seat, part })
     }
+
+    /// How many changes of the stack are left (`WordCommons::changes_left`).
+    pub fn changes_left(self, ground: &Ground) -> (u64, Lender)
+        requires { IsOf ground.now self }
+        ensures { ReadsRemaining self result.0 result.1 }
+    {
+        let Lender { seat, part } = self;
+        let (left, seat) = remaining_by(ground, seat);
+        (left, Lender { seat, part })
+    }
 }
 
 /// A read of the length word by this seat.
@@ -241,6 +252,21 @@ fn count_by(ground: &Ground, seat: GroundSeat) -> (u32, GroundSeat)
     let mut c = WordCommons::new(ground, seat);
     let count = c.common_count();
     (count, c.into_seat())
+}
+
+/// A read of the head by this seat, for the changes that are left.
+fn remaining_by(ground: &Ground, seat: GroundSeat) -> (u64, GroundSeat)
+    requires of { IsOf ground.now seat }
+    requires rest { AtRest seat.known.view }
+    requires slots { seat.slots ≡ [] }
+    ensures read { ReadsRemaining seat result.0 result.1 }
+    ensures rest { AtRest result.1.known.view }
+    ensures slots { result.1.slots ≡ [] }
+    ensures part { result.1.known.view.part ≡ seat.known.view.part }
+{
+    let mut c = WordCommons::new(ground, seat);
+    let left = c.changes_left();
+    (left, c.into_seat())
 }
 
 /// A get by this seat.

@@ -3,14 +3,16 @@ use Rattle.std.specs.Prelude.{◌≡◌, ◌+◌, ◌<◌, ◌≤◌, ◌==◌, 
 use Rattle.commons.specs.Bag.{bag}
 use Rattle.commons.specs.declared.limits.Limits.{Limits}
 use Rattle.commons.specs.declared.limits.PutRule.TheVariants.{Keep}
+use Rattle.commons.specs.declared.refusal.Refusal.{Refusal}
 use Rattle.commons.specs.declared.refusal.Refusal.TheVariants.{StrangerShare}
 use Rattle.commons.specs.Refusals.{number_of}
 use Rattle.ground.specs.Parting.{less_part, newcomer}
 use Rattle.guard.specs.Caching.{Cached, CachedGets, CachedPuts}
-use Rattle.guard.specs.Guarding.{IsSplitCause, with_list}
+use Rattle.guard.specs.Guarding.{IsMakeCause, IsSplitCause, with_list}
 use Rattle.guard.specs.declared.cause.Cause.{Cause}
 use Rattle.guard.specs.declared.cause.Cause.TheVariants.{Refused, LentOut, Unrested}
 use Rattle.mempool.specs.declared.put.Put.{Put}
+use Rattle.stack_lf.specs.Remaining.{ReadsRemaining}
 use Rattle.step_core.specs.World.{every_part}
 use Rattle.mbufpool_c.specs.Stacks.{lent_out}
 
@@ -27,6 +29,11 @@ guard_limits population cache workers tries = record {
   start_count = 0;
   put_rule = Keep;
 }
+
+-- the same where the stack's count of changes begins at this number
+abbrev pub guard_limits_at : ℕ → ℕ → ℕ → ℕ → ℕ → Limits
+guard_limits_at population cache workers tries start =
+    record (guard_limits population cache workers tries) { start_count = start }
 
 -- what no refusal has: of a put of which not each number was out, of a get for nobody, and of a get
 -- whose elements couldn't rest
@@ -55,6 +62,10 @@ pub record IsFirst (l : Limits) (s : Cached) : Type 0 where
   pub cache : s.cache ≡ record { limits = l; number = 1; cache = [] }
   pub empty : (i : ℕ) → bag s.seat.known.view.hand i ≡ 0
   pub part : s.seat.known.view.part ≡ every_part l
+
+-- why a guarded pool isn't made, by the number that C has
+abbrev pub RefusesGuard : Limits → ℕ → Type 0
+RefusesGuard l status = (cause : Refusal) × (status ≡ number_of cause) × IsMakeCause l cause
 
 -- the worker of the first handle gave a worker's part to a new one, which is in the second
 abbrev pub SplitsGuard : Option Cached → Option Cached → Option Cached → Type 0
@@ -93,3 +104,13 @@ PutsGuard list words taken (Some s) status new =
     × All (λ w. 2 ≤ w) (take taken words) × All (λ w. w < 2) (drop taken words)
     × ((i : ℕ) → bag s.cache.cache i + bag (take taken list) i ≤ 1)
     × (status ≡ status_of_put (length list) taken)
+
+-- the worker read how many changes of the stack are left, and its cache is as it was
+pub record GuardReads (s : Cached) (left : ℕ) (t : Cached) : Type 0 where
+  pub read : ReadsRemaining s.seat left t.seat
+  pub cache : t.cache ≡ s.cache
+
+-- the same of the worker of a handle; where there is none, C has 0
+abbrev pub GuardRemains : Option Cached → ℕ → Option Cached → Type 0
+GuardRemains None left new = (left ≡ 0) × (new ≡ None)
+GuardRemains (Some s) left new = (t : Cached) × GuardReads s left t × (new ≡ Some t)

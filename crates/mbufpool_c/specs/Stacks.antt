@@ -14,6 +14,7 @@ use Rattle.lending.specs.Lending.{GetsLoans, IsSplitCause, PutsLoans, with_list}
 use Rattle.lending.specs.declared.cause.Cause.{Cause}
 use Rattle.lending.specs.declared.cause.Cause.TheVariants.{Refused, LentOut}
 use Rattle.lending.specs.declared.loans.Loans.{Loans}
+use Rattle.stack_lf.specs.Remaining.{ReadsRemaining}
 use Rattle.stack_lf.specs.Sides.{side_of}
 use Rattle.stack_lf.specs.Tries.{DidOnWords}
 
@@ -79,6 +80,11 @@ stack_limits population seats tries = record {
   put_rule = Keep;
 }
 
+-- the same where the stack's count of changes begins at this number
+abbrev pub stack_limits_at : ℕ → ℕ → ℕ → ℕ → Limits
+stack_limits_at population seats tries start =
+    record (stack_limits population seats tries) { start_count = start }
+
 -- why a pool of the bare stack isn't made: its limits are those of no pool, or memory was refused;
 -- and C has the number of the cause
 abbrev pub RefusesStack : Limits → ℕ → Type 0
@@ -88,6 +94,11 @@ RefusesStack l status = (cause : Refusal) × (status ≡ number_of cause) × IsG
 abbrev pub CountsIn : Option Seated → ℕ → Option Seated → Type 0
 CountsIn None count new = (count ≡ 0) × (new ≡ None)
 CountsIn (Some s) count new = (t : Seated) × Did DidOnWords side_of s (CommonCount count) t × (new ≡ Some t)
+
+-- the seat of a handle read how many changes of the stack are left; where there is no seat, C has 0
+abbrev pub RemainsIn : Option Seated → ℕ → Option Seated → Type 0
+RemainsIn None left new = (left ≡ 0) × (new ≡ None)
+RemainsIn (Some s) left new = (t : Seated) × ReadsRemaining s left t × (new ≡ Some t)
 
 -- the seat of the first handle gave a worker's part to a new seat at its words, which is in the
 -- second

@@ -7,7 +7,8 @@ use Rattle.mbuf.specs.declared.acts.Answer.{Answer}
 use Rattle.mbuf.specs.declared.acts.Answer.TheVariants as reply
 use Rattle.mbuf.specs.declared.acts.NewPacket.{NewPacket as Made}
 use Rattle.mbuf.specs.Acts.{Reply, as_reply}
-use Rattle.word_pool.specs.Workers.{Manned, Acts}
+use Rattle.stack_lf.specs.Remaining.{ReadsRemaining}
+use Rattle.word_pool.specs.Workers.{Manned, Acts, Stays}
 use Rattle.mbufpool_c.specs.declared.packets.NewPacket.{NewPacket}
 
 -- an answer, where there is one, as one with room for any bulk
@@ -113,3 +114,14 @@ BulkTold _ was out = out ≡ was
 abbrev pub TellsBulk : Act → Option Manned → ℕ → List NewPacket → List NewPacket → Option Manned → Type 0
 TellsBulk act old status was out new =
     (answer : Option Reply) × ActsIn act old answer new × (status ≡ status_of answer) × BulkTold answer was out
+
+-- the worker read how many changes of its pool's stack are left, and has what it had
+pub record WorkerReads (m : Manned) (left : ℕ) (after : Manned) : Type 0 where
+  pub read : ReadsRemaining m.seat left after.seat
+  pub member : after.member ≡ m.member
+  pub stays : Stays m after
+
+-- the same of the worker of a handle; where there is none, C has 0
+abbrev pub WorkerRemains : Option Manned → ℕ → Option Manned → Type 0
+WorkerRemains None left new = (left ≡ 0) × (new ≡ None)
+WorkerRemains (Some m) left new = (after : Manned) × WorkerReads m left after × (new ≡ Some after)

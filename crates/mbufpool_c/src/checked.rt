@@ -4,6 +4,7 @@ ghost use Rattle.std.specs.Prelude.{◌≡◌, ◌<◌, length, IfOk, IfErr};
 ghost use Rattle.commons.specs.Calls.{Did, GetList, CommonCount, with_list};
 ghost use Rattle.ground.specs.Opening.{IsGroundCause};
 ghost use Rattle.ground.specs.Rule.{first_known};
+ghost use Rattle.stack_lf.specs.Remaining.{ReadsRemaining};
 ghost use Rattle.stack_lf.specs.Sides.{side_of};
 ghost use Rattle.stack_lf.specs.Tries.{DidOnWords};
 ghost use Rattle.mbufpool_c.specs.Marks.{PutsChecked, not_in_hand};
@@ -82,6 +83,13 @@ impl CheckedSeat {
                 cause.number()
             }
         }
+    }
+
+    /// How many changes of the stack are left.
+    pub fn changes_left(&mut self) -> u64
+        ensures { ReadsRemaining self.old result self.new }
+    {
+        self.own.changes_left()
     }
 
     /// The length word of the stack.

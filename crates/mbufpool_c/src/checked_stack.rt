@@ -6,20 +6,21 @@ ghost use Rattle.ground.specs.Opening.{IsGroundCause};
 ghost use Rattle.ground.specs.Rule.{first_known};
 ghost use Rattle.ground.specs.Seats.{Seated};
 ghost use Rattle.mbufpool_c.specs.Marks.{PutsCheckedIn};
-ghost use Rattle.mbufpool_c.specs.Stacks.{CallsIn, CountsIn, RefusesStack, stack_limits};
+ghost use Rattle.mbufpool_c.specs.Stacks.{CallsIn, CountsIn, RefusesStack, RemainsIn, stack_limits, stack_limits_at};
 
 use crate::checked::CheckedSeat;
 use crate::checked_handle::CheckedHandle;
 use crate::stack::{stack_of, status_of};
+use commons::limits::Limits;
 use commons::refusal::Refusal;
 use std::alloc::Global;
 
-/// A pool of this many elements, with one checked seat.
-fn opened(alloc: Global, population: u32, tries: u32) -> Result<Box<CheckedSeat>, Refusal>
-    ensures known { IfOk result (λ own. own.value.known ≡ first_known (stack_limits population 1 tries)) }
-    ensures cause { IfErr result (IsGroundCause (stack_limits population 1 tries)) }
+/// A pool of these limits, with one checked seat.
+fn opened(alloc: Global, limits: &Limits) -> Result<Box<CheckedSeat>, Refusal>
+    ensures known { IfOk result (λ own. own.value.known ≡ first_known limits.now) }
+    ensures cause { IfErr result (IsGroundCause limits.now) }
 {
-    let seat = CheckedSeat::open(alloc, &stack_of(population, 1, tries))?;
+    let seat = CheckedSeat::open(alloc, limits)?;
     match Box::new(alloc, seat) {
         Ok(seat) => Ok(seat),
         Err(_) => Err(Refusal::OutOfMemory),
@@ -40,7 +41,25 @@ pub extern "C" fn mbufpool_checked_open(
     ensures kept { result ≢ 0 → out.new.value ≡ out.old.value }
     ensures cause { result ≢ 0 → RefusesStack (stack_limits population 1 tries) result }
 {
-    match opened(alloc, population, tries) {
+    mbufpool_checked_open_at(alloc, population, tries, 0, out)
+}
+
+/// Makes a pool as `mbufpool_checked_open` does, whose count of changes begins at `start`, 0 to
+/// 2^40 - 1.
+#[unsafe(no_mangle)]
+pub extern "C" fn mbufpool_checked_open_at(
+    alloc: Global,
+    population: u32,
+    tries: u32,
+    start: u64,
+    out: &mut CheckedHandle,
+) -> u32
+    ensures opened { result ≡ 0 → (s : Seated) × (out.new.value ≡ Some s)
+        × (s.known ≡ first_known (stack_limits_at population 1 tries start)) }
+    ensures kept { result ≢ 0 → out.new.value ≡ out.old.value }
+    ensures cause { result ≢ 0 → RefusesStack (stack_limits_at population 1 tries start) result }
+{
+    match opened(alloc, &stack_of(population, 1, tries, start)) {
         Ok(seat) => {
             out.put(seat);
             0
@@ -119,6 +138,22 @@ pub extern "C" fn mbufpool_checked_count(alloc: Global, seat: &mut CheckedHandle
             let count = own.count();
             seat.put(own);
             count
+        }
+    }
+}
+
+/// How many changes of the stack are left until each get and put is refused `HeadSpent`. 0 where the
+/// handle has no seat.
+#[unsafe(no_mangle)]
+pub extern "C" fn mbufpool_checked_changes_left(alloc: Global, seat: &mut CheckedHandle) -> u64
+    ensures { RemainsIn seat.old.value result seat.new.value }
+{
+    match seat.take(alloc) {
+        None => 0,
+        Some(mut own) => {
+            let left = own.changes_left();
+            seat.put(own);
+            left
         }
     }
 }

@@ -6,7 +6,7 @@ ghost use Rattle.commons.specs.Refusals.{number_of};
 ghost use Rattle.commons.specs.declared.refusal.Refusal.TheVariants.{NoRoom, OutOfMemory};
 ghost use Rattle.guard.specs.Caching.{Cached};
 ghost use Rattle.guard.specs.Guarding.{IsMakeCause};
-ghost use Rattle.mbufpool_c.specs.Guarded.{GetsGuard, IsFirst, PutsGuard, RefusesSplit, SplitsGuard, guard_limits, nobody, number_in, status_of as status_in, status_of_put as status_in_put};
+ghost use Rattle.mbufpool_c.specs.Guarded.{GetsGuard, GuardRemains, IsFirst, PutsGuard, RefusesGuard, RefusesSplit, SplitsGuard, guard_limits, guard_limits_at, nobody, number_in, status_of as status_in, status_of_put as status_in_put};
 
 use crate::guard_handle::GuardHandle;
 use crate::stack::LENT_OUT;
@@ -56,9 +56,9 @@ fn status_of_put(count: usize, taken: usize) -> u32
     if taken == count { 0 } else { NOT_OUT }
 }
 
-/// The limits of a guarded pool.
-fn limits_of(population: u32, cache: u32, workers: u32, tries: u32) -> Limits
-    ensures { result ≡ guard_limits population cache workers tries }
+/// The limits of a guarded pool, whose count of changes begins at `start`.
+fn limits_of(population: u32, cache: u32, workers: u32, tries: u32, start: u64) -> Limits
+    ensures { result ≡ guard_limits_at population cache workers tries start }
 {
     Limits {
         population: population as u64,
@@ -68,7 +68,7 @@ fn limits_of(population: u32, cache: u32, workers: u32, tries: u32) -> Limits
         buf: 0,
         ref_limit: 1,
         tries: tries as u64,
-        start_count: 0,
+        start_count: start,
         put_rule: PutRule::Keep,
     }
 }
@@ -99,8 +99,32 @@ pub extern "C" fn mbufpool_guard_open(
     ensures opened { result ≡ 0 → (s : Cached) × (out.new.value ≡ Some s)
         × IsFirst (guard_limits population cache workers tries) s }
     ensures kept { result ≢ 0 → out.new.value ≡ out.old.value }
+    ensures cause { result ≢ 0 → RefusesGuard (guard_limits population cache workers tries) result }
 {
-    match opened(alloc, &limits_of(population, cache, workers, tries)) {
+    mbufpool_guard_open_at(alloc, population, cache, workers, tries, 0, out)
+}
+
+/// Makes a pool as `mbufpool_guard_open` does, whose count of changes begins at `start`, 0 to
+/// 2^40 - 1. To fill its places takes two changes.
+///
+/// Refused `BadPool` where the limits are out of range, `OutOfMemory` where memory was refused, and
+/// `HeadSpent` where the count is spent before it is filled.
+#[unsafe(no_mangle)]
+pub extern "C" fn mbufpool_guard_open_at(
+    alloc: Global,
+    population: u32,
+    cache: u32,
+    workers: u32,
+    tries: u32,
+    start: u64,
+    out: &mut GuardHandle,
+) -> u32
+    ensures opened { result ≡ 0 → (s : Cached) × (out.new.value ≡ Some s)
+        × IsFirst (guard_limits_at population cache workers tries start) s }
+    ensures kept { result ≢ 0 → out.new.value ≡ out.old.value }
+    ensures cause { result ≢ 0 → RefusesGuard (guard_limits_at population cache workers tries start) result }
+{
+    match opened(alloc, &limits_of(population, cache, workers, tries, start)) {
         Ok(worker) => {
             out.put(worker);
             0
@@ -207,6 +231,22 @@ pub extern "C" fn mbufpool_guard_put(
             worker.put(own);
             *taken = count as u64;
             status_of_put(list.len(), count)
+        }
+    }
+}
+
+/// How many changes of the stack are left until its gets and puts are refused `HeadSpent`: what a
+/// cache can't serve takes one. Others may take some meanwhile. 0 where the handle has no worker.
+#[unsafe(no_mangle)]
+pub extern "C" fn mbufpool_guard_changes_left(alloc: Global, worker: &mut GuardHandle) -> u64
+    ensures { GuardRemains worker.old.value result worker.new.value }
+{
+    match worker.take(alloc) {
+        None => 0,
+        Some(mut own) => {
+            let left = own.changes_left();
+            worker.put(own);
+            left
         }
     }
 }

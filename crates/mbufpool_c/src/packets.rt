@@ -3,7 +3,7 @@
 ghost use Rattle.std.specs.Prelude.{◌≡◌, None, length, slice_index_or};
 ghost use Rattle.mbuf.specs.Acts.{HasRoom};
 ghost use Rattle.mbufpool_c.specs.Segments.{ShowsSegment, segment_of as segment_in};
-ghost use Rattle.mbufpool_c.specs.Statuses.{ActsIn, ActsAs, AreTold, TellsBulk, TellsNumber, TellsNew, status_of as status_in, replied};
+ghost use Rattle.mbufpool_c.specs.Statuses.{ActsIn, ActsAs, AreTold, TellsBulk, TellsNumber, TellsNew, WorkerRemains, status_of as status_in, replied};
 
 use crate::worker_handle::WorkerHandle;
 use commons::packet::Seg;
@@ -358,6 +358,23 @@ pub extern "C" fn mbufpool_flush(alloc: Global, worker: &mut WorkerHandle) -> u3
     ensures { ActsAs Act.Flush worker.old.value result worker.new.value }
 {
     status_of(&act(alloc, worker, Act::Flush))
+}
+
+/// How many changes of the pool's stack are left until an act that needs one is refused `HeadSpent`:
+/// what a cache can't serve takes one. Others may take some meanwhile. 0 where the handle has no
+/// worker.
+#[unsafe(no_mangle)]
+pub extern "C" fn mbufpool_worker_changes_left(alloc: Global, worker: &mut WorkerHandle) -> u64
+    ensures { WorkerRemains worker.old.value result worker.new.value }
+{
+    match worker.take(alloc) {
+        None => 0,
+        Some(mut own) => {
+            let left = own.changes_left();
+            worker.put(own);
+            left
+        }
+    }
 }
 
 /// Ends a worker: the handle has none then. The pool is freed with its last worker.

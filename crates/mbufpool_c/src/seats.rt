@@ -10,6 +10,7 @@ ghost use Rattle.ground.specs.Rule.{first_known};
 ghost use Rattle.ground.specs.Seats.{IsOf};
 ghost use Rattle.lending.specs.Lending.{GetsLoans, IsSplitCause, PutsLoans, with_list};
 ghost use Rattle.lending.specs.Pools.{AreAt, none_of};
+ghost use Rattle.stack_lf.specs.Remaining.{ReadsRemaining};
 ghost use Rattle.stack_lf.specs.Sides.{side_of};
 ghost use Rattle.step_core.specs.World.{worker_part};
 ghost use Rattle.stack_lf.specs.Tries.{DidOnWords};
@@ -248,6 +249,18 @@ impl OwnSeat {
         let (count, lender) = lender.count(&self.ground);
         put_back(&mut self.lender, lender);
         count
+    }
+
+    /// How many changes of the stack are left.
+    pub fn changes_left(&mut self) -> u64
+        ensures { ReadsRemaining self.old result self.new }
+    {
+        let Some(lender) = self.lender.take() else {
+            unreachable!()
+        };
+        let (left, lender) = lender.changes_left(&self.ground);
+        put_back(&mut self.lender, lender);
+        left
     }
 }
 

@@ -8,7 +8,7 @@ ghost use Rattle.ground.specs.Parting.{less_part, newcomer};
 ghost use Rattle.ground.specs.Rule.{first_known};
 ghost use Rattle.ground.specs.Seats.{Seated};
 ghost use Rattle.lending.specs.Lending.{IsSplitCause};
-ghost use Rattle.mbufpool_c.specs.Stacks.{AreLent, GetsIn, HasBack, KeepsSeat, PutsIn, CountsIn, RefusesSplit, RefusesStack, Splits, number_in, stack_limits, status_of as status_in, status_of_get as status_in_get};
+ghost use Rattle.mbufpool_c.specs.Stacks.{AreLent, GetsIn, HasBack, KeepsSeat, PutsIn, CountsIn, RefusesSplit, RefusesStack, RemainsIn, Splits, number_in, stack_limits, stack_limits_at, status_of as status_in, status_of_get as status_in_get};
 
 use crate::seat_with_loans::SeatWithLoans;
 use crate::seats::OwnSeat;
@@ -53,9 +53,9 @@ fn status_of_get(answer: Result<(), Cause>) -> u32
     }
 }
 
-/// The limits of a pool of the bare stack.
-pub(crate) fn stack_of(population: u32, seats: u32, tries: u32) -> Limits
-    ensures { result ≡ stack_limits population seats tries }
+/// The limits of a pool of the bare stack, whose count of changes begins at `start`.
+pub(crate) fn stack_of(population: u32, seats: u32, tries: u32, start: u64) -> Limits
+    ensures { result ≡ stack_limits_at population seats tries start }
 {
     Limits {
         population: population as u64,
@@ -65,17 +65,17 @@ pub(crate) fn stack_of(population: u32, seats: u32, tries: u32) -> Limits
         buf: 0,
         ref_limit: 1,
         tries: tries as u64,
-        start_count: 0,
+        start_count: start,
         put_rule: PutRule::Keep,
     }
 }
 
-/// A pool of this many elements, with one seat, of which others are made.
-fn opened(alloc: Global, population: u32, seats: u32, tries: u32) -> Result<Box<OwnSeat>, Refusal>
-    ensures known { IfOk result (λ own. own.value.known ≡ first_known (stack_limits population seats tries)) }
-    ensures cause { IfErr result (IsGroundCause (stack_limits population seats tries)) }
+/// A pool of these limits, with one seat, of which others are made.
+fn opened(alloc: Global, limits: &Limits) -> Result<Box<OwnSeat>, Refusal>
+    ensures known { IfOk result (λ own. own.value.known ≡ first_known limits.now) }
+    ensures cause { IfErr result (IsGroundCause limits.now) }
 {
-    let seat = OwnSeat::open(alloc, &stack_of(population, seats, tries))?;
+    let seat = OwnSeat::open(alloc, limits)?;
     match Box::new(alloc, seat) {
         Ok(seat) => Ok(seat),
         Err(_) => Err(Refusal::OutOfMemory),
@@ -97,7 +97,27 @@ pub extern "C" fn mbufpool_seat_open(
     ensures kept { result ≢ 0 → out.new ≡ out.old }
     ensures cause { result ≢ 0 → RefusesStack (stack_limits population seats tries) result }
 {
-    match opened(alloc, population, seats, tries) {
+    mbufpool_seat_open_at(alloc, population, seats, tries, 0, out)
+}
+
+/// Makes a pool as `mbufpool_seat_open` does, whose count of changes begins at `start`, 0 to
+/// 2^40 - 1: as if the stack had been changed so often before. So the end of a pool can be met
+/// without waiting for it.
+#[unsafe(no_mangle)]
+pub extern "C" fn mbufpool_seat_open_at(
+    alloc: Global,
+    population: u32,
+    seats: u32,
+    tries: u32,
+    start: u64,
+    out: &mut SeatWithLoans,
+) -> u32
+    ensures opened { result ≡ 0 → (s : Seated) × (out.new.handle.value ≡ Some s)
+        × (s.known ≡ first_known (stack_limits_at population seats tries start)) }
+    ensures kept { result ≢ 0 → out.new ≡ out.old }
+    ensures cause { result ≢ 0 → RefusesStack (stack_limits_at population seats tries start) result }
+{
+    match opened(alloc, &stack_of(population, seats, tries, start)) {
         Ok(seat) => {
             out.fill(seat);
             0
@@ -238,6 +258,24 @@ pub extern "C" fn mbufpool_seat_count(alloc: Global, seat: &mut SeatWithLoans) -
             let count = own.count();
             seat.handle.put(own);
             count
+        }
+    }
+}
+
+/// How many changes of the stack are left until each get and put is refused `HeadSpent`, as its head
+/// says: each that succeeds takes one. Others may take some meanwhile. 0 where the handle has no
+/// seat.
+#[unsafe(no_mangle)]
+pub extern "C" fn mbufpool_seat_changes_left(alloc: Global, seat: &mut SeatWithLoans) -> u64
+    ensures left { RemainsIn seat.old.handle.value result seat.new.handle.value }
+    ensures loans { seat.new.loans ≡ seat.old.loans }
+{
+    match seat.handle.take(alloc) {
+        None => 0,
+        Some(mut own) => {
+            let left = own.changes_left();
+            seat.handle.put(own);
+            left
         }
     }
 }

@@ -3,6 +3,7 @@
 ghost use Rattle.std.specs.Prelude.{◌≡◌, IfOk, None, Some, slice_index_or};
 ghost use Rattle.mbuf.specs.Acts.{HasRoom, as_reply};
 ghost use Rattle.mbufpool_c.specs.Segments.{seg_at};
+ghost use Rattle.mbufpool_c.specs.Statuses.{WorkerReads};
 ghost use Rattle.word_pool.specs.Workers.{Acts, IsWorker};
 
 use crate::hall::{Hall, Sitter};
@@ -85,6 +86,13 @@ impl OwnWorker {
             None => Err(Refusal::NoSuchPacket),
             Some(packet) => seg_in(packet.segs(), index),
         }
+    }
+
+    /// How many changes of the pool's stack are left.
+    pub fn changes_left(&mut self) -> u64
+        ensures { WorkerReads self.old result self.new }
+    {
+        self.worker.changes_left(self.hall.ground())
     }
 
     /// Does this, beside the others, and answers with room for a bulk of `ROOM` packets.

@@ -4,3 +4,4 @@ pub mod Sides
 pub mod Bounds
 pub mod Notes
 pub mod OwnLaws
+pub mod Remaining

@@ -4,10 +4,12 @@ ghost use Rattle.std.specs.Prelude.{◌≡◌};
 ghost use Rattle.std.proofs.Props.{props};
 ghost use Rattle.ground.specs.Seats.{IsOf};
 ghost use Rattle.ground.specs.Own.{Owned, AtRest};
+ghost use Rattle.stack_lf.specs.Remaining.{ReadsRemaining};
 ghost use Rattle.stack_lf.specs.Sides.{side_of};
 ghost use Rattle.stack_lf.specs.Tries.{DidOnWords};
 
 use crate::{counting, desking, getting, putting};
+use commons::limits::SPENT;
 use commons::packet::Packet;
 use commons::refusal::{Lowered, Refusal};
 use commons::shared::Commons;
@@ -45,6 +47,19 @@ impl<'a> WordCommons<'a> {
         seat.owned();
         let _ = ground.limits();
         WordCommons { ground, seat }
+    }
+
+    /// How many changes of the stack are left until its gets and puts are refused `HeadSpent`, as one
+    /// read of the head tells: a get that comes to the stack takes one, and so does a put. Others may
+    /// take some meanwhile, so it is an upper bound by the time it is answered; to the only seat of a
+    /// pool it is exact. No `Commons` has such a call, since lists have no end.
+    pub fn changes_left(&mut self) -> u64
+        ensures { ReadsRemaining self.old.seat result self.new.seat }
+    {
+        let seat = &mut self.seat;
+        let head = self.ground.load_head(seat);
+        seat.owned();
+        SPENT - head.count
     }
 
     /// Gives the seat back, which is at rest.

@@ -6,8 +6,9 @@ ghost use Rattle.ground.specs.Own.{AtRest};
 ghost use Rattle.ground.specs.Seats.{IsOf};
 ghost use Rattle.mbuf.specs.Acts.{HasRoom, as_reply};
 ghost use Rattle.mbuf.specs.Own.{Own};
+ghost use Rattle.stack_lf.specs.Remaining.{ReadsRemaining};
 ghost use Rattle.stack_lf.specs.Sides.{side_of};
-ghost use Rattle.word_pool.specs.Workers.{Acts, IsIdle};
+ghost use Rattle.word_pool.specs.Workers.{Acts, IsIdle, Stays};
 
 use commons::packet::Packet;
 use ground::pool::Ground;
@@ -93,6 +94,23 @@ impl WordWorker {
         self.packets.place(slot)
     }
 
+    /// How many changes of the pool's stack are left until an act that needs one is refused
+    /// `HeadSpent`, as one read of the head tells: what a cache can't serve takes one. Others may
+    /// take some meanwhile.
+    pub fn changes_left(&mut self, ground: &Ground) -> u64
+        requires { IsOf ground.now self.old.seat }
+        ensures read { ReadsRemaining self.old.seat result self.new.seat }
+        ensures member { self.new.member ≡ self.old.member }
+        ensures stays { Stays self.old self.new }
+    {
+        let Some(seat) = self.seat.take() else {
+            unreachable!()
+        };
+        let (left, seat) = remaining_by(ground, seat, &self.packets);
+        put_back(&mut self.seat, seat);
+        left
+    }
+
     /// Lets the worker do this over the words of its ground, beside others, and answers what came
     /// of it. The worker keeps its number, its part, and its place at the ground.
     ///
@@ -143,6 +161,23 @@ fn act_by<const ROOM: usize>(
     let mut c = WordCommons::new(ground, seat);
     let reply = acts::perform_in(packets, &mut c, act);
     (reply, c.into_seat())
+}
+
+/// A read of the head by the seat of this worker, for the changes that are left.
+fn remaining_by(ground: &Ground, seat: GroundSeat, packets: &Packets) -> (u64, GroundSeat)
+    requires of { IsOf ground.now seat }
+    requires rest { AtRest seat.known.view }
+    requires slots { seat.slots ≡ [] }
+    requires own { Own packets.now (side_of seat) }
+    ensures idle { IsIdle (record { seat = result.1; member = packets.now }) }
+    ensures read { ReadsRemaining seat result.0 result.1 }
+    ensures stays { Stays (record { seat = seat; member = packets.now })
+        (record { seat = result.1; member = packets.now }) }
+{
+    let _ = packets;
+    let mut c = WordCommons::new(ground, seat);
+    let left = c.changes_left();
+    (left, c.into_seat())
 }
 
 /// Gives a worker its seat back.

@@ -15,6 +15,7 @@ use std::fmt::Debug;
 use std::process::Abort;
 use std::test::Fail;
 
+mod changes;
 mod crews;
 mod example;
 mod lost;

@@ -25,11 +25,11 @@ use word_pool::worker::WordWorker;
 /// The workers, and the desks.
 const CROWD: u32 = 64;
 
-/// How many calls each worker makes, at least: a million in all.
-const CALLS: u64 = 15_625;
+/// How many calls each worker makes, at least: a hundred thousand in all.
+const CALLS: u64 = 1_563;
 
 /// How many packets go from worker to worker, at least.
-const TAKEN: u64 = 10_000;
+const TAKEN: u64 = 1_000;
 
 /// How often a worker tries to get its first elements.
 const TRIES: u32 = 1_000;
@@ -271,7 +271,7 @@ fn ended<R: Threads + Sync>(
 /// No call was refused for another cause, so much was done, and each packet that was left was
 /// taken or is on a desk.
 fn assert_told<R: Abort>(rt: &R, told: &Tally, on_desks: usize) {
-    let calls = (told.calls, told.calls >= 1_000_000);
+    let calls = (told.calls, told.calls >= 100_000);
     let taken = (told.taken, told.taken >= TAKEN);
     let left = told.taken.saturating_add(on_desks as u64);
     let wanted = ((told.calls, true), (told.taken, true), left, 0);
@@ -296,7 +296,7 @@ fn passed<R: Threads + Sync + Abort>(
 }
 
 #[test]
-fn each_element_stands_once_after_a_million_calls(rt: HostRuntime) -> Result<(), Fail> {
+fn each_element_stands_once_after_a_hundred_thousand_calls(rt: HostRuntime) -> Result<(), Fail> {
     let statement = passed(&rt, rt.alloc(), false)?;
     same(
         &rt,
@@ -304,8 +304,8 @@ fn each_element_stands_once_after_a_million_calls(rt: HostRuntime) -> Result<(),
         &(CROWD as usize),
         "each worker's own packet",
     );
-    assert_each_once(&rt, rt.alloc(), &statement, "a million calls")?;
-    assert_holds(&rt, rt.alloc(), &statement, "a million calls")
+    assert_each_once(&rt, rt.alloc(), &statement, "a hundred thousand calls")?;
+    assert_holds(&rt, rt.alloc(), &statement, "a hundred thousand calls")
 }
 
 #[test]
@@ -315,6 +315,6 @@ fn no_element_is_held_once_all_packets_are_freed(rt: HostRuntime) -> Result<(), 
         &rt,
         rt.alloc(),
         &statement,
-        "a million calls, and all freed",
+        "a hundred thousand calls, and all freed",
     )
 }

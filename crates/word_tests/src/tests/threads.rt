@@ -21,7 +21,7 @@ use word_pool::pool;
 use word_pool::worker::WordWorker;
 
 /// How often each worker makes three packets and frees them, in the pool that is worked on longest.
-const ROUNDS: u32 = 100_000;
+const ROUNDS: u32 = 10_000;
 
 /// Attaches a worker's packet to another, which can't be refused, where there is a slot of the
 /// first.
