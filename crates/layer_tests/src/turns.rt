@@ -1,5 +1,5 @@
-//! In which order the calls on two pools come, which no contract can tell of two shared pools: each
-//! notes its calls in one list with the other's.
+//! In which order the calls on two pools come, which no public contract tells: each notes its calls
+//! in one list with the other's.
 
 ghost use Rattle.mbuf.specs.Twins.{OwnTwin};
 

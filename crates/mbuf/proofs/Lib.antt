@@ -16,3 +16,4 @@ pub mod ResizeLemmas
 pub mod SharingLemmas
 pub mod SlotLemmas
 pub mod TableLemmas
+pub mod TurnLemmas

@@ -6,4 +6,5 @@ pub mod Cloning
 pub mod Ending
 pub mod ForeignSteps
 pub mod Kept
+pub mod Turns
 pub mod Twins

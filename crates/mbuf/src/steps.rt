@@ -11,6 +11,7 @@ ghost use Rattle.mbuf.specs.PacketRules.{fresh_seg, freed_nothing, counted as co
 ghost use Rattle.mbuf.specs.inside.Ending.{EndedHold, EndedHolds};
 
 pub mod foreign;
+pub mod pair;
 
 use crate::freed::Freed;
 use commons::limits::Limits;
