@@ -15,8 +15,7 @@ use Rattle.commons.specs.Packets.{hold_of, holds_of_packet, holds_of_seg, held_i
 use Rattle.commons.proofs.Bags.{bag-append, bag-cons, bag-head, bag-nil, bag-single}
 use Rattle.commons.proofs.Leading.{calls_of-append, Leads-append}
 use Rattle.commons.proofs.PacketBags.{own_in-empty, own_in-held, own_in-set, own_in-slot, stands_within}
-use Rattle.mbuf.specs.declared.freed.Freed.{Freed}
-use Rattle.mbuf.specs.Foreign.{BothCalls, ClonesForeign, ClonesForeignSeg, EndsForeign, EndsForeignSeg, GivesUpForeign, OwnForeign, StopsForeign, bases_in, bases_in_slot, bases_of_packet}
+use Rattle.mbuf.specs.Foreign.{BothCalls, ClonesForeign, ClonesForeignSeg, GivesUpForeign, OwnForeign, StopsForeign, bases_in, bases_in_slot, bases_of_packet}
 use Rattle.mbuf.specs.inside.ForeignSteps.{GivesBack}
 use Rattle.mbuf.specs.inside.Kept.{KeepsHolds}
 use Rattle.mbuf.specs.Members.{Member, slots}
@@ -141,46 +140,6 @@ both_calls first_did first_side s s' s'' second_did second_side t t' t'' before 
         (joined (calls_of h.0) (calls_of h.2.0) (calls_of k.0) (calls_of k.2.0) h.2.2 k.2.2)),
   ),
 )
-
--- segments that end, and then one more
-pub EndsForeign-more : (l k : Limits) (segs : List Seg) (seg : Seg) (first_cache second_cache : List ℕ)
-    (freed : Freed) (a b : List Call) (first_between second_between : List ℕ) (so_far : Freed)
-    (x y : List Call) (first_left second_left : List ℕ) (done : Freed) →
-    EndsForeign l k segs first_cache second_cache freed a b first_between second_between so_far →
-    EndsForeignSeg l k seg first_between second_between so_far x y first_left second_left done →
-    EndsForeign l k (segs ++ seg ∷ []) first_cache second_cache freed (a ++ x) (b ++ y) first_left second_left done
-EndsForeign-more l k [] seg first_cache second_cache freed a b first_between second_between so_far x y first_left
-    second_left done h e = (
-      x,
-      [],
-      y,
-      [],
-      first_left,
-      second_left,
-      done,
-      ap (λ (calls : List Call). calls ++ x) h.0 ∙ sym (append-nil x),
-      ap (λ (calls : List Call). calls ++ y) h.1 ∙ sym (append-nil y),
-      subst (λ (c : List ℕ). EndsForeignSeg l k seg c second_cache freed x y first_left second_left done) h.2
-          (subst (λ (c : List ℕ). EndsForeignSeg l k seg first_between c freed x y first_left second_left done) h.3
-          (subst (λ (f : Freed). EndsForeignSeg l k seg first_between second_between f x y first_left second_left done) h.4
-          e)),
-      (refl, refl, refl, refl, refl),
-    )
-EndsForeign-more l k (s ∷ segs) seg first_cache second_cache freed a b first_between second_between so_far x y
-    first_left second_left done h e = (
-      h.0,
-      h.1 ++ x,
-      h.2,
-      h.3 ++ y,
-      h.4,
-      h.5,
-      h.6,
-      ap (λ (calls : List Call). calls ++ x) h.7 ∙ append_assoc h.0 h.1 x,
-      ap (λ (calls : List Call). calls ++ y) h.8 ∙ append_assoc h.2 h.3 y,
-      h.9,
-      EndsForeign-more l k segs seg h.4 h.5 h.6 h.1 h.3 first_between second_between so_far x y first_left second_left done
-          h.10 e,
-    )
 
 -- segments that are cloned, and then one more
 pub ClonesForeign-more : (l : Limits) (segs : List Seg) (seg : Seg) (cache : List ℕ) (a b : List Call)
