@@ -1,5 +1,5 @@
--- Calls on two pools as steps of one state of both: what ends one segment after another, and what is
--- so of the calls on either pool apart.
+-- Calls on two pools as steps of one state of both: what ends one segment after another, and what
+-- is so of the calls on either pool apart.
 use Rattle.std.proofs.Common.{◌≡◌, ℕ, List, [], ◌∷◌, ◌++◌, refl, sym, ap, ◌∙◌, subst}
 use Rattle.commons.specs.Calls.{Call, Leads, Made, Reading, Side, Step}
 use Rattle.commons.specs.declared.limits.Limits.{Limits}

@@ -14,8 +14,8 @@ use Rattle.mbuf.specs.declared.freed.Freed.{Freed}
 abbrev pub EndsSegInTurn : {S : Type 0} → (S → Call → List Reading → S → Type 0) → (S → Side) →
     (S → Call → List Reading → S → Type 0) → (S → Side) → Limits → Limits → Seg →
     S → List ℕ → List ℕ → Freed → S → List ℕ → List ℕ → Freed → Type 0
-EndsSegInTurn {S} first_did first_side second_did second_side l k seg s first_cache second_cache freed
-    after first_left second_left done =
+EndsSegInTurn {S} first_did first_side second_did second_side l k seg s first_cache second_cache
+    freed after first_left second_left done =
     (between : S) × (so_far : Freed)
     × Calls first_did first_side s between (λ firsts.
     EndsHolds l (hold_of seg.base) first_cache freed firsts first_left so_far)
@@ -29,10 +29,10 @@ abbrev pub EndsInTurn : {S : Type 0} → (S → Call → List Reading → S → 
 EndsInTurn first_did first_side second_did second_side l k [] s first_cache second_cache freed
     after first_left second_left done =
     (after ≡ s) × (first_left ≡ first_cache) × (second_left ≡ second_cache) × (done ≡ freed)
-EndsInTurn {S} first_did first_side second_did second_side l k (seg ∷ segs) s first_cache second_cache freed
-    after first_left second_left done =
+EndsInTurn {S} first_did first_side second_did second_side l k (seg ∷ segs) s first_cache
+    second_cache freed after first_left second_left done =
     (between : S) × (first_between : List ℕ) × (second_between : List ℕ) × (so_far : Freed)
-    × EndsSegInTurn first_did first_side second_did second_side l k seg s first_cache second_cache freed
-    between first_between second_between so_far
+    × EndsSegInTurn first_did first_side second_did second_side l k seg s first_cache second_cache
+    freed between first_between second_between so_far
     × EndsInTurn first_did first_side second_did second_side l k segs between first_between
     second_between so_far after first_left second_left done

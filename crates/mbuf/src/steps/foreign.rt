@@ -75,14 +75,16 @@ fn end_seg<P: Pair>(
 fn end_each<P: Pair>(first: &mut Worker, second: &mut Worker, pair: &mut P, segs: &[Seg]) -> Freed
     requires first_limits { (P.first_side pair.old).limits ≡ first.old.limits }
     requires first_hand { (i : ℕ) → (P.first_side pair.old).hand i ≡ bag first.old.cache i }
-    requires first_held { (i : ℕ) → bag (bases_of_packet segs.now) i ≤ (P.first_side pair.old).holds i }
+    requires first_held { (i : ℕ) → bag (bases_of_packet segs.now) i
+        ≤ (P.first_side pair.old).holds i }
     requires second_limits { (P.second_side pair.old).limits ≡ second.old.limits }
     requires second_hand { (i : ℕ) → (P.second_side pair.old).hand i ≡ bag second.old.cache i }
-    requires second_held { (i : ℕ) → bag (own_of_packet segs.now) i ≤ (P.second_side pair.old).holds i }
+    requires second_held { (i : ℕ) → bag (own_of_packet segs.now) i
+        ≤ (P.second_side pair.old).holds i }
     requires few { length segs.now ≤ max_segs }
     ensures calls { EndsInTurn P.first_did P.first_side P.second_did P.second_side
-        first.old.limits second.old.limits segs.now pair.old first.old.cache second.old.cache freed_nothing
-        pair.new first.new.cache second.new.cache result }
+        first.old.limits second.old.limits segs.now pair.old first.old.cache second.old.cache
+        freed_nothing pair.new first.new.cache second.new.cache result }
     ensures first { LostHolds (bases_of_packet segs.now) first.old (P.first_side pair.old)
         first.new (P.first_side pair.new) }
     ensures second { LostHolds (own_of_packet segs.now) second.old (P.second_side pair.old)

@@ -41,8 +41,10 @@ pub trait Pair {
         requires back { freed.back < 2 * max_segs }
         requires flushed { freed.flushed ≤ max_population * freed.back }
         ensures calls { Calls first_did first_side self.old self.new (λ calls.
-            EndsHolds worker.old.limits (hold_of base) worker.old.cache freed calls worker.new.cache result) }
-        ensures lost { LostHolds (hold_of base) worker.old (first_side self.old) worker.new (first_side self.new) }
+            EndsHolds worker.old.limits (hold_of base) worker.old.cache freed calls
+            worker.new.cache result) }
+        ensures lost { LostHolds (hold_of base) worker.old (first_side self.old)
+            worker.new (first_side self.new) }
         ensures back { result.back ≤ freed.back + 1 }
         ensures flushed { result.flushed ≤ max_population * result.back }
         ensures other { second_side self.new ≡ second_side self.old }
@@ -58,7 +60,8 @@ pub trait Pair {
         requires flushed { freed.flushed ≤ max_population * freed.back }
         ensures calls { Calls second_did second_side self.old self.new (λ calls.
             EndsHold worker.old.limits elem worker.old.cache freed calls worker.new.cache result) }
-        ensures lost { LostHolds (elem ∷ []) worker.old (second_side self.old) worker.new (second_side self.new) }
+        ensures lost { LostHolds (elem ∷ []) worker.old (second_side self.old)
+            worker.new (second_side self.new) }
         ensures back { result.back ≤ freed.back + 1 }
         ensures flushed { result.flushed ≤ max_population * result.back }
         ensures other { first_side self.new ≡ first_side self.old }
