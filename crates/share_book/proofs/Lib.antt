@@ -14,6 +14,7 @@ mod SharedBuffers
 mod TwinCalls
 mod TwinLawful
 mod TwinMembers
+mod TwinPackets
 mod TwinPools
 mod TwinReaching
 mod TwinShown

@@ -26,10 +26,10 @@ use Rattle.share_book.proofs.TwinLawful.{IsPart, lists_lawful, lists_walk}
 use Rattle.share_book.proofs.TwinMembers.{first_numbers, second_numbers}
 use Rattle.share_book.proofs.TwinStatements.{lists_stated}
 
-abbrev firsts : List TwinMember → List Member
+abbrev pub firsts : List TwinMember → List Member
 firsts ms = map (λ m. m.first) ms
 
-abbrev seconds : List TwinMember → List Member
+abbrev pub seconds : List TwinMember → List Member
 seconds ms = map (λ m. m.second) ms
 
 module _ (s : TwinLists) (t : AreTables s) where

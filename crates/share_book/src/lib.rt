@@ -6,6 +6,7 @@ mod deskless;
 pub mod ending;
 pub mod locked_site;
 pub mod locked_twin;
+mod looks;
 pub mod site_pool;
 pub mod twin_ending;
 pub mod twin_site;

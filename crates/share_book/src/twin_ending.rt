@@ -40,7 +40,7 @@ pub fn settled(alloc: Global, pools: TwinSite) -> Result<(Statement, Statement),
     ensures memory { IfErr result (λ e. e ≡ Refusal.OutOfMemory) }
 {
     pools.fits_its_limits();
-    pools.each_pool_is_lawful();
+    pools.is_lawful_by_types();
     pools.leaves_its_statements();
     match pools.close(alloc) {
         Ok(closed) => settled_twins(alloc, closed),

@@ -13,14 +13,15 @@ ghost use Rattle.mbuf.specs.Acts.{as_reply};
 ghost use Rattle.mbuf.specs.Twins.{OwnTwin};
 ghost use Rattle.mbuf.specs.declared.acts.Answer.TheVariants.{Refused};
 ghost use Rattle.pool_model.specs.TwinModel.{after_twin_acts, first_statement, new_twin_pool, perform_twin, second_statement};
-ghost use Rattle.snapshot.specs.Snapshots.{statement_in};
-ghost use Rattle.book.specs.Left.{AreLeftWhole, IsLawfulByTypes, first_of, second_of};
+ghost use Rattle.snapshot.specs.Snapshots.{IsLawful, statement_in};
+ghost use Rattle.book.specs.Left.{AreLeftWhole, AreOfPackets, IsLawfulByTypes, first_of, second_of};
 ghost use Rattle.twin_acts.specs.TwinActs.{HasTwinRoom, KeepsTwin};
 ghost use Rattle.twin_acts.specs.declared.acts.TwinAct.{TwinAct};
 ghost use Rattle.share_book.specs.AsModel.{pools_of};
 ghost use Rattle.share_book.specs.TwinSites.{ActsAlone, ActsOn, AreTwinPools, HasWorker, IsTwinMakeCause, first_snapshot, new_twin, new_twin_lists, second_snapshot, twin_at};
 
 use crate::deskless::left_without_desks;
+use crate::looks::{look_at_desks, look_at_members};
 use book::closed_twin::ClosedTwin;
 use book::twin_share::{TwinShare, hand_in_twin};
 use commons::limits::Limits;
@@ -89,8 +90,26 @@ impl TwinSite {
 
     /// A law of any two pools, whatever was done with them: each is lawful by itself. In either,
     /// each element is in one place, and its count is the number of its holds: a foreign clone's own
-    /// elements are held in the second pool, and its bases in the first. It does nothing.
+    /// elements are held in the second pool, and its bases in the first. What stands in slots and
+    /// lies on desks is packets.
+    ///
+    /// It looks at each packet once, in every slot of every worker and on every desk, and changes
+    /// nothing.
     pub fn each_pool_is_lawful(&self)
+        ensures first { IsLawfulByTypes (first_snapshot self.now) }
+        ensures second { IsLawfulByTypes (second_snapshot self.now) }
+        ensures first_packets { AreOfPackets (first_snapshot self.now) }
+        ensures second_packets { AreOfPackets (second_snapshot self.now) }
+        ensures first_lawful { IsLawful (first_snapshot self.now) }
+        ensures second_lawful { IsLawful (second_snapshot self.now) }
+    {
+        self.is_lawful_by_types();
+        look_at_desks(self.first.desks());
+        look_at_members(self.members.as_slice());
+    }
+
+    /// Each pool is lawful by itself, given what the types of packets keep. It does nothing.
+    pub(crate) fn is_lawful_by_types(&self)
         ensures first { IsLawfulByTypes (first_snapshot self.now) }
         ensures second { IsLawfulByTypes (second_snapshot self.now) }
     {
@@ -179,7 +198,7 @@ impl TwinSite {
             return Err((Refusal::OutOfMemory, self));
         };
         self.fits_its_limits();
-        self.each_pool_is_lawful();
+        self.is_lawful_by_types();
         self.leaves_its_statements();
         let Ok(left) = left_without_desks(alloc, &self.second) else {
             shares.destroy_empty();
