@@ -279,6 +279,7 @@ fn settled_after<R: Abort>(rt: &R, alloc: Global, row: &TwinRow) -> Result<Settl
     let (name, first, second, steps, _) = row;
     let mut pools = TwinSite::make(alloc, first, second)?;
     follow(rt, &mut pools, steps, name);
+    pools.each_pool_is_lawful();
     let (first, second) = settled(alloc, pools)?;
     Ok(Settled {
         first,
