@@ -39,6 +39,11 @@ fn each_get_and_put_that_comes_to_the_stack_takes_one(rt: HostRuntime) -> Result
     let put = act(&ground, &mut worker, Act::Free(0));
     let spent = act(&ground, &mut worker, Act::Alloc);
     let wanted = (3, (false, 2), (false, 1), (false, 0), (true, 0));
-    same(&rt, &(before, got, again, put, spent), &wanted, "changes left");
+    same(
+        &rt,
+        &(before, got, again, put, spent),
+        &wanted,
+        "changes left",
+    );
     Ok(())
 }
