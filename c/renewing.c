@@ -4,24 +4,34 @@
  * since. An element is "out" of a stack from its get there until its put there. Of both stacks, while
  * there are two:
  *
- *   - the new one is opened with every element out of it, by one get of all;
+ *   - the new one is opened with every element out of it, by gets of all;
  *   - a put goes to the new one: so each element is put there once, and got there again by gets of it;
- *   - a get takes from the old one what there is, and the rest from the new one: what the old one
- *     gives is out of both then, and goes to the new one by its next put;
+ *   - a get takes from the old one what there is, else from the new one: what the old one gives is out
+ *     of both then, and goes to the new one by its next put;
  *   - a put that began before the new stack was shown goes to the old one, and is served from there.
  *
- * So an element is on one of the stacks, or out of both. Once each user has left the call in which it
- * could still put to the old one (wait_for_all), what lies there is moved by get and put, the old
- * stack is taken away, and once each user has left the call in which it could still get from it, it is
- * freed.
+ * So an element is on one of the stacks, out of both, or kept. Once each user has left the call in
+ * which it could still put to the old one (wait_for_all), what lies there is moved by get and put; the
+ * old stack is taken away; and once each user has left the call in which it could still get from it,
+ * what a refused get had reserved there is moved too, and it is freed.
+ *
+ * What a stack refuses is kept: in one list of the pool, linked through `next`, under a lock, for all
+ * users. A stack that nears its end before there is a new one is held: its last changes are for gets,
+ * which empty it, and puts are kept (`floor`). Then the pool goes on by that list alone, under the
+ * lock, until there is memory for a new stack.
  *
  * Whether a user is within a call is a number of its own, odd there, which nobody else writes. It is
  * written before `on` is read; that no processor reads `on` first is seen to by the one that waits, by
- * membarrier(2), or, where the kernel has none, by a fence in each call. */
+ * membarrier(2): each thread passes a full barrier between the call's begin and its end. If a user
+ * wrote its number before that barrier, the one that waits sees it, and if after, the user reads the
+ * new `on`. Where the kernel has no such call, each user makes an exchange of its number.
+ *
+ * Locks are taken in this order: that of user 0, that of what is kept. */
 #define _GNU_SOURCE
 #include <linux/membarrier.h>
 #include <pthread.h>
 #include <sched.h>
+#include <signal.h>
 #include <stdlib.h>
 #include <sys/syscall.h>
 #include <time.h>
@@ -35,6 +45,7 @@
 #define FEW (UINT64_C(1) << 38)
 #define LOOKS 16 /* how often a margin is looked at, at least, while it is used up */
 #define CHUNK 256
+#define REST 20000 /* microseconds until a renewal that was refused is tried again */
 #define NONE UINT32_MAX
 #define LINE _Alignas(64)
 
@@ -42,39 +53,38 @@
 #define unlikely(x) __builtin_expect(!!(x), 0)
 #define apart __attribute__((noinline, cold))
 
-/* What the pool is on: gets take from `old` while it is there, puts go to `now`. */
-struct stacks {
-	struct stack *old, *now;
-};
-
 struct place {
 	LINE struct mbufpool_seat seat;
 };
 
-/* A stack of the library, with a seat for each user. */
+/* A stack of the library, with a seat for each user. The first line is read by each call, and written
+ * where something changes. */
 struct stack {
-	LINE struct stacks beside, alone; /* it is new beside an old one; it is there alone */
-	int is_held;	/* the changes that are left are for gets alone: puts are kept */
+	LINE uint32_t state; /* odd where there is an old one, or it is held, or something is kept; it
+			      * is another each time that something was kept or taken from there */
+	uint32_t is_held;  /* the changes that are left are for gets alone: puts are kept */
+	struct stack *old; /* the one before it, from which is got as well, or NULL */
 	struct place places[MOST_USERS];
 };
 
 struct user {
-	LINE uint64_t calls; /* odd within a call */
-	uint32_t until_look; /* after so many calls it looks how many changes are left */
-	uint32_t kept;	     /* the first of what it keeps, or NONE */
-	uint32_t nb_kept;
+	LINE uint64_t calls; /* begun and ended: odd within one */
 };
 
 struct mbufpool_renewing {
-	LINE const struct stacks *on;
-	uint32_t *next; /* of each element that a user keeps: the next one that it keeps, or NONE */
-	int has_fences; /* each call has one */
-	uint32_t population, users, tries, look_every;
+	LINE struct stack *on; /* puts go there */
+	uint64_t look_mask;    /* a call whose odd number is 1 by this mask looks what is left */
+	int has_fences;	       /* each call has one: there is no membarrier */
+	uint32_t population, users, tries;
 	uint64_t start, margin;
 	uint64_t floor; /* with so many changes left a stack can be emptied, and no more is put there */
 	struct mbufpool_renewing_hooks hooks;
-	LINE uint32_t lock; /* of user 0, whose seat is also that of the thread that renews */
-	int is_renewing;
+	LINE uint32_t user_lock; /* of user 0, whose seat is also that of the thread that renews */
+	LINE uint32_t kept_lock; /* of what is kept, of `state`, and of gets from several places */
+	uint32_t kept, nb_kept;	 /* the first that is kept, or NONE, and how many */
+	uint32_t *next;		 /* of each that is kept: the next one, or NONE */
+	LINE int is_renewing;
+	int is_ending;
 	uint32_t told; /* a bit for each thing that was told */
 	uint64_t times;
 	struct user user[MOST_USERS];
@@ -82,36 +92,64 @@ struct mbufpool_renewing {
 
 /* ---- small things ---- */
 
-static void nap(void)
+static void sleep_for(long microseconds)
 {
-	const struct timespec moment = { 0, 50000 };
+	const struct timespec moment = { 0, microseconds * 1000 };
 
 	nanosleep(&moment, NULL);
 }
 
-static long membarrier(int command)
+/* Sleeps while something is waited for, longer after some rounds. */
+static void nap(unsigned int round)
 {
-	return syscall(__NR_membarrier, command, 0, 0);
+	sleep_for(round < 20 ? 50 : 1000);
 }
 
-static void lock(struct mbufpool_renewing *p)
+static int membarrier(int command)
 {
-	while (__atomic_exchange_n(&p->lock, 1, __ATOMIC_ACQUIRE))
-		sched_yield();
+	return (int)syscall(__NR_membarrier, command, 0, 0);
 }
 
-static void unlock(struct mbufpool_renewing *p)
+/* (a thread that holds a lock may have lost its processor to one that waits: so that one sleeps) */
+static void lock(uint32_t *is_locked)
 {
-	__atomic_store_n(&p->lock, 0, __ATOMIC_RELEASE);
+	unsigned int round;
+
+	for (round = 1; __atomic_exchange_n(is_locked, 1, __ATOMIC_ACQUIRE); round++)
+		if (round % 64 != 0)
+			sched_yield();
+		else
+			nap(0);
 }
 
-/* Tells once. */
+static void unlock(uint32_t *is_locked)
+{
+	__atomic_store_n(is_locked, 0, __ATOMIC_RELEASE);
+}
+
+/* A flag or a number that is changed under a lock, and read without. */
+static inline uint32_t peek(const uint32_t *at)
+{
+	return __atomic_load_n(at, __ATOMIC_RELAXED);
+}
+
+static inline void set(uint32_t *at, uint32_t value)
+{
+	__atomic_store_n(at, value, __ATOMIC_RELAXED);
+}
+
 static apart void tell(struct mbufpool_renewing *p, enum mbufpool_renewing_told what, uint32_t cause)
+{
+	if (p->hooks.tell != NULL)
+		p->hooks.tell(p->hooks.context, what, cause);
+}
+
+static apart void tell_once(struct mbufpool_renewing *p, enum mbufpool_renewing_told what, uint32_t cause)
 {
 	uint32_t bit = UINT32_C(1) << what;
 
-	if (p->hooks.tell != NULL && !(__atomic_fetch_or(&p->told, bit, __ATOMIC_RELAXED) & bit))
-		p->hooks.tell(p->hooks.context, what, cause);
+	if (!(peek(&p->told) & bit) && !(__atomic_fetch_or(&p->told, bit, __ATOMIC_RELAXED) & bit))
+		tell(p, what, cause);
 }
 
 static void may_tell_again(struct mbufpool_renewing *p, enum mbufpool_renewing_told what)
@@ -119,117 +157,181 @@ static void may_tell_again(struct mbufpool_renewing *p, enum mbufpool_renewing_t
 	__atomic_fetch_and(&p->told, ~(UINT32_C(1) << what), __ATOMIC_RELAXED);
 }
 
-/* ---- what a user keeps ---- */
+/* ---- what is kept: each of these under its lock ---- */
 
-static void set_kept(struct user *u, uint32_t first, uint32_t count)
+static struct stack *stack_of(const struct mbufpool_renewing *p)
 {
-	u->kept = first;
-	__atomic_store_n(&u->nb_kept, count, __ATOMIC_RELAXED);
+	return __atomic_load_n(&p->on, __ATOMIC_ACQUIRE);
 }
 
-static void keep(struct mbufpool_renewing *p, struct user *u, const uint32_t *list, size_t n)
+static struct stack *old_of(const struct stack *s)
+{
+	return __atomic_load_n(&s->old, __ATOMIC_SEQ_CST);
+}
+
+static void lock_kept(struct mbufpool_renewing *p)
+{
+	lock(&p->kept_lock);
+}
+
+/* Notes whether calls have to look further than to the stack: not before the lock is given back, since
+ * what was taken may be in nobody's place until then. */
+static void unlock_kept(struct mbufpool_renewing *p)
+{
+	struct stack *s = stack_of(p);
+	int is_slow = old_of(s) != NULL || peek(&s->is_held) || p->nb_kept > 0;
+
+	set(&s->state, (peek(&s->state) | 1) + 1 + (uint32_t)is_slow);
+	unlock(&p->kept_lock);
+}
+
+static void keep(struct mbufpool_renewing *p, const uint32_t *list, size_t n)
 {
 	size_t k;
 
 	for (k = 0; k < n; k++) {
-		p->next[list[k]] = u->kept;
-		set_kept(u, list[k], u->nb_kept + 1);
+		p->next[list[k]] = p->kept;
+		p->kept = list[k];
 	}
+	set(&p->nb_kept, p->nb_kept + (uint32_t)n);
 }
 
-/* Takes up to n of what the user keeps. */
-static size_t take_kept(struct mbufpool_renewing *p, struct user *u, uint32_t *out, size_t n)
+/* Takes up to n of what is kept. */
+static size_t take_kept(struct mbufpool_renewing *p, uint32_t *out, size_t n)
 {
 	size_t k;
 
-	for (k = 0; k < n && u->kept != NONE; k++) {
-		out[k] = u->kept;
-		set_kept(u, p->next[u->kept], u->nb_kept - 1);
+	for (k = 0; k < n && p->kept != NONE; k++) {
+		out[k] = p->kept;
+		p->kept = p->next[out[k]];
 	}
+	set(&p->nb_kept, p->nb_kept - (uint32_t)k);
 	return k;
+}
+
+/* Offers up to CHUNK of what is kept to a stack, by one put. Says whether it took some. */
+static int offer_some(struct mbufpool_renewing *p, struct stack *to, uint32_t user)
+{
+	uint32_t list[CHUNK];
+	size_t n;
+
+	if (peek(&to->is_held) || (n = take_kept(p, list, CHUNK)) == 0)
+		return 0;
+	if (mbufpool_seat_put(&to->places[user].seat, list, n) == 0)
+		return 1;
+	keep(p, list, n);
+	return 0;
 }
 
 /* ---- within a call ---- */
 
-static inline const struct stacks *enter(const struct mbufpool_renewing *p, struct user *u)
+/* (the number is written by a release, and `leave` writes it so: who reads it sees what the calls
+ * before did, also where another thread made them) */
+static inline struct stack *enter(const struct mbufpool_renewing *p, struct user *u)
 {
-	__atomic_store_n(&u->calls, u->calls + 1, __ATOMIC_RELAXED);
-	if (unlikely(p->has_fences))
-		__atomic_thread_fence(__ATOMIC_SEQ_CST);
-	else
-		__atomic_signal_fence(__ATOMIC_SEQ_CST);
+	uint64_t calls = u->calls + 1;
+
+	if (unlikely(p->has_fences)) {
+		(void)__atomic_exchange_n(&u->calls, calls, __ATOMIC_SEQ_CST);
+		return __atomic_load_n(&p->on, __ATOMIC_SEQ_CST);
+	}
+	__atomic_store_n(&u->calls, calls, __ATOMIC_RELEASE);
+	__atomic_signal_fence(__ATOMIC_SEQ_CST); /* the compiler keeps the order, and membarrier the processor */
 	return __atomic_load_n(&p->on, __ATOMIC_ACQUIRE);
 }
 
-static inline void leave(struct user *u)
+static apart void look(struct mbufpool_renewing *p, uint32_t user, struct stack *on);
+
+static inline void leave(struct mbufpool_renewing *p, uint32_t user, struct stack *on)
 {
+	struct user *u = &p->user[user];
+
+	if (unlikely((u->calls & p->look_mask) == 1))
+		look(p, user, on);
 	__atomic_store_n(&u->calls, u->calls + 1, __ATOMIC_RELEASE);
 }
 
-static inline int is_held(const struct stack *s)
-{
-	return __atomic_load_n(&s->is_held, __ATOMIC_RELAXED);
-}
-
-/* Gets up to n of what a stack has. */
-static size_t get_some(struct mbufpool_seat *seat, uint32_t *out, size_t n)
+/* Gets up to n of what a stack has. `cause` is set where it has more. */
+static size_t get_some(struct mbufpool_seat *seat, uint32_t *out, size_t n, uint32_t *cause)
 {
 	size_t got = 0, k;
+	uint32_t refusal;
 
 	while (got < n && (k = mbufpool_seat_count(seat)) > 0) {
 		if (k > n - got)
 			k = n - got;
-		switch (mbufpool_seat_get(seat, out + got, k)) {
-		case 0:
+		refusal = mbufpool_seat_get(seat, out + got, k);
+		if (refusal == 0) {
 			got += k;
+		} else if (refusal != MBUFPOOL_NO_ENTRIES) { /* (else others were faster) */
+			*cause = refusal;
 			break;
-		case MBUFPOOL_NO_ENTRIES: /* others were faster */
-			break;
-		default:
-			return got;
 		}
 	}
 	return got;
 }
 
-/* Offers to the stack what the user keeps. */
-static void offer(struct mbufpool_renewing *p, struct user *u, struct stack *to, uint32_t user)
+/* A get from all places together. What it takes and gives back is under the lock, and so is what the
+ * thread moves: nobody finds too few elements since another has some for a moment. */
+static uint32_t get_together(struct mbufpool_renewing *p, uint32_t user, struct stack *on,
+	struct stack *old, uint32_t *out, size_t n)
 {
-	uint32_t list[CHUNK];
-	size_t n;
-
-	while (!is_held(to) && (n = take_kept(p, u, list, CHUNK)) > 0)
-		if (mbufpool_seat_put(&to->places[user].seat, list, n) != 0) {
-			keep(p, u, list, n);
-			return;
-		}
-}
-
-/* A get from two stacks, or by a user that keeps something. */
-static apart uint32_t get_slowly(struct mbufpool_renewing *p, uint32_t user, const struct stacks *on,
-	uint32_t *out, size_t n)
-{
-	struct user *u = &p->user[user];
-	uint32_t cause;
+	uint32_t cause, old_cause = 0;
 	size_t got;
 
-	offer(p, u, on->now, user);
-	got = take_kept(p, u, out, n);
-	if (got < n && on->old != NULL)
-		got += get_some(&on->old->places[user].seat, out + got, n - got);
-	if (got == n)
-		return 0;
-	cause = mbufpool_seat_get(&on->now->places[user].seat, out + got, n - got);
+	lock_kept(p);
+	got = take_kept(p, out, n);
+	if (got < n && old != NULL)
+		got += get_some(&old->places[user].seat, out + got, n - got, &old_cause);
+	cause = got == n ? 0 : mbufpool_seat_get(&on->places[user].seat, out + got, n - got);
 	if (cause != 0)
-		keep(p, u, out, got);
-	return cause;
+		keep(p, out, got);
+	unlock_kept(p);
+	return cause == MBUFPOOL_NO_ENTRIES && old_cause != 0 ? old_cause : cause;
 }
 
-static apart void put_slowly(struct mbufpool_renewing *p, uint32_t user, const struct stacks *on,
+static void offer(struct mbufpool_renewing *p, uint32_t user, struct stack *on)
+{
+	if (peek(&p->nb_kept) == 0 || peek(&on->is_held))
+		return;
+	lock_kept(p);
+	offer_some(p, on, user);
+	unlock_kept(p);
+}
+
+/* A get where there are two stacks, or something is kept. It changes the new stack twice at most. */
+static apart uint32_t get_slowly(struct mbufpool_renewing *p, uint32_t user, struct stack *on,
+	uint32_t *out, size_t n)
+{
+	struct stack *old = old_of(on);
+
+	offer(p, user, on);
+	if (old != NULL && mbufpool_seat_get(&old->places[user].seat, out, n) == 0)
+		return 0;
+	if (mbufpool_seat_get(&on->places[user].seat, out, n) == 0)
+		return 0;
+	return get_together(p, user, on, old, out, n);
+}
+
+static apart void keep_put(struct mbufpool_renewing *p, const uint32_t *list, size_t n, uint32_t cause)
+{
+	lock_kept(p);
+	keep(p, list, n);
+	unlock_kept(p);
+	tell_once(p, MBUFPOOL_PUT_KEPT, cause);
+}
+
+/* A put where there are two stacks, or something is kept. It changes the new stack twice at most. */
+static apart uint32_t put_slowly(struct mbufpool_renewing *p, uint32_t user, struct stack *on,
 	const uint32_t *list, size_t n)
 {
-	keep(p, &p->user[user], list, n);
-	offer(p, &p->user[user], on->now, user);
+	uint32_t cause;
+
+	if (peek(&on->is_held))
+		return n > 0 ? MBUFPOOL_HEAD_SPENT : 0;
+	cause = mbufpool_seat_put(&on->places[user].seat, list, n);
+	offer(p, user, on);
+	return cause;
 }
 
 /* ---- renewal ---- */
@@ -252,7 +354,7 @@ static struct stack *new_stack(const struct mbufpool_renewing *p, uint32_t *caus
 	*cause = MBUFPOOL_NO_MEMORY;
 	if (s == NULL)
 		return NULL;
-	*s = (struct stack){ .alone = { NULL, s } };
+	*s = (struct stack){ 0 };
 	*cause = mbufpool_seat_open_at(p->population, p->users, p->tries, p->start, &s->places[0].seat);
 	for (k = 1; k < p->users && *cause == 0; k++)
 		*cause = mbufpool_seat_split(&s->places[0].seat, &s->places[k].seat);
@@ -275,95 +377,154 @@ static uint32_t get_all(struct stack *s, uint32_t population)
 	return 0;
 }
 
-/* Waits until each user has left the call, if any, in which it may have found what `on` was. */
+/* Waits until each user has left the call, if any, which it began before something was shown. The
+ * kernel may lack memory for a barrier: then it is asked again. */
 static void wait_for_all(struct mbufpool_renewing *p)
 {
+	unsigned int round;
 	uint64_t calls;
 	uint32_t k;
 
-	if (p->has_fences)
-		__atomic_thread_fence(__ATOMIC_SEQ_CST);
-	else
-		membarrier(MEMBARRIER_CMD_PRIVATE_EXPEDITED);
+	for (round = 0; !p->has_fences && membarrier(MEMBARRIER_CMD_PRIVATE_EXPEDITED) != 0 &&
+		!__atomic_load_n(&p->is_ending, __ATOMIC_RELAXED);
+		round++)
+		nap(round);
 	for (k = 0; k < p->users; k++) {
-		calls = __atomic_load_n(&p->user[k].calls, __ATOMIC_ACQUIRE);
-		while (calls % 2 == 1 &&
-			__atomic_load_n(&p->user[k].calls, __ATOMIC_ACQUIRE) == calls)
-			nap();
+		calls = __atomic_load_n(&p->user[k].calls, __ATOMIC_SEQ_CST);
+		for (round = 0; calls % 2 == 1 &&
+			__atomic_load_n(&p->user[k].calls, __ATOMIC_SEQ_CST) == calls;
+			round++)
+			nap(round);
 	}
 }
 
-/* Moves what lies on the old stack to the new one. */
-static void move(struct mbufpool_renewing *p, struct stack *from, struct stack *to)
+/* Moves up to CHUNK elements from the old stack to the new one, or to what is kept. Says whether there
+ * may be more. */
+static int move_some(struct mbufpool_renewing *p, struct stack *from, struct stack *to)
 {
-	uint32_t list[CHUNK];
+	uint32_t list[CHUNK], cause = 0;
 	size_t n;
 
-	do {
-		lock(p);
-		n = get_some(&from->places[0].seat, list, CHUNK);
-		if (n > 0 && mbufpool_seat_put(&to->places[0].seat, list, n) != 0)
-			keep(p, &p->user[0], list, n);
-		unlock(p);
-	} while (n > 0);
+	lock(&p->user_lock);
+	lock_kept(p);
+	n = get_some(&from->places[0].seat, list, CHUNK, &cause);
+	if (n > 0 && (peek(&to->is_held) ||
+		mbufpool_seat_put(&to->places[0].seat, list, n) != 0))
+		keep(p, list, n);
+	unlock_kept(p);
+	unlock(&p->user_lock);
+	return n > 0 || cause != 0;
 }
 
-static void show(struct mbufpool_renewing *p, const struct stacks *on)
+/* Moves all that the old stack has. Nobody puts there any more, so it gets fewer with each step. */
+static void move(struct mbufpool_renewing *p, struct stack *from, struct stack *to)
 {
-	__atomic_store_n(&p->on, on, __ATOMIC_RELEASE);
-	wait_for_all(p);
+	while (move_some(p, from, to))
+		;
+}
+
+/* Offers what is kept, as much as there can be. */
+static void offer_all(struct mbufpool_renewing *p, struct stack *to)
+{
+	uint32_t left = p->population / CHUNK + 1;
+	int is_taken;
+
+	do {
+		lock(&p->user_lock);
+		lock_kept(p);
+		is_taken = offer_some(p, to, 0);
+		unlock_kept(p);
+		unlock(&p->user_lock);
+	} while (is_taken && --left > 0);
+}
+
+/* Makes a stack in which every element is out, with the one before beside it. */
+static struct stack *new_beside(struct mbufpool_renewing *p, struct stack *old, uint32_t *cause)
+{
+	struct stack *now = new_stack(p, cause);
+
+	if (now == NULL)
+		return NULL;
+	now->old = old;
+	now->state = 1;
+	if ((*cause = get_all(now, p->population)) == 0)
+		return now;
+	free_stack(now);
+	return NULL;
 }
 
 static uint32_t renew(struct mbufpool_renewing *p)
 {
-	struct stack *old = p->on->now, *now;
+	struct stack *old = stack_of(p), *now;
 	uint32_t cause;
 
-	if ((now = new_stack(p, &cause)) == NULL)
+	if ((now = new_beside(p, old, &cause)) == NULL)
 		return cause;
-	if ((cause = get_all(now, p->population)) != 0) {
-		free_stack(now);
-		return cause;
-	}
-	now->beside = (struct stacks){ old, now };
-	show(p, &now->beside);
+	__atomic_store_n(&p->on, now, __ATOMIC_SEQ_CST);
+	wait_for_all(p);
 	move(p, old, now);
-	show(p, &now->alone);
+
+	lock_kept(p);
+	__atomic_store_n(&now->old, NULL, __ATOMIC_SEQ_CST);
+	unlock_kept(p);
+	wait_for_all(p);
 	/* A get that was refused may have given back what it had reserved. */
 	move(p, old, now);
 	free_stack(old);
-	__atomic_fetch_add(&p->times, 1, __ATOMIC_RELAXED);
+	offer_all(p, now);
 	return 0;
 }
 
+static uint64_t changes_left(struct mbufpool_renewing *p)
+{
+	uint64_t left;
+
+	lock(&p->user_lock);
+	left = mbufpool_seat_changes_left(&stack_of(p)->places[0].seat);
+	unlock(&p->user_lock);
+	return left;
+}
+
+static int is_ending(const struct mbufpool_renewing *p)
+{
+	return __atomic_load_n(&p->is_ending, __ATOMIC_RELAXED);
+}
+
+/* What the thread runs: it tries until the stack has more changes left than the margin. */
 static void *run_renewal(void *arg)
 {
 	struct mbufpool_renewing *p = arg;
-	uint32_t cause = renew(p);
+	uint32_t cause;
 
-	if (cause == 0) {
+	do {
+		if ((cause = renew(p)) != 0) {
+			tell_once(p, MBUFPOOL_NOT_RENEWED, cause);
+			sleep_for(REST);
+			continue;
+		}
 		may_tell_again(p, MBUFPOOL_NOT_RENEWED);
 		may_tell_again(p, MBUFPOOL_PUT_KEPT);
+		__atomic_fetch_add(&p->times, 1, __ATOMIC_RELAXED);
 		tell(p, MBUFPOOL_RENEWED, 0);
-	} else {
-		tell(p, MBUFPOOL_NOT_RENEWED, cause);
-	}
-	__atomic_store_n(&p->is_renewing, 0, __ATOMIC_RELEASE);
+	} while (!is_ending(p) && changes_left(p) <= p->margin);
+	__atomic_store_n(&p->is_renewing, 0, __ATOMIC_RELEASE); /* the pool may be gone from here on */
 	return NULL;
 }
 
+/* (signals are for the program's own threads) */
 static int start_thread(void *context, void *(*run)(void *), void *arg)
 {
-	pthread_attr_t detached;
+	sigset_t all, before;
 	pthread_t thread;
 	int err;
 
 	(void)context;
-	if ((err = pthread_attr_init(&detached)) != 0)
-		return err;
-	pthread_attr_setdetachstate(&detached, PTHREAD_CREATE_DETACHED);
-	err = pthread_create(&thread, &detached, run, arg);
-	pthread_attr_destroy(&detached);
+	sigfillset(&all);
+	pthread_sigmask(SIG_SETMASK, &all, &before);
+	err = pthread_create(&thread, NULL, run, arg);
+	pthread_sigmask(SIG_SETMASK, &before, NULL);
+	if (err == 0)
+		pthread_detach(thread);
 	return err;
 }
 
@@ -373,67 +534,80 @@ static void begin_renewal(struct mbufpool_renewing *p)
 		__atomic_exchange_n(&p->is_renewing, 1, __ATOMIC_ACQUIRE))
 		return;
 	if (p->hooks.start(p->hooks.context, run_renewal, p) != 0) {
-		tell(p, MBUFPOOL_NOT_RENEWED, MBUFPOOL_NO_MEMORY);
+		tell_once(p, MBUFPOOL_NOT_RENEWED, MBUFPOOL_NO_MEMORY);
 		__atomic_store_n(&p->is_renewing, 0, __ATOMIC_RELEASE);
 	}
 }
 
-/* Looks how many changes are left of the stack to which puts go. Between two looks of a user it makes
- * `look_every` calls: so no more changes were made since some user last looked than all users make
- * calls between two looks, and `floor` has these besides what it takes to empty the stack. */
-static apart void look(struct mbufpool_renewing *p, uint32_t user, const struct stacks *on)
+/* Holds a stack that nears its end: no more is put there. */
+static void hold(struct mbufpool_renewing *p, struct stack *s)
 {
-	uint64_t left = mbufpool_seat_changes_left(&on->now->places[user].seat);
+	lock_kept(p);
+	set(&s->is_held, 1);
+	unlock_kept(p);
+}
 
-	p->user[user].until_look = p->look_every;
-	if (left <= FEW && p->margin < FEW)
-		tell(p, MBUFPOOL_FEW_CHANGES_LEFT, 0);
-	if (left <= p->floor)
-		__atomic_store_n(&on->now->is_held, 1, __ATOMIC_RELAXED);
+/* Looks how many changes are left of the stack to which puts go. (A stack that is no more the pool's
+ * may be looked at too: then the thread that made the new one still waits for this call.) */
+static apart void look(struct mbufpool_renewing *p, uint32_t user, struct stack *on)
+{
+	uint64_t left = mbufpool_seat_changes_left(&on->places[user].seat);
+
+	if (left <= p->floor && !peek(&on->is_held))
+		hold(p, on);
+	if (left > p->margin && left >= FEW)
+		return;
+	if (mbufpool_renewing_times(p) == 0)
+		tell_once(p, MBUFPOOL_FEW_CHANGES_LEFT, 0);
 	if (left <= p->margin)
 		begin_renewal(p);
 }
 
-static inline void count_call(struct mbufpool_renewing *p, uint32_t user, const struct stacks *on)
+/* ---- the calls ---- */
+
+static inline int is_slow(uint32_t state)
 {
-	if (unlikely(--p->user[user].until_look == 0))
-		look(p, user, on);
+	return state % 2 != 0;
 }
 
-/* ---- the calls ---- */
+/* Whether a refused get may have looked at less than there was: the pool went over to a new stack
+ * meanwhile, or something was kept of which it didn't know. */
+static apart int missed_some(const struct mbufpool_renewing *p, const struct stack *on, uint32_t state)
+{
+	return stack_of(p) != on || (!is_slow(state) && peek(&on->state) != state);
+}
 
 static inline uint32_t get(struct mbufpool_renewing *p, uint32_t user, uint32_t *out, size_t n)
 {
-	struct user *u = &p->user[user];
-	const struct stacks *on = enter(p, u);
-	uint32_t cause;
+	struct stack *on;
+	uint32_t cause, state;
+	int again;
 
-	if (likely(on->old == NULL && u->kept == NONE))
-		cause = mbufpool_seat_get(&on->now->places[user].seat, out, n);
-	else
-		cause = get_slowly(p, user, on, out, n);
-	count_call(p, user, on);
-	leave(u);
+	do {
+		on = enter(p, &p->user[user]);
+		state = peek(&on->state);
+		if (likely(!is_slow(state)))
+			cause = mbufpool_seat_get(&on->places[user].seat, out, n);
+		else
+			cause = get_slowly(p, user, on, out, n);
+		again = unlikely(cause != 0) && missed_some(p, on, state);
+		leave(p, user, on);
+	} while (unlikely(again));
 	return cause;
 }
 
 static inline void put(struct mbufpool_renewing *p, uint32_t user, const uint32_t *list, size_t n)
 {
-	struct user *u = &p->user[user];
-	const struct stacks *on = enter(p, u);
+	struct stack *on = enter(p, &p->user[user]);
 	uint32_t cause;
 
-	if (likely(u->kept == NONE && !is_held(on->now))) {
-		cause = mbufpool_seat_put(&on->now->places[user].seat, list, n);
-		if (unlikely(cause != 0)) {
-			keep(p, u, list, n);
-			tell(p, MBUFPOOL_PUT_KEPT, cause);
-		}
-	} else {
-		put_slowly(p, user, on, list, n);
-	}
-	count_call(p, user, on);
-	leave(u);
+	if (likely(!is_slow(peek(&on->state))))
+		cause = mbufpool_seat_put(&on->places[user].seat, list, n);
+	else
+		cause = put_slowly(p, user, on, list, n);
+	if (unlikely(cause != 0))
+		keep_put(p, list, n, cause);
+	leave(p, user, on);
 }
 
 uint32_t mbufpool_renewing_get(struct mbufpool_renewing *p, uint32_t user, uint32_t *out, size_t n)
@@ -442,9 +616,9 @@ uint32_t mbufpool_renewing_get(struct mbufpool_renewing *p, uint32_t user, uint3
 
 	if (likely(user != 0))
 		return get(p, user, out, n);
-	lock(p);
+	lock(&p->user_lock);
 	cause = get(p, 0, out, n);
-	unlock(p);
+	unlock(&p->user_lock);
 	return cause;
 }
 
@@ -454,22 +628,36 @@ void mbufpool_renewing_put(struct mbufpool_renewing *p, uint32_t user, const uin
 		put(p, user, list, n);
 		return;
 	}
-	lock(p);
+	lock(&p->user_lock);
 	put(p, 0, list, n);
-	unlock(p);
+	unlock(&p->user_lock);
+}
+
+/* What is in all places together, under the lock under which it is moved. */
+static uint64_t count_together(struct mbufpool_renewing *p, uint32_t user, struct stack *on)
+{
+	struct stack *old = old_of(on);
+	uint64_t all;
+
+	lock_kept(p);
+	all = p->nb_kept;
+	if (old != NULL)
+		all += mbufpool_seat_count(&old->places[user].seat);
+	all += mbufpool_seat_count(&on->places[user].seat);
+	unlock_kept(p);
+	return all < p->population ? all : p->population;
 }
 
 static uint64_t count(struct mbufpool_renewing *p, uint32_t user)
 {
-	const struct stacks *on = enter(p, &p->user[user]);
-	uint64_t all = mbufpool_seat_count(&on->now->places[user].seat);
-	uint32_t k;
+	struct stack *on = enter(p, &p->user[user]);
+	uint64_t all;
 
-	if (on->old != NULL)
-		all += mbufpool_seat_count(&on->old->places[user].seat);
-	leave(&p->user[user]);
-	for (k = 0; k < p->users; k++)
-		all += __atomic_load_n(&p->user[k].nb_kept, __ATOMIC_RELAXED);
+	if (likely(!is_slow(peek(&on->state))))
+		all = mbufpool_seat_count(&on->places[user].seat);
+	else
+		all = count_together(p, user, on);
+	leave(p, user, on);
 	return all;
 }
 
@@ -479,9 +667,9 @@ uint64_t mbufpool_renewing_count(struct mbufpool_renewing *p, uint32_t user)
 
 	if (user != 0)
 		return count(p, user);
-	lock(p);
+	lock(&p->user_lock);
 	all = count(p, 0);
-	unlock(p);
+	unlock(&p->user_lock);
 	return all;
 }
 
@@ -499,32 +687,33 @@ static int are_in_range(const struct mbufpool_renewing *p)
 	uint64_t to_get_all = (p->population + CHUNK - 1) / CHUNK;
 
 	return p->users >= 1 && p->users <= MOST_USERS && p->start <= CHANGES && p->floor < p->margin &&
-		p->margin + to_get_all < CHANGES - p->start;
+		p->margin <= CHANGES && p->margin + to_get_all < CHANGES - p->start;
 }
 
+/* A call changes the stack twice at most, and each user looks once in `look_every` calls. So from when
+ * some user last found more than the floor, until one finds no more and holds the stack, there are
+ * 2 * users * look_every changes by calls, 2 more of each user whose call has begun by then, and those
+ * by which the thread brought the pool here: each moved an element at least, or offered CHUNK. What is
+ * left after them has to be enough to get each element by itself. */
 static void set_limits(struct mbufpool_renewing *p, const struct mbufpool_renewing_limits *limits)
 {
-	uint64_t every;
+	uint64_t look_every = 1;
 
 	p->population = limits->population;
 	p->users = limits->users;
 	p->tries = limits->tries;
 	p->start = limits->start;
 	p->margin = limits->margin != 0 ? limits->margin : MARGIN;
-	every = p->users == 0 ? 1 : p->margin / (LOOKS * p->users);
-	p->look_every = every < 1 ? 1 : every > UINT32_MAX ? UINT32_MAX : (uint32_t)every;
-	p->floor = p->population + (uint64_t)p->users * (p->look_every + UINT64_C(1));
+	while (look_every * 2 * LOOKS * p->users <= p->margin && look_every < UINT64_C(1) << 32)
+		look_every *= 2;
+	p->look_mask = 2 * look_every - 1; /* two steps of `calls` are a call */
+	p->floor = 3 * (uint64_t)p->population + 2 * p->users * (look_every + 1) + 2;
 }
 
 static void begin(struct mbufpool_renewing *p)
 {
-	uint32_t k;
-
 	p->has_fences = membarrier(MEMBARRIER_CMD_REGISTER_PRIVATE_EXPEDITED) != 0;
-	for (k = 0; k < p->users; k++) {
-		p->user[k].kept = NONE;
-		p->user[k].until_look = p->look_every;
-	}
+	p->kept = NONE;
 	if (p->hooks.start == NULL)
 		p->hooks.start = start_thread;
 }
@@ -533,7 +722,6 @@ uint32_t mbufpool_renewing_open(const struct mbufpool_renewing_limits *limits,
 	const struct mbufpool_renewing_hooks *hooks, struct mbufpool_renewing **out)
 {
 	struct mbufpool_renewing *p = aligned_alloc(64, sizeof(*p));
-	struct stack *s;
 	uint32_t cause;
 
 	if (p == NULL)
@@ -546,25 +734,27 @@ uint32_t mbufpool_renewing_open(const struct mbufpool_renewing_limits *limits,
 		return MBUFPOOL_BAD_POOL;
 	}
 	begin(p);
-	s = new_stack(p, &cause);
-	p->next = calloc(p->population, sizeof(*p->next));
-	if (s == NULL || p->next == NULL) {
-		if (s != NULL)
-			free_stack(s);
-		free(p->next);
+	p->on = new_stack(p, &cause);
+	p->next = p->on != NULL ? calloc(p->population, sizeof(*p->next)) : NULL;
+	if (p->next == NULL) {
+		if (p->on != NULL)
+			free_stack(p->on);
+		cause = p->on != NULL ? MBUFPOOL_NO_MEMORY : cause;
 		free(p);
-		return s == NULL ? cause : MBUFPOOL_NO_MEMORY;
+		return cause;
 	}
-	p->on = &s->alone;
 	*out = p;
 	return 0;
 }
 
 void mbufpool_renewing_end(struct mbufpool_renewing *p)
 {
-	while (__atomic_load_n(&p->is_renewing, __ATOMIC_ACQUIRE))
-		nap();
-	free_stack(p->on->now);
+	unsigned int round;
+
+	__atomic_store_n(&p->is_ending, 1, __ATOMIC_RELAXED);
+	for (round = 0; __atomic_load_n(&p->is_renewing, __ATOMIC_ACQUIRE); round++)
+		nap(round);
+	free_stack(p->on);
 	free(p->next);
 	free(p);
 }
