@@ -57,14 +57,14 @@ struct place {
 	LINE struct mbufpool_seat seat;
 };
 
-/* A stack of the library, with a seat for each user. The first line is read by each call, and written
+/* A stack of the library, with a seat for each user. The last line is read by each call, and written
  * where something changes. */
 struct stack {
+	struct place places[MOST_USERS];
 	LINE uint32_t state; /* odd where there is an old one, or it is held, or something is kept; it
 			      * is another each time that something was kept or taken from there */
 	uint32_t is_held;  /* the changes that are left are for gets alone: puts are kept */
 	struct stack *old; /* the one before it, from which is got as well, or NULL */
-	struct place places[MOST_USERS];
 };
 
 struct user {
@@ -72,6 +72,7 @@ struct user {
 };
 
 struct mbufpool_renewing {
+	struct user user[MOST_USERS];
 	LINE struct stack *on; /* puts go there */
 	uint64_t look_mask;    /* a call whose odd number is 1 by this mask looks what is left */
 	int has_fences;	       /* each call has one: there is no membarrier */
@@ -87,7 +88,6 @@ struct mbufpool_renewing {
 	int is_ending;
 	uint32_t told; /* a bit for each thing that was told */
 	uint64_t times;
-	struct user user[MOST_USERS];
 };
 
 /* ---- small things ---- */
@@ -225,6 +225,11 @@ static int offer_some(struct mbufpool_renewing *p, struct stack *to, uint32_t us
 
 /* ---- within a call ---- */
 
+static inline uint32_t number_of(const struct mbufpool_renewing *p, const struct user *u)
+{
+	return (uint32_t)(u - p->user);
+}
+
 /* (the number is written by a release, and `leave` writes it so: who reads it sees what the calls
  * before did, also where another thread made them) */
 static inline struct stack *enter(const struct mbufpool_renewing *p, struct user *u)
@@ -240,14 +245,12 @@ static inline struct stack *enter(const struct mbufpool_renewing *p, struct user
 	return __atomic_load_n(&p->on, __ATOMIC_ACQUIRE);
 }
 
-static apart void look(struct mbufpool_renewing *p, uint32_t user, struct stack *on);
+static apart void look(struct mbufpool_renewing *p, uint32_t user);
 
-static inline void leave(struct mbufpool_renewing *p, uint32_t user, struct stack *on)
+static inline void leave(struct mbufpool_renewing *p, struct user *u)
 {
-	struct user *u = &p->user[user];
-
 	if (unlikely((u->calls & p->look_mask) == 1))
-		look(p, user, on);
+		look(p, number_of(p, u));
 	__atomic_store_n(&u->calls, u->calls + 1, __ATOMIC_RELEASE);
 }
 
@@ -547,10 +550,10 @@ static void hold(struct mbufpool_renewing *p, struct stack *s)
 	unlock_kept(p);
 }
 
-/* Looks how many changes are left of the stack to which puts go. (A stack that is no more the pool's
- * may be looked at too: then the thread that made the new one still waits for this call.) */
-static apart void look(struct mbufpool_renewing *p, uint32_t user, struct stack *on)
+/* Looks how many changes are left of the stack to which puts go. (within a call: so none is freed) */
+static apart void look(struct mbufpool_renewing *p, uint32_t user)
 {
+	struct stack *on = stack_of(p);
 	uint64_t left = mbufpool_seat_changes_left(&on->places[user].seat);
 
 	if (left <= p->floor && !peek(&on->is_held))
@@ -570,35 +573,47 @@ static inline int is_slow(uint32_t state)
 	return state % 2 != 0;
 }
 
-/* Whether a refused get may have looked at less than there was: the pool went over to a new stack
- * meanwhile, or something was kept of which it didn't know. */
-static apart int missed_some(const struct mbufpool_renewing *p, const struct stack *on, uint32_t state)
+/* A get that was refused, or that has to look further. It is made again where it may have looked at less
+ * than there was: the pool went over to a new stack meanwhile, or something was kept of which it didn't
+ * know. */
+static apart uint32_t get_carefully(struct mbufpool_renewing *p, uint32_t user, uint32_t *out, size_t n)
 {
-	return stack_of(p) != on || (!is_slow(state) && peek(&on->state) != state);
-}
-
-static inline uint32_t get(struct mbufpool_renewing *p, uint32_t user, uint32_t *out, size_t n)
-{
-	struct stack *on;
 	uint32_t cause, state;
+	struct stack *on;
 	int again;
 
 	do {
 		on = enter(p, &p->user[user]);
 		state = peek(&on->state);
-		if (likely(!is_slow(state)))
-			cause = mbufpool_seat_get(&on->places[user].seat, out, n);
-		else
+		if (is_slow(state))
 			cause = get_slowly(p, user, on, out, n);
-		again = unlikely(cause != 0) && missed_some(p, on, state);
-		leave(p, user, on);
-	} while (unlikely(again));
+		else
+			cause = mbufpool_seat_get(&on->places[user].seat, out, n);
+		again = cause != 0 &&
+			(stack_of(p) != on || (!is_slow(state) && peek(&on->state) != state));
+		leave(p, &p->user[user]);
+	} while (again);
 	return cause;
+}
+
+static inline uint32_t get(struct mbufpool_renewing *p, uint32_t user, uint32_t *out, size_t n)
+{
+	struct user *u = &p->user[user];
+	struct stack *on = enter(p, u);
+
+	if (likely(!is_slow(peek(&on->state))) &&
+		likely(mbufpool_seat_get(&on->places[user].seat, out, n) == 0)) {
+		leave(p, u);
+		return 0;
+	}
+	leave(p, u);
+	return get_carefully(p, number_of(p, u), out, n);
 }
 
 static inline void put(struct mbufpool_renewing *p, uint32_t user, const uint32_t *list, size_t n)
 {
-	struct stack *on = enter(p, &p->user[user]);
+	struct user *u = &p->user[user];
+	struct stack *on = enter(p, u);
 	uint32_t cause;
 
 	if (likely(!is_slow(peek(&on->state))))
@@ -607,30 +622,37 @@ static inline void put(struct mbufpool_renewing *p, uint32_t user, const uint32_
 		cause = put_slowly(p, user, on, list, n);
 	if (unlikely(cause != 0))
 		keep_put(p, list, n, cause);
-	leave(p, user, on);
+	leave(p, u);
 }
 
-uint32_t mbufpool_renewing_get(struct mbufpool_renewing *p, uint32_t user, uint32_t *out, size_t n)
+static apart uint32_t get_locked(struct mbufpool_renewing *p, uint32_t *out, size_t n)
 {
 	uint32_t cause;
 
-	if (likely(user != 0))
-		return get(p, user, out, n);
 	lock(&p->user_lock);
 	cause = get(p, 0, out, n);
 	unlock(&p->user_lock);
 	return cause;
 }
 
-void mbufpool_renewing_put(struct mbufpool_renewing *p, uint32_t user, const uint32_t *list, size_t n)
+static apart void put_locked(struct mbufpool_renewing *p, const uint32_t *list, size_t n)
 {
-	if (likely(user != 0)) {
-		put(p, user, list, n);
-		return;
-	}
 	lock(&p->user_lock);
 	put(p, 0, list, n);
 	unlock(&p->user_lock);
+}
+
+uint32_t mbufpool_renewing_get(struct mbufpool_renewing *p, uint32_t user, uint32_t *out, size_t n)
+{
+	return likely(user != 0) ? get(p, user, out, n) : get_locked(p, out, n);
+}
+
+void mbufpool_renewing_put(struct mbufpool_renewing *p, uint32_t user, const uint32_t *list, size_t n)
+{
+	if (likely(user != 0))
+		put(p, user, list, n);
+	else
+		put_locked(p, list, n);
 }
 
 /* What is in all places together, under the lock under which it is moved. */
@@ -657,7 +679,7 @@ static uint64_t count(struct mbufpool_renewing *p, uint32_t user)
 		all = mbufpool_seat_count(&on->places[user].seat);
 	else
 		all = count_together(p, user, on);
-	leave(p, user, on);
+	leave(p, &p->user[user]);
 	return all;
 }
 
