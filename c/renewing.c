@@ -401,29 +401,36 @@ static void wait_for_all(struct mbufpool_renewing *p)
 	}
 }
 
-/* Moves up to CHUNK elements from the old stack to the new one, or to what is kept. Says whether there
- * may be more. */
-static int move_some(struct mbufpool_renewing *p, struct stack *from, struct stack *to)
+/* Moves up to CHUNK elements from the old stack to the new one, or to what is kept. `cause` is set where
+ * the old one has more. */
+static size_t move_some(struct mbufpool_renewing *p, struct stack *from, struct stack *to, uint32_t *cause)
 {
-	uint32_t list[CHUNK], cause = 0;
+	uint32_t list[CHUNK];
 	size_t n;
 
 	lock(&p->user_lock);
 	lock_kept(p);
-	n = get_some(&from->places[0].seat, list, CHUNK, &cause);
+	n = get_some(&from->places[0].seat, list, CHUNK, cause);
 	if (n > 0 && (peek(&to->is_held) ||
 		mbufpool_seat_put(&to->places[0].seat, list, n) != 0))
 		keep(p, list, n);
 	unlock_kept(p);
 	unlock(&p->user_lock);
-	return n > 0 || cause != 0;
+	return n;
 }
 
 /* Moves all that the old stack has. Nobody puts there any more, so it gets fewer with each step. */
 static void move(struct mbufpool_renewing *p, struct stack *from, struct stack *to)
 {
-	while (move_some(p, from, to))
-		;
+	uint32_t cause;
+	size_t n;
+
+	do {
+		cause = 0;
+		n = move_some(p, from, to, &cause);
+		if (n == 0 && cause != 0)
+			nap(0);
+	} while (n > 0 || cause != 0);
 }
 
 /* Offers what is kept, as much as there can be. */
@@ -558,9 +565,7 @@ static apart void look(struct mbufpool_renewing *p, uint32_t user)
 
 	if (left <= p->floor && !peek(&on->is_held))
 		hold(p, on);
-	if (left > p->margin && left >= FEW)
-		return;
-	if (mbufpool_renewing_times(p) == 0)
+	if (left < FEW && mbufpool_renewing_times(p) == 0)
 		tell_once(p, MBUFPOOL_FEW_CHANGES_LEFT, 0);
 	if (left <= p->margin)
 		begin_renewal(p);

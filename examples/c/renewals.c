@@ -12,7 +12,7 @@
  *
  * They run while the library gives all that it is asked for, and while it refuses what it may: memory,
  * threads, gets and puts. Then the pool is refused every renewal until long after the end of its stack,
- * and has to go on.
+ * and has to go on; and so it has to, while one thread sleeps within a call.
  *
  *     make renewals && ./renewals [RENEWALS [SEED]]
  *
@@ -31,7 +31,7 @@
 #define LIFE 1000   /* changes of each stack */
 #define MARGIN 900
 #define THREADS 5
-#define USERS 4	    /* two threads are user 0 */
+#define USERS 5	    /* two threads are user 0, and none the last one, but for `sleeps_within_a_call` */
 #define MOST 64	    /* elements in a list */
 #define PATIENCE 300 /* seconds */
 
@@ -90,6 +90,13 @@ static struct {
 
 static unsigned long refused; /* how many were */
 
+/* One of so many calls of the library takes a millisecond, or none. */
+static unsigned one_sleeps;
+
+/* A thread for which this is set sleeps within its get, for as long as it is. */
+static int is_asleep;
+static _Thread_local int is_sleeper;
+
 /* ---- what the library is asked by the pool ---- */
 
 uint32_t __real_mbufpool_seat_open_at(uint32_t population, uint32_t seats, uint32_t tries, uint64_t start,
@@ -111,8 +118,8 @@ static uint64_t next_number(uint64_t *state)
 	return *state >> 11;
 }
 
-/* Whether one of so many is refused; of 0 none is. */
-static int refuses(const unsigned *one_of_them)
+/* Is so for one of so many; of 0 for none. */
+static int chance(const unsigned *one_of_them)
 {
 	static _Thread_local uint64_t state;
 	unsigned n = __atomic_load_n(one_of_them, __ATOMIC_RELAXED);
@@ -121,10 +128,26 @@ static int refuses(const unsigned *one_of_them)
 		return 0;
 	if (state == 0)
 		state = (uint64_t)(uintptr_t)&state * 0x9e3779b97f4a7c15u | 1;
-	if (next_number(&state) % n != 0)
+	return next_number(&state) % n == 0;
+}
+
+static int refuses(const unsigned *one_of_them)
+{
+	if (!chance(one_of_them))
 		return 0;
 	__atomic_fetch_add(&refused, 1, __ATOMIC_RELAXED);
 	return 1;
+}
+
+/* A thread loses its processor now and then, within a call of the pool. */
+static void sleep_a_while(void)
+{
+	static const struct timespec moment = { 0, 1000000 };
+
+	if (chance(&one_sleeps))
+		nanosleep(&moment, NULL);
+	while (is_sleeper && __atomic_load_n(&is_asleep, __ATOMIC_SEQ_CST))
+		nanosleep(&moment, NULL);
 }
 
 uint32_t __wrap_mbufpool_seat_open_at(uint32_t population, uint32_t seats, uint32_t tries, uint64_t start,
@@ -142,11 +165,18 @@ uint32_t __wrap_mbufpool_seat_split(struct mbufpool_seat *seat, struct mbufpool_
 
 uint32_t __wrap_mbufpool_seat_get(struct mbufpool_seat *seat, uint32_t *out, size_t n)
 {
-	return refuses(&one_of.gets) ? MBUFPOOL_CONTENDED : __real_mbufpool_seat_get(seat, out, n);
+	uint32_t status;
+
+	if (refuses(&one_of.gets))
+		return MBUFPOOL_CONTENDED;
+	status = __real_mbufpool_seat_get(seat, out, n);
+	sleep_a_while();
+	return status;
 }
 
 uint32_t __wrap_mbufpool_seat_put(struct mbufpool_seat *seat, const uint32_t *list, size_t n)
 {
+	sleep_a_while();
 	return refuses(&one_of.puts) ? MBUFPOOL_CONTENDED : __real_mbufpool_seat_put(seat, list, n);
 }
 
@@ -224,7 +254,7 @@ static void get_everything(void)
 
 static uint32_t user_of(const struct thread *t)
 {
-	return t->number < USERS ? t->number : 0;
+	return t->number < USERS - 1 ? t->number : 0;
 }
 
 static unsigned below(struct thread *t, unsigned n)
@@ -265,8 +295,6 @@ static void get_list(struct thread *t)
 	}
 	while ((status = mbufpool_renewing_get(pool, user_of(t), list, n)) == MBUFPOOL_CONTENDED)
 		t->contended++;
-	MUST(status != MBUFPOOL_HEAD_SPENT);
-	MUST(status != MBUFPOOL_NO_ENTRIES);
 	MUST(status == 0);
 	for (k = 0; k < n; k++) {
 		MUST(list[k] < POPULATION);
@@ -362,8 +390,9 @@ static void run_threads(unsigned long renewals, unsigned milliseconds)
 	for (i = 0; i < THREADS; i++)
 		while (threads[i].count > 0)
 			put_list(&threads[i]);
-	MUST(is_out == 0);
-	get_everything();
+	MUST(is_out == (unsigned)is_asleep);
+	if (!is_asleep)
+		get_everything();
 	seed++;
 }
 
@@ -372,9 +401,11 @@ static void run_threads(unsigned long renewals, unsigned milliseconds)
 static void renews_under_load(unsigned long renewals)
 {
 	open_pool();
+	__atomic_store_n(&one_sleeps, 5000, __ATOMIC_RELAXED);
 	run_threads(renewals, 0);
-	MUST(times_told(MBUFPOOL_FEW_CHANGES_LEFT) == 1 && times_told(MBUFPOOL_NOT_RENEWED) == 0);
+	__atomic_store_n(&one_sleeps, 0, __ATOMIC_RELAXED);
 	mbufpool_renewing_end(pool);
+	MUST(times_told(MBUFPOOL_FEW_CHANGES_LEFT) == 1 && times_told(MBUFPOOL_NOT_RENEWED) == 0);
 }
 
 /* What the library may refuse loses nothing. */
@@ -385,10 +416,10 @@ static void renews_under_refusals(unsigned long renewals)
 	run_threads(renewals, 0);
 	set_refusals(0, 0, 0, 0, 0);
 	get_everything();
+	mbufpool_renewing_end(pool);
 	MUST(times_told(MBUFPOOL_FEW_CHANGES_LEFT) == 1);
 	MUST(times_told(MBUFPOOL_NOT_RENEWED) <= times_told(MBUFPOOL_RENEWED) + 1);
 	MUST(times_told(MBUFPOOL_PUT_KEPT) <= times_told(MBUFPOOL_RENEWED) + 1);
-	mbufpool_renewing_end(pool);
 }
 
 /* A pool that is refused memory, or threads, goes on by what it keeps, is told of once, and is renewed
@@ -403,6 +434,39 @@ static void goes_on_unrenewed(int is_by_memory)
 	set_refusals(0, 0, 0, 0, 0);
 	run_threads(3, 0);
 	MUST(times_told(MBUFPOOL_NOT_RENEWED) == 1);
+	mbufpool_renewing_end(pool);
+}
+
+static void *sleep_within_a_call(void *arg)
+{
+	uint32_t *one = arg;
+
+	is_sleeper = 1;
+	while (mbufpool_renewing_get(pool, USERS - 1, one, 1) != 0)
+		;
+	mbufpool_renewing_put(pool, USERS - 1, one, 1);
+	return NULL;
+}
+
+/* A pool isn't renewed while a thread that began its call before sleeps within it. The others go on, by
+ * what is kept. */
+static void goes_on_beside_a_sleeper(void)
+{
+	pthread_t sleeper;
+	uint32_t one;
+
+	open_pool();
+	is_asleep = 1;
+	is_out = 1; /* what the sleeper has got */
+	MUST(pthread_create(&sleeper, NULL, sleep_within_a_call, &one) == 0);
+	while (mbufpool_renewing_count(pool, 0) == POPULATION)
+		sched_yield();
+	run_threads(0, 200);
+	MUST(times_told(MBUFPOOL_RENEWED) == 0 && times_told(MBUFPOOL_PUT_KEPT) == 1);
+	__atomic_store_n(&is_asleep, 0, __ATOMIC_SEQ_CST);
+	MUST(pthread_join(sleeper, NULL) == 0);
+	is_out = 0;
+	run_threads(3, 0);
 	mbufpool_renewing_end(pool);
 }
 
@@ -486,6 +550,7 @@ int main(int argc, char **argv)
 	renews_under_refusals(renewals);
 	goes_on_unrenewed(0);
 	goes_on_unrenewed(1);
+	goes_on_beside_a_sleeper();
 	ends_unrenewed();
 	for (i = 0; i < THREADS; i++) {
 		gets += threads[i].gets;
