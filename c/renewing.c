@@ -21,13 +21,17 @@
  * lock, until there is memory for a new stack.
  *
  * Whether a user is within a call is a number of its own, odd there, which nobody else writes. It is
- * written before `on` is read; that no processor reads `on` first is seen to by the one that waits, by
- * membarrier(2): each thread passes a full barrier between the call's begin and its end. If a user
- * wrote its number before that barrier, the one that waits sees it, and if after, the user reads the
- * new `on`. Where the kernel has no such call, each user makes an exchange of its number.
+ * written before `state` is read, which says what the pool is on; that no processor reads `state` first is
+ * seen to by the one that waits, by membarrier(2): each thread passes a full barrier between that call's
+ * begin and its end. If a user wrote its number before that barrier, the one that waits sees it, and if
+ * after, the user reads the new state. Where the kernel has no such call, each user makes an exchange of
+ * its number. Within a call a user may read the state again, and use what it says then: until the user
+ * leaves nothing is freed, and there is no third stack.
  *
  * Locks are taken in this order: that of user 0, that of what is kept. */
+#ifndef _GNU_SOURCE
 #define _GNU_SOURCE
+#endif
 #include <linux/membarrier.h>
 #include <pthread.h>
 #include <sched.h>
@@ -49,33 +53,40 @@
 #define NONE UINT32_MAX
 #define LINE _Alignas(64)
 
+#ifndef likely /* DPDK has them */
 #define likely(x) __builtin_expect(!!(x), 1)
 #define unlikely(x) __builtin_expect(!!(x), 0)
+#endif
 #define apart __attribute__((noinline, cold))
 
 struct place {
 	LINE struct mbufpool_seat seat;
 };
 
-/* A stack of the library, with a seat for each user. The last line is read by each call, and written
- * where something changes. */
+/* A stack of the library, with a seat for each user; or none, with handles of zeros. */
 struct stack {
 	struct place places[MOST_USERS];
-	LINE uint32_t state; /* odd where there is an old one, or it is held, or something is kept; it
-			      * is another each time that something was kept or taken from there */
-	uint32_t is_held;  /* the changes that are left are for gets alone: puts are kept */
-	struct stack *old; /* the one before it, from which is got as well, or NULL */
+	uint32_t is_held; /* the changes that are left are for gets alone: puts are kept */
 };
 
 struct user {
 	LINE uint64_t calls; /* begun and ended: odd within one */
+	uint64_t look_mask;  /* a call whose odd number is 1 by this mask looks what is left */
+	struct mbufpool_renewing *pool;
 };
+
+/* What a pool is on. Each call reads it in one word, and once more where it finds too little: whatever
+ * may have been elsewhere meanwhile has changed it. */
+#define IS_SLOW 1   /* calls have to look further than to the one stack: */
+#define IS_BESIDE 2 /* there is an old one beside it; or it is held, or something is kept */
+#define IS_SECOND 4 /* puts go to stack 1, else to stack 0 */
+#define ONE_MORE 8  /* is added each time that something was kept, or taken from there */
 
 struct mbufpool_renewing {
 	struct user user[MOST_USERS];
-	LINE struct stack *on; /* puts go there */
-	uint64_t look_mask;    /* a call whose odd number is 1 by this mask looks what is left */
-	int has_fences;	       /* each call has one: there is no membarrier */
+	struct stack stacks[2];
+	LINE uint64_t state;
+	int has_fences; /* each call has one: there is no membarrier */
 	uint32_t population, users, tries;
 	uint64_t start, margin;
 	uint64_t floor; /* with so many changes left a stack can be emptied, and no more is put there */
@@ -159,14 +170,20 @@ static void may_tell_again(struct mbufpool_renewing *p, enum mbufpool_renewing_t
 
 /* ---- what is kept: each of these under its lock ---- */
 
-static struct stack *stack_of(const struct mbufpool_renewing *p)
+static inline uint64_t state_of(const struct mbufpool_renewing *p)
 {
-	return __atomic_load_n(&p->on, __ATOMIC_ACQUIRE);
+	return __atomic_load_n(&p->state, __ATOMIC_SEQ_CST);
 }
 
-static struct stack *old_of(const struct stack *s)
+/* The stack to which puts go, and the one before it, or NULL where there is none. */
+static inline struct stack *new_of(struct mbufpool_renewing *p, uint64_t state)
 {
-	return __atomic_load_n(&s->old, __ATOMIC_SEQ_CST);
+	return &p->stacks[(state & IS_SECOND) != 0];
+}
+
+static inline struct stack *old_of(struct mbufpool_renewing *p, uint64_t state)
+{
+	return state & IS_BESIDE ? &p->stacks[(state & IS_SECOND) == 0] : NULL;
 }
 
 static void lock_kept(struct mbufpool_renewing *p)
@@ -174,15 +191,20 @@ static void lock_kept(struct mbufpool_renewing *p)
 	lock(&p->kept_lock);
 }
 
-/* Notes whether calls have to look further than to the stack: not before the lock is given back, since
- * what was taken may be in nobody's place until then. */
+/* Gives the lock back, with this state: the stacks as it says, and whether calls have to look further.
+ * (not before, since what was taken may be in nobody's place until then) */
+static void unlock_kept_on(struct mbufpool_renewing *p, uint64_t state)
+{
+	state = (state & ~(uint64_t)IS_SLOW) + ONE_MORE;
+	if (state & IS_BESIDE || peek(&new_of(p, state)->is_held) || p->nb_kept > 0)
+		state |= IS_SLOW;
+	__atomic_store_n(&p->state, state, __ATOMIC_SEQ_CST);
+	unlock(&p->kept_lock);
+}
+
 static void unlock_kept(struct mbufpool_renewing *p)
 {
-	struct stack *s = stack_of(p);
-	int is_slow = old_of(s) != NULL || peek(&s->is_held) || p->nb_kept > 0;
-
-	set(&s->state, (peek(&s->state) | 1) + 1 + (uint32_t)is_slow);
-	unlock(&p->kept_lock);
+	unlock_kept_on(p, state_of(p));
 }
 
 static void keep(struct mbufpool_renewing *p, const uint32_t *list, size_t n)
@@ -225,33 +247,33 @@ static int offer_some(struct mbufpool_renewing *p, struct stack *to, uint32_t us
 
 /* ---- within a call ---- */
 
-static inline uint32_t number_of(const struct mbufpool_renewing *p, const struct user *u)
+static inline uint32_t number_of(const struct user *u)
 {
-	return (uint32_t)(u - p->user);
+	return (uint32_t)(u - u->pool->user);
 }
 
-/* (the number is written by a release, and `leave` writes it so: who reads it sees what the calls
- * before did, also where another thread made them) */
-static inline struct stack *enter(const struct mbufpool_renewing *p, struct user *u)
+/* Begins a call, and answers its odd number. (the number is written by a release, and `leave` writes it
+ * so: who reads it sees what the calls before did, also where another thread made them) */
+static inline uint64_t enter(const struct mbufpool_renewing *p, struct user *u)
 {
-	uint64_t calls = u->calls + 1;
+	uint64_t call = u->calls + 1;
 
 	if (unlikely(p->has_fences)) {
-		(void)__atomic_exchange_n(&u->calls, calls, __ATOMIC_SEQ_CST);
-		return __atomic_load_n(&p->on, __ATOMIC_SEQ_CST);
+		(void)__atomic_exchange_n(&u->calls, call, __ATOMIC_SEQ_CST);
+		return call;
 	}
-	__atomic_store_n(&u->calls, calls, __ATOMIC_RELEASE);
+	__atomic_store_n(&u->calls, call, __ATOMIC_RELEASE);
 	__atomic_signal_fence(__ATOMIC_SEQ_CST); /* the compiler keeps the order, and membarrier the processor */
-	return __atomic_load_n(&p->on, __ATOMIC_ACQUIRE);
+	return call;
 }
 
-static apart void look(struct mbufpool_renewing *p, uint32_t user);
+static apart void look(struct user *u);
 
-static inline void leave(struct mbufpool_renewing *p, struct user *u)
+static inline void leave(struct user *u, uint64_t call)
 {
-	if (unlikely((u->calls & p->look_mask) == 1))
-		look(p, number_of(p, u));
-	__atomic_store_n(&u->calls, u->calls + 1, __ATOMIC_RELEASE);
+	if (unlikely((call & u->look_mask) == 1))
+		look(u);
+	__atomic_store_n(&u->calls, call + 1, __ATOMIC_RELEASE);
 }
 
 /* Gets up to n of what a stack has. `cause` is set where it has more. */
@@ -274,46 +296,50 @@ static size_t get_some(struct mbufpool_seat *seat, uint32_t *out, size_t n, uint
 	return got;
 }
 
-/* A get from all places together. What it takes and gives back is under the lock, and so is what the
- * thread moves: nobody finds too few elements since another has some for a moment. */
-static uint32_t get_together(struct mbufpool_renewing *p, uint32_t user, struct stack *on,
-	struct stack *old, uint32_t *out, size_t n)
+/* A get from all places together, whichever the pool is on by then. What it takes and gives back is under
+ * the lock, and so is what the thread moves, and each change of the state: nobody finds too few elements
+ * since another has some for a moment. */
+static uint32_t get_together(struct mbufpool_renewing *p, uint32_t user, uint32_t *out, size_t n)
 {
 	uint32_t cause, old_cause = 0;
+	struct stack *old, *now;
 	size_t got;
 
 	lock_kept(p);
+	now = new_of(p, state_of(p));
+	old = old_of(p, state_of(p));
 	got = take_kept(p, out, n);
 	if (got < n && old != NULL)
 		got += get_some(&old->places[user].seat, out + got, n - got, &old_cause);
-	cause = got == n ? 0 : mbufpool_seat_get(&on->places[user].seat, out + got, n - got);
+	cause = got == n ? 0 : mbufpool_seat_get(&now->places[user].seat, out + got, n - got);
 	if (cause != 0)
 		keep(p, out, got);
 	unlock_kept(p);
 	return cause == MBUFPOOL_NO_ENTRIES && old_cause != 0 ? old_cause : cause;
 }
 
-static void offer(struct mbufpool_renewing *p, uint32_t user, struct stack *on)
+static void offer(struct mbufpool_renewing *p, uint32_t user, struct stack *to)
 {
-	if (peek(&p->nb_kept) == 0 || peek(&on->is_held))
+	if (peek(&p->nb_kept) == 0 || peek(&to->is_held))
 		return;
 	lock_kept(p);
-	offer_some(p, on, user);
+	offer_some(p, to, user);
 	unlock_kept(p);
 }
 
-/* A get where there are two stacks, or something is kept. It changes the new stack twice at most. */
-static apart uint32_t get_slowly(struct mbufpool_renewing *p, uint32_t user, struct stack *on,
-	uint32_t *out, size_t n)
+/* A get where there are two stacks, or something is kept: from one of them alone, if it has as many. It
+ * changes the new stack twice at most. */
+static apart uint32_t get_slowly(struct mbufpool_renewing *p, uint32_t user, uint64_t state, uint32_t *out,
+	size_t n)
 {
-	struct stack *old = old_of(on);
+	struct stack *old = old_of(p, state), *now = new_of(p, state);
 
-	offer(p, user, on);
+	offer(p, user, now);
 	if (old != NULL && mbufpool_seat_get(&old->places[user].seat, out, n) == 0)
 		return 0;
-	if (mbufpool_seat_get(&on->places[user].seat, out, n) == 0)
+	if (mbufpool_seat_get(&now->places[user].seat, out, n) == 0)
 		return 0;
-	return get_together(p, user, on, old, out, n);
+	return get_together(p, user, out, n);
 }
 
 static apart void keep_put(struct mbufpool_renewing *p, const uint32_t *list, size_t n, uint32_t cause)
@@ -325,46 +351,41 @@ static apart void keep_put(struct mbufpool_renewing *p, const uint32_t *list, si
 }
 
 /* A put where there are two stacks, or something is kept. It changes the new stack twice at most. */
-static apart uint32_t put_slowly(struct mbufpool_renewing *p, uint32_t user, struct stack *on,
+static apart uint32_t put_slowly(struct mbufpool_renewing *p, uint32_t user, struct stack *now,
 	const uint32_t *list, size_t n)
 {
 	uint32_t cause;
 
-	if (peek(&on->is_held))
+	if (peek(&now->is_held))
 		return n > 0 ? MBUFPOOL_HEAD_SPENT : 0;
-	cause = mbufpool_seat_put(&on->places[user].seat, list, n);
-	offer(p, user, on);
+	cause = mbufpool_seat_put(&now->places[user].seat, list, n);
+	offer(p, user, now);
 	return cause;
 }
 
 /* ---- renewal ---- */
 
-static void free_stack(struct stack *s)
+/* Ends the seats of a stack, and with them the library's memory of it. */
+static void end_stack(struct stack *s)
 {
 	size_t k;
 
 	for (k = 0; k < MOST_USERS; k++)
 		mbufpool_seat_free(&s->places[k].seat);
-	free(s);
 }
 
 /* Makes a stack with a seat for each user. */
-static struct stack *new_stack(const struct mbufpool_renewing *p, uint32_t *cause)
+static uint32_t make_stack(const struct mbufpool_renewing *p, struct stack *s)
 {
-	struct stack *s = aligned_alloc(64, sizeof(*s));
-	uint32_t k;
+	uint32_t cause, k;
 
-	*cause = MBUFPOOL_NO_MEMORY;
-	if (s == NULL)
-		return NULL;
-	*s = (struct stack){ 0 };
-	*cause = mbufpool_seat_open_at(p->population, p->users, p->tries, p->start, &s->places[0].seat);
-	for (k = 1; k < p->users && *cause == 0; k++)
-		*cause = mbufpool_seat_split(&s->places[0].seat, &s->places[k].seat);
-	if (*cause == 0)
-		return s;
-	free_stack(s);
-	return NULL;
+	s->is_held = 0;
+	cause = mbufpool_seat_open_at(p->population, p->users, p->tries, p->start, &s->places[0].seat);
+	for (k = 1; k < p->users && cause == 0; k++)
+		cause = mbufpool_seat_split(&s->places[0].seat, &s->places[k].seat);
+	if (cause != 0)
+		end_stack(s);
+	return cause;
 }
 
 /* Gets every element out of a new stack, which nobody else has seen. */
@@ -448,39 +469,28 @@ static void offer_all(struct mbufpool_renewing *p, struct stack *to)
 	} while (is_taken && --left > 0);
 }
 
-/* Makes a stack in which every element is out, with the one before beside it. */
-static struct stack *new_beside(struct mbufpool_renewing *p, struct stack *old, uint32_t *cause)
-{
-	struct stack *now = new_stack(p, cause);
-
-	if (now == NULL)
-		return NULL;
-	now->old = old;
-	now->state = 1;
-	if ((*cause = get_all(now, p->population)) == 0)
-		return now;
-	free_stack(now);
-	return NULL;
-}
-
 static uint32_t renew(struct mbufpool_renewing *p)
 {
-	struct stack *old = stack_of(p), *now;
-	uint32_t cause;
+	struct stack *old = new_of(p, state_of(p)), *now = new_of(p, state_of(p) ^ IS_SECOND);
+	uint32_t cause = make_stack(p, now);
 
-	if ((now = new_beside(p, old, &cause)) == NULL)
+	if (cause != 0)
 		return cause;
-	__atomic_store_n(&p->on, now, __ATOMIC_SEQ_CST);
+	if ((cause = get_all(now, p->population)) != 0) {
+		end_stack(now);
+		return cause;
+	}
+	lock_kept(p);
+	unlock_kept_on(p, (state_of(p) ^ IS_SECOND) | IS_BESIDE);
 	wait_for_all(p);
 	move(p, old, now);
 
 	lock_kept(p);
-	__atomic_store_n(&now->old, NULL, __ATOMIC_SEQ_CST);
-	unlock_kept(p);
+	unlock_kept_on(p, state_of(p) & ~(uint64_t)IS_BESIDE);
 	wait_for_all(p);
 	/* A get that was refused may have given back what it had reserved. */
 	move(p, old, now);
-	free_stack(old);
+	end_stack(old);
 	offer_all(p, now);
 	return 0;
 }
@@ -490,7 +500,7 @@ static uint64_t changes_left(struct mbufpool_renewing *p)
 	uint64_t left;
 
 	lock(&p->user_lock);
-	left = mbufpool_seat_changes_left(&stack_of(p)->places[0].seat);
+	left = mbufpool_seat_changes_left(&new_of(p, state_of(p))->places[0].seat);
 	unlock(&p->user_lock);
 	return left;
 }
@@ -557,14 +567,15 @@ static void hold(struct mbufpool_renewing *p, struct stack *s)
 	unlock_kept(p);
 }
 
-/* Looks how many changes are left of the stack to which puts go. (within a call: so none is freed) */
-static apart void look(struct mbufpool_renewing *p, uint32_t user)
+/* Looks how many changes are left of the stack to which puts go. (within a call: so it isn't freed) */
+static apart void look(struct user *u)
 {
-	struct stack *on = stack_of(p);
-	uint64_t left = mbufpool_seat_changes_left(&on->places[user].seat);
+	struct mbufpool_renewing *p = u->pool;
+	struct stack *now = new_of(p, state_of(p));
+	uint64_t left = mbufpool_seat_changes_left(&now->places[number_of(u)].seat);
 
-	if (left <= p->floor && !peek(&on->is_held))
-		hold(p, on);
+	if (left <= p->floor && !peek(&now->is_held))
+		hold(p, now);
 	if (left < FEW && mbufpool_renewing_times(p) == 0)
 		tell_once(p, MBUFPOOL_FEW_CHANGES_LEFT, 0);
 	if (left <= p->margin)
@@ -573,61 +584,58 @@ static apart void look(struct mbufpool_renewing *p, uint32_t user)
 
 /* ---- the calls ---- */
 
-static inline int is_slow(uint32_t state)
-{
-	return state % 2 != 0;
-}
-
-/* A get that was refused, or that has to look further. It is made again where it may have looked at less
+/* A get that was refused, or that has to look further. A get from the one stack may have looked at less
  * than there was: the pool went over to a new stack meanwhile, or something was kept of which it didn't
- * know. */
-static apart uint32_t get_carefully(struct mbufpool_renewing *p, uint32_t user, uint32_t *out, size_t n)
+ * know. Then the state is another. */
+static apart uint32_t get_carefully(struct user *u, uint32_t *out, size_t n)
 {
-	uint32_t cause, state;
-	struct stack *on;
-	int again;
+	struct mbufpool_renewing *p = u->pool;
+	uint64_t call = enter(p, u), state = state_of(p);
+	uint32_t user = number_of(u), cause;
 
-	do {
-		on = enter(p, &p->user[user]);
-		state = peek(&on->state);
-		if (is_slow(state))
-			cause = get_slowly(p, user, on, out, n);
-		else
-			cause = mbufpool_seat_get(&on->places[user].seat, out, n);
-		again = cause != 0 &&
-			(stack_of(p) != on || (!is_slow(state) && peek(&on->state) != state));
-		leave(p, &p->user[user]);
-	} while (again);
+	if (state & IS_SLOW) {
+		cause = get_slowly(p, user, state, out, n);
+	} else {
+		cause = mbufpool_seat_get(&new_of(p, state)->places[user].seat, out, n);
+		if (cause != 0 && state_of(p) != state)
+			cause = get_together(p, user, out, n);
+	}
+	leave(u, call);
 	return cause;
 }
 
+/* (which of both stacks it is is a branch, which is foretold: else each call would wait for a load) */
 static inline uint32_t get(struct mbufpool_renewing *p, uint32_t user, uint32_t *out, size_t n)
 {
 	struct user *u = &p->user[user];
-	struct stack *on = enter(p, u);
+	uint64_t call = enter(p, u), state = state_of(p);
+	uint32_t cause;
 
-	if (likely(!is_slow(peek(&on->state))) &&
-		likely(mbufpool_seat_get(&on->places[user].seat, out, n) == 0)) {
-		leave(p, u);
-		return 0;
-	}
-	leave(p, u);
-	return get_carefully(p, number_of(p, u), out, n);
+	if (unlikely(state & IS_SLOW))
+		cause = MBUFPOOL_CONTENDED;
+	else if (state & IS_SECOND)
+		cause = mbufpool_seat_get(&p->stacks[1].places[user].seat, out, n);
+	else
+		cause = mbufpool_seat_get(&p->stacks[0].places[user].seat, out, n);
+	leave(u, call);
+	return likely(cause == 0) ? 0 : get_carefully(u, out, n);
 }
 
 static inline void put(struct mbufpool_renewing *p, uint32_t user, const uint32_t *list, size_t n)
 {
 	struct user *u = &p->user[user];
-	struct stack *on = enter(p, u);
+	uint64_t call = enter(p, u), state = state_of(p);
 	uint32_t cause;
 
-	if (likely(!is_slow(peek(&on->state))))
-		cause = mbufpool_seat_put(&on->places[user].seat, list, n);
+	if (unlikely(state & IS_SLOW))
+		cause = put_slowly(p, user, new_of(p, state), list, n);
+	else if (state & IS_SECOND)
+		cause = mbufpool_seat_put(&p->stacks[1].places[user].seat, list, n);
 	else
-		cause = put_slowly(p, user, on, list, n);
+		cause = mbufpool_seat_put(&p->stacks[0].places[user].seat, list, n);
 	if (unlikely(cause != 0))
-		keep_put(p, list, n, cause);
-	leave(p, u);
+		keep_put(u->pool, list, n, cause);
+	leave(u, call);
 }
 
 static apart uint32_t get_locked(struct mbufpool_renewing *p, uint32_t *out, size_t n)
@@ -661,30 +669,31 @@ void mbufpool_renewing_put(struct mbufpool_renewing *p, uint32_t user, const uin
 }
 
 /* What is in all places together, under the lock under which it is moved. */
-static uint64_t count_together(struct mbufpool_renewing *p, uint32_t user, struct stack *on)
+static uint64_t count_together(struct mbufpool_renewing *p, uint32_t user)
 {
-	struct stack *old = old_of(on);
+	struct stack *old;
 	uint64_t all;
 
 	lock_kept(p);
+	old = old_of(p, state_of(p));
 	all = p->nb_kept;
 	if (old != NULL)
 		all += mbufpool_seat_count(&old->places[user].seat);
-	all += mbufpool_seat_count(&on->places[user].seat);
+	all += mbufpool_seat_count(&new_of(p, state_of(p))->places[user].seat);
 	unlock_kept(p);
 	return all < p->population ? all : p->population;
 }
 
 static uint64_t count(struct mbufpool_renewing *p, uint32_t user)
 {
-	struct stack *on = enter(p, &p->user[user]);
-	uint64_t all;
+	struct user *u = &p->user[user];
+	uint64_t call = enter(p, u), state = state_of(p), all;
 
-	if (likely(!is_slow(peek(&on->state))))
-		all = mbufpool_seat_count(&on->places[user].seat);
+	if (state & IS_SLOW)
+		all = count_together(p, user);
 	else
-		all = count_together(p, user, on);
-	leave(p, &p->user[user]);
+		all = mbufpool_seat_count(&new_of(p, state)->places[user].seat);
+	leave(u, call);
 	return all;
 }
 
@@ -725,6 +734,7 @@ static int are_in_range(const struct mbufpool_renewing *p)
 static void set_limits(struct mbufpool_renewing *p, const struct mbufpool_renewing_limits *limits)
 {
 	uint64_t look_every = 1;
+	uint32_t k;
 
 	p->population = limits->population;
 	p->users = limits->users;
@@ -733,7 +743,8 @@ static void set_limits(struct mbufpool_renewing *p, const struct mbufpool_renewi
 	p->margin = limits->margin != 0 ? limits->margin : MARGIN;
 	while (look_every * 2 * LOOKS * p->users <= p->margin && look_every < UINT64_C(1) << 32)
 		look_every *= 2;
-	p->look_mask = 2 * look_every - 1; /* two steps of `calls` are a call */
+	for (k = 0; k < MOST_USERS; k++)
+		p->user[k] = (struct user){ 0, 2 * look_every - 1, p }; /* two steps of `calls` are a call */
 	p->floor = 3 * (uint64_t)p->population + 2 * p->users * (look_every + 1) + 2;
 }
 
@@ -761,12 +772,12 @@ uint32_t mbufpool_renewing_open(const struct mbufpool_renewing_limits *limits,
 		return MBUFPOOL_BAD_POOL;
 	}
 	begin(p);
-	p->on = new_stack(p, &cause);
-	p->next = p->on != NULL ? calloc(p->population, sizeof(*p->next)) : NULL;
-	if (p->next == NULL) {
-		if (p->on != NULL)
-			free_stack(p->on);
-		cause = p->on != NULL ? MBUFPOOL_NO_MEMORY : cause;
+	cause = make_stack(p, &p->stacks[0]);
+	if (cause == 0 && (p->next = calloc(p->population, sizeof(*p->next))) == NULL) {
+		end_stack(&p->stacks[0]);
+		cause = MBUFPOOL_NO_MEMORY;
+	}
+	if (cause != 0) {
 		free(p);
 		return cause;
 	}
@@ -781,7 +792,7 @@ void mbufpool_renewing_end(struct mbufpool_renewing *p)
 	__atomic_store_n(&p->is_ending, 1, __ATOMIC_RELAXED);
 	for (round = 0; __atomic_load_n(&p->is_renewing, __ATOMIC_ACQUIRE); round++)
 		nap(round);
-	free_stack(p->on);
+	end_stack(new_of(p, state_of(p)));
 	free(p->next);
 	free(p);
 }

@@ -37,11 +37,11 @@
 #include "checked.h"
 #include "numbers.h"
 
-#define MAX_USERS 64
+/* (in one unit with this, so that a usual get and put of the pool are in line) */
+#include "../../c/renewing.c"
+
 #define TRIES 1000000
 #define BURST 512
-#define CHANGES ((UINT64_C(1) << 40) - 1)
-#define MOST_MARGIN (UINT64_C(1) << 26)
 
 struct pool {
 	struct mbufpool_renewing *renewing; /* of a checked pool NULL */
@@ -125,7 +125,7 @@ log_told(void *context, enum mbufpool_renewing_told what, uint32_t cause)
 /* ---- the life of a pool ---- */
 
 static int
-start_thread(void *context, void *(*run)(void *), void *arg)
+start_control_thread(void *context, void *(*run)(void *), void *arg)
 {
 	pthread_t thread;
 
@@ -144,7 +144,7 @@ set_users(struct pool *p)
 	unsigned int lcore;
 
 	RTE_LCORE_FOREACH (lcore)
-		if (users < MAX_USERS)
+		if (users < MOST_USERS)
 			p->user[lcore] = users++;
 	return users;
 }
@@ -169,13 +169,13 @@ set_changes(struct mbufpool_renewing_limits *limits, const char *text)
 	}
 	changes = RTE_MAX(changes, least + some);
 	limits->start = CHANGES - changes;
-	limits->margin = RTE_MIN(RTE_MAX(changes / 2, least), MOST_MARGIN);
+	limits->margin = RTE_MIN(RTE_MAX(changes / 2, least), MARGIN);
 	return 0;
 }
 
 /* The pool begins full, a mempool empty: its objects are put in one by one. */
 static uint32_t
-get_all(struct pool *p)
+get_all_numbers(struct pool *p)
 {
 	uint32_t *all = calloc(p->numbers.places, sizeof(*all)), cause;
 
@@ -190,12 +190,12 @@ get_all(struct pool *p)
 static uint32_t
 open_pool(struct pool *p, const struct mbufpool_renewing_limits *limits, int is_checked)
 {
-	const struct mbufpool_renewing_hooks hooks = { start_thread, log_told, p };
+	const struct mbufpool_renewing_hooks hooks = { start_control_thread, log_told, p };
 	uint32_t cause;
 
 	cause = is_checked ? checked_open(&p->checked, limits, &hooks)
 			   : mbufpool_renewing_open(limits, &hooks, &p->renewing);
-	return cause != 0 ? cause : get_all(p);
+	return cause != 0 ? cause : get_all_numbers(p);
 }
 
 static void
@@ -314,7 +314,7 @@ user_of(const struct pool *p)
 }
 
 static __rte_always_inline uint32_t
-get(struct pool *p, uint32_t *out, size_t n, const int is_checked)
+get_numbers(struct pool *p, uint32_t *out, size_t n, const int is_checked)
 {
 	uint32_t cause;
 
@@ -348,7 +348,7 @@ put_checked(struct pool *p, const uint32_t *list, size_t n)
 }
 
 static __rte_always_inline uint32_t
-put(struct pool *p, const uint32_t *list, size_t n, const int is_checked)
+put_numbers(struct pool *p, const uint32_t *list, size_t n, const int is_checked)
 {
 	uint32_t cause;
 
@@ -372,7 +372,7 @@ enqueue(struct pool *p, void *const *objects, unsigned int n, const int is_check
 	for (done = 0; done < n; done += i) {
 		k = RTE_MIN(n - done, (unsigned int)BURST);
 		i = numbers_of(&p->numbers, objects + done, k, list, is_checked);
-		if (likely(i > 0) && put(p, list, i, is_checked) != 0)
+		if (likely(i > 0) && put_numbers(p, list, i, is_checked) != 0)
 			err = -ENOBUFS;
 		if (unlikely(i < k)) {
 			if (put_unknown(p, objects[done + i]) != 0)
@@ -404,7 +404,7 @@ dequeue(struct pool *p, void **objects, unsigned int n, const int is_checked)
 
 	for (done = 0; done < n; done += k) {
 		k = RTE_MIN(n - done, (unsigned int)BURST);
-		if (unlikely((cause = get(p, list, k, is_checked)) != 0))
+		if (unlikely((cause = get_numbers(p, list, k, is_checked)) != 0))
 			return refuse_get(p, objects, done, cause, is_checked);
 		objects_of(&p->numbers, list, k, objects + done);
 	}
