@@ -367,10 +367,10 @@ static void *run(void *arg)
 	return NULL;
 }
 
-/* Lets the threads run until so many renewals were told, or for so many milliseconds. */
-static void run_threads(unsigned long renewals, unsigned milliseconds)
+/* Lets the threads run until this was told so many times more, and then for so many milliseconds. */
+static void run_threads(enum mbufpool_renewing_told what, unsigned long times, unsigned milliseconds)
 {
-	unsigned long until = times_told(MBUFPOOL_RENEWED) + renewals;
+	unsigned long until = times_told(what) + times;
 	const struct timespec moment = { 0, 1000000 };
 	unsigned i;
 
@@ -380,7 +380,9 @@ static void run_threads(unsigned long renewals, unsigned milliseconds)
 		threads[i].state = 0x9e3779b97f4a7c15u * (seed * THREADS + i + 1);
 		MUST(pthread_create(&threads[i].id, NULL, run, &threads[i]) == 0);
 	}
-	for (; milliseconds > 0 || (renewals > 0 && times_told(MBUFPOOL_RENEWED) < until); milliseconds -= milliseconds > 0)
+	while (times_told(what) < until)
+		nanosleep(&moment, NULL);
+	for (; milliseconds > 0; milliseconds--)
 		nanosleep(&moment, NULL);
 	__atomic_store_n(&is_over, 1, __ATOMIC_SEQ_CST);
 	for (i = 0; i < THREADS; i++)
@@ -402,7 +404,7 @@ static void renews_under_load(unsigned long renewals)
 {
 	open_pool();
 	__atomic_store_n(&one_sleeps, 5000, __ATOMIC_RELAXED);
-	run_threads(renewals, 0);
+	run_threads(MBUFPOOL_RENEWED, renewals, 0);
 	__atomic_store_n(&one_sleeps, 0, __ATOMIC_RELAXED);
 	mbufpool_renewing_end(pool);
 	MUST(times_told(MBUFPOOL_FEW_CHANGES_LEFT) == 1 && times_told(MBUFPOOL_NOT_RENEWED) == 0);
@@ -413,7 +415,7 @@ static void renews_under_refusals(unsigned long renewals)
 {
 	open_pool();
 	set_refusals(2, 20, 20, 20, 2);
-	run_threads(renewals, 0);
+	run_threads(MBUFPOOL_RENEWED, renewals, 0);
 	set_refusals(0, 0, 0, 0, 0);
 	get_everything();
 	mbufpool_renewing_end(pool);
@@ -428,11 +430,13 @@ static void goes_on_unrenewed(int is_by_memory)
 {
 	open_pool();
 	set_refusals(is_by_memory, 0, 0, 0, !is_by_memory);
-	run_threads(0, 200);
+	run_threads(MBUFPOOL_PUT_KEPT, 1, 100);
+	while (times_told(MBUFPOOL_NOT_RENEWED) == 0)
+		sched_yield();
 	MUST(mbufpool_renewing_times(pool) == 0 && times_told(MBUFPOOL_RENEWED) == 0);
 	MUST(times_told(MBUFPOOL_NOT_RENEWED) == 1 && times_told(MBUFPOOL_PUT_KEPT) == 1);
 	set_refusals(0, 0, 0, 0, 0);
-	run_threads(3, 0);
+	run_threads(MBUFPOOL_RENEWED, 3, 0);
 	MUST(times_told(MBUFPOOL_NOT_RENEWED) == 1);
 	mbufpool_renewing_end(pool);
 }
@@ -461,12 +465,12 @@ static void goes_on_beside_a_sleeper(void)
 	MUST(pthread_create(&sleeper, NULL, sleep_within_a_call, &one) == 0);
 	while (mbufpool_renewing_count(pool, 0) == POPULATION)
 		sched_yield();
-	run_threads(0, 200);
+	run_threads(MBUFPOOL_PUT_KEPT, 1, 100);
 	MUST(times_told(MBUFPOOL_RENEWED) == 0 && times_told(MBUFPOOL_PUT_KEPT) == 1);
 	__atomic_store_n(&is_asleep, 0, __ATOMIC_SEQ_CST);
 	MUST(pthread_join(sleeper, NULL) == 0);
 	is_out = 0;
-	run_threads(3, 0);
+	run_threads(MBUFPOOL_RENEWED, 3, 0);
 	mbufpool_renewing_end(pool);
 }
 
