@@ -1,0 +1,29 @@
+# The handler "mbufpool_guard" as a plugin of its own, and a program that plays its faults.
+
+guard := librte_mempool_mbufpool_guard.so
+guard_sources := mempool_guard.c guard_log.c guard_report.c
+guard_headers := mempool_guard.h guard_pool.h object_numbers.h $(header)
+
+all: $(guard) guard_faults
+
+.PHONY: clean-guard
+clean: clean-guard
+clean-guard:
+	rm -f $(guard) guard_faults
+
+# What the plugin defines stays its own but for what mempool_guard.h names.
+$(guard): $(guard_sources) $(guard_headers) $(libraries)
+	$(CC) $(CFLAGS) $(flags) -fPIC -fvisibility=hidden -shared $(guard_sources) $(libraries) \
+		-Wl,--exclude-libs,ALL -Wl,-soname,$(guard) -o $@ $(dpdk)
+
+guard_faults: guard_faults.c mempool_guard.h
+	$(CC) $(CFLAGS) $(flags) guard_faults.c -o $@ $(dpdk)
+
+# Programs with the handler in them, under a sanitizer.
+build/%/guard_faults: guard_faults.c $(guard_sources) $(guard_headers) $(libraries) Makefile guard.mk
+	@mkdir -p $(@D)
+	$(compiler-$*) -O2 -g $(flags) guard_faults.c $(guard_sources) $(libraries) -o $@ $(dpdk)
+
+build/%/guard_pipeline: pipeline.c $(guard_sources) $(guard_headers) $(libraries) Makefile guard.mk
+	@mkdir -p $(@D)
+	$(compiler-$*) -O2 -g $(flags) pipeline.c $(guard_sources) $(libraries) -o $@ $(dpdk)

@@ -1,0 +1,276 @@
+/* guard_report.c - what is out of a mempool on the handler "mbufpool_guard", by who got it: as text,
+ * and as a telemetry command. */
+#include <errno.h>
+#include <inttypes.h>
+#include <pthread.h>
+#include <stdlib.h>
+#include <string.h>
+
+#include <rte_telemetry.h>
+
+#include "guard_pool.h"
+#include "mempool_guard.h"
+
+#define PORTION 256	  /* elements that are looked at under one lock */
+#define TELEMETRY_LINES 64 /* so that an answer fits into what telemetry sends */
+
+/* Objects that were got by one lcore at one place. */
+struct tally {
+	caller by;
+	uint32_t objects;
+};
+
+struct tallies {
+	uint32_t out, count;
+	struct tally *all;
+};
+
+/* ---- all pools ---- */
+
+static pthread_mutex_t list_lock = PTHREAD_MUTEX_INITIALIZER;
+static struct guard_pool *first_pool;
+
+void
+guard_list_add(struct guard_pool *p)
+{
+	pthread_mutex_lock(&list_lock);
+	p->next = first_pool;
+	first_pool = p;
+	pthread_mutex_unlock(&list_lock);
+}
+
+void
+guard_list_remove(struct guard_pool *p)
+{
+	struct guard_pool **at = &first_pool;
+
+	pthread_mutex_lock(&list_lock);
+	while (*at != p)
+		at = &(*at)->next;
+	*at = p->next;
+	pthread_mutex_unlock(&list_lock);
+}
+
+static struct guard_pool *
+pool_of(const struct rte_mempool *mp)
+{
+	if (strcmp(rte_mempool_get_ops(mp->ops_index)->name, MBUFPOOL_GUARD_OPS) != 0)
+		return NULL;
+	return mp->pool_data;
+}
+
+/* ---- what is out ---- */
+
+/* Who got each of the elements from `from` on, `n` at most; 0 for what isn't out. */
+static void
+look(struct guard_pool *p, uint32_t from, uint32_t n, caller *by)
+{
+	uint32_t i;
+
+	rte_spinlock_lock(&p->lock);
+	for (i = 0; i < n; i++)
+		by[i] = mbufpool_guard_who(&p->shared.guard, from + i);
+	rte_spinlock_unlock(&p->lock);
+}
+
+/* Writes who got what is out, one behind the other, and answers how many these are. */
+static uint32_t
+callers_of(struct guard_pool *p, caller *by)
+{
+	uint32_t from, i, n, out = 0;
+	caller some[PORTION];
+
+	for (from = 0; from < p->known; from += n) {
+		n = RTE_MIN(p->known - from, (uint32_t)PORTION);
+		look(p, from, n, some);
+		for (i = 0; i < n; i++)
+			if (some[i] > NEVER_PUT)
+				by[out++] = some[i];
+	}
+	return out;
+}
+
+static int
+by_caller(const void *a, const void *b)
+{
+	caller x = *(const caller *)a, y = *(const caller *)b;
+
+	return (x > y) - (x < y);
+}
+
+/* Most first, and of as many the least lcore. */
+static int
+by_count(const void *a, const void *b)
+{
+	const struct tally *x = a, *y = b;
+
+	if (x->objects != y->objects)
+		return x->objects < y->objects ? 1 : -1;
+	return by_caller(&x->by, &y->by);
+}
+
+/* Counts what is out. The tallies are freed by whoever asks. */
+static int
+count_out(struct guard_pool *p, struct tallies *t)
+{
+	caller *by = malloc(RTE_MAX(p->known, 1u) * sizeof(*by));
+	uint32_t i;
+
+	memset(t, 0, sizeof(*t));
+	if (by == NULL)
+		return -ENOMEM;
+	t->out = callers_of(p, by);
+	qsort(by, t->out, sizeof(*by), by_caller);
+	for (i = 0; i < t->out; i++)
+		t->count += i == 0 || by[i] != by[i - 1];
+	t->all = calloc(RTE_MAX(t->count, 1u), sizeof(*t->all));
+	if (t->all != NULL) {
+		t->count = 0;
+		for (i = 0; i < t->out; i++) {
+			if (i == 0 || by[i] != by[i - 1])
+				t->all[t->count++].by = by[i];
+			t->all[t->count - 1].objects++;
+		}
+		qsort(t->all, t->count, sizeof(*t->all), by_count);
+	}
+	free(by);
+	return t->all != NULL ? 0 : -ENOMEM;
+}
+
+static int
+written(FILE *out)
+{
+	return fflush(out) == 0 && !ferror(out) ? 0 : -EIO;
+}
+
+int
+mbufpool_guard_report(FILE *out, const struct rte_mempool *mp)
+{
+	struct guard_pool *p = pool_of(mp);
+	char lcore[PLACE_TEXT], place[PLACE_TEXT];
+	struct tallies t;
+	uint32_t i;
+
+	if (p == NULL)
+		return -EINVAL;
+	if (count_out(p, &t) != 0) {
+		fprintf(out, "mbufpool_guard: pool %s: no memory for a report of %" PRIu32 " objects\n",
+			mp->name, p->known);
+		return -ENOMEM;
+	}
+	fprintf(out,
+		"mbufpool_guard: pool %s: %" PRIu32 " of %" PRIu32 " objects are out, %" PRIu64
+		" puts were refused\n",
+		mp->name, t.out, p->known, __atomic_load_n(&p->refused, __ATOMIC_RELAXED));
+	for (i = 0; i < t.count; i++)
+		fprintf(out, "%7" PRIu32 "  %s  %s\n", t.all[i].objects,
+			guard_lcore_text(t.all[i].by, lcore), guard_place_text(t.all[i].by, place));
+	free(t.all);
+	return written(out);
+}
+
+int
+mbufpool_guard_list(FILE *out, const struct rte_mempool *mp, unsigned int most)
+{
+	struct guard_pool *p = pool_of(mp);
+	char lcore[PLACE_TEXT], place[PLACE_TEXT];
+	uint32_t element;
+	caller by;
+
+	if (p == NULL)
+		return -EINVAL;
+	for (element = 0; element < p->known && most > 0; element++) {
+		look(p, element, 1, &by);
+		if (by <= NEVER_PUT)
+			continue;
+		fprintf(out, "element %" PRIu32 "  %p  %s  %s\n", element, p->objects[element],
+			guard_lcore_text(by, lcore), guard_place_text(by, place));
+		most--;
+	}
+	return written(out);
+}
+
+/* ---- telemetry ---- */
+
+static int
+tell_pools(struct rte_tel_data *data)
+{
+	struct guard_pool *p;
+
+	rte_tel_data_start_array(data, RTE_TEL_STRING_VAL);
+	for (p = first_pool; p != NULL; p = p->next)
+		rte_tel_data_add_array_string(data, p->mp->name);
+	return 0;
+}
+
+static void
+tell_tallies(const struct tallies *t, struct rte_tel_data *lines, uint64_t *rest)
+{
+	char line[2 * PLACE_TEXT + 32], lcore[PLACE_TEXT], place[PLACE_TEXT];
+	uint32_t i;
+
+	rte_tel_data_start_array(lines, RTE_TEL_STRING_VAL);
+	for (i = 0; i < t->count; i++) {
+		if (i >= TELEMETRY_LINES) {
+			*rest += t->all[i].objects;
+			continue;
+		}
+		snprintf(line, sizeof(line), "%" PRIu32 "  %s  %s", t->all[i].objects,
+			guard_lcore_text(t->all[i].by, lcore),
+			guard_place_text(t->all[i].by, place));
+		rte_tel_data_add_array_string(lines, line);
+	}
+}
+
+static int
+tell_pool(struct guard_pool *p, struct rte_tel_data *data)
+{
+	struct rte_tel_data *lines = rte_tel_data_alloc();
+	struct tallies t;
+	uint64_t rest = 0;
+
+	if (lines == NULL)
+		return -ENOMEM;
+	if (count_out(p, &t) != 0) {
+		rte_tel_data_free(lines);
+		return -ENOMEM;
+	}
+	tell_tallies(&t, lines, &rest);
+	rte_tel_data_start_dict(data);
+	rte_tel_data_add_dict_string(data, "pool", p->mp->name);
+	rte_tel_data_add_dict_u64(data, "objects", p->known);
+	rte_tel_data_add_dict_u64(data, "out", t.out);
+	rte_tel_data_add_dict_u64(
+		data, "refused", __atomic_load_n(&p->refused, __ATOMIC_RELAXED));
+	rte_tel_data_add_dict_container(data, "got_by", lines, 0);
+	rte_tel_data_add_dict_u64(data, "got_by_others", rest);
+	free(t.all);
+	return 0;
+}
+
+/* The list is locked, so that no pool ends meanwhile. */
+static int
+tell_out(const char *command, const char *name, struct rte_tel_data *data)
+{
+	struct guard_pool *p;
+	int ret;
+
+	RTE_SET_USED(command);
+	pthread_mutex_lock(&list_lock);
+	for (p = first_pool; p != NULL && name != NULL; p = p->next)
+		if (strcmp(p->mp->name, name) == 0)
+			break;
+	if (name == NULL || *name == 0)
+		ret = tell_pools(data);
+	else
+		ret = p == NULL ? -EINVAL : tell_pool(p, data);
+	pthread_mutex_unlock(&list_lock);
+	return ret;
+}
+
+RTE_INIT(register_telemetry)
+{
+	rte_telemetry_register_cmd("/mbufpool/out", tell_out,
+		"What is out of a mempool on mbufpool_guard, by who got it. Parameter: its name; "
+		"without, the names of these mempools");
+}
