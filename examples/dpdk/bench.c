@@ -1,5 +1,5 @@
-/* bench.c - what it costs to get an element and put it back: by DPDK's mempool on each handler, by
- * a seat and by a worker of mbufpool.h themselves.
+/* bench.c - what it costs to get an element and put it back: by DPDK's mempool on each handler, also
+ * on one that EAL's -d loads, by a seat and by a worker of mbufpool.h themselves.
  *
  *     make bench && ./bench --no-huge -m 512 --no-pci -l 0-3 [-- KEY=LIST ..]
  *

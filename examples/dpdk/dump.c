@@ -1,6 +1,7 @@
 /* dump.c - snapshots of DPDK's mempools of mbufs, for `mbufpool audit FILE`: see dump.h. It needs
  * DPDK alone. */
 #define _GNU_SOURCE
+#include <dlfcn.h>
 #include <errno.h>
 #include <inttypes.h>
 #include <stdlib.h>
@@ -266,6 +267,36 @@ has_mbufs(struct rte_mempool *mp)
 	return mp->elt_size >= sizeof(struct rte_mbuf) + own->mbuf_priv_size;
 }
 
+/* mbufpool_guard_in_pool() of mempool_guard.h, by the program or by the plugin that EAL loaded. */
+typedef int list_in_pool(const struct rte_mempool *mp, void **objects, unsigned int n);
+extern list_in_pool mbufpool_guard_in_pool;
+#pragma weak mbufpool_guard_in_pool
+
+/* Of mbufpool_guard the common part and its own caches are one, and listed without a get: no lcore
+ * can get what another one's cache has. */
+static int
+look_at_guard(struct view *v)
+{
+	list_in_pool *list = mbufpool_guard_in_pool;
+	void *plugin;
+	int found;
+
+	if (list == NULL) {
+		plugin = dlopen("librte_mempool_mbufpool_guard.so", RTLD_NOW | RTLD_NOLOAD);
+		if (plugin == NULL)
+			return -ENOTSUP;
+		list = (list_in_pool *)(uintptr_t)dlsym(plugin, "mbufpool_guard_in_pool");
+		dlclose(plugin);
+	}
+	v->common = calloc(v->size, sizeof(*v->common));
+	if (list == NULL || v->common == NULL)
+		return list == NULL ? -ENOTSUP : -ENOMEM;
+	found = list(v->mp, v->common, v->size);
+	if (found >= 0)
+		v->nb_common = found;
+	return found < 0 ? found : 0;
+}
+
 /* Gets what is in the common part, and puts it back in its order. */
 static int
 look_at_common(struct view *v)
@@ -276,6 +307,8 @@ look_at_common(struct view *v)
 	size_t k;
 	int ret;
 
+	if (strcmp(ops->name, "mbufpool_guard") == 0)
+		return look_at_guard(v);
 	for (k = 0; k < RTE_DIM(handlers); k++)
 		if (strcmp(handlers[k].name, ops->name) == 0)
 			break;

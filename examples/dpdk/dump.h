@@ -18,7 +18,8 @@
  * A pool has to stand still: no thread gets or puts its objects, or changes its packets, during
  * these calls. What is in the common part is got from it at once and put back in its order, so
  * that it stands as before. Handlers: ring_mp_mc, ring_sp_sc, ring_mp_sc, ring_sp_mc,
- * ring_mt_rts, ring_mt_hts, stack, lf_stack, mbufpool, mbufpool_checked.
+ * ring_mt_rts, ring_mt_hts, stack, lf_stack, mbufpool, mbufpool_checked; and mbufpool_guard, of which
+ * nothing is got, and its own caches are in the common part.
  *
  * A snapshot is made in memory before its first byte is written. All calls that write return:
  *   - 0: Success.

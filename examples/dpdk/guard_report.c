@@ -190,6 +190,29 @@ mbufpool_guard_list(FILE *out, const struct rte_mempool *mp, unsigned int most)
 	return written(out);
 }
 
+int
+mbufpool_guard_in_pool(const struct rte_mempool *mp, void **objects, unsigned int n)
+{
+	struct guard_pool *p = pool_of(mp);
+	uint32_t from, i, k, found = 0;
+	caller some[PORTION];
+
+	if (p == NULL)
+		return -EINVAL;
+	for (from = 0; from < p->known; from += k) {
+		k = RTE_MIN(p->known - from, (uint32_t)PORTION);
+		look(p, from, k, some);
+		for (i = 0; i < k; i++) {
+			if (some[i] != 0)
+				continue;
+			if (found < n)
+				objects[found] = p->objects[from + i];
+			found++;
+		}
+	}
+	return found;
+}
+
 /* ---- telemetry ---- */
 
 static int

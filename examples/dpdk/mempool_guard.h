@@ -28,7 +28,7 @@ extern "C" {
  *          15  lcore 2  app+0x1180
  *
  * Each object is looked at once, while others may get and put: what is out all the time is counted.
- * It may be called by any thread, and takes 8 bytes of memory for each object and 24 for each
+ * It may be called by any thread, and takes 8 bytes of memory for each object and 16 for each
  * place while it runs. Answers 0, or
  *   -EINVAL  the mempool isn't on this handler, or has no objects yet
  *   -ENOMEM  there is no memory for it, which is written as one line
@@ -43,6 +43,12 @@ MBUFPOOL_GUARD_EXPORT int mbufpool_guard_report(FILE *out, const struct rte_memp
  * Answers as mbufpool_guard_report does. */
 MBUFPOOL_GUARD_EXPORT int mbufpool_guard_list(
 	FILE *out, const struct rte_mempool *mp, unsigned int most);
+
+/* Lists the objects that aren't out, by number, and answers how many there are: the first `n` of them
+ * are written. So a dump (dump.h) sees them without a get. Answers -EINVAL as mbufpool_guard_report
+ * does. */
+MBUFPOOL_GUARD_EXPORT int mbufpool_guard_in_pool(
+	const struct rte_mempool *mp, void **objects, unsigned int n);
 
 #ifdef __cplusplus
 }
