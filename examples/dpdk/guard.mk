@@ -1,7 +1,7 @@
 # The handler "mbufpool_guard" as a plugin of its own, and a program that plays its faults.
 
 guard := librte_mempool_mbufpool_guard.so
-guard_sources := mempool_guard.c guard_log.c guard_report.c
+guard_sources := mempool_guard.c guard_log.c guard_report.c guard_way.c
 guard_headers := mempool_guard.h guard_pool.h object_numbers.h $(header)
 
 all: $(guard) guard_faults

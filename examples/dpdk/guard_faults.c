@@ -164,6 +164,7 @@ one_lcore(void)
 
 	free_one(m);
 	free_again(m);
+	END_OF_PLACE;
 }
 
 static void

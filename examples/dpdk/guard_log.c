@@ -14,7 +14,6 @@
 #include "guard_pool.h"
 
 #define LINES_A_SECOND 10
-#define WAY 4 /* calls */
 #define LINE_BITS 8
 
 #define LOG(level, p, format, ...) \
@@ -47,50 +46,68 @@ guard_lcore_text(caller by, char *text)
 	uint64_t who = by >> ADDRESS_BITS;
 
 	if (who < 2)
-		snprintf(text, PLACE_TEXT, "no lcore");
+		snprintf(text, CALL_TEXT, "no lcore");
 	else
-		snprintf(text, PLACE_TEXT, "lcore %" PRIu64, who - 2);
+		snprintf(text, CALL_TEXT, "lcore %" PRIu64, who - 2);
 	return text;
 }
 
 /* (an address of a file that isn't loaded any more stays a number) */
-const char *
-guard_place_text(caller by, char *text)
+static const char *
+call_text(uintptr_t address, char *text)
 {
-	uintptr_t address = address_of(by);
 	const char *name;
 	struct link_map *module;
 	Dl_info info;
 
 	if (dladdr1((void *)address, &info, (void **)&module, RTLD_DL_LINKMAP) == 0) {
-		snprintf(text, PLACE_TEXT, "0x%" PRIxPTR, address);
+		snprintf(text, CALL_TEXT, "0x%" PRIxPTR, address);
 		return text;
 	}
 	name = strrchr(info.dli_fname, '/');
-	snprintf(text, PLACE_TEXT, "%.70s+0x%" PRIxPTR, name != NULL ? name + 1 : info.dli_fname,
+	snprintf(text, CALL_TEXT, "%.70s+0x%" PRIxPTR, name != NULL ? name + 1 : info.dli_fname,
 		address - module->l_addr);
+	return text;
+}
+
+/* (the longest of it fits into PLACE_TEXT) */
+const char *
+guard_place_text(caller by, char *text)
+{
+	const uintptr_t *calls = guard_way_calls(address_of(by));
+	char call[CALL_TEXT];
+	size_t length;
+	unsigned int i;
+
+	length = snprintf(text, PLACE_TEXT, "%s",
+		call_text(calls != NULL ? calls[0] : address_of(by), call));
+	for (i = 1; calls != NULL && i <= MAX_CALLS && calls[i] != 0; i++)
+		length += snprintf(text + length, PLACE_TEXT - length, "%s%s", i == 1 ? " (" : ", ",
+			call_text(calls[i], call));
+	if (i > 1)
+		snprintf(text + length, PLACE_TEXT - length, ")");
 	return text;
 }
 
 /* Writes the calls on the way to the one that is told, from the nearest on, as far as the stack can
  * be unwound: where DPDK's rte_pktmbuf_free() isn't in line, or a library frees, they say whose call
- * it was. (apart, as of no other call than this one the way is known) */
+ * it was. (apart, as of no other call than this one the way is known, but where all are noted) */
 static const char *
-way_text(caller by, char *text, size_t room)
+way_text(caller by, char *text)
 {
-	void *frames[WAY + 16];
-	int n = backtrace(frames, RTE_DIM(frames)), i, k;
-	char place[PLACE_TEXT];
+	void *frames[MAX_CALLS + 16];
+	int n = guard_calls == 0 ? backtrace(frames, RTE_DIM(frames)) : 0, i, k;
+	char call[CALL_TEXT];
 	size_t length = 0;
 
 	text[0] = 0;
 	for (i = 0; i < n; i++)
 		if ((uintptr_t)frames[i] - 1 == address_of(by))
 			break;
-	for (k = i + 1; k < n && k <= i + WAY; k++)
-		length += snprintf(text + length, room - length, "%s %s",
+	for (k = i + 1; k < n && k <= i + MAX_CALLS; k++)
+		length += snprintf(text + length, PLACE_TEXT - length, "%s %s",
 			k == i + 1 ? "; called from" : ",",
-			guard_place_text((uintptr_t)frames[k] - 1, place));
+			call_text((uintptr_t)frames[k] - 1, call));
 	return text;
 }
 
@@ -147,9 +164,9 @@ guard_log_not_out(struct guard_pool *p, uint32_t element, caller by)
 {
 	caller put = __atomic_load_n(&p->pasts[element].put, __ATOMIC_RELAXED),
 	       got = __atomic_load_n(&p->pasts[element].got, __ATOMIC_RELAXED);
-	char by_lcore[PLACE_TEXT], by_place[PLACE_TEXT], put_lcore[PLACE_TEXT],
-		put_place[PLACE_TEXT], got_lcore[PLACE_TEXT], got_place[PLACE_TEXT],
-		got_text[2 * PLACE_TEXT + 16], way[(WAY + 1) * PLACE_TEXT];
+	char by_lcore[CALL_TEXT], by_place[PLACE_TEXT], put_lcore[CALL_TEXT],
+		put_place[PLACE_TEXT], got_lcore[CALL_TEXT], got_place[PLACE_TEXT],
+		got_text[CALL_TEXT + PLACE_TEXT + 16], way[PLACE_TEXT];
 
 	if (!take_line(p))
 		return;
@@ -163,18 +180,18 @@ guard_log_not_out(struct guard_pool *p, uint32_t element, caller by)
 		"%s%s",
 		kind_of(p->mp), p->objects[element], element, guard_lcore_text(by, by_lcore),
 		guard_place_text(by, by_place), guard_lcore_text(put, put_lcore),
-		guard_place_text(put, put_place), got_text, way_text(by, way, sizeof(way)));
+		guard_place_text(put, put_place), got_text, way_text(by, way));
 }
 
 void
 guard_log_stranger(struct guard_pool *p, const void *object, caller by)
 {
-	char lcore[PLACE_TEXT], place[PLACE_TEXT], way[(WAY + 1) * PLACE_TEXT];
+	char lcore[CALL_TEXT], place[PLACE_TEXT], way[PLACE_TEXT];
 
 	if (take_line(p))
 		LOG(ERR, p, "object %p is none of this pool: put by %s at %s%s", object,
 			guard_lcore_text(by, lcore), guard_place_text(by, place),
-			way_text(by, way, sizeof(way)));
+			way_text(by, way));
 }
 
 void
@@ -214,9 +231,8 @@ guard_log_cache(const struct rte_mempool *mp)
 }
 
 void
-guard_log_wish(const char *wish)
+guard_log_wish(const char *name, const char *wish, unsigned int most)
 {
 	rte_log(RTE_LOG_WARNING, RTE_LOGTYPE_MEMPOOL,
-		"mbufpool_guard: MBUFPOOL_GUARD_CACHE=%s is no number of 0 to 512, and isn't used\n",
-		wish);
+		"mbufpool_guard: %s=%s is no number of 0 to %u, and isn't used\n", name, wish, most);
 }

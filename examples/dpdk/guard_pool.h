@@ -13,11 +13,19 @@
 #include "object_numbers.h"
 
 #define MAX_WORKERS 64
-#define PLACE_TEXT 96 /* bytes of a place in the code as text */
+#define MAX_CALLS 4	/* on the way to a get or a put */
+#define MAX_WAYS 65536	/* below the first address that code can have */
+#define CALL_TEXT 96	/* bytes of an address as text */
+#define PLACE_TEXT 512	/* of a place in the code, with the calls on the way to it */
 
 /* Who calls, and where, as one number of 2 at least: the lcore and 2, or 1 for a thread without one,
- * above 48 bits of the address of the call. It is what comes with a get. */
+ * above 48 bits of the address of the call, or of the number of the way to it (guard_way.c). It is
+ * what comes with a get. */
 typedef uint64_t caller;
+
+/* How many calls on the way are noted, as the environment asks. */
+extern unsigned int guard_calls;
+uintptr_t guard_way_to(const void *return_address);
 
 #define ADDRESS_BITS 48
 #define NEVER_PUT 2 /* what the elements are got by before they have an object */
@@ -27,10 +35,11 @@ caller_of(const void *return_address)
 {
 	unsigned int lcore = rte_lcore_id();
 	uint64_t who = lcore == LCORE_ID_ANY ? 1 : (uint64_t)lcore + 2;
-
 	/* (a byte before where it goes on is still of the call, as addr2line wants it) */
-	return who << ADDRESS_BITS |
-		(((uintptr_t)return_address - 1) & ((UINT64_C(1) << ADDRESS_BITS) - 1));
+	uintptr_t at = likely(guard_calls == 0) ? (uintptr_t)return_address - 1
+						: guard_way_to(return_address);
+
+	return who << ADDRESS_BITS | (at & ((UINT64_C(1) << ADDRESS_BITS) - 1));
 }
 
 /* Of an element that is in the pool, who put it there, and who had got it before. The one is 0 where
@@ -68,13 +77,19 @@ struct guard_pool {
 	struct guard_pool *next; /* in the list of all pools */
 };
 
+/* ---- guard_way.c ---- */
+
+void guard_way_begin(void);			      /* reads what the environment asks, once */
+const uintptr_t *guard_way_calls(uintptr_t number); /* those of a way, or NULL for an address */
+
 /* ---- guard_log.c ---- */
 
 /* Writes a place in the code as MODULE+0xOFFSET, as addr2line -e MODULE 0xOFFSET takes it, into
- * PLACE_TEXT bytes, and answers them. */
+ * PLACE_TEXT bytes, and answers them; where calls are noted, those on the way to it behind it, as
+ * "app+0x8aa8 (app+0x273b, app+0x2401)". */
 const char *guard_place_text(caller by, char *text);
 
-/* Writes "lcore 3" or "no lcore" into PLACE_TEXT bytes, and answers them. */
+/* Writes "lcore 3" or "no lcore" into CALL_TEXT bytes, and answers them. */
 const char *guard_lcore_text(caller by, char *text);
 
 /* Each of these is one line at most. No lock is held by whoever calls. */
@@ -84,7 +99,7 @@ void guard_log_left_out(struct guard_pool *p); /* where lines were left out, how
 void guard_log_fault(struct guard_pool *p, const char *call, uint32_t cause);
 void guard_log_end(struct guard_pool *p, uint64_t changes_left);
 void guard_log_cache(const struct rte_mempool *mp);
-void guard_log_wish(const char *wish);
+void guard_log_wish(const char *name, const char *wish, unsigned int most);
 
 /* ---- guard_report.c ---- */
 

@@ -147,7 +147,7 @@ int
 mbufpool_guard_report(FILE *out, const struct rte_mempool *mp)
 {
 	struct guard_pool *p = pool_of(mp);
-	char lcore[PLACE_TEXT], place[PLACE_TEXT];
+	char lcore[CALL_TEXT], place[PLACE_TEXT];
 	struct tallies t;
 	uint32_t i;
 
@@ -173,7 +173,7 @@ int
 mbufpool_guard_list(FILE *out, const struct rte_mempool *mp, unsigned int most)
 {
 	struct guard_pool *p = pool_of(mp);
-	char lcore[PLACE_TEXT], place[PLACE_TEXT];
+	char lcore[CALL_TEXT], place[PLACE_TEXT];
 	uint32_t element;
 	caller by;
 
@@ -229,7 +229,7 @@ tell_pools(struct rte_tel_data *data)
 static void
 tell_tallies(const struct tallies *t, struct rte_tel_data *lines, uint64_t *rest)
 {
-	char line[2 * PLACE_TEXT + 32], lcore[PLACE_TEXT], place[PLACE_TEXT];
+	char line[CALL_TEXT + PLACE_TEXT + 32], lcore[CALL_TEXT], place[PLACE_TEXT];
 	uint32_t i;
 
 	rte_tel_data_start_array(lines, RTE_TEL_STRING_VAL);

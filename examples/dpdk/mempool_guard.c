@@ -54,7 +54,7 @@ cache_of(const struct rte_mempool *mp, unsigned int workers)
 		cache = strtoul(wish, &end, 10);
 		if (end != wish && *end == 0 && cache <= MAX_CACHE)
 			return RTE_MIN(cache, most);
-		guard_log_wish(wish);
+		guard_log_wish("MBUFPOOL_GUARD_CACHE", wish, MAX_CACHE);
 	}
 	if (mp->cache_size != 0 || fair < LEAST_CACHE)
 		return 0;
@@ -136,6 +136,7 @@ handler_alloc(struct rte_mempool *mp)
 
 	if (mp->size > MAX_SIZE)
 		return -EINVAL;
+	guard_way_begin();
 	p = rte_zmalloc_socket("mbufpool_guard", sizeof(*p), RTE_CACHE_LINE_SIZE, mp->socket_id);
 	if (p == NULL)
 		return -ENOMEM;
