@@ -31,9 +31,8 @@ uintptr_t guard_way_to(const void *return_address);
 #define NEVER_PUT 2 /* what the elements are got by before they have an object */
 
 static __rte_always_inline caller
-caller_of(const void *return_address)
+caller_of(unsigned int lcore, const void *return_address)
 {
-	unsigned int lcore = rte_lcore_id();
 	uint64_t who = lcore == LCORE_ID_ANY ? 1 : (uint64_t)lcore + 2;
 	/* (a byte before where it goes on is still of the call, as addr2line wants it) */
 	uintptr_t at = likely(guard_calls == 0) ? (uintptr_t)return_address - 1

@@ -171,11 +171,10 @@ handler_free(struct rte_mempool *mp)
 
 /* ---- gets ---- */
 
-static inline struct worker *
-own_worker(struct guard_pool *p)
+/* The worker of an lcore, or NULL where it hasn't one of its own. */
+static __rte_always_inline struct worker *
+own_worker(struct guard_pool *p, unsigned int lcore)
 {
-	unsigned int lcore = rte_lcore_id();
-
 	return likely(lcore < RTE_MAX_LCORE) ? p->own[lcore] : NULL;
 }
 
@@ -244,9 +243,8 @@ look_at_end(struct guard_pool *p, struct worker *own)
 }
 
 static __rte_always_inline uint32_t
-get(struct guard_pool *p, caller by, uint32_t *out, size_t n)
+get(struct guard_pool *p, struct worker *own, caller by, uint32_t *out, size_t n)
 {
-	struct worker *own = own_worker(p);
 	uint32_t cause, calls;
 
 	if (likely(own != NULL)) {
@@ -265,21 +263,32 @@ get(struct guard_pool *p, caller by, uint32_t *out, size_t n)
 
 /* A refused get gives back what it has. */
 static __rte_noinline int
-refuse_get(struct guard_pool *p, void *const *objects, unsigned int n, uint32_t cause);
+refuse_get(struct guard_pool *p, struct worker *own, void *const *objects, unsigned int n,
+	uint32_t cause);
 
 static __rte_always_inline int
-dequeue(struct guard_pool *p, void **objects, unsigned int n, caller by)
+dequeue(struct guard_pool *p, void **objects, unsigned int n, unsigned int lcore, caller by)
 {
 	uint32_t list[BURST], cause;
 	unsigned int i, k, done;
+	struct worker *own;
 
 	if (unlikely(p == NULL))
 		return -ENOBUFS;
+	own = own_worker(p, lcore);
+	/* (one object is most often asked for, and put: without loops it takes a sixth less) */
+	if (n == 1) {
+		cause = get(p, own, by, list, 1);
+		if (unlikely(cause != 0))
+			return refuse_get(p, own, objects, 0, cause);
+		objects[0] = p->objects[list[0]];
+		return 0;
+	}
 	for (done = 0; done < n; done += k) {
 		k = RTE_MIN(n - done, (unsigned int)BURST);
-		cause = get(p, by, list, k);
+		cause = get(p, own, by, list, k);
 		if (unlikely(cause != 0))
-			return refuse_get(p, objects, done, cause);
+			return refuse_get(p, own, objects, done, cause);
 		for (i = 0; i < k; i++)
 			objects[done + i] = p->objects[list[i]];
 	}
@@ -301,9 +310,9 @@ element_of(const struct guard_pool *p, const void *object)
 }
 
 static __rte_always_inline uint32_t
-put_list(struct guard_pool *p, uint32_t *list, uint64_t *words, size_t n, uint64_t *taken)
+put_list(struct guard_pool *p, struct worker *own, uint32_t *list, uint64_t *words, size_t n,
+	uint64_t *taken)
 {
-	struct worker *own = own_worker(p);
 	uint32_t cause;
 
 	if (likely(own != NULL))
@@ -345,10 +354,10 @@ tell_refused(struct guard_pool *p, const uint32_t *list, size_t n, uint32_t caus
 
 /* Puts a list as far as it is out. */
 static __rte_always_inline int
-put(struct guard_pool *p, uint32_t *list, uint64_t *words, size_t n, caller by)
+put(struct guard_pool *p, struct worker *own, uint32_t *list, uint64_t *words, size_t n, caller by)
 {
 	uint64_t taken = 0;
-	uint32_t cause = put_list(p, list, words, n, &taken);
+	uint32_t cause = put_list(p, own, list, words, n, &taken);
 
 	note_pasts(p, list, words, taken, by);
 	if (likely(cause == 0))
@@ -389,15 +398,19 @@ put_unknown(struct guard_pool *p, void *object, caller by)
 
 /* What is no object of the pool is refused, one by one, and the rest of the list is put. */
 static __rte_always_inline int
-enqueue(struct guard_pool *p, void *const *objects, unsigned int n, caller by)
+enqueue(struct guard_pool *p, void *const *objects, unsigned int n, unsigned int lcore, caller by)
 {
 	uint64_t words[BURST];
 	uint32_t list[BURST];
 	unsigned int i, k, done;
+	struct worker *own;
 	int err = 0;
 
 	if (unlikely(p == NULL))
 		return -ENOBUFS;
+	own = own_worker(p, lcore);
+	if (n == 1 && likely((list[0] = element_of(p, objects[0])) != p->size))
+		return put(p, own, list, words, 1, by);
 	for (done = 0; done < n; done += i) {
 		k = RTE_MIN(n - done, (unsigned int)BURST);
 		for (i = 0; i < k; i++) {
@@ -405,7 +418,7 @@ enqueue(struct guard_pool *p, void *const *objects, unsigned int n, caller by)
 			if (unlikely(list[i] == p->size))
 				break;
 		}
-		if (likely(i > 0) && unlikely(put(p, list, words, i, by) != 0))
+		if (likely(i > 0) && unlikely(put(p, own, list, words, i, by) != 0))
 			err = -ENOBUFS;
 		if (unlikely(i < k)) {
 			if (put_unknown(p, objects[done + i], by) != 0)
@@ -417,9 +430,9 @@ enqueue(struct guard_pool *p, void *const *objects, unsigned int n, caller by)
 }
 
 static __rte_noinline int
-refuse_get(struct guard_pool *p, void *const *objects, unsigned int n, uint32_t cause)
+refuse_get(struct guard_pool *p, struct worker *own, void *const *objects, unsigned int n,
+	uint32_t cause)
 {
-	struct worker *own = own_worker(p);
 	uint32_t list[BURST];
 	unsigned int i, k, done;
 
@@ -443,8 +456,9 @@ refuse_get(struct guard_pool *p, void *const *objects, unsigned int n, uint32_t 
 /* Puts the elements that got objects, in one list where there is memory: one of more than a cache
  * takes goes to the stack, where each lcore can get it. */
 static void
-put_new(struct guard_pool *p, uint32_t from, caller by)
+put_new(struct guard_pool *p, uint32_t from, unsigned int lcore, caller by)
 {
+	struct worker *own = own_worker(p, lcore);
 	uint32_t n = p->known - from, most = n, few[BURST], *list, i, k;
 	uint64_t few_words[BURST], *words;
 
@@ -458,7 +472,7 @@ put_new(struct guard_pool *p, uint32_t from, caller by)
 		k = RTE_MIN(p->known - from, most);
 		for (i = 0; i < k; i++)
 			(most == n ? list : few)[i] = from + i;
-		put(p, most == n ? list : few, most == n ? words : few_words, k, by);
+		put(p, own, most == n ? list : few, most == n ? words : few_words, k, by);
 	}
 	free(list);
 	free(words);
@@ -469,7 +483,8 @@ static int
 handler_populate(struct rte_mempool *mp, unsigned int max_objs, void *vaddr, rte_iova_t iova,
 	size_t len, rte_mempool_populate_obj_cb_t *obj_cb, void *obj_cb_arg)
 {
-	caller by = caller_of(__builtin_return_address(0));
+	unsigned int lcore = rte_lcore_id();
+	caller by = caller_of(lcore, __builtin_return_address(0));
 	struct guard_pool *p = mp->pool_data;
 	uint32_t known = p->known;
 	int populated;
@@ -485,7 +500,7 @@ handler_populate(struct rte_mempool *mp, unsigned int max_objs, void *vaddr, rte
 	p->filling_end = 0;
 	if (p->known == known)
 		p->places.nb_chunks--;
-	put_new(p, known, by);
+	put_new(p, known, lcore, by);
 	return populated;
 }
 
@@ -496,13 +511,19 @@ handler_populate(struct rte_mempool *mp, unsigned int max_objs, void *vaddr, rte
 static int
 handler_enqueue(struct rte_mempool *mp, void *const *objects, unsigned int n)
 {
-	return enqueue(mp->pool_data, objects, n, caller_of(__builtin_return_address(0)));
+	unsigned int lcore = rte_lcore_id();
+
+	return enqueue(mp->pool_data, objects, n, lcore,
+		caller_of(lcore, __builtin_return_address(0)));
 }
 
 static int
 handler_dequeue(struct rte_mempool *mp, void **objects, unsigned int n)
 {
-	return dequeue(mp->pool_data, objects, n, caller_of(__builtin_return_address(0)));
+	unsigned int lcore = rte_lcore_id();
+
+	return dequeue(mp->pool_data, objects, n, lcore,
+		caller_of(lcore, __builtin_return_address(0)));
 }
 
 /* How many are in the pool, by a look at each element. */
@@ -515,7 +536,7 @@ handler_get_count(const struct rte_mempool *mp)
 
 	if (p == NULL)
 		return 0;
-	own = own_worker(p);
+	own = own_worker(p, rte_lcore_id());
 	if (own != NULL)
 		return p->size - mbufpool_guard_out(&own->guard);
 	rte_spinlock_lock(&p->lock);
