@@ -489,17 +489,15 @@ handler_populate(struct rte_mempool *mp, unsigned int max_objs, void *vaddr, rte
 	uint32_t known = p->known;
 	int populated;
 
-	if (p->places.nb_chunks == MAX_CHUNKS)
+	if (!object_chunk_begin(&p->places))
 		return -ENOSPC;
-	p->places.nb_chunks++;
 	p->filling = (uintptr_t)vaddr;
 	p->filling_end = p->filling + len;
 	populated = rte_mempool_op_populate_default(
 		mp, max_objs, vaddr, iova, len, obj_cb, obj_cb_arg);
 	p->filling = 0;
 	p->filling_end = 0;
-	if (p->known == known)
-		p->places.nb_chunks--;
+	object_chunk_end(&p->places);
 	put_new(p, known, lcore, by);
 	return populated;
 }

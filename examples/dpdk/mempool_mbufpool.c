@@ -177,12 +177,12 @@ set_changes(struct mbufpool_renewing_limits *limits, const char *text)
 static uint32_t
 get_all_numbers(struct pool *p)
 {
-	uint32_t *all = calloc(p->numbers.places, sizeof(*all)), cause;
+	uint32_t *all = calloc(p->numbers.places.all, sizeof(*all)), cause;
 
 	if (all == NULL)
 		return MBUFPOOL_NO_MEMORY;
-	cause = p->renewing == NULL ? checked_get(&p->checked, all, p->numbers.places)
-				    : mbufpool_renewing_get(p->renewing, 0, all, p->numbers.places);
+	cause = p->renewing == NULL ? checked_get(&p->checked, all, p->numbers.places.all)
+				    : mbufpool_renewing_get(p->renewing, 0, all, p->numbers.places.all);
 	free(all);
 	return cause;
 }
@@ -221,7 +221,7 @@ pool_alloc(struct rte_mempool *mp, int is_checked)
 	p->name = mp->name;
 	rte_spinlock_init(&p->lock);
 	err = init_numbers(&p->numbers, mp);
-	limits.population = p->numbers.places;
+	limits.population = p->numbers.places.all;
 	limits.users = set_users(p);
 	if (err == 0)
 		err = set_changes(&limits, getenv("MBUFPOOL_CHANGES"));
@@ -247,9 +247,12 @@ checked_alloc(struct rte_mempool *mp)
 	return pool_alloc(mp, 1);
 }
 
+/* (a mempool that never had objects has no pool) */
 static void
 handler_free(struct rte_mempool *mp)
 {
+	if (mp->pool_data == NULL)
+		return;
 	free_pool(mp->pool_data);
 	mp->pool_data = NULL;
 }
@@ -262,13 +265,13 @@ handler_populate(struct rte_mempool *mp, unsigned int max_objs, void *vaddr, rte
 	size_t len, rte_mempool_populate_obj_cb_t *obj_cb, void *obj_cb_arg)
 {
 	struct pool *p = mp->pool_data;
-	int populated = begin_chunk(&p->numbers);
+	int populated;
 
-	if (populated != 0)
-		return populated;
+	if (!object_chunk_begin(&p->numbers.places))
+		return -ENOSPC;
 	populated = rte_mempool_op_populate_default(
 		mp, max_objs, vaddr, iova, len, obj_cb, obj_cb_arg);
-	end_chunk(&p->numbers);
+	object_chunk_end(&p->numbers.places);
 	return populated;
 }
 
@@ -276,11 +279,10 @@ handler_populate(struct rte_mempool *mp, unsigned int max_objs, void *vaddr, rte
 static int
 add_object(struct pool *p, void *object)
 {
-	uint32_t number = number_of_new(&p->numbers, object);
+	uint32_t number = number_new(&p->numbers, object);
 
 	if (number == NO_NUMBER)
 		return -EINVAL;
-	note_new(&p->numbers, object, number);
 	if (p->renewing != NULL)
 		mbufpool_renewing_put(p->renewing, 0, &number, 1);
 	else if (checked_put(&p->checked, &number, 1) != 0)
@@ -441,6 +443,8 @@ handler_get_count(const struct rte_mempool *mp)
 	struct pool *p = mp->pool_data;
 	unsigned int count;
 
+	if (p == NULL)
+		return 0;
 	if (p->renewing != NULL)
 		return mbufpool_renewing_count(p->renewing, user_of(p));
 	rte_spinlock_lock(&p->lock);

@@ -59,6 +59,24 @@ object_places_begin(struct object_places *places, struct rte_mempool *mp)
 	return 1;
 }
 
+/* A memory chunk is to be filled with objects. Says whether there is room for one more chunk. */
+static inline int
+object_chunk_begin(struct object_places *places)
+{
+	if (places->nb_chunks == MAX_CHUNKS)
+		return 0;
+	places->nb_chunks++;
+	return 1;
+}
+
+/* It was filled. (one in which no object was placed isn't kept) */
+static inline void
+object_chunk_end(struct object_places *places)
+{
+	if (places->chunks[places->nb_chunks - 1].bytes == 0)
+		places->nb_chunks--;
+}
+
 /* How many strides fit. Two objects of a chunk, which are a stride apart at least, differ in it. */
 static inline uint32_t
 object_strides(uint64_t inverse, uintptr_t bytes)
