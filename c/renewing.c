@@ -25,7 +25,7 @@
  * seen to by the one that waits, by membarrier(2): each thread passes a full barrier between that call's
  * begin and its end. If a user wrote its number before that barrier, the one that waits sees it, and if
  * after, the user reads the new state. Where the kernel has no such call, each user makes an exchange of
- * its number. Within a call a user may read the state again, and use what it says then: until the user
+ * its number before it reads a state that it makes use of. Within a call a user may read the state again, and use what it says then: until the user
  * leaves nothing is freed, and there is no third stack.
  *
  * Locks are taken in this order: that of user 0, that of what is kept. */
@@ -80,13 +80,13 @@ struct user {
 #define IS_SLOW 1   /* calls have to look further than to the one stack: */
 #define IS_BESIDE 2 /* there is an old one beside it; or it is held, or something is kept */
 #define IS_SECOND 4 /* puts go to stack 1, else to stack 0 */
-#define ONE_MORE 8  /* is added each time that something was kept, or taken from there */
+#define HAS_FENCES 8 /* each call has one, as there is no membarrier: it is slow then, too */
+#define ONE_MORE 16 /* is added each time that something was kept, or taken from there */
 
 struct mbufpool_renewing {
 	struct user user[MOST_USERS];
 	struct stack stacks[2];
 	LINE uint64_t state;
-	int has_fences; /* each call has one: there is no membarrier */
 	uint32_t population, users, tries;
 	uint64_t start, margin;
 	uint64_t floor; /* with so many changes left a stack can be emptied, and no more is put there */
@@ -96,7 +96,7 @@ struct mbufpool_renewing {
 	uint32_t kept, nb_kept;	 /* the first that is kept, or NONE, and how many */
 	uint32_t *next;		 /* of each that is kept: the next one, or NONE */
 	LINE int is_renewing;
-	int is_ending;
+	uint32_t is_ending;
 	uint32_t told; /* a bit for each thing that was told */
 	uint64_t times;
 };
@@ -196,7 +196,7 @@ static void lock_kept(struct mbufpool_renewing *p)
 static void unlock_kept_on(struct mbufpool_renewing *p, uint64_t state)
 {
 	state = (state & ~(uint64_t)IS_SLOW) + ONE_MORE;
-	if (state & IS_BESIDE || peek(&new_of(p, state)->is_held) || p->nb_kept > 0)
+	if (state & (IS_BESIDE | HAS_FENCES) || peek(&new_of(p, state)->is_held) || p->nb_kept > 0)
 		state |= IS_SLOW;
 	__atomic_store_n(&p->state, state, __ATOMIC_SEQ_CST);
 	unlock(&p->kept_lock);
@@ -252,27 +252,33 @@ static inline uint32_t number_of(const struct user *u)
 	return (uint32_t)(u - u->pool->user);
 }
 
+static apart void look(struct user *u);
+
 /* Begins a call, and answers its odd number. (the number is written by a release, and `leave` writes it
  * so: who reads it sees what the calls before did, also where another thread made them) */
-static inline uint64_t enter(const struct mbufpool_renewing *p, struct user *u)
+static inline uint64_t enter(struct user *u)
 {
 	uint64_t call = u->calls + 1;
 
-	if (unlikely(p->has_fences)) {
-		(void)__atomic_exchange_n(&u->calls, call, __ATOMIC_SEQ_CST);
-		return call;
-	}
 	__atomic_store_n(&u->calls, call, __ATOMIC_RELEASE);
 	__atomic_signal_fence(__ATOMIC_SEQ_CST); /* the compiler keeps the order, and membarrier the processor */
+	if (unlikely((call & u->look_mask) == 1))
+		look(u);
 	return call;
 }
 
-static apart void look(struct user *u);
+/* The state within a call, where it isn't a usual one: of a pool that has fences, behind one. */
+static inline uint64_t state_within(struct user *u, uint64_t state)
+{
+	if (state & HAS_FENCES) {
+		(void)__atomic_exchange_n(&u->calls, u->calls, __ATOMIC_SEQ_CST);
+		state = state_of(u->pool);
+	}
+	return state;
+}
 
 static inline void leave(struct user *u, uint64_t call)
 {
-	if (unlikely((call & u->look_mask) == 1))
-		look(u);
 	__atomic_store_n(&u->calls, call + 1, __ATOMIC_RELEASE);
 }
 
@@ -351,10 +357,11 @@ static apart void keep_put(struct mbufpool_renewing *p, const uint32_t *list, si
 }
 
 /* A put where there are two stacks, or something is kept. It changes the new stack twice at most. */
-static apart uint32_t put_slowly(struct mbufpool_renewing *p, uint32_t user, struct stack *now,
-	const uint32_t *list, size_t n)
+static apart uint32_t put_slowly(struct user *u, uint64_t state, const uint32_t *list, size_t n)
 {
-	uint32_t cause;
+	struct mbufpool_renewing *p = u->pool;
+	struct stack *now = new_of(p, state_within(u, state));
+	uint32_t user = number_of(u), cause;
 
 	if (peek(&now->is_held))
 		return n > 0 ? MBUFPOOL_HEAD_SPENT : 0;
@@ -409,8 +416,8 @@ static void wait_for_all(struct mbufpool_renewing *p)
 	uint64_t calls;
 	uint32_t k;
 
-	for (round = 0; !p->has_fences && membarrier(MEMBARRIER_CMD_PRIVATE_EXPEDITED) != 0 &&
-		!__atomic_load_n(&p->is_ending, __ATOMIC_RELAXED);
+	for (round = 0; !(state_of(p) & HAS_FENCES) && membarrier(MEMBARRIER_CMD_PRIVATE_EXPEDITED) != 0 &&
+		!peek(&p->is_ending);
 		round++)
 		nap(round);
 	for (k = 0; k < p->users; k++) {
@@ -505,11 +512,6 @@ static uint64_t changes_left(struct mbufpool_renewing *p)
 	return left;
 }
 
-static int is_ending(const struct mbufpool_renewing *p)
-{
-	return __atomic_load_n(&p->is_ending, __ATOMIC_RELAXED);
-}
-
 /* What the thread runs: it tries until the stack has more changes left than the margin. */
 static void *run_renewal(void *arg)
 {
@@ -526,7 +528,7 @@ static void *run_renewal(void *arg)
 		may_tell_again(p, MBUFPOOL_PUT_KEPT);
 		__atomic_fetch_add(&p->times, 1, __ATOMIC_RELAXED);
 		tell(p, MBUFPOOL_RENEWED, 0);
-	} while (!is_ending(p) && changes_left(p) <= p->margin);
+	} while (!peek(&p->is_ending) && changes_left(p) <= p->margin);
 	__atomic_store_n(&p->is_renewing, 0, __ATOMIC_RELEASE); /* the pool may be gone from here on */
 	return NULL;
 }
@@ -571,7 +573,7 @@ static void hold(struct mbufpool_renewing *p, struct stack *s)
 static apart void look(struct user *u)
 {
 	struct mbufpool_renewing *p = u->pool;
-	struct stack *now = new_of(p, state_of(p));
+	struct stack *now = new_of(p, state_within(u, state_of(p)));
 	uint64_t left = mbufpool_seat_changes_left(&now->places[number_of(u)].seat);
 
 	if (left <= p->floor && !peek(&now->is_held))
@@ -590,7 +592,7 @@ static apart void look(struct user *u)
 static apart uint32_t get_carefully(struct user *u, uint32_t *out, size_t n)
 {
 	struct mbufpool_renewing *p = u->pool;
-	uint64_t call = enter(p, u), state = state_of(p);
+	uint64_t call = enter(u), state = state_within(u, state_of(p));
 	uint32_t user = number_of(u), cause;
 
 	if (state & IS_SLOW) {
@@ -608,7 +610,7 @@ static apart uint32_t get_carefully(struct user *u, uint32_t *out, size_t n)
 static inline uint32_t get(struct mbufpool_renewing *p, uint32_t user, uint32_t *out, size_t n)
 {
 	struct user *u = &p->user[user];
-	uint64_t call = enter(p, u), state = state_of(p);
+	uint64_t call = enter(u), state = state_of(p);
 	uint32_t cause;
 
 	if (unlikely(state & IS_SLOW))
@@ -624,11 +626,11 @@ static inline uint32_t get(struct mbufpool_renewing *p, uint32_t user, uint32_t 
 static inline void put(struct mbufpool_renewing *p, uint32_t user, const uint32_t *list, size_t n)
 {
 	struct user *u = &p->user[user];
-	uint64_t call = enter(p, u), state = state_of(p);
+	uint64_t call = enter(u), state = state_of(p);
 	uint32_t cause;
 
 	if (unlikely(state & IS_SLOW))
-		cause = put_slowly(p, user, new_of(p, state), list, n);
+		cause = put_slowly(u, state, list, n);
 	else if (state & IS_SECOND)
 		cause = mbufpool_seat_put(&p->stacks[1].places[user].seat, list, n);
 	else
@@ -662,10 +664,7 @@ uint32_t mbufpool_renewing_get(struct mbufpool_renewing *p, uint32_t user, uint3
 
 void mbufpool_renewing_put(struct mbufpool_renewing *p, uint32_t user, const uint32_t *list, size_t n)
 {
-	if (likely(user != 0))
-		put(p, user, list, n);
-	else
-		put_locked(p, list, n);
+	likely(user != 0) ? put(p, user, list, n) : put_locked(p, list, n);
 }
 
 /* What is in all places together, under the lock under which it is moved. */
@@ -687,7 +686,7 @@ static uint64_t count_together(struct mbufpool_renewing *p, uint32_t user)
 static uint64_t count(struct mbufpool_renewing *p, uint32_t user)
 {
 	struct user *u = &p->user[user];
-	uint64_t call = enter(p, u), state = state_of(p), all;
+	uint64_t call = enter(u), state = state_within(u, state_of(p)), all;
 
 	if (state & IS_SLOW)
 		all = count_together(p, user);
@@ -750,7 +749,8 @@ static void set_limits(struct mbufpool_renewing *p, const struct mbufpool_renewi
 
 static void begin(struct mbufpool_renewing *p)
 {
-	p->has_fences = membarrier(MEMBARRIER_CMD_REGISTER_PRIVATE_EXPEDITED) != 0;
+	if (membarrier(MEMBARRIER_CMD_REGISTER_PRIVATE_EXPEDITED) != 0)
+		p->state = HAS_FENCES | IS_SLOW;
 	p->kept = NONE;
 	if (p->hooks.start == NULL)
 		p->hooks.start = start_thread;
@@ -789,7 +789,7 @@ void mbufpool_renewing_end(struct mbufpool_renewing *p)
 {
 	unsigned int round;
 
-	__atomic_store_n(&p->is_ending, 1, __ATOMIC_RELAXED);
+	set(&p->is_ending, 1);
 	for (round = 0; __atomic_load_n(&p->is_renewing, __ATOMIC_ACQUIRE); round++)
 		nap(round);
 	end_stack(new_of(p, state_of(p)));
