@@ -13,24 +13,36 @@
  *                            over which a packet passes to another worker; a pool of packets that
  *                            is closed leaves a statement (struct mbufpool_ending)
  *
- * Every call answers 0, or the number of a refusal (enum mbufpool_refusal); after a refusal nothing
- * has changed but for what its line says. Calls of another type answer a count, as their lines say,
- * and the calls that end a handle nothing.
+ * What a call answers:
+ *
+ *   Every call answers 0, or the number of a refusal (enum mbufpool_refusal). Calls of another type answer a count, as their comments say, and the calls that end
+ *   a handle nothing. A list of refusals has them in the order in which they are looked for: of two
+ *   causes the first is answered. After a refusal nothing has changed, and what the call would have
+ *   written to is as it was, but for what its comment says.
+ *
+ *   A handle with zeros is safe in every call, which answers MBUFPOOL_STRANGER, or a count of 0. In the
+ *   lists below MBUFPOOL_STRANGER without a word means that. What stands before it in a list comes
+ *   before it, too: so a get or a put of no elements by such a handle is answered 0 where the list says
+ *   so.
+ *
+ *   Memory is taken, and MBUFPOOL_NO_MEMORY answered, by the calls that open, split or close a pool
+ *   alone; the two that write a statement take some for a while, and answer 0 where there is none.
  *
  * What the caller owes, and nothing checks:
  *
  *   handles    A handle begins as zeros (MBUFPOOL_NONE), and is then changed by the calls below
  *              alone. It is not copied: two structs with one pointer are two owners of one seat.
  *              One thread at a time uses it; it passes to another thread by a lock, a thread's
- *              start or join, or a sequentially consistent atomic. A handle with zeros is safe in
- *              every call, which answers MBUFPOOL_STRANGER, or a count of 0.
+ *              start or join, or a sequentially consistent atomic.
  *   closing    One thread at a time closes a pool: no two calls of mbufpool_close that run at once
  *              are given workers of one pool.
  *   memory     `out` has room for n of its kind and `list` has n numbers, n > 0 or not. What the
  *              pointers of one call lead to doesn't overlap (two handles are two structs), and is
  *              the call's alone while it runs.
- *   elements   (seats alone) each number that is put was got by a seat of this pool, by whichever
- *              thread, and not put since. See mbufpool_seat_put.
+ *   elements   (seats alone) Each number that is put was got by a seat of this pool, by whichever
+ *              thread, and not put since: so a list has it once. It doesn't matter whether that seat
+ *              is ended by now. An element passes from thread to thread as a handle does, or by any
+ *              exchange of theirs that orders memory.
  *   process    malloc, realloc and free are of one allocator and give blocks aligned as C asks; no
  *              call is made from a signal handler, or in a forked child of a process with threads.
  *
@@ -46,256 +58,921 @@
 extern "C" {
 #endif
 
+/** Why a call was refused. */
 enum mbufpool_refusal {
-	MBUFPOOL_BAD_POOL = 1,		/* limits out of range */
+	MBUFPOOL_BAD_POOL = 1,		/**< limits out of range */
 	MBUFPOOL_NO_MEMORY = 2,
-	MBUFPOOL_NO_ENTRIES = 3,	/* fewer elements than were asked for were counted */
-	MBUFPOOL_CONTENDED = 4,		/* as many tries were lost to other threads as the pool allows: try again */
-	MBUFPOOL_HEAD_SPENT = 5,	/* 2^40 - 1 changes of the stack were made: the pool is at its end */
-	MBUFPOOL_REF_SPENT = 6,		/* the reference count is at its limit */
+	MBUFPOOL_NO_ENTRIES = 3,	/**< fewer elements than were asked for were counted */
+	MBUFPOOL_CONTENDED = 4,		/**< as many tries were lost to other threads as the pool allows: try
+					 * again */
+	MBUFPOOL_HEAD_SPENT = 5,	/**< 2^40 - 1 changes of the stack were made: the pool is at its
+					 * end */
+	MBUFPOOL_REF_SPENT = 6,		/**< the reference count is at its limit */
 	MBUFPOOL_TOO_MANY_SEGS = 7,
 	MBUFPOOL_NO_ROOM = 8,
 	MBUFPOOL_TOO_SHORT = 9,
 	MBUFPOOL_NOT_DIRECT = 10,
 	MBUFPOOL_NOT_INDIRECT = 11,
 	MBUFPOOL_IN_USE = 12,
-	MBUFPOOL_NO_SUCH_PACKET = 13,	/* no packet stands in that slot: it was freed, say */
-	MBUFPOOL_PACKETS_FULL = 14,	/* all 256 slots of the worker have packets */
+	MBUFPOOL_NO_SUCH_PACKET = 13,	/**< no packet stands in that slot: it was freed, say */
+	MBUFPOOL_PACKETS_FULL = 14,	/**< too few of the worker's 256 slots are free: none, or of a bulk
+					 * fewer than it asks for */
 	MBUFPOOL_DESK_TAKEN = 15,
 	MBUFPOOL_DESK_EMPTY = 16,
 	MBUFPOOL_NO_SUCH_DESK = 17,
-	MBUFPOOL_STRANGER = 19,		/* the handle has no seat or worker, or the pool has no more of them */
+	MBUFPOOL_STRANGER = 19,		/**< the handle has no seat or worker, or the pool has no more of
+					 * them */
 	MBUFPOOL_SAME_PACKET = 23,
-	MBUFPOOL_NOT_IN_HAND = 24,	/* (checked seats alone) the list names what the seat hasn't got, or something twice */
-	MBUFPOOL_MISUSED = 25,	/* (mbufpool_close alone) a handle was used by another thread meanwhile: the workers are ended */
-	MBUFPOOL_NOT_OUT = 26,		/* (guarded pools alone) of what was to be put not each was out */
-	MBUFPOOL_NOBODY = 27,		/* (guarded pools alone) a get with a number below 2 */
-	MBUFPOOL_UNRESTED = 28,		/* (guarded pools alone) a word that must be 0 wasn't: no run has met it */
-	MBUFPOOL_LENT_OUT = 29,		/* (seats, guarded pools) this seat has lent 2^56 elements more than it put: at
-					 * 10^8 a second that takes 22 years; get by another seat, or put by this one */
+	MBUFPOOL_NOT_IN_HAND = 24,	/**< (checked seats alone) the list names what the seat hasn't got, or
+					 * something twice */
+	MBUFPOOL_MISUSED = 25,		/**< (mbufpool_close alone) a handle was used by another thread
+					 * meanwhile: the workers are ended */
+	MBUFPOOL_NOT_OUT = 26,		/**< (guarded pools alone) of what was to be put not each was out */
+	MBUFPOOL_NOBODY = 27,		/**< (guarded pools alone) a get with a number below 2 */
+	MBUFPOOL_UNRESTED = 28,		/**< (guarded pools alone) a word that must be 0 wasn't: no run has
+					 * met it */
+	MBUFPOOL_LENT_OUT = 29,		/**< (seats, guarded pools) this seat has lent its share of the pool,
+					 * 2^56 elements more than it put: at 10^8 a second that takes 22
+					 * years; get by another seat, or put by this one */
 };
 
+/** What each handle begins as. */
 #define MBUFPOOL_NONE { 0 }
 
-/* ---- the bare stack ---- */
+/* ---- the bare stack ----
+ *
+ * What the stack refuses, by a seat here and by whatever is over a stack below:
+ *
+ *   a get   reserves n elements by the stack's length word, and then takes them off its head:
+ *             MBUFPOOL_NO_ENTRIES  the length word counts fewer than n
+ *             MBUFPOOL_CONTENDED   `tries` exchanges of the length word were lost
+ *             MBUFPOOL_HEAD_SPENT  no change of the head is left
+ *             MBUFPOOL_CONTENDED   `tries` exchanges of the head were lost
+ *           What was reserved is given back then. Until that is done others count fewer, and may be
+ *           refused MBUFPOOL_NO_ENTRIES.
+ *   a put   links n elements, and adds them to the head, and to the length word afterwards:
+ *             MBUFPOOL_HEAD_SPENT  as of a get
+ *             MBUFPOOL_CONTENDED   `tries` exchanges of the head were lost
+ *
+ * Each get and each put that succeeds, of whatever length but 0, takes one of 2^40 - 1 changes.
+ *
+ * A seat's share of the pool is 2^56 elements that it can have lent: got, and not put by itself. The
+ * first seat has as much for each seat that isn't split off it yet besides. */
 
-/* A seat, or none where the pointer is null. The pointer is the library's. */
+/** A seat, or none where the pointer is null. The pointer is the library's. */
 struct mbufpool_seat { void *at; };
 
-/* Makes a pool of 1 to 16,777,214 elements, all on the stack, for 1 to 64 seats, and its first
- * seat. `tries`, 1 to 1,000,000, is how many lost tries a call makes before it is refused. A seat
- * that was in `out` is ended. */
+/**
+ * Makes a pool of elements, all on the stack, and its first seat.
+ *
+ * @param population
+ *   How many elements: 1 to 16,777,214.
+ * @param seats
+ *   How many seats can be made of the pool in all, this one and those that are ended by then among
+ *   them: 1 to 64.
+ * @param tries
+ *   How many lost tries a call makes before it is refused MBUFPOOL_CONTENDED: 1 to 1,000,000.
+ * @param out
+ *   Gets the seat. A seat that was in it is ended; where the call is refused, it stays.
+ * @return
+ *   - 0: the pool is made.
+ *   - MBUFPOOL_BAD_POOL: one of the three numbers is out of range.
+ *   - MBUFPOOL_NO_MEMORY: memory was refused for the words of the pool, or for the seat.
+ */
 uint32_t mbufpool_seat_open(uint32_t population, uint32_t seats, uint32_t tries, struct mbufpool_seat *out);
 
-/* The same, of a stack that counts its changes from `start` on, 0 to 2^40 - 1, as if so many had been
- * made before: so the end of a pool can be met in a test. */
-uint32_t mbufpool_seat_open_at(uint32_t population, uint32_t seats, uint32_t tries, uint64_t start, struct mbufpool_seat *out);
+/**
+ * Makes a pool whose stack counts its changes from `start` on, as if so many had been made before: so
+ * the end of a pool can be met in a test.
+ *
+ * @param population, seats, tries, out
+ *   As mbufpool_seat_open has them.
+ * @param start
+ *   How many changes count as made: 0 to 2^40 - 1.
+ * @return
+ *   What mbufpool_seat_open answers; MBUFPOOL_BAD_POOL also where `start` is out of range.
+ */
+uint32_t mbufpool_seat_open_at(uint32_t population, uint32_t seats, uint32_t tries, uint64_t start,
+	struct mbufpool_seat *out);
 
-/* Makes one more seat of the pool, by its first seat.
- * Refused:
- *   MBUFPOOL_STRANGER   the handle has no seat, or the pool has no more of them
- *   MBUFPOOL_LENT_OUT   so much of the first seat's share of the pool is lent that no seat's is left
- *   MBUFPOOL_NO_MEMORY  memory was refused; the first seat has its share of the pool back */
+/**
+ * Makes one more seat of the pool, by its first seat.
+ *
+ * @param seat
+ *   The pool's first seat.
+ * @param out
+ *   Gets the new seat, as mbufpool_seat_open's does.
+ * @return
+ *   - 0: `out` has a seat, with 2^56 elements of the first seat's share of the pool.
+ *   - MBUFPOOL_STRANGER: the handle has no seat, or one that isn't the pool's first, or the pool has no
+ *     more of them.
+ *   - MBUFPOOL_LENT_OUT: so much of the first seat's share of the pool is lent that no seat's is left.
+ *   - MBUFPOOL_NO_MEMORY: memory was refused; the first seat has its share of the pool back.
+ */
 uint32_t mbufpool_seat_split(struct mbufpool_seat *seat, struct mbufpool_seat *out);
 
-/* Gets n elements: all of them, or none. A refused get may have written to `out`.
- * Refused:
- *   MBUFPOOL_STRANGER   the handle has no seat
- *   MBUFPOOL_LENT_OUT   the seat has lent 2^56 elements more than it put, or would have by this list
- *   MBUFPOOL_NO_ENTRIES, MBUFPOOL_CONTENDED, MBUFPOOL_HEAD_SPENT   as their lines say */
+/**
+ * Gets n elements: all of them, or none.
+ *
+ * @param seat
+ *   The seat that lends them to the caller.
+ * @param out
+ *   Gets their numbers, 0 to population - 1, the top of the stack first. A refused get may have written
+ *   to it.
+ * @param n
+ *   How many. Where it is 0 the answer is 0, whatever the handle has.
+ * @return
+ *   - 0: the n elements are the caller's.
+ *   - MBUFPOOL_STRANGER
+ *   - MBUFPOOL_LENT_OUT: the seat has lent its share of the pool, or would have by this list.
+ *   - MBUFPOOL_NO_ENTRIES, MBUFPOOL_CONTENDED, MBUFPOOL_HEAD_SPENT: by the stack, as a get.
+ */
 uint32_t mbufpool_seat_get(struct mbufpool_seat *seat, uint32_t *out, size_t n);
 
-/* Puts n elements back: all of them, or none.
- * Each number was got by a seat of this pool, by whichever thread, and not put since: so the list has
- * it once. It doesn't matter whether that seat is ended by now. An element passes from thread to
- * thread as a handle does, or by any exchange of theirs that orders memory.
- * Refused: MBUFPOOL_STRANGER, MBUFPOOL_CONTENDED and MBUFPOOL_HEAD_SPENT, as their lines say. */
+/**
+ * Puts n elements back: all of them, or none.
+ *
+ * What is owed of them stands at the head of this file, under "elements".
+ *
+ * @param seat
+ *   Any seat of the pool.
+ * @param list
+ *   Their numbers. The last is on top of the stack then.
+ * @param n
+ *   How many, 0 as of a get.
+ * @return
+ *   - 0: they are on the stack.
+ *   - MBUFPOOL_STRANGER
+ *   - MBUFPOOL_HEAD_SPENT, MBUFPOOL_CONTENDED: by the stack, as a put; the caller has them still.
+ */
 uint32_t mbufpool_seat_put(struct mbufpool_seat *seat, const uint32_t *list, size_t n);
 
-/* How many elements the stack's length word counts; 0 where the handle has no seat. While other
- * threads are within calls it may lag behind. To see at the end whether all elements are back: let
- * each seat put what it has got, wait for all threads, and call this by any seat before the seats
- * are ended. What is missing from the population then was not put. */
+/**
+ * Says how many elements are on the stack.
+ *
+ * To see at the end whether all elements are back: let each seat put what it has got, wait for all
+ * threads, and call this by any seat before the seats are ended. What is missing from the population
+ * then was not put.
+ *
+ * @param seat
+ *   Any seat of the pool.
+ * @return
+ *   How many the stack's length word counts, 0 to population; 0 where the handle has no seat. While
+ *   other threads are within calls it may lag behind.
+ */
 uint32_t mbufpool_seat_count(struct mbufpool_seat *seat);
 
-/* How many changes of the stack are left: each get and each put that succeeds takes one, and once none
- * is left each is refused by MBUFPOOL_HEAD_SPENT. By one read; other threads may take some meanwhile.
- * 0 where the handle has no seat. mbufpool_renewing.h has a pool that goes over to a new stack before. */
+/**
+ * Says how many changes of the stack are left, by one read; other threads may take some meanwhile.
+ *
+ * Once none is left each get and each put is refused by MBUFPOOL_HEAD_SPENT, but a get of more than
+ * there is, which is refused before. mbufpool_renewing.h has a pool that goes over to a new stack in time.
+ *
+ * @param seat
+ *   Any seat of the pool.
+ * @return
+ *   0 to 2^40 - 1; 0 also where the handle has no seat.
+ */
 uint64_t mbufpool_seat_changes_left(struct mbufpool_seat *seat);
 
-/* Ends a seat; the handle has zeros then. What the seat has got and not put may still be put, by any
- * other seat; it is lost to the pool where nobody does. The pool's memory is freed with its last seat. */
+/**
+ * Ends a seat. The pool's memory is freed with its last seat.
+ *
+ * What the seat has got and not put may still be put, by any other seat; it is lost to the pool where
+ * nobody does. Once the first seat is ended no more are made.
+ *
+ * @param seat
+ *   The seat; the handle has zeros then.
+ */
 void mbufpool_seat_free(struct mbufpool_seat *seat);
 
-/* ---- the bare stack, checked ---- */
-
-/* One seat of a pool, which keeps a mark for each element that it has got. A list that isn't all in
+/* ---- the bare stack, checked ----
+ *
+ * One seat of a pool, which keeps a mark for each element that it has got. A list that isn't all in
  * its hand is refused by MBUFPOOL_NOT_IN_HAND, and nothing changes: a double free, an element that
  * was never got, a number out of range. So the caller owes nothing of elements, whoever puts what
- * was got; several threads use it in turn, under a lock of theirs. */
+ * was got; several threads use it in turn, under a lock of theirs.
+ *
+ * It loses no try, as nobody else is at its stack, and lends nothing: so it is never refused by
+ * MBUFPOOL_CONTENDED or MBUFPOOL_LENT_OUT. */
+
+/** A checked seat, or none where the pointer is null. The pointer is the library's. */
 struct mbufpool_checked { void *at; };
 
+/**
+ * Makes a pool of elements, all on the stack, with one checked seat.
+ *
+ * @param population, tries, out
+ *   As mbufpool_seat_open has them.
+ * @return
+ *   What mbufpool_seat_open answers; MBUFPOOL_NO_MEMORY also where there is none for the marks.
+ */
 uint32_t mbufpool_checked_open(uint32_t population, uint32_t tries, struct mbufpool_checked *out);
-uint32_t mbufpool_checked_open_at(uint32_t population, uint32_t tries, uint64_t start, struct mbufpool_checked *out);	/* as mbufpool_seat_open_at */
-uint32_t mbufpool_checked_get(struct mbufpool_checked *seat, uint32_t *out, size_t n);	/* as mbufpool_seat_get */
+
+/**
+ * Makes such a pool of a stack that counts its changes from `start` on.
+ *
+ * @param population, tries, start, out
+ *   As mbufpool_seat_open_at has them.
+ * @return
+ *   What mbufpool_checked_open answers; MBUFPOOL_BAD_POOL also for `start`.
+ */
+uint32_t mbufpool_checked_open_at(uint32_t population, uint32_t tries, uint64_t start,
+	struct mbufpool_checked *out);
+
+/**
+ * Gets n elements into the seat's hand: all of them, or none.
+ *
+ * @param seat
+ *   The pool's seat.
+ * @param out, n
+ *   As mbufpool_seat_get has them.
+ * @return
+ *   - 0: the n elements are the caller's.
+ *   - MBUFPOOL_STRANGER
+ *   - MBUFPOOL_NO_ENTRIES, MBUFPOOL_HEAD_SPENT: by the stack, as a get.
+ */
+uint32_t mbufpool_checked_get(struct mbufpool_checked *seat, uint32_t *out, size_t n);
+
+/**
+ * Puts n elements back, whatever they are: all of them, or none.
+ *
+ * @param seat
+ *   The seat that got them.
+ * @param list
+ *   Any numbers.
+ * @param n
+ *   How many, 0 as of a get.
+ * @return
+ *   - 0: they are on the stack, the last on top.
+ *   - MBUFPOOL_STRANGER
+ *   - MBUFPOOL_NOT_IN_HAND: a number isn't in the seat's hand, or stands in the list before.
+ *   - MBUFPOOL_HEAD_SPENT: by the stack, as a put; they are in the seat's hand still.
+ */
 uint32_t mbufpool_checked_put(struct mbufpool_checked *seat, const uint32_t *list, size_t n);
+
+/**
+ * Says how many elements are on the stack.
+ *
+ * @param seat
+ *   The pool's seat.
+ * @return
+ *   0 to population: with what is in the seat's hand that is the population. 0 where the handle has no
+ *   seat.
+ */
 uint32_t mbufpool_checked_count(struct mbufpool_checked *seat);
-uint64_t mbufpool_checked_changes_left(struct mbufpool_checked *seat);	/* as mbufpool_seat_changes_left */
+
+/**
+ * Says how many changes of the stack are left, as mbufpool_seat_changes_left does.
+ *
+ * @param seat
+ *   The pool's seat.
+ * @return
+ *   0 to 2^40 - 1; 0 also where the handle has no seat.
+ */
+uint64_t mbufpool_checked_changes_left(struct mbufpool_checked *seat);
+
+/**
+ * Ends a checked seat, and with it its pool and the pool's memory.
+ *
+ * @param seat
+ *   The seat; the handle has zeros then. What is in its hand is lost.
+ */
 void mbufpool_checked_free(struct mbufpool_checked *seat);
 
-/* ---- the bare stack, guarded ---- */
-
-/* A worker of a guarded pool: a cache of elements, over the stack that all workers of the pool share.
+/* ---- the bare stack, guarded ----
+ *
+ * A worker of a guarded pool: a cache of elements, over the stack that all workers of the pool share.
  * An element is in one place: on the stack, in a worker's cache, or out. While it is out, a word of its
  * own has the number that came with its get. A put takes each number of its list from there by one
  * exchange, so that of two puts of one element one is refused, whichever threads make them and when.
- * So the caller owes nothing of elements: any numbers may be put, by any worker, in any thread. */
+ * So the caller owes nothing of elements: any numbers may be put, by any worker, in any thread.
+ *
+ * How a cache of the size `cache` serves, here and in a worker of packets:
+ *
+ *   a get   of fewer than `cache` is from the cache. Where that has too few it is filled up first, so
+ *           that it has `cache` left. Where the stack hasn't so many, or refuses them, or n + cache is
+ *           above the population, and where n is `cache` or more, all n come from the stack. The stack's
+ *           last refusal is the answer then, and the cache is as before: so a get may be refused though
+ *           cache and stack together have enough.
+ *   a put   is into the cache. Once that is above `cache` by it and reaches three halves of it, all
+ *           beyond `cache` goes to the stack by one put; a list of more than 512 goes there past the
+ *           cache. What the stack refuses isn't lost, nor told: it stays in the cache, and goes there
+ *           with the next. */
+
+/** A worker of a guarded pool, or none where the pointer is null. The pointer is the library's. */
 struct mbufpool_guard { void *at; };
 
-/* Makes a pool of 1 to 16,777,214 elements, all on the stack, for 1 to 64 workers with a cache of 0 to
- * 512 each, 3/2 of it at most the population, and its first worker. `tries` as for a seat. A worker that
- * was in `out` is ended. */
-uint32_t mbufpool_guard_open(uint32_t population, uint32_t cache, uint32_t workers, uint32_t tries, struct mbufpool_guard *out);
+/**
+ * Makes a guarded pool, all its elements on the stack, and its first worker, with an empty cache.
+ *
+ * @param population
+ *   How many elements: 1 to 16,777,214.
+ * @param cache
+ *   How many a worker's cache keeps: 0 to 512, three halves of it, rounded down, at most the population.
+ * @param workers
+ *   How many workers can be made of the pool, counted as the seats of mbufpool_seat_open: 1 to 64.
+ * @param tries
+ *   As mbufpool_seat_open has it.
+ * @param out
+ *   Gets the worker. One that was in it is ended; where the call is refused, it stays.
+ * @return
+ *   - 0: the pool is made.
+ *   - MBUFPOOL_BAD_POOL: one of the four numbers is out of range.
+ *   - MBUFPOOL_NO_MEMORY: there is none for the words, for the places of the elements that are out, or
+ *     for the worker, whose cache has room for the whole population.
+ */
+uint32_t mbufpool_guard_open(uint32_t population, uint32_t cache, uint32_t workers, uint32_t tries,
+	struct mbufpool_guard *out);
 
-/* The same, of a stack that counts its changes from `start` on. To open it takes two of them: refused by
- * MBUFPOOL_HEAD_SPENT where they aren't left. */
-uint32_t mbufpool_guard_open_at(uint32_t population, uint32_t cache, uint32_t workers, uint32_t tries, uint64_t start, struct mbufpool_guard *out);
+/**
+ * Makes a guarded pool of a stack that counts its changes from `start` on. To open it takes two of them.
+ *
+ * @param population, cache, workers, tries, out
+ *   As mbufpool_guard_open has them.
+ * @param start
+ *   As mbufpool_seat_open_at has it.
+ * @return
+ *   - 0: the pool is made.
+ *   - MBUFPOOL_BAD_POOL: one of the five numbers is out of range.
+ *   - MBUFPOOL_NO_MEMORY: as mbufpool_guard_open; some is asked for after the changes are taken.
+ *   - MBUFPOOL_HEAD_SPENT: there aren't two changes left.
+ */
+uint32_t mbufpool_guard_open_at(uint32_t population, uint32_t cache, uint32_t workers, uint32_t tries,
+	uint64_t start, struct mbufpool_guard *out);
 
-/* Makes one more worker of the pool, by its first worker, with an empty cache. Refused as
- * mbufpool_seat_split is. */
+/**
+ * Makes one more worker of the pool, by its first worker, with an empty cache.
+ *
+ * @param worker
+ *   The pool's first worker.
+ * @param out
+ *   Gets the new worker, as mbufpool_guard_open's does.
+ * @return
+ *   - 0: `out` has a worker.
+ *   - MBUFPOOL_STRANGER, MBUFPOOL_LENT_OUT: as mbufpool_seat_split, of workers.
+ *   - MBUFPOOL_NO_MEMORY: memory was refused. Where it is the last of what a split asks for, the pool can
+ *     make one worker fewer from then on, as if one was made and ended.
+ */
 uint32_t mbufpool_guard_split(struct mbufpool_guard *worker, struct mbufpool_guard *out);
 
-/* Gets n elements, from the cache or the stack: all of them, or none. Each is out then, with the number
- * `who`, which is 2 at least, else the answer is MBUFPOOL_NOBODY. Refused as mbufpool_seat_get is, and by
- * MBUFPOOL_UNRESTED. */
+/**
+ * Gets n elements, from the cache or the stack: all of them, or none. Each is out then.
+ *
+ * @param worker
+ *   The worker that lends them to the caller.
+ * @param who
+ *   The number that each has while it is out: 2 or more, whatever that means to the caller.
+ * @param out
+ *   Gets the numbers of the elements. A refused get may have written to it.
+ * @param n
+ *   How many, 0 too.
+ * @return
+ *   - 0: the n elements are the caller's.
+ *   - MBUFPOOL_NOBODY: `who` is below 2.
+ *   - MBUFPOOL_STRANGER
+ *   - MBUFPOOL_LENT_OUT: as mbufpool_seat_get.
+ *   - MBUFPOOL_NO_ENTRIES, MBUFPOOL_CONTENDED, MBUFPOOL_HEAD_SPENT: by the stack, as a get, where the
+ *     cache can't serve it.
+ *   - MBUFPOOL_UNRESTED: the word of an element that was got wasn't 0, which is overwritten memory. The
+ *     n elements, which `out` has, are lost to the pool then: they aren't out, in a cache or on the stack,
+ *     but for those that another thread put meanwhile.
+ */
 uint32_t mbufpool_guard_get(struct mbufpool_guard *worker, uint64_t who, uint32_t *out, size_t n);
 
-/* Puts n numbers, as far as they are out: into the worker's cache, whichever worker got them. The list
- * is put in another order: those that were put first, `*taken` of them, and behind them those that
- * weren't out: put before, put twice in this list, never got, or none of the pool. words[k] is what was
- * found of list[k], as it stands then: the number that came with its get, or 0 where it wasn't out.
- * Answers 0 where all were out, else MBUFPOOL_NOT_OUT; MBUFPOOL_NO_ROOM where `words_n` isn't n, and
- * then nothing was done. What the stack refuses stays in the cache, and goes there with the next. */
-uint32_t mbufpool_guard_put(struct mbufpool_guard *worker, uint32_t *list, size_t n, uint64_t *words, size_t words_n, uint64_t *taken);
+/**
+ * Puts n numbers, as far as they are out: into the worker's cache, whichever worker got them.
+ *
+ * @param worker
+ *   Any worker of the pool.
+ * @param list
+ *   Any numbers. They are put in another order: those that were put first, `*taken` of them, and behind
+ *   them those that weren't out: put before, put twice in this list, never got, or none of the pool.
+ * @param n
+ *   How many numbers.
+ * @param words
+ *   words[k] gets what was found of list[k], as that stands then: the number that came with its get, or 0
+ *   where it wasn't out.
+ * @param words_n
+ *   How many words there is room for: n.
+ * @param taken
+ *   Gets how many were put, 0 to n. After each refusal but MBUFPOOL_NOT_OUT it is 0, and `list` and
+ *   `words` are as they were.
+ * @return
+ *   - 0: all were out, and are put.
+ *   - MBUFPOOL_NO_ROOM: `words_n` isn't n.
+ *   - MBUFPOOL_STRANGER
+ *   - MBUFPOOL_NOT_OUT: not all were out; those that were are put.
+ */
+uint32_t mbufpool_guard_put(struct mbufpool_guard *worker, uint32_t *list, size_t n, uint64_t *words,
+	size_t words_n, uint64_t *taken);
 
-/* How many changes of the stack are left: what a worker's cache can't serve takes one. As of a seat. */
+/**
+ * Says how many changes of the stack are left, as mbufpool_seat_changes_left does: what a worker's cache
+ * can't serve takes one.
+ *
+ * @param worker
+ *   Any worker of the pool.
+ * @return
+ *   0 to 2^40 - 1; 0 also where the handle has no worker.
+ */
 uint64_t mbufpool_guard_changes_left(struct mbufpool_guard *worker);
 
-/* The number that came with the get of an element that is out, or 0: it isn't out, or is none of the
- * pool. */
+/**
+ * Says who has an element: the number that came with its get.
+ *
+ * @param worker
+ *   Any worker of the pool.
+ * @param element
+ *   Any number.
+ * @return
+ *   The number, 2 or more; or 0: the element isn't out, or is none of the pool, or the handle has no
+ *   worker.
+ */
 uint64_t mbufpool_guard_who(struct mbufpool_guard *worker, uint32_t element);
 
-/* How many elements of the pool are out: each word is read once, so what others get and put meanwhile
- * may count or not. All that isn't out is on the stack or in a cache. */
+/**
+ * Says how many elements of the pool are out; all others are on the stack or in a cache.
+ *
+ * @param worker
+ *   Any worker of the pool.
+ * @return
+ *   0 to population; 0 also where the handle has no worker. Each word is read once, so what others get
+ *   and put meanwhile may count or not.
+ */
 uint64_t mbufpool_guard_out(struct mbufpool_guard *worker);
 
-/* Puts the worker's cache onto the stack and ends the worker; the handle has zeros then. What is out may
- * still be put, by any other worker. Where the stack refuses the cache, it is lost. The pool's memory is
- * freed with its last worker. */
+/**
+ * Puts the worker's cache onto the stack and ends the worker. The pool's memory is freed with its last
+ * worker.
+ *
+ * What is out may still be put, by any other worker. Where the stack refuses the cache, it is lost. Once
+ * the first worker is ended no more are made.
+ *
+ * @param worker
+ *   The worker; the handle has zeros then.
+ */
 void mbufpool_guard_end(struct mbufpool_guard *worker);
 
-/* ---- packets ---- */
+/* ---- packets ----
+ *
+ * A packet has 1 to 32 segments. A segment is an element with the offset and the length of its data, and
+ * the length of its buffer. It is direct where it uses its own element's buffer, and indirect where it
+ * uses another's, as a clone's does. The library keeps these numbers; the buffers are the caller's.
+ *
+ * Each call from mbufpool_alloc to mbufpool_flush is one act of its worker. A worker names its packets by
+ * their slots, 0 to 255: a number that stands for none of its packets, since that was freed, chained or
+ * offered, or is above 255, is refused by MBUFPOOL_NO_SUCH_PACKET. What is put back, when the last hold of
+ * an element ends, goes through the cache, as an element that is got: both as a guarded worker's, above.
+ * `out` is written where the answer is 0. */
 
-/* A worker, or none where the pointer is null. The pointer is the library's. */
+/** A worker, or none where the pointer is null. The pointer is the library's. */
 struct mbufpool_worker { void *at; };
 
+/** What a pool of packets is made of. */
 struct mbufpool_limits {
-	uint32_t population;	/* elements, 1 to 16,777,214 */
-	uint32_t cache;		/* elements that a worker's cache keeps, 0 to 512, three halves of it at most the population */
-	uint32_t workers;	/* 1 to 64 */
-	uint32_t desks;		/* 0 to 64 */
-	uint32_t buf;		/* bytes in an element's buffer, 0 to 65,535 */
-	uint32_t ref_limit;	/* the greatest reference count, 1 to 65,535 */
-	uint32_t tries;		/* lost tries before MBUFPOOL_CONTENDED, 1 to 1,000,000 */
+	uint32_t population;	/**< elements, 1 to 16,777,214 */
+	uint32_t cache;		/**< elements that a worker's cache keeps, 0 to 512, three halves of it,
+				 * rounded down, at most the population */
+	uint32_t workers;	/**< 1 to 64 */
+	uint32_t desks;		/**< 0 to 64 */
+	uint32_t buf;		/**< bytes in an element's buffer, 0 to 65,535 */
+	uint32_t ref_limit;	/**< the greatest reference count, 1 to 65,535 */
+	uint32_t tries;		/**< lost tries before MBUFPOOL_CONTENDED, 1 to 1,000,000 */
 };
 
-/* A new packet: its slot in its worker's table, 0 to 255, and its first segment's element. */
+/** A new packet: its slot in its worker's table, 0 to 255, and its first segment's element. */
 struct mbufpool_packet { uint32_t slot, element; };
 
-/* A segment of a packet: its own element, the one whose buffer has its data (another one where the
+/**
+ * A segment of a packet: its own element, the one whose buffer has its data (another one where the
  * segment is a clone's), and in bytes where the data begins there, how long it is, and how long the
- * buffer is. The buffers are the caller's. */
+ * buffer is.
+ */
 struct mbufpool_segment { uint32_t element, buffer; uint16_t off, len, buf; };
 
-/* Makes a pool, and puts its workers into the n handles: worker 1 into out[0], worker n into
- * out[n - 1]. n is limits->workers; with any other it is refused by MBUFPOOL_BAD_POOL. The workers
- * have nothing yet, and all elements are on the common stack. Workers that were in the handles are
- * ended; where the call is refused, they stay. */
+/**
+ * Makes a pool of packets, all its elements on the common stack, and its workers, who have nothing yet.
+ *
+ * @param limits
+ *   What it is made of.
+ * @param out
+ *   The handles, which get the workers: worker 1 out[0], worker n out[n - 1]. Workers that were in them
+ *   are ended; where the call is refused, they stay.
+ * @param n
+ *   How many handles: limits->workers.
+ * @return
+ *   - 0: the pool is made.
+ *   - MBUFPOOL_BAD_POOL: n isn't limits->workers, or a limit is out of range.
+ *   - MBUFPOOL_NO_MEMORY: memory was refused; each worker's cache has room for the whole population.
+ */
 uint32_t mbufpool_open(const struct mbufpool_limits *limits, struct mbufpool_worker *out, size_t n);
 
-/* Ends a worker; the handle has zeros then. What it has is lost to the pool, so free its packets
- * and flush it first, or close the pool instead (mbufpool_close). The pool's memory is freed with its
- * last worker. */
+/**
+ * Ends a worker. The pool's memory is freed with its last worker.
+ *
+ * @param worker
+ *   The worker; the handle has zeros then. What it has is lost to the pool, so free its packets and flush
+ *   it first, or close the pool instead (mbufpool_close).
+ */
 void mbufpool_end(struct mbufpool_worker *worker);
 
-/* Each of these is one act of the worker. A packet is named by its slot; `out` is written where the
- * answer is 0. */
+/**
+ * Makes a packet of one element, without data, in the lowest free slot. Its data begins at byte 128 of the
+ * buffer, or at the end of a shorter one.
+ *
+ * @param worker
+ *   The worker whose packet it is.
+ * @param out
+ *   Gets slot and element.
+ * @return
+ *   - 0: the packet stands.
+ *   - MBUFPOOL_STRANGER
+ *   - MBUFPOOL_PACKETS_FULL: no slot is free.
+ *   - MBUFPOOL_NO_ENTRIES, MBUFPOOL_CONTENDED, MBUFPOOL_HEAD_SPENT: by the stack, as a get of one, where
+ *     the cache can't serve it.
+ */
 uint32_t mbufpool_alloc(struct mbufpool_worker *worker, struct mbufpool_packet *out);
-uint32_t mbufpool_alloc_bulk(struct mbufpool_worker *worker, struct mbufpool_packet *out, size_t n);	/* n packets, or none */
-uint32_t mbufpool_free(struct mbufpool_worker *worker, uint32_t slot);
-uint32_t mbufpool_append(struct mbufpool_worker *worker, uint32_t slot, uint16_t len, uint32_t *pkt_len);
-uint32_t mbufpool_prepend(struct mbufpool_worker *worker, uint32_t slot, uint16_t len, uint32_t *pkt_len);
-uint32_t mbufpool_adj(struct mbufpool_worker *worker, uint32_t slot, uint16_t len, uint32_t *pkt_len);
-uint32_t mbufpool_trim(struct mbufpool_worker *worker, uint32_t slot, uint16_t len, uint32_t *pkt_len);
-uint32_t mbufpool_chain(struct mbufpool_worker *worker, uint32_t head, uint32_t tail);	/* tail's slot is free then */
-uint32_t mbufpool_attach(struct mbufpool_worker *worker, uint32_t slot, uint32_t target);
-uint32_t mbufpool_detach(struct mbufpool_worker *worker, uint32_t slot);
-uint32_t mbufpool_clone(struct mbufpool_worker *worker, uint32_t slot, struct mbufpool_packet *out);
-uint32_t mbufpool_offer(struct mbufpool_worker *worker, uint32_t slot, uint32_t desk);	/* slot is free then */
-uint32_t mbufpool_take(struct mbufpool_worker *worker, uint32_t desk, uint32_t *slot);
-uint32_t mbufpool_count(struct mbufpool_worker *worker, uint32_t slot, uint32_t *references);
-uint32_t mbufpool_pkt_len(struct mbufpool_worker *worker, uint32_t slot, uint32_t *pkt_len);
-uint32_t mbufpool_nb_segs(struct mbufpool_worker *worker, uint32_t slot, uint32_t *segments);
-uint32_t mbufpool_segment(struct mbufpool_worker *worker, uint32_t slot, uint32_t index, struct mbufpool_segment *out);
-uint32_t mbufpool_flush(struct mbufpool_worker *worker);	/* the cache's elements go to the common stack */
 
-/* How many changes of the pool's stack are left: an act that the worker's cache can't serve takes one or
- * more, and once none is left it is refused by MBUFPOOL_HEAD_SPENT, while what the cache has still
- * serves. By one read; other workers may take some meanwhile. 0 where the handle has no worker. A program
- * that is to go on closes the pool before, and opens another. */
+/**
+ * Makes n packets as mbufpool_alloc does, by one get: all of them, or none.
+ *
+ * @param worker
+ *   The worker whose packets they are.
+ * @param out
+ *   Gets slot and element of each.
+ * @param n
+ *   How many: 0 to 256.
+ * @return
+ *   - 0: the packets stand.
+ *   - MBUFPOOL_STRANGER
+ *   - MBUFPOOL_PACKETS_FULL: fewer than n slots are free.
+ *   - MBUFPOOL_NO_ENTRIES, MBUFPOOL_CONTENDED, MBUFPOOL_HEAD_SPENT: as mbufpool_alloc, of n.
+ */
+uint32_t mbufpool_alloc_bulk(struct mbufpool_worker *worker, struct mbufpool_packet *out, size_t n);
+
+/**
+ * Frees a packet: each of its holds ends, of a segment the one of another's buffer first, and an element of
+ * which that was the last is put back. Its slot is free then.
+ *
+ * @param worker
+ *   The worker whose packet it is.
+ * @param slot
+ *   The packet.
+ * @return
+ *   - 0: it is freed, also where the stack refuses what goes there: that stays in the cache.
+ *   - MBUFPOOL_STRANGER
+ *   - MBUFPOOL_NO_SUCH_PACKET
+ */
+uint32_t mbufpool_free(struct mbufpool_worker *worker, uint32_t slot);
+
+/**
+ * Adds bytes behind the data of a packet's last segment.
+ *
+ * @param worker
+ *   The worker whose packet it is.
+ * @param slot
+ *   The packet.
+ * @param len
+ *   How many bytes: 0 to what the last segment's buffer has behind its data.
+ * @param pkt_len
+ *   Gets the packet's new length in bytes, the sum of its segments'.
+ * @return
+ *   - 0: the segment is longer.
+ *   - MBUFPOOL_STRANGER
+ *   - MBUFPOOL_NO_SUCH_PACKET
+ *   - MBUFPOOL_NO_ROOM: its buffer has fewer bytes there.
+ */
+uint32_t mbufpool_append(struct mbufpool_worker *worker, uint32_t slot, uint16_t len, uint32_t *pkt_len);
+
+/**
+ * Adds bytes in front of the data of a packet's first segment.
+ *
+ * @param worker, slot, pkt_len
+ *   As mbufpool_append has them.
+ * @param len
+ *   How many bytes: 0 to what the first segment's buffer has in front of its data.
+ * @return
+ *   What mbufpool_append answers, of the first segment.
+ */
+uint32_t mbufpool_prepend(struct mbufpool_worker *worker, uint32_t slot, uint16_t len, uint32_t *pkt_len);
+
+/**
+ * Takes bytes off the front of a packet's first segment.
+ *
+ * @param worker, slot, pkt_len
+ *   As mbufpool_append has them.
+ * @param len
+ *   How many bytes: 0 to what that segment has of data, whatever the packet has.
+ * @return
+ *   - 0: the segment is shorter.
+ *   - MBUFPOOL_STRANGER
+ *   - MBUFPOOL_NO_SUCH_PACKET
+ *   - MBUFPOOL_TOO_SHORT: it has fewer bytes of data.
+ */
+uint32_t mbufpool_adj(struct mbufpool_worker *worker, uint32_t slot, uint16_t len, uint32_t *pkt_len);
+
+/**
+ * Takes bytes off the end of a packet's last segment.
+ *
+ * @param worker, slot, len, pkt_len
+ *   As mbufpool_adj has them, of the last segment.
+ * @return
+ *   What mbufpool_adj answers, of the last segment.
+ */
+uint32_t mbufpool_trim(struct mbufpool_worker *worker, uint32_t slot, uint16_t len, uint32_t *pkt_len);
+
+/**
+ * Puts the segments of one packet behind those of another.
+ *
+ * @param worker
+ *   The worker whose packets both are.
+ * @param head
+ *   The packet that gets longer.
+ * @param tail
+ *   The packet whose segments it gets; its slot is free then.
+ * @return
+ *   - 0: they are one packet.
+ *   - MBUFPOOL_STRANGER
+ *   - MBUFPOOL_NO_SUCH_PACKET: of `head`, or of `tail`.
+ *   - MBUFPOOL_SAME_PACKET: `head` is `tail`.
+ *   - MBUFPOOL_TOO_MANY_SEGS: together they have more than 32 segments.
+ */
+uint32_t mbufpool_chain(struct mbufpool_worker *worker, uint32_t head, uint32_t tail);
+
+/**
+ * Lets a packet of one direct segment use the buffer of another packet's first segment, with its offset and
+ * lengths. The element whose buffer that is has one hold more.
+ *
+ * @param worker
+ *   The worker whose packets both are.
+ * @param slot
+ *   The packet to attach.
+ * @param target
+ *   The packet whose buffer it uses then; where that is indirect itself, the buffer that this one uses.
+ * @return
+ *   - 0: it is attached.
+ *   - MBUFPOOL_STRANGER
+ *   - MBUFPOOL_NO_SUCH_PACKET: of `slot`, or of `target`.
+ *   - MBUFPOOL_SAME_PACKET: `slot` is `target`.
+ *   - MBUFPOOL_TOO_MANY_SEGS: the packet to attach has several segments.
+ *   - MBUFPOOL_NOT_DIRECT: its segment is indirect.
+ *   - MBUFPOOL_IN_USE: a reference count other than 1 was read of its element, as of one with a clone.
+ *   - MBUFPOOL_REF_SPENT: the count of the element whose buffer it is to use is `ref_limit`.
+ *   - MBUFPOOL_CONTENDED: `tries` exchanges of that count were lost.
+ */
+uint32_t mbufpool_attach(struct mbufpool_worker *worker, uint32_t slot, uint32_t target);
+
+/**
+ * Gives a packet of one indirect segment its own buffer back: it is as a new one then, without data.
+ *
+ * @param worker
+ *   The worker whose packet it is.
+ * @param slot
+ *   The packet. Its hold of the other buffer's element ends.
+ * @return
+ *   - 0: it is detached; what the stack refuses stays in the cache, as where it is freed.
+ *   - MBUFPOOL_STRANGER
+ *   - MBUFPOOL_NO_SUCH_PACKET
+ *   - MBUFPOOL_TOO_MANY_SEGS: it has several segments.
+ *   - MBUFPOOL_NOT_INDIRECT: its segment is direct.
+ */
+uint32_t mbufpool_detach(struct mbufpool_worker *worker, uint32_t slot);
+
+/**
+ * Makes a clone of a packet, in the lowest free slot: a new element for each of its segments, which is
+ * attached to the segment's buffer.
+ *
+ * @param worker
+ *   The worker whose packet it is, and whose clone.
+ * @param slot
+ *   The packet.
+ * @param out
+ *   Gets the clone's slot, and its first segment's own element.
+ * @return
+ *   - 0: the clone stands.
+ *   - MBUFPOOL_STRANGER
+ *   - MBUFPOOL_NO_SUCH_PACKET
+ *   - MBUFPOOL_PACKETS_FULL: no slot is free.
+ *   And then, of one segment after another:
+ *   - MBUFPOOL_NO_ENTRIES, MBUFPOOL_CONTENDED, MBUFPOOL_HEAD_SPENT: as mbufpool_alloc.
+ *   - MBUFPOOL_REF_SPENT, MBUFPOOL_CONTENDED: as mbufpool_attach.
+ *   What was cloned so far is put back then, so that other free elements than before may be in the cache,
+ *   and fewer changes of the stack may be left.
+ */
+uint32_t mbufpool_clone(struct mbufpool_worker *worker, uint32_t slot, struct mbufpool_packet *out);
+
+/**
+ * Leaves a packet on a desk, with all that it holds, for a worker that takes it.
+ *
+ * @param worker
+ *   The worker whose packet it is.
+ * @param slot
+ *   The packet; the slot is free then.
+ * @param desk
+ *   The desk: 0 to the pool's number of desks less 1.
+ * @return
+ *   - 0: the packet is on the desk.
+ *   - MBUFPOOL_STRANGER
+ *   - MBUFPOOL_NO_SUCH_PACKET
+ *   - MBUFPOOL_NO_SUCH_DESK: the pool has no desk of that number.
+ *   - MBUFPOOL_DESK_TAKEN: a packet is on it, or another worker is just putting one there or taking it.
+ */
+uint32_t mbufpool_offer(struct mbufpool_worker *worker, uint32_t slot, uint32_t desk);
+
+/**
+ * Takes the packet off a desk, into the lowest free slot.
+ *
+ * @param worker
+ *   The worker whose packet it is then.
+ * @param desk
+ *   The desk, as mbufpool_offer has it.
+ * @param slot
+ *   Gets the packet's slot.
+ * @return
+ *   - 0: the packet stands.
+ *   - MBUFPOOL_STRANGER
+ *   - MBUFPOOL_NO_SUCH_DESK: as mbufpool_offer.
+ *   - MBUFPOOL_PACKETS_FULL: no slot is free.
+ *   - MBUFPOOL_DESK_EMPTY: there is no packet on it, or another worker is just putting one there or
+ *     taking it.
+ */
+uint32_t mbufpool_take(struct mbufpool_worker *worker, uint32_t desk, uint32_t *slot);
+
+/**
+ * Says how many holds all packets of the pool have of the element of a packet's first segment.
+ *
+ * @param worker
+ *   The worker whose packet it is.
+ * @param slot
+ *   The packet.
+ * @param references
+ *   Gets the reference count of the segment's own element, 1 to `ref_limit`, as it was at one moment of
+ *   the call.
+ * @return
+ *   - 0: it is said.
+ *   - MBUFPOOL_STRANGER
+ *   - MBUFPOOL_NO_SUCH_PACKET
+ */
+uint32_t mbufpool_count(struct mbufpool_worker *worker, uint32_t slot, uint32_t *references);
+
+/**
+ * Says how long a packet is.
+ *
+ * @param worker, slot, pkt_len
+ *   As mbufpool_append has them.
+ * @return
+ *   What mbufpool_count answers.
+ */
+uint32_t mbufpool_pkt_len(struct mbufpool_worker *worker, uint32_t slot, uint32_t *pkt_len);
+
+/**
+ * Says how many segments a packet has.
+ *
+ * @param worker, slot
+ *   As mbufpool_count has them.
+ * @param segments
+ *   Gets how many: 1 to 32.
+ * @return
+ *   What mbufpool_count answers.
+ */
+uint32_t mbufpool_nb_segs(struct mbufpool_worker *worker, uint32_t slot, uint32_t *segments);
+
+/**
+ * Says what a segment of a packet is.
+ *
+ * @param worker, slot
+ *   As mbufpool_count has them.
+ * @param index
+ *   The segment: 0 to mbufpool_nb_segs less 1.
+ * @param out
+ *   Gets what it is.
+ * @return
+ *   - 0: it is said.
+ *   - MBUFPOOL_STRANGER
+ *   - MBUFPOOL_NO_SUCH_PACKET
+ *   - MBUFPOOL_TOO_SHORT: the packet has no more segments than `index`.
+ */
+uint32_t mbufpool_segment(struct mbufpool_worker *worker, uint32_t slot, uint32_t index,
+	struct mbufpool_segment *out);
+
+/**
+ * Puts the worker's whole cache onto the common stack, by one put.
+ *
+ * @param worker
+ *   The worker.
+ * @return
+ *   - 0: it is done, or the stack refused it, as a put, and the elements are in the cache still.
+ *   - MBUFPOOL_STRANGER
+ */
+uint32_t mbufpool_flush(struct mbufpool_worker *worker);
+
+/**
+ * Says how many changes of the pool's stack are left, by one read; other workers may take some meanwhile.
+ *
+ * An act that the worker's cache can't serve takes one or more. Once none is left what has to get from
+ * the stack is refused by MBUFPOOL_HEAD_SPENT, while what the cache has still serves, and what is put back
+ * stays in caches. A program that is to go on closes the pool before, and opens another.
+ *
+ * @param worker
+ *   Any worker of the pool.
+ * @return
+ *   0 to 2^40 - 1; 0 also where the handle has no worker.
+ */
 uint64_t mbufpool_worker_changes_left(struct mbufpool_worker *worker);
 
 /* ---- the end of a pool of packets ---- */
 
-/* What a pool left at its end, or none where the pointer is null. The pointer is the library's. */
+/** What a pool left at its end, or none where the pointer is null. The pointer is the library's. */
 struct mbufpool_ending { void *at; };
 
-/* Closes the pool of the workers in the n handles, which may stand in any order, and leaves in `out`
- * what it found; an ending that was there is freed. The handles have zeros then. A handle with zeros
- * is passed over: its worker was ended before, and what that had is lost.
+/**
+ * Closes a pool of packets, and leaves what it found.
  *
  * Where every worker of the pool is there, the pool has a statement, which says where each element
  * is: what the workers still have is settled, so nothing need be freed or flushed before. Where some
  * were ended before, there is no statement, but the list of the elements that are lost with them
  * (mbufpool_lost).
  *
- * Refused, in this order:
- *   MBUFPOOL_STRANGER   no handle has a worker, or one has a worker of another pool than the first's
- *   MBUFPOOL_IN_USE     a worker of the pool is in another handle
- *   MBUFPOOL_NO_MEMORY  there is no memory for what a closing takes
- * and each handle keeps its worker. The pool is ended, each handle has zeros and nothing is told
- * where the answer is one of
- *   MBUFPOOL_NO_MEMORY  memory was refused while the pool was settled
- *   MBUFPOOL_MISUSED    another thread used one of these workers meanwhile */
+ * @param workers
+ *   The handles of its workers, in any order; they have zeros then. A handle with zeros is passed over:
+ *   its worker was ended before, and what that had is lost.
+ * @param n
+ *   How many handles.
+ * @param out
+ *   Gets what the pool left. An ending that was there is freed; where the call is refused, it stays.
+ * @return
+ *   - 0: the pool is closed.
+ *   Each handle keeps its worker where the answer is one of
+ *   - MBUFPOOL_STRANGER: no handle has a worker, or one has a worker of another pool than the first's.
+ *   - MBUFPOOL_IN_USE: a worker of the pool is in another handle.
+ *   - MBUFPOOL_NO_MEMORY: there is no memory for what a closing takes.
+ *   The pool is ended, each handle has zeros and nothing is told where it is one of
+ *   - MBUFPOOL_MISUSED: another thread used one of these workers meanwhile.
+ *   - MBUFPOOL_NO_MEMORY: memory was refused while the pool was settled.
+ */
 uint32_t mbufpool_close(struct mbufpool_worker *workers, size_t n, struct mbufpool_ending *out);
 
-/* How many elements the pool had, and how many were available and in use. */
+/** How many elements the pool had, and how many were available and in use. */
 struct mbufpool_counts { uint64_t population, available, in_use; };
 
-/* The counts of the statement; MBUFPOOL_STRANGER where there is none. */
+/**
+ * Says the counts of the statement.
+ *
+ * @param ending
+ *   What the pool left.
+ * @param out
+ *   Gets the counts.
+ * @return
+ *   - 0: they are said.
+ *   - MBUFPOOL_STRANGER: the handle has no ending, or that has no statement.
+ */
 uint32_t mbufpool_ending_counts(struct mbufpool_ending *ending, struct mbufpool_counts *out);
 
-/* The statement, line by line as text, or as one line of JSON: writes the first len bytes of it, or
- * all where it is shorter, and no zero byte behind them. Answers how many bytes all of it has; 0
- * where there is no statement, or memory was refused. */
+/**
+ * Writes the statement, line by line as text.
+ *
+ * @param ending
+ *   What the pool left.
+ * @param buf
+ *   Gets the first len bytes of it, or all where it is shorter, and no zero byte behind them.
+ * @param len
+ *   How many bytes there is room for; 0 to ask how long it is.
+ * @return
+ *   How many bytes all of it has; 0 where there is no ending or no statement, or memory was refused.
+ */
 size_t mbufpool_statement_text(struct mbufpool_ending *ending, char *buf, size_t len);
+
+/**
+ * Writes the statement as one line of JSON, with its newline.
+ *
+ * @param ending, buf, len
+ *   As mbufpool_statement_text has them.
+ * @return
+ *   What mbufpool_statement_text answers.
+ */
 size_t mbufpool_statement_json(struct mbufpool_ending *ending, char *buf, size_t len);
 
-/* The elements that are lost, ascending: writes the first n of them, and answers how many there are;
- * 0 where there is a statement. */
+/**
+ * Writes which elements are lost, ascending.
+ *
+ * @param ending
+ *   What the pool left.
+ * @param out
+ *   Gets the first n of their numbers, or all where they are fewer.
+ * @param n
+ *   How many there is room for, as of a statement.
+ * @return
+ *   How many there are; 0 where there is a statement, or no ending.
+ */
 size_t mbufpool_lost(struct mbufpool_ending *ending, uint32_t *out, size_t n);
 
-/* Frees an ending; the handle has zeros then. */
+/**
+ * Frees what a pool left.
+ *
+ * @param ending
+ *   The ending; the handle has zeros then.
+ */
 void mbufpool_ending_free(struct mbufpool_ending *ending);
 
 #ifdef __cplusplus
