@@ -15,7 +15,8 @@
  *
  * What a call answers:
  *
- *   Every call answers 0, or the number of a refusal (enum mbufpool_refusal). Calls of another type answer a count, as their comments say, and the calls that end
+ *   Every call answers 0, or the number of a refusal (enum mbufpool_refusal), which mbufpool_strerror
+ *   says in words. Calls of another type answer a count, as their comments say, and the calls that end
  *   a handle nothing. A list of refusals has them in the order in which they are looked for: of two
  *   causes the first is answered. After a refusal nothing has changed, and what the call would have
  *   written to is as it was, but for what its comment says.
@@ -95,6 +96,75 @@ enum mbufpool_refusal {
 					 * 2^56 elements more than it put: at 10^8 a second that takes 22
 					 * years; get by another seat, or put by this one */
 };
+
+/**
+ * Says what a status means, in one short line: its name, and what it is answered for.
+ *
+ * @param status
+ *   What a call answered, or any other number.
+ * @return
+ *   The line, without a newline: "success" for 0, and "unknown status" for what is no number of
+ *   enum mbufpool_refusal. It isn't to be freed.
+ */
+static inline const char *mbufpool_strerror(uint32_t status)
+{
+	switch (status) {
+	case 0:
+		return "success";
+	case MBUFPOOL_BAD_POOL:
+		return "bad pool: a limit is out of range";
+	case MBUFPOOL_NO_MEMORY:
+		return "no memory: memory was refused";
+	case MBUFPOOL_NO_ENTRIES:
+		return "no entries: fewer elements than were asked for were counted";
+	case MBUFPOOL_CONTENDED:
+		return "contended: as many tries were lost to other threads as the pool allows, try again";
+	case MBUFPOOL_HEAD_SPENT:
+		return "head spent: 2^40 - 1 changes of the stack were made, the pool is at its end";
+	case MBUFPOOL_REF_SPENT:
+		return "ref spent: the reference count is at its limit";
+	case MBUFPOOL_TOO_MANY_SEGS:
+		return "too many segs: a packet has, or would have, more segments than the call allows";
+	case MBUFPOOL_NO_ROOM:
+		return "no room: too little room in the buffer, or another number of words than of elements";
+	case MBUFPOOL_TOO_SHORT:
+		return "too short: the segment has fewer bytes, or the packet fewer segments";
+	case MBUFPOOL_NOT_DIRECT:
+		return "not direct: the packet to attach uses another's buffer already";
+	case MBUFPOOL_NOT_INDIRECT:
+		return "not indirect: the packet to detach uses its own buffer";
+	case MBUFPOOL_IN_USE:
+		return "in use: the element has another hold, or another handle a worker of the pool";
+	case MBUFPOOL_NO_SUCH_PACKET:
+		return "no such packet: no packet stands in that slot";
+	case MBUFPOOL_PACKETS_FULL:
+		return "packets full: too few of the worker's 256 slots are free";
+	case MBUFPOOL_DESK_TAKEN:
+		return "desk taken: the desk isn't empty";
+	case MBUFPOOL_DESK_EMPTY:
+		return "desk empty: there is no packet on the desk";
+	case MBUFPOOL_NO_SUCH_DESK:
+		return "no such desk: the pool has no desk of that number";
+	case MBUFPOOL_STRANGER:
+		return "stranger: the handle has nothing of this pool, or the pool has no more to make";
+	case MBUFPOOL_SAME_PACKET:
+		return "same packet: both slots are one";
+	case MBUFPOOL_NOT_IN_HAND:
+		return "not in hand: the list names what the seat hasn't got, or something twice";
+	case MBUFPOOL_MISUSED:
+		return "misused: another thread used a worker while its pool was closed";
+	case MBUFPOOL_NOT_OUT:
+		return "not out: of what was to be put not each was out";
+	case MBUFPOOL_NOBODY:
+		return "nobody: a get brings a number of 2 at least";
+	case MBUFPOOL_UNRESTED:
+		return "unrested: the word of an element that isn't out wasn't 0";
+	case MBUFPOOL_LENT_OUT:
+		return "lent out: the seat has lent its share of the pool, get by another or put by this one";
+	default:
+		return "unknown status";
+	}
+}
 
 /** What each handle begins as. */
 #define MBUFPOOL_NONE { 0 }

@@ -10,7 +10,8 @@
  * refused until its stack nears its end goes on without one: what is put is kept in a list, under a lock,
  * and got from there. So nothing is lost by any refusal, and no call is refused for the end of a stack.
  *
- * An element is a number below the population, as in mbufpool.h, whose statuses these calls answer.
+ * An element is a number below the population, as in mbufpool.h, whose statuses these calls answer
+ * (mbufpool_strerror).
  *
  * What the caller owes, and nothing checks:
  *

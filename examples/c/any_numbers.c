@@ -542,14 +542,14 @@ int main(int argc, char **argv)
 		for (calls = 0, i = 0; i < threads; i++)
 			calls += t[i].calls;
 	}
-	printf("%lu calls by %lu threads in %lu pools, seed %lu; by their answers", calls, threads,
+	printf("%lu calls by %lu threads in %lu pools, seed %lu; by their answers:\n", calls, threads,
 		pools, seed);
 	for (k = 0; k < STATUSES; k++) {
 		for (sum = 0, i = 0; i < threads; i++)
 			sum += t[i].answers[k];
 		if (sum)
-			printf("%s %lu: %lu", k ? "," : "", k, sum);
+			printf("%12lu  %s\n", sum, mbufpool_strerror((uint32_t)k));
 	}
-	printf("\nafter each pool all its elements could be had again\n");
+	printf("after each pool all its elements could be had again\n");
 	return 0;
 }

@@ -17,7 +17,7 @@ static void must(uint32_t status, const char *call)
 {
 	if (status == 0)
 		return;
-	printf("%s was refused, %u\n", call, (unsigned)status);
+	printf("%s was refused: %s\n", call, mbufpool_strerror(status));
 	exit(1);
 }
 

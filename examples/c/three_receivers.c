@@ -38,7 +38,7 @@ static int again(uint32_t status)
 	case 0:
 		return 0;
 	default:
-		printf("refused, %u\n", (unsigned)status);
+		printf("refused: %s\n", mbufpool_strerror(status));
 		exit(1);
 	}
 }

@@ -58,6 +58,6 @@ int main(void)
 	mbufpool_seat_free(&second.seat);
 	mbufpool_seat_free(&first.seat);
 	refused = mbufpool_seat_get(&first.seat, &element, 1);
-	printf("after its end a seat is refused, %u\n", (unsigned)refused);
+	printf("after its end a seat is refused: %s\n", mbufpool_strerror(refused));
 	return twice != 0 || common != POPULATION || refused != MBUFPOOL_STRANGER;
 }
