@@ -59,6 +59,11 @@
 extern "C" {
 #endif
 
+/** The version of this header and of its library. */
+#define MBUFPOOL_VERSION_MAJOR 0
+#define MBUFPOOL_VERSION_MINOR 1
+#define MBUFPOOL_VERSION "0.1"
+
 /** Why a call was refused. */
 enum mbufpool_refusal {
 	MBUFPOOL_BAD_POOL = 1,		/**< limits out of range */

@@ -73,6 +73,7 @@ int main(void)
 {
 	struct mbufpool_seat seat = MBUFPOOL_NONE;
 	uint32_t status, element, wrong = 0;
+	char version[32];
 
 	for (status = 0; status < MOST; status++) {
 		if (status == 0 || is_refusal(status))
@@ -80,7 +81,9 @@ int main(void)
 		wrong += !is_right(status);
 	}
 	wrong += !is_right(UINT32_MAX);
+	snprintf(version, sizeof(version), "%d.%d", MBUFPOOL_VERSION_MAJOR, MBUFPOOL_VERSION_MINOR);
+	wrong += strcmp(version, MBUFPOOL_VERSION) != 0;
 	status = mbufpool_seat_get(&seat, &element, 1);
-	printf("a get by a handle with zeros: %s\n", mbufpool_strerror(status));
+	printf("version %s; a get by a handle with zeros: %s\n", MBUFPOOL_VERSION, mbufpool_strerror(status));
 	return wrong != 0 || status != MBUFPOOL_STRANGER;
 }
