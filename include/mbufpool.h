@@ -23,8 +23,8 @@
  *
  *   A handle with zeros is safe in every call, which answers MBUFPOOL_STRANGER, or a count of 0. In the
  *   lists below MBUFPOOL_STRANGER without a word means that. What stands before it in a list comes
- *   before it, too: so a get or a put of no elements by such a handle is answered 0 where the list says
- *   so.
+ *   before it, too; and where a comment says so, a get or a put of no elements by such a handle is
+ *   answered 0.
  *
  *   Memory is taken, and MBUFPOOL_NO_MEMORY answered, by the calls that open, split or close a pool
  *   alone; the two that write a statement take some for a while, and answer 0 where there is none.
@@ -220,7 +220,7 @@ uint32_t mbufpool_seat_open(uint32_t population, uint32_t seats, uint32_t tries,
  * Makes a pool whose stack counts its changes from `start` on, as if so many had been made before: so
  * the end of a pool can be met in a test.
  *
- * @param population, seats, tries, out
+ * @param population,seats,tries,out
  *   As mbufpool_seat_open has them.
  * @param start
  *   How many changes count as made: 0 to 2^40 - 1.
@@ -337,7 +337,7 @@ struct mbufpool_checked { void *at; };
 /**
  * Makes a pool of elements, all on the stack, with one checked seat.
  *
- * @param population, tries, out
+ * @param population,tries,out
  *   As mbufpool_seat_open has them.
  * @return
  *   What mbufpool_seat_open answers; MBUFPOOL_NO_MEMORY also where there is none for the marks.
@@ -347,7 +347,7 @@ uint32_t mbufpool_checked_open(uint32_t population, uint32_t tries, struct mbufp
 /**
  * Makes such a pool of a stack that counts its changes from `start` on.
  *
- * @param population, tries, start, out
+ * @param population,tries,start,out
  *   As mbufpool_seat_open_at has them.
  * @return
  *   What mbufpool_checked_open answers; MBUFPOOL_BAD_POOL also for `start`.
@@ -360,7 +360,7 @@ uint32_t mbufpool_checked_open_at(uint32_t population, uint32_t tries, uint64_t 
  *
  * @param seat
  *   The pool's seat.
- * @param out, n
+ * @param out,n
  *   As mbufpool_seat_get has them.
  * @return
  *   - 0: the n elements are the caller's.
@@ -463,7 +463,7 @@ uint32_t mbufpool_guard_open(uint32_t population, uint32_t cache, uint32_t worke
 /**
  * Makes a guarded pool of a stack that counts its changes from `start` on. To open it takes two of them.
  *
- * @param population, cache, workers, tries, out
+ * @param population,cache,workers,tries,out
  *   As mbufpool_guard_open has them.
  * @param start
  *   As mbufpool_seat_open_at has it.
@@ -599,7 +599,12 @@ void mbufpool_guard_end(struct mbufpool_guard *worker);
  * their slots, 0 to 255: a number that stands for none of its packets, since that was freed, chained or
  * offered, or is above 255, is refused by MBUFPOOL_NO_SUCH_PACKET. What is put back, when the last hold of
  * an element ends, goes through the cache, as an element that is got: both as a guarded worker's, above.
- * `out` is written where the answer is 0. */
+ * `out` is written where the answer is 0.
+ *
+ * Each is after the call of DPDK 21.11 that has its name behind rte_pktmbuf_, mbufpool_count after
+ * rte_mbuf_refcnt_read, mbufpool_nb_segs after that field of struct rte_mbuf, and mbufpool_flush after
+ * rte_mempool_cache_flush. Unlike there a chain has 32 segments at most, and a reference count a limit of
+ * the pool's. Desks are the library's own: DPDK passes mbufs from lcore to lcore over an rte_ring. */
 
 /** A worker, or none where the pointer is null. The pointer is the library's. */
 struct mbufpool_worker { void *at; };
@@ -723,7 +728,7 @@ uint32_t mbufpool_append(struct mbufpool_worker *worker, uint32_t slot, uint16_t
 /**
  * Adds bytes in front of the data of a packet's first segment.
  *
- * @param worker, slot, pkt_len
+ * @param worker,slot,pkt_len
  *   As mbufpool_append has them.
  * @param len
  *   How many bytes: 0 to what the first segment's buffer has in front of its data.
@@ -735,7 +740,7 @@ uint32_t mbufpool_prepend(struct mbufpool_worker *worker, uint32_t slot, uint16_
 /**
  * Takes bytes off the front of a packet's first segment.
  *
- * @param worker, slot, pkt_len
+ * @param worker,slot,pkt_len
  *   As mbufpool_append has them.
  * @param len
  *   How many bytes: 0 to what that segment has of data, whatever the packet has.
@@ -750,7 +755,7 @@ uint32_t mbufpool_adj(struct mbufpool_worker *worker, uint32_t slot, uint16_t le
 /**
  * Takes bytes off the end of a packet's last segment.
  *
- * @param worker, slot, len, pkt_len
+ * @param worker,slot,len,pkt_len
  *   As mbufpool_adj has them, of the last segment.
  * @return
  *   What mbufpool_adj answers, of the last segment.
@@ -894,7 +899,7 @@ uint32_t mbufpool_count(struct mbufpool_worker *worker, uint32_t slot, uint32_t 
 /**
  * Says how long a packet is.
  *
- * @param worker, slot, pkt_len
+ * @param worker,slot,pkt_len
  *   As mbufpool_append has them.
  * @return
  *   What mbufpool_count answers.
@@ -904,7 +909,7 @@ uint32_t mbufpool_pkt_len(struct mbufpool_worker *worker, uint32_t slot, uint32_
 /**
  * Says how many segments a packet has.
  *
- * @param worker, slot
+ * @param worker,slot
  *   As mbufpool_count has them.
  * @param segments
  *   Gets how many: 1 to 32.
@@ -916,7 +921,7 @@ uint32_t mbufpool_nb_segs(struct mbufpool_worker *worker, uint32_t slot, uint32_
 /**
  * Says what a segment of a packet is.
  *
- * @param worker, slot
+ * @param worker,slot
  *   As mbufpool_count has them.
  * @param index
  *   The segment: 0 to mbufpool_nb_segs less 1.
@@ -1021,7 +1026,7 @@ size_t mbufpool_statement_text(struct mbufpool_ending *ending, char *buf, size_t
 /**
  * Writes the statement as one line of JSON, with its newline.
  *
- * @param ending, buf, len
+ * @param ending,buf,len
  *   As mbufpool_statement_text has them.
  * @return
  *   What mbufpool_statement_text answers.
