@@ -27,7 +27,8 @@
  *   answered 0.
  *
  *   Memory is taken, and MBUFPOOL_NO_MEMORY answered, by the calls that open, split or close a pool
- *   alone; the two that write a statement take some for a while, and answer 0 where there is none.
+ *   alone; the two that write a statement take some for a while, and answer 0 where there is none. A
+ *   pool's memory is freed with its last seat or worker, or when it is closed.
  *
  * What the caller owes, and nothing checks:
  *
@@ -180,14 +181,14 @@ static inline const char *mbufpool_strerror(uint32_t status)
  *
  *   a get   reserves n elements by the stack's length word, and then takes them off its head:
  *             MBUFPOOL_NO_ENTRIES  the length word counts fewer than n
- *             MBUFPOOL_CONTENDED   `tries` exchanges of the length word were lost
+ *             MBUFPOOL_CONTENDED   `tries` goes at the length word were lost
  *             MBUFPOOL_HEAD_SPENT  no change of the head is left
- *             MBUFPOOL_CONTENDED   `tries` exchanges of the head were lost
+ *             MBUFPOOL_CONTENDED   `tries` goes at the head were lost
  *           What was reserved is given back then. Until that is done others count fewer, and may be
  *           refused MBUFPOOL_NO_ENTRIES.
  *   a put   links n elements, and adds them to the head, and to the length word afterwards:
  *             MBUFPOOL_HEAD_SPENT  as of a get
- *             MBUFPOOL_CONTENDED   `tries` exchanges of the head were lost
+ *             MBUFPOOL_CONTENDED   `tries` goes at the head were lost
  *
  * Each get and each put that succeeds, of whatever length but 0, takes one of 2^40 - 1 changes.
  *
@@ -311,7 +312,7 @@ uint32_t mbufpool_seat_count(struct mbufpool_seat *seat);
 uint64_t mbufpool_seat_changes_left(struct mbufpool_seat *seat);
 
 /**
- * Ends a seat. The pool's memory is freed with its last seat.
+ * Ends a seat.
  *
  * What the seat has got and not put may still be put, by any other seat; it is lost to the pool where
  * nobody does. Once the first seat is ended no more are made.
@@ -387,23 +388,22 @@ uint32_t mbufpool_checked_get(struct mbufpool_checked *seat, uint32_t *out, size
 uint32_t mbufpool_checked_put(struct mbufpool_checked *seat, const uint32_t *list, size_t n);
 
 /**
- * Says how many elements are on the stack.
+ * Says how many elements aren't in the seat's hand: they are on its stack.
  *
  * @param seat
  *   The pool's seat.
  * @return
- *   0 to population: with what is in the seat's hand that is the population. 0 where the handle has no
- *   seat.
+ *   0 to population; 0 also where the handle has no seat.
  */
 uint32_t mbufpool_checked_count(struct mbufpool_checked *seat);
 
 /**
- * Says how many changes of the stack are left, as mbufpool_seat_changes_left does.
+ * Says how many changes of a checked seat's stack are left.
  *
  * @param seat
  *   The pool's seat.
  * @return
- *   0 to 2^40 - 1; 0 also where the handle has no seat.
+ *   What mbufpool_seat_changes_left answers.
  */
 uint64_t mbufpool_checked_changes_left(struct mbufpool_checked *seat);
 
@@ -543,13 +543,12 @@ uint32_t mbufpool_guard_put(struct mbufpool_guard *worker, uint32_t *list, size_
 	size_t words_n, uint64_t *taken);
 
 /**
- * Says how many changes of the stack are left, as mbufpool_seat_changes_left does: what a worker's cache
- * can't serve takes one.
+ * Says how many changes of a guarded pool's stack are left: what a worker's cache can't serve takes one.
  *
  * @param worker
  *   Any worker of the pool.
  * @return
- *   0 to 2^40 - 1; 0 also where the handle has no worker.
+ *   What mbufpool_seat_changes_left answers, of a worker.
  */
 uint64_t mbufpool_guard_changes_left(struct mbufpool_guard *worker);
 
@@ -578,8 +577,7 @@ uint64_t mbufpool_guard_who(struct mbufpool_guard *worker, uint32_t element);
 uint64_t mbufpool_guard_out(struct mbufpool_guard *worker);
 
 /**
- * Puts the worker's cache onto the stack and ends the worker. The pool's memory is freed with its last
- * worker.
+ * Puts the worker's cache onto the stack and ends the worker.
  *
  * What is out may still be put, by any other worker. Where the stack refuses the cache, it is lost. Once
  * the first worker is ended no more are made.
@@ -649,7 +647,7 @@ struct mbufpool_segment { uint32_t element, buffer; uint16_t off, len, buf; };
 uint32_t mbufpool_open(const struct mbufpool_limits *limits, struct mbufpool_worker *out, size_t n);
 
 /**
- * Ends a worker. The pool's memory is freed with its last worker.
+ * Ends a worker.
  *
  * @param worker
  *   The worker; the handle has zeros then. What it has is lost to the pool, so free its packets and flush
