@@ -378,7 +378,7 @@ static void end_stack(struct stack *s)
 	size_t k;
 
 	for (k = 0; k < MOST_USERS; k++)
-		mbufpool_seat_free(&s->places[k].seat);
+		mbufpool_seat_end(&s->places[k].seat);
 }
 
 /* Makes a stack with a seat for each user. */

@@ -11,7 +11,7 @@
  *   struct mbufpool_worker   packets over such a pool: a worker has a cache and a table of 256
  *                            packets, with lengths, chains, reference counts, clones, and desks
  *                            over which a packet passes to another worker; a pool of packets that
- *                            is closed leaves a statement (struct mbufpool_ending)
+ *                            is closed leaves a statement (struct mbufpool_statement)
  *
  * What a call answers:
  *
@@ -36,8 +36,8 @@
  *              alone. It is not copied: two structs with one pointer are two owners of one seat.
  *              One thread at a time uses it; it passes to another thread by a lock, a thread's
  *              start or join, or a sequentially consistent atomic.
- *   closing    One thread at a time closes a pool: no two calls of mbufpool_close that run at once
- *              are given workers of one pool.
+ *   closing    One thread at a time closes a pool: no two calls of mbufpool_worker_close that run
+ *              at once are given workers of one pool.
  *   memory     `out` has room for n of its kind and `list` has n numbers, n > 0 or not. What the
  *              pointers of one call lead to doesn't overlap (two handles are two structs), and is
  *              the call's alone while it runs.
@@ -60,10 +60,22 @@
 extern "C" {
 #endif
 
-/** The version of this header and of its library. */
+/** The version of this header. */
 #define MBUFPOOL_VERSION_MAJOR 0
 #define MBUFPOOL_VERSION_MINOR 1
 #define MBUFPOOL_VERSION "0.1"
+
+/** A version as one number, which compares as versions do. */
+#define MBUFPOOL_VERSION_NUMBER(major, minor) (65536u * (major) + (minor))
+
+/**
+ * Says of which version the library is that runs: as a shared object it may be another than that of
+ * the header.
+ *
+ * @return
+ *   MBUFPOOL_VERSION_NUMBER(major, minor) of the library.
+ */
+uint32_t mbufpool_version(void);
 
 /** Why a call was refused. */
 enum mbufpool_refusal {
@@ -92,7 +104,7 @@ enum mbufpool_refusal {
 	MBUFPOOL_SAME_PACKET = 23,
 	MBUFPOOL_NOT_IN_HAND = 24,	/**< (checked seats alone) the list names what the seat hasn't got, or
 					 * something twice */
-	MBUFPOOL_MISUSED = 25,		/**< (mbufpool_close alone) a handle was used by another thread
+	MBUFPOOL_MISUSED = 25,		/**< (mbufpool_worker_close alone) a handle was used by another thread
 					 * meanwhile: the workers are ended */
 	MBUFPOOL_NOT_OUT = 26,		/**< (guarded pools alone) of what was to be put not each was out */
 	MBUFPOOL_NOBODY = 27,		/**< (guarded pools alone) a get with a number below 2 */
@@ -215,7 +227,8 @@ struct mbufpool_seat { void *at; };
  *   - MBUFPOOL_BAD_POOL: one of the three numbers is out of range.
  *   - MBUFPOOL_NO_MEMORY: memory was refused for the words of the pool, or for the seat.
  */
-uint32_t mbufpool_seat_open(uint32_t population, uint32_t seats, uint32_t tries, struct mbufpool_seat *out);
+uint32_t mbufpool_seat_open(uint32_t population, uint32_t seats, uint32_t tries,
+	struct mbufpool_seat *out);
 
 /**
  * Makes a pool whose stack counts its changes from `start` on, as if so many had been made before: so
@@ -320,7 +333,7 @@ uint64_t mbufpool_seat_changes_left(struct mbufpool_seat *seat);
  * @param seat
  *   The seat; the handle has zeros then.
  */
-void mbufpool_seat_free(struct mbufpool_seat *seat);
+void mbufpool_seat_end(struct mbufpool_seat *seat);
 
 /* ---- the bare stack, checked ----
  *
@@ -413,7 +426,7 @@ uint64_t mbufpool_checked_changes_left(struct mbufpool_checked *seat);
  * @param seat
  *   The seat; the handle has zeros then. What is in its hand is lost.
  */
-void mbufpool_checked_free(struct mbufpool_checked *seat);
+void mbufpool_checked_end(struct mbufpool_checked *seat);
 
 /* ---- the bare stack, guarded ----
  *
@@ -593,16 +606,17 @@ void mbufpool_guard_end(struct mbufpool_guard *worker);
  * the length of its buffer. It is direct where it uses its own element's buffer, and indirect where it
  * uses another's, as a clone's does. The library keeps these numbers; the buffers are the caller's.
  *
- * Each call from mbufpool_alloc to mbufpool_flush is one act of its worker. A worker names its packets by
- * their slots, 0 to 255: a number that stands for none of its packets, since that was freed, chained or
- * offered, or is above 255, is refused by MBUFPOOL_NO_SUCH_PACKET. What is put back, when the last hold of
- * an element ends, goes through the cache, as an element that is got: both as a guarded worker's, above.
- * `out` is written where the answer is 0.
+ * Each call from mbufpool_worker_alloc to mbufpool_worker_flush is one act of its worker. A worker names
+ * its packets by their slots, 0 to 255: a number that stands for none of its packets, since that was
+ * freed, chained or offered, or is above 255, is refused by MBUFPOOL_NO_SUCH_PACKET. What is put back,
+ * when the last hold of an element ends, goes through the cache, as an element that is got: both as a
+ * guarded worker's, above. `out` is written where the answer is 0.
  *
- * Each is after the call of DPDK 21.11 that has its name behind rte_pktmbuf_, mbufpool_count after
- * rte_mbuf_refcnt_read, mbufpool_nb_segs after that field of struct rte_mbuf, and mbufpool_flush after
- * rte_mempool_cache_flush. Unlike there a chain has 32 segments at most, and a reference count a limit of
- * the pool's. Desks are the library's own: DPDK passes mbufs from lcore to lcore over an rte_ring. */
+ * Each is after the call of DPDK 21.11 that has its last word behind rte_pktmbuf_,
+ * mbufpool_worker_refcnt after rte_mbuf_refcnt_read, mbufpool_worker_nb_segs after that field of
+ * struct rte_mbuf, and mbufpool_worker_flush after rte_mempool_cache_flush. Unlike there a chain has 32
+ * segments at most, and a reference count a limit of the pool's. Desks are the library's own: DPDK passes
+ * mbufs from lcore to lcore over an rte_ring. */
 
 /** A worker, or none where the pointer is null. The pointer is the library's. */
 struct mbufpool_worker { void *at; };
@@ -644,16 +658,17 @@ struct mbufpool_segment { uint32_t element, buffer; uint16_t off, len, buf; };
  *   - MBUFPOOL_BAD_POOL: n isn't limits->workers, or a limit is out of range.
  *   - MBUFPOOL_NO_MEMORY: memory was refused; each worker's cache has room for the whole population.
  */
-uint32_t mbufpool_open(const struct mbufpool_limits *limits, struct mbufpool_worker *out, size_t n);
+uint32_t mbufpool_worker_open(const struct mbufpool_limits *limits, struct mbufpool_worker *out,
+	size_t n);
 
 /**
  * Ends a worker.
  *
  * @param worker
  *   The worker; the handle has zeros then. What it has is lost to the pool, so free its packets and flush
- *   it first, or close the pool instead (mbufpool_close).
+ *   it first, or close the pool instead (mbufpool_worker_close).
  */
-void mbufpool_end(struct mbufpool_worker *worker);
+void mbufpool_worker_end(struct mbufpool_worker *worker);
 
 /**
  * Makes a packet of one element, without data, in the lowest free slot. Its data begins at byte 128 of the
@@ -670,10 +685,10 @@ void mbufpool_end(struct mbufpool_worker *worker);
  *   - MBUFPOOL_NO_ENTRIES, MBUFPOOL_CONTENDED, MBUFPOOL_HEAD_SPENT: by the stack, as a get of one, where
  *     the cache can't serve it.
  */
-uint32_t mbufpool_alloc(struct mbufpool_worker *worker, struct mbufpool_packet *out);
+uint32_t mbufpool_worker_alloc(struct mbufpool_worker *worker, struct mbufpool_packet *out);
 
 /**
- * Makes n packets as mbufpool_alloc does, by one get: all of them, or none.
+ * Makes n packets as mbufpool_worker_alloc does, by one get: all of them, or none.
  *
  * @param worker
  *   The worker whose packets they are.
@@ -685,9 +700,10 @@ uint32_t mbufpool_alloc(struct mbufpool_worker *worker, struct mbufpool_packet *
  *   - 0: the packets stand.
  *   - MBUFPOOL_STRANGER
  *   - MBUFPOOL_PACKETS_FULL: fewer than n slots are free.
- *   - MBUFPOOL_NO_ENTRIES, MBUFPOOL_CONTENDED, MBUFPOOL_HEAD_SPENT: as mbufpool_alloc, of n.
+ *   - MBUFPOOL_NO_ENTRIES, MBUFPOOL_CONTENDED, MBUFPOOL_HEAD_SPENT: as mbufpool_worker_alloc, of n.
  */
-uint32_t mbufpool_alloc_bulk(struct mbufpool_worker *worker, struct mbufpool_packet *out, size_t n);
+uint32_t mbufpool_worker_alloc_bulk(struct mbufpool_worker *worker, struct mbufpool_packet *out,
+	size_t n);
 
 /**
  * Frees a packet: each of its holds ends, of a segment the one of another's buffer first, and an element of
@@ -702,7 +718,7 @@ uint32_t mbufpool_alloc_bulk(struct mbufpool_worker *worker, struct mbufpool_pac
  *   - MBUFPOOL_STRANGER
  *   - MBUFPOOL_NO_SUCH_PACKET
  */
-uint32_t mbufpool_free(struct mbufpool_worker *worker, uint32_t slot);
+uint32_t mbufpool_worker_free(struct mbufpool_worker *worker, uint32_t slot);
 
 /**
  * Adds bytes behind the data of a packet's last segment.
@@ -721,25 +737,27 @@ uint32_t mbufpool_free(struct mbufpool_worker *worker, uint32_t slot);
  *   - MBUFPOOL_NO_SUCH_PACKET
  *   - MBUFPOOL_NO_ROOM: its buffer has fewer bytes there.
  */
-uint32_t mbufpool_append(struct mbufpool_worker *worker, uint32_t slot, uint16_t len, uint32_t *pkt_len);
+uint32_t mbufpool_worker_append(struct mbufpool_worker *worker, uint32_t slot, uint16_t len,
+	uint32_t *pkt_len);
 
 /**
  * Adds bytes in front of the data of a packet's first segment.
  *
  * @param worker,slot,pkt_len
- *   As mbufpool_append has them.
+ *   As mbufpool_worker_append has them.
  * @param len
  *   How many bytes: 0 to what the first segment's buffer has in front of its data.
  * @return
- *   What mbufpool_append answers, of the first segment.
+ *   What mbufpool_worker_append answers, of the first segment.
  */
-uint32_t mbufpool_prepend(struct mbufpool_worker *worker, uint32_t slot, uint16_t len, uint32_t *pkt_len);
+uint32_t mbufpool_worker_prepend(struct mbufpool_worker *worker, uint32_t slot, uint16_t len,
+	uint32_t *pkt_len);
 
 /**
  * Takes bytes off the front of a packet's first segment.
  *
  * @param worker,slot,pkt_len
- *   As mbufpool_append has them.
+ *   As mbufpool_worker_append has them.
  * @param len
  *   How many bytes: 0 to what that segment has of data, whatever the packet has.
  * @return
@@ -748,17 +766,19 @@ uint32_t mbufpool_prepend(struct mbufpool_worker *worker, uint32_t slot, uint16_
  *   - MBUFPOOL_NO_SUCH_PACKET
  *   - MBUFPOOL_TOO_SHORT: it has fewer bytes of data.
  */
-uint32_t mbufpool_adj(struct mbufpool_worker *worker, uint32_t slot, uint16_t len, uint32_t *pkt_len);
+uint32_t mbufpool_worker_adj(struct mbufpool_worker *worker, uint32_t slot, uint16_t len,
+	uint32_t *pkt_len);
 
 /**
  * Takes bytes off the end of a packet's last segment.
  *
  * @param worker,slot,len,pkt_len
- *   As mbufpool_adj has them, of the last segment.
+ *   As mbufpool_worker_adj has them, of the last segment.
  * @return
- *   What mbufpool_adj answers, of the last segment.
+ *   What mbufpool_worker_adj answers, of the last segment.
  */
-uint32_t mbufpool_trim(struct mbufpool_worker *worker, uint32_t slot, uint16_t len, uint32_t *pkt_len);
+uint32_t mbufpool_worker_trim(struct mbufpool_worker *worker, uint32_t slot, uint16_t len,
+	uint32_t *pkt_len);
 
 /**
  * Puts the segments of one packet behind those of another.
@@ -776,7 +796,7 @@ uint32_t mbufpool_trim(struct mbufpool_worker *worker, uint32_t slot, uint16_t l
  *   - MBUFPOOL_SAME_PACKET: `head` is `tail`.
  *   - MBUFPOOL_TOO_MANY_SEGS: together they have more than 32 segments.
  */
-uint32_t mbufpool_chain(struct mbufpool_worker *worker, uint32_t head, uint32_t tail);
+uint32_t mbufpool_worker_chain(struct mbufpool_worker *worker, uint32_t head, uint32_t tail);
 
 /**
  * Lets a packet of one direct segment use the buffer of another packet's first segment, with its offset and
@@ -799,7 +819,7 @@ uint32_t mbufpool_chain(struct mbufpool_worker *worker, uint32_t head, uint32_t 
  *   - MBUFPOOL_REF_SPENT: the count of the element whose buffer it is to use is `ref_limit`.
  *   - MBUFPOOL_CONTENDED: `tries` exchanges of that count were lost.
  */
-uint32_t mbufpool_attach(struct mbufpool_worker *worker, uint32_t slot, uint32_t target);
+uint32_t mbufpool_worker_attach(struct mbufpool_worker *worker, uint32_t slot, uint32_t target);
 
 /**
  * Gives a packet of one indirect segment its own buffer back: it is as a new one then, without data.
@@ -815,7 +835,7 @@ uint32_t mbufpool_attach(struct mbufpool_worker *worker, uint32_t slot, uint32_t
  *   - MBUFPOOL_TOO_MANY_SEGS: it has several segments.
  *   - MBUFPOOL_NOT_INDIRECT: its segment is direct.
  */
-uint32_t mbufpool_detach(struct mbufpool_worker *worker, uint32_t slot);
+uint32_t mbufpool_worker_detach(struct mbufpool_worker *worker, uint32_t slot);
 
 /**
  * Makes a clone of a packet, in the lowest free slot: a new element for each of its segments, which is
@@ -833,12 +853,13 @@ uint32_t mbufpool_detach(struct mbufpool_worker *worker, uint32_t slot);
  *   - MBUFPOOL_NO_SUCH_PACKET
  *   - MBUFPOOL_PACKETS_FULL: no slot is free.
  *   And then, of one segment after another:
- *   - MBUFPOOL_NO_ENTRIES, MBUFPOOL_CONTENDED, MBUFPOOL_HEAD_SPENT: as mbufpool_alloc.
- *   - MBUFPOOL_REF_SPENT, MBUFPOOL_CONTENDED: as mbufpool_attach.
+ *   - MBUFPOOL_NO_ENTRIES, MBUFPOOL_CONTENDED, MBUFPOOL_HEAD_SPENT: as mbufpool_worker_alloc.
+ *   - MBUFPOOL_REF_SPENT, MBUFPOOL_CONTENDED: as mbufpool_worker_attach.
  *   What was cloned so far is put back then, so that other free elements than before may be in the cache,
  *   and fewer changes of the stack may be left.
  */
-uint32_t mbufpool_clone(struct mbufpool_worker *worker, uint32_t slot, struct mbufpool_packet *out);
+uint32_t mbufpool_worker_clone(struct mbufpool_worker *worker, uint32_t slot,
+	struct mbufpool_packet *out);
 
 /**
  * Leaves a packet on a desk, with all that it holds, for a worker that takes it.
@@ -856,7 +877,7 @@ uint32_t mbufpool_clone(struct mbufpool_worker *worker, uint32_t slot, struct mb
  *   - MBUFPOOL_NO_SUCH_DESK: the pool has no desk of that number.
  *   - MBUFPOOL_DESK_TAKEN: a packet is on it, or another worker is just putting one there or taking it.
  */
-uint32_t mbufpool_offer(struct mbufpool_worker *worker, uint32_t slot, uint32_t desk);
+uint32_t mbufpool_worker_offer(struct mbufpool_worker *worker, uint32_t slot, uint32_t desk);
 
 /**
  * Takes the packet off a desk, into the lowest free slot.
@@ -864,18 +885,18 @@ uint32_t mbufpool_offer(struct mbufpool_worker *worker, uint32_t slot, uint32_t 
  * @param worker
  *   The worker whose packet it is then.
  * @param desk
- *   The desk, as mbufpool_offer has it.
+ *   The desk, as mbufpool_worker_offer has it.
  * @param slot
  *   Gets the packet's slot.
  * @return
  *   - 0: the packet stands.
  *   - MBUFPOOL_STRANGER
- *   - MBUFPOOL_NO_SUCH_DESK: as mbufpool_offer.
+ *   - MBUFPOOL_NO_SUCH_DESK: as mbufpool_worker_offer.
  *   - MBUFPOOL_PACKETS_FULL: no slot is free.
  *   - MBUFPOOL_DESK_EMPTY: there is no packet on it, or another worker is just putting one there or
  *     taking it.
  */
-uint32_t mbufpool_take(struct mbufpool_worker *worker, uint32_t desk, uint32_t *slot);
+uint32_t mbufpool_worker_take(struct mbufpool_worker *worker, uint32_t desk, uint32_t *slot);
 
 /**
  * Says how many holds all packets of the pool have of the element of a packet's first segment.
@@ -892,37 +913,38 @@ uint32_t mbufpool_take(struct mbufpool_worker *worker, uint32_t desk, uint32_t *
  *   - MBUFPOOL_STRANGER
  *   - MBUFPOOL_NO_SUCH_PACKET
  */
-uint32_t mbufpool_count(struct mbufpool_worker *worker, uint32_t slot, uint32_t *references);
+uint32_t mbufpool_worker_refcnt(struct mbufpool_worker *worker, uint32_t slot,
+	uint32_t *references);
 
 /**
  * Says how long a packet is.
  *
  * @param worker,slot,pkt_len
- *   As mbufpool_append has them.
+ *   As mbufpool_worker_append has them.
  * @return
- *   What mbufpool_count answers.
+ *   What mbufpool_worker_refcnt answers.
  */
-uint32_t mbufpool_pkt_len(struct mbufpool_worker *worker, uint32_t slot, uint32_t *pkt_len);
+uint32_t mbufpool_worker_pkt_len(struct mbufpool_worker *worker, uint32_t slot, uint32_t *pkt_len);
 
 /**
  * Says how many segments a packet has.
  *
  * @param worker,slot
- *   As mbufpool_count has them.
+ *   As mbufpool_worker_refcnt has them.
  * @param segments
  *   Gets how many: 1 to 32.
  * @return
- *   What mbufpool_count answers.
+ *   What mbufpool_worker_refcnt answers.
  */
-uint32_t mbufpool_nb_segs(struct mbufpool_worker *worker, uint32_t slot, uint32_t *segments);
+uint32_t mbufpool_worker_nb_segs(struct mbufpool_worker *worker, uint32_t slot, uint32_t *segments);
 
 /**
  * Says what a segment of a packet is.
  *
  * @param worker,slot
- *   As mbufpool_count has them.
+ *   As mbufpool_worker_refcnt has them.
  * @param index
- *   The segment: 0 to mbufpool_nb_segs less 1.
+ *   The segment: 0 to mbufpool_worker_nb_segs less 1.
  * @param out
  *   Gets what it is.
  * @return
@@ -931,7 +953,7 @@ uint32_t mbufpool_nb_segs(struct mbufpool_worker *worker, uint32_t slot, uint32_
  *   - MBUFPOOL_NO_SUCH_PACKET
  *   - MBUFPOOL_TOO_SHORT: the packet has no more segments than `index`.
  */
-uint32_t mbufpool_segment(struct mbufpool_worker *worker, uint32_t slot, uint32_t index,
+uint32_t mbufpool_worker_segment(struct mbufpool_worker *worker, uint32_t slot, uint32_t index,
 	struct mbufpool_segment *out);
 
 /**
@@ -943,7 +965,7 @@ uint32_t mbufpool_segment(struct mbufpool_worker *worker, uint32_t slot, uint32_
  *   - 0: it is done, or the stack refused it, as a put, and the elements are in the cache still.
  *   - MBUFPOOL_STRANGER
  */
-uint32_t mbufpool_flush(struct mbufpool_worker *worker);
+uint32_t mbufpool_worker_flush(struct mbufpool_worker *worker);
 
 /**
  * Says how many changes of the pool's stack are left, by one read; other workers may take some meanwhile.
@@ -961,16 +983,16 @@ uint64_t mbufpool_worker_changes_left(struct mbufpool_worker *worker);
 
 /* ---- the end of a pool of packets ---- */
 
-/** What a pool left at its end, or none where the pointer is null. The pointer is the library's. */
-struct mbufpool_ending { void *at; };
+/** What a pool left at its end, its statement or what is lost of it, or none where the pointer is null.
+ * The pointer is the library's. */
+struct mbufpool_statement { void *at; };
 
 /**
  * Closes a pool of packets, and leaves what it found.
  *
- * Where every worker of the pool is there, the pool has a statement, which says where each element
- * is: what the workers still have is settled, so nothing need be freed or flushed before. Where some
- * were ended before, there is no statement, but the list of the elements that are lost with them
- * (mbufpool_lost).
+ * Where every worker of the pool is there, that says where each element is: what the workers still have
+ * is settled, so nothing need be freed or flushed before. Where some were ended before, it has the list
+ * of the elements that are lost with them and nothing more (mbufpool_statement_lost).
  *
  * @param workers
  *   The handles of its workers, in any order; they have zeros then. A handle with zeros is passed over:
@@ -978,7 +1000,7 @@ struct mbufpool_ending { void *at; };
  * @param n
  *   How many handles.
  * @param out
- *   Gets what the pool left. An ending that was there is freed; where the call is refused, it stays.
+ *   Gets what the pool left. One that was there is freed; where the call is refused, it stays.
  * @return
  *   - 0: the pool is closed.
  *   Each handle keeps its worker where the answer is one of
@@ -989,69 +1011,71 @@ struct mbufpool_ending { void *at; };
  *   - MBUFPOOL_MISUSED: another thread used one of these workers meanwhile.
  *   - MBUFPOOL_NO_MEMORY: memory was refused while the pool was settled.
  */
-uint32_t mbufpool_close(struct mbufpool_worker *workers, size_t n, struct mbufpool_ending *out);
+uint32_t mbufpool_worker_close(struct mbufpool_worker *workers, size_t n,
+	struct mbufpool_statement *out);
 
 /** How many elements the pool had, and how many were available and in use. */
 struct mbufpool_counts { uint64_t population, available, in_use; };
 
 /**
- * Says the counts of the statement.
+ * Says how many elements were where.
  *
- * @param ending
+ * @param statement
  *   What the pool left.
  * @param out
  *   Gets the counts.
  * @return
  *   - 0: they are said.
- *   - MBUFPOOL_STRANGER: the handle has no ending, or that has no statement.
+ *   - MBUFPOOL_STRANGER: the handle has nothing, or lost elements alone.
  */
-uint32_t mbufpool_ending_counts(struct mbufpool_ending *ending, struct mbufpool_counts *out);
+uint32_t mbufpool_statement_counts(struct mbufpool_statement *statement, struct mbufpool_counts *out);
 
 /**
  * Writes the statement, line by line as text.
  *
- * @param ending
+ * @param statement
  *   What the pool left.
  * @param buf
  *   Gets the first len bytes of it, or all where it is shorter, and no zero byte behind them.
  * @param len
  *   How many bytes there is room for; 0 to ask how long it is.
  * @return
- *   How many bytes all of it has; 0 where there is no ending or no statement, or memory was refused.
+ *   How many bytes all of it has; 0 where the handle has nothing or lost elements alone, or memory was
+ *   refused.
  */
-size_t mbufpool_statement_text(struct mbufpool_ending *ending, char *buf, size_t len);
+size_t mbufpool_statement_text(struct mbufpool_statement *statement, char *buf, size_t len);
 
 /**
  * Writes the statement as one line of JSON, with its newline.
  *
- * @param ending,buf,len
+ * @param statement,buf,len
  *   As mbufpool_statement_text has them.
  * @return
  *   What mbufpool_statement_text answers.
  */
-size_t mbufpool_statement_json(struct mbufpool_ending *ending, char *buf, size_t len);
+size_t mbufpool_statement_json(struct mbufpool_statement *statement, char *buf, size_t len);
 
 /**
  * Writes which elements are lost, ascending.
  *
- * @param ending
+ * @param statement
  *   What the pool left.
  * @param out
  *   Gets the first n of their numbers, or all where they are fewer.
  * @param n
  *   How many there is room for, as of a statement.
  * @return
- *   How many there are; 0 where there is a statement, or no ending.
+ *   How many there are; 0 where none is lost, and where the handle has nothing.
  */
-size_t mbufpool_lost(struct mbufpool_ending *ending, uint32_t *out, size_t n);
+size_t mbufpool_statement_lost(struct mbufpool_statement *statement, uint32_t *out, size_t n);
 
 /**
- * Frees what a pool left.
+ * Ends a statement, and frees what a pool left.
  *
- * @param ending
- *   The ending; the handle has zeros then.
+ * @param statement
+ *   What the pool left; the handle has zeros then.
  */
-void mbufpool_ending_free(struct mbufpool_ending *ending);
+void mbufpool_statement_end(struct mbufpool_statement *statement);
 
 #ifdef __cplusplus
 }

@@ -101,17 +101,17 @@ static void look_at(struct thread *t, uint32_t slot)
 	uint32_t length = 0, segments = 0, references = 0, sum = 0, i;
 	struct mbufpool_segment s;
 
-	MUST(mbufpool_pkt_len(&t->worker, slot, &length) == 0);
-	MUST(mbufpool_nb_segs(&t->worker, slot, &segments) == 0);
-	MUST(mbufpool_count(&t->worker, slot, &references) == 0);
+	MUST(mbufpool_worker_pkt_len(&t->worker, slot, &length) == 0);
+	MUST(mbufpool_worker_nb_segs(&t->worker, slot, &segments) == 0);
+	MUST(mbufpool_worker_refcnt(&t->worker, slot, &references) == 0);
 	MUST(segments >= 1 && segments <= 32 && references >= 1 && references <= limits.ref_limit);
 	for (i = 0; i < segments; i++) {
-		MUST(mbufpool_segment(&t->worker, slot, i, &s) == 0);
+		MUST(mbufpool_worker_segment(&t->worker, slot, i, &s) == 0);
 		MUST(s.element < limits.population && s.buffer < limits.population);
 		MUST((uint32_t)s.off + s.len <= s.buf && s.buf <= limits.buf);
 		sum += s.len;
 	}
-	MUST(mbufpool_segment(&t->worker, slot, segments, &s) == MBUFPOOL_TOO_SHORT);
+	MUST(mbufpool_worker_segment(&t->worker, slot, segments, &s) == MBUFPOOL_TOO_SHORT);
 	MUST(sum == length);
 }
 
@@ -127,40 +127,40 @@ static void call_worker(struct thread *t)
 	switch (below(t, 20)) {
 	case 0:
 	case 1:
-		status = told(t, mbufpool_alloc(w, p));
+		status = told(t, mbufpool_worker_alloc(w, p));
 		if (status == 0)
 			has_new(t, p);
 		return;
 	case 2:
 		n = a % (below(t, 4) ? 12 : SLOTS + 3);
-		status = told(t, mbufpool_alloc_bulk(w, p, n));
+		status = told(t, mbufpool_worker_alloc_bulk(w, p, n));
 		for (i = 0; status == 0 && i < n; i++)
 			has_new(t, &p[i]);
 		return;
 	case 3:
-		status = told(t, mbufpool_chain(w, a, b));
+		status = told(t, mbufpool_worker_chain(w, a, b));
 		MUST(status != 0 || (is_full(t, a) && is_full(t, b) && a != b));
 		if (status == 0)
 			t->full[b] = 0;
 		return;
 	case 4:
-		status = told(t, mbufpool_attach(w, a, b));
+		status = told(t, mbufpool_worker_attach(w, a, b));
 		MUST(status != 0 || (is_full(t, a) && is_full(t, b) && a != b));
 		return;
 	case 5:
-		status = told(t, mbufpool_clone(w, a, p));
+		status = told(t, mbufpool_worker_clone(w, a, p));
 		MUST((status == MBUFPOOL_NO_SUCH_PACKET) == !is_full(t, a));
 		if (status == 0)
 			has_new(t, p);
 		return;
 	case 6:
-		status = told(t, mbufpool_offer(w, a, b));
+		status = told(t, mbufpool_worker_offer(w, a, b));
 		MUST(status != 0 || (is_full(t, a) && b < limits.desks));
 		if (status == 0)
 			t->full[a] = 0;
 		return;
 	case 7:
-		status = told(t, mbufpool_take(w, a, &n));
+		status = told(t, mbufpool_worker_take(w, a, &n));
 		MUST((status == MBUFPOOL_NO_SUCH_DESK) == (a >= limits.desks));
 		if (status != 0)
 			return;
@@ -169,32 +169,32 @@ static void call_worker(struct thread *t)
 		look_at(t, n);
 		return;
 	case 8:
-		status = told(t, mbufpool_flush(w));
+		status = told(t, mbufpool_worker_flush(w));
 		MUST(status == 0 || status == MBUFPOOL_CONTENDED);
 		return;
 	case 9:
-		status = told(t, mbufpool_segment(w, a, b, &s));
+		status = told(t, mbufpool_worker_segment(w, a, b, &s));
 		MUST((status == MBUFPOOL_NO_SUCH_PACKET) == !is_full(t, a));
 		return;
-	case 10: status = mbufpool_detach(w, a); break;
-	case 11: status = mbufpool_count(w, a, &n); break;
-	case 12: status = mbufpool_nb_segs(w, a, &n); break;
+	case 10: status = mbufpool_worker_detach(w, a); break;
+	case 11: status = mbufpool_worker_refcnt(w, a, &n); break;
+	case 12: status = mbufpool_worker_nb_segs(w, a, &n); break;
 	case 13:
 	case 14:
 	case 15:
 	case 16:
 		if (is_full(t, a))
-			MUST(mbufpool_pkt_len(w, a, &had) == 0);
+			MUST(mbufpool_worker_pkt_len(w, a, &had) == 0);
 		switch (below(t, 4)) {
-		case 0: status = mbufpool_append(w, a, length, &now), had += length; break;
-		case 1: status = mbufpool_prepend(w, a, length, &now), had += length; break;
-		case 2: status = mbufpool_adj(w, a, length, &now), had -= length; break;
-		default: status = mbufpool_trim(w, a, length, &now), had -= length; break;
+		case 0: status = mbufpool_worker_append(w, a, length, &now), had += length; break;
+		case 1: status = mbufpool_worker_prepend(w, a, length, &now), had += length; break;
+		case 2: status = mbufpool_worker_adj(w, a, length, &now), had -= length; break;
+		default: status = mbufpool_worker_trim(w, a, length, &now), had -= length; break;
 		}
 		MUST(status != 0 || now == had);
 		break;
 	default:
-		status = mbufpool_free(w, a);
+		status = mbufpool_worker_free(w, a);
 		MUST((status == MBUFPOOL_NO_SUCH_PACKET) == !is_full(t, a));
 		if (status == 0)
 			t->full[a] = 0;
@@ -213,13 +213,13 @@ static void clear_worker(struct thread *t)
 	uint32_t desk, slot, status;
 
 	for (slot = 0; slot < SLOTS; slot++)
-		MUST((mbufpool_free(&t->worker, slot) == 0) == t->full[slot]);
+		MUST((mbufpool_worker_free(&t->worker, slot) == 0) == t->full[slot]);
 	for (desk = 0; desk < limits.desks; desk++) {
-		while ((status = mbufpool_take(&t->worker, desk, &slot)) == 0)
-			MUST(mbufpool_free(&t->worker, slot) == 0);
+		while ((status = mbufpool_worker_take(&t->worker, desk, &slot)) == 0)
+			MUST(mbufpool_worker_free(&t->worker, slot) == 0);
 		MUST(status == MBUFPOOL_DESK_EMPTY || status == MBUFPOOL_CONTENDED);
 	}
-	MUST(mbufpool_flush(&t->worker) == 0);
+	MUST(mbufpool_worker_flush(&t->worker) == 0);
 	memset(t->full, 0, sizeof(t->full));
 }
 
@@ -301,7 +301,7 @@ static void call_checked(struct thread *t)
 		}
 		MUST(mbufpool_checked_count(&seat) == left);
 	}
-	mbufpool_checked_free(&seat);
+	mbufpool_checked_end(&seat);
 	MUST(seat.at == NULL);
 	MUST(mbufpool_checked_get(&seat, list, 1) == MBUFPOOL_STRANGER);
 	MUST(mbufpool_checked_put(&seat, list, 1) == MBUFPOOL_STRANGER);
@@ -310,11 +310,11 @@ static void call_checked(struct thread *t)
 /* ---- the end of a pool of packets ---- */
 
 /* What a pool that was closed left, by calls with room for any number of bytes. */
-static void look_at_ending(struct thread *t, struct mbufpool_ending *e)
+static void look_at_ending(struct thread *t, struct mbufpool_statement *e)
 {
 	struct mbufpool_counts c = { 7, 7, 7 };
-	uint32_t lost[MOST], status = mbufpool_ending_counts(e, &c), room = below(t, 40), i;
-	size_t n = mbufpool_lost(e, lost, MOST), length;
+	uint32_t lost[MOST], status = mbufpool_statement_counts(e, &c), room = below(t, 40), i;
+	size_t n = mbufpool_statement_lost(e, lost, MOST), length;
 	char text[40];
 
 	MUST(status == 0 || status == MBUFPOOL_STRANGER);
@@ -338,27 +338,27 @@ static void call_none(struct thread *t)
 {
 	struct mbufpool_worker none = MBUFPOOL_NONE;
 	struct mbufpool_seat no_seat = MBUFPOOL_NONE, other = MBUFPOOL_NONE;
-	struct mbufpool_ending no_ending = MBUFPOOL_NONE;
+	struct mbufpool_statement no_ending = MBUFPOOL_NONE;
 	struct mbufpool_packet p[4];
 	uint32_t a = any(t), b = any(t), n = 77;
 
-	MUST(mbufpool_alloc(&none, p) == MBUFPOOL_STRANGER);
-	MUST(mbufpool_alloc_bulk(&none, p, 4) == MBUFPOOL_STRANGER);
-	MUST(mbufpool_free(&none, a) == MBUFPOOL_STRANGER);
-	MUST(mbufpool_append(&none, a, 1, &n) == MBUFPOOL_STRANGER && n == 77);
-	MUST(mbufpool_chain(&none, a, b) == MBUFPOOL_STRANGER);
-	MUST(mbufpool_offer(&none, a, b) == MBUFPOOL_STRANGER);
-	MUST(mbufpool_take(&none, a, &n) == MBUFPOOL_STRANGER && n == 77);
-	MUST(mbufpool_flush(&none) == MBUFPOOL_STRANGER);
-	mbufpool_end(&none);
+	MUST(mbufpool_worker_alloc(&none, p) == MBUFPOOL_STRANGER);
+	MUST(mbufpool_worker_alloc_bulk(&none, p, 4) == MBUFPOOL_STRANGER);
+	MUST(mbufpool_worker_free(&none, a) == MBUFPOOL_STRANGER);
+	MUST(mbufpool_worker_append(&none, a, 1, &n) == MBUFPOOL_STRANGER && n == 77);
+	MUST(mbufpool_worker_chain(&none, a, b) == MBUFPOOL_STRANGER);
+	MUST(mbufpool_worker_offer(&none, a, b) == MBUFPOOL_STRANGER);
+	MUST(mbufpool_worker_take(&none, a, &n) == MBUFPOOL_STRANGER && n == 77);
+	MUST(mbufpool_worker_flush(&none) == MBUFPOOL_STRANGER);
+	mbufpool_worker_end(&none);
 	MUST(mbufpool_seat_split(&no_seat, &other) == MBUFPOOL_STRANGER && other.at == NULL);
 	MUST(mbufpool_seat_get(&no_seat, &n, 1) == MBUFPOOL_STRANGER && n == 77);
 	MUST(mbufpool_seat_put(&no_seat, &n, 1) == MBUFPOOL_STRANGER);
-	mbufpool_seat_free(&no_seat);
-	MUST(mbufpool_close(&none, 1, &no_ending) == MBUFPOOL_STRANGER && no_ending.at == NULL);
-	MUST(mbufpool_close(&none, 0, &no_ending) == MBUFPOOL_STRANGER);
+	mbufpool_seat_end(&no_seat);
+	MUST(mbufpool_worker_close(&none, 1, &no_ending) == MBUFPOOL_STRANGER && no_ending.at == NULL);
+	MUST(mbufpool_worker_close(&none, 0, &no_ending) == MBUFPOOL_STRANGER);
 	look_at_ending(t, &no_ending);
-	mbufpool_ending_free(&no_ending);
+	mbufpool_statement_end(&no_ending);
 	t->calls += 14;
 }
 
@@ -377,29 +377,29 @@ static void close_some(struct thread *t, struct mbufpool_worker *w, uint32_t n, 
 {
 	struct mbufpool_limits one = { 3, 1, 1, 0, 64, 1, 10 };
 	struct mbufpool_worker both[2] = { MBUFPOOL_NONE };
-	struct mbufpool_ending e = MBUFPOOL_NONE;
+	struct mbufpool_statement e = MBUFPOOL_NONE;
 	uint32_t last = n - 1, status;
 
 	if (there == 0) {
-		MUST(told(t, mbufpool_close(w, n, &e)) == MBUFPOOL_STRANGER && e.at == NULL);
+		MUST(told(t, mbufpool_worker_close(w, n, &e)) == MBUFPOOL_STRANGER && e.at == NULL);
 		look_at_ending(t, &e);
 		return;
 	}
 	while (w[last].at == NULL)
 		last--;
-	status = told(t, mbufpool_close(w, last, &e));
+	status = told(t, mbufpool_worker_close(w, last, &e));
 	MUST(status == (there == 1 ? MBUFPOOL_STRANGER : MBUFPOOL_IN_USE) && w[last].at != NULL);
-	MUST(mbufpool_open(&one, &both[1], 1) == 0);
+	MUST(mbufpool_worker_open(&one, &both[1], 1) == 0);
 	both[0] = w[last];
-	MUST(told(t, mbufpool_close(both, 2, &e)) == MBUFPOOL_STRANGER && e.at == NULL);
+	MUST(told(t, mbufpool_worker_close(both, 2, &e)) == MBUFPOOL_STRANGER && e.at == NULL);
 	w[last] = both[0];
-	MUST(told(t, mbufpool_close(&both[1], 1, &e)) == 0 && both[1].at == NULL);
+	MUST(told(t, mbufpool_worker_close(&both[1], 1, &e)) == 0 && both[1].at == NULL);
 	look_at_ending(t, &e);
-	MUST(told(t, mbufpool_close(w, n, &e)) == 0);
+	MUST(told(t, mbufpool_worker_close(w, n, &e)) == 0);
 	for (last = 0; last < n; last++)
 		MUST(w[last].at == NULL);
 	look_at_ending(t, &e);
-	mbufpool_ending_free(&e);
+	mbufpool_statement_end(&e);
 	MUST(e.at == NULL);
 	look_at_ending(t, &e);
 }
@@ -424,18 +424,18 @@ static void call_open(struct thread *t)
 	default: break;
 	}
 	n = below(t, 8) ? l.workers & 3 : below(t, 4);
-	status = told(t, mbufpool_open(&l, w, n));
+	status = told(t, mbufpool_worker_open(&l, w, n));
 	MUST(status == (is_pool(&l) && n == l.workers ? 0 : MBUFPOOL_BAD_POOL));
 	for (i = 0; i < 4; i++) {
 		MUST((w[i].at != NULL) == (status == 0 && i < n));
 		if (below(t, 2))
-			mbufpool_end(&w[i]);
+			mbufpool_worker_end(&w[i]);
 	}
 	/* Workers that are left stay where an open over them is refused, and close what is left. */
 	l.workers = 5;
 	for (i = 0; i < 4; i++)
 		there += w[i].at != NULL;
-	MUST(mbufpool_open(&l, w, 4) == MBUFPOOL_BAD_POOL);
+	MUST(mbufpool_worker_open(&l, w, 4) == MBUFPOOL_BAD_POOL);
 	close_some(t, w, 4, there);
 	status = told(t, mbufpool_seat_open(l.population, l.desks, l.tries, &seat));
 	MUST((status == 0) ==
@@ -447,8 +447,8 @@ static void call_open(struct thread *t)
 		MUST(status == MBUFPOOL_STRANGER && i == l.desks);
 		MUST(mbufpool_seat_count(&seat) == l.population);
 	}
-	mbufpool_seat_free(&seat);
-	mbufpool_seat_free(&other);
+	mbufpool_seat_end(&seat);
+	mbufpool_seat_end(&other);
 }
 
 /* ---- a pool, and its end ---- */
@@ -485,7 +485,7 @@ static void one_pool(struct thread *t, uint32_t threads)
 	limits.ref_limit = below(t, 4) ? 65535 : 1 + below(t, 4);
 	limits.tries = threads == 1 ? 1 + below(t, 10) : 1000000;
 	MUST(is_pool(&limits));
-	MUST(mbufpool_open(&limits, w, threads) == 0);
+	MUST(mbufpool_worker_open(&limits, w, threads) == 0);
 	MUST(mbufpool_seat_open(limits.population, threads, limits.tries, &t[0].seat) == 0);
 	for (i = 0; i < threads; i++) {
 		t[i].worker = w[i];
@@ -509,15 +509,15 @@ static void one_pool(struct thread *t, uint32_t threads)
 	got(&t[0], t[0].hand, limits.population);
 	memset(taken, 0, sizeof(taken));
 	t[0].in_hand = 0;
-	for (found = 0; mbufpool_alloc(&t[0].worker, &p) == 0; found++)
+	for (found = 0; mbufpool_worker_alloc(&t[0].worker, &p) == 0; found++)
 		;
 	MUST(found == limits.population);
 	for (slot = 0; below(t, 2) && slot < SLOTS; slot++)
-		mbufpool_free(&t[0].worker, slot);
+		mbufpool_worker_free(&t[0].worker, slot);
 	for (i = 0; i < threads; i++) {
 		w[threads - 1 - i] = t[i].worker;
 		t[i].worker.at = NULL;
-		mbufpool_seat_free(&t[i].seat);
+		mbufpool_seat_end(&t[i].seat);
 		MUST(t[i].seat.at == NULL);
 	}
 	close_some(&t[0], w, threads, threads);

@@ -25,7 +25,7 @@ static void open_pool(struct mbufpool_worker *worker)
 {
 	struct mbufpool_limits limits = { POPULATION, CACHE, WORKERS, 2, 2048, 65535, 64 };
 
-	must(mbufpool_open(&limits, worker, WORKERS), "open");
+	must(mbufpool_worker_open(&limits, worker, WORKERS), "open");
 }
 
 /* Each worker gets a packet of some bytes, and a cache; the first clones its own, and lays the clone
@@ -37,17 +37,17 @@ static void use_pool(struct mbufpool_worker *worker)
 	uint16_t w;
 
 	for (w = 0; w < WORKERS; w++) {
-		must(mbufpool_alloc(&worker[w], &packet), "alloc");
-		must(mbufpool_append(&worker[w], packet.slot, (uint16_t)(60 + w), &length), "append");
+		must(mbufpool_worker_alloc(&worker[w], &packet), "alloc");
+		must(mbufpool_worker_append(&worker[w], packet.slot, (uint16_t)(60 + w), &length), "append");
 		if (w > 0)
 			continue;
-		must(mbufpool_clone(&worker[0], packet.slot, &clone), "clone");
-		must(mbufpool_offer(&worker[0], clone.slot, 1), "offer");
+		must(mbufpool_worker_clone(&worker[0], packet.slot, &clone), "clone");
+		must(mbufpool_worker_offer(&worker[0], clone.slot, 1), "offer");
 	}
 }
 
 /* Prints the statement, in room of its length. */
-static void print_statement(struct mbufpool_ending *ending)
+static void print_statement(struct mbufpool_statement *ending)
 {
 	size_t length = mbufpool_statement_text(ending, NULL, 0);
 	char *text = (char *)malloc(length);
@@ -69,34 +69,34 @@ static int are_whole(const struct mbufpool_counts *counts)
 int main(void)
 {
 	struct mbufpool_worker worker[WORKERS] = { MBUFPOOL_NONE };
-	struct mbufpool_ending ending = MBUFPOOL_NONE;
+	struct mbufpool_statement ending = MBUFPOOL_NONE;
 	struct mbufpool_counts counts;
 	uint32_t lost[POPULATION];
 	size_t n, k;
 
 	open_pool(worker);
 	use_pool(worker);
-	if (mbufpool_close(worker, 1, &ending) != MBUFPOOL_IN_USE)
+	if (mbufpool_worker_close(worker, 1, &ending) != MBUFPOOL_IN_USE)
 		return 1;
-	must(mbufpool_close(worker, WORKERS, &ending), "close");
-	must(mbufpool_ending_counts(&ending, &counts), "counts");
+	must(mbufpool_worker_close(worker, WORKERS, &ending), "close");
+	must(mbufpool_statement_counts(&ending, &counts), "counts");
 	printf("of %lu elements %lu are available, %lu in use\n", (unsigned long)counts.population,
 		(unsigned long)counts.available, (unsigned long)counts.in_use);
 	print_statement(&ending);
-	if (!are_whole(&counts) || mbufpool_lost(&ending, lost, POPULATION) != 0)
+	if (!are_whole(&counts) || mbufpool_statement_lost(&ending, lost, POPULATION) != 0)
 		return 1;
 
 	open_pool(worker);
 	use_pool(worker);
-	mbufpool_end(&worker[1]);
-	must(mbufpool_close(worker, WORKERS, &ending), "close");
-	n = mbufpool_lost(&ending, lost, POPULATION);
+	mbufpool_worker_end(&worker[1]);
+	must(mbufpool_worker_close(worker, WORKERS, &ending), "close");
+	n = mbufpool_statement_lost(&ending, lost, POPULATION);
 	printf("lost with worker 2:");
 	for (k = 0; k < n; k++)
 		printf(" %u", (unsigned)lost[k]);
 	printf("\n");
-	if (n == 0 || mbufpool_ending_counts(&ending, &counts) != MBUFPOOL_STRANGER)
+	if (n == 0 || mbufpool_statement_counts(&ending, &counts) != MBUFPOOL_STRANGER)
 		return 1;
-	mbufpool_ending_free(&ending);
+	mbufpool_statement_end(&ending);
 	return 0;
 }

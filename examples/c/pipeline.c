@@ -80,7 +80,7 @@ static void *get_stage(void *arg)
 			buffer[list[k]] = (unsigned char)n;
 		send_list(s->to, list);
 	}
-	mbufpool_seat_free(&s->seat); /* what it got is still with the others */
+	mbufpool_seat_end(&s->seat); /* what it got is still with the others */
 	return NULL;
 }
 
@@ -138,6 +138,6 @@ int main(int argc, char **argv)
 	wrong = one.wrong + two.wrong + three.wrong;
 	printf("%lu lists of %d went through, wrong %lu, on the stack %u of %u\n", three.lists, BULK, wrong,
 		(unsigned)left, POPULATION);
-	mbufpool_seat_free(&three.seat);
+	mbufpool_seat_end(&three.seat);
 	return wrong != 0 || left != POPULATION;
 }

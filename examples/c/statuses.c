@@ -83,6 +83,7 @@ int main(void)
 	wrong += !is_right(UINT32_MAX);
 	snprintf(version, sizeof(version), "%d.%d", MBUFPOOL_VERSION_MAJOR, MBUFPOOL_VERSION_MINOR);
 	wrong += strcmp(version, MBUFPOOL_VERSION) != 0;
+	wrong += mbufpool_version() != MBUFPOOL_VERSION_NUMBER(MBUFPOOL_VERSION_MAJOR, MBUFPOOL_VERSION_MINOR);
 	status = mbufpool_seat_get(&seat, &element, 1);
 	printf("version %s; a get by a handle with zeros: %s\n", MBUFPOOL_VERSION, mbufpool_strerror(status));
 	return wrong != 0 || status != MBUFPOOL_STRANGER;

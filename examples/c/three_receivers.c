@@ -49,21 +49,21 @@ static void send_all(struct mbufpool_worker *worker)
 	uint32_t number, desk, length;
 
 	for (number = 1; number <= PACKETS; number++) {
-		while (again(mbufpool_alloc(worker, &packet)))
+		while (again(mbufpool_worker_alloc(worker, &packet)))
 			;
-		while (again(mbufpool_append(worker, packet.slot, LENGTH, &length)))
+		while (again(mbufpool_worker_append(worker, packet.slot, LENGTH, &length)))
 			;
 		__atomic_store_n(&first_word[packet.element], number, __ATOMIC_RELAXED);
 		for (desk = 0; desk < RECEIVERS; desk++) {
-			while (again(mbufpool_clone(worker, packet.slot, &clone)))
+			while (again(mbufpool_worker_clone(worker, packet.slot, &clone)))
 				;
-			while (again(mbufpool_offer(worker, clone.slot, desk)))
+			while (again(mbufpool_worker_offer(worker, clone.slot, desk)))
 				;
 		}
-		while (again(mbufpool_free(worker, packet.slot)))
+		while (again(mbufpool_worker_free(worker, packet.slot)))
 			;
 	}
-	while (again(mbufpool_flush(worker)))
+	while (again(mbufpool_worker_flush(worker)))
 		;
 }
 
@@ -74,21 +74,21 @@ static void *receive_all(void *arg)
 	uint32_t number, slot, length;
 
 	for (number = 1; number <= PACKETS; number++) {
-		while (again(mbufpool_take(me->worker, me->desk, &slot)))
+		while (again(mbufpool_worker_take(me->worker, me->desk, &slot)))
 			;
 		me->taken++;
-		while (again(mbufpool_pkt_len(me->worker, slot, &length)))
+		while (again(mbufpool_worker_pkt_len(me->worker, slot, &length)))
 			;
-		while (again(mbufpool_segment(me->worker, slot, 0, &segment)))
+		while (again(mbufpool_worker_segment(me->worker, slot, 0, &segment)))
 			;
 		if (length != LENGTH || segment.len != LENGTH ||
 			segment.element == segment.buffer ||
 			__atomic_load_n(&first_word[segment.buffer], __ATOMIC_RELAXED) != number)
 			me->wrong++;
-		while (again(mbufpool_free(me->worker, slot)))
+		while (again(mbufpool_worker_free(me->worker, slot)))
 			;
 	}
-	while (again(mbufpool_flush(me->worker)))
+	while (again(mbufpool_worker_flush(me->worker)))
 		;
 	return NULL;
 }
@@ -104,7 +104,7 @@ int main(void)
 	unsigned long free_again = 0;
 	int r, failed = 0;
 
-	if (mbufpool_open(&limits, worker, RECEIVERS + 1) != 0)
+	if (mbufpool_worker_open(&limits, worker, RECEIVERS + 1) != 0)
 		return 1;
 	for (r = 0; r < RECEIVERS; r++) {
 		receiver[r].worker = &worker[r + 1];
@@ -120,10 +120,10 @@ int main(void)
 			PACKETS, receiver[r].wrong);
 		failed |= receiver[r].taken != PACKETS || receiver[r].wrong != 0;
 	}
-	while (mbufpool_alloc(&worker[0], &packet) == 0)
+	while (mbufpool_worker_alloc(&worker[0], &packet) == 0)
 		free_again++;
 	printf("%lu of %d elements can be had again\n", free_again, POPULATION);
 	for (r = 0; r <= RECEIVERS; r++)
-		mbufpool_end(&worker[r]);
+		mbufpool_worker_end(&worker[r]);
 	return failed || free_again != POPULATION;
 }

@@ -55,8 +55,8 @@ int main(void)
 	common = mbufpool_seat_count(&first.seat);
 	printf("met %lu and %lu times, given twice %d, on the stack %u of %u\n", first.met,
 		second.met, twice, (unsigned)common, POPULATION);
-	mbufpool_seat_free(&second.seat);
-	mbufpool_seat_free(&first.seat);
+	mbufpool_seat_end(&second.seat);
+	mbufpool_seat_end(&first.seat);
 	refused = mbufpool_seat_get(&first.seat, &element, 1);
 	printf("after its end a seat is refused: %s\n", mbufpool_strerror(refused));
 	return twice != 0 || common != POPULATION || refused != MBUFPOOL_STRANGER;

@@ -92,11 +92,11 @@ once(enum face face, struct thread *t, struct rte_mempool_cache *cache, unsigned
 			rte_pause();
 		return n;
 	default:
-		if ((n == 1 ? mbufpool_alloc(&t->worker, packets)
-			    : mbufpool_alloc_bulk(&t->worker, packets, n)) != 0)
+		if ((n == 1 ? mbufpool_worker_alloc(&t->worker, packets)
+			    : mbufpool_worker_alloc_bulk(&t->worker, packets, n)) != 0)
 			return 0;
 		for (i = 0; i < n; i++)
-			while (mbufpool_free(&t->worker, packets[i].slot) == MBUFPOOL_CONTENDED)
+			while (mbufpool_worker_free(&t->worker, packets[i].slot) == MBUFPOOL_CONTENDED)
 				rte_pause();
 		return n;
 	}
@@ -246,7 +246,7 @@ make(const char *what, uint32_t population, uint32_t cache)
 	}
 	if (strcmp(what, "packet") == 0) {
 		cell.face = BY_WORKER;
-		if (mbufpool_open(&limits, workers, cell.threads) != 0)
+		if (mbufpool_worker_open(&limits, workers, cell.threads) != 0)
 			return -1;
 		for (i = 0; i < cell.threads; i++)
 			cell.thread[i].worker = workers[i];
@@ -281,8 +281,8 @@ end(void)
 	rte_mempool_free(cell.mp);
 	rte_ring_free(cell.ring);
 	for (i = 0; i < cell.threads; i++) {
-		mbufpool_seat_free(&cell.thread[i].seat);
-		mbufpool_end(&cell.thread[i].worker);
+		mbufpool_seat_end(&cell.thread[i].seat);
+		mbufpool_worker_end(&cell.thread[i].worker);
 	}
 }
 

@@ -169,10 +169,10 @@ renew(struct checked *c)
 	if (cause == 0)
 		cause = keep_stack(c);
 	if (cause != 0) {
-		mbufpool_checked_free(&now);
+		mbufpool_checked_end(&now);
 		return cause;
 	}
-	mbufpool_checked_free(&c->on);
+	mbufpool_checked_end(&c->on);
 	c->on = now;
 	c->is_drained = 0;
 	offer(c, &c->on);
@@ -286,7 +286,7 @@ checked_open(struct checked *c, const struct mbufpool_renewing_limits *limits,
 		return cause;
 	c->next = malloc(c->population * sizeof(*c->next));
 	if (c->next == NULL) {
-		mbufpool_checked_free(&c->on);
+		mbufpool_checked_end(&c->on);
 		return MBUFPOOL_NO_MEMORY;
 	}
 	for (k = 0; k < c->population; k++)
@@ -298,7 +298,7 @@ checked_open(struct checked *c, const struct mbufpool_renewing_limits *limits,
 void
 checked_close(struct checked *c)
 {
-	mbufpool_checked_free(&c->on);
+	mbufpool_checked_end(&c->on);
 	free(c->next);
 	c->next = NULL;
 }

@@ -85,39 +85,39 @@ element_text number name e = front_text number name ++ codes " element " ++ deci
 
 -- the length word, and how long the walk is
 unfoldable pub length_text : ℕ → ℕ → List ℕ
-length_text word found = front_text 4 (codes "BadLength") ++ codes " word " ++ decimal word ++ codes ", walk " ++ decimal found
+length_text word found = front_text 104 (codes "BadLength") ++ codes " word " ++ decimal word ++ codes ", walk " ++ decimal found
 
 -- an element that the pool doesn't have, and where it is named
 unfoldable pub stranger_text : ℕ → List Place → List ℕ
-stranger_text e places = front_text 5 (codes "BadElem") ++ codes " " ++ decimal e ++ first_text places
+stranger_text e places = front_text 105 (codes "BadElem") ++ codes " " ++ decimal e ++ first_text places
 
 -- where what is no packet stands
 unfoldable pub other_text : List Place → List ℕ
-other_text places = front_text 6 (codes "BadPacket") ++ first_text places
+other_text places = front_text 106 (codes "BadPacket") ++ first_text places
 
 -- an element, and two segments whose own one it is
 unfoldable pub header_text : ℕ → List Place → List ℕ
-header_text e places = element_text 7 (codes "DoubleHeader") e ++ two_text places
+header_text e places = element_text 107 (codes "DoubleHeader") e ++ two_text places
 
 -- an element, and two places where it stands
 unfoldable pub doubled_text : ℕ → List Place → List ℕ
-doubled_text e places = element_text 8 (codes "Doubled") e ++ two_text places
+doubled_text e places = element_text 108 (codes "Doubled") e ++ two_text places
 
 -- an element, its count, and how often it is held
 unfoldable pub count_text : ℕ → ℕ → ℕ → List ℕ
 count_text e word holds =
-    element_text 10 (codes "BadCount") e ++ codes ": count " ++ decimal word ++ codes ", held " ++ decimal holds
+    element_text 110 (codes "BadCount") e ++ codes ": count " ++ decimal word ++ codes ", held " ++ decimal holds
 
 -- the line of a fault
 abbrev pub fault_text : Snapshot → Fault → List ℕ
-fault_text s BadShape = codes "fault 1 BadShape: " ++ shape_text s
-fault_text s (BadTop word) = codes "fault 2 BadTop " ++ decimal word
-fault_text s Loop = codes "fault 3 Loop"
+fault_text s BadShape = codes "fault 101 BadShape: " ++ shape_text s
+fault_text s (BadTop word) = codes "fault 102 BadTop " ++ decimal word
+fault_text s Loop = codes "fault 103 Loop"
 fault_text s (BadLength word found) = length_text word found
 fault_text s (BadElem e) = stranger_text e (places_of s e)
 fault_text s BadPacket = other_text (others_of s)
 fault_text s (DoubleHeader e) = header_text e (owners_of s e)
 fault_text s (Doubled e) = doubled_text e (places_of s e)
-fault_text s (Lost e) = codes "fault 9 Lost element " ++ decimal e
+fault_text s (Lost e) = codes "fault 109 Lost element " ++ decimal e
 fault_text s (BadCount e word holds) = count_text e word holds
 fault_text s OutOfMemory = codes "fault 2 OutOfMemory"

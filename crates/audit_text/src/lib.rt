@@ -51,9 +51,9 @@ fn write_fault(
     ensures { OnOk result (out.new.items ≡ out.old.items ++ fault_text snapshot.now fault) }
 {
     match fault {
-        Fault::BadShape => write!(out, "fault 1 BadShape: {}", shape_words(snapshot)),
-        Fault::BadTop(word) => write!(out, "fault 2 BadTop {word}"),
-        Fault::Loop => write!(out, "fault 3 Loop"),
+        Fault::BadShape => write!(out, "fault 101 BadShape: {}", shape_words(snapshot)),
+        Fault::BadTop(word) => write!(out, "fault 102 BadTop {word}"),
+        Fault::Loop => write!(out, "fault 103 Loop"),
         Fault::BadLength { word, found } => write_length(out, word, found),
         Fault::BadElem(elem) => {
             let places = everywhere(alloc, snapshot, elem)?;
@@ -71,7 +71,7 @@ fn write_fault(
             let places = everywhere(alloc, snapshot, elem)?;
             write_doubled(out, elem, places.as_slice())
         }
-        Fault::Lost(elem) => write!(out, "fault 9 Lost element {elem}"),
+        Fault::Lost(elem) => write!(out, "fault 109 Lost element {elem}"),
         Fault::BadCount { elem, word, holds } => write_count(out, elem, word, holds),
         Fault::OutOfMemory => write!(out, "fault 2 OutOfMemory"),
     }

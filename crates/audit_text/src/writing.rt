@@ -30,7 +30,7 @@ fn write_element(out: &mut Vec<u8>, number: u32, name: &str, elem: u32) -> io::R
 pub(crate) fn write_length(out: &mut Vec<u8>, word: u64, found: u64) -> io::Result<()>
     ensures { OnOk result (out.new.items ≡ out.old.items ++ length_text word found) }
 {
-    write_front(out, 4, "BadLength")?;
+    write_front(out, 104, "BadLength")?;
     write!(out, " word {word}, walk {found}")
 }
 
@@ -39,7 +39,7 @@ pub(crate) fn write_length(out: &mut Vec<u8>, word: u64, found: u64) -> io::Resu
 pub(crate) fn write_stranger(out: &mut Vec<u8>, elem: u32, places: &[Place]) -> io::Result<()>
     ensures { OnOk result (out.new.items ≡ out.old.items ++ stranger_text elem places.now) }
 {
-    write_front(out, 5, "BadElem")?;
+    write_front(out, 105, "BadElem")?;
     write!(out, " {elem}")?;
     write_first(out, places)
 }
@@ -49,7 +49,7 @@ pub(crate) fn write_stranger(out: &mut Vec<u8>, elem: u32, places: &[Place]) -> 
 pub(crate) fn write_other(out: &mut Vec<u8>, places: &[Place]) -> io::Result<()>
     ensures { OnOk result (out.new.items ≡ out.old.items ++ other_text places.now) }
 {
-    write_front(out, 6, "BadPacket")?;
+    write_front(out, 106, "BadPacket")?;
     write_first(out, places)
 }
 
@@ -58,7 +58,7 @@ pub(crate) fn write_other(out: &mut Vec<u8>, places: &[Place]) -> io::Result<()>
 pub(crate) fn write_header(out: &mut Vec<u8>, elem: u32, places: &[Place]) -> io::Result<()>
     ensures { OnOk result (out.new.items ≡ out.old.items ++ header_text elem places.now) }
 {
-    write_element(out, 7, "DoubleHeader", elem)?;
+    write_element(out, 107, "DoubleHeader", elem)?;
     write_two(out, places)
 }
 
@@ -67,7 +67,7 @@ pub(crate) fn write_header(out: &mut Vec<u8>, elem: u32, places: &[Place]) -> io
 pub(crate) fn write_doubled(out: &mut Vec<u8>, elem: u32, places: &[Place]) -> io::Result<()>
     ensures { OnOk result (out.new.items ≡ out.old.items ++ doubled_text elem places.now) }
 {
-    write_element(out, 8, "Doubled", elem)?;
+    write_element(out, 108, "Doubled", elem)?;
     write_two(out, places)
 }
 
@@ -76,6 +76,6 @@ pub(crate) fn write_doubled(out: &mut Vec<u8>, elem: u32, places: &[Place]) -> i
 pub(crate) fn write_count(out: &mut Vec<u8>, elem: u32, word: u32, holds: u64) -> io::Result<()>
     ensures { OnOk result (out.new.items ≡ out.old.items ++ count_text elem word holds) }
 {
-    write_element(out, 10, "BadCount", elem)?;
+    write_element(out, 110, "BadCount", elem)?;
     write!(out, ": count {word}, held {holds}")
 }

@@ -160,7 +160,7 @@ pub extern "C" fn mbufpool_checked_changes_left(alloc: Global, seat: &mut Checke
 
 /// Ends a checked seat, and its pool: the handle has none then.
 #[unsafe(no_mangle)]
-pub extern "C" fn mbufpool_checked_free(alloc: Global, seat: &mut CheckedHandle)
+pub extern "C" fn mbufpool_checked_end(alloc: Global, seat: &mut CheckedHandle)
     ensures { seat.new.value ≡ None }
 {
     drop(seat.take(alloc));

@@ -465,7 +465,7 @@ fn close(
 /// Memory may be refused later, too, and `MISUSED` is answered where a handle was used by another
 /// thread meanwhile: then the handles have no workers, and nothing is told.
 #[unsafe(no_mangle)]
-pub extern "C" fn mbufpool_close(
+pub extern "C" fn mbufpool_worker_close(
     alloc: Global,
     workers: &mut [WorkerHandle],
     out: &mut EndingHandle,

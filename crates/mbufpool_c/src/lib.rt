@@ -21,5 +21,6 @@ pub mod seats;
 pub mod sent;
 pub mod stack;
 pub mod told;
+pub mod version;
 pub mod worker_handle;
 pub mod workers;

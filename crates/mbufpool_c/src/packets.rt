@@ -116,7 +116,7 @@ fn tell_new(alloc: Global, worker: &mut WorkerHandle, what: Act, out: &mut NewPa
 
 /// Makes a packet of one element.
 #[unsafe(no_mangle)]
-pub extern "C" fn mbufpool_alloc(
+pub extern "C" fn mbufpool_worker_alloc(
     alloc: Global,
     worker: &mut WorkerHandle,
     out: &mut NewPacket,
@@ -157,7 +157,7 @@ fn tell_each(made: &[acts::NewPacket], out: &mut [NewPacket])
 
 /// Makes as many packets of one element as `out` has places, all or none, and gives C each.
 #[unsafe(no_mangle)]
-pub extern "C" fn mbufpool_alloc_bulk(
+pub extern "C" fn mbufpool_worker_alloc_bulk(
     alloc: Global,
     worker: &mut WorkerHandle,
     out: &mut [NewPacket],
@@ -178,7 +178,7 @@ pub extern "C" fn mbufpool_alloc_bulk(
 
 /// Frees a packet.
 #[unsafe(no_mangle)]
-pub extern "C" fn mbufpool_free(alloc: Global, worker: &mut WorkerHandle, slot: u32) -> u32
+pub extern "C" fn mbufpool_worker_free(alloc: Global, worker: &mut WorkerHandle, slot: u32) -> u32
     ensures { ActsAs (Act.Free slot) worker.old.value result worker.new.value }
 {
     status_of(&act(alloc, worker, Act::Free(slot)))
@@ -186,7 +186,7 @@ pub extern "C" fn mbufpool_free(alloc: Global, worker: &mut WorkerHandle, slot: 
 
 /// Adds this many bytes after a packet's data, and gives its length.
 #[unsafe(no_mangle)]
-pub extern "C" fn mbufpool_append(
+pub extern "C" fn mbufpool_worker_append(
     alloc: Global,
     worker: &mut WorkerHandle,
     slot: u32,
@@ -200,7 +200,7 @@ pub extern "C" fn mbufpool_append(
 
 /// Adds this many bytes in front of a packet's data, and gives its length.
 #[unsafe(no_mangle)]
-pub extern "C" fn mbufpool_prepend(
+pub extern "C" fn mbufpool_worker_prepend(
     alloc: Global,
     worker: &mut WorkerHandle,
     slot: u32,
@@ -214,7 +214,7 @@ pub extern "C" fn mbufpool_prepend(
 
 /// Takes this many bytes off the front of a packet's data, and gives its length.
 #[unsafe(no_mangle)]
-pub extern "C" fn mbufpool_adj(
+pub extern "C" fn mbufpool_worker_adj(
     alloc: Global,
     worker: &mut WorkerHandle,
     slot: u32,
@@ -228,7 +228,7 @@ pub extern "C" fn mbufpool_adj(
 
 /// Takes this many bytes off the end of a packet's data, and gives its length.
 #[unsafe(no_mangle)]
-pub extern "C" fn mbufpool_trim(
+pub extern "C" fn mbufpool_worker_trim(
     alloc: Global,
     worker: &mut WorkerHandle,
     slot: u32,
@@ -242,7 +242,7 @@ pub extern "C" fn mbufpool_trim(
 
 /// Puts the segments of a packet after those of another.
 #[unsafe(no_mangle)]
-pub extern "C" fn mbufpool_chain(
+pub extern "C" fn mbufpool_worker_chain(
     alloc: Global,
     worker: &mut WorkerHandle,
     head: u32,
@@ -255,7 +255,7 @@ pub extern "C" fn mbufpool_chain(
 
 /// Lets a packet use the buffer of another.
 #[unsafe(no_mangle)]
-pub extern "C" fn mbufpool_attach(
+pub extern "C" fn mbufpool_worker_attach(
     alloc: Global,
     worker: &mut WorkerHandle,
     slot: u32,
@@ -268,7 +268,7 @@ pub extern "C" fn mbufpool_attach(
 
 /// Gives a packet its own buffer back.
 #[unsafe(no_mangle)]
-pub extern "C" fn mbufpool_detach(alloc: Global, worker: &mut WorkerHandle, slot: u32) -> u32
+pub extern "C" fn mbufpool_worker_detach(alloc: Global, worker: &mut WorkerHandle, slot: u32) -> u32
     ensures { ActsAs (Act.Detach slot) worker.old.value result worker.new.value }
 {
     status_of(&act(alloc, worker, Act::Detach(slot)))
@@ -276,7 +276,7 @@ pub extern "C" fn mbufpool_detach(alloc: Global, worker: &mut WorkerHandle, slot
 
 /// Makes a clone of a packet.
 #[unsafe(no_mangle)]
-pub extern "C" fn mbufpool_clone(
+pub extern "C" fn mbufpool_worker_clone(
     alloc: Global,
     worker: &mut WorkerHandle,
     slot: u32,
@@ -289,7 +289,7 @@ pub extern "C" fn mbufpool_clone(
 
 /// Leaves a packet on a desk.
 #[unsafe(no_mangle)]
-pub extern "C" fn mbufpool_offer(
+pub extern "C" fn mbufpool_worker_offer(
     alloc: Global,
     worker: &mut WorkerHandle,
     slot: u32,
@@ -302,7 +302,7 @@ pub extern "C" fn mbufpool_offer(
 
 /// Takes the packet off a desk, and gives its slot.
 #[unsafe(no_mangle)]
-pub extern "C" fn mbufpool_take(
+pub extern "C" fn mbufpool_worker_take(
     alloc: Global,
     worker: &mut WorkerHandle,
     desk: u32,
@@ -315,7 +315,7 @@ pub extern "C" fn mbufpool_take(
 
 /// Tells the reference count of a packet's first segment's element.
 #[unsafe(no_mangle)]
-pub extern "C" fn mbufpool_count(
+pub extern "C" fn mbufpool_worker_refcnt(
     alloc: Global,
     worker: &mut WorkerHandle,
     slot: u32,
@@ -328,7 +328,7 @@ pub extern "C" fn mbufpool_count(
 
 /// Tells how many bytes of data a packet has.
 #[unsafe(no_mangle)]
-pub extern "C" fn mbufpool_pkt_len(
+pub extern "C" fn mbufpool_worker_pkt_len(
     alloc: Global,
     worker: &mut WorkerHandle,
     slot: u32,
@@ -341,7 +341,7 @@ pub extern "C" fn mbufpool_pkt_len(
 
 /// Tells how many segments a packet has.
 #[unsafe(no_mangle)]
-pub extern "C" fn mbufpool_nb_segs(
+pub extern "C" fn mbufpool_worker_nb_segs(
     alloc: Global,
     worker: &mut WorkerHandle,
     slot: u32,
@@ -354,7 +354,7 @@ pub extern "C" fn mbufpool_nb_segs(
 
 /// Puts the worker's whole cache onto the common stack.
 #[unsafe(no_mangle)]
-pub extern "C" fn mbufpool_flush(alloc: Global, worker: &mut WorkerHandle) -> u32
+pub extern "C" fn mbufpool_worker_flush(alloc: Global, worker: &mut WorkerHandle) -> u32
     ensures { ActsAs Act.Flush worker.old.value result worker.new.value }
 {
     status_of(&act(alloc, worker, Act::Flush))
@@ -379,7 +379,7 @@ pub extern "C" fn mbufpool_worker_changes_left(alloc: Global, worker: &mut Worke
 
 /// Ends a worker: the handle has none then. The pool is freed with its last worker.
 #[unsafe(no_mangle)]
-pub extern "C" fn mbufpool_end(alloc: Global, worker: &mut WorkerHandle)
+pub extern "C" fn mbufpool_worker_end(alloc: Global, worker: &mut WorkerHandle)
     ensures { worker.new.value ≡ None }
 {
     drop(worker.take(alloc));
@@ -404,7 +404,7 @@ fn segment_of(seg: Seg) -> Segment
 
 /// Tells of the segment at this place of a packet.
 #[unsafe(no_mangle)]
-pub extern "C" fn mbufpool_segment(
+pub extern "C" fn mbufpool_worker_segment(
     alloc: Global,
     worker: &mut WorkerHandle,
     slot: u32,

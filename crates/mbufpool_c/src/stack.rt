@@ -283,7 +283,7 @@ pub extern "C" fn mbufpool_seat_changes_left(alloc: Global, seat: &mut SeatWithL
 /// Ends a seat: the handle has none then. The pool is freed with its last seat. What the seat got
 /// and lent is lent still.
 #[unsafe(no_mangle)]
-pub extern "C" fn mbufpool_seat_free(alloc: Global, seat: &mut SeatWithLoans)
+pub extern "C" fn mbufpool_seat_end(alloc: Global, seat: &mut SeatWithLoans)
     ensures none { seat.new.handle.value ≡ None }
     ensures loans { seat.new.loans ≡ seat.old.loans }
 {

@@ -41,7 +41,7 @@ fn show_counts(statement: &Option<Statement>, out: &mut Counts) -> u32
 /// How many elements the pool has, how many are available and how many are in use, where its
 /// statement is there.
 #[unsafe(no_mangle)]
-pub extern "C" fn mbufpool_ending_counts(
+pub extern "C" fn mbufpool_statement_counts(
     alloc: Global,
     ending: &mut EndingHandle,
     out: &mut Counts,
@@ -153,7 +153,7 @@ pub extern "C" fn mbufpool_statement_json(
 
 /// The elements that are lost, ascending: as many as there is room for. Answers how many there are.
 #[unsafe(no_mangle)]
-pub extern "C" fn mbufpool_lost(alloc: Global, ending: &mut EndingHandle, out: &mut [u32]) -> usize
+pub extern "C" fn mbufpool_statement_lost(alloc: Global, ending: &mut EndingHandle, out: &mut [u32]) -> usize
     ensures kept { ending.new.value ≡ ending.old.value }
     ensures told { TellsLost ending.old.value result out.old out.new }
 {
@@ -169,7 +169,7 @@ pub extern "C" fn mbufpool_lost(alloc: Global, ending: &mut EndingHandle, out: &
 
 /// Frees what a pool left: the handle has nothing then.
 #[unsafe(no_mangle)]
-pub extern "C" fn mbufpool_ending_free(alloc: Global, ending: &mut EndingHandle)
+pub extern "C" fn mbufpool_statement_end(alloc: Global, ending: &mut EndingHandle)
     ensures { ending.new.value ≡ None }
 {
     drop(ending.take(alloc));

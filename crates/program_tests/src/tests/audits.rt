@@ -70,7 +70,7 @@ static FAULTS: &[Row] = &[
             \"cache\":[],\"slots\":[null,[{\"elem\":5,\"base\":null,\"off\":128,\"len\":9,\
             \"buf\":2048},{\"elem\":6,\"base\":null,\"off\":0,\"len\":1,\"buf\":2048}]]}],\
             \"guests\":[],\"foreign\":false}",
-        line: "fault 1 BadShape: not a link for each element\n",
+        line: "fault 101 BadShape: not a link for each element\n",
     },
     Row {
         members: "\"common\":[3,2,1,0],\"counts\":[1,1,1,1,1,1,1],\"desks\":[[{\"elem\":7,\
@@ -79,7 +79,7 @@ static FAULTS: &[Row] = &[
             [{\"elem\":5,\"base\":null,\"off\":128,\"len\":9,\"buf\":2048},{\"elem\":6,\
             \"base\":null,\"off\":0,\"len\":1,\"buf\":2048}]]}],\"guests\":[],\
             \"foreign\":false}",
-        line: "fault 1 BadShape: not a count for each element\n",
+        line: "fault 101 BadShape: not a count for each element\n",
     },
     Row {
         members: "\"common\":[3,2,1,0],\"counts\":[1,1,1,1,1,1,1,1],\"desks\":[],\
@@ -87,20 +87,20 @@ static FAULTS: &[Row] = &[
             \"cache\":[],\"slots\":[null,[{\"elem\":5,\"base\":null,\"off\":128,\"len\":9,\
             \"buf\":2048},{\"elem\":6,\"base\":null,\"off\":0,\"len\":1,\"buf\":2048}]]}],\
             \"guests\":[],\"foreign\":false}",
-        line: "fault 1 BadShape: not a place for each desk\n",
+        line: "fault 101 BadShape: not a place for each desk\n",
     },
     Row {
         members: "\"common\":[3,2,1,0],\"counts\":[1,1,1,1,1,1,1,1],\"desks\":[[{\"elem\":7,\
             \"base\":null,\"off\":128,\"len\":0,\"buf\":2048}]],\"shares\":[{\"worker\":1,\
             \"cache\":[4],\"slots\":[]}],\"guests\":[],\"foreign\":false}",
-        line: "fault 1 BadShape: not a share for each worker\n",
+        line: "fault 101 BadShape: not a share for each worker\n",
     },
     Row {
         members: "\"common\":[3,2,1,0],\"counts\":[1,1,1,1,1,1,1,1],\"desks\":[[{\"elem\":7,\
             \"base\":null,\"off\":128,\"len\":0,\"buf\":2048}]],\"shares\":[{\"worker\":1,\
             \"cache\":[4],\"slots\":[]},{\"worker\":1,\"cache\":[],\"slots\":[]}],\
             \"guests\":[],\"foreign\":false}",
-        line: "fault 1 BadShape: shares out of order, or of too many slots\n",
+        line: "fault 101 BadShape: shares out of order, or of too many slots\n",
     },
     Row {
         members: "\"common\":[3,2,1,0],\"counts\":[1,1,1,1,1,1,1,1],\"desks\":[[{\"elem\":7,\
@@ -109,7 +109,7 @@ static FAULTS: &[Row] = &[
             [{\"elem\":5,\"base\":null,\"off\":128,\"len\":9,\"buf\":2048},{\"elem\":6,\
             \"base\":null,\"off\":0,\"len\":1,\"buf\":2048}]]}],\"guests\":[{\"worker\":3,\
             \"elem\":1}],\"foreign\":false}",
-        line: "fault 1 BadShape: guests of no worker, or too many\n",
+        line: "fault 101 BadShape: guests of no worker, or too many\n",
     },
     Row {
         members: "\"top\":99,\"length\":4,\"links\":[0,1,2,3,0,0,0,0],\"counts\":[1,1,1,1,1,1,1,\
@@ -118,7 +118,7 @@ static FAULTS: &[Row] = &[
             \"cache\":[],\"slots\":[null,[{\"elem\":5,\"base\":null,\"off\":128,\"len\":9,\
             \"buf\":2048},{\"elem\":6,\"base\":null,\"off\":0,\"len\":1,\"buf\":2048}]]}],\
             \"guests\":[],\"foreign\":false}",
-        line: "fault 2 BadTop 99\n",
+        line: "fault 102 BadTop 99\n",
     },
     Row {
         members: "\"top\":4,\"length\":4,\"links\":[4,1,2,3,0,0,0,0],\"counts\":[1,1,1,1,1,1,1,1],\
@@ -127,7 +127,7 @@ static FAULTS: &[Row] = &[
             \"cache\":[],\"slots\":[null,[{\"elem\":5,\"base\":null,\"off\":128,\"len\":9,\
             \"buf\":2048},{\"elem\":6,\"base\":null,\"off\":0,\"len\":1,\"buf\":2048}]]}],\
             \"guests\":[],\"foreign\":false}",
-        line: "fault 3 Loop\n",
+        line: "fault 103 Loop\n",
     },
     Row {
         members: "\"top\":4,\"length\":5,\"links\":[0,1,2,3,0,0,0,0],\"counts\":[1,1,1,1,1,1,1,1],\
@@ -136,7 +136,7 @@ static FAULTS: &[Row] = &[
             \"cache\":[],\"slots\":[null,[{\"elem\":5,\"base\":null,\"off\":128,\"len\":9,\
             \"buf\":2048},{\"elem\":6,\"base\":null,\"off\":0,\"len\":1,\"buf\":2048}]]}],\
             \"guests\":[],\"foreign\":false}",
-        line: "fault 4 BadLength word 5, walk 4\n",
+        line: "fault 104 BadLength word 5, walk 4\n",
     },
     Row {
         members: "\"common\":[3,2,1,0],\"counts\":[1,1,1,1,1,1,1,1],\"desks\":[[{\"elem\":7,\
@@ -145,7 +145,7 @@ static FAULTS: &[Row] = &[
             [{\"elem\":5,\"base\":null,\"off\":128,\"len\":0,\"buf\":2048},{\"elem\":6,\
             \"base\":null,\"off\":128,\"len\":0,\"buf\":2048}]]}],\"guests\":[],\
             \"foreign\":false}",
-        line: "fault 5 BadElem 99: at 0 in the cache of worker 2\n",
+        line: "fault 105 BadElem 99: at 0 in the cache of worker 2\n",
     },
     Row {
         members: "\"common\":[3,2,1,0],\"counts\":[1,1,1,1,1,1,1,1],\"desks\":[[{\"elem\":7,\
@@ -153,7 +153,7 @@ static FAULTS: &[Row] = &[
             \"cache\":[4],\"slots\":[]},{\"worker\":2,\"cache\":[],\"slots\":[[{\"elem\":5,\
             \"base\":8,\"off\":128,\"len\":0,\"buf\":2048},{\"elem\":6,\"base\":null,\
             \"off\":128,\"len\":0,\"buf\":2048}]]}],\"guests\":[],\"foreign\":false}",
-        line: "fault 5 BadElem 8: base of segment 0 of packet 2 0\n",
+        line: "fault 105 BadElem 8: base of segment 0 of packet 2 0\n",
     },
     Row {
         members: "\"common\":[3,2,1,0],\"counts\":[1,1,1,1,1,1,1,1],\"desks\":[[{\"elem\":7,\
@@ -162,7 +162,7 @@ static FAULTS: &[Row] = &[
             \"buf\":2048}]]},{\"worker\":2,\"cache\":[],\"slots\":[[{\"elem\":6,\
             \"base\":null,\"off\":128,\"len\":0,\"buf\":2048}]]}],\"guests\":[],\
             \"foreign\":false}",
-        line: "fault 6 BadPacket: packet 1 0\n",
+        line: "fault 106 BadPacket: packet 1 0\n",
     },
     Row {
         members: "\"common\":[3,2,1,0],\"counts\":[1,1,1,1,1,1,1,1],\"desks\":[[]],\
@@ -170,7 +170,7 @@ static FAULTS: &[Row] = &[
             \"cache\":[],\"slots\":[null,[{\"elem\":5,\"base\":null,\"off\":128,\"len\":9,\
             \"buf\":2048},{\"elem\":6,\"base\":null,\"off\":0,\"len\":1,\"buf\":2048}]]}],\
             \"guests\":[],\"foreign\":false}",
-        line: "fault 6 BadPacket: desk 0\n",
+        line: "fault 106 BadPacket: desk 0\n",
     },
     Row {
         members: "\"common\":[3,2,1,0],\"counts\":[1,1,1,1,1,1,1,1],\"desks\":[[{\"elem\":7,\
@@ -179,7 +179,7 @@ static FAULTS: &[Row] = &[
             \"buf\":2048}]]},{\"worker\":2,\"cache\":[],\"slots\":[null,[{\"elem\":6,\
             \"base\":null,\"off\":128,\"len\":0,\"buf\":2048},{\"elem\":5,\"base\":null,\
             \"off\":128,\"len\":0,\"buf\":2048}]]}],\"guests\":[],\"foreign\":false}",
-        line: "fault 7 DoubleHeader element 5: segment 0 of packet 1 0, segment 1 of packet 2 1\n",
+        line: "fault 107 DoubleHeader element 5: segment 0 of packet 1 0, segment 1 of packet 2 1\n",
     },
     Row {
         members: "\"common\":[3,2,1,0],\"counts\":[1,1,1,1,1,1,1,1],\"desks\":[[{\"elem\":7,\
@@ -188,7 +188,7 @@ static FAULTS: &[Row] = &[
             \"slots\":[[{\"elem\":5,\"base\":null,\"off\":128,\"len\":0,\"buf\":2048},\
             {\"elem\":6,\"base\":null,\"off\":128,\"len\":0,\"buf\":2048}]]}],\"guests\":[],\
             \"foreign\":false}",
-        line: "fault 8 Doubled element 1: at 2 on the stack, at 1 in the cache of worker 1\n",
+        line: "fault 108 Doubled element 1: at 2 on the stack, at 1 in the cache of worker 1\n",
     },
     Row {
         members: "\"common\":[3,2,1,0],\"counts\":[1,1,1,1,1,1,1,1],\"desks\":[[{\"elem\":7,\
@@ -196,7 +196,7 @@ static FAULTS: &[Row] = &[
             \"cache\":[4],\"slots\":[]},{\"worker\":2,\"cache\":[],\"slots\":[[{\"elem\":5,\
             \"base\":3,\"off\":128,\"len\":0,\"buf\":2048},{\"elem\":6,\"base\":null,\
             \"off\":128,\"len\":0,\"buf\":2048}]]}],\"guests\":[],\"foreign\":false}",
-        line: "fault 8 Doubled element 3: at 0 on the stack, base of segment 0 of packet 2 0\n",
+        line: "fault 108 Doubled element 3: at 0 on the stack, base of segment 0 of packet 2 0\n",
     },
     Row {
         members: "\"common\":[3,2,1,0],\"counts\":[1,1,1,1,1,1,1,1],\"desks\":[[{\"elem\":7,\
@@ -205,7 +205,7 @@ static FAULTS: &[Row] = &[
             [{\"elem\":5,\"base\":null,\"off\":128,\"len\":9,\"buf\":2048},{\"elem\":6,\
             \"base\":null,\"off\":0,\"len\":1,\"buf\":2048}]]}],\"guests\":[{\"worker\":2,\
             \"elem\":4}],\"foreign\":false}",
-        line: "fault 8 Doubled element 4: at 0 in the cache of worker 1, guest of worker 2\n",
+        line: "fault 108 Doubled element 4: at 0 in the cache of worker 1, guest of worker 2\n",
     },
     Row {
         members: "\"common\":[3,2,1,0],\"counts\":[1,1,1,1,1,1,1,1],\"desks\":[null],\
@@ -213,7 +213,7 @@ static FAULTS: &[Row] = &[
             \"cache\":[],\"slots\":[null,[{\"elem\":5,\"base\":null,\"off\":128,\"len\":9,\
             \"buf\":2048},{\"elem\":6,\"base\":null,\"off\":0,\"len\":1,\"buf\":2048}]]}],\
             \"guests\":[],\"foreign\":false}",
-        line: "fault 9 Lost element 7\n",
+        line: "fault 109 Lost element 7\n",
     },
     Row {
         members: "\"common\":[3,2,1,0],\"counts\":[1,1,1,1,2,1,1,1],\"desks\":[[{\"elem\":7,\
@@ -222,7 +222,7 @@ static FAULTS: &[Row] = &[
             [{\"elem\":5,\"base\":null,\"off\":128,\"len\":9,\"buf\":2048},{\"elem\":6,\
             \"base\":null,\"off\":0,\"len\":1,\"buf\":2048}]]}],\"guests\":[],\
             \"foreign\":false}",
-        line: "fault 10 BadCount element 4: count 2, held 0\n",
+        line: "fault 110 BadCount element 4: count 2, held 0\n",
     },
     Row {
         members: "\"common\":[3,2,1,0],\"counts\":[1,1,1,1,1,2,1,1],\"desks\":[[{\"elem\":7,\
@@ -231,7 +231,7 @@ static FAULTS: &[Row] = &[
             [{\"elem\":5,\"base\":null,\"off\":128,\"len\":9,\"buf\":2048},{\"elem\":6,\
             \"base\":null,\"off\":0,\"len\":1,\"buf\":2048}]]}],\"guests\":[],\
             \"foreign\":false}",
-        line: "fault 10 BadCount element 5: count 2, held 1\n",
+        line: "fault 110 BadCount element 5: count 2, held 1\n",
     },
 ];
 

@@ -20,7 +20,7 @@ pub(super) static FAULTS: &[Row] = &[
             \"cache\":[],\"slots\":[null,[{\"elem\":5,\"base\":null,\"off\":128,\"len\":9,\
             \"buf\":2048},{\"elem\":6,\"base\":null,\"off\":0,\"len\":1,\"buf\":2048}]]}],\
             \"guests\":[],\"foreign\":false}",
-        line: "fault 1 BadShape: not a link for each element",
+        line: "fault 101 BadShape: not a link for each element",
     },
     Row {
         members: "\"common\":[3,2,1,0],\"counts\":[1,1,1,1,1,1,1],\"desks\":[[{\"elem\":7,\
@@ -29,7 +29,7 @@ pub(super) static FAULTS: &[Row] = &[
             [{\"elem\":5,\"base\":null,\"off\":128,\"len\":9,\"buf\":2048},{\"elem\":6,\
             \"base\":null,\"off\":0,\"len\":1,\"buf\":2048}]]}],\"guests\":[],\
             \"foreign\":false}",
-        line: "fault 1 BadShape: not a count for each element",
+        line: "fault 101 BadShape: not a count for each element",
     },
     Row {
         members: "\"common\":[3,2,1,0],\"counts\":[1,1,1,1,1,1,1,1],\"desks\":[],\
@@ -37,20 +37,20 @@ pub(super) static FAULTS: &[Row] = &[
             \"cache\":[],\"slots\":[null,[{\"elem\":5,\"base\":null,\"off\":128,\"len\":9,\
             \"buf\":2048},{\"elem\":6,\"base\":null,\"off\":0,\"len\":1,\"buf\":2048}]]}],\
             \"guests\":[],\"foreign\":false}",
-        line: "fault 1 BadShape: not a place for each desk",
+        line: "fault 101 BadShape: not a place for each desk",
     },
     Row {
         members: "\"common\":[3,2,1,0],\"counts\":[1,1,1,1,1,1,1,1],\"desks\":[[{\"elem\":7,\
             \"base\":null,\"off\":128,\"len\":0,\"buf\":2048}]],\"shares\":[{\"worker\":1,\
             \"cache\":[4],\"slots\":[]}],\"guests\":[],\"foreign\":false}",
-        line: "fault 1 BadShape: not a share for each worker",
+        line: "fault 101 BadShape: not a share for each worker",
     },
     Row {
         members: "\"common\":[3,2,1,0],\"counts\":[1,1,1,1,1,1,1,1],\"desks\":[[{\"elem\":7,\
             \"base\":null,\"off\":128,\"len\":0,\"buf\":2048}]],\"shares\":[{\"worker\":1,\
             \"cache\":[4],\"slots\":[]},{\"worker\":1,\"cache\":[],\"slots\":[]}],\
             \"guests\":[],\"foreign\":false}",
-        line: "fault 1 BadShape: shares out of order, or of too many slots",
+        line: "fault 101 BadShape: shares out of order, or of too many slots",
     },
     Row {
         members: "\"common\":[3,2,1,0],\"counts\":[1,1,1,1,1,1,1,1],\"desks\":[[{\"elem\":7,\
@@ -59,7 +59,7 @@ pub(super) static FAULTS: &[Row] = &[
             [{\"elem\":5,\"base\":null,\"off\":128,\"len\":9,\"buf\":2048},{\"elem\":6,\
             \"base\":null,\"off\":0,\"len\":1,\"buf\":2048}]]}],\"guests\":[{\"worker\":3,\
             \"elem\":1}],\"foreign\":false}",
-        line: "fault 1 BadShape: guests of no worker, or too many",
+        line: "fault 101 BadShape: guests of no worker, or too many",
     },
     Row {
         members: "\"top\":99,\"length\":4,\"links\":[0,1,2,3,0,0,0,0],\"counts\":[1,1,1,1,1,1,1,\
@@ -68,7 +68,7 @@ pub(super) static FAULTS: &[Row] = &[
             \"cache\":[],\"slots\":[null,[{\"elem\":5,\"base\":null,\"off\":128,\"len\":9,\
             \"buf\":2048},{\"elem\":6,\"base\":null,\"off\":0,\"len\":1,\"buf\":2048}]]}],\
             \"guests\":[],\"foreign\":false}",
-        line: "fault 2 BadTop 99",
+        line: "fault 102 BadTop 99",
     },
     Row {
         members: "\"top\":4,\"length\":4,\"links\":[4,1,2,3,0,0,0,0],\"counts\":[1,1,1,1,1,1,1,1],\
@@ -77,7 +77,7 @@ pub(super) static FAULTS: &[Row] = &[
             \"cache\":[],\"slots\":[null,[{\"elem\":5,\"base\":null,\"off\":128,\"len\":9,\
             \"buf\":2048},{\"elem\":6,\"base\":null,\"off\":0,\"len\":1,\"buf\":2048}]]}],\
             \"guests\":[],\"foreign\":false}",
-        line: "fault 3 Loop",
+        line: "fault 103 Loop",
     },
     Row {
         members: "\"top\":4,\"length\":5,\"links\":[0,1,2,3,0,0,0,0],\"counts\":[1,1,1,1,1,1,1,1],\
@@ -86,7 +86,7 @@ pub(super) static FAULTS: &[Row] = &[
             \"cache\":[],\"slots\":[null,[{\"elem\":5,\"base\":null,\"off\":128,\"len\":9,\
             \"buf\":2048},{\"elem\":6,\"base\":null,\"off\":0,\"len\":1,\"buf\":2048}]]}],\
             \"guests\":[],\"foreign\":false}",
-        line: "fault 4 BadLength word 5, walk 4",
+        line: "fault 104 BadLength word 5, walk 4",
     },
     Row {
         members: "\"common\":[3,2,1,0],\"counts\":[1,1,1,1,1,1,1,1],\"desks\":[[{\"elem\":7,\
@@ -95,7 +95,7 @@ pub(super) static FAULTS: &[Row] = &[
             [{\"elem\":5,\"base\":null,\"off\":128,\"len\":0,\"buf\":2048},{\"elem\":6,\
             \"base\":null,\"off\":128,\"len\":0,\"buf\":2048}]]}],\"guests\":[],\
             \"foreign\":false}",
-        line: "fault 5 BadElem 99: at 0 in the cache of worker 2",
+        line: "fault 105 BadElem 99: at 0 in the cache of worker 2",
     },
     Row {
         members: "\"common\":[3,2,1,0],\"counts\":[1,1,1,1,1,1,1,1],\"desks\":[[{\"elem\":7,\
@@ -103,7 +103,7 @@ pub(super) static FAULTS: &[Row] = &[
             \"cache\":[4],\"slots\":[]},{\"worker\":2,\"cache\":[],\"slots\":[[{\"elem\":5,\
             \"base\":8,\"off\":128,\"len\":0,\"buf\":2048},{\"elem\":6,\"base\":null,\
             \"off\":128,\"len\":0,\"buf\":2048}]]}],\"guests\":[],\"foreign\":false}",
-        line: "fault 5 BadElem 8: base of segment 0 of packet 2 0",
+        line: "fault 105 BadElem 8: base of segment 0 of packet 2 0",
     },
     Row {
         members: "\"common\":[3,2,1,0],\"counts\":[1,1,1,1,1,1,1,1],\"desks\":[[{\"elem\":7,\
@@ -112,7 +112,7 @@ pub(super) static FAULTS: &[Row] = &[
             \"buf\":2048}]]},{\"worker\":2,\"cache\":[],\"slots\":[[{\"elem\":6,\
             \"base\":null,\"off\":128,\"len\":0,\"buf\":2048}]]}],\"guests\":[],\
             \"foreign\":false}",
-        line: "fault 6 BadPacket: packet 1 0",
+        line: "fault 106 BadPacket: packet 1 0",
     },
     Row {
         members: "\"common\":[3,2,1,0],\"counts\":[1,1,1,1,1,1,1,1],\"desks\":[[]],\
@@ -120,7 +120,7 @@ pub(super) static FAULTS: &[Row] = &[
             \"cache\":[],\"slots\":[null,[{\"elem\":5,\"base\":null,\"off\":128,\"len\":9,\
             \"buf\":2048},{\"elem\":6,\"base\":null,\"off\":0,\"len\":1,\"buf\":2048}]]}],\
             \"guests\":[],\"foreign\":false}",
-        line: "fault 6 BadPacket: desk 0",
+        line: "fault 106 BadPacket: desk 0",
     },
     Row {
         members: "\"common\":[3,2,1,0],\"counts\":[1,1,1,1,1,1,1,1],\"desks\":[[{\"elem\":7,\
@@ -129,7 +129,7 @@ pub(super) static FAULTS: &[Row] = &[
             \"buf\":2048}]]},{\"worker\":2,\"cache\":[],\"slots\":[null,[{\"elem\":6,\
             \"base\":null,\"off\":128,\"len\":0,\"buf\":2048},{\"elem\":5,\"base\":null,\
             \"off\":128,\"len\":0,\"buf\":2048}]]}],\"guests\":[],\"foreign\":false}",
-        line: "fault 7 DoubleHeader element 5: segment 0 of packet 1 0, segment 1 of packet 2 1",
+        line: "fault 107 DoubleHeader element 5: segment 0 of packet 1 0, segment 1 of packet 2 1",
     },
     Row {
         members: "\"common\":[3,2,1,0],\"counts\":[1,1,1,1,1,1,1,1],\"desks\":[[{\"elem\":7,\
@@ -138,7 +138,7 @@ pub(super) static FAULTS: &[Row] = &[
             \"slots\":[[{\"elem\":5,\"base\":null,\"off\":128,\"len\":0,\"buf\":2048},\
             {\"elem\":6,\"base\":null,\"off\":128,\"len\":0,\"buf\":2048}]]}],\"guests\":[],\
             \"foreign\":false}",
-        line: "fault 8 Doubled element 1: at 2 on the stack, at 1 in the cache of worker 1",
+        line: "fault 108 Doubled element 1: at 2 on the stack, at 1 in the cache of worker 1",
     },
     Row {
         members: "\"common\":[3,2,1,0],\"counts\":[1,1,1,1,1,1,1,1],\"desks\":[[{\"elem\":7,\
@@ -146,7 +146,7 @@ pub(super) static FAULTS: &[Row] = &[
             \"cache\":[4],\"slots\":[]},{\"worker\":2,\"cache\":[],\"slots\":[[{\"elem\":5,\
             \"base\":3,\"off\":128,\"len\":0,\"buf\":2048},{\"elem\":6,\"base\":null,\
             \"off\":128,\"len\":0,\"buf\":2048}]]}],\"guests\":[],\"foreign\":false}",
-        line: "fault 8 Doubled element 3: at 0 on the stack, base of segment 0 of packet 2 0",
+        line: "fault 108 Doubled element 3: at 0 on the stack, base of segment 0 of packet 2 0",
     },
     Row {
         members: "\"common\":[3,2,1,0],\"counts\":[1,1,1,1,1,1,1,1],\"desks\":[[{\"elem\":7,\
@@ -155,7 +155,7 @@ pub(super) static FAULTS: &[Row] = &[
             [{\"elem\":5,\"base\":null,\"off\":128,\"len\":9,\"buf\":2048},{\"elem\":6,\
             \"base\":null,\"off\":0,\"len\":1,\"buf\":2048}]]}],\"guests\":[{\"worker\":2,\
             \"elem\":4}],\"foreign\":false}",
-        line: "fault 8 Doubled element 4: at 0 in the cache of worker 1, guest of worker 2",
+        line: "fault 108 Doubled element 4: at 0 in the cache of worker 1, guest of worker 2",
     },
     Row {
         members: "\"common\":[3,2,1,0],\"counts\":[1,1,1,1,1,1,1,1],\"desks\":[null],\
@@ -163,7 +163,7 @@ pub(super) static FAULTS: &[Row] = &[
             \"cache\":[],\"slots\":[null,[{\"elem\":5,\"base\":null,\"off\":128,\"len\":9,\
             \"buf\":2048},{\"elem\":6,\"base\":null,\"off\":0,\"len\":1,\"buf\":2048}]]}],\
             \"guests\":[],\"foreign\":false}",
-        line: "fault 9 Lost element 7",
+        line: "fault 109 Lost element 7",
     },
     Row {
         members: "\"common\":[3,2,1,0],\"counts\":[1,1,1,1,2,1,1,1],\"desks\":[[{\"elem\":7,\
@@ -172,7 +172,7 @@ pub(super) static FAULTS: &[Row] = &[
             [{\"elem\":5,\"base\":null,\"off\":128,\"len\":9,\"buf\":2048},{\"elem\":6,\
             \"base\":null,\"off\":0,\"len\":1,\"buf\":2048}]]}],\"guests\":[],\
             \"foreign\":false}",
-        line: "fault 10 BadCount element 4: count 2, held 0",
+        line: "fault 110 BadCount element 4: count 2, held 0",
     },
     Row {
         members: "\"common\":[3,2,1,0],\"counts\":[1,1,1,1,1,2,1,1],\"desks\":[[{\"elem\":7,\
@@ -181,6 +181,6 @@ pub(super) static FAULTS: &[Row] = &[
             [{\"elem\":5,\"base\":null,\"off\":128,\"len\":9,\"buf\":2048},{\"elem\":6,\
             \"base\":null,\"off\":0,\"len\":1,\"buf\":2048}]]}],\"guests\":[],\
             \"foreign\":false}",
-        line: "fault 10 BadCount element 5: count 2, held 1",
+        line: "fault 110 BadCount element 5: count 2, held 1",
     },
 ];

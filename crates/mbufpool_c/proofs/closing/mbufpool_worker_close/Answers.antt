@@ -1,5 +1,5 @@
 use Rattle.mbufpool_c.proofs.CloseLemmas.{closes_same}
-use Rattle.mbufpool_c.proofs.closing.mbufpool_close.Goals as goal
+use Rattle.mbufpool_c.proofs.closing.mbufpool_worker_close.Goals as goal
 
 -- nor did the search for the first worker
 pub returns-in-Some-Ok-clause-closed : goal.returns-in-Some-Ok-clause-closed
