@@ -328,7 +328,7 @@ fn crowd<R: Threads + Wait + Sync + Abort + AllocGlobal>(
     grounds: Grounds,
 ) -> Result<(), Fail> {
     let text = written(rt.alloc(), CROWD)?;
-    for _ in 0..100 {
+    for _ in 0..20 {
         let statement = run(rt, text.as_str(), grounds, 1, &OpenGate)?;
         assert_each_once(rt, rt.alloc(), &statement, 100)?;
     }

@@ -27,7 +27,7 @@ use std::thread;
 use std::thread::Threads;
 
 /// How often each worker plays the script, but for the one who is stopped.
-const ROUNDS: u32 = 10_000;
+const ROUNDS: u32 = 2_000;
 
 /// What each worker plays in a round: it makes two packets, offers a clone of each, takes what
 /// lies on the desks, and frees all that it has. A line whose packet was offered, or wasn't made,
