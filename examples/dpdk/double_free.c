@@ -1,7 +1,7 @@
 /* double_free.c - an mbuf is freed twice; are two allocs then given the same one?
  *
  *     make double_free
- *     ./double_free OPS --no-huge -m 64 --no-pci -d $PWD/librte_mempool_mbufpool.so */
+ *     ./double_free OPS --no-huge -m 64 --no-pci [-d PLUGIN] */
 #include <stdio.h>
 
 #include <rte_eal.h>

@@ -1,9 +1,8 @@
 /* pipeline.c - one lcore gets the objects of a mempool and two others put them back: has each
  * object one holder at a time, and is none lost?
  *
- *     make pipeline librte_mempool_mbufpool.so
- *     ./pipeline OPS [OBJECTS [CACHE]] --no-huge -m 64 --no-pci -l 0-2 \
- *         -d $PWD/librte_mempool_mbufpool.so
+ *     make pipeline
+ *     ./pipeline OPS [OBJECTS [CACHE]] --no-huge -m 64 --no-pci -l 0-2 [-d PLUGIN]
  *
  * OPS is a mempool handler, OBJECTS how many are got in all (100000000), and CACHE what the cache
  * of an lcore keeps (0). The main lcore receives: it gets 1 to 32 objects at a time, writes into

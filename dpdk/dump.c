@@ -678,20 +678,20 @@ dump(struct rte_mempool *const *pools, unsigned int nb_pools, struct rte_mbuf *c
 static struct rte_mbuf *const none[1];
 
 int
-mbufpool_dump(struct rte_mempool *mp, FILE *out)
+mbufpool_dump(FILE *out, struct rte_mempool *mp)
 {
 	return dump(&mp, 1, NULL, 0, &out);
 }
 
 int
-mbufpool_dump_held(struct rte_mempool *mp, struct rte_mbuf *const *held, unsigned int n, FILE *out)
+mbufpool_dump_held(FILE *out, struct rte_mempool *mp, struct rte_mbuf *const *held, unsigned int n)
 {
 	return dump(&mp, 1, n == 0 ? none : held, n, &out);
 }
 
 int
-mbufpool_dump_pair(struct rte_mempool *first, struct rte_mempool *second, FILE *out_first,
-		   FILE *out_second)
+mbufpool_dump_pair(FILE *out_first, FILE *out_second, struct rte_mempool *first,
+		   struct rte_mempool *second)
 {
 	struct rte_mempool *pools[] = {first, second};
 	FILE *out[] = {out_first, out_second};
@@ -700,9 +700,8 @@ mbufpool_dump_pair(struct rte_mempool *first, struct rte_mempool *second, FILE *
 }
 
 int
-mbufpool_dump_pair_held(struct rte_mempool *first, struct rte_mempool *second,
-			struct rte_mbuf *const *held, unsigned int n, FILE *out_first,
-			FILE *out_second)
+mbufpool_dump_pair_held(FILE *out_first, FILE *out_second, struct rte_mempool *first,
+			struct rte_mempool *second, struct rte_mbuf *const *held, unsigned int n)
 {
 	struct rte_mempool *pools[] = {first, second};
 	FILE *out[] = {out_first, out_second};
@@ -711,7 +710,7 @@ mbufpool_dump_pair_held(struct rte_mempool *first, struct rte_mempool *second,
 }
 
 void
-mbufpool_dump_workers(struct rte_mempool *mp, FILE *out)
+mbufpool_dump_workers(FILE *out, struct rte_mempool *mp)
 {
 	struct rte_mempool_cache *cache;
 	unsigned int lcore, worker = 1;
@@ -754,7 +753,7 @@ match_address(struct rte_mempool *mp, void *opaque, void *obj, unsigned int idx)
 }
 
 struct rte_mbuf *
-mbufpool_dump_mbuf(struct rte_mempool *mp, uint32_t elem)
+mbufpool_mbuf_of(struct rte_mempool *mp, uint32_t elem)
 {
 	struct match match = {NULL, elem};
 
@@ -763,7 +762,7 @@ mbufpool_dump_mbuf(struct rte_mempool *mp, uint32_t elem)
 }
 
 uint32_t
-mbufpool_dump_elem(struct rte_mempool *mp, const struct rte_mbuf *m)
+mbufpool_elem_of(struct rte_mempool *mp, const struct rte_mbuf *m)
 {
 	struct match match = {(struct rte_mbuf *)(uintptr_t)m, NO_ELEM};
 

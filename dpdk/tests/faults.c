@@ -134,9 +134,9 @@ run_lcores(struct rte_mempool *clones)
 static int
 dump_both(FILE *out, FILE *out_all)
 {
-	int ret = mbufpool_dump_held(pool, held, nb_held, out);
+	int ret = mbufpool_dump_held(out, pool, held, nb_held);
 
-	return ret != 0 ? ret : mbufpool_dump(pool, out_all);
+	return ret != 0 ? ret : mbufpool_dump(out_all, pool);
 }
 
 /* Several lcores get, clone, chain, free and pass on; where they stop each mbuf has its place. */
@@ -154,7 +154,7 @@ pair(FILE *out, FILE *out_second)
 {
 	int ret = run_lcores(clone_pool);
 
-	return ret != 0 ? ret : mbufpool_dump_pair(pool, clone_pool, out, out_second);
+	return ret != 0 ? ret : mbufpool_dump_pair(out, out_second, pool, clone_pool);
 }
 
 static struct rte_mbuf *
@@ -179,7 +179,7 @@ hold_two(void)
 static int
 dump_fault(FILE *out, FILE *out_all, const struct rte_mbuf *m)
 {
-	printf("element %u\n", mbufpool_dump_elem(pool, m));
+	printf("element %u\n", mbufpool_elem_of(pool, m));
 	return dump_both(out, out_all);
 }
 
@@ -291,6 +291,6 @@ main(int argc, char **argv)
 		return 1;
 	}
 	printf("available %u\n", rte_mempool_avail_count(pool));
-	mbufpool_dump_workers(pool, stdout);
+	mbufpool_dump_workers(stdout, pool);
 	return fclose(out) != 0 || fclose(out_second) != 0;
 }

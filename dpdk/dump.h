@@ -52,14 +52,14 @@ extern "C" {
  * reference count is the number of those in use) isn't a packet. So a leaked packet is a packet
  * like others here: the statement shows it, and mbufpool_dump_held() names it.
  *
- * @param mp
- *   The pool, which stands still.
  * @param out
  *   Where the snapshot is written.
+ * @param mp
+ *   The pool, which stands still.
  * @return
  *   0 or a negative errno, see above.
  */
-int mbufpool_dump(struct rte_mempool *mp, FILE *out);
+int mbufpool_dump(FILE *out, struct rte_mempool *mp);
 
 /**
  * Write a snapshot of a pool with the packets that the application says it holds.
@@ -68,6 +68,8 @@ int mbufpool_dump(struct rte_mempool *mp, FILE *out);
  * audit names it lost. A packet that is listed twice has two owners. The place of a packet in the
  * array is its slot in the statement.
  *
+ * @param out
+ *   Where the snapshot is written.
  * @param mp
  *   The pool, which stands still.
  * @param held
@@ -76,13 +78,11 @@ int mbufpool_dump(struct rte_mempool *mp, FILE *out);
  *   holds are guests of worker 1.
  * @param n
  *   How many.
- * @param out
- *   Where the snapshot is written.
  * @return
  *   0 or a negative errno, see above.
  */
-int mbufpool_dump_held(struct rte_mempool *mp, struct rte_mbuf *const *held, unsigned int n,
-		       FILE *out);
+int mbufpool_dump_held(FILE *out, struct rte_mempool *mp, struct rte_mbuf *const *held,
+		       unsigned int n);
 
 /**
  * Write a snapshot of each of two pools, of which the one has clones of the other's mbufs.
@@ -92,24 +92,28 @@ int mbufpool_dump_held(struct rte_mempool *mp, struct rte_mbuf *const *held, uns
  * foreign, with their numbers in the other pool; if it has clones of its own mbufs as well, the
  * foreign ones are left out. A packet's slot is the same in both snapshots.
  *
+ * @param out_first
+ *   Where the snapshot of the first pool is written.
+ * @param out_second
+ *   Where that of the second is written, once that of the first was.
  * @param first
  *   The one pool; both stand still.
  * @param second
  *   The other one.
- * @param out_first
- *   Where the snapshot of the first is written.
- * @param out_second
- *   Where that of the second is written, once that of the first was.
  * @return
  *   0 or a negative errno, see above.
  */
-int mbufpool_dump_pair(struct rte_mempool *first, struct rte_mempool *second, FILE *out_first,
-		       FILE *out_second);
+int mbufpool_dump_pair(FILE *out_first, FILE *out_second, struct rte_mempool *first,
+		       struct rte_mempool *second);
 
 /**
  * Write a snapshot of each of two pools, as mbufpool_dump_pair(), with the packets that the
  * application says it holds, as mbufpool_dump_held().
  *
+ * @param out_first
+ *   Where the snapshot of the first pool is written.
+ * @param out_second
+ *   Where that of the second is written, once that of the first was.
  * @param first
  *   The one pool; both stand still.
  * @param second
@@ -118,28 +122,24 @@ int mbufpool_dump_pair(struct rte_mempool *first, struct rte_mempool *second, FI
  *   The first segments of the packets, of either pool, or NULL for places without one.
  * @param n
  *   How many.
- * @param out_first
- *   Where the snapshot of the first is written.
- * @param out_second
- *   Where that of the second is written, once that of the first was.
  * @return
  *   0 or a negative errno, see above.
  */
-int mbufpool_dump_pair_held(struct rte_mempool *first, struct rte_mempool *second,
-			    struct rte_mbuf *const *held, unsigned int n, FILE *out_first,
-			    FILE *out_second);
+int mbufpool_dump_pair_held(FILE *out_first, FILE *out_second, struct rte_mempool *first,
+			    struct rte_mempool *second, struct rte_mbuf *const *held,
+			    unsigned int n);
 
 /**
  * Write for people which worker of a snapshot is what: a line for each, as
  * `worker 2: lcore 0, cache of 37`. Where more than 63 lcores have something in their caches,
  * worker 64 has those of the 63rd and of all that follow it.
  *
- * @param mp
- *   The pool, which stands still.
  * @param out
  *   Where the lines are written.
+ * @param mp
+ *   The pool, which stands still.
  */
-void mbufpool_dump_workers(struct rte_mempool *mp, FILE *out);
+void mbufpool_dump_workers(FILE *out, struct rte_mempool *mp);
 
 /**
  * The mbuf that has this number, for a debugger, or rte_pktmbuf_dump().
@@ -151,7 +151,7 @@ void mbufpool_dump_workers(struct rte_mempool *mp, FILE *out);
  * @return
  *   The mbuf, or NULL if the pool has no such element.
  */
-struct rte_mbuf *mbufpool_dump_mbuf(struct rte_mempool *mp, uint32_t elem);
+struct rte_mbuf *mbufpool_mbuf_of(struct rte_mempool *mp, uint32_t elem);
 
 /**
  * The number of an mbuf.
@@ -163,7 +163,7 @@ struct rte_mbuf *mbufpool_dump_mbuf(struct rte_mempool *mp, uint32_t elem);
  * @return
  *   The number of the element, or MBUFPOOL_NO_ELEM if it is no object of the pool.
  */
-uint32_t mbufpool_dump_elem(struct rte_mempool *mp, const struct rte_mbuf *m);
+uint32_t mbufpool_elem_of(struct rte_mempool *mp, const struct rte_mbuf *m);
 
 #ifdef __cplusplus
 }

@@ -16,14 +16,14 @@ $(guard): $(guard_sources) $(guard_headers) $(libraries)
 	$(CC) $(CFLAGS) $(flags) -fPIC -fvisibility=hidden -shared $(guard_sources) $(libraries) \
 		-Wl,--exclude-libs,ALL -Wl,-soname,$(guard) -o $@ $(dpdk)
 
-guard_faults: guard_faults.c mempool_guard.h
-	$(CC) $(CFLAGS) $(flags) guard_faults.c -o $@ $(dpdk)
+guard_faults: tests/guard_faults.c mempool_guard.h
+	$(CC) $(CFLAGS) $(flags) tests/guard_faults.c -o $@ $(dpdk)
 
 # Programs with the handler in them, under a sanitizer.
-build/%/guard_faults: guard_faults.c $(guard_sources) $(guard_headers) $(libraries) Makefile guard.mk
+build/%/guard_faults: tests/guard_faults.c $(guard_sources) $(guard_headers) $(libraries) Makefile guard.mk
 	@mkdir -p $(@D)
-	$(compiler-$*) -O2 -g $(flags) guard_faults.c $(guard_sources) $(libraries) -o $@ $(dpdk)
+	$(compiler-$*) -O2 -g $(flags) tests/guard_faults.c $(guard_sources) $(libraries) -o $@ $(dpdk)
 
-build/%/guard_pipeline: pipeline.c $(guard_sources) $(guard_headers) $(libraries) Makefile guard.mk
+build/%/guard_pipeline: $(pipeline) $(guard_sources) $(guard_headers) $(libraries) Makefile guard.mk
 	@mkdir -p $(@D)
-	$(compiler-$*) -O2 -g $(flags) pipeline.c $(guard_sources) $(libraries) -o $@ $(dpdk)
+	$(compiler-$*) -O2 -g $(flags) $(pipeline) $(guard_sources) $(libraries) -o $@ $(dpdk)

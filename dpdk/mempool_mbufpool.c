@@ -38,7 +38,7 @@
 #include "numbers.h"
 
 /* (in one unit with this, so that a usual get and put of the pool are in line) */
-#include "../../c/renewing.c"
+#include "../c/renewing.c"
 
 #define TRIES 1000000
 #define BURST 512
