@@ -130,7 +130,11 @@ fn fill(mut boxes: Vec<Box<OwnWorker>>, out: &mut [WorkerHandle])
 /// Makes a pool, and puts its workers into the handles, in their order. There is one handle for
 /// each. Workers that were in the handles are lost then; where it is refused, they stay.
 #[unsafe(no_mangle)]
-pub extern "C" fn mbufpool_worker_open(alloc: Global, limits: &PoolLimits, out: &mut [WorkerHandle]) -> u32
+pub extern "C" fn mbufpool_worker_open(
+    alloc: Global,
+    limits: &PoolLimits,
+    out: &mut [WorkerHandle],
+) -> u32
     ensures opened { result ≡ 0 → Opens (pool_limits limits.now) out.new }
     ensures kept { result ≢ 0 → out.new ≡ out.old }
     ensures cause { result ≢ 0 → RefusesOpen (pool_limits limits.now) (length out.old) result }

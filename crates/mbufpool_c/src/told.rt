@@ -153,7 +153,11 @@ pub extern "C" fn mbufpool_statement_json(
 
 /// The elements that are lost, ascending: as many as there is room for. Answers how many there are.
 #[unsafe(no_mangle)]
-pub extern "C" fn mbufpool_statement_lost(alloc: Global, ending: &mut EndingHandle, out: &mut [u32]) -> usize
+pub extern "C" fn mbufpool_statement_lost(
+    alloc: Global,
+    ending: &mut EndingHandle,
+    out: &mut [u32],
+) -> usize
     ensures kept { ending.new.value ≡ ending.old.value }
     ensures told { TellsLost ending.old.value result out.old out.new }
 {
