@@ -9,5 +9,6 @@ mod LooseSend
 mod MarkLemmas
 mod OpenLemmas
 mod SeatHandles
+mod ToldLemmas
 mod Values
 mod WorkerHandles

@@ -1,15 +1,27 @@
 -- What C is answered.
-use Rattle.std.specs.Prelude.{◌≡◌, ◌<◌, ℕ, List, length, Option, Some, None, slice_index_or}
+use Rattle.std.specs.Prelude.{◌≡◌, ◌<◌, ℕ, List, length, Option, Some, None, Result, Ok, Err, slice_index_or}
+use Rattle.commons.specs.declared.packet.Seg.{Seg}
+use Rattle.commons.specs.declared.refusal.Refusal.{Refusal}
 use Rattle.commons.specs.declared.refusal.Refusal.TheVariants.{StrangerShare}
 use Rattle.commons.specs.Refusals.{number_of}
 use Rattle.mbuf.specs.declared.acts.Act.{Act}
 use Rattle.mbuf.specs.declared.acts.Answer.{Answer}
 use Rattle.mbuf.specs.declared.acts.Answer.TheVariants as reply
 use Rattle.mbuf.specs.declared.acts.NewPacket.{NewPacket as Made}
-use Rattle.mbuf.specs.Acts.{Reply, as_reply}
+use Rattle.mbuf.specs.Acts.{Reply, as_reply, first_elem}
 use Rattle.stack_lf.specs.Remaining.{ReadsRemaining}
 use Rattle.word_pool.specs.Workers.{Manned, Acts, Stays}
 use Rattle.mbufpool_c.specs.declared.packets.NewPacket.{NewPacket}
+
+-- 0, or the number of the refusal
+abbrev pub status_of_result : {T : Type 0} → Result T Refusal → ℕ
+status_of_result (Ok _) = 0
+status_of_result (Err cause) = number_of cause
+
+-- the new packet in the slot that is answered, by the table afterwards; else what was there stays
+abbrev pub new_at : Result ℕ Refusal → List (Option (List Seg)) → NewPacket → NewPacket
+new_at (Ok slot) table old = record { slot = slot; element = first_elem (slice_index_or table slot None) }
+new_at (Err cause) table old = old
 
 -- an answer, where there is one, as one with room for any bulk
 abbrev pub replied : {room : ℕ} → Option (Answer room) → Option Reply
@@ -114,6 +126,22 @@ BulkTold _ was out = out ≡ was
 abbrev pub TellsBulk : Act → Option Manned → ℕ → List NewPacket → List NewPacket → Option Manned → Type 0
 TellsBulk act old status was out new =
     (answer : Option Reply) × ActsIn act old answer new × (status ≡ status_of answer) × BulkTold answer was out
+
+-- ---- the same of the worker itself, which was in the handle and is in it again
+
+-- it did this, and C has the status of what was answered
+abbrev pub DoesAs : Act → Manned → ℕ → Manned → Type 0
+DoesAs act m status after = (r : Reply) × Acts act m r after × (status ≡ status_of_reply r)
+
+-- and its new packet
+abbrev pub MakesNew : Act → Manned → ℕ → NewPacket → NewPacket → Manned → Type 0
+MakesNew act m status was out after =
+    (r : Reply) × Acts act m r after × (status ≡ status_of_reply r) × (out ≡ new_in r was)
+
+-- and those of a bulk
+abbrev pub MakesBulk : Act → Manned → ℕ → List NewPacket → List NewPacket → Manned → Type 0
+MakesBulk act m status was out after =
+    (r : Reply) × Acts act m r after × (status ≡ status_of_reply r) × BulkTold (Some r) was out
 
 -- the worker read how many changes of its pool's stack are left, and has what it had
 pub record WorkerReads (m : Manned) (left : ℕ) (after : Manned) : Type 0 where

@@ -1,16 +1,21 @@
 //! Packets for C: each export is one act of a worker.
 
-ghost use Rattle.std.specs.Prelude.{◌≡◌, None, length, slice_index_or};
-ghost use Rattle.mbuf.specs.Acts.{HasRoom};
+ghost use Rattle.std.specs.Prelude.{◌≡◌, ◌≤◌, None, length, map};
+ghost use Rattle.mbuf.specs.Acts.{HasRoom, new_packet};
 ghost use Rattle.mbufpool_c.specs.Segments.{ShowsSegment, segment_of as segment_in};
-ghost use Rattle.mbufpool_c.specs.Statuses.{ActsIn, ActsAs, AreTold, TellsBulk, TellsNumber, TellsNew, WorkerRemains, status_of as status_in, replied};
+ghost use Rattle.mbufpool_c.specs.Statuses.{ActsIn, ActsAs, AreTold, DoesAs, MakesBulk, MakesNew, TellsBulk, TellsNumber, TellsNew, WorkerRemains, new_at, status_of as status_in, status_of_result, replied};
 
 use crate::worker_handle::WorkerHandle;
+use crate::workers::OwnWorker;
 use commons::packet::Seg;
 use commons::refusal::Refusal;
 use mbuf::acts;
 use mbuf::acts::{Act, Answer, Reply};
+use mbuf::packets::{Pid, SLOTS};
 use std::alloc::Global;
+
+/// How many packets a usual bulk has at most: for one of these few places are filled with zeros.
+const BURST: usize = 32;
 
 /// A new packet: its slot, and the element of its first segment.
 #[repr(C)]
@@ -79,39 +84,51 @@ fn tell(alloc: Global, worker: &mut WorkerHandle, what: Act, out: &mut u32) -> u
     status_of(&answer)
 }
 
-/// The first of these elements.
-fn first_of(elements: &[u32]) -> u32
-    ensures { result ≡ slice_index_or elements.now 0 0 }
+/// Gives C the new packet in the slot that is answered, and the status.
+#[inline(always)]
+fn tell_new(own: &OwnWorker, answer: Result<Pid, Refusal>, out: &mut NewPacket) -> u32
+    ensures status { result ≡ status_of_result answer }
+    ensures told { out.new ≡ new_at answer own.now.member.table out.old }
 {
-    if elements.len() == 0 {
-        return 0;
+    match answer {
+        Ok(slot) => {
+            *out = NewPacket {
+                slot,
+                element: own.first_element(slot),
+            };
+            0
+        }
+        Err(cause) => cause.number(),
     }
-    elements[0]
 }
 
-/// Lets the worker of a handle do this, and gives C the new packet that is answered.
+/// Lets a worker make a packet, and gives it to C.
 #[inline(always)]
-fn tell_new(alloc: Global, worker: &mut WorkerHandle, what: Act, out: &mut NewPacket) -> u32
-    requires { HasRoom 0 what }
-    ensures { TellsNew what worker.old.value result out.old out.new worker.new.value }
+fn make(own: &mut OwnWorker, out: &mut NewPacket) -> u32
+    ensures { MakesNew Act.Alloc own.old result out.old out.new own.new }
 {
-    let answer = act(alloc, worker, what);
-    match &answer {
-        Some(Answer::Allocated(slot, element)) => {
-            *out = NewPacket {
-                slot: *slot,
-                element: *element,
-            }
-        }
-        Some(Answer::Cloned(slot, elements)) => {
-            *out = NewPacket {
-                slot: *slot,
-                element: first_of(elements),
-            }
-        }
-        _ => {}
+    let answer = own.alloc();
+    tell_new(own, answer, out)
+}
+
+/// Lets a worker make a clone, and gives it to C.
+#[inline(always)]
+fn make_clone(own: &mut OwnWorker, slot: Pid, out: &mut NewPacket) -> u32
+    ensures { MakesNew (Act.ClonePacket slot) own.old result out.old out.new own.new }
+{
+    let answer = own.clone_packet(slot);
+    tell_new(own, answer, out)
+}
+
+/// Lets a worker free a packet.
+#[inline(always)]
+fn free(own: &mut OwnWorker, slot: Pid) -> u32
+    ensures { DoesAs (Act.Free slot) own.old result own.new }
+{
+    match own.free(slot) {
+        Ok(_) => 0,
+        Err(cause) => cause.number(),
     }
-    status_of(&answer)
 }
 
 /// Makes a packet of one element.
@@ -123,11 +140,19 @@ pub extern "C" fn mbufpool_worker_alloc(
 ) -> u32
     ensures { TellsNew Act.Alloc worker.old.value result out.old out.new worker.new.value }
 {
-    tell_new(alloc, worker, Act::Alloc, out)
+    match worker.take(alloc) {
+        None => Refusal::StrangerShare.number(),
+        Some(mut own) => {
+            let status = make(&mut own, out);
+            worker.put(own);
+            status
+        }
+    }
 }
 
 /// Lets the worker of a handle make this many packets, all or none. Answers nothing where there is
 /// none.
+#[inline(never)]
 fn act_bulk(alloc: Global, worker: &mut WorkerHandle, count: usize) -> Option<Reply>
     ensures { ActsIn (Act.AllocBulk count) worker.old.value (replied result) worker.new.value }
 {
@@ -155,13 +180,9 @@ fn tell_each(made: &[acts::NewPacket], out: &mut [NewPacket])
     }
 }
 
-/// Makes as many packets of one element as `out` has places, all or none, and gives C each.
-#[unsafe(no_mangle)]
-pub extern "C" fn mbufpool_worker_alloc_bulk(
-    alloc: Global,
-    worker: &mut WorkerHandle,
-    out: &mut [NewPacket],
-) -> u32
+/// Makes as many packets as `out` has places, by the act, which has a place for each.
+#[inline(never)]
+fn bulk_by_act(alloc: Global, worker: &mut WorkerHandle, out: &mut [NewPacket]) -> u32
     ensures { TellsBulk (Act.AllocBulk (length out.old)) worker.old.value result out.old out.new worker.new.value }
 {
     let answer = act_bulk(alloc, worker, out.len());
@@ -176,12 +197,94 @@ pub extern "C" fn mbufpool_worker_alloc_bulk(
     }
 }
 
+/// Tells of the packets in these slots, each in its place.
+#[inline(always)]
+fn tell_slots(own: &OwnWorker, slots: &[Pid], out: &mut [NewPacket])
+    ensures { AreTold (map (new_packet own.now.member.table) slots.now) out.new }
+{
+    for k in 0..out.len() {
+        if k < slots.len() {
+            out[k] = NewPacket {
+                slot: slots[k],
+                element: own.first_element(slots[k]),
+            };
+        }
+    }
+}
+
+/// Lets a worker make as many packets as `slots` has places, and gives each to C.
+#[inline(always)]
+fn make_each(own: &mut OwnWorker, slots: &mut [Pid], out: &mut [NewPacket]) -> u32
+    ensures { MakesBulk (Act.AllocBulk (length slots.old)) own.old result out.old out.new own.new }
+{
+    match own.alloc_bulk(slots) {
+        Ok(()) => {
+            tell_slots(own, slots, out);
+            0
+        }
+        Err(cause) => cause.number(),
+    }
+}
+
+/// Lets a worker make as many packets as `out` has places, `N` at most, and gives each to C.
+#[inline(always)]
+fn make_in<const N: usize>(own: &mut OwnWorker, out: &mut [NewPacket]) -> u32
+    requires few { length out.old ≤ N }
+    requires size { N ≤ SLOTS }
+    ensures { MakesBulk (Act.AllocBulk (length out.old)) own.old result out.old out.new own.new }
+{
+    let mut slots = [0; N];
+    make_each(own, &mut slots[..out.len()], out)
+}
+
+/// Makes as many packets as `out` has places, `N` at most.
+#[inline(never)]
+fn bulk_in<const N: usize>(alloc: Global, worker: &mut WorkerHandle, out: &mut [NewPacket]) -> u32
+    requires few { length out.old ≤ N }
+    requires size { N ≤ SLOTS }
+    ensures { TellsBulk (Act.AllocBulk (length out.old)) worker.old.value result out.old out.new worker.new.value }
+{
+    match worker.take(alloc) {
+        None => Refusal::StrangerShare.number(),
+        Some(mut own) => {
+            let status = make_in::<N>(&mut own, out);
+            worker.put(own);
+            status
+        }
+    }
+}
+
+/// Makes as many packets of one element as `out` has places, all or none, and gives C each.
+#[unsafe(no_mangle)]
+pub extern "C" fn mbufpool_worker_alloc_bulk(
+    alloc: Global,
+    worker: &mut WorkerHandle,
+    out: &mut [NewPacket],
+) -> u32
+    ensures { TellsBulk (Act.AllocBulk (length out.old)) worker.old.value result out.old out.new worker.new.value }
+{
+    if out.len() <= BURST {
+        return bulk_in::<BURST>(alloc, worker, out);
+    }
+    if out.len() <= SLOTS {
+        return bulk_in::<SLOTS>(alloc, worker, out);
+    }
+    bulk_by_act(alloc, worker, out)
+}
+
 /// Frees a packet.
 #[unsafe(no_mangle)]
 pub extern "C" fn mbufpool_worker_free(alloc: Global, worker: &mut WorkerHandle, slot: u32) -> u32
     ensures { ActsAs (Act.Free slot) worker.old.value result worker.new.value }
 {
-    status_of(&act(alloc, worker, Act::Free(slot)))
+    match worker.take(alloc) {
+        None => Refusal::StrangerShare.number(),
+        Some(mut own) => {
+            let status = free(&mut own, slot);
+            worker.put(own);
+            status
+        }
+    }
 }
 
 /// Adds this many bytes after a packet's data, and gives its length.
@@ -284,7 +387,14 @@ pub extern "C" fn mbufpool_worker_clone(
 ) -> u32
     ensures { TellsNew (Act.ClonePacket slot) worker.old.value result out.old out.new worker.new.value }
 {
-    tell_new(alloc, worker, Act::ClonePacket(slot), out)
+    match worker.take(alloc) {
+        None => Refusal::StrangerShare.number(),
+        Some(mut own) => {
+            let status = make_clone(&mut own, slot, out);
+            worker.put(own);
+            status
+        }
+    }
 }
 
 /// Leaves a packet on a desk.

@@ -1,7 +1,8 @@
 //! A worker with the words that it works on.
 
-ghost use Rattle.std.specs.Prelude.{◌≡◌, IfOk, None, Some, slice_index_or};
-ghost use Rattle.mbuf.specs.Acts.{HasRoom, as_reply};
+ghost use Rattle.std.specs.Prelude.{◌≡◌, IfOk, None, Some, length, slice_index_or};
+ghost use Rattle.commons.specs.Calls.{with_list};
+ghost use Rattle.mbuf.specs.Acts.{HasRoom, allocated, allocated_bulk, as_reply, cloned, first_elem, freed};
 ghost use Rattle.mbufpool_c.specs.Segments.{seg_at};
 ghost use Rattle.mbufpool_c.specs.Statuses.{WorkerReads};
 ghost use Rattle.word_pool.specs.Workers.{Acts, IsWorker};
@@ -10,6 +11,8 @@ use crate::hall::{Hall, Sitter};
 use commons::packet::Seg;
 use commons::refusal::Refusal;
 use mbuf::acts::{Act, Answer};
+use mbuf::freed::Freed;
+use mbuf::packets::Pid;
 use std::alloc::AllocError;
 use std::marker::Model;
 use std::sync::Arc;
@@ -102,6 +105,50 @@ impl OwnWorker {
         ensures { Acts act self.old (as_reply result) self.new }
     {
         self.worker.act_in(self.hall.ground(), act)
+    }
+
+    /// Makes a packet, beside the others, and answers its slot.
+    #[inline(always)]
+    pub fn alloc(&mut self) -> Result<Pid, Refusal>
+        ensures { Acts Act.Alloc self.old (allocated result self.new.member.table) self.new }
+    {
+        self.worker.alloc(self.hall.ground())
+    }
+
+    /// Makes as many packets as `slots` has places, all or none, and gives their slots.
+    #[inline(always)]
+    pub fn alloc_bulk(&mut self, slots: &mut [Pid]) -> Result<(), Refusal>
+        ensures { Acts (Act.AllocBulk (length slots.old)) self.old
+            (allocated_bulk (with_list result slots.new) self.new.member.table) self.new }
+    {
+        self.worker.alloc_bulk(self.hall.ground(), slots)
+    }
+
+    /// Frees a packet, and answers what was freed.
+    #[inline(always)]
+    pub fn free(&mut self, slot: Pid) -> Result<Freed, Refusal>
+        ensures { Acts (Act.Free slot) self.old (freed result) self.new }
+    {
+        self.worker.free(self.hall.ground(), slot)
+    }
+
+    /// Clones a packet, and answers the clone's slot.
+    #[inline(always)]
+    pub fn clone_packet(&mut self, slot: Pid) -> Result<Pid, Refusal>
+        ensures { Acts (Act.ClonePacket slot) self.old (cloned result self.new.member.table) self.new }
+    {
+        self.worker.clone_packet(self.hall.ground(), slot)
+    }
+
+    /// The element of the first segment of the packet in a slot, or 0 where none stands there.
+    #[inline(always)]
+    pub fn first_element(&self, slot: Pid) -> u32
+        ensures { result ≡ first_elem (slice_index_or self.now.member.table slot None) }
+    {
+        match self.worker.place(slot) {
+            None => 0,
+            Some(packet) => packet.segs()[0].elem,
+        }
     }
 }
 

@@ -1,3 +1,4 @@
+mod Calling
 mod Crews
 mod Desks
 mod Joined

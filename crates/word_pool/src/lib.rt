@@ -2,6 +2,7 @@
 //! and two pools that foreign clones join.
 #![tactic(auto)]
 
+mod calls;
 mod closing;
 pub mod laws;
 pub mod pool;

@@ -1,21 +1,25 @@
 //! A worker of a pool on words.
 
-ghost use Rattle.std.specs.Prelude.{◌≡◌, [], None, Some, slice_index_or};
+ghost use Rattle.std.specs.Prelude.{◌≡◌, [], None, Some, length, slice_index_or};
 ghost use Rattle.std.specs.Option.{MatchOption};
 ghost use Rattle.ground.specs.Own.{AtRest};
 ghost use Rattle.ground.specs.Seats.{IsOf};
-ghost use Rattle.mbuf.specs.Acts.{HasRoom, as_reply};
+ghost use Rattle.commons.specs.Calls.{with_list};
+ghost use Rattle.mbuf.specs.Acts.{HasRoom, allocated, allocated_bulk, as_reply, cloned, freed};
 ghost use Rattle.mbuf.specs.Own.{Own};
 ghost use Rattle.stack_lf.specs.Remaining.{ReadsRemaining};
 ghost use Rattle.stack_lf.specs.Sides.{side_of};
 ghost use Rattle.word_pool.specs.Workers.{Acts, IsIdle, Stays};
 
+use crate::calls;
 use commons::packet::Packet;
+use commons::refusal::Refusal;
 use ground::pool::Ground;
 use ground::seat::GroundSeat;
 use mbuf::acts;
 use mbuf::acts::{Act, Answer, Reply};
-use mbuf::packets::Packets;
+use mbuf::freed::Freed;
+use mbuf::packets::{Packets, Pid};
 use stack_lf::words::WordCommons;
 use std::marker::Model;
 
@@ -139,6 +143,65 @@ impl WordWorker {
         put_back(&mut self.seat, seat);
         reply
     }
+
+    /// Makes a packet, as the act `Alloc` does, and answers its slot. Like the three calls below it
+    /// fills and moves no `Answer`, which has 144 bytes or more.
+    #[inline(always)]
+    pub fn alloc(&mut self, ground: &Ground) -> Result<Pid, Refusal>
+        requires of { IsOf ground.now self.old.seat }
+        ensures { Acts Act.Alloc self.old (allocated result self.new.member.table) self.new }
+    {
+        let Some(seat) = self.seat.take() else {
+            unreachable!()
+        };
+        let (answer, seat) = calls::alloc(ground, seat, &mut self.packets);
+        put_back(&mut self.seat, seat);
+        answer
+    }
+
+    /// Makes as many packets as `slots` has places, as the act `AllocBulk` does, all or none, and
+    /// gives their slots. Where it is refused, nothing is said of `slots`.
+    #[inline(always)]
+    pub fn alloc_bulk(&mut self, ground: &Ground, slots: &mut [Pid]) -> Result<(), Refusal>
+        requires of { IsOf ground.now self.old.seat }
+        ensures { Acts (Act.AllocBulk (length slots.old)) self.old
+            (allocated_bulk (with_list result slots.new) self.new.member.table) self.new }
+    {
+        let Some(seat) = self.seat.take() else {
+            unreachable!()
+        };
+        let (answer, seat) = calls::alloc_bulk(ground, seat, &mut self.packets, slots);
+        put_back(&mut self.seat, seat);
+        answer
+    }
+
+    /// Frees a packet, as the act `Free` does, and answers what was freed.
+    #[inline(always)]
+    pub fn free(&mut self, ground: &Ground, slot: Pid) -> Result<Freed, Refusal>
+        requires of { IsOf ground.now self.old.seat }
+        ensures { Acts (Act.Free slot) self.old (freed result) self.new }
+    {
+        let Some(seat) = self.seat.take() else {
+            unreachable!()
+        };
+        let (answer, seat) = calls::free(ground, seat, &mut self.packets, slot);
+        put_back(&mut self.seat, seat);
+        answer
+    }
+
+    /// Clones a packet, as the act `ClonePacket` does, and answers the clone's slot.
+    #[inline(always)]
+    pub fn clone_packet(&mut self, ground: &Ground, slot: Pid) -> Result<Pid, Refusal>
+        requires of { IsOf ground.now self.old.seat }
+        ensures { Acts (Act.ClonePacket slot) self.old (cloned result self.new.member.table) self.new }
+    {
+        let Some(seat) = self.seat.take() else {
+            unreachable!()
+        };
+        let (answer, seat) = calls::clone_packet(ground, seat, &mut self.packets, slot);
+        put_back(&mut self.seat, seat);
+        answer
+    }
 }
 
 /// Lets the worker of this seat and these packets do this.
@@ -181,6 +244,7 @@ fn remaining_by(ground: &Ground, seat: GroundSeat, packets: &Packets) -> (u64, G
 }
 
 /// Gives a worker its seat back.
+#[inline(always)]
 fn put_back(place: &mut Option<GroundSeat>, seat: GroundSeat)
     requires empty { place.old ≡ None }
     ensures { place.new ≡ Some seat }
