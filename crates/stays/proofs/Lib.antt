@@ -1,0 +1,5 @@
+mod InBoth
+mod JsonLines
+mod Knowing
+mod NoFloats
+mod Same

@@ -1,0 +1,4 @@
+pub mod StayData
+pub mod StayText
+pub mod Stays
+pub mod inside
