@@ -5,25 +5,35 @@ use Rattle.command_line.specs.declared.unasked.Unasked.{Unasked}
 use Rattle.script_io.specs.declared.reading.ReadFault.{ReadFault}
 use Rattle.tasks.specs.Ends.{status_of_end}
 use Rattle.tasks.specs.Forms.{kind_of}
+use Rattle.tasks.specs.Pairs.{EndsAsPair}
 use Rattle.tasks.specs.Replays.{EndsAs}
 use Rattle.tasks.specs.declared.kind.Kind.{Kind}
+use Rattle.tasks.specs.declared.kind.Kind.TheVariants.{Snapshot}
 use Rattle.tasks.specs.declared.printing.End.{End}
-use Rattle.tasks.specs.declared.task.Task.{Task}
+use Rattle.tasks.specs.declared.task.Asked.{Asked}
+use Rattle.tasks.specs.declared.task.Asked.TheVariants.{One, Two}
 
--- A task with a file ended so, on the output and on the errors, and the status is that of this end: 0
--- where the whole print was written, else 1.
+-- how the print of what was asked for ended: of a task with a file, or of two snapshots
+abbrev pub EndsAsked : (Kind → List ℕ → List ℕ → Type 0) → (Kind → List ℕ → ReadFault → Type 0) → Asked
+    → Option (List ℕ) → Option (List ℕ) → Option (List ℕ) → Option (List ℕ) → End → Type 0
+EndsAsked Gives Fails (One request) =
+    EndsAs (Gives (kind_of request.task) request.file.now) (Fails (kind_of request.task) request.file.now)
+    request.file.now request.task
+EndsAsked Gives Fails (Two pair) = EndsAsPair (Gives Snapshot) (Fails Snapshot) pair.newer.now pair.older.now pair.form
+
+-- The print of what was asked for ended so, on the output and on the errors, and the status is that of
+-- this end: 0 where the whole print was written, else 1.
 pub record Ends (Gives : Kind → List ℕ → List ℕ → Type 0) (Fails : Kind → List ℕ → ReadFault → Type 0)
-    (file : List ℕ) (task : Task) (output output' errors errors' : Option (List ℕ)) (status : ℕ) : Type 0 where
+    (asked : Asked) (output output' errors errors' : Option (List ℕ)) (status : ℕ) : Type 0 where
   pub end : End
-  pub ends : EndsAs (Gives (kind_of task) file) (Fails (kind_of task) file) file task output output' errors errors' end
+  pub ends : EndsAsked Gives Fails asked output output' errors errors' end
   pub tells : status ≡ status_of_end end
 
--- so of some task and file
+-- so of something that can be asked for
 pub record RunsTask (Gives : Kind → List ℕ → List ℕ → Type 0) (Fails : Kind → List ℕ → ReadFault → Type 0)
     (output output' errors errors' : Option (List ℕ)) (status : ℕ) : Type 0 where
-  pub file : List ℕ
-  pub task : Task
-  pub ends : Ends Gives Fails file task output output' errors errors' status
+  pub asked : Asked
+  pub ends : Ends Gives Fails asked output output' errors errors' status
 
 -- it was said why nothing was done, on one of the two: the other is as it was. The status is 2 where
 -- the words are wrong, 1 where memory was refused, and 0 or 1 for help and the version.

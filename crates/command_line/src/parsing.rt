@@ -7,7 +7,7 @@ use script::Grounds;
 use std::alloc::Global;
 use std::env::Env;
 use std::{env, io};
-use tasks::task::{Form, Request, Task, Turns};
+use tasks::task::{Asked, Form, Pair, Request, Task, Turns};
 
 /// What `--version` tells after the program's name.
 const VERSION: &str = "0.1.0";
@@ -29,25 +29,30 @@ pub fn words<R: Env + AllocGlobal>(rt: &R) -> Result<Vec<String>, Unasked> {
     }
 }
 
-/// The file that the words name, and what is to be done with its script or its snapshot.
+/// The file that the words name, and what is to be done with its script or its snapshot; or the two
+/// snapshots.
 ///
 /// `Said` where the words are wrong, or ask for help or the version, and `Memory` where memory was
 /// refused.
-pub fn request_of<'a>(alloc: Global, words: &'a [String]) -> Result<Request<'a>, Unasked> {
+pub fn request_of<'a>(alloc: Global, words: &'a [String]) -> Result<Asked<'a>, Unasked> {
     match requested(alloc, words)? {
-        Some(request) => Ok(request),
+        Some(Asked::Two(pair)) if pair.newer == "-" && pair.older == "-" => Err(wrong(
+            alloc,
+            "the standard input is one snapshot, and not two",
+        )),
+        Some(asked) => Ok(asked),
         None => Err(wrong(alloc, "no file was given")),
     }
 }
 
 /// The request that a parse of the words finds.
-fn requested<'a>(alloc: Global, words: &'a [String]) -> Result<Option<Request<'a>>, Error> {
+fn requested<'a>(alloc: Global, words: &'a [String]) -> Result<Option<Asked<'a>>, Error> {
     let matches = command(alloc)?.try_get_matches_from(words)?;
     Ok(request_in(&matches))
 }
 
 /// The request that the matches of a parse are.
-fn request_in<'a>(matches: &ArgMatches<'a>) -> Option<Request<'a>> {
+fn request_in<'a>(matches: &ArgMatches<'a>) -> Option<Asked<'a>> {
     if let Some(replay) = matches.subcommand_matches("replay") {
         return of_file(replay, replay_in(replay));
     }
@@ -55,15 +60,28 @@ fn request_in<'a>(matches: &ArgMatches<'a>) -> Option<Request<'a>> {
         return of_file(steps, Task::Steps);
     }
     if let Some(audit) = matches.subcommand_matches("audit") {
-        return of_file(audit, Task::Audit(form_in(audit)));
+        return audit_in(audit);
     }
     let run = matches.subcommand_matches("run")?;
     of_file(run, run_in(run)?)
 }
 
 /// What is to be done with the file that is named.
-fn of_file<'a>(matches: &ArgMatches<'a>, task: Task) -> Option<Request<'a>> {
-    matches.get_str("FILE").map(|file| Request { file, task })
+fn of_file<'a>(matches: &ArgMatches<'a>, task: Task) -> Option<Asked<'a>> {
+    matches
+        .get_str("FILE")
+        .map(|file| Asked::One(Request { file, task }))
+}
+
+/// The audit that is asked for, of one snapshot or of two.
+fn audit_in<'a>(matches: &ArgMatches<'a>) -> Option<Asked<'a>> {
+    let form = form_in(matches);
+    match matches.get_str("since") {
+        Some(older) => matches
+            .get_str("FILE")
+            .map(|newer| Asked::Two(Pair { newer, older, form })),
+        None => of_file(matches, Task::Audit(form)),
+    }
 }
 
 /// The replay that is asked for.
@@ -185,7 +203,7 @@ fn steps<'a>(alloc: Global) -> Result<Command<'a>, Error> {
     )
 }
 
-/// `mbufpool audit FILE [--json]`.
+/// `mbufpool audit FILE [--since OLD] [--json]`.
 fn audit<'a>(alloc: Global) -> Result<Command<'a>, Error> {
     let file = Arg::new(alloc, "FILE")
         .required(true)
@@ -196,8 +214,17 @@ fn audit<'a>(alloc: Global) -> Result<Command<'a>, Error> {
                 "Audits a snapshot of a pool, and prints where each element is, or its first fault",
             )
             .arg(file)?
+            .arg(since(alloc))?
             .arg(json(alloc).help("Print it as one line of JSON"))?,
     )
+}
+
+/// The older snapshot of the same pool.
+fn since<'a>(alloc: Global) -> Arg<'a> {
+    Arg::new(alloc, "since")
+        .long("since")
+        .value_name("OLD")
+        .help("Print besides which packets stay since this older snapshot; - is the standard input")
 }
 
 /// What the threads share.

@@ -9,9 +9,9 @@ use std::env::Env;
 use std::io::Write;
 use std::sync::Wait;
 use std::thread::Threads;
-use tasks::print;
 use tasks::scripts::Scripts;
-use tasks::task::Request;
+use tasks::task::Asked;
+use tasks::{print, print_pair};
 
 /// Does what the command line asks for, and gives the status that the program ends with: 0 where
 /// the whole print was written, or help or the version; 1 where a failure was told or a writer
@@ -48,17 +48,16 @@ pub fn run<R: Env + AllocGlobal + Threads + Wait + Sync, S: Scripts, O: Write, E
 pub fn serve<R: AllocGlobal + Threads + Wait + Sync, S: Scripts, O: Write, E: Write>(
     rt: &R,
     scripts: &S,
-    asked: Result<Request<'_>, Unasked>,
+    asked: Result<Asked<'_>, Unasked>,
     screen: &mut Tally<O>,
     errors: &mut E,
 ) -> u8
     requires { screen.old.failed ≡ false }
-    // It is the status of the print of this task and file,
-    ensures done { IfOk asked.entry (λ request. Ends
+    // It is the status of the print of this task and file, or of these two snapshots,
+    ensures done { IfOk asked.entry (λ asked. Ends
         (S.gives scripts.now)
         (S.fails scripts.now)
-        request.file.now
-        request.task
+        asked
         (O.contents screen.old.inner)
         (O.contents screen.new.inner)
         (E.contents errors.old)
@@ -77,7 +76,10 @@ pub fn serve<R: AllocGlobal + Threads + Wait + Sync, S: Scripts, O: Write, E: Wr
     ensures status { result ≤ 2 }
 {
     match asked {
-        Ok(request) => print(rt, rt.alloc(), scripts, &request, screen, errors).status(),
+        Ok(Asked::One(request)) => {
+            print(rt, rt.alloc(), scripts, &request, screen, errors).status()
+        }
+        Ok(Asked::Two(pair)) => print_pair(rt.alloc(), scripts, &pair, screen, errors).status(),
         Err(unasked) => tell(screen, errors, &unasked),
     }
 }

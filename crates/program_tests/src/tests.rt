@@ -5,6 +5,7 @@ use std::process::Abort;
 mod audits;
 mod faults;
 mod files;
+mod pairs;
 mod screen;
 mod snapshots;
 mod turns;

@@ -1,1 +1,2 @@
 mod Misreadings
+mod Prefixes

@@ -15,6 +15,7 @@ use Rattle.snapshot_json.specs.Reading.{IsFaultOf, IsNoSnapshotText, IsSnapshotT
 use Rattle.snapshot_json.specs.declared.fault.SnapshotFault.{SnapshotFault}
 use Rattle.snapshot_json.specs.declared.fault.SnapshotFault.TheVariants as reads
 use Rattle.statement_text.specs.StatementText.{text_of}
+use Rattle.tasks.specs.declared.auditing.Placed.{Placed}
 use Rattle.tasks.specs.declared.failures.Failure.{Failure}
 use Rattle.tasks.specs.declared.failures.Failure.TheVariants.{Unreadable, Fault, Misread, Audited}
 use Rattle.tasks.specs.declared.task.Form.{Form}
@@ -29,6 +30,18 @@ IsStatementAs Json s out = out ≡ json_of s ++ codes "\n"
 pub record IsPlacedAs (form : Form) (s : Snapshot) (out : List ℕ) : Type 0 where
   pub lawful : IsLawful s
   pub written : IsStatementAs form (statement_in s) out
+
+-- the snapshot is lawful, with these limits and this statement
+pub record IsPlacedIn (s : Snapshot) (placed : Placed) : Type 0 where
+  pub lawful : IsLawful s
+  pub limits : placed.limits ≡ s.limits
+  pub statement : placed.statement ≡ statement_in s
+
+-- the bytes are a lawful snapshot's, with these limits and this statement
+pub record IsAuditOf (bytes : List ℕ) (placed : Placed) : Type 0 where
+  pub snapshot : Snapshot
+  pub reads : IsSnapshotText bytes snapshot
+  pub places : IsPlacedIn snapshot placed
 
 -- the bytes are a snapshot's, and this is printed for its audit in this form
 pub record IsAuditPrintedAs (form : Form) (bytes out : List ℕ) : Type 0 where

@@ -1,4 +1,4 @@
--- What comes of a task with a file, whatever a reading of it gives.
+-- What comes of a task with a file, whatever a reading of it gives; and how a print ended.
 use Rattle.std.specs.Prelude.{ℕ, ◌≡◌, ◌<◌, List, Option, ◌⊎◌, length, take}
 use Rattle.std.specs.Io.KnownBytes.{Appends}
 use Rattle.script_io.specs.declared.reading.ReadFault.{ReadFault}
@@ -31,37 +31,40 @@ pub record FailsReading (Fails : ReadFault → Type 0) (file : List ℕ) (failur
 abbrev pub FailsAt : (List ℕ → Type 0) → (ReadFault → Type 0) → List ℕ → Task → Failure → Type 0
 FailsAt Gives Fails file task failure = FailsReading Fails file failure ⊎ FailsTask Gives task failure
 
--- the print for a file's bytes was added to what stood there
-pub record PrintsFile (Gives : List ℕ → Type 0) (task : Task) (old new : Option (List ℕ)) : Type 0 where
+-- what is printed was added to what stood there
+pub record PrintsFile (Prints : List ℕ → Type 0) (old new : Option (List ℕ)) : Type 0 where
   pub out : List ℕ
-  pub reading : PrintsReading Gives task out
+  pub prints : Prints out
   pub whole : Appends old new out
 
 -- a failure came, and its line was added to what stood there
-pub record TellsFailure (Gives : List ℕ → Type 0) (Fails : ReadFault → Type 0) (file : List ℕ) (task : Task)
-    (old new : Option (List ℕ)) : Type 0 where
-  pub failure : Failure
-  pub came : FailsAt Gives Fails file task failure
-  pub told : Appends old new (line_of failure)
+pub record TellsFailure {F : Type 0} (Came : F → Type 0) (line : F → List ℕ) (old new : Option (List ℕ)) : Type 0 where
+  pub failure : F
+  pub came : Came failure
+  pub told : Appends old new (line failure)
 
--- exactly so many of the first bytes of the print for a file's bytes, and not all, were added to
--- what stood there
-pub record PrintsPart (Gives : List ℕ → Type 0) (task : Task) (old new : Option (List ℕ)) (count : ℕ) : Type 0 where
+-- exactly so many of the first bytes of what is printed, and not all, were added to what stood there
+pub record PrintsPart (Prints : List ℕ → Type 0) (old new : Option (List ℕ)) (count : ℕ) : Type 0 where
   pub out : List ℕ
-  pub reading : PrintsReading Gives task out
+  pub prints : Prints out
   pub short : count < length out
   pub part : Appends old new (take count out)
 
 -- a failure came
-pub record FailsSo (Gives : List ℕ → Type 0) (Fails : ReadFault → Type 0) (file : List ℕ) (task : Task) : Type 0 where
-  pub failure : Failure
-  pub came : FailsAt Gives Fails file task failure
+pub record FailsSo {F : Type 0} (Came : F → Type 0) : Type 0 where
+  pub failure : F
+  pub came : Came failure
 
--- How a task with a file ended: what stood on the output and on the errors before, and stands there
--- afterwards. One of the two is as it was.
+-- How a print ended, with what may be printed, the failures that may come and their lines: what stood
+-- on the output and on the errors before, and stands there afterwards. One of the two is as it was.
+abbrev pub EndsWith : {F : Type 0} → (List ℕ → Type 0) → (F → Type 0) → (F → List ℕ)
+    → Option (List ℕ) → Option (List ℕ) → Option (List ℕ) → Option (List ℕ) → End → Type 0
+EndsWith Prints Came line output output' errors errors' Printed = PrintsFile Prints output output' × (errors' ≡ errors)
+EndsWith Prints Came line output output' errors errors' (BrokenOff count) = PrintsPart Prints output output' count × (errors' ≡ errors)
+EndsWith Prints Came line output output' errors errors' Told = TellsFailure Came line errors errors' × (output' ≡ output)
+EndsWith Prints Came line output output' errors errors' Untold = FailsSo Came × (output' ≡ output)
+
+-- how a task with a file ended
 abbrev pub EndsAs : (List ℕ → Type 0) → (ReadFault → Type 0) → List ℕ → Task
     → Option (List ℕ) → Option (List ℕ) → Option (List ℕ) → Option (List ℕ) → End → Type 0
-EndsAs Gives Fails file task output output' errors errors' Printed = PrintsFile Gives task output output' × (errors' ≡ errors)
-EndsAs Gives Fails file task output output' errors errors' (BrokenOff count) = PrintsPart Gives task output output' count × (errors' ≡ errors)
-EndsAs Gives Fails file task output output' errors errors' Told = TellsFailure Gives Fails file task errors errors' × (output' ≡ output)
-EndsAs Gives Fails file task output output' errors errors' Untold = FailsSo Gives Fails file task × (output' ≡ output)
+EndsAs Gives Fails file task = EndsWith (PrintsReading Gives task) (FailsAt Gives Fails file task) line_of

@@ -1,14 +1,14 @@
 //! What is printed of a snapshot: the statement that places each element, in the form that is asked
 //! for; or its first fault.
 ghost use Rattle.std.specs.Prelude.{◌≡◌, ◌≢◌, IfErr, IfOk};
-ghost use Rattle.pool_model.specs.declared.statement.Statement.{Statement};
 ghost use Rattle.snapshot.specs.Faults.{IsFirstFault};
 ghost use Rattle.snapshot_json.specs.Reading.{IsFaultOf, IsNoSnapshotText};
-ghost use Rattle.tasks.specs.Audits.{IsAuditCause, IsAuditPrintedAs, IsFailureIn, IsFaultIn, IsMisread, IsPlacedAs, IsStatementAs};
+ghost use Rattle.tasks.specs.Audits.{IsAuditCause, IsAuditOf, IsAuditPrintedAs, IsFailureIn, IsFaultIn, IsMisread, IsPlacedIn, IsStatementAs};
 
 use crate::failures::Failure;
 use crate::task::Form;
 use audit_text::fault_line;
+use commons::limits::Limits;
 use commons::refusal::Refusal;
 use pool_model::statement::Statement;
 use snapshot::audit::audit;
@@ -28,8 +28,28 @@ pub fn text<'a>(alloc: Global, bytes: &[u8], form: Form) -> Result<Vec<u8>, Fail
     ensures printed { IfOk result (λ out. IsAuditPrintedAs form bytes.now out.items) }
     ensures cause { IfErr result (IsAuditCause bytes.now) }
 {
+    match audited(alloc, bytes) {
+        Ok(placed) => Ok(written(alloc, &placed.statement, form)?),
+        Err(failure) => Err(failure),
+    }
+}
+
+/// A lawful snapshot, as its limits and where each element of its pool is.
+#[derive(Drop)]
+pub struct Placed {
+    /// The pool's limits.
+    pub limits: Limits,
+    /// Where each element is.
+    pub statement: Statement,
+}
+
+/// The audit of the snapshot that these bytes are. Its failures are those of `text`.
+pub(crate) fn audited<'a>(alloc: Global, bytes: &[u8]) -> Result<Placed, Failure<'a>>
+    ensures audited { IfOk result (IsAuditOf bytes.now) }
+    ensures cause { IfErr result (IsAuditCause bytes.now) }
+{
     match read_snapshot(alloc, bytes) {
-        Ok(snapshot) => placed(alloc, &snapshot, form),
+        Ok(snapshot) => of_snapshot(alloc, &snapshot),
         Err(fault) => Err(misread(alloc, fault)),
     }
 }
@@ -47,14 +67,17 @@ fn misread<'a>(alloc: Global, fault: SnapshotFault) -> Failure<'a>
     }
 }
 
-/// What the audit of a snapshot prints in a form.
-fn placed<'a>(alloc: Global, snapshot: &Snapshot, form: Form) -> Result<Vec<u8>, Failure<'a>>
-    ensures printed { IfOk result (λ out. IsPlacedAs form snapshot.now out.items) }
+/// The audit of a snapshot.
+fn of_snapshot<'a>(alloc: Global, snapshot: &Snapshot) -> Result<Placed, Failure<'a>>
+    ensures placed { IfOk result (IsPlacedIn snapshot.now) }
     ensures cause { IfErr result (IsFailureIn snapshot.now) }
 {
     snapshot.limits.check()?;
     match audit(alloc, snapshot) {
-        Ok(statement) => Ok(written(alloc, &statement, form)?),
+        Ok(statement) => Ok(Placed {
+            limits: snapshot.limits,
+            statement,
+        }),
         Err(Fault::OutOfMemory) => Err(Failure::Fault(Refusal::OutOfMemory)),
         Err(fault) => Err(faulty(alloc, snapshot, fault)),
     }

@@ -1,8 +1,10 @@
-//! Why nothing was printed of a script or a snapshot, and the line that tells of it.
-ghost use Rattle.std.specs.Prelude.{OnOk, Some};
+//! Why nothing was printed of a script or a snapshot, or of two, and the line that tells of it.
+ghost use Rattle.std.specs.Prelude.{◌≡◌, ◌++◌, OnOk, Some};
 ghost use Rattle.std.specs.Io.KnownBytes.{Appends};
 ghost use Rattle.tasks.specs.Failures.{fault_text, line_of};
+ghost use Rattle.tasks.specs.Pairs.{line_of_pair, older_prefix, refusal_prefix};
 
+use crate::comparing::Difference;
 use commons::refusal::Refusal;
 use snapshot_json::fault::SnapshotFault;
 use std::io::Write;
@@ -64,4 +66,67 @@ pub fn tell<E: Write>(errors: &mut E, failure: &Failure<'_>) -> io::Result<()>
             writeln!(errors)
         }
     }
+}
+
+/// Why nothing was printed of two snapshots of one pool.
+#[derive(Drop)]
+pub enum PairFailure<'a> {
+    /// Of the newer one, as of its audit alone; or memory was refused.
+    Newer(Failure<'a>),
+    /// So of the older one.
+    Older(Failure<'a>),
+    /// They are of two pools: a limit of theirs differs.
+    Differ(Difference),
+}
+
+/// Writes the line that tells of a failure. The error is the writer's; part of the line may then
+/// be written.
+pub fn tell_pair<E: Write>(errors: &mut E, failure: &PairFailure<'_>) -> io::Result<()>
+    ensures { OnOk result (Appends (E.contents errors.old) (E.contents errors.new) (line_of_pair failure.now)) }
+{
+    match failure {
+        PairFailure::Newer(failure) => tell(errors, failure),
+        PairFailure::Older(failure) => tell_older(errors, failure),
+        PairFailure::Differ(both) => {
+            let name = both.limit.name();
+            writeln!(
+                errors,
+                "limits differ: {name} {} and {}",
+                both.newer, both.older
+            )
+        }
+    }
+}
+
+/// Writes the line of a failure of the older one, which says so, but where it names a file or
+/// memory is missing.
+fn tell_older<E: Write>(errors: &mut E, failure: &Failure<'_>) -> io::Result<()>
+    ensures { OnOk result (Appends (E.contents errors.old) (E.contents errors.new)
+        (older_prefix failure.now ++ line_of failure.now)) }
+{
+    errors.write_all(before(failure))?;
+    tell(errors, failure)
+}
+
+/// What stands in front of the line of a failure of the older one.
+fn before(failure: &Failure<'_>) -> &'static [u8]
+    ensures { result.now ≡ older_prefix failure.now }
+{
+    match failure {
+        Failure::Unreadable(_) => b"",
+        Failure::Fault(refusal) => before_refusal(*refusal),
+        Failure::Misread(_, _) => b"since: ",
+        Failure::Audited(_) => b"since: ",
+    }
+}
+
+/// What stands in front of that of a refusal.
+#[tactic(auto, using(crate::proofs::Prefixes::refusal_prefix_other))]
+fn before_refusal(refusal: Refusal) -> &'static [u8]
+    ensures { result.now ≡ refusal_prefix refusal }
+{
+    if let Refusal::OutOfMemory = refusal {
+        return b"";
+    }
+    b"since: "
 }

@@ -1,9 +1,10 @@
 //! What the program does with a script or a snapshot: the replay of a script, its run in threads,
-//! what is lost with a worker at its end, its steps, or the audit of a snapshot, printed; or the
-//! failure that came.
+//! what is lost with a worker at its end, its steps, the audit of a snapshot, or that and what stays
+//! since an older one, printed; or the failure that came.
 #![tactic(auto)]
 
 mod auditing;
+pub mod comparing;
 pub mod failures;
 pub mod kind;
 mod losing;
@@ -11,7 +12,9 @@ pub mod printing;
 mod replay;
 mod running;
 pub mod scripts;
+mod since;
 pub mod task;
 
-pub use failures::tell;
+pub use failures::{tell, tell_pair};
 pub use printing::{End, print, printed};
+pub use since::{print_pair, printed_pair};

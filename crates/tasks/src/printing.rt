@@ -113,7 +113,7 @@ pub fn printed<'a, R: Threads + Wait + Sync, S: Scripts>(
 }
 
 /// What is reported of a fault of reading a file.
-fn unread(file: &str, fault: ReadFault) -> Failure<'_>
+pub(crate) fn unread(file: &str, fault: ReadFault) -> Failure<'_>
     ensures { IsUnread file.entry.now fault result }
 {
     match fault {

@@ -66,3 +66,19 @@ pub struct Request<'a> {
     pub file: &'a str,
     pub task: Task,
 }
+
+/// Two snapshots of one pool: asked for is the audit of the newer one, and which packets stay since the
+/// older one.
+#[derive(Clone, Copy, PartialEq, Eq, Debug)]
+pub struct Pair<'a> {
+    pub newer: &'a str,
+    pub older: &'a str,
+    pub form: Form,
+}
+
+/// What is asked for: something of one file, or of two snapshots.
+#[derive(Clone, Copy, PartialEq, Eq, Debug)]
+pub enum Asked<'a> {
+    One(Request<'a>),
+    Two(Pair<'a>),
+}

@@ -24,17 +24,18 @@ impl Scripts for Only<'_> {
 }
 
 /// A snapshot's members after its limits: a pool of 8 elements, of 2 workers and 1 desk.
-struct Row {
-    members: &'static str,
-    line: &'static str,
+pub(super) struct Row {
+    pub(super) members: &'static str,
+    pub(super) line: &'static str,
 }
 
 /// The limits of those pools.
-const LIMITS: &str = "{\"limits\":{\"population\":8,\"cache\":2,\"workers\":2,\"desks\":1,\
+pub(super) const LIMITS: &str =
+    "{\"limits\":{\"population\":8,\"cache\":2,\"workers\":2,\"desks\":1,\
     \"buf\":2048,\"refs\":65535,\"tries\":64,\"start\":0,\"putrule\":0},";
 
 /// The elements 0 to 3 are on the stack, 4 in the first cache, 5 and 6 in a packet, 7 on the desk.
-const HEALTHY: &str = "\"common\":[3,2,1,0],\"counts\":[1,1,1,1,1,1,1,1],\
+pub(super) const HEALTHY: &str = "\"common\":[3,2,1,0],\"counts\":[1,1,1,1,1,1,1,1],\
     \"desks\":[[{\"elem\":7,\"base\":null,\"off\":128,\"len\":0,\"buf\":2048}]],\
     \"shares\":[{\"worker\":1,\"cache\":[4],\"slots\":[]},{\"worker\":2,\"cache\":[],\"slots\":[null,\
     [{\"elem\":5,\"base\":null,\"off\":128,\"len\":9,\"buf\":2048},\
@@ -50,11 +51,12 @@ const WORDS: &str = "\"top\":4,\"length\":4,\"links\":[0,1,2,3,0,0,0,0],\
     {\"elem\":6,\"base\":null,\"off\":0,\"len\":1,\"buf\":2048}]]}],\
     \"guests\":[],\"foreign\":false}";
 
-const STATEMENT: &str = "population 8\navailable 5\nin use 3\ncommon 4: 3 2 1 0\ncache 1 1: 4\n\
+pub(super) const STATEMENT: &str =
+    "population 8\navailable 5\nin use 3\ncommon 4: 3 2 1 0\ncache 1 1: 4\n\
     cache 2 0:\npacket 2 1 segs 2 len 10: 5@128+9/2048 6@0+1/2048\ndesk 0 segs 1 len 0: 7@128+0/2048\n\
     held 5 count 1: 2\nheld 6 count 1: 2\nheld 7 count 1: d0\n";
 
-static FAULTS: &[Row] = &[
+pub(super) static FAULTS: &[Row] = &[
     Row {
         members: HEALTHY,
         line: STATEMENT,

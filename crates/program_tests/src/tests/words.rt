@@ -6,14 +6,14 @@ use script::Grounds;
 use script_io::Tally;
 use std::alloc::{AllocError, Global};
 use std::test::Fail;
-use tasks::task::{Form, Task};
+use tasks::task::{Asked, Form, Pair, Task};
 
 /// What a task is called, a run with what it rests on, in how many turns a line is tried, 0 where
 /// none are named, the worker that is to be lost, if one is, and its form.
-type Asked = (&'static str, u32, Option<u32>, Form);
+type Named = (&'static str, u32, Option<u32>, Form);
 
 /// Words, the file that they name, and what they ask for.
-type NamedRow = (&'static [&'static str], &'static str, Asked);
+type NamedRow = (&'static [&'static str], &'static str, Named);
 
 static NAMED: &[NamedRow] = &[
     (
@@ -122,6 +122,12 @@ static WRONG: &[&[&str]] = &[
     &["audit"],
     &["audit", "a", "b"],
     &["audit", "a", "--turns", "5"],
+    &["audit", "--since", "a"],
+    &["audit", "b", "--since"],
+    &["audit", "b", "--since", "a", "--since", "a"],
+    &["audit", "-", "--since", "-"],
+    &["audit", "--since=-", "-"],
+    &["replay", "b", "--since", "a"],
     &["steps"],
     &["steps", "a", "--json"],
     &["steps", "a", "b"],
@@ -170,6 +176,7 @@ static ASKED: &[(&[&str], &str)] = &[
         "Usage: mbufpool audit [OPTIONS] <FILE>",
     ),
     (&["audit", "--help"], "- is the standard input"),
+    (&["audit", "--help"], "--since <OLD>"),
     (&["--help"], "Usage: mbufpool"),
     (&["--version"], "mbufpool 0.1.0\n"),
 ];
@@ -183,7 +190,7 @@ fn line(alloc: Global, words: &[&str]) -> Result<Vec<String>, AllocError> {
 }
 
 /// What a task is called, with its turns, the worker that is to be lost, and its form.
-fn asked_by(task: Task) -> Asked {
+fn named_by(task: Task) -> Named {
     match task {
         Task::Replay(form) => ("replay", 0, None, form),
         Task::ReplaySnapshot => ("snapshot of a replay", 0, None, Form::Json),
@@ -223,13 +230,77 @@ fn words_name_a_file_and_what_is_to_be_done_with_it(rt: HostRuntime) -> Result<(
     for (words, file, asked) in NAMED {
         let words = line(rt.alloc(), words)?;
         match request_of(rt.alloc(), words.as_slice()) {
-            Ok(found) => same(
+            Ok(Asked::One(found)) => same(
                 &rt,
-                &(found.file, asked_by(found.task)),
+                &(found.file, named_by(found.task)),
                 &(*file, *asked),
                 file,
             ),
-            Err(_) => return Err(Fail::from("no file")),
+            _ => return Err(Fail::from("not one file")),
+        }
+    }
+    Ok(())
+}
+
+/// Words, and the two snapshots that they name.
+static PAIRS: &[(&[&str], Pair<'static>)] = &[
+    (
+        &["audit", "b", "--since", "a"],
+        Pair {
+            newer: "b",
+            older: "a",
+            form: Form::Text,
+        },
+    ),
+    (
+        &["audit", "--since=a.json", "--json", "b.json"],
+        Pair {
+            newer: "b.json",
+            older: "a.json",
+            form: Form::Json,
+        },
+    ),
+    (
+        &["audit", "-", "--since", "a"],
+        Pair {
+            newer: "-",
+            older: "a",
+            form: Form::Text,
+        },
+    ),
+    (
+        &["audit", "b", "--since", "-"],
+        Pair {
+            newer: "b",
+            older: "-",
+            form: Form::Text,
+        },
+    ),
+    (
+        &["audit", "--since=-", "b"],
+        Pair {
+            newer: "b",
+            older: "-",
+            form: Form::Text,
+        },
+    ),
+    (
+        &["audit", "a", "--since", "a"],
+        Pair {
+            newer: "a",
+            older: "a",
+            form: Form::Text,
+        },
+    ),
+];
+
+#[test]
+fn words_name_two_snapshots(rt: HostRuntime) -> Result<(), Fail> {
+    for (words, pair) in PAIRS {
+        let words = line(rt.alloc(), words)?;
+        match request_of(rt.alloc(), words.as_slice()) {
+            Ok(Asked::Two(found)) => same(&rt, &found, pair, pair.newer),
+            _ => return Err(Fail::from("not two snapshots")),
         }
     }
     Ok(())

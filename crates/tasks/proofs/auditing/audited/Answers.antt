@@ -1,6 +1,6 @@
 use Rattle.std.proofs.Common.{inl}
 use Rattle.tasks.proofs.Misreadings.{told_of_bytes}
-use Rattle.tasks.proofs.auditing.text.Goals as goal
+use Rattle.tasks.proofs.auditing.audited.Goals as goal
 
 -- the bytes are no snapshot's, or memory was refused
 pub returns-in-Err-clause-cause : goal.returns-in-Err-clause-cause
