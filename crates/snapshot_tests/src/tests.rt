@@ -14,11 +14,13 @@ mod calling;
 mod damaged;
 mod drawn;
 mod faulty;
+mod pictures;
 
 use calling::with_length;
 use damaged::{LIST, OF_LIST, OF_WORDS, WHOLE, WORDS};
 use drawn::{Source, drawn};
 use faulty::{FAULTS, LIMITS};
+use pictures::{PICTURES, picture_of};
 
 /// A name, what is replaced in a text, by what, and what is printed of the text. Where `^` stands
 /// in the replacement, `, at byte` and its place are printed behind that.
@@ -320,5 +322,30 @@ fn refused_memory_changes_no_line(rt: HostRuntime) {
             Err(cause) => *cause == Refusal::OutOfMemory,
         };
         assert!(&rt; is, "told otherwise: {line}");
+    }
+}
+
+/// Each pool has its picture.
+#[test]
+fn each_pool_has_its_picture(rt: HostRuntime) {
+    for (population, wanted) in PICTURES {
+        let dot = picture_of(rt.alloc(), *population);
+        let is = match &dot {
+            Ok(dot) => dot.as_slice() == wanted.as_bytes(),
+            Err(_) => false,
+        };
+        assert!(&rt; is, "of {population} elements not: {wanted}");
+    }
+}
+
+/// Whichever request for memory is refused, a pool has its picture, or memory was refused.
+#[test]
+fn refused_memory_changes_no_picture(rt: HostRuntime) {
+    if let Some((population, wanted)) = PICTURES.first() {
+        let is = match &picture_of(rt.alloc(), *population) {
+            Ok(dot) => dot.as_slice() == wanted.as_bytes(),
+            Err(cause) => *cause == Refusal::OutOfMemory,
+        };
+        assert!(&rt; is, "otherwise than {wanted}");
     }
 }
