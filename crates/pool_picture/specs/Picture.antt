@@ -29,7 +29,7 @@ rows_text index (element ∷ more) =
 -- what a box says of a list of elements: how many they are and, where each is shown, which
 unfoldable pub list_text : Bool → List ℕ → List ℕ
 list_text shown elements =
-    codes " " ++ decimal (length elements) ++ (if shown then rows_text 0 elements else [])
+    codes ": " ++ decimal (length elements) ++ (if shown then rows_text 0 elements else [])
 
 -- the box of the common stack
 unfoldable pub stack_box : Bool → List ℕ → List ℕ
@@ -92,7 +92,7 @@ held_circle h =
 -- a box that says how many of a kind there are
 unfoldable pub sum_box : List ℕ → List ℕ → ℕ → List ℕ
 sum_box name label count =
-    codes "  " ++ name ++ codes " [label=\"" ++ label ++ codes " " ++ decimal count ++ codes "\"];\n"
+    codes "  " ++ name ++ codes " [label=\"" ++ label ++ codes ": " ++ decimal count ++ codes "\"];\n"
 
 -- what is in use, each of it
 unfoldable pub each_in_use : Statement → List ℕ

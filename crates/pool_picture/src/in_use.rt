@@ -52,7 +52,7 @@ fn write_sum(out: &mut Vec<u8>, name: &str, label: &str, count: usize) -> Result
     out.extend_from_slice(name.as_bytes())?;
     out.extend_from_slice(b" [label=\"")?;
     out.extend_from_slice(label.as_bytes())?;
-    write_number(out, b" ", count)?;
+    write_number(out, b": ", count)?;
     out.extend_from_slice(b"\"];\n")
 }
 

@@ -13,7 +13,7 @@ const ROW_LENGTH: usize = 16;
 pub(crate) fn write_list(out: &mut Vec<u8>, shown: bool, elements: &[u32]) -> Result<(), AllocError>
     ensures { OnOk result (out.new.items ≡ out.old.items ++ list_text shown elements.now) }
 {
-    write_number(out, b" ", elements.len())?;
+    write_number(out, b": ", elements.len())?;
     if shown {
         write_rows(out, elements)
     } else {

@@ -25,9 +25,9 @@ pub(super) const PICTURES: &[(u64, &str)] = &[
         "digraph pool {\n\
         \x20 rankdir=LR;\n\
         \x20 node [shape=box, fontname=\"monospace\"];\n\
-        \x20 stack [label=\"stack 2\\n3 2\"];\n\
-        \x20 cache_1 [label=\"cache 1 1\\n4\"];\n\
-        \x20 cache_2 [label=\"cache 2 2\\n0 1\"];\n\
+        \x20 stack [label=\"stack: 2\\n3 2\"];\n\
+        \x20 cache_1 [label=\"cache 1: 1\\n4\"];\n\
+        \x20 cache_2 [label=\"cache 2: 2\\n0 1\"];\n\
         \x20 packet_1_0 [label=\"packet 1 0\"];\n\
         \x20 packet_1_0 -> e6;\n\
         \x20 e6 -> e5 [style=dashed];\n\
@@ -45,12 +45,12 @@ pub(super) const PICTURES: &[(u64, &str)] = &[
         "digraph pool {\n\
         \x20 rankdir=LR;\n\
         \x20 node [shape=box, fontname=\"monospace\"];\n\
-        \x20 stack [label=\"stack 2\"];\n\
-        \x20 cache_1 [label=\"cache 1 1\"];\n\
-        \x20 cache_2 [label=\"cache 2 2\"];\n\
-        \x20 packets [label=\"packets 2\"];\n\
-        \x20 desks [label=\"packets on desks 1\"];\n\
-        \x20 held [label=\"held elements 3\"];\n\
+        \x20 stack [label=\"stack: 2\"];\n\
+        \x20 cache_1 [label=\"cache 1: 1\"];\n\
+        \x20 cache_2 [label=\"cache 2: 2\"];\n\
+        \x20 packets [label=\"packets: 2\"];\n\
+        \x20 desks [label=\"packets on desks: 1\"];\n\
+        \x20 held [label=\"held elements: 3\"];\n\
         }\n",
     ),
 ];
