@@ -80,6 +80,7 @@ fn audit_in<'a>(matches: &ArgMatches<'a>) -> Option<Asked<'a>> {
         Some(older) => matches
             .get_str("FILE")
             .map(|newer| Asked::Two(Pair { newer, older, form })),
+        None if matches.get_flag("dot") => of_file(matches, Task::Picture),
         None => of_file(matches, Task::Audit(form)),
     }
 }
@@ -203,7 +204,7 @@ fn steps<'a>(alloc: Global) -> Result<Command<'a>, Error> {
     )
 }
 
-/// `mbufpool audit FILE [--since OLD] [--json]`.
+/// `mbufpool audit FILE [--since OLD] [--json]`, or `mbufpool audit FILE --dot`.
 fn audit<'a>(alloc: Global) -> Result<Command<'a>, Error> {
     let file = Arg::new(alloc, "FILE")
         .required(true)
@@ -215,7 +216,20 @@ fn audit<'a>(alloc: Global) -> Result<Command<'a>, Error> {
             )
             .arg(file)?
             .arg(since(alloc))?
-            .arg(json(alloc).help("Print it as one line of JSON"))?,
+            .arg(json(alloc).help("Print it as one line of JSON"))?
+            .arg(dot(alloc)?)?,
+    )
+}
+
+/// Whether a picture is asked for.
+fn dot<'a>(alloc: Global) -> Result<Arg<'a>, Error> {
+    Ok(
+        Arg::new(alloc, "dot")
+            .long("dot")
+            .action(ArgAction::SetTrue)
+            .conflicts_with("since")?
+            .conflicts_with("json")?
+            .help("Print a picture of the pool in the language of Graphviz"),
     )
 }
 

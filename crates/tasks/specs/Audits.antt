@@ -7,6 +7,7 @@ use Rattle.commons.specs.declared.refusal.Refusal.TheVariants.{BadPool}
 use Rattle.commons.specs.declared.refusal.Refusal.TheVariants as refusals
 use Rattle.statement_text.specs.StatementData.{json_of}
 use Rattle.pool_model.specs.declared.statement.Statement.{Statement}
+use Rattle.pool_picture.specs.Picture.{dot_of}
 use Rattle.snapshot.specs.declared.snapshot.Snapshot.{Snapshot}
 use Rattle.snapshot.specs.Faults.{IsFirstFault}
 use Rattle.snapshot.specs.Snapshots.{IsLawful, statement_in}
@@ -42,6 +43,12 @@ pub record IsAuditOf (bytes : List ℕ) (placed : Placed) : Type 0 where
   pub snapshot : Snapshot
   pub reads : IsSnapshotText bytes snapshot
   pub places : IsPlacedIn snapshot placed
+
+-- the bytes are a lawful snapshot's, and this is the picture of its pool
+pub record IsPictureOf (bytes out : List ℕ) : Type 0 where
+  pub placed : Placed
+  pub audited : IsAuditOf bytes placed
+  pub drawn : out ≡ dot_of placed.statement
 
 -- the bytes are a snapshot's, and this is printed for its audit in this form
 pub record IsAuditPrintedAs (form : Form) (bytes out : List ℕ) : Type 0 where

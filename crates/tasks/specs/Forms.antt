@@ -11,7 +11,7 @@ use Rattle.statement_text.specs.StatementText.{text_of_settled}
 use Rattle.script_text.specs.Grammar.{IsCause}
 use Rattle.script_text.specs.StepGrammar.{IsStepCause}
 use Rattle.step_text.specs.Printed.{IsStepsPrint}
-use Rattle.tasks.specs.Audits.{IsAuditCause, IsAuditPrintedAs}
+use Rattle.tasks.specs.Audits.{IsAuditCause, IsAuditPrintedAs, IsPictureOf}
 use Rattle.tasks.specs.Failures.{IsFaultOf}
 use Rattle.tasks.specs.declared.failures.Failure.{Failure}
 use Rattle.tasks.specs.declared.kind.Kind.{Kind}
@@ -19,7 +19,7 @@ use Rattle.tasks.specs.declared.kind.Kind.TheVariants.{Script, Snapshot}
 use Rattle.tasks.specs.declared.task.Form.{Form}
 use Rattle.tasks.specs.declared.task.Form.TheVariants.{Text, Json}
 use Rattle.tasks.specs.declared.task.Task.{Task}
-use Rattle.tasks.specs.declared.task.Task.TheVariants.{Replay, ReplaySnapshot, Run, RunSnapshot, RunLost, Steps, Audit}
+use Rattle.tasks.specs.declared.task.Task.TheVariants.{Replay, ReplaySnapshot, Run, RunSnapshot, RunLost, Steps, Audit, Picture}
 
 -- the bytes are a script, and this is printed for its replay in this form
 abbrev pub IsPrintedAs : Form → List ℕ → List ℕ → Type 0
@@ -58,6 +58,7 @@ IsDoneAs (RunSnapshot grounds turns) = IsRunSnapshotFor grounds
 IsDoneAs (RunLost grounds turns lose form) = IsLostPrintedAs grounds lose form
 IsDoneAs Steps = IsStepsPrint
 IsDoneAs (Audit form) = IsAuditPrintedAs form
+IsDoneAs Picture = IsPictureOf
 
 -- the failure that comes of what is to be done with these bytes
 abbrev pub IsCauseFor : Task → List ℕ → Failure → Type 0
@@ -68,8 +69,10 @@ IsCauseFor (RunSnapshot grounds turns) bytes = IsFaultOf (IsCause bytes)
 IsCauseFor (RunLost grounds turns lose form) bytes = IsFaultOf (IsCauseWithout lose bytes)
 IsCauseFor Steps bytes = IsFaultOf (IsStepCause bytes)
 IsCauseFor (Audit form) bytes = IsAuditCause bytes
+IsCauseFor Picture bytes = IsAuditCause bytes
 
 -- what it is done with: a snapshot, or a script
 abbrev pub kind_of : Task → Kind
 kind_of (Audit form) = Snapshot
+kind_of Picture = Snapshot
 kind_of _ = Script

@@ -3,7 +3,7 @@
 ghost use Rattle.std.specs.Prelude.{◌≡◌, ◌≢◌, IfErr, IfOk};
 ghost use Rattle.snapshot.specs.Faults.{IsFirstFault};
 ghost use Rattle.snapshot_json.specs.Reading.{IsFaultOf, IsNoSnapshotText};
-ghost use Rattle.tasks.specs.Audits.{IsAuditCause, IsAuditOf, IsAuditPrintedAs, IsFailureIn, IsFaultIn, IsMisread, IsPlacedIn, IsStatementAs};
+ghost use Rattle.tasks.specs.Audits.{IsAuditCause, IsAuditOf, IsAuditPrintedAs, IsFailureIn, IsFaultIn, IsMisread, IsPictureOf, IsPlacedIn, IsStatementAs};
 
 use crate::failures::Failure;
 use crate::task::Form;
@@ -11,6 +11,7 @@ use audit_text::fault_line;
 use commons::limits::Limits;
 use commons::refusal::Refusal;
 use pool_model::statement::Statement;
+use pool_picture::pool_dot;
 use snapshot::audit::audit;
 use snapshot::fault::Fault;
 use snapshot::snapshot::Snapshot;
@@ -31,6 +32,18 @@ pub fn text<'a>(alloc: Global, bytes: &[u8], form: Form) -> Result<Vec<u8>, Fail
     match audited(alloc, bytes) {
         Ok(placed) => Ok(written(alloc, &placed.statement, form)?),
         Err(failure) => Err(failure),
+    }
+}
+
+/// The picture of the pool whose snapshot these bytes are, in the language of Graphviz. Its failures
+/// are those of `text`.
+pub fn picture<'a>(alloc: Global, bytes: &[u8]) -> Result<Vec<u8>, Failure<'a>>
+    ensures drawn { IfOk result (λ out. IsPictureOf bytes.now out.items) }
+    ensures cause { IfErr result (IsAuditCause bytes.now) }
+{
+    match audited(alloc, bytes) {
+        Ok(placed) => Ok(pool_dot(alloc, &placed.statement)?),
+        Err(cause) => Err(cause),
     }
 }
 

@@ -19,7 +19,7 @@ impl Task {
         ensures { result ≡ kind_of self }
     {
         match self {
-            Task::Audit(_) => Kind::Snapshot,
+            Task::Audit(_) | Task::Picture => Kind::Snapshot,
             _ => Kind::Script,
         }
     }

@@ -1,5 +1,6 @@
 //! What is printed of a script: its replay, what its run comes to or loses, or its steps, in the
-//! form that is asked for, or the snapshots that either leaves; or of a snapshot, its audit.
+//! form that is asked for, or the snapshots that either leaves; or of a snapshot, its audit, or a
+//! picture of its pool.
 ghost use Rattle.std.specs.Prelude.{IfErr, IfOk};
 ghost use Rattle.script_text.specs.Grammar.{IsCause};
 ghost use Rattle.tasks.specs.Forms.{IsCauseFor, IsDoneAs, IsPrintedAs};
@@ -47,6 +48,7 @@ pub fn done<'a, R: Threads + Wait + Sync>(
         )?),
         Task::Steps => Ok(run_steps(alloc, script)?),
         Task::Audit(form) => auditing::text(alloc, script, form),
+        Task::Picture => auditing::picture(alloc, script),
     }
 }
 

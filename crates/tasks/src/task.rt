@@ -58,6 +58,8 @@ pub enum Task {
     Steps,
     /// Of a snapshot, its audit.
     Audit(Form),
+    /// Of a snapshot, a picture of the pool.
+    Picture,
 }
 
 /// What is asked for: what is to be done with a file.

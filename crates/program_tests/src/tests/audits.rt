@@ -268,6 +268,31 @@ fn a_healthy_snapshot_has_its_statement_as_json(rt: HostRuntime) -> Result<(), F
     Ok(())
 }
 
+#[test]
+fn a_healthy_snapshot_has_its_picture(rt: HostRuntime) -> Result<(), Fail> {
+    let text = format!(in rt.alloc(); "{LIMITS}{HEALTHY}")?;
+    let task = Task::Picture;
+    let request = Request { file: "a", task };
+    let told = outcome(&rt, rt.alloc(), &Only(text.as_str()), &request)?;
+    let wanted = "digraph pool {\n\
+        \x20 rankdir=LR;\n\
+        \x20 node [shape=box, fontname=\"monospace\"];\n\
+        \x20 stack [label=\"stack: 4\\n3 2 1 0\"];\n\
+        \x20 cache_1 [label=\"cache 1: 1\\n4\"];\n\
+        \x20 cache_2 [label=\"cache 2: 0\"];\n\
+        \x20 packet_2_1 [label=\"packet 2 1\"];\n\
+        \x20 packet_2_1 -> e5;\n\
+        \x20 packet_2_1 -> e6;\n\
+        \x20 desk_0 [label=\"desk 0\"];\n\
+        \x20 desk_0 -> e7;\n\
+        \x20 e5 [shape=ellipse, label=\"5\\ncount 1\"];\n\
+        \x20 e6 [shape=ellipse, label=\"6\\ncount 1\"];\n\
+        \x20 e7 [shape=ellipse, label=\"7\\ncount 1\"];\n\
+        }\n";
+    same(&rt, &told.as_str(), &wanted, "the healthy one, drawn");
+    Ok(())
+}
+
 /// Texts that are no snapshot's, and how their lines begin.
 static MISREAD: &[(&str, &str)] = &[
     ("", "snapshot: not JSON, at byte "),

@@ -116,6 +116,11 @@ static NAMED: &[NamedRow] = &[
         "a",
         ("audit", 0, None, Form::Json),
     ),
+    (
+        &["audit", "a", "--dot"],
+        "a",
+        ("picture", 0, None, Form::Text),
+    ),
 ];
 
 static WRONG: &[&[&str]] = &[
@@ -146,6 +151,9 @@ static WRONG: &[&[&str]] = &[
     &["run", "a", "--snapshot", "--json"],
     &["run", "a", "--snapshot", "--lose", "1"],
     &["audit", "a", "--snapshot"],
+    &["audit", "a", "--dot", "--json"],
+    &["audit", "b", "--dot", "--since", "a"],
+    &["replay", "a", "--dot"],
     &["steps", "a", "--snapshot"],
     &["run", "a", "--ground", "lists"],
     &["run", "a", "--ground", ""],
@@ -214,6 +222,7 @@ fn named_by(task: Task) -> Named {
         }
         Task::Steps => ("steps", 0, None, Form::Text),
         Task::Audit(form) => ("audit", 0, None, form),
+        Task::Picture => ("picture", 0, None, Form::Text),
     }
 }
 
