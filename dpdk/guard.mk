@@ -2,7 +2,7 @@
 
 guard := librte_mempool_mbufpool_guard.so
 guard_sources := mempool_guard.c guard_log.c guard_report.c guard_way.c
-guard_headers := mempool_guard.h guard_pool.h object_numbers.h $(top)/include/mbufpool.h
+guard_headers := mempool_guard.h guard_pool.h object_numbers.h registering.h $(top)/include/mbufpool.h
 
 all: $(guard) guard_faults
 
@@ -12,9 +12,9 @@ clean-guard:
 	rm -f $(guard) guard_faults
 
 # What the plugin defines stays its own but for what mempool_guard.h names.
-$(guard): $(guard_sources) $(guard_headers) $(libraries)
-	$(CC) $(CFLAGS) $(flags) -fPIC -fvisibility=hidden -shared $(guard_sources) $(libraries) \
-		-Wl,--exclude-libs,ALL -Wl,-soname,$(guard) -o $@ $(dpdk)
+$(guard): $(guard_sources) $(guard_headers) $(libraries) Makefile guard.mk
+	$(CC) $(CFLAGS) $(flags) $(as_plugin) $(guard_sources) $(libraries) \
+		-Wl,--exclude-libs,ALL -Wl,-soname,$(guard) -o $@ $(for_plugin)
 
 guard_faults: tests/guard_faults.c mempool_guard.h
 	$(CC) $(CFLAGS) $(flags) tests/guard_faults.c -o $@ $(dpdk)

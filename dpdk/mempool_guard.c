@@ -17,6 +17,7 @@
  *
  * Limits: at most 16,777,214 objects, 64 chunks of memory, one process, and 63 lcores with a worker
  * of their own. */
+#define _GNU_SOURCE
 #include <errno.h>
 #include <stdlib.h>
 
@@ -27,6 +28,7 @@
 
 #include "guard_pool.h"
 #include "mempool_guard.h"
+#include "registering.h"
 
 #define MAX_SIZE 16777214
 #define TRIES 1000000
@@ -553,4 +555,11 @@ static struct rte_mempool_ops guard_ops = {
 	.populate = handler_populate,
 };
 
-RTE_MEMPOOL_REGISTER_OPS(guard_ops)
+static void
+register_guard(void *arg)
+{
+	RTE_SET_USED(arg);
+	register_handler(&guard_ops, 0);
+}
+
+REGISTERED_BY(register_guard)

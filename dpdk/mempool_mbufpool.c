@@ -21,6 +21,8 @@
  *
  * Limits: at most 16,777,214 places (numbers.h), 64 chunks, one process, and 63 lcores that are users
  * of their own. */
+#define _GNU_SOURCE
+#include <dlfcn.h>
 #include <errno.h>
 #include <pthread.h>
 #include <stdlib.h>
@@ -36,6 +38,7 @@
 
 #include "checked.h"
 #include "numbers.h"
+#include "registering.h"
 
 /* (in one unit with this, so that a usual get and put of the pool are in line) */
 #include "../c/renewing.c"
@@ -473,5 +476,25 @@ static struct rte_mempool_ops checked_ops = {
 	.populate = handler_populate,
 };
 
-RTE_MEMPOOL_REGISTER_OPS(mbufpool_ops);
-RTE_MEMPOOL_REGISTER_OPS(checked_ops);
+/* Whether the guard's plugin is loaded as well, and comes later. */
+static unsigned int
+is_guard_to_come(void)
+{
+	void *guard = dlopen("librte_mempool_mbufpool_guard.so", RTLD_NOW | RTLD_NOLOAD);
+
+	if (guard == NULL)
+		return 0;
+	dlclose(guard);
+	return !is_registered("mbufpool_guard");
+}
+
+/* The guard comes before the checked handler, which refuses less. */
+static void
+register_both(void *arg)
+{
+	RTE_SET_USED(arg);
+	register_handler(&mbufpool_ops, 0);
+	register_handler(&checked_ops, is_guard_to_come());
+}
+
+REGISTERED_BY(register_both)
