@@ -1,4 +1,4 @@
-/* mbufpool.h - the packet-buffer pool as a C library (libmbufpool_c.a).
+/* mbufpool.h - the packet-buffer pool as a C library (libmbufpool).
  *
  * Four faces, each behind handles that the caller keeps:
  *

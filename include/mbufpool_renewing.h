@@ -23,8 +23,8 @@
  *              other call is being made while it is ended, or comes after.
  *   the rest   What mbufpool.h asks of memory and of a process.
  *
- * Compiled as C11 of GNU for Linux, c/renewing.c; `make install` in examples/c puts it into
- * libmbufpool_c.a. It is tested, not proved; what it calls is. */
+ * It is c/renewing.c, C11 of GNU for Linux, which is in the installed library. It is tested, not
+ * proved; what it calls is. */
 #ifndef MBUFPOOL_RENEWING_H
 #define MBUFPOOL_RENEWING_H
 #include <stddef.h>
