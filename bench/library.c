@@ -1,0 +1,378 @@
+/* library.c - mbufpool.h from C: its seats, and its workers' packets. */
+#include <stdlib.h>
+#include <string.h>
+
+#include <rte_common.h>
+
+#include "mbufpool.h"
+#include "rounds.h"
+
+#define TRIES 1000000
+#define REF_LIMIT 65535
+#define DESKS 2
+
+/* ---- seats ---- */
+
+struct seat_user {
+	struct mbufpool_seat seat;
+	uint32_t *marks; /* of a check: for each element whether it is out */
+} __rte_cache_aligned;
+
+struct seat_pool {
+	struct seat_user user[MOST_THREADS];
+	uint32_t population;
+};
+
+static __rte_always_inline bool
+get(void *user, union refs *refs, unsigned int n)
+{
+	struct seat_user *u = user;
+
+	return mbufpool_seat_get(&u->seat, refs->number, n) == 0;
+}
+
+static __rte_always_inline bool
+put(void *user, const union refs *refs, unsigned int n)
+{
+	struct seat_user *u = user;
+
+	return mbufpool_seat_put(&u->seat, refs->number, n) == 0;
+}
+
+static uint32_t *
+mark_element(void *user, const union refs *refs, unsigned int i, unsigned int segment)
+{
+	const struct seat_user *u = user;
+
+	return segment == 0 ? &u->marks[refs->number[i]] : NULL;
+}
+
+static int64_t
+missing_from_seats(struct pool *pool)
+{
+	struct seat_pool *p = pool->at;
+
+	return (int64_t)p->population - mbufpool_seat_count(&p->user[0].seat);
+}
+
+static void
+end_seats(struct pool *pool)
+{
+	struct seat_pool *p = pool->at;
+	unsigned int i;
+
+	for (i = 0; i < MOST_THREADS; i++)
+		mbufpool_seat_end(&p->user[i].seat);
+	free(p->user[0].marks);
+	free(p);
+}
+
+static const struct calls seats = {
+	.ref_size = sizeof(uint32_t),
+	.get = get,
+	.put = put,
+	.mark = mark_element,
+	.missing = missing_from_seats,
+	.close = end_seats,
+};
+ELEMENT_PLAYS(seats)
+PASS_PLAYS(seats)
+
+static bool
+make_seats(struct seat_pool *p, const struct cell *cell)
+{
+	unsigned int i;
+
+	p->population = cell->population;
+	p->user[0].marks = calloc(cell->population, sizeof(p->user[0].marks[0]));
+	if (p->user[0].marks == NULL ||
+		mbufpool_seat_open(cell->population, cell->threads, TRIES, &p->user[0].seat) != 0)
+		return false;
+	for (i = 1; i < cell->threads; i++) {
+		if (mbufpool_seat_split(&p->user[0].seat, &p->user[i].seat) != 0)
+			return false;
+		p->user[i].marks = p->user[0].marks;
+	}
+	return true;
+}
+
+static bool
+open_seats(const struct subject *subject, const struct cell *cell, struct pool *pool)
+{
+	struct seat_pool *p = aligned_alloc(RTE_CACHE_LINE_SIZE, sizeof(*p));
+	unsigned int i;
+
+	(void)subject;
+	if (p == NULL)
+		return false;
+	memset(p, 0, sizeof(*p));
+	pool->at = p;
+	if (!make_seats(p, cell)) {
+		end_seats(pool);
+		return false;
+	}
+	for (i = 0; i < cell->threads; i++)
+		pool->user[i] = &p->user[i];
+	pool->calls = &seats;
+	if (workloads[cell->workload].form == PASSED)
+		seats_pass(cell->workload, pool);
+	else
+		pool->play = seats_plays[cell->workload];
+	return true;
+}
+
+const struct subject seat_subject = {
+	.name = "seat",
+	.has_no_cache = true,
+	.open = { [BARE] = open_seats, [ELEMENTS] = open_seats, [PASSED] = open_seats },
+};
+
+/* ---- workers ---- */
+
+struct worker_user {
+	struct mbufpool_worker worker;
+	uint32_t *marks;
+	unsigned int segments; /* how many the packet in slot 0 is to have, which is cloned or handed over */
+} __rte_cache_aligned;
+
+struct worker_pool {
+	struct worker_user user[MOST_THREADS];
+	unsigned int threads;
+	uint32_t population;
+};
+
+static __rte_always_inline bool
+alloc(void *user, union refs *refs, unsigned int i)
+{
+	struct worker_user *u = user;
+
+	return mbufpool_worker_alloc(&u->worker, &refs->packet[i]) == 0;
+}
+
+static __rte_always_inline bool
+alloc_bulk(void *user, union refs *refs, unsigned int n)
+{
+	struct worker_user *u = user;
+
+	return mbufpool_worker_alloc_bulk(&u->worker, refs->packet, n) == 0;
+}
+
+static __rte_always_inline void
+free_packet(void *user, const union refs *refs, unsigned int i)
+{
+	struct worker_user *u = user;
+
+	mbufpool_worker_free(&u->worker, refs->packet[i].slot);
+}
+
+static __rte_always_inline bool
+clone_packet(void *user, union refs *refs)
+{
+	struct worker_user *u = user;
+
+	return mbufpool_worker_clone(&u->worker, 0, &refs->packet[0]) == 0;
+}
+
+static __rte_always_inline bool
+offer(void *user, unsigned int desk)
+{
+	struct worker_user *u = user;
+
+	return mbufpool_worker_offer(&u->worker, 0, desk) == 0;
+}
+
+static __rte_always_inline bool
+take(void *user, unsigned int desk)
+{
+	struct worker_user *u = user;
+	uint32_t slot;
+
+	return mbufpool_worker_take(&u->worker, desk, &slot) == 0 && slot == 0;
+}
+
+/* Makes the packet in slot 0, with as many segments as it is to have. */
+static bool
+make_first(void *user)
+{
+	struct worker_user *u = user;
+	struct mbufpool_packet packet;
+	unsigned int i;
+
+	for (i = 0; i < u->segments; i++) {
+		if (mbufpool_worker_alloc(&u->worker, &packet) != 0)
+			return false;
+		if (i > 0 && mbufpool_worker_chain(&u->worker, 0, packet.slot) != 0)
+			return false;
+	}
+	return true;
+}
+
+static void
+rest(void *user)
+{
+	struct worker_user *u = user;
+
+	mbufpool_worker_free(&u->worker, 0);
+	mbufpool_worker_flush(&u->worker);
+}
+
+static uint32_t *
+mark_packet(void *user, const union refs *refs, unsigned int i, unsigned int segment)
+{
+	struct worker_user *u = user;
+	const uint32_t slot = refs != NULL ? refs->packet[i].slot : 0;
+	struct mbufpool_segment of;
+
+	return mbufpool_worker_segment(&u->worker, slot, segment, &of) == 0 ? &u->marks[of.element]
+									    : NULL;
+}
+
+static unsigned int
+holds(void *user)
+{
+	struct worker_user *u = user;
+	uint32_t references = 0;
+
+	mbufpool_worker_refcnt(&u->worker, 0, &references);
+	return references;
+}
+
+/* The packet's length is the serial number. */
+static void
+write_serial(void *user, uint32_t serial)
+{
+	struct worker_user *u = user;
+	uint32_t length = 0;
+
+	mbufpool_worker_pkt_len(&u->worker, 0, &length);
+	mbufpool_worker_trim(&u->worker, 0, length, &length);
+	mbufpool_worker_append(&u->worker, 0, serial % BUFFER, &length);
+}
+
+static uint32_t
+read_serial(void *user)
+{
+	struct worker_user *u = user;
+	uint32_t length = 0;
+
+	mbufpool_worker_pkt_len(&u->worker, 0, &length);
+	return length;
+}
+
+/* Closes the pool, whose statement says where each element is. */
+static int64_t
+missing_from_workers(struct pool *pool)
+{
+	struct worker_pool *p = pool->at;
+	struct mbufpool_worker workers[MOST_THREADS] = { MBUFPOOL_NONE };
+	struct mbufpool_statement statement = MBUFPOOL_NONE;
+	struct mbufpool_counts counts = { 0, 0, 0 };
+	unsigned int i;
+
+	for (i = 0; i < p->threads; i++) {
+		workers[i] = p->user[i].worker;
+		p->user[i].worker.at = NULL;
+	}
+	if (mbufpool_worker_close(workers, p->threads, &statement) == 0)
+		mbufpool_statement_counts(&statement, &counts);
+	mbufpool_statement_end(&statement);
+	return (int64_t)p->population - (int64_t)counts.available;
+}
+
+static void
+end_workers(struct pool *pool)
+{
+	struct worker_pool *p = pool->at;
+	unsigned int i;
+
+	for (i = 0; i < MOST_THREADS; i++)
+		mbufpool_worker_end(&p->user[i].worker);
+	free(p->user[0].marks);
+	free(p);
+}
+
+static const struct calls packets = {
+	.alloc = alloc,
+	.alloc_bulk = alloc_bulk,
+	.free = free_packet,
+	.clone = clone_packet,
+	.ready = make_first,
+	.rest = rest,
+	.mark = mark_packet,
+	.holds = holds,
+	.missing = missing_from_workers,
+	.close = end_workers,
+};
+PACKET_PLAYS(packets)
+
+static const struct calls desks = {
+	.offer = offer,
+	.take = take,
+	.ready = make_first,
+	.rest = rest,
+	.write = write_serial,
+	.read = read_serial,
+	.missing = missing_from_workers,
+	.close = end_workers,
+};
+HAND_PLAYS(desks)
+
+static bool
+make_workers(struct worker_pool *p, const struct cell *cell)
+{
+	const struct mbufpool_limits limits = {
+		.population = cell->population,
+		.cache = cell->cache,
+		.workers = cell->threads,
+		.desks = DESKS,
+		.buf = RTE_PKTMBUF_HEADROOM + BUFFER,
+		.ref_limit = REF_LIMIT,
+		.tries = TRIES,
+	};
+	struct mbufpool_worker workers[MOST_THREADS] = { MBUFPOOL_NONE };
+	unsigned int i;
+
+	p->threads = cell->threads;
+	p->population = cell->population;
+	p->user[0].marks = calloc(cell->population, sizeof(p->user[0].marks[0]));
+	if (p->user[0].marks == NULL || mbufpool_worker_open(&limits, workers, cell->threads) != 0)
+		return false;
+	for (i = 0; i < cell->threads; i++) {
+		p->user[i].worker = workers[i];
+		p->user[i].marks = p->user[0].marks;
+	}
+	return true;
+}
+
+static bool
+open_workers(const struct subject *subject, const struct cell *cell, struct pool *pool)
+{
+	const enum form form = workloads[cell->workload].form;
+	struct worker_pool *p = aligned_alloc(RTE_CACHE_LINE_SIZE, sizeof(*p));
+	unsigned int i;
+
+	(void)subject;
+	if (p == NULL)
+		return false;
+	memset(p, 0, sizeof(*p));
+	pool->at = p;
+	if (!make_workers(p, cell)) {
+		end_workers(pool);
+		return false;
+	}
+	for (i = 0; i < cell->threads; i++) {
+		p->user[i].segments = form == CLONES ? size_of(cell->workload) : form == HANDED && i == 0;
+		pool->user[i] = &p->user[i];
+	}
+	pool->calls = form == HANDED ? &desks : &packets;
+	if (form == HANDED)
+		desks_hand(cell->threads, pool);
+	else
+		pool->play = packets_plays[cell->workload];
+	return true;
+}
+
+const struct subject worker_subject = {
+	.name = "worker",
+	.open = { [PACKETS] = open_workers, [CLONES] = open_workers, [HANDED] = open_workers },
+};
