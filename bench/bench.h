@@ -140,6 +140,7 @@ struct cell {
 	enum workload workload;
 	unsigned int threads;
 	uint32_t cache, population;
+	uint64_t rounds; /* so many in place of a time, or 0 */
 	bool is_checked;
 };
 

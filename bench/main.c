@@ -62,7 +62,7 @@ static struct {
 	const char *workloads, *subjects;
 	unsigned long threads[MOST_NUMBERS], caches[MOST_NUMBERS];
 	unsigned int nb_threads, nb_caches;
-	unsigned long population, ms, runs;
+	unsigned long population, rounds, ms, runs;
 	bool by_processor, as_json, is_checked;
 } asked = {
 	.threads = { 1, 2, 4 }, .nb_threads = 3,
@@ -160,6 +160,7 @@ static const char usage[] =
 	"  --cache LIST      0,256\n"
 	"  --population N    8191\n"
 	"  --ms N            40: milliseconds of a run\n"
+	"  --rounds N        a run is so many rounds of each thread, and a quarter before\n"
 	"  --runs N          7\n"
 	"  --clock CLOCK     wall, or processor\n"
 	"  --json            the figures of each run\n"
@@ -172,9 +173,10 @@ read_words(int argc, char **argv)
 		{ "workload", required_argument, NULL, 'w' }, { "subject", required_argument, NULL, 's' },
 		{ "threads", required_argument, NULL, 't' }, { "cache", required_argument, NULL, 'c' },
 		{ "population", required_argument, NULL, 'p' }, { "ms", required_argument, NULL, 'm' },
-		{ "runs", required_argument, NULL, 'r' }, { "clock", required_argument, NULL, 'k' },
-		{ "json", no_argument, NULL, 'j' }, { "check", no_argument, NULL, 'x' },
-		{ "help", no_argument, NULL, 'h' }, { NULL, 0, NULL, 0 },
+		{ "rounds", required_argument, NULL, 'n' }, { "runs", required_argument, NULL, 'r' },
+		{ "clock", required_argument, NULL, 'k' }, { "json", no_argument, NULL, 'j' },
+		{ "check", no_argument, NULL, 'x' }, { "help", no_argument, NULL, 'h' },
+		{ NULL, 0, NULL, 0 },
 	};
 	int option;
 
@@ -191,6 +193,7 @@ read_words(int argc, char **argv)
 				one_number("population", optarg, LEAST_POPULATION, MOST_POPULATION);
 			break;
 		case 'm': asked.ms = one_number("ms", optarg, 1, 60000); break;
+		case 'n': asked.rounds = one_number("rounds", optarg, 1, 1000000000); break;
 		case 'r': asked.runs = one_number("runs", optarg, 1, MOST_RUNS); break;
 		case 'k':
 			asked.by_processor = strcmp(optarg, "processor") == 0;
@@ -357,7 +360,7 @@ run_once(const struct subject *subject, const struct cell *cell)
 		return tally;
 	}
 	alarm(PATIENCE + asked.ms / 1000);
-	tally = play_pool(cell, &pool, asked.ms * UINT64_C(1000000));
+	tally = play_pool(cell, &pool, asked.rounds != 0 ? 0 : asked.ms * UINT64_C(1000000));
 	alarm(0);
 	/* (a check has drained it, where that can be) */
 	missing = pool.calls->missing(&pool);
@@ -455,7 +458,7 @@ measure_cell(struct cell *cell)
 static void
 measure(void)
 {
-	struct cell cell = { .population = asked.population };
+	struct cell cell = { .population = asked.population, .rounds = asked.rounds };
 	unsigned int t, c;
 
 	printf(asked.as_json ? "[\n"

@@ -59,6 +59,11 @@ warm_up(struct thread *t)
 {
 	uint64_t begun, rounds = LEAST_BATCH, took;
 
+	if (run.cell->rounds != 0) {
+		t->batch = run.cell->rounds;
+		play(t, t->batch / 4 + 1);
+		return;
+	}
 	do {
 		begun = now_on(CLOCK_THREAD_CPUTIME_ID);
 		play(t, rounds);
