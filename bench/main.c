@@ -14,6 +14,7 @@
 #include <stdio.h>
 #include <stdlib.h>
 #include <string.h>
+#include <sys/time.h>
 #include <unistd.h>
 
 #include <rte_eal.h>
@@ -27,7 +28,7 @@
 #define MOST_WORDS 64
 #define LEAST_POPULATION 2048	/* so that four threads hold what their rounds and caches keep */
 #define MOST_POPULATION 1000000
-#define PATIENCE 60 /* seconds beside its own time, after which a run has hung */
+#define PATIENCE 120 /* seconds of processor time beside its own, after which a run has hung */
 
 const struct workload_facts workloads[WORKLOADS] = {
 	[STK1] = { "stk1", BARE },
@@ -237,11 +238,12 @@ begin_eal(int nb_words, char **words)
 {
 	char lcores[256], prefix[32], program[] = "bench", no_huge[] = "--no-huge", memory[] = "-m",
 	     size[] = "512", no_pci[] = "--no-pci", no_telemetry[] = "--no-telemetry",
-	     no_shconf[] = "--no-shconf", list[] = "--lcores", level[] = "--log-level",
-	     errors[] = "*:error", file_prefix[] = "--file-prefix";
+	     no_shconf[] = "--no-shconf", list[] = "--lcores", file_prefix[] = "--file-prefix",
+	     level[] = "--log-level", errors[] = "*:error", /* (a table that has no more places) */
+	     of_mempools[] = "--log-level=lib.mempool:critical";
 	char *eal[MOST_WORDS + 1] = { program, no_huge, memory, size, no_pci, no_telemetry, no_shconf,
-		list, lcores, level, errors, file_prefix, prefix };
-	int n = 13, i;
+		list, lcores, file_prefix, prefix, level, errors, of_mempools };
+	int n = 14, i;
 	unsigned int k, threads = 1;
 
 	for (k = 0; k < asked.nb_threads; k++)
@@ -337,14 +339,24 @@ struct figures {
 	uint64_t elements, refused;
 };
 
+static char hanging[128]; /* what is said of the run where it doesn't end */
+
 static void
 hangs(int signal)
 {
-	static const char line[] = "bench: a run doesn't end\n";
-
 	(void)signal;
-	(void)!write(STDERR_FILENO, line, sizeof(line) - 1);
+	(void)!write(STDERR_FILENO, hanging, strlen(hanging));
 	_exit(1);
+}
+
+/* Threads that wait for one another spin, so a run that hangs takes processor time; one that only comes
+ * to no processor doesn't. */
+static void
+be_patient(long seconds)
+{
+	const struct itimerval time = { .it_value = { .tv_sec = seconds } };
+
+	setitimer(ITIMER_PROF, &time, NULL);
 }
 
 static struct tally
@@ -359,9 +371,11 @@ run_once(const struct subject *subject, const struct cell *cell)
 		fault("the pool can't be made");
 		return tally;
 	}
-	alarm(PATIENCE + asked.ms / 1000);
+	snprintf(hanging, sizeof(hanging), "bench: %s on %s, %u threads, cache %u: the run doesn't end\n",
+		workloads[cell->workload].name, subject->name, cell->threads, cell->cache);
+	be_patient(PATIENCE + asked.ms / 1000 * cell->threads);
 	tally = play_pool(cell, &pool, asked.rounds != 0 ? 0 : asked.ms * UINT64_C(1000000));
-	alarm(0);
+	be_patient(0);
 	/* (a check has drained it, where that can be) */
 	missing = pool.calls->missing(&pool);
 	if (cell->is_checked && pool.calls->get != NULL)
@@ -484,7 +498,7 @@ main(int argc, char **argv)
 {
 	read_words(argc, argv);
 	begin_eal(argc - optind, argv + optind);
-	signal(SIGALRM, hangs);
+	signal(SIGPROF, hangs);
 	choose_subjects();
 	measure();
 	if (fflush(stdout) != 0 || ferror(stdout))

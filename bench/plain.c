@@ -41,114 +41,109 @@ struct packet { /* 648 bytes, as the library's */
 
 /* What all users of a pool share. */
 struct words {
-	_Atomic uint64_t *word;
+	_Atomic uint64_t *word, *count;
 	uint32_t population, cache, threshold;
-	struct packet desk[DESKS];
+	struct packet *desk;
 	uint32_t *marks; /* of a check: for each element whether it is out */
 };
 
 struct plain_user {
-	struct words *words;
+	struct words words;
+	uint32_t length;  /* of the cache */
 	uint32_t *cached; /* has room for the population */
-	uint32_t length;
-	unsigned int segments; /* how many the packet in slot 0 is to have, which is cloned or handed over */
-	uint64_t empty_slots[SLOTS / 64];
 	struct packet *packets;
+	uint64_t empty_slots[SLOTS / 64];
+	unsigned int segments; /* how many the packet in slot 0 is to have, which is cloned or handed over */
 } __rte_cache_aligned;
 
 struct plain_pool {
 	struct words words;
+	struct packet desk[DESKS];
 	struct plain_user user[MOST_THREADS];
 };
 
 /* ---- the stack ---- */
 
-static __rte_always_inline _Atomic uint64_t *
-link_of(const struct words *s, uint32_t element)
-{
-	return &s->word[LINKS + element];
-}
-
-static __rte_always_inline _Atomic uint64_t *
-count_of(const struct words *s, uint32_t element)
-{
-	return &s->word[LINKS + s->population + element];
-}
-
 /* Reserves n elements by the length, and takes them off the head. */
 static __rte_always_inline bool
-stack_get(struct words *s, uint32_t *list, unsigned int n)
+stack_get(const struct words *s, uint32_t *list, unsigned int n)
 {
-	uint64_t length = atomic_load(&s->word[LENGTH]), head, top;
+	_Atomic uint64_t *const word = s->word;
+	uint64_t length = atomic_load(&word[LENGTH]), head, top;
 	unsigned int i;
 
 	do {
-		if (length < n)
+		if (unlikely(length < n))
 			return false;
-	} while (!atomic_compare_exchange_strong(&s->word[LENGTH], &length, length - n));
+	} while (unlikely(!atomic_compare_exchange_strong(&word[LENGTH], &length, length - n)));
 	for (;;) {
-		head = atomic_load(&s->word[HEAD]);
-		if (head >> TOP_BITS == SPENT) {
-			atomic_fetch_add(&s->word[LENGTH], n);
+		head = atomic_load(&word[HEAD]);
+		if (unlikely(head >> TOP_BITS == SPENT)) {
+			atomic_fetch_add(&word[LENGTH], n);
 			return false;
 		}
 		top = head & TOP;
-		for (i = 0; i < n && top != 0; i++) {
+		for (i = 0; i < n && likely(top != 0); i++) {
 			list[i] = top - 1;
-			top = atomic_load(link_of(s, top - 1));
+			top = atomic_load(&word[LINKS - 1 + top]);
 		}
-		if (i == n && atomic_compare_exchange_strong(&s->word[HEAD], &head,
-				      ((head >> TOP_BITS) + 1) << TOP_BITS | top))
+		if (likely(i == n) && likely(atomic_compare_exchange_strong(&word[HEAD], &head,
+					      ((head >> TOP_BITS) + 1) << TOP_BITS | top)))
 			return true;
 	}
 }
 
 /* Links the list to the top, and adds it to the head, and to the length afterwards. */
 static __rte_always_inline bool
-stack_put(struct words *s, const uint32_t *list, unsigned int n)
+stack_put(const struct words *s, const uint32_t *list, unsigned int n)
 {
+	_Atomic uint64_t *const word = s->word;
 	uint64_t head, top;
+	uint32_t element;
 	unsigned int i;
 
 	do {
-		head = atomic_load(&s->word[HEAD]);
-		if (head >> TOP_BITS == SPENT)
+		head = atomic_load(&word[HEAD]);
+		if (unlikely(head >> TOP_BITS == SPENT))
 			return false;
 		top = head & TOP;
 		for (i = 0; i < n; i++) {
-			atomic_store(link_of(s, list[i]), top);
-			top = list[i] + 1;
+			element = list[i];
+			atomic_store(&word[LINKS + element], top);
+			top = element + 1;
 		}
-	} while (!atomic_compare_exchange_strong(
-		&s->word[HEAD], &head, ((head >> TOP_BITS) + 1) << TOP_BITS | top));
-	atomic_fetch_add(&s->word[LENGTH], n);
+	} while (unlikely(!atomic_compare_exchange_strong(
+		&word[HEAD], &head, ((head >> TOP_BITS) + 1) << TOP_BITS | top)));
+	atomic_fetch_add(&word[LENGTH], n);
 	return true;
 }
 
 /* ---- the cache ---- */
 
 /* Fills the cache up, so that it has its size left when n are got from it. */
-static bool
+static __rte_noinline bool
 refill(struct plain_user *u, unsigned int n)
 {
-	const uint32_t more = n + u->words->cache - u->length;
+	const uint32_t more = n + u->words.cache - u->length;
 
-	if (n + u->words->cache > u->words->population ||
-		!stack_get(u->words, u->cached + u->length, more))
+	if (n + u->words.cache > u->words.population ||
+		!stack_get(&u->words, u->cached + u->length, more))
 		return false;
 	u->length += more;
 	return true;
 }
 
 static __rte_always_inline bool
-cache_get(struct plain_user *u, uint32_t *list, unsigned int n)
+cache_get(struct plain_user *u, uint32_t *restrict list, unsigned int n)
 {
+	const uint32_t *restrict last;
 	unsigned int i;
 
-	if (n >= u->words->cache || (u->length < n && !refill(u, n)))
-		return stack_get(u->words, list, n);
+	if (n >= u->words.cache || (unlikely(u->length < n) && !refill(u, n)))
+		return stack_get(&u->words, list, n);
+	last = u->cached + u->length - 1;
 	for (i = 0; i < n; i++)
-		list[i] = u->cached[u->length - 1 - i];
+		list[i] = *(last - i);
 	u->length -= n;
 	return true;
 }
@@ -157,24 +152,21 @@ cache_get(struct plain_user *u, uint32_t *list, unsigned int n)
 static __rte_noinline void
 overflow(struct plain_user *u)
 {
-	const uint32_t size = u->words->cache;
+	const uint32_t size = u->words.cache;
 
-	if (stack_put(u->words, u->cached + size, u->length - size))
+	if (stack_put(&u->words, u->cached + size, u->length - size))
 		u->length = size;
 }
 
 static __rte_always_inline void
 cache_put(struct plain_user *u, const uint32_t *list, unsigned int n)
 {
-	unsigned int i;
-
-	if ((n > LONGEST_CACHED || (u->words->cache == 0 && u->length == 0)) &&
-		stack_put(u->words, list, n))
+	if ((n > LONGEST_CACHED || (u->words.cache == 0 && u->length == 0)) &&
+		likely(stack_put(&u->words, list, n)))
 		return;
-	for (i = 0; i < n; i++)
-		u->cached[u->length + i] = list[i];
+	memcpy(u->cached + u->length, list, n * sizeof(list[0]));
 	u->length += n;
-	if (u->length >= u->words->threshold && u->length > u->words->cache)
+	if (unlikely(u->length >= u->words.threshold) && u->length > u->words.cache)
 		overflow(u);
 }
 
@@ -185,7 +177,9 @@ empty_slot(const struct plain_user *u)
 {
 	unsigned int i;
 
-	for (i = 0; i < RTE_DIM(u->empty_slots); i++)
+	if (likely(u->empty_slots[0] != 0))
+		return __builtin_ctzll(u->empty_slots[0]);
+	for (i = 1; i < RTE_DIM(u->empty_slots); i++)
 		if (u->empty_slots[i] != 0)
 			return i * 64 + __builtin_ctzll(u->empty_slots[i]);
 	return -1;
@@ -215,21 +209,21 @@ make_packet(struct plain_user *u, unsigned int slot, uint32_t element)
 {
 	struct packet *p = &u->packets[slot];
 
-	(void)atomic_load(count_of(u->words, element));
+	(void)atomic_load(&u->words.count[element]);
 	fill_slot(u, slot);
 	p->nb_segs = 1;
 	p->segs[0] = (struct segment){ .element = element, .off = HEADROOM, .buf = HEADROOM + BUFFER };
 }
 
 static __rte_always_inline bool
-raise_count(struct words *s, uint32_t element)
+raise_count(const struct words *s, uint32_t element)
 {
-	uint64_t count = atomic_load(count_of(s, element));
+	uint64_t count = atomic_load(&s->count[element]);
 
 	do {
 		if (count >= REF_LIMIT)
 			return false;
-	} while (!atomic_compare_exchange_strong(count_of(s, element), &count, count + 1));
+	} while (!atomic_compare_exchange_strong(&s->count[element], &count, count + 1));
 	return true;
 }
 
@@ -237,7 +231,7 @@ raise_count(struct words *s, uint32_t element)
 static __rte_always_inline void
 end_hold(struct plain_user *u, uint32_t element)
 {
-	_Atomic uint64_t *count = count_of(u->words, element);
+	_Atomic uint64_t *const count = &u->words.count[element];
 
 	if (atomic_load(count) != 1) {
 		if (atomic_fetch_sub(count, 1) != 1)
@@ -250,12 +244,13 @@ end_hold(struct plain_user *u, uint32_t element)
 static __rte_always_inline void
 free_segments(struct plain_user *u, const struct packet *p)
 {
-	uint64_t i;
+	const struct segment *const end = p->segs + p->nb_segs;
+	const struct segment *segment = p->segs;
 
-	for (i = 0; i < p->nb_segs; i++) {
-		if (p->segs[i].is_indirect)
-			end_hold(u, p->segs[i].base);
-		end_hold(u, p->segs[i].element);
+	for (; segment < end; segment++) {
+		if (segment->is_indirect)
+			end_hold(u, segment->base);
+		end_hold(u, segment->element);
 	}
 }
 
@@ -269,8 +264,8 @@ clone_segment(struct plain_user *u, struct packet *clone, const struct segment *
 
 	if (!cache_get(u, &element, 1))
 		return false;
-	(void)atomic_load(count_of(u->words, element));
-	if (!raise_count(u->words, base)) {
+	(void)atomic_load(&u->words.count[element]);
+	if (!raise_count(&u->words, base)) {
 		end_hold(u, element);
 		return false;
 	}
@@ -287,7 +282,7 @@ clone_segment(struct plain_user *u, struct packet *clone, const struct segment *
 static __rte_always_inline _Atomic uint64_t *
 word_of_desk(const struct words *s, unsigned int desk)
 {
-	return &s->word[LINKS + 2 * (size_t)s->population + desk];
+	return &s->count[s->population + desk];
 }
 
 /* ---- the calls ---- */
@@ -310,7 +305,7 @@ get_bare(void *user, union refs *refs, unsigned int n)
 {
 	struct plain_user *u = user;
 
-	return stack_get(u->words, refs->number, n);
+	return stack_get(&u->words, refs->number, n);
 }
 
 static __rte_always_inline bool
@@ -318,7 +313,7 @@ put_bare(void *user, const union refs *refs, unsigned int n)
 {
 	struct plain_user *u = user;
 
-	return stack_put(u->words, refs->number, n);
+	return stack_put(&u->words, refs->number, n);
 }
 
 static __rte_always_inline bool
@@ -395,10 +390,10 @@ offer(void *user, unsigned int desk)
 	struct plain_user *u = user;
 	uint64_t was = DESK_EMPTY;
 
-	if (!atomic_compare_exchange_strong(word_of_desk(u->words, desk), &was, DESK_HELD))
+	if (!atomic_compare_exchange_strong(word_of_desk(&u->words, desk), &was, DESK_HELD))
 		return false;
-	u->words->desk[desk] = u->packets[0];
-	atomic_store(word_of_desk(u->words, desk), DESK_FULL);
+	u->words.desk[desk] = u->packets[0];
+	atomic_store(word_of_desk(&u->words, desk), DESK_FULL);
 	empty_out(u, 0);
 	return true;
 }
@@ -411,10 +406,10 @@ take(void *user, unsigned int desk)
 	uint64_t was = DESK_FULL;
 
 	if (slot != 0 ||
-		!atomic_compare_exchange_strong(word_of_desk(u->words, desk), &was, DESK_SEIZED))
+		!atomic_compare_exchange_strong(word_of_desk(&u->words, desk), &was, DESK_SEIZED))
 		return false;
-	u->packets[slot] = u->words->desk[desk];
-	atomic_store(word_of_desk(u->words, desk), DESK_EMPTY);
+	u->packets[slot] = u->words.desk[desk];
+	atomic_store(word_of_desk(&u->words, desk), DESK_EMPTY);
 	fill_slot(u, slot);
 	return true;
 }
@@ -448,7 +443,7 @@ rest(void *user)
 	union refs refs = { .number = { 0 } };
 
 	free_packet(u, &refs, 0);
-	if (u->length != 0 && stack_put(u->words, u->cached, u->length))
+	if (u->length != 0 && stack_put(&u->words, u->cached, u->length))
 		u->length = 0;
 }
 
@@ -457,7 +452,7 @@ mark(void *user, const union refs *refs, unsigned int i, unsigned int segment)
 {
 	const struct plain_user *u = user;
 
-	return segment == 0 ? &u->words->marks[refs->number[i]] : NULL;
+	return segment == 0 ? &u->words.marks[refs->number[i]] : NULL;
 }
 
 static uint32_t *
@@ -466,7 +461,7 @@ mark_packet(void *user, const union refs *refs, unsigned int i, unsigned int seg
 	const struct plain_user *u = user;
 	const struct packet *p = &u->packets[refs != NULL ? refs->number[i] : 0];
 
-	return segment < p->nb_segs ? &u->words->marks[p->segs[segment].element] : NULL;
+	return segment < p->nb_segs ? &u->words.marks[p->segs[segment].element] : NULL;
 }
 
 static unsigned int
@@ -474,7 +469,7 @@ holds(void *user)
 {
 	const struct plain_user *u = user;
 
-	return atomic_load(count_of(u->words, u->packets[0].segs[0].element));
+	return atomic_load(&u->words.count[u->packets[0].segs[0].element]);
 }
 
 static void
@@ -579,13 +574,14 @@ make_words(struct words *s, const struct cell *cell)
 	s->marks = calloc(n, sizeof(s->marks[0]));
 	if (s->word == NULL || s->marks == NULL)
 		return false;
+	s->count = s->word + LINKS + n;
 	s->population = n;
 	s->cache = cell->cache;
 	s->threshold = cell->cache * 3 / 2;
 	memset((void *)s->word, 0, all * sizeof(s->word[0]));
 	for (i = 0; i < n; i++) {
-		atomic_init(link_of(s, i), i + 1 < n ? i + 2 : 0);
-		atomic_init(count_of(s, i), 1);
+		atomic_init(&s->word[LINKS + i], i + 1 < n ? i + 2 : 0);
+		atomic_init(&s->count[i], 1);
 	}
 	atomic_init(&s->word[HEAD], 1);
 	atomic_init(&s->word[LENGTH], n);
@@ -593,9 +589,9 @@ make_words(struct words *s, const struct cell *cell)
 }
 
 static bool
-make_user(struct plain_user *u, struct words *s, unsigned int segments)
+make_user(struct plain_user *u, const struct words *s, unsigned int segments)
 {
-	u->words = s;
+	u->words = *s;
 	u->segments = segments;
 	memset(u->empty_slots, 0xff, sizeof(u->empty_slots));
 	u->cached = calloc(s->population, sizeof(u->cached[0]));
@@ -654,6 +650,7 @@ open_plain(const struct subject *subject, const struct cell *cell, struct pool *
 		return false;
 	memset(p, 0, sizeof(*p));
 	pool->at = p;
+	p->words.desk = p->desk;
 	if (!make_words(&p->words, cell)) {
 		end(pool);
 		return false;

@@ -52,6 +52,16 @@ bulk_round(const struct calls *c, void *user, union refs *refs, unsigned int n)
 	return 0;
 }
 
+static __rte_always_inline uint64_t
+alloc_round(const struct calls *c, void *user, union refs *refs)
+{
+	if (unlikely(!c->alloc(user, refs, 0)))
+		return 1;
+	is_read(refs);
+	c->free(user, refs, 0);
+	return 0;
+}
+
 /* One packet after the other, and then the frees, the oldest first. */
 static __rte_always_inline uint64_t
 packet_round(const struct calls *c, void *user, union refs *refs, unsigned int n)
@@ -115,6 +125,8 @@ one_round(const struct calls *c, enum workload w, void *user, union refs *refs)
 	case GET1:
 	case GET32:
 		return list_round(c, user, refs, size_of(w));
+	case PKT1:
+		return alloc_round(c, user, refs);
 	case PKT32:
 		return bulk_round(c, user, refs, size_of(w));
 	case CLONE1:

@@ -11,16 +11,15 @@
 #include "bench.h"
 
 #define RING 1024
-#define BATCH 100000 /* nanoseconds of work between two looks at the clock, about */
-#define LEAST_BATCH 64
-#define MOST_BATCH (UINT64_C(1) << 24)
+#define BATCH 100000	/* nanoseconds between two looks at the clock, about */
+#define LEAST_BATCH 64	/* elements */
+#define MOST_BATCH (UINT64_C(1) << 24)	/* rounds */
 
 struct rte_ring *pass_ring;
 bool is_over;
 
 struct thread {
 	void *user;
-	uint64_t batch; /* rounds between two looks at the clock */
 	uint64_t rounds, refused;
 	uint64_t wall, processor; /* nanoseconds */
 	uint32_t drained;
@@ -53,24 +52,37 @@ play(struct thread *t, uint64_t rounds)
 				    : run.pool->play(t->user, rounds);
 }
 
-/* Finds how many rounds are a batch, and touches what they use. */
+static uint64_t
+least_batch(void)
+{
+	return run.cell->rounds != 0 ? run.cell->rounds
+				     : LEAST_BATCH / size_of(run.cell->workload) + 1;
+}
+
+/* Touches what the rounds use. */
 static void
 warm_up(struct thread *t)
 {
-	uint64_t begun, rounds = LEAST_BATCH, took;
+	const uint64_t begun = now_on(CLOCK_MONOTONIC);
 
-	if (run.cell->rounds != 0) {
-		t->batch = run.cell->rounds;
-		play(t, t->batch / 4 + 1);
-		return;
-	}
-	do {
-		begun = now_on(CLOCK_THREAD_CPUTIME_ID);
-		play(t, rounds);
-		took = now_on(CLOCK_THREAD_CPUTIME_ID) - begun;
-		t->batch = rounds;
-		rounds *= 2;
-	} while (took < BATCH && rounds < MOST_BATCH);
+	if (run.cell->rounds != 0)
+		play(t, run.cell->rounds / 4 + 1);
+	else
+		do
+			play(t, least_batch());
+		while (now_on(CLOCK_MONOTONIC) - begun < BATCH);
+}
+
+/* How many rounds the next batch has, where the last took so long. Threads that wait for one which has
+ * lost its processor take a thousand times as long as others. */
+static uint64_t
+next_batch(uint64_t batch, uint64_t took)
+{
+	if (run.cell->rounds != 0)
+		return batch;
+	if (took < BATCH / 2)
+		return RTE_MIN(batch * 2, MOST_BATCH);
+	return took > BATCH * 2 ? RTE_MAX(batch / 2, least_batch()) : batch;
 }
 
 /* Does batches until the time has passed, or another thread has ended, which would else be missed. */
@@ -78,11 +90,14 @@ static void
 play_batches(struct thread *t)
 {
 	const uint64_t begun = now_on(CLOCK_MONOTONIC), begun_work = now_on(CLOCK_THREAD_CPUTIME_ID);
+	uint64_t batch = least_batch(), before;
 
 	do {
-		t->refused += play(t, t->batch);
-		t->rounds += t->batch;
+		before = t->wall;
+		t->refused += play(t, batch);
+		t->rounds += batch;
 		t->wall = now_on(CLOCK_MONOTONIC) - begun;
+		batch = next_batch(batch, t->wall - before);
 	} while (t->wall < run.ns && !__atomic_load_n(&is_over, __ATOMIC_RELAXED));
 	t->processor = now_on(CLOCK_THREAD_CPUTIME_ID) - begun_work;
 	__atomic_store_n(&is_over, true, __ATOMIC_SEQ_CST);
