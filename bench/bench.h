@@ -167,9 +167,9 @@ bool open_handed_ring(const struct subject *subject, const struct cell *cell, st
 
 /* ---- runs ---- */
 
-/* What came of a run: the nanoseconds of one thread for each element that was got and put back, by the
- * clock on the wall and by that of the thread's processor time, and how many elements that were, and how
- * many were refused. */
+/* What came of a run: the nanoseconds of one thread for each element that was got and put back, or of
+ * both threads for one that was passed, by the clock on the wall and by that of the thread's processor
+ * time; how many elements that were, and how many were refused. */
 struct tally {
 	double wall, processor;
 	uint64_t elements, refused;

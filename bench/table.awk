@@ -165,7 +165,7 @@ function handlers(    c, cache, i, n, who) {
     for (i = 1; i <= nb_threads; i++)
         printf " %s%s |", thread[i], i == 1 ? " thread" : ""
     for (i = 1; i <= nb_threads; i++)
-        printf " %s%s |", i == 1 ? "lists of 32: " : "", thread[i]
+        printf " %s%s%s |", i == 1 ? "lists of 32: " : "", thread[i], i == 1 ? " thread" : ""
     printf "\n|---|---|"
     for (i = 1; i <= 2 * nb_threads; i++)
         printf "---|"

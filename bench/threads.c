@@ -185,10 +185,12 @@ check_drain(const struct cell *cell)
 		fault("%u of %u elements could be got in the end", all, cell->population);
 }
 
+/* The mean of the threads that play; of a list that is passed what both threads took. */
 static struct tally
 tally_of(const struct cell *cell, const struct pool *pool)
 {
 	const unsigned int playing = pool->answer != NULL ? 1 : cell->threads;
+	const double share = workloads[cell->workload].form == PASSED ? cell->threads : 1.0 / playing;
 	struct tally all = { 0, 0, 0, 0 };
 	unsigned int i;
 
@@ -199,8 +201,8 @@ tally_of(const struct cell *cell, const struct pool *pool)
 
 		all.elements += elements;
 		all.refused += t->refused;
-		all.wall += (double)t->wall / RTE_MAX(elements, UINT64_C(1)) / playing;
-		all.processor += (double)t->processor / RTE_MAX(elements, UINT64_C(1)) / playing;
+		all.wall += share * t->wall / RTE_MAX(elements, UINT64_C(1));
+		all.processor += share * t->processor / RTE_MAX(elements, UINT64_C(1));
 	}
 	return all;
 }
