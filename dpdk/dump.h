@@ -15,21 +15,38 @@
  * lcore whose cache isn't empty, see mbufpool_dump_workers(). The reference count of an external
  * buffer isn't looked at: to a snapshot, a segment with such a buffer is one with its own buffer.
  *
- * A pool has to stand still: no thread gets or puts its objects, or changes its packets, during
- * these calls. What is in the common part is got from it at once and put back in its order, so
- * that it stands as before. Handlers: ring_mp_mc, ring_sp_sc, ring_mp_sc, ring_sp_mc,
- * ring_mt_rts, ring_mt_hts, stack, lf_stack, mbufpool, mbufpool_checked; and mbufpool_guard, of which
- * nothing is got, and its own caches are in the common part.
+ * What is in DPDK's rings and stacks is read where it lies: of a ring the slots from the consumer's
+ * tail to the producer's, of `stack` its array, of `lf_stack` its list from the head. No object is got
+ * or put, no lock of the pool is taken, and nothing is written to it; EAL's lists of memzones and
+ * mempools are looked at under EAL's locks. So a debugger may call these wherever the threads of a
+ * program stand, unless one is just making or freeing a memzone or a mempool. Of mbufpool_guard what
+ * isn't out is listed, by its own call. On mbufpool and mbufpool_checked where the objects lie is known
+ * to the library alone: all that are available are got at once, and put back in their order.
+ *
+ * If no thread gets or puts objects of the pool meanwhile, or changes its packets, the snapshot says
+ * where each mbuf is. If some do, it is made all the same: first all is copied, and what is then
+ * written is of the copy, so that a change can neither lead astray nor keep from ending. Then an mbuf
+ * that is just passing from one place to another may stand in both or in none, and a fault that the
+ * audit names may be none: it is one if it stands in snapshots some moments apart. Of mbufpool and
+ * mbufpool_checked the pool has to stand still. Whether a get or a put was going on is a line of
+ * mbufpool_dump_workers().
+ *
+ * Handlers: ring_mp_mc, ring_sp_sc, ring_mp_sc, ring_sp_mc, ring_mt_rts, ring_mt_hts, stack, lf_stack;
+ * and mbufpool, mbufpool_checked, mbufpool_guard, whose own caches are in the common part. A ring or a
+ * stack is known by the memzone that it is in, under whatever name its handler was registered.
  *
  * A snapshot is made in memory before its first byte is written. All calls that write return:
  *   - 0: Success.
  *   - -EINVAL: This isn't a pool of mbufs, or both pools of a pair are one.
  *   - -E2BIG: The pool has no objects, or more than 16,777,214; or more than 524,288 holds of them
  *     are for packets of other pools.
- *   - -ENOTSUP: The order of this handler isn't known.
+ *   - -ENOTSUP: What this handler's objects lie in isn't known.
+ *   - -EFAULT: The list of the pool's objects leads out of its memory: what is in front of one of them
+ *     was overwritten.
+ *   - -EACCES: This is a secondary process, and the primary doesn't share the pool's memory.
  *   - -ENOMEM: There is too little memory.
  *   - -EIO: The file couldn't be written. This is the only error after which some of it may be.
- *   - what the handler returned, if it refused to give what it has, or to take it back. */
+ *   - what mbufpool or mbufpool_checked returned, if it refused to give what it has. */
 
 #include <stdint.h>
 #include <stdio.h>
@@ -40,6 +57,8 @@
 #ifdef __cplusplus
 extern "C" {
 #endif
+
+#pragma GCC visibility push(default)
 
 /** The number of what is no element of the pool. */
 #define MBUFPOOL_NO_ELEM UINT32_MAX
@@ -55,7 +74,7 @@ extern "C" {
  * @param out
  *   Where the snapshot is written.
  * @param mp
- *   The pool, which stands still.
+ *   The pool.
  * @return
  *   0 or a negative errno, see above.
  */
@@ -71,7 +90,7 @@ int mbufpool_dump(FILE *out, struct rte_mempool *mp);
  * @param out
  *   Where the snapshot is written.
  * @param mp
- *   The pool, which stands still.
+ *   The pool.
  * @param held
  *   The first segments of these packets, or NULL for places without one. A packet may have
  *   segments of other pools, which are left out; if they are clones of mbufs of this one, these
@@ -97,7 +116,7 @@ int mbufpool_dump_held(FILE *out, struct rte_mempool *mp, struct rte_mbuf *const
  * @param out_second
  *   Where that of the second is written, once that of the first was.
  * @param first
- *   The one pool; both stand still.
+ *   The one pool.
  * @param second
  *   The other one.
  * @return
@@ -115,7 +134,7 @@ int mbufpool_dump_pair(FILE *out_first, FILE *out_second, struct rte_mempool *fi
  * @param out_second
  *   Where that of the second is written, once that of the first was.
  * @param first
- *   The one pool; both stand still.
+ *   The one pool.
  * @param second
  *   The other one.
  * @param held
@@ -134,10 +153,15 @@ int mbufpool_dump_pair_held(FILE *out_first, FILE *out_second, struct rte_mempoo
  * `worker 2: lcore 0, cache of 37`. Where more than 63 lcores have something in their caches,
  * worker 64 has those of the 63rd and of all that follow it.
  *
+ * If a get or a put of a ring or a stack is going on, or was when its thread was stopped, a last line
+ * says so: `common: a get of 32 and a put of 0 were going on`, of a ring's objects between head and
+ * tail; `common: a get or a put was going on` where the lock of `stack` is held; `common: its list has
+ * 32 objects, and its length is 64`, or `common: its list changed while it was read`, of `lf_stack`.
+ *
  * @param out
  *   Where the lines are written.
  * @param mp
- *   The pool, which stands still.
+ *   The pool.
  */
 void mbufpool_dump_workers(FILE *out, struct rte_mempool *mp);
 
@@ -164,6 +188,8 @@ struct rte_mbuf *mbufpool_mbuf_of(struct rte_mempool *mp, uint32_t elem);
  *   The number of the element, or MBUFPOOL_NO_ELEM if it is no object of the pool.
  */
 uint32_t mbufpool_elem_of(struct rte_mempool *mp, const struct rte_mbuf *m);
+
+#pragma GCC visibility pop
 
 #ifdef __cplusplus
 }

@@ -4,18 +4,26 @@
  *     make faults
  *     ./faults PLAY OPS FILE --no-huge -m 64 --no-pci -l 0-3
  *
- * Plays: healthy, pair, double-free, free-under-clone, count-lowered, lost-chain. OPS is a mempool
- * handler. The snapshot with what the application says it holds goes to FILE, and that without to
- * FILE.all; those of a pair, without, to FILE and FILE.second. */
+ * Plays: healthy, busy, pair, double-free, free-under-clone, count-lowered, lost-chain, overwritten. OPS
+ * is a mempool handler. The snapshot with what the application says it holds goes to FILE, and that without to
+ * FILE.all; those of a pair, without, to FILE and FILE.second.
+ *
+ * On DPDK's own handlers the memory of the mempools can't be written while they are dumped, and is
+ * compared with what it was. */
 #include <errno.h>
+#include <signal.h>
 #include <stdio.h>
+#include <stdlib.h>
 #include <string.h>
+#include <sys/mman.h>
+#include <unistd.h>
 
 #include <rte_eal.h>
 #include <rte_errno.h>
 #include <rte_launch.h>
 #include <rte_lcore.h>
 #include <rte_mbuf.h>
+#include <rte_memory.h>
 #include <rte_ring.h>
 
 #include "dump.h"
@@ -23,6 +31,7 @@
 #define MANY 4095
 #define FEW 31
 #define ROUNDS 50000
+#define DUMPS 20 /* while lcores work */
 #define TABLE 128 /* packets that an lcore has at most */
 #define RING 64
 #define MAX_SEGS 32
@@ -39,6 +48,7 @@ static struct rte_mempool *pool, *clone_pool;
 static struct lcore lcores[RTE_MAX_LCORE];
 static struct rte_mbuf *held[RTE_MAX_LCORE * (TABLE + RING)];
 static unsigned int nb_held;
+static int is_work_long; /* lcores work until it isn't */
 
 static uint64_t
 next_random(struct lcore *own)
@@ -91,19 +101,18 @@ work(void *arg)
 	unsigned int i;
 
 	RTE_SET_USED(arg);
-	for (i = 0; i < ROUNDS; i++)
+	for (i = 0; i < ROUNDS || __atomic_load_n(&is_work_long, __ATOMIC_RELAXED); i++)
 		step(&lcores[rte_lcore_id()]);
 	return 0;
 }
 
-/* Lets all lcores work, and lists what they and the rings have in the end. */
+/* Lets lcores work. */
 static int
-run_lcores(struct rte_mempool *clones)
+begin_lcores(struct rte_mempool *clones, enum rte_rmt_call_main_t is_main_one)
 {
 	struct lcore *last = NULL, *first = NULL, *own;
 	char name[RTE_RING_NAMESIZE];
-	unsigned int i, k;
-	void *packet;
+	unsigned int i;
 
 	RTE_LCORE_FOREACH (i) {
 		own = &lcores[i];
@@ -120,31 +129,139 @@ run_lcores(struct rte_mempool *clones)
 		last = own;
 	}
 	last->out = first->in;
-	rte_eal_mp_remote_launch(work, NULL, CALL_MAIN);
+	return rte_eal_mp_remote_launch(work, NULL, is_main_one);
+}
+
+/* Waits for them, and lists what they and the rings have in the end. */
+static void
+end_lcores(void)
+{
+	unsigned int i, k;
+	void *packet;
+
 	rte_eal_mp_wait_lcore();
 	RTE_LCORE_FOREACH (i) {
 		for (k = 0; k < TABLE; k++)
 			held[nb_held++] = lcores[i].packets[k];
-		while (rte_ring_dequeue(lcores[i].in, &packet) == 0)
+		while (lcores[i].in != NULL && rte_ring_dequeue(lcores[i].in, &packet) == 0)
 			held[nb_held++] = packet;
 	}
-	return 0;
 }
+
+/* ---- what a dump leaves as it was: all memory that DPDK has ---- */
+
+struct region {
+	void *at, *before;
+	size_t bytes;
+};
+
+static struct region regions[64];
+static unsigned int nb_regions;
+
+static int
+keep_region(const struct rte_memseg_list *list, const struct rte_memseg *seg, size_t bytes,
+	    void *arg)
+{
+	struct region *r = &regions[nb_regions];
+
+	RTE_SET_USED(list);
+	RTE_SET_USED(arg);
+	if (nb_regions == RTE_DIM(regions) || (r->before = malloc(bytes)) == NULL)
+		return -1;
+	r->at = seg->addr;
+	r->bytes = bytes;
+	memcpy(r->before, r->at, bytes);
+	nb_regions++;
+	return mprotect(r->at, bytes, PROT_READ);
+}
+
+static void
+tell_written(int signal)
+{
+	static const char text[] = "the dump writes to the pool\n";
+
+	RTE_SET_USED(signal);
+	_exit(write(STDERR_FILENO, text, sizeof(text) - 1) < 0 ? 2 : 1);
+}
+
+/* Keeps what is in the memory that mempools are in, and lets nobody write there. */
+static int
+begin_still(void)
+{
+	signal(SIGSEGV, tell_written);
+	return rte_memseg_contig_walk(keep_region, NULL) != 0 || nb_regions == 0 ? -ENOMEM : 0;
+}
+
+/* Whether all is as it was. */
+static int
+end_still(void)
+{
+	unsigned int i;
+	int ret = 0;
+
+	for (i = 0; i < nb_regions; i++) {
+		if (mprotect(regions[i].at, regions[i].bytes, PROT_READ | PROT_WRITE) != 0 ||
+		    memcmp(regions[i].at, regions[i].before, regions[i].bytes) != 0)
+			ret = -EFAULT;
+		free(regions[i].before);
+	}
+	nb_regions = 0;
+	signal(SIGSEGV, SIG_DFL);
+	return ret;
+}
+
+/* Handlers whose common part is read where it lies. The others of this project give it, and take it
+ * back. */
+static int
+is_read_in_place(void)
+{
+	return strncmp(rte_mempool_get_ops(pool->ops_index)->name, "mbufpool", 8) != 0;
+}
+
+/* ---- the plays ---- */
 
 static int
 dump_both(FILE *out, FILE *out_all)
 {
-	int ret = mbufpool_dump_held(out, pool, held, nb_held);
+	unsigned int available = rte_mempool_avail_count(pool);
+	int ret = is_read_in_place() ? begin_still() : 0;
 
-	return ret != 0 ? ret : mbufpool_dump(out_all, pool);
+	if (ret == 0)
+		ret = mbufpool_dump_held(out, pool, held, nb_held);
+	if (ret == 0)
+		ret = mbufpool_dump(out_all, pool);
+	if (ret == 0 && is_read_in_place())
+		ret = end_still();
+	return ret == 0 && rte_mempool_avail_count(pool) != available ? -EFAULT : ret;
+}
+
+/* The other lcores work while the pool is dumped: it has to end, each time. */
+static int
+busy(FILE *out, FILE *out_all)
+{
+	FILE *to = fopen("/dev/null", "w");
+	unsigned int i;
+	int ret = to == NULL ? -errno : 0;
+
+	is_work_long = 1;
+	if (ret == 0)
+		ret = begin_lcores(pool, SKIP_MAIN);
+	for (i = 0; ret == 0 && i < DUMPS; i++)
+		ret = mbufpool_dump(to, pool);
+	__atomic_store_n(&is_work_long, 0, __ATOMIC_RELAXED);
+	end_lcores();
+	if (to != NULL)
+		fclose(to);
+	return ret != 0 ? ret : dump_both(out, out_all);
 }
 
 /* Several lcores get, clone, chain, free and pass on; where they stop each mbuf has its place. */
 static int
 healthy(FILE *out, FILE *out_all)
 {
-	int ret = run_lcores(pool);
+	int ret = begin_lcores(pool, CALL_MAIN);
 
+	end_lcores();
 	return ret != 0 ? ret : dump_both(out, out_all);
 }
 
@@ -152,9 +269,14 @@ healthy(FILE *out, FILE *out_all)
 static int
 pair(FILE *out, FILE *out_second)
 {
-	int ret = run_lcores(clone_pool);
+	int ret = begin_lcores(clone_pool, CALL_MAIN);
 
-	return ret != 0 ? ret : mbufpool_dump_pair(out, out_second, pool, clone_pool);
+	end_lcores();
+	if (ret == 0 && is_read_in_place())
+		ret = begin_still();
+	if (ret == 0)
+		ret = mbufpool_dump_pair(out, out_second, pool, clone_pool);
+	return ret == 0 && is_read_in_place() ? end_still() : ret;
 }
 
 static struct rte_mbuf *
@@ -233,17 +355,39 @@ lost_chain(FILE *out, FILE *out_all)
 	return dump_fault(out, out_all, tail);
 }
 
+/* An mbuf's `next` is overwritten, and so is what DPDK has in front of another one: neither is
+ * followed. */
+static int
+overwritten(FILE *out, FILE *out_all)
+{
+	struct rte_mbuf *m = get_packet(60), *other = get_packet(60);
+	struct rte_mempool_objhdr *hdr = rte_mempool_get_header(m), before = *hdr;
+	int ret;
+
+	held[nb_held++] = m;
+	held[nb_held++] = other;
+	memset(hdr, 0x41, sizeof(*hdr));
+	ret = mbufpool_dump(out, pool);
+	*hdr = before;
+	if (ret != -EFAULT)
+		return -EIO;
+	m->next = (struct rte_mbuf *)0x4141414141414140;
+	return dump_fault(out, out_all, m);
+}
+
 static const struct {
 	const char *name;
 	int (*play)(FILE *out, FILE *out_second);
 	unsigned int population;
 } plays[] = {
 	{"healthy", healthy, MANY},
+	{"busy", busy, MANY},
 	{"pair", pair, MANY},
 	{"double-free", double_free, FEW},
 	{"free-under-clone", free_under_clone, FEW},
 	{"count-lowered", count_lowered, FEW},
 	{"lost-chain", lost_chain, FEW},
+	{"overwritten", overwritten, FEW},
 };
 
 static struct rte_mempool *
