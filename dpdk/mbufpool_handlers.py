@@ -1,0 +1,251 @@
+# mbufpool_handlers.py - what is in the common part of a mempool, by its handler: see mbufpool_core.py.
+#
+# The handlers' names are in a table that has them in the order of their indices, which is known by these
+# names. What lists the objects on each handler stands at the end of this file.
+import re
+from array import array
+
+from mbufpool_memory import Fault
+
+MAX_RING = 1 << 25
+MAX_ELEMENTS = 16777214  # of a pool of this project
+
+
+def handler_names(memory):
+    """The names of handlers by their index, or none where their table isn't found."""
+    layout = memory.layout
+    most, size = layout.values["RTE_MEMPOOL_MAX_OPS_IDX"], layout.sizes["rte_mempool_ops"]
+    ops_at, name_size = layout.at("rte_mempool_ops_table.ops"), layout.fields["rte_mempool_ops.name"][1]
+    for name in HANDLERS:
+        for at in memory.find(name.encode().ljust(name_size, b"\0")):
+            for k in range(most):
+                begin = at - ops_at - k * size
+                names = names_in_table(memory, begin) if begin > 0 and begin % 64 == 0 else []
+                if k < len(names):
+                    return names
+    return []
+
+
+def names_in_table(memory, at):
+    """The handlers' names, if this is their table."""
+    layout, names = memory.layout, []
+    try:
+        count = memory.get(at, "rte_mempool_ops_table.num_ops")
+        if count > layout.values["RTE_MEMPOOL_MAX_OPS_IDX"]:
+            return []
+        for k in range(count):
+            ops = at + layout.at("rte_mempool_ops_table.ops") + k * layout.sizes["rte_mempool_ops"]
+            name = memory.text(ops, "rte_mempool_ops.name")
+            if not re.match(r"[^\\]+$", name) or memory.get(ops, "rte_mempool_ops.enqueue") == 0:
+                return []
+            names.append(name)
+    except Fault:
+        return []
+    return names
+
+
+def common_of(pool, handler):
+    """The objects in the common part, from the next one to be got."""
+    if handler not in HANDLERS:
+        raise Fault("mempool %s: the handler %s isn't supported" % (pool.name, handler or "unknown"))
+    return HANDLERS[handler](pool)
+
+
+def ring_common(pool):
+    memory, ring = pool.memory, pool.pool_data
+    size, mask, capacity, put, got = (memory.get(ring, "rte_ring." + field) for field in (
+        "size", "mask", "capacity", "prod.tail", "cons.tail"))
+    if size & mask != 0 or mask != size - 1 or capacity > mask or size > MAX_RING:
+        raise Fault("mempool %s: there is no ring at 0x%x" % (pool.name, ring))
+    note_ring_end(pool, "put", "prod", put)
+    note_ring_end(pool, "got", "cons", got)
+    n, first = min((put - got) & mask, capacity), got & mask
+    at = ring + memory.layout.sizes["rte_ring"]
+    objects = memory.pointers(at + 8 * first, min(n, size - first))
+    return objects + memory.pointers(at, n - len(objects))
+
+
+def note_ring_end(pool, what, end, tail):
+    """Says where a thread stood in the middle of a put or a get."""
+    memory, ring = pool.memory, pool.pool_data
+    kind = memory.get(ring, "rte_ring.%s.sync_type" % end)
+    is_rts = kind == memory.layout.values["RTE_RING_SYNC_MT_RTS"]
+    head = memory.get(ring, "rte_ring.rts_%s.head.val.pos" % end if is_rts else "rte_ring.%s.head" % end)
+    if head != tail:
+        pool.note("%d objects were being %s when it stood still: the ring is read as if they weren't"
+                  % ((head - tail) & 0xFFFFFFFF, what))
+
+
+def stack_common(pool):
+    memory, stack = pool.memory, pool.pool_data
+    capacity, n = memory.get(stack, "rte_stack.capacity"), memory.get(stack, "rte_stack.stack_std.len")
+    if n > capacity or capacity > MAX_RING:
+        raise Fault("mempool %s: there is no stack at 0x%x" % (pool.name, stack))
+    objects = memory.pointers(stack + memory.layout.at("rte_stack.stack_std.objs"), n)
+    objects.reverse()
+    return objects
+
+
+def lf_stack_common(pool):
+    memory, stack, layout = pool.memory, pool.pool_data, pool.memory.layout
+    capacity, n = memory.get(stack, "rte_stack.capacity"), memory.get(stack, "rte_stack.stack_lf.used.len")
+    first, size = stack + layout.at("rte_stack.stack_lf.elems"), layout.sizes["rte_stack_lf_elem"]
+    if capacity > MAX_RING:
+        raise Fault("mempool %s: there is no stack at 0x%x" % (pool.name, stack))
+    objects, seen = array("Q"), set()
+    elem = memory.get(stack, "rte_stack.stack_lf.used.head.top")
+    while elem != 0:
+        if elem in seen or (elem - first) % size != 0 or not 0 <= elem - first < capacity * size:
+            pool.note("its stack is damaged behind %d objects: a link leads to 0x%x" % (len(objects), elem))
+            break
+        seen.add(elem)
+        objects.append(memory.get(elem, "rte_stack_lf_elem.data"))
+        elem = memory.get(elem, "rte_stack_lf_elem.next")
+    if elem == 0 and len(objects) != n:
+        pool.note("its stack says that it has %d objects, and has %d: threads stood in a put or a get"
+                  % (n, len(objects)))
+    return objects
+
+
+# ---- handlers of this project ----
+
+# Where the words of a stack of the library stand: crates/ground, specs/Layout.antt. A link, and the low
+# bits of the head, are 0 for none and else an element + 1.
+HEAD, LENGTH, LINKS = 8, 16, 24
+TOP_BITS = 24
+
+
+def is_line(words, k):
+    """A cache line with one word, at most."""
+    return not any(words[k + 1:k + 8])
+
+
+def own_words(memory, handle, population):
+    """Where a stack's words are, by a seat of it, and the block that refers to them; or 0 and no block. How
+    the library's memory leads there is no part of its header. So it is looked for: a block that the handle
+    refers to says how many elements and words there are, and refers to these, which begin with three cache
+    lines that have a word each."""
+    for block in memory.pointers(handle, 8) if handle != 0 else ():
+        try:
+            words = memory.pointers(block, 24)
+        except Fault:
+            continue
+        if population in words and LINKS + 2 * population in words:
+            for at in words:
+                if are_words(memory, at, population):
+                    return at, words
+    return 0, ()
+
+
+def are_words(memory, at, population):
+    try:
+        lines = memory.pointers(at, LINKS)
+    except Fault:
+        return False
+    return lines[0] == 0 and lines[HEAD] != 0 and lines[LENGTH] <= population and all(
+        is_line(lines, k) for k in (0, HEAD, LENGTH))
+
+
+def own_stack(pool, handle, population):
+    """The elements on a stack of the library, from its top, by a seat of it."""
+    memory = pool.memory
+    words, block = own_words(memory, handle, population) if population <= MAX_ELEMENTS else (0, ())
+    if words == 0:
+        raise Fault("mempool %s: the words of its stack weren't found" % pool.name)
+    link, n = memory.number(words + 8 * HEAD) % (1 << TOP_BITS), memory.number(words + 8 * LENGTH)
+    found, seen = array("I"), set()
+    while link != 0:
+        if link in seen or link > population:
+            pool.note("its stack is damaged behind %d objects: a link leads to element %d"
+                      % (len(found), link - 1))
+            return found, block
+        seen.add(link)
+        found.append(link - 1)
+        link = memory.number(words + 8 * (LINKS + link - 1))
+    if len(found) != n:
+        pool.note("its stack says that it has %d objects, and has %d: threads stood in a put or a get"
+                  % (n, len(found)))
+    return found, block
+
+
+def own_common(pool):
+    """Of the handlers mbufpool and mbufpool_checked: what is kept, an old stack's objects, the stack's."""
+    memory, own, layout = pool.memory, pool.pool_data, pool.memory.layout
+    if "pool.renewing" not in layout.fields:
+        raise Fault("mempool %s: the layout was made without this handler" % pool.name)
+    population, objects = (memory.get(own, "pool.numbers." + field) for field in ("places.all", "objects"))
+    renewing = memory.get(own, "pool.renewing")
+    if renewing == 0:
+        at, kept_in, handles = own, "pool.checked.", [memory.get(own, "pool.checked.on.at")]
+    else:
+        at, kept_in = renewing, "mbufpool_renewing."
+        handles = own_handles(memory, renewing)
+    if population > MAX_ELEMENTS:
+        raise Fault("mempool %s: it says that it has %d elements" % (pool.name, population))
+    if len(handles) > 1:
+        pool.note("it was going over to a new stack")
+    found = own_kept(pool, at, kept_in, population)
+    for handle in handles:
+        found.extend(own_stack(pool, handle, population)[0])
+    return array("Q", (memory.number(objects + 8 * elem) for elem in found))
+
+
+def own_handles(memory, renewing):
+    """A seat of the old stack, where there are two, and one of the stack to which puts go."""
+    layout = memory.layout
+    state = memory.get(renewing, "mbufpool_renewing.state")
+    at = renewing + layout.at("mbufpool_renewing.stacks")
+    second = 1 if state & layout.values["IS_SECOND"] else 0
+    order = [1 - second, second] if state & layout.values["IS_BESIDE"] else [second]
+    return [memory.get(at + k * layout.sizes["stack"], "stack.places[0].seat.at") for k in order]
+
+
+def own_kept(pool, at, kept_in, population):
+    """The elements that a pool keeps since its stack refused them."""
+    memory, found = pool.memory, array("I")
+    left, elem = memory.get(at, kept_in + "nb_kept"), memory.get(at, kept_in + "kept")
+    following = memory.get(at, kept_in + "next")
+    while left > 0 and elem < population and len(found) < population:
+        found.append(elem)
+        elem, left = memory.number(following + 4 * elem, 4), left - 1
+    if left > 0:
+        pool.note("the list of what it keeps is damaged behind %d objects" % len(found))
+    return found
+
+
+def guard_common(pool):
+    """Of mbufpool_guard: what isn't out, by number. What is out rests at a word of its own, 2 at least."""
+    memory, own, layout = pool.memory, pool.pool_data, pool.memory.layout
+    if "guard_pool.size" not in layout.fields:
+        raise Fault("mempool %s: the layout was made without this handler" % pool.name)
+    size, known, objects, handle = (memory.get(own, "guard_pool." + field) for field in (
+        "size", "known", "objects", "shared.guard.at"))
+    on_stack, block = own_stack(pool, handle, size)
+    for at, count in zip(block, block[1:]):
+        rests = guard_rests(memory, at, size) if count == size else ()
+        if rests and all(rests[elem] < 2 for elem in on_stack):
+            of = memory.pointers(objects, min(known, size))
+            return array("Q", (of[elem] for elem in range(len(of)) if rests[elem] < 2))
+    raise Fault("mempool %s: the words of what is out weren't found" % pool.name)
+
+
+def guard_rests(memory, at, size):
+    try:
+        return memory.pointers(at, size)
+    except Fault:
+        return ()
+
+
+HANDLERS = {
+    "ring_mp_mc": ring_common,
+    "ring_sp_sc": ring_common,
+    "ring_mp_sc": ring_common,
+    "ring_sp_mc": ring_common,
+    "ring_mt_rts": ring_common,
+    "ring_mt_hts": ring_common,
+    "stack": stack_common,
+    "lf_stack": lf_stack_common,
+    "mbufpool": own_common,
+    "mbufpool_checked": own_common,
+    "mbufpool_guard": guard_common,
+}
