@@ -28,7 +28,6 @@
 
 #include "guard_pool.h"
 #include "mempool_guard.h"
-#include "registering.h"
 
 #define MAX_SIZE 16777214
 #define TRIES 1000000
@@ -555,6 +554,9 @@ static struct rte_mempool_ops guard_ops = {
 	.populate = handler_populate,
 };
 
+#ifdef MBUFPOOL_PLUGIN
+#include "registering.h"
+
 static void
 register_guard(void *arg)
 {
@@ -563,3 +565,6 @@ register_guard(void *arg)
 }
 
 REGISTERED_BY(register_guard)
+#else
+RTE_MEMPOOL_REGISTER_OPS(guard_ops)
+#endif

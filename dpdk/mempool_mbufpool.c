@@ -22,7 +22,6 @@
  * Limits: at most 16,777,214 places (numbers.h), 64 chunks, one process, and 63 lcores that are users
  * of their own. */
 #define _GNU_SOURCE
-#include <dlfcn.h>
 #include <errno.h>
 #include <pthread.h>
 #include <stdlib.h>
@@ -38,7 +37,6 @@
 
 #include "checked.h"
 #include "numbers.h"
-#include "registering.h"
 
 /* (in one unit with this, so that a usual get and put of the pool are in line) */
 #include "../c/renewing.c"
@@ -476,6 +474,9 @@ static struct rte_mempool_ops checked_ops = {
 	.populate = handler_populate,
 };
 
+#ifdef MBUFPOOL_PLUGIN
+#include "registering.h"
+
 /* Whether the guard's plugin is loaded as well, and comes later. */
 static unsigned int
 is_guard_to_come(void)
@@ -498,3 +499,7 @@ register_both(void *arg)
 }
 
 REGISTERED_BY(register_both)
+#else
+RTE_MEMPOOL_REGISTER_OPS(mbufpool_ops);
+RTE_MEMPOOL_REGISTER_OPS(checked_ops);
+#endif

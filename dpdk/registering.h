@@ -4,7 +4,7 @@
  * 14 where all of them are installed. A plugin that EAL finds in its folder of drivers, as every program
  * does, mustn't leave one of DPDK's own without a place there, ring_mp_mc say. So its handlers are
  * registered once all drivers are loaded, when the buses are scanned; and one for which there is no room
- * is logged. What -d names, and what is linked into a program, is registered at once. */
+ * is logged. What -d names is registered at once, as what is linked into a program is. */
 #ifndef MBUFPOOL_REGISTERING_H
 #define MBUFPOOL_REGISTERING_H
 
@@ -12,13 +12,11 @@
 #include <stdint.h>
 #include <string.h>
 
+#include <rte_build_config.h>
+#include <rte_bus_vdev.h>
 #include <rte_common.h>
 #include <rte_log.h>
 #include <rte_mempool.h>
-#ifdef MBUFPOOL_PLUGIN
-#include <rte_build_config.h>
-#include <rte_bus_vdev.h>
-#endif
 
 static inline int
 is_registered(const char *name)
@@ -44,7 +42,6 @@ register_handler(const struct rte_mempool_ops *ops, unsigned int others)
 			ops->name, RTE_MEMPOOL_MAX_OPS_IDX);
 }
 
-#ifdef MBUFPOOL_PLUGIN
 /* Whether the plugin that has this code stands in a folder of drivers, by the folder's name. */
 static inline int
 is_among_drivers(void (*code)(void *))
@@ -60,7 +57,7 @@ is_among_drivers(void (*code)(void *))
 	       strncmp(name - length, drivers, length) == 0;
 }
 
-/* (a scan may come again) */
+/* Lets this function register the plugin's handlers. (A scan may come again.) */
 #define REGISTERED_BY(function) \
 	RTE_INIT(function##_when_loaded) \
 	{ \
@@ -69,12 +66,5 @@ is_among_drivers(void (*code)(void *))
 		else \
 			function(NULL); \
 	}
-#else
-#define REGISTERED_BY(function) \
-	RTE_INIT(function##_at_start) \
-	{ \
-		function(NULL); \
-	}
-#endif
 
 #endif
