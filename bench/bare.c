@@ -1,5 +1,6 @@
-/* bare.c - what stands below DPDK's own mempool handlers, without a mempool: rte_stack, lock-free and
- * with a lock, and rte_ring. Their elements are pointers to words, in which checks mark them. */
+/* bare.c - what stands below DPDK's own mempool handlers, without a mempool: rte_stack,
+ * lock-free and with a lock, and rte_ring. Their elements are pointers to words, in which
+ * checks mark them. */
 #define ALLOW_EXPERIMENTAL_API /* the exchange of 128 bits, which the lock-free stack has in line */
 #include <stdlib.h>
 #include <string.h>

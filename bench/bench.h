@@ -1,9 +1,10 @@
 /* bench.h - what the files of the benchmark share.
  *
- * A workload is what a thread does again and again: a round of it gets some elements and puts them
- * back. A subject is what it is done on: DPDK's mempool on some handler, a face of mbufpool.h, or plain
- * C. A pool is a subject that is made for one workload; it has a user for each thread. A cell of the
- * table is one subject, workload, number of threads and size of caches. */
+ * A workload is what a thread does again and again: a round of it gets some elements and puts
+ * them back. A subject is what it is done on: DPDK's mempool on some handler, a face of
+ * mbufpool.h, or plain C. A pool is a subject that is made for one workload; it has a user for
+ * each thread. A cell of the table is one subject, workload, number of threads and size of
+ * caches. */
 #ifndef BENCH_H
 #define BENCH_H
 #include <stdbool.h>
@@ -50,7 +51,8 @@ struct workload_facts {
 
 extern const struct workload_facts workloads[WORKLOADS];
 
-/* How many elements a round gets and puts back; of `handover`, how often it hands the packet over. */
+/* How many elements a round gets and puts back; of `handover`, how often it hands the packet
+ * over. */
 static __rte_always_inline unsigned int
 size_of(enum workload w)
 {
@@ -87,7 +89,8 @@ struct pool;
 
 /* What the users of a pool can do. Those which a pool lacks are NULL. */
 struct calls {
-	/* Of elements: n of them, all or none. What is put was got; where it is refused it is put again. */
+	/* Of elements: n of them, all or none. What is put was got; where it is refused it is
+	 * put again. */
 	unsigned int ref_size;
 	bool (*get)(void *user, union refs *refs, unsigned int n);
 	bool (*put)(void *user, const union refs *refs, unsigned int n);
@@ -96,7 +99,7 @@ struct calls {
 	bool (*alloc)(void *user, union refs *refs, unsigned int i);
 	bool (*alloc_bulk)(void *user, union refs *refs, unsigned int n);
 	void (*free)(void *user, const union refs *refs, unsigned int i);
-	bool (*clone)(void *user, union refs *refs); /* of the user's source, to the first of the refs */
+	bool (*clone)(void *user, union refs *refs); /* of the user's source, to the first ref */
 
 	/* Of the one packet that is handed over: onto a place, 0 or 1, and off it. */
 	bool (*offer)(void *user, unsigned int place);
@@ -106,17 +109,17 @@ struct calls {
 	bool (*ready)(void *user);
 	void (*rest)(void *user);
 
-	/* For checks: the word in which it is marked that an element is out, the i-th of the refs, or of a
-	 * packet that of the segment, NULL where it has no more of them; where refs is NULL, of the source.
-	 * How many holds the source's elements have. The serial number that the packet that is handed over
-	 * brings. */
+	/* For checks: the word in which it is marked that an element is out, the i-th of the
+	 * refs, or of a packet that of the segment, NULL where it has no more of them; where
+	 * refs is NULL, of the source. How many holds the source's elements have. The serial
+	 * number that the packet that is handed over brings. */
 	uint32_t *(*mark)(void *user, const union refs *refs, unsigned int i, unsigned int segment);
 	unsigned int (*holds)(void *user);
 	void (*write)(void *user, uint32_t serial);
 	uint32_t (*read)(void *user);
 
-	/* When all threads have rested: how many elements are missing from the pool, below 0 where it has
-	 * too many. It is called once. */
+	/* When all threads have rested: how many elements are missing from the pool, below 0
+	 * where it has too many. It is called once. */
 	int64_t (*missing)(struct pool *pool);
 	void (*close)(struct pool *pool);
 };
@@ -149,7 +152,8 @@ struct subject {
 	bool is_handler;    /* its name is that of a mempool handler, without which it isn't there */
 	bool has_no_cache;  /* it is measured with a cache of 0 alone */
 	unsigned int most_threads; /* 0: any */
-	/* Makes the pool for a cell, or says false. NULL: the subject hasn't workloads of this form. */
+	/* Makes the pool for a cell, or says false. NULL: the subject hasn't workloads of this
+	 * form. */
 	bool (*open[FORMS])(const struct subject *subject, const struct cell *cell, struct pool *pool);
 };
 
@@ -167,9 +171,9 @@ bool open_handed_ring(const struct subject *subject, const struct cell *cell, st
 
 /* ---- runs ---- */
 
-/* What came of a run: the nanoseconds of one thread for each element that was got and put back, or of
- * both threads for one that was passed, by the clock on the wall and by that of the thread's processor
- * time; how many elements that were, and how many were refused. */
+/* What came of a run: the nanoseconds of one thread for each element that was got and put back,
+ * or of both threads for one that was passed, by the clock on the wall and by that of the
+ * thread's processor time; how many elements that were, and how many were refused. */
 struct tally {
 	double wall, processor;
 	uint64_t elements, refused;
@@ -178,8 +182,8 @@ struct tally {
 /* Plays a cell's workload on this pool for so many nanoseconds. */
 struct tally play_pool(const struct cell *cell, const struct pool *pool, uint64_t ns);
 
-/* Of a list that is passed, the ring; and whether the first of two threads has ended, with nothing of
- * it on the way but what is on that ring. */
+/* Of a list that is passed, the ring; and whether the first of two threads has ended, with
+ * nothing of it on the way but what is on that ring. */
 extern struct rte_ring *pass_ring;
 extern bool is_over;
 

@@ -1,7 +1,8 @@
-/* checks.c - rounds in which each element that is got is looked at: while it is out a word of it is
- * marked, so that one which is given twice at once is seen, and so is one that is put and wasn't out.
- * A clone has to have a new element for each segment and one hold more of its source's; a packet that is
- * handed over has to bring the serial number that the other thread wrote. */
+/* checks.c - rounds in which each element that is got is looked at: while it is out a word of
+ * it is marked, so that one which is given twice at once is seen, and so is one that is put and
+ * wasn't out. A clone has to have a new element for each segment and one hold more of its
+ * source's; a packet that is handed over has to bring the serial number that the other thread
+ * wrote. */
 #include <stdarg.h>
 #include <stdio.h>
 #include <string.h>
@@ -168,14 +169,16 @@ check_pass(const struct pool *pool, void *user, unsigned int n)
 	return 0;
 }
 
-/* A packet came, and has to bring this number, of which it may keep no more than its buffer has bytes. */
+/* A packet came, and has to bring this number, of which it may keep no more than its buffer has
+ * bytes. */
 static void
 check_serial(const struct pool *pool, void *user, uint32_t serial)
 {
 	uint32_t is = pool->calls->read(user);
 
 	if (is % BUFFER != serial % BUFFER)
-		fault("a packet was handed over with the number %u in place of %u", is, serial % BUFFER);
+		fault("a packet was handed over with the number %u in place of %u", is,
+			serial % BUFFER);
 }
 
 /* Numbers go up by one at each hand-over. */

@@ -1,5 +1,6 @@
-/* faulty.c - two subjects on which the checks have to fail: a list of numbers under a lock, of which one
- * is given twice now and then ("twice"), or isn't put back ("loses"). They are here to try the checks. */
+/* faulty.c - two subjects on which the checks have to fail: a list of numbers under a lock, of
+ * which one is given twice now and then ("twice"), or isn't put back ("loses"). They are here
+ * to try the checks. */
 #include <stdlib.h>
 #include <string.h>
 

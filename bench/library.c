@@ -132,7 +132,7 @@ const struct subject seat_subject = {
 struct worker_user {
 	struct mbufpool_worker worker;
 	uint32_t *marks;
-	unsigned int segments; /* how many the packet in slot 0 is to have, which is cloned or handed over */
+	unsigned int segments; /* of the packet in slot 0, which is cloned or handed over */
 } __rte_cache_aligned;
 
 struct worker_pool {
@@ -361,7 +361,8 @@ open_workers(const struct subject *subject, const struct cell *cell, struct pool
 		return false;
 	}
 	for (i = 0; i < cell->threads; i++) {
-		p->user[i].segments = form == CLONES ? size_of(cell->workload) : form == HANDED && i == 0;
+		p->user[i].segments =
+			form == CLONES ? size_of(cell->workload) : form == HANDED && i == 0;
 		pool->user[i] = &p->user[i];
 	}
 	pool->calls = form == HANDED ? &desks : &packets;

@@ -1,5 +1,5 @@
-/* main.c - what it costs to get elements and packets and to put them back: on DPDK's mempool by any
- * handler, by mbufpool.h, and in plain C, beside one another.
+/* main.c - what it costs to get elements and packets and to put them back: on DPDK's mempool by
+ * any handler, by mbufpool.h, and in plain C, beside one another.
  *
  *     ./bench [OPTION ..] [-- WORD OF EAL ..]
  *
@@ -95,7 +95,8 @@ number(const char *option, const char *word, unsigned long least, unsigned long 
 	char *end;
 	unsigned long value = strtoul(word, &end, 10);
 
-	if (!isdigit((unsigned char)*word) || (*end != 0 && *end != ',') || value < least || value > most)
+	if (!isdigit((unsigned char)*word) || (*end != 0 && *end != ',') || value < least ||
+		value > most)
 		refuse("--%s: '%s' isn't a number from %lu to %lu", option, word, least, most);
 	return value;
 }
@@ -155,8 +156,10 @@ look_at_workloads(void)
 
 static const char usage[] =
 	"bench [OPTION ..] [-- WORD OF EAL ..]\n"
-	"  --workload NAMES  stk1,stk8,stk32,get1,get32,pkt1,pkt32,pkt240,clone1,clone4,pass1,pass32,handover\n"
-	"  --subject NAMES   ring_mp_mc,lf_stack,stack,plain,seat,worker,mbufpool,.., or another handler\n"
+	"  --workload NAMES  stk1,stk8,stk32,get1,get32,pkt1,pkt32,pkt240,clone1,clone4,\n"
+	"                    pass1,pass32,handover\n"
+	"  --subject NAMES   ring_mp_mc,lf_stack,stack,plain,seat,worker,mbufpool,..,\n"
+	"                    or another mempool handler\n"
 	"  --threads LIST    1,2,4\n"
 	"  --cache LIST      0,256\n"
 	"  --population N    8191\n"
@@ -186,7 +189,8 @@ read_words(int argc, char **argv)
 		case 'w': asked.workloads = optarg; break;
 		case 's': asked.subjects = optarg; break;
 		case 't':
-			asked.nb_threads = numbers("threads", optarg, 1, MOST_THREADS, asked.threads);
+			asked.nb_threads =
+				numbers("threads", optarg, 1, MOST_THREADS, asked.threads);
 			break;
 		case 'c': asked.nb_caches = numbers("cache", optarg, 0, 512, asked.caches); break;
 		case 'p':
@@ -227,10 +231,12 @@ write_lcores(unsigned int n, char *lcores, size_t size)
 		if (CPU_ISSET(i, &set))
 			cpu[nb_cpus++] = i;
 	if (nb_cpus < n)
-		fprintf(stderr, "bench: %u threads share %u processors: their times say nothing\n", n,
+		fprintf(stderr,
+			"bench: %u threads share %u processors: their times say nothing\n", n,
 			nb_cpus);
 	for (i = 0; i < n && used < size; i++)
-		used += snprintf(lcores + used, size - used, "%s%u@%u", i ? "," : "", i, cpu[i % nb_cpus]);
+		used += snprintf(lcores + used, size - used, "%s%u@%u", i ? "," : "", i,
+			cpu[i % nb_cpus]);
 }
 
 static void
@@ -304,7 +310,8 @@ choose_subjects(void)
 
 	for (; list != NULL && *list != 0; list += length + (list[length] == ',')) {
 		length = strcspn(list, ",");
-		snprintf(name, sizeof(name), "%.*s", (int)RTE_MIN(length, (size_t)NAME_SIZE - 1), list);
+		snprintf(name, sizeof(name), "%.*s", (int)RTE_MIN(length, (size_t)NAME_SIZE - 1),
+			list);
 		before = nb_subjects;
 		add_subject(subject_named(name), name);
 		if (nb_subjects == before)
@@ -318,7 +325,8 @@ choose_subjects(void)
 		add_subject(&mempool_subject, handlers[i]);
 }
 
-/* Whether the subject has this cell. Some forms have no cache, and two threads pass and hand over. */
+/* Whether the subject has this cell. Some forms have no cache, and two threads pass and hand
+ * over. */
 static bool
 has_cell(const struct subject *s, const struct cell *cell)
 {
@@ -349,8 +357,8 @@ hangs(int signal)
 	_exit(1);
 }
 
-/* Threads that wait for one another spin, so a run that hangs takes processor time; one that only comes
- * to no processor doesn't. */
+/* Threads that wait for one another spin, so a run that hangs takes processor time; one that
+ * only comes to no processor doesn't. */
 static void
 be_patient(long seconds)
 {
@@ -371,7 +379,8 @@ run_once(const struct subject *subject, const struct cell *cell)
 		fault("the pool can't be made");
 		return tally;
 	}
-	snprintf(hanging, sizeof(hanging), "bench: %s on %s, %u threads, cache %u: the run doesn't end\n",
+	snprintf(hanging, sizeof(hanging),
+		"bench: %s on %s, %u threads, cache %u: the run doesn't end\n",
 		workloads[cell->workload].name, subject->name, cell->threads, cell->cache);
 	be_patient(PATIENCE + asked.ms / 1000 * cell->threads);
 	tally = play_pool(cell, &pool, asked.rounds != 0 ? 0 : asked.ms * UINT64_C(1000000));

@@ -9,7 +9,7 @@
 
 #include "rounds.h"
 
-#define OBJECT 64 /* bytes of an object that is no mbuf; of which a check has the first 4 as a mark */
+#define OBJECT 64 /* bytes of an object that is no mbuf; the first 4 are a check's mark */
 #define MARK RTE_ALIGN(sizeof(uint32_t), RTE_MBUF_PRIV_ALIGN)
 
 struct mempool_user {
@@ -228,7 +228,8 @@ make_mbufs(const char *name, const char *ops, uint32_t population, uint32_t cach
 	return mp;
 }
 
-/* The guard has its caches inside, as large as the environment says, and none beside a mempool's. */
+/* The guard has its caches inside, as large as the environment says, and none beside a
+ * mempool's. */
 static uint32_t
 outer_cache(const struct subject *subject, uint32_t cache)
 {

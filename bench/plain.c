@@ -1,11 +1,11 @@
-/* plain.c - the algorithm of the library's words in plain C: the same atomic operations on the same
- * words (docs/MODEL.md, "The words of a running pool"), sequentially consistent as there, the same
- * caches, packets and desks; without contracts or proofs. A lost try is made again at once, without a
- * pause, and as often as it is lost.
+/* plain.c - the algorithm of the library's words in plain C: the same atomic operations on the
+ * same words (docs/MODEL.md, "The words of a running pool"), sequentially consistent as there, the
+ * same caches, packets and desks; without contracts or proofs. A lost try is made again at once,
+ * without a pause, and as often as it is lost.
  *
- * The words, each of 64 bits: 8 is the head, a count of its changes above 24 bits of the top element's
- * number and 1; 16 is the length; from 24 on stand a link for each element, behind them a count of the
- * holds of each, and then a word for each of the two desks. */
+ * The words, each of 64 bits: 8 is the head, a count of its changes above 24 bits of the top
+ * element's number and 1; 16 is the length; from 24 on stand a link for each element, behind
+ * them a count of the holds of each, and then a word for each of the two desks. */
 #include <stdatomic.h>
 #include <stdlib.h>
 #include <string.h>
@@ -53,7 +53,7 @@ struct plain_user {
 	uint32_t *cached; /* has room for the population */
 	struct packet *packets;
 	uint64_t empty_slots[SLOTS / 64];
-	unsigned int segments; /* how many the packet in slot 0 is to have, which is cloned or handed over */
+	unsigned int segments; /* of the packet in slot 0, which is cloned or handed over */
 } __rte_cache_aligned;
 
 struct plain_pool {
@@ -212,7 +212,9 @@ make_packet(struct plain_user *u, unsigned int slot, uint32_t element)
 	(void)atomic_load(&u->words.count[element]);
 	fill_slot(u, slot);
 	p->nb_segs = 1;
-	p->segs[0] = (struct segment){ .element = element, .off = HEADROOM, .buf = HEADROOM + BUFFER };
+	p->segs[0] = (struct segment){
+		.element = element, .off = HEADROOM, .buf = HEADROOM + BUFFER
+	};
 }
 
 static __rte_always_inline bool

@@ -1,5 +1,5 @@
-/* rings.c - a packet handed over by rte_ring: a pointer to it, or its 648 bytes copied in and out, as
- * many as a packet of mbufpool.h has. A place has a ring of one element. */
+/* rings.c - a packet handed over by rte_ring: a pointer to it, or its 648 bytes copied in and
+ * out, as many as a packet of mbufpool.h has. A place has a ring of one element. */
 #include <stdlib.h>
 #include <string.h>
 

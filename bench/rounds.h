@@ -3,8 +3,9 @@
  *     static const struct calls mbufs = { .alloc = .., .free = .. };
  *     PACKET_PLAYS(mbufs)
  *
- * gives `mbufs_plays`, in which each workload of packets has a loop of its own with those calls in line,
- * as a program has that makes them itself. How long a list is stands in that loop as a constant. */
+ * gives `mbufs_plays`, in which each workload of packets has a loop of its own with those calls
+ * in line, as a program has that makes them itself. How long a list is stands in that loop as a
+ * constant. */
 #ifndef ROUNDS_H
 #define ROUNDS_H
 #include <rte_pause.h>
@@ -12,7 +13,8 @@
 
 #include "bench.h"
 
-/* What was got lies in memory, where a program could read it: the compiler keeps no element from it. */
+/* What was got lies in memory, where a program could read it: the compiler keeps no element
+ * from it. */
 static __rte_always_inline void
 is_read(const union refs *refs)
 {

@@ -73,8 +73,8 @@ warm_up(struct thread *t)
 		while (now_on(CLOCK_MONOTONIC) - begun < BATCH);
 }
 
-/* How many rounds the next batch has, where the last took so long. Threads that wait for one which has
- * lost its processor take a thousand times as long as others. */
+/* How many rounds the next batch has, where the last took so long. Threads that wait for one
+ * which has lost its processor take a thousand times as long as others. */
 static uint64_t
 next_batch(uint64_t batch, uint64_t took)
 {
@@ -85,7 +85,8 @@ next_batch(uint64_t batch, uint64_t took)
 	return took > BATCH * 2 ? RTE_MAX(batch / 2, least_batch()) : batch;
 }
 
-/* Does batches until the time has passed, or another thread has ended, which would else be missed. */
+/* Does batches until the time has passed, or another thread has ended, which would else be
+ * missed. */
 static void
 play_batches(struct thread *t)
 {
@@ -142,8 +143,8 @@ drain_thread(struct thread *t)
 	t->drained = drain(run.pool, t->user);
 }
 
-/* (so that what passes between the main lcore and this one is seen by a thread sanitizer, which knows
- * nothing of EAL's pipes) */
+/* (so that what passes between the main lcore and this one is seen by a thread sanitizer, which
+ * knows nothing of EAL's pipes) */
 static int
 on_lcore(void *arg)
 {
@@ -170,7 +171,8 @@ in_threads(void (*work)(struct thread *), unsigned int first, unsigned int n)
 	rte_eal_mp_wait_lcore();
 }
 
-/* Looks that each element can be got once: by one thread after the other, as each may have a cache. */
+/* Looks that each element can be got once: by one thread after the other, as each may have a
+ * cache. */
 static void
 check_drain(const struct cell *cell)
 {
