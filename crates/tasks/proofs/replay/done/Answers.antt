@@ -40,3 +40,9 @@ pub returns-in_ok-run_script_snapshot-in-RunSnapshot-clause-printed :
 returns-in_ok-run_script_snapshot-in-RunSnapshot-clause-printed g c =
     subst (λ (t : Task). IsDoneAs t c.args.script.now c.in_ok-run_script_snapshot-in-RunSnapshot.field-0.items)
     (sym c.in-RunSnapshot.is) c.in_ok-run_script_snapshot-in-RunSnapshot.ensures.printed
+
+-- and for a picture
+pub returns-in-Picture-clause-printed : goal.returns-in-Picture-clause-printed
+returns-in-Picture-clause-printed g c =
+    subst (λ (t : Task). IfOk c.picture.result (λ out. IsDoneAs t c.args.script.now out.items))
+    (sym c.in-Picture.is) c.picture.ensures.drawn
