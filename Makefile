@@ -42,6 +42,8 @@ DPDK_DRIVERS ?= $(drivers)
 plugins := dpdk/librte_mempool_mbufpool.so dpdk/librte_mempool_mbufpool_guard.so
 dump := dpdk/libmbufpool_dump.so
 dump_header := dpdk/dump.h=mbufpool_dump.h
+tools := dpdk/mbufpool-dump dpdk/mbufpool-core
+layout := dpdk/mbufpool_layout.txt
 endif
 
 name := mbufpool-$(VERSION)-x86_64-linux
@@ -98,9 +100,10 @@ $(HEAP):
 
 # ---- for DPDK ----
 
-$(plugins) $(dump) &: $(wildcard dpdk/*.[ch] dpdk/Makefile dpdk/*.mk) $(headers) c/renewing.c $(LIB)
-	@$(MAKE) -s -C dpdk LIB=$(abspath $(LIB)) KIT=$(KIT) HEAP=$(abspath $(HEAP)) \
-		$(notdir $(plugins) $(dump))
+made_there := $(plugins) $(dump) $(filter dpdk/mbufpool-dump,$(tools)) $(layout)
+
+$(made_there) &: $(wildcard dpdk/*.[ch] dpdk/Makefile dpdk/*.mk) $(headers) c/renewing.c $(LIB)
+	@$(MAKE) -s -C dpdk LIB=$(abspath $(LIB)) KIT=$(KIT) HEAP=$(abspath $(HEAP)) $(notdir $(made_there))
 
 # ---- all of it, in one folder ----
 
@@ -110,7 +113,8 @@ shared = install -m 755 $(1) $(stage)/lib/$(notdir $(1)).$(VERSION) && \
 	ln -s $(notdir $(1)).$(major) $(stage)/lib/$(notdir $(1))
 
 build/staged-$(WITH_DPDK): build/libmbufpool.a build/libmbufpool.so build/of $(PROGRAM) $(plugins) \
-		$(dump) $(headers) Makefile $(wildcard package/*) docs/FORMATS.md docs/FAULTS.md
+		$(dump) $(tools) $(layout) $(wildcard dpdk/mbufpool*.py dpdk/*.1) $(headers) Makefile \
+		$(wildcard package/*) docs/FORMATS.md docs/FAULTS.md
 	@rm -rf $(stage) build/staged-*
 	@mkdir -p $(stage)/bin $(stage)/include $(stage)/lib/pkgconfig
 	@install -m 755 $(PROGRAM) $(stage)/bin/mbufpool
@@ -125,8 +129,15 @@ ifeq ($(WITH_DPDK),yes)
 	@install -m 755 $(plugins) $(stage)/lib/dpdk/$(notdir $(drivers))
 	@$(call shared,$(dump))
 	@install -m 644 dpdk/dump.h $(stage)/include/mbufpool_dump.h
+	@install -m 755 $(tools) $(stage)/bin
+	@install -d $(stage)/share/mbufpool
+	@install -m 644 dpdk/mbufpool_*.py $(layout) $(stage)/share/mbufpool
+	@for it in $(notdir $(tools)); do \
+		sed "s|^\.TH \([^ ]*\) 1.*|.TH \1 1 $(date) \"mbufpool $(VERSION)\"|" dpdk/$$it.1 \
+			>$(stage)/share/man/man1/$$it.1; \
+	done
 else
-	@echo "the plugins and the dump were left out: DPDK's development files (Debian: dpdk-dev," \
+	@echo "the plugins and the dumps were left out: DPDK's development files (Debian: dpdk-dev," \
 		"libdpdk-dev) aren't installed, or WITH_DPDK isn't yes"
 endif
 	@touch $@
@@ -144,7 +155,7 @@ uninstall:
 # ---- for machines without the kit ----
 
 # The newest symbol of the C library that is asked for, and what stands in the folder for DPDK.
-glibc = $(shell objdump -T $(stage)/bin/mbufpool $(stage)/lib/*.so $(stage)/lib/dpdk/*/*.so \
+glibc = $(shell objdump -T $(stage)/bin/mbufpool* $(stage)/lib/*.so $(stage)/lib/dpdk/*/*.so \
 	2>/dev/null | sed -n 's/.*GLIBC_\([0-9.]*\).*/\1/p' | sort -uV | tail -n 1)
 for_dpdk = $(if $(plugins),The plugins are built for DPDK $(shell pkg-config --modversion libdpdk).,What \
 	is for DPDK was left out.)
