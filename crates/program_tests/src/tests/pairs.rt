@@ -234,6 +234,11 @@ fn the_whole_print_is_the_statement_and_what_stays(rt: HostRuntime) -> Result<()
     Ok(())
 }
 
+/// What is told of two texts.
+fn told_of(alloc: Global, newer: &str, older: &str) -> Result<String, Fail> {
+    outcome_of_both(alloc, &Both { newer, older }, Form::Text)
+}
+
 #[test]
 fn a_fault_is_told_of_the_newer_one_or_as_the_older_ones(rt: HostRuntime) -> Result<(), Fail> {
     let healthy = format!(in rt.alloc(); "{LIMITS}{HEALTHY}")?;
@@ -243,14 +248,12 @@ fn a_fault_is_told_of_the_newer_one_or_as_the_older_ones(rt: HostRuntime) -> Res
         }
         let faulty = format!(in rt.alloc(); "{LIMITS}{}", row.members)?;
         let since = format!(in rt.alloc(); "since: {}", row.line)?;
-        for (newer, older, line) in [
-            (faulty.as_str(), healthy.as_str(), row.line),
-            (healthy.as_str(), faulty.as_str(), since.as_str()),
-            (faulty.as_str(), "{}", row.line),
-        ] {
-            let told = outcome_of_both(rt.alloc(), &Both { newer, older }, Form::Text)?;
-            same(&rt, &told.as_str(), &line, row.members);
-        }
+        let of_newer = told_of(rt.alloc(), faulty.as_str(), healthy.as_str())?;
+        same(&rt, &of_newer.as_str(), &row.line, row.members);
+        let of_older = told_of(rt.alloc(), healthy.as_str(), faulty.as_str())?;
+        same(&rt, &of_older.as_str(), &since.as_str(), row.members);
+        let of_first = told_of(rt.alloc(), faulty.as_str(), "{}")?;
+        same(&rt, &of_first.as_str(), &row.line, row.members);
     }
     Ok(())
 }
