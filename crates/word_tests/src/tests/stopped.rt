@@ -26,7 +26,7 @@ use std::test::Fail;
 use std::thread;
 use std::thread::Threads;
 
-/// How often each worker plays the script, but for the one who is stopped.
+/// How often each worker plays the script, but for the one who is stopped in the midst of that.
 const ROUNDS: u32 = 2_000;
 
 /// What each worker plays in a round: it makes two packets, offers a clone of each, takes what
@@ -472,12 +472,7 @@ fn assert_told<R: Abort>(
 fn what_a_stopped_worker_alone_had_is_lost(rt: HostRuntime) -> Result<(), Fail> {
     let alloc = rt.alloc();
     let script = parse(alloc, SCRIPT.as_bytes())?;
-    for (number, rounds, lines) in [
-        (1, 20_000, 2),
-        (2, 40_000, 5),
-        (3, 60_000, 8),
-        (4, 80_000, 10),
-    ] {
+    for (number, rounds, lines) in [(1, 400, 2), (2, 800, 5), (3, 1_200, 8), (4, 1_600, 10)] {
         let name = format!(in alloc; "worker {number} is stopped after {lines} lines")?;
         let gate = Gate { rounds, lines };
         let told = told_of(&rt, alloc, &script, number, gate)?;
