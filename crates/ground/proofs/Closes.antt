@@ -22,7 +22,7 @@ use Rattle.ground.specs.declared.known.Known.{Known}
 use Rattle.ground.specs.Changing.{IsFresh, closed_at_start}
 use Rattle.ground.specs.Lying.{LieByNotes}
 use Rattle.ground.proofs.Lying.{lie_by_notes}
-use Rattle.ground.specs.Closing.{Nothing, LeftOf, IsKept, kept_on, packet_on, lying_on}
+use Rattle.ground.specs.Closing.{Nothing, LeftOf, AreOnFullDesks, kept_on, packet_on, lying_on}
 use Rattle.ground.specs.Layout.{pack, unpack, head_word, lines, words_with, word_on, rows_of, words_of, length_word, links_at}
 use Rattle.ground.specs.Rule.{Slot, Ruled, home_by, home_of}
 use Rattle.ground.proofs.Alone.{others_idle}
@@ -172,8 +172,8 @@ others_none w law headers id v same whole k ne =
 
 -- one desk more
 pub kept_more : (words : List ℕ) (slots out : List Slot) (i word : ℕ) (slot : Slot) → length out ≡ i →
-    get_elem? words i ≡ some word → get_elem? slots i ≡ some slot → IsKept words slots out →
-    IsKept words slots (out ++ kept_on word slot ∷ [])
+    get_elem? words i ≡ some word → get_elem? slots i ≡ some slot → AreOnFullDesks words slots out →
+    AreOnFullDesks words slots (out ++ kept_on word slot ∷ [])
 kept_more words slots out i word slot size at_word at_slot kept k n y here a b =
     ⊎_elim (λ (l : k < length out). at_longer out (kept_on word slot ∷ []) k (kept_on n y) (kept k n y l a b))
     (λ (l : length out ≤ k).
@@ -225,7 +225,7 @@ kept_by (suc (suc (suc n))) slot other h at =
 desks_are : (ds : List Desk) (out : List Slot) (ws : List ℕ) (slots : List Slot) →
     length out ≡ length ds → ws ≡ map word_on ds →
     ((k : ℕ) (y : Slot) → get_elem? (map home_of ds) k ≡ some (some y) → get_elem? slots k ≡ some y) →
-    length out ≡ length slots → ((d : ℕ) → (desk_at ds d).word ≤ 3) → IsKept ws slots out →
+    length out ≡ length slots → ((d : ℕ) → (desk_at ds d).word ≤ 3) → AreOnFullDesks ws slots out →
     out ≡ map packet_on ds
 desks_are ds out ws slots size words homes same small kept =
     same_rows out (map packet_on ds) (size ∙ sym (length-map ds packet_on)) (λ k here.
@@ -275,7 +275,7 @@ pub closes : (key l : Limits) → key ≡ l → (v : View) (id : ℕ) (n : Known
     (word : ℕ) (head : Head) (len : ℕ) (links counts : List ℕ) → get_elem? ws head_word ≡ some word →
     head ≡ unpack word → get_elem? ws length_word ≡ some len → links ≡ take l.population (drop links_at ws) →
     counts ≡ take l.population (drop (links_at + l.population) ws) → (desks : List Slot) →
-    length desks ≡ l.desks → IsKept (drop (links_at + 2 * l.population) ws) slots desks → 0 < n.view.part →
+    length desks ≡ l.desks → AreOnFullDesks (drop (links_at + 2 * l.population) ws) slots desks → 0 < n.view.part →
     Closes l v n (record { top = head.top; length = len; links = links; counts = counts; desks = desks })
 closes
     key l key_is v id n same ws slots f word head len links counts at_head head_is at_len links_are

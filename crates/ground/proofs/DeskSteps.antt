@@ -47,7 +47,7 @@ use Rattle.ground.proofs.History.{led_on, led_quietly}
 use Rattle.ground.specs.Seats.{on_desk, laid_on, KnowsThere, KnowsEmpty, KnowsFull}
 use Rattle.ground.proofs.Alone.{lying_at, not_full, none_in_work}
 use Rattle.ground.proofs.Desking.{if_seen, laid_right, laid_some, still_right, set_twice, desked, desk_inside, by_desk, desk_read, desk_kept, desk_home, ruled}
-use Rattle.ground.specs.Operations.{Sits, Moves}
+use Rattle.ground.specs.Operations.{Sits, OperationMoves}
 use Rattle.ground.proofs.Playing.{St, row_played, law, here, is as is_view, busy_here, my_limits, law_after, owned, steps}
 use Rattle.ground.proofs.Stepping.{played_when}
 use Rattle.ground.proofs.Tallies.{held_inside}
@@ -115,7 +115,7 @@ module _ (l : Limits) (s : St) (r : Ruled l s) (id : ℕ) (me : Sat) (at : get_e
 
 pub holds_desk : (l : Limits) (slots id : ℕ) (me : Sat) (d k : ℕ) → k ≡ desk_word l.population d →
     d < l.desks → me.0.view.work ≡ None → Sits me →
-    Moves l slots id me k (λ x. either (eqb x 0) 1 x) (Hold d ∷ []) (λ x. exchanged (eqb x 0) x ∷ [])
+    OperationMoves l slots id me k (λ x. either (eqb x 0) 1 x) (Hold d ∷ []) (λ x. exchanged (eqb x 0) x ∷ [])
     (hold_answers (step slots k 0 1 none) me)
 holds_desk l slots id me d k word inside idle busy s r _ at _ =
     let x : ℕ = slice_index s.words k in
@@ -191,7 +191,7 @@ holds_desk l slots id me d k word inside idle busy s r _ at _ =
 
 pub seizes_desk : (l : Limits) (slots id : ℕ) (me : Sat) (d k : ℕ) → k ≡ desk_word l.population d →
     d < l.desks → me.0.view.work ≡ None → Sits me →
-    Moves l slots id me k (λ x. either (eqb x 2) 3 x) (Seize d ∷ []) (λ x. exchanged (eqb x 2) x ∷ [])
+    OperationMoves l slots id me k (λ x. either (eqb x 2) 3 x) (Seize d ∷ []) (λ x. exchanged (eqb x 2) x ∷ [])
     (seize_answers (step slots k 2 3 none) me)
 seizes_desk l slots id me d k word inside idle busy s r _ at _ =
     let x : ℕ = slice_index s.words k in
@@ -340,7 +340,7 @@ pub opens_desk : (l : Limits) (slots id : ℕ) (me : Sat) (d k : ℕ) (p : List 
     k ≡ desk_word l.population d → d < l.desks → me.0.view.work ≡ at_desk d ToFill →
     me.1 ≡ (d, Some p) ∷ [] → IsPacket p → Includes me.0.view.holds (holds_of_packet p) →
     OwnsHeaders me.0.view p → Sits me →
-    Moves l slots id me k (λ _. 2) (PutIn d p ∷ Open d ∷ []) (λ _. Done ∷ Done ∷ [])
+    OperationMoves l slots id me k (λ _. 2) (PutIn d p ∷ Open d ∷ []) (λ _. Done ∷ Done ∷ [])
     (λ _. open_answers (step slots k 2 0 none) me 2)
 opens_desk l slots id me d k p word inside work out packet holds owns busy s r _ at _ =
     let w = r.world in
@@ -416,7 +416,7 @@ opens_desk l slots id me d k p word inside work out packet holds owns busy s r _
 pub clears_desk : (l : Limits) (slots id : ℕ) (me : Sat) (d k : ℕ) (p : List Seg) →
     k ≡ desk_word l.population d → d < l.desks → me.0.view.work ≡ at_desk d (Seized p) →
     me.1 ≡ (d, None) ∷ [] → Sits me →
-    Moves l slots id me k (λ _. 0) (TakeOut d ∷ Clear d ∷ []) (λ _. Found p ∷ Done ∷ [])
+    OperationMoves l slots id me k (λ _. 0) (TakeOut d ∷ Clear d ∷ []) (λ _. Found p ∷ Done ∷ [])
     (λ _. clear_answers (step slots k 0 0 none) me 0)
 clears_desk l slots id me d k p word inside work out busy s r _ at _ =
     let w = r.world in

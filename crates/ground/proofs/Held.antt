@@ -9,10 +9,10 @@ use Rattle.step_core.specs.declared.step.Step.TheVariants.{Reserve, Add, LoadHea
 use Rattle.step_core.specs.declared.step.Outcome.{Outcome}
 use Rattle.step_core.specs.declared.step.Outcome.TheVariants.{Value, HeadIs, Won, Got, LostTo, Done, Found}
 use Rattle.step_core.specs.declared.view.View.{View}
-use Rattle.step_core.specs.Headline.{Gets, Puts, IsHeld}
+use Rattle.step_core.specs.Headline.{EventGets, EventPuts, IsHeld}
 use Rattle.step_core.specs.Law.{Lawful}
 use Rattle.step_core.specs.Schedules.{slot_at}
-use Rattle.step_core.specs.Shows.{standing, Shows, Happens, Stands}
+use Rattle.step_core.specs.Shows.{standing, ShowsTable, Happens, Stands}
 use Rattle.step_core.specs.Steps.{Play, play, event_of, claim, reset as reset_row}
 use Rattle.step_core.specs.Table.{Place, Common, Hand, Held, Table, Same, Event, Get, Put, Claim as ClaimEvent, Attach, Free, Offer, Take, Becomes, Claimed, Gained, Freed, Passed, worker_of}
 use Rattle.step_core.specs.Views.{view_after, phase_at, push_chain, opened_from, seized_from}
@@ -26,7 +26,7 @@ use Rattle.step_core.proofs.Shows.{is_in_hand}
 use Rattle.step_core.proofs.Telling.{cut_gets_all}
 use Rattle.step_core.proofs.Theorem.{play_is, played_row, makes_its_event, makes_its_view, changes_little, same_population, lawful_shows, keeps_law}
 use Rattle.ground.specs.Held.{Gives, EndsLast, NoStep, IsHeldIn, LeavesIt, IsHeldOver, HeldIsNotGiven}
-use Rattle.ground.specs.History.{Log, Move, Stepped, Split, Lent, Joined, Leads, Led, taken_over}
+use Rattle.ground.specs.History.{Log, Move, Stepped, Split, Lent, Joined, MoveLeads, Led, taken_over}
 use Rattle.ground.proofs.History.{histories_are_events}
 
 held_same : (p q : Place) → IsHeld p → Same p q → IsHeld q
@@ -100,7 +100,7 @@ module _ (i : ℕ) where
   stays p q (Take w d xs) h b =
       pick xs i (λ l. inl (passes_back (bag xs i) w d p q h (b.1.0 l))) (λ n. inl (held_same p q h (b.1.1 n)))
 
-  no_get : (p q : Place) (e : Event) → IsHeld p → Becomes e i p q → Gets i e → ⊥
+  no_get : (p q : Place) (e : Event) → IsHeld p → Becomes e i p q → EventGets i e → ⊥
   no_get p q (Get w xs) held b g = subst IsHeld (b.0 g).0 held
   no_get p q (Put w xs) held b g = g
   no_get p q (ClaimEvent w j) held b g = g
@@ -109,7 +109,7 @@ module _ (i : ℕ) where
   no_get p q (Offer w d xs) held b g = g
   no_get p q (Take w d xs) held b g = g
 
-  no_put : (p q : Place) (e : Event) → IsHeld p → Becomes e i p q → Puts i e → ⊥
+  no_put : (p q : Place) (e : Event) → IsHeld p → Becomes e i p q → EventPuts i e → ⊥
   no_put p q (Get w xs) held b g = g
   no_put p q (Put w xs) held b g = subst IsHeld (b.0 g).0 held
   no_put p q (ClaimEvent w j) held b g = g
@@ -199,7 +199,7 @@ reset_event w id i o u e =
 -- the claim makes the element a held one, of the pool
 module _ (v : World) (id i : ℕ) (o : Outcome) (u : World) (law : Lawful v) (busy : 0 < (view_at v.views id).part)
     (e : play v (suc id) (Claim i) ≡ Some (o, u)) where
-  claimed_so : (t r : Table) → Shows v t → Shows u r → (i < v.limits.population) × IsHeld (r i)
+  claimed_so : (t r : Table) → ShowsTable v t → ShowsTable u r → (i < v.limits.population) × IsHeld (r i)
   claimed_so t r a b =
       let h =
       subst (λ (x : Option Event). Happens v.limits.population (suc id) x t r) (claim_event v id i o u e)
@@ -222,10 +222,10 @@ module _ (v : World) (id i : ℕ) (s : Step) (o : Outcome) (u : World) (law : La
   abbrev t : Table
   t = (lawful_shows v law).0
 
-  a : Shows v t
+  a : ShowsTable v t
   a = (lawful_shows v law).1
 
-  happens : (r : Table) → Shows u r → Happens v.limits.population (suc id) (event_of v (suc id) s) t r
+  happens : (r : Table) → ShowsTable u r → Happens v.limits.population (suc id) (event_of v (suc id) s) t r
   happens r b = makes_its_event v (suc id) s o u law busy e t r a b
 
   given : (st : Step) (p : Outcome) → play v (suc id) st ≡ Some (p, u) → Gives i st p → ⊥
@@ -243,7 +243,7 @@ module _ (v : World) (id i : ℕ) (s : Step) (o : Outcome) (u : World) (law : La
       (given s o e, on (event_of v (suc id) s) (happens (lawful_shows u lawful).0 (lawful_shows u lawful).1))
     where
       on : (x : Option Event) → Happens v.limits.population (suc id) x t (lawful_shows u lawful).0 →
-          MatchOption x ⊤ (λ ev. (Gets i ev → ⊥) × (Puts i ev → ⊥))
+          MatchOption x ⊤ (λ ev. (EventGets i ev → ⊥) × (EventPuts i ev → ⊥))
       on None h = tt
       on (Some ev) h =
           let b = h.1.moves.1 i below in
@@ -296,16 +296,16 @@ module _ (v : World) (id i : ℕ) (s : Step) (o : Outcome) (u : World) (law : La
 limits_led : (l : Limits) (ms : List Move) (w : World) (logs : List Log) → Led l ms w logs → w.limits ≡ l
 limits_led l [] w logs led = ap (λ (u : World). u.limits) led.0
 limits_led l (Stepped id st o ∷ ms) w logs led =
-    let leads : Leads (Stepped id st o) led.0 led.1 w logs = led.4 in
+    let leads : MoveLeads (Stepped id st o) led.0 led.1 w logs = led.4 in
     same_population led.0 w (suc id) (changes_little led.0 (suc id) st o w leads.1) ∙ limits_led l ms led.0 led.1 led.3
 limits_led l (Split id ∷ ms) w logs led =
-    let leads : Leads (Split id) led.0 led.1 w logs = led.4 in
+    let leads : MoveLeads (Split id) led.0 led.1 w logs = led.4 in
     ap (λ (u : World). u.limits) leads.1 ∙ limits_led l ms led.0 led.1 led.3
 limits_led l (Lent id i ∷ ms) w logs led =
-    let leads : Leads (Lent id i) led.0 led.1 w logs = led.4 in
+    let leads : MoveLeads (Lent id i) led.0 led.1 w logs = led.4 in
     ap (λ (u : World). u.limits) leads.3 ∙ limits_led l ms led.0 led.1 led.3
 limits_led l (Joined id other ∷ ms) w logs led =
-    let leads : Leads (Joined id other) led.0 led.1 w logs = led.4 in
+    let leads : MoveLeads (Joined id other) led.0 led.1 w logs = led.4 in
     ap (λ (u : World). u.limits) leads.3 ∙ limits_led l ms led.0 led.1 led.3
 
 module _ (l : Limits) (earlier : List Move) (id i : ℕ) (o : Outcome) where
@@ -315,7 +315,7 @@ module _ (l : Limits) (earlier : List Move) (id i : ℕ) (o : Outcome) where
   -- the world of the claim
   first_held : (w : World) (logs : List Log) → Led l Claimed_at w logs → (i < l.population) × IsHeldIn i w
   first_held w logs led =
-      let leads : Leads (Stepped id (Claim i) o) led.0 led.1 w logs = led.4 in
+      let leads : MoveLeads (Stepped id (Claim i) o) led.0 led.1 w logs = led.4 in
       let law = keeps_law led.0 (suc id) (Claim i) o w led.2 leads.0 leads.1 in
       let before = lawful_shows led.0 led.2 in
       let after = lawful_shows w law in
@@ -337,7 +337,7 @@ module _ (l : Limits) (earlier : List Move) (id i : ℕ) (o : Outcome) where
       NoStep (EndsLast i) since → IsHeldOver i l since Claimed_at w logs led
   over [] w logs led none = (first_held w logs led).1
   over (Stepped k st q ∷ since) w logs led none =
-      let leads : Leads (Stepped k st q) led.0 led.1 w logs = led.4 in
+      let leads : MoveLeads (Stepped k st q) led.0 led.1 w logs = led.4 in
       let rest = over since led.0 led.1 led.3 none.1 in
       let held = last_held since led.0 led.1 led.3 rest in
       let same = ap (λ (x : Limits). x.population) (limits_led l (since ++ Claimed_at) led.0 led.1 led.3) in

@@ -10,7 +10,7 @@ use Rattle.step_core.specs.declared.step.Step.{Step}
 use Rattle.step_core.specs.declared.step.Outcome.{Outcome}
 use Rattle.step_core.specs.Law.{Lawful}
 use Rattle.step_core.specs.Schedules.{slot_at}
-use Rattle.step_core.specs.Shows.{Shows}
+use Rattle.step_core.specs.Shows.{ShowsTable}
 use Rattle.step_core.specs.Steps.{play}
 use Rattle.step_core.specs.World.{World, Packet, no_desk, desk_at, view_at, empty_view, worker_part}
 use Rattle.step_core.proofs.Handing.{SlotIs, slot_after}
@@ -19,7 +19,7 @@ use Rattle.ground.specs.Parting.{less, lending, loan_of, both_views}
 use Rattle.ground.proofs.Lending.{goes_on, stays_put}
 use Rattle.ground.proofs.TakingOver.{takes_over}
 use Rattle.ground.specs.declared.known.Known.{Known}
-use Rattle.ground.specs.History.{Log, Move, Stepped, Split, Lent, Joined, Leads, Led, HistoriesAreEvents, DesksHaveWhatWasPutIn, put_in_last, log_of, logs_of, notes_of}
+use Rattle.ground.specs.History.{Log, Move, Stepped, Split, Lent, Joined, MoveLeads, Led, HistoriesAreEvents, DesksHaveWhatWasPutIn, put_in_last, log_of, logs_of, notes_of}
 
 -- one step more, of the seat that knows n afterwards
 pub led_on : (l : Limits) (h : List Move) (w : World) (ns : List Known) (id : ℕ) (m n : Known) (st : Step) (o : Outcome)
@@ -78,14 +78,14 @@ as_many : (l : Limits) (ms : List Move) (w : World) (logs : List Log) → Led l 
 as_many l [] w logs led =
     ap (λ (xs : List Log). length xs) led.1 ∙ sym (ap (λ (u : World). length u.views) led.0)
 as_many l (Stepped id st o ∷ ms) w logs led =
-    let leads : Leads (Stepped id st o) led.0 led.1 w logs = led.4 in
+    let leads : MoveLeads (Stepped id st o) led.0 led.1 w logs = led.4 in
     let before = as_many l ms led.0 led.1 led.3 in
     let same = (changes_little led.0 (suc id) st o w leads.1).views in
     let sizes = ap (λ (xs : List Log). length xs) leads.2.2 in
     let kept = length-set led.1 id (leads.2.0.0 ++ notes_of st o (slot_at led.0.desks st), leads.2.0.1) in
     omega arith
 as_many l (Split id ∷ ms) w logs led =
-    let leads : Leads (Split id) led.0 led.1 w logs = led.4 in
+    let leads : MoveLeads (Split id) led.0 led.1 w logs = led.4 in
     let before = as_many l ms led.0 led.1 led.3 in
     let left = less (view_at led.0.views id) in
     let views = ap (λ (u : World). length u.views) leads.1 in
@@ -97,7 +97,7 @@ as_many l (Split id ∷ ms) w logs led =
       length-set led.0.views id left,
     )
 as_many l (Lent id i ∷ ms) w logs led =
-    let leads : Leads (Lent id i) led.0 led.1 w logs = led.4 in
+    let leads : MoveLeads (Lent id i) led.0 led.1 w logs = led.4 in
     let before = as_many l ms led.0 led.1 led.3 in
     let left = lending i (view_at led.0.views id) in
     let views = ap (λ (u : World). length u.views) leads.3 in
@@ -109,7 +109,7 @@ as_many l (Lent id i ∷ ms) w logs led =
       length-set led.0.views id left,
     )
 as_many l (Joined id other ∷ ms) w logs led =
-    let leads : Leads (Joined id other) led.0 led.1 w logs = led.4 in
+    let leads : MoveLeads (Joined id other) led.0 led.1 w logs = led.4 in
     let before = as_many l ms led.0 led.1 led.3 in
     let u = both_views (view_at led.0.views id) (view_at led.0.views other) in
     let views = ap (λ (u : World). length u.views) leads.3 in
@@ -129,30 +129,30 @@ as_many l (Joined id other ∷ ms) w logs led =
 pub histories_are_events : HistoriesAreEvents
 histories_are_events l [] w logs led = tt
 histories_are_events l (Stepped id st o ∷ ms) w logs led =
-    let leads : Leads (Stepped id st o) led.0 led.1 w logs = led.4 in (
+    let leads : MoveLeads (Stepped id st o) led.0 led.1 w logs = led.4 in (
       λ t r a b. makes_its_event led.0 (suc id) st o w led.2 leads.0 leads.1 t r a b,
       histories_are_events l ms led.0 led.1 led.3,
     )
 histories_are_events l (Split id ∷ ms) w logs led =
-    let leads : Leads (Split id) led.0 led.1 w logs = led.4 in
+    let leads : MoveLeads (Split id) led.0 led.1 w logs = led.4 in
     let some : 0 < (view_at led.0.views id).part = (let two = leads.0 in omega arith) in (
-      λ t r a b. stays_put led.0 id some t r a (subst (λ (u : World). Shows u r) leads.1 b),
+      λ t r a b. stays_put led.0 id some t r a (subst (λ (u : World). ShowsTable u r) leads.1 b),
       histories_are_events l ms led.0 led.1 led.3,
     )
 histories_are_events l (Lent id i ∷ ms) w logs led =
-    let leads : Leads (Lent id i) led.0 led.1 w logs = led.4 in
+    let leads : MoveLeads (Lent id i) led.0 led.1 w logs = led.4 in
     let some : 0 < (view_at led.0.views id).part = (let two = leads.0 in omega arith) in (
-      λ t r a b. goes_on led.0 id i some leads.2 t r a (subst (λ (u : World). Shows u r) leads.3 b),
+      λ t r a b. goes_on led.0 id i some leads.2 t r a (subst (λ (u : World). ShowsTable u r) leads.3 b),
       histories_are_events l ms led.0 led.1 led.3,
     )
 histories_are_events l (Joined id other ∷ ms) w logs led =
-    let leads : Leads (Joined id other) led.0 led.1 w logs = led.4 in
+    let leads : MoveLeads (Joined id other) led.0 led.1 w logs = led.4 in
     let many = as_many l ms led.0 led.1 led.3 in
     let mine = within led.1 id leads.4.0 leads.4.2 in
     let theirs = within led.1 other leads.4.1 leads.4.3 in (
       λ t r a b.
           takes_over led.0 id other (omega arith) (omega arith) leads.0 leads.1 leads.2 t r a
-          (subst (λ (u : World). Shows u r) leads.3 b),
+          (subst (λ (u : World). ShowsTable u r) leads.3 b),
       histories_are_events l ms led.0 led.1 led.3,
     )
 
@@ -161,16 +161,16 @@ slot_led : (l : Limits) (ms : List Move) (w : World) (logs : List Log) → Led l
     SlotIs d w (put_in_last d ms)
 slot_led l [] w logs led d = inl (ap (λ (u : World). (desk_at u.desks d).slot) led.0 ∙ bare_slot l.desks d)
 slot_led l (Stepped id st o ∷ ms) w logs led d =
-    let leads : Leads (Stepped id st o) led.0 led.1 w logs = led.4 in
+    let leads : MoveLeads (Stepped id st o) led.0 led.1 w logs = led.4 in
     slot_after d led.0 (suc id) st o w (put_in_last d ms) leads.1 (slot_led l ms led.0 led.1 led.3 d)
 slot_led l (Split id ∷ ms) w logs led d =
-    let leads : Leads (Split id) led.0 led.1 w logs = led.4 in
+    let leads : MoveLeads (Split id) led.0 led.1 w logs = led.4 in
     subst (λ (u : World). SlotIs d u (put_in_last d ms)) (sym leads.1) (slot_led l ms led.0 led.1 led.3 d)
 slot_led l (Lent id i ∷ ms) w logs led d =
-    let leads : Leads (Lent id i) led.0 led.1 w logs = led.4 in
+    let leads : MoveLeads (Lent id i) led.0 led.1 w logs = led.4 in
     subst (λ (u : World). SlotIs d u (put_in_last d ms)) (sym leads.3) (slot_led l ms led.0 led.1 led.3 d)
 slot_led l (Joined id other ∷ ms) w logs led d =
-    let leads : Leads (Joined id other) led.0 led.1 w logs = led.4 in
+    let leads : MoveLeads (Joined id other) led.0 led.1 w logs = led.4 in
     subst (λ (u : World). SlotIs d u (put_in_last d ms)) (sym leads.3) (slot_led l ms led.0 led.1 led.3 d)
 
 pub desks_have_what_was_put_in : DesksHaveWhatWasPutIn

@@ -5,13 +5,13 @@ use Rattle.std.proofs.lemmas.Bool.{cases_lt}
 use Rattle.std.proofs.lemmas.List.{get_or_past, length-set}
 use Rattle.commons.specs.Bag.{bag}
 use Rattle.step_core.specs.declared.view.View.{View}
-use Rattle.step_core.specs.Shows.{standing, Shows}
+use Rattle.step_core.specs.Shows.{standing, ShowsTable}
 use Rattle.step_core.specs.Table.{Table, SameTable}
 use Rattle.step_core.specs.World.{World, empty_view, view_at, view_of, link_in, worker_part}
 use Rattle.step_core.proofs.Bags.{times-nil}
 use Rattle.step_core.proofs.Events.{Alike, read_kept, same_at}
 use Rattle.step_core.proofs.Shows.{spells_same, is_in_hand}
-use Rattle.ground.specs.History.{GoesOn}
+use Rattle.ground.specs.History.{GoesToHand}
 use Rattle.ground.specs.Parting.{less, lending, loan_of}
 use Rattle.ground.proofs.Reviews.{split_views, lent_views, lent_elements}
 
@@ -51,7 +51,7 @@ module _ (w : World) (k : ℕ) (some : 0 < (view_at w.views k).part) where
       sym (push_kept f (set w.views k (less (view_at w.views k))) (empty_view worker_part) none n
       ∙ read_kept w.views k (less (view_at w.views k)) (has_place w.views k some) f same n)
 
-  pub stays_put : (t r : Table) → Shows w t → Shows parted r → SameTable w.limits.population t r
+  pub stays_put : (t r : Table) → ShowsTable w t → ShowsTable parted r → SameTable w.limits.population t r
   stays_put t r before later j below =
       same_at w parted t r w.limits.population refl refl before later j below
       (ap (λ (ys : List ℕ). bag ys j)
@@ -94,8 +94,8 @@ module _ (w : World) (k i : ℕ) (some : 0 < (view_at w.views k).part) (has : 0 
         desk = λ d. refl;
       }
 
-  pub goes_on : (t r : Table) → Shows w t → Shows after r →
-      GoesOn w.limits.population i (suc k) (suc (length w.views)) t r
+  pub goes_on : (t r : Table) → ShowsTable w t → ShowsTable after r →
+      GoesToHand w.limits.population i (suc k) (suc (length w.views)) t r
   goes_on t r before later j below = (
     λ one. (
       is_in_hand (standing w before.common j) (before.one j below) (t j) (suc k)

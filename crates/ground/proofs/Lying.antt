@@ -24,7 +24,7 @@ use Rattle.step_core.proofs.Rows.{when_played, given_played}
 use Rattle.step_core.proofs.Rules.{FourLaws}
 use Rattle.step_core.proofs.Theorem.{play_is, played_row}
 use Rattle.ground.specs.Closing.{lying_on, packet_on}
-use Rattle.ground.specs.History.{Log, Move, Stepped, Split, Lent, Joined, Leads, Led, log_of, logs_of, notes_of}
+use Rattle.ground.specs.History.{Log, Move, Stepped, Split, Lent, Joined, MoveLeads, Led, log_of, logs_of, notes_of}
 use Rattle.ground.specs.Changing.{IsUnmoved}
 use Rattle.ground.specs.declared.known.Known.{Known}
 use Rattle.ground.specs.Lying.{opened_by, seized_by, opened_in, seized_in, count_on, notes_in, LieByNotes, NotesTellOfDesks}
@@ -297,7 +297,7 @@ module _ (d : ℕ) (f : Packet → ℕ) where
       let b = ap (sum_by seized_log) led.1 in
       omega (arith, sum_by-cons opened_log ([], []) [], sum_by-cons seized_log ([], []) [])
   logs_tell l (Stepped id st o ∷ ms) w logs led =
-      let leads : Leads (Stepped id st o) led.0 led.1 w logs = led.4 in
+      let leads : MoveLeads (Stepped id st o) led.0 led.1 w logs = led.4 in
       let before = logs_tell l ms led.0 led.1 led.3 in
       let told = step_tallied led.0 (suc id) st o w led.2 leads.1 in
       let log = leads.2.0 in
@@ -313,21 +313,21 @@ module _ (d : ℕ) (f : Packet → ℕ) where
         sum_by-append seized_note log.0 notes,
       )
   logs_tell l (Split id ∷ ms) w logs led =
-      let leads : Leads (Split id) led.0 led.1 w logs = led.4 in
+      let leads : MoveLeads (Split id) led.0 led.1 w logs = led.4 in
       let before = logs_tell l ms led.0 led.1 led.3 in
       let desks = ap (λ (u : World). count_on f (packet_on (desk_at u.desks d))) leads.1 in
       let a = ap (sum_by opened_log) leads.2 in
       let b = ap (sum_by seized_log) leads.2 in
       omega (arith, sum_by_push opened_log led.1 ([], []), sum_by_push seized_log led.1 ([], []))
   logs_tell l (Lent id i ∷ ms) w logs led =
-      let leads : Leads (Lent id i) led.0 led.1 w logs = led.4 in
+      let leads : MoveLeads (Lent id i) led.0 led.1 w logs = led.4 in
       let before = logs_tell l ms led.0 led.1 led.3 in
       let desks = ap (λ (u : World). count_on f (packet_on (desk_at u.desks d))) leads.3 in
       let a = ap (sum_by opened_log) leads.4 in
       let b = ap (sum_by seized_log) leads.4 in
       omega (arith, sum_by_push opened_log led.1 ([], []), sum_by_push seized_log led.1 ([], []))
   logs_tell l (Joined id other ∷ ms) w logs led =
-      let leads : Leads (Joined id other) led.0 led.1 w logs = led.4 in
+      let leads : MoveLeads (Joined id other) led.0 led.1 w logs = led.4 in
       let before = logs_tell l ms led.0 led.1 led.3 in
       let desks = ap (λ (u : World). count_on f (packet_on (desk_at u.desks d))) leads.3 in
       let log = leads.4.0 in

@@ -36,7 +36,7 @@ use Rattle.ground.specs.Own.{Owned}
 use Rattle.ground.specs.Rule.{Slot, Sat, Ruled}
 use Rattle.ground.specs.Seats.{KnowsLength, KnowsEnd, front_of, count_of, element_of}
 use Rattle.ground.specs.StepAnswers.{noted, Noted, exchanged, cut_found, push_found, IsLater, IsShared, loaded_length, reserved, added, loaded_head, loaded_link, cut_answers, stored_link, push_answers}
-use Rattle.ground.specs.Operations.{Sits, Moves}
+use Rattle.ground.specs.Operations.{Sits, OperationMoves}
 use Rattle.ground.proofs.Playing.{St, tail_of, unpack_pack, row_played, law, here, is as is_view, busy_here, my_limits, law_after, limits_after, view_there_after, told_views, steps, steps_by, read_at, read_length, read_head, head_is, link_at, link_set}
 use Rattle.ground.specs.Changing.{KnowsChanges, KnowsOpening}
 use Rattle.ground.proofs.Sitting.{changes_known, opening_known}
@@ -60,7 +60,7 @@ module _ (l : Limits) (s : St) (r : Ruled l s) (id : ℕ) (me : Sat) (at : get_e
       (read_length l s r id me at busy)
 
 pub loads_length : (l : Limits) (slots id : ℕ) (me : Sat) → Sits me →
-    Moves l slots id me length_word (λ n. n) (LoadLength ∷ []) (λ x. Value x ∷ [])
+    OperationMoves l slots id me length_word (λ n. n) (LoadLength ∷ []) (λ x. Value x ∷ [])
     (loaded_length (step slots length_word 0 0 none) me)
 loads_length l slots id me busy s r _ at _ =
     let x : ℕ = slice_index s.words length_word in
@@ -87,7 +87,7 @@ pub played_when : (test : Bool) (p : Play) → test ≡ true → when test p ≡
 played_when test p e = ap (λ (b : Bool). when b p) e
 
 pub reserves : (l : Limits) (slots id : ℕ) (me : Sat) (old new : ℕ) → new < old → Sits me →
-    Moves l slots id me length_word (λ x. either (eqb x old) new x) (Reserve old (old - new) ∷ [])
+    OperationMoves l slots id me length_word (λ x. either (eqb x old) new x) (Reserve old (old - new) ∷ [])
     (λ x. exchanged (eqb x old) x ∷ []) (reserved (step slots length_word old new none) me)
 reserves l slots id me old new less busy s r _ at _ =
     let x : ℕ = slice_index s.words length_word in
@@ -132,7 +132,7 @@ reserves l slots id me old new less busy s r _ at _ =
 
 pub adds : (l : Limits) (slots id : ℕ) (me : Sat) (n : ℕ) → 1 ≤ n → n ≤ me.0.view.credit →
     Sits me →
-    Moves l slots id me length_word (λ x. (x + n) % 2 ^ 64) (Add n ∷ []) (λ _. Done ∷ [])
+    OperationMoves l slots id me length_word (λ x. (x + n) % 2 ^ 64) (Add n ∷ []) (λ _. Done ∷ [])
     (added (step slots length_word n 0 none) me)
 adds l slots id me n some_of within busy s r _ at _ =
     let x : ℕ = slice_index s.words length_word in
@@ -192,7 +192,7 @@ module _ (l : Limits) (s : St) (r : Ruled l s) (id : ℕ) (me : Sat) (at : get_e
       (limits_after l s r id me at busy st o u e) id there.0 (view_after None st o me.0.view) there.1)
 
 pub loads_head : (l : Limits) (slots id : ℕ) (me : Sat) → Sits me →
-    Moves l slots id me head_word (λ n. n) (LoadHead ∷ []) (λ x. HeadIs (unpack x) ∷ [])
+    OperationMoves l slots id me head_word (λ n. n) (LoadHead ∷ []) (λ x. HeadIs (unpack x) ∷ [])
     (loaded_head (step slots head_word 0 0 none) me)
 loads_head l slots id me busy s r _ at _ =
     let x : ℕ = slice_index s.words head_word in
@@ -254,7 +254,7 @@ hand_inside l v i own h =
 -- of the link's own word
 loads_own : (l : Limits) (slots id : ℕ) (me : Sat) (i : ℕ) → walks_to me.0.view.look i ≡ true →
     Sits me → Owned me.0.limits me.0.view →
-    Moves l slots id me (link_word i) (λ n. n) (LoadLink i ∷ []) (λ x. Value x ∷ [])
+    OperationMoves l slots id me (link_word i) (λ n. n) (LoadLink i ∷ []) (λ x. Value x ∷ [])
     (loaded_link (step slots (link_word i) 0 0 none) me)
 loads_own l slots id me i may busy own s r _ at _ =
     let x : ℕ = slice_index s.words (link_word i) in
@@ -296,15 +296,15 @@ loads_own l slots id me i may busy own s r _ at _ =
 
 pub loads_link : (l : Limits) (slots id : ℕ) (me : Sat) (i k : ℕ) → k ≡ link_word i →
     walks_to me.0.view.look i ≡ true → Sits me → Owned me.0.limits me.0.view →
-    Moves l slots id me k (λ n. n) (LoadLink i ∷ []) (λ x. Value x ∷ []) (loaded_link (step slots k 0 0 none) me)
+    OperationMoves l slots id me k (λ n. n) (LoadLink i ∷ []) (λ x. Value x ∷ []) (loaded_link (step slots k 0 0 none) me)
 loads_link l slots id me i k word may busy own =
-    subst (λ (j : ℕ). Moves l slots id me j (λ n. n) (LoadLink i ∷ []) (λ x. Value x ∷ [])
+    subst (λ (j : ℕ). OperationMoves l slots id me j (λ n. n) (LoadLink i ∷ []) (λ x. Value x ∷ [])
     (loaded_link (step slots j 0 0 none) me)) (sym word)
     (loads_own l slots id me i may busy own)
 
 stores_own : (l : Limits) (slots id : ℕ) (me : Sat) (i x : ℕ) → 0 < bag me.0.view.hand i →
     x ≤ l.population → Sits me → Owned me.0.limits me.0.view →
-    Moves l slots id me (link_word i) (λ _. x) (StoreLink i (element_of x) ∷ []) (λ _. Done ∷ [])
+    OperationMoves l slots id me (link_word i) (λ _. x) (StoreLink i (element_of x) ∷ []) (λ _. Done ∷ [])
     (λ _. stored_link (step slots (link_word i) x 0 none) me x)
 stores_own l slots id me i x hand small busy own s r _ at _ =
     let w = r.world in
@@ -341,10 +341,10 @@ stores_own l slots id me i x hand small busy own s r _ at _ =
 
 pub stores_link : (l : Limits) (slots id : ℕ) (me : Sat) (i k x : ℕ) → k ≡ link_word i →
     0 < bag me.0.view.hand i → x ≤ l.population → Sits me → Owned me.0.limits me.0.view →
-    Moves l slots id me k (λ _. x) (StoreLink i (element_of x) ∷ []) (λ _. Done ∷ [])
+    OperationMoves l slots id me k (λ _. x) (StoreLink i (element_of x) ∷ []) (λ _. Done ∷ [])
     (λ _. stored_link (step slots k x 0 none) me x)
 stores_link l slots id me i k x word hand small busy own =
-    subst (λ (j : ℕ). Moves l slots id me j (λ _. x) (StoreLink i (element_of x) ∷ []) (λ _. Done ∷ [])
+    subst (λ (j : ℕ). OperationMoves l slots id me j (λ _. x) (StoreLink i (element_of x) ∷ []) (λ _. Done ∷ [])
     (λ _. stored_link (step slots j x 0 none) me x))
     (sym word) (stores_own l slots id me i x hand small busy own)
 
@@ -433,7 +433,7 @@ module _ (l : Limits) (s : St) (r : Ruled l s) (id : ℕ) (me : Sat) (at : get_e
 
 pub cuts : (l : Limits) (slots id : ℕ) (me : Sat) (head : Head) (next old new : ℕ) → old ≡ pack head →
     new ≡ pack (next_head next head.count) → MayCut me.0.view head next → Sits me →
-    Moves l slots id me head_word (λ x. either (eqb x old) new x) (Cut ∷ [])
+    OperationMoves l slots id me head_word (λ x. either (eqb x old) new x) (Cut ∷ [])
     (λ x. cut_found (eqb x old) (front_of me.0.view.look) x ∷ []) (cut_answers (step slots head_word old new none) me)
 cuts l slots id me head next old new was becomes may busy s r _ at _ =
     let x : ℕ = slice_index s.words head_word in
@@ -502,7 +502,7 @@ cuts l slots id me head next old new was becomes may busy s r _ at _ =
 
 pub pushes : (l : Limits) (slots id : ℕ) (me : Sat) (head : Head) (first old new : ℕ) → old ≡ pack head →
     new ≡ pack (next_head first head.count) → MayPush me.0.view head first → Sits me →
-    Moves l slots id me head_word (λ x. either (eqb x old) new x) (Push ∷ []) (λ x. push_found (eqb x old) x ∷ [])
+    OperationMoves l slots id me head_word (λ x. either (eqb x old) new x) (Push ∷ []) (λ x. push_found (eqb x old) x ∷ [])
     (push_answers (step slots head_word old new none) me)
 pushes l slots id me head first old new was becomes may busy s r _ at _ =
     let x : ℕ = slice_index s.words head_word in

@@ -5,7 +5,7 @@ use Rattle.std.proofs.lemmas.Bool.{cases_eq, cond-true, cond-false, eq-eqb, ne_e
 use Rattle.std.proofs.lemmas.List.{length-map, length-set}
 use Rattle.commons.specs.Bag.{bag}
 use Rattle.step_core.specs.declared.view.View.{View}
-use Rattle.step_core.specs.Shows.{standing, Shows, Stands}
+use Rattle.step_core.specs.Shows.{standing, ShowsTable, Stands}
 use Rattle.step_core.specs.Table.{Place, Common, Hand, Held, Table}
 use Rattle.step_core.specs.World.{World, empty_view, view_at, view_of, link_in}
 use Rattle.step_core.proofs.Bags.{times-nil, times-cons, times-head, times-other, times-append}
@@ -173,7 +173,7 @@ module _ (w : World) (k j : ℕ) (here : k < length w.views) (there : j < length
             (cases_eq v (suc j)))
             (cases_eq v (suc k))
 
-  pub takes_over : (t r : Table) → Shows w t → Shows after r → TakesOver w.limits.population (suc k) (suc j) t r
+  pub takes_over : (t r : Table) → ShowsTable w t → ShowsTable after r → TakesOver w.limits.population (suc k) (suc j) t r
   takes_over t r before later i below =
       let same =
       spells_same (link_in w.links) w.head.top before.common later.common before.spelled later.spelled in

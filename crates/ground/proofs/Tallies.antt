@@ -30,7 +30,7 @@ use Rattle.ground.specs.Own.{Owned}
 use Rattle.ground.specs.Rule.{Slot, Sat, Ruled}
 use Rattle.ground.specs.Seats.{KnowsCount}
 use Rattle.ground.specs.StepAnswers.{noted, Noted, exchanged, claim_answers, sole_answers, raise_answers, lower_answers, reset_answers}
-use Rattle.ground.specs.Operations.{Sits, Moves}
+use Rattle.ground.specs.Operations.{Sits, OperationMoves}
 use Rattle.ground.proofs.Playing.{St, tail_of, row_played, law, here, is as is_view, my_limits, steps, read_at}
 use Rattle.ground.proofs.Stepping.{played_when}
 use Rattle.ground.specs.Closing.{lying_on}
@@ -196,7 +196,7 @@ module _ (l : Limits) (s : St) (r : Ruled l s) (id : ℕ) (me : Sat) (at : get_e
 
 pub claims : (l : Limits) (slots id : ℕ) (me : Sat) (i k : ℕ) → k ≡ count_word l.population i →
     i < l.population → 0 < bag me.0.view.hand i → Sits me →
-    Moves l slots id me k (λ n. n) (Claim i ∷ []) (λ x. Value x ∷ []) (claim_answers (step slots k 0 0 none) me)
+    OperationMoves l slots id me k (λ n. n) (Claim i ∷ []) (λ x. Value x ∷ []) (claim_answers (step slots k 0 0 none) me)
 claims l slots id me i k word inside hand busy s r _ at _ =
     let x : ℕ = slice_index s.words k in
     let w = r.world in
@@ -224,7 +224,7 @@ claims l slots id me i k word inside hand busy s r _ at _ =
 
 pub soles : (l : Limits) (slots id : ℕ) (me : Sat) (free : Bool) (i k : ℕ) →
     k ≡ count_word l.population i → i < l.population → 0 < bag me.0.view.holds i → Sits me →
-    Moves l slots id me k (λ n. n) (Sole i free ∷ []) (λ x. Value x ∷ [])
+    OperationMoves l slots id me k (λ n. n) (Sole i free ∷ []) (λ x. Value x ∷ [])
     (sole_answers free (step slots k 0 0 none) me)
 soles l slots id me free i k word inside held busy s r _ at _ =
     let x : ℕ = slice_index s.words k in
@@ -292,7 +292,7 @@ soles l slots id me free i k word inside held busy s r _ at _ =
 pub raises : (l : Limits) (slots id : ℕ) (me : Sat) (i k old new : ℕ) → k ≡ count_word l.population i →
     i < l.population → 0 < bag me.0.view.holds i → old < l.ref_limit → new ≡ old + 1 →
     Sits me →
-    Moves l slots id me k (λ x. either (eqb x old) new x) (Raise i old ∷ []) (λ x. exchanged (eqb x old) x ∷ [])
+    OperationMoves l slots id me k (λ x. either (eqb x old) new x) (Raise i old ∷ []) (λ x. exchanged (eqb x old) x ∷ [])
     (raise_answers (step slots k old new none) me)
 raises l slots id me i k old new word inside held limited next busy s r _ at _ =
     let x : ℕ = slice_index s.words k in
@@ -350,7 +350,7 @@ raises l slots id me i k old new word inside held limited next busy s r _ at _ =
 
 pub lowers : (l : Limits) (slots id : ℕ) (me : Sat) (i k : ℕ) → k ≡ count_word l.population i →
     i < l.population → 0 < bag me.0.view.holds i → Sits me →
-    Moves l slots id me k (λ n. (n + (2 ^ 64 - 1)) % 2 ^ 64) (Lower i ∷ []) (λ x. Value x ∷ [])
+    OperationMoves l slots id me k (λ n. (n + (2 ^ 64 - 1)) % 2 ^ 64) (Lower i ∷ []) (λ x. Value x ∷ [])
     (lower_answers (step slots k 1 0 none) me)
 lowers l slots id me i k word inside held busy s r _ at small =
     let x : ℕ = slice_index s.words k in
@@ -390,7 +390,7 @@ lowers l slots id me i k word inside held busy s r _ at small =
 
 pub resets : (l : Limits) (slots id : ℕ) (me : Sat) (i k : ℕ) → k ≡ count_word l.population i →
     i < l.population → 0 < bag me.0.view.zeros i → Sits me →
-    Moves l slots id me k (λ _. 1) (Reset i ∷ []) (λ _. Done ∷ []) (λ _. reset_answers (step slots k 1 0 none) me 1)
+    OperationMoves l slots id me k (λ _. 1) (Reset i ∷ []) (λ _. Done ∷ []) (λ _. reset_answers (step slots k 1 0 none) me 1)
 resets l slots id me i k word inside zero busy s r _ at _ =
     let w = r.world in
     let v = me.0.view in

@@ -28,8 +28,8 @@ abbrev pub kept_on : ℕ → Option (List Seg) → Option (List Seg)
 kept_on word slot = if word == desk_full then slot else None
 
 -- each of these is the packet of a full desk, by a row of words and one of slots
-abbrev pub IsKept : List ℕ → List (Option (List Seg)) → List (Option (List Seg)) → Type 0
-IsKept words slots kept =
+abbrev pub AreOnFullDesks : List ℕ → List (Option (List Seg)) → List (Option (List Seg)) → Type 0
+AreOnFullDesks words slots kept =
     (k word : ℕ) (slot : Option (List Seg)) → k < length kept → get_elem? words k ≡ some word →
     get_elem? slots k ≡ some slot → get_elem? kept k ≡ some (kept_on word slot)
 

@@ -7,10 +7,10 @@ use Rattle.step_core.specs.declared.step.Step.{Step}
 use Rattle.step_core.specs.declared.step.Step.TheVariants.{Cut, Claim, Sole, Lower, PutIn, TakeOut}
 use Rattle.step_core.specs.declared.step.Outcome.{Outcome}
 use Rattle.step_core.specs.declared.step.Outcome.TheVariants.{Value, Got}
-use Rattle.step_core.specs.Headline.{Gets, Puts, IsHeld}
+use Rattle.step_core.specs.Headline.{EventGets, EventPuts, IsHeld}
 use Rattle.step_core.specs.Headers.{HeaderLaw}
 use Rattle.step_core.specs.Law.{Lawful}
-use Rattle.step_core.specs.Shows.{Shows}
+use Rattle.step_core.specs.Shows.{ShowsTable}
 use Rattle.step_core.specs.Steps.{event_of, play}
 use Rattle.step_core.specs.Table.{Table}
 use Rattle.step_core.specs.World.{World, view_of, desk_at, shelf}
@@ -37,13 +37,13 @@ NoStep P (Joined id other ∷ ms) = NoStep P ms
 
 -- whatever table the world shows, somebody holds the element in it
 abbrev pub IsHeldIn : ℕ → World → Type 0
-IsHeldIn i w = (t : Table) → Shows w t → IsHeld (t i)
+IsHeldIn i w = (t : Table) → ShowsTable w t → IsHeld (t i)
 
 -- the move from this world doesn't give the element: no get lists it, and no put
 abbrev pub LeavesIt : ℕ → World → Move → Type 0
 LeavesIt i w (Stepped id step outcome) =
     (Gives i step outcome → ⊥)
-    × MatchOption (event_of w (suc id) step) ⊤ (λ e. (Gets i e → ⊥) × (Puts i e → ⊥))
+    × MatchOption (event_of w (suc id) step) ⊤ (λ e. (EventGets i e → ⊥) × (EventPuts i e → ⊥))
 LeavesIt i w (Split id) = ⊤
 LeavesIt i w (Lent id j) = ⊤
 LeavesIt i w (Joined id other) = ⊤

@@ -12,7 +12,7 @@ use Rattle.step_core.specs.declared.step.Outcome.{Outcome}
 use Rattle.step_core.specs.declared.step.Outcome.TheVariants.{Won, Found}
 use Rattle.step_core.specs.Law.{Lawful}
 use Rattle.step_core.specs.Schedules.{slot_at}
-use Rattle.step_core.specs.Shows.{Shows, Happens}
+use Rattle.step_core.specs.Shows.{ShowsTable, Happens}
 use Rattle.step_core.specs.Steps.{play, event_of}
 use Rattle.step_core.specs.Table.{Place, Common, Hand, Held, Table, Same, SameTable, Where}
 use Rattle.step_core.specs.Handing.{put_by}
@@ -51,20 +51,20 @@ pub data Move : Type 0 where
   Joined : (seat other : ℕ) → Move
 
 -- from the world w, of which these are the logs, the move leads to the world u and its logs
-abbrev pub Leads : Move → World → List Log → World → List Log → Type 0
-Leads (Stepped id step outcome) w logs u after =
+abbrev pub MoveLeads : Move → World → List Log → World → List Log → Type 0
+MoveLeads (Stepped id step outcome) w logs u after =
     (0 < (view_at w.views id).part) × (play w (suc id) step ≡ Some (outcome, u))
     × ((log : Log) × (get_elem? logs id ≡ some log)
     × (after ≡ slice_set logs id (log.0 ++ notes_of step outcome (slot_at w.desks step), log.1)))
-Leads (Split id) w logs u after =
+MoveLeads (Split id) w logs u after =
     (worker_part < (view_at w.views id).part)
     × (u ≡ record w { views = slice_set w.views id (less (view_at w.views id)) ++ empty_view worker_part ∷ [] })
     × (after ≡ logs ++ ([], []) ∷ [])
-Leads (Lent id i) w logs u after =
+MoveLeads (Lent id i) w logs u after =
     (2 ≤ (view_at w.views id).part) × AtRest (view_at w.views id) × (0 < bag (view_at w.views id).hand i)
     × (u ≡ record w { views = slice_set w.views id (lending i (view_at w.views id)) ++ loan_of i ∷ [] })
     × (after ≡ logs ++ ([], []) ∷ [])
-Leads (Joined id other) w logs u after =
+MoveLeads (Joined id other) w logs u after =
     (other ≢ id) × AtRest (view_at w.views id) × AtRest (view_at w.views other)
     × (u ≡ record w {
       views =
@@ -79,12 +79,12 @@ Leads (Joined id other) w logs u after =
 abbrev pub Led : Limits → List Move → World → List Log → Type 0
 Led l [] w logs = (w ≡ opening_alone l) × (logs ≡ ([], []) ∷ [])
 Led l (m ∷ ms) w logs =
-    (v : World) × (before : List Log) × Lawful v × Led l ms v before × Leads m v before w logs
+    (v : World) × (before : List Log) × Lawful v × Led l ms v before × MoveLeads m v before w logs
 
 -- of n elements, i has gone from the first worker's hand to the second's, and each other one is
 -- where it was
-abbrev pub GoesOn : (n i worker other : ℕ) → Table → Table → Type 0
-GoesOn n i worker other t r =
+abbrev pub GoesToHand : (n i worker other : ℕ) → Table → Table → Type 0
+GoesToHand n i worker other t r =
     (j : ℕ) → j < n → Where j (i ∷ []) ((t j ≡ Hand worker) × (r j ≡ Hand other)) (Same (t j) (r j))
 
 -- the worker whose something is, once what the second had is the first's, and the place of an
@@ -109,18 +109,18 @@ TakesOver n worker other t r = (j : ℕ) → j < n → Same (taken_over worker o
 abbrev pub AreEvents : (l : Limits) (ms : List Move) (w : World) (logs : List Log) → Led l ms w logs → Type 0
 AreEvents l [] w logs led = ⊤
 AreEvents l (Stepped id step outcome ∷ ms) w logs led =
-    ((t r : Table) → Shows led.0 t → Shows w r →
+    ((t r : Table) → ShowsTable led.0 t → ShowsTable w r →
     Happens led.0.limits.population (suc id) (event_of led.0 (suc id) step) t r)
     × AreEvents l ms led.0 led.1 led.3
 AreEvents l (Split id ∷ ms) w logs led =
-    ((t r : Table) → Shows led.0 t → Shows w r → SameTable led.0.limits.population t r)
+    ((t r : Table) → ShowsTable led.0 t → ShowsTable w r → SameTable led.0.limits.population t r)
     × AreEvents l ms led.0 led.1 led.3
 AreEvents l (Lent id i ∷ ms) w logs led =
-    ((t r : Table) → Shows led.0 t → Shows w r →
-    GoesOn led.0.limits.population i (suc id) (suc (length led.0.views)) t r)
+    ((t r : Table) → ShowsTable led.0 t → ShowsTable w r →
+    GoesToHand led.0.limits.population i (suc id) (suc (length led.0.views)) t r)
     × AreEvents l ms led.0 led.1 led.3
 AreEvents l (Joined id other ∷ ms) w logs led =
-    ((t r : Table) → Shows led.0 t → Shows w r →
+    ((t r : Table) → ShowsTable led.0 t → ShowsTable w r →
     TakesOver led.0.limits.population (suc id) (suc other) t r)
     × AreEvents l ms led.0 led.1 led.3
 

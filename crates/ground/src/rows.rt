@@ -5,7 +5,7 @@ ghost use Rattle.std.specs.Slots.{IsFull, slots_items, slots_len, slots_filled};
 ghost use Rattle.std.specs.Vec.{vec_len, vec_capacity};
 ghost use Rattle.commons.specs.Bounds.{IsPool, max_population};
 ghost use Rattle.step_core.specs.Opening.{links_up};
-ghost use Rattle.ground.specs.Closing.{IsKept, kept_on};
+ghost use Rattle.ground.specs.Closing.{AreOnFullDesks, kept_on};
 ghost use Rattle.ground.specs.Opening.{opening_words};
 
 use crate::head::word_of;
@@ -110,7 +110,7 @@ pub(crate) fn read_desks(
     requires nothing { (out.old.items ≡ []) × (vec_len out.old ≡ 0) }
     requires room { slots_len left.old.slots ≤ vec_capacity out.old }
     ensures count { length out.new.items ≡ slots_len left.old.slots }
-    ensures desks { IsKept (drop from (slots_items left.old.words)) (slots_items left.old.slots) out.new.items }
+    ensures desks { AreOnFullDesks (drop from (slots_items left.old.words)) (slots_items left.old.slots) out.new.items }
     ensures slots { slots_len left.new.slots ≡ slots_len left.old.slots }
     ensures empty { (k : ℕ) → k < slots_len left.new.slots → slice_index_or (slots_filled left.new.slots) k false ≡ false }
 {

@@ -37,9 +37,9 @@ Plays st (Ok o) s t = Took st o s t
 Plays st (Err cause) s t = t ≡ s
 
 -- the view moved as the step says, and its chain is of the pool where it was before
-abbrev pub Moves : Step → Result Outcome Refusal → View → View → Type 0
-Moves st (Ok o) v w = (w ≡ view_after None st o v) × (IsInPool v → IsInPool w)
-Moves st (Err cause) v w = w ≡ v
+abbrev pub ViewMoves : Step → Result Outcome Refusal → View → View → Type 0
+ViewMoves st (Ok o) v w = (w ≡ view_after None st o v) × (IsInPool v → IsInPool w)
+ViewMoves st (Err cause) v w = w ≡ v
 
 -- the slots that are out with a seat which has this work, where this packet is in the slot, or none
 abbrev pub slots_at : Option Work → Option (List Seg) → List (ℕ × Option (List Seg))

@@ -6,7 +6,7 @@ ghost use Rattle.commons.specs.Bounds.{max_population};
 ghost use Rattle.step_core.specs.Views.{LinkOf};
 ghost use Rattle.step_core.specs.declared.step.Step.TheVariants.{LoadLength, Reserve, Add, LoadHead, LoadLink, Cut, StoreLink, Push};
 ghost use Rattle.ground.specs.Seats.{IsOf};
-ghost use Rattle.ground_tests.specs.Playing.{IsInPool, Plays, Moves};
+ghost use Rattle.ground_tests.specs.Playing.{IsInPool, Plays, ViewMoves};
 
 use commons::refusal::Refusal;
 use ground::pool::Ground;
@@ -25,7 +25,7 @@ pub(crate) fn load_length(
     requires of { IsOf ground.now seat.old }
     requires same { view.old ≡ seat.old.known.view }
     ensures plays { Plays LoadLength result seat.old seat.new }
-    ensures moves { Moves LoadLength result view.old view.new }
+    ensures moves { ViewMoves LoadLength result view.old view.new }
 {
     Ok(Outcome::Value(ground.load_length(seat)))
 }
@@ -42,7 +42,7 @@ pub(crate) fn reserve(
     requires of { IsOf ground.now seat.old }
     requires same { view.old ≡ seat.old.known.view }
     ensures plays { Plays (Reserve old n) result seat.old seat.new }
-    ensures moves { Moves (Reserve old n) result view.old view.new }
+    ensures moves { ViewMoves (Reserve old n) result view.old view.new }
 {
     if n < 1 || n > old || n > u64::MAX - view.credit {
         return Err(Refusal::StepRefused);
@@ -66,7 +66,7 @@ pub(crate) fn add(
     requires of { IsOf ground.now seat.old }
     requires same { view.old ≡ seat.old.known.view }
     ensures plays { Plays (Add n) result seat.old seat.new }
-    ensures moves { Moves (Add n) result view.old view.new }
+    ensures moves { ViewMoves (Add n) result view.old view.new }
 {
     if n < 1 || n > view.credit {
         return Err(Refusal::StepRefused);
@@ -86,7 +86,7 @@ pub(crate) fn load_head(
     requires of { IsOf ground.now seat.old }
     requires same { view.old ≡ seat.old.known.view }
     ensures plays { Plays LoadHead result seat.old seat.new }
-    ensures moves { Moves LoadHead result view.old view.new }
+    ensures moves { ViewMoves LoadHead result view.old view.new }
 {
     let head = ground.load_head(seat);
     view.look = Some(Look {
@@ -108,7 +108,7 @@ pub(crate) fn load_link(
     requires of { IsOf ground.now seat.old }
     requires same { view.old ≡ seat.old.known.view }
     ensures plays { Plays (LoadLink element) result seat.old seat.new }
-    ensures moves { Moves (LoadLink element) result view.old view.new }
+    ensures moves { ViewMoves (LoadLink element) result view.old view.new }
 {
     if element >= ground.limits().population || !view.walks_to(element) {
         return Err(Refusal::StepRefused);
@@ -133,7 +133,7 @@ pub(crate) fn cut(
     requires of { IsOf ground.now seat.old }
     requires same { view.old ≡ seat.old.known.view }
     ensures plays { Plays Cut result seat.old seat.new }
-    ensures moves { Moves Cut result view.old view.new }
+    ensures moves { ViewMoves Cut result view.old view.new }
 {
     let Some((head, next)) = view.cut_expected() else {
         return Err(Refusal::StepRefused);
@@ -186,7 +186,7 @@ pub(crate) fn store_link(
     requires same { view.old ≡ seat.old.known.view }
     requires in_pool { IsInPool view.old }
     ensures plays { Plays (StoreLink element next) result seat.old seat.new }
-    ensures moves { Moves (StoreLink element next) result view.old view.new }
+    ensures moves { ViewMoves (StoreLink element next) result view.old view.new }
 {
     let population = ground.limits().population;
     let Some(link) = link_value(population, next) else {
@@ -226,7 +226,7 @@ pub(crate) fn push(
     requires same { view.old ≡ seat.old.known.view }
     requires in_pool { IsInPool view.old }
     ensures plays { Plays Push result seat.old seat.new }
-    ensures moves { Moves Push result view.old view.new }
+    ensures moves { ViewMoves Push result view.old view.new }
 {
     let Some((head, first)) = view.push_expected() else {
         return Err(Refusal::StepRefused);

@@ -4,7 +4,7 @@
 ghost use Rattle.std.specs.Prelude.{◌≡◌};
 ghost use Rattle.step_core.specs.declared.step.Step.TheVariants.{Claim, Sole, Raise, Lower, Reset};
 ghost use Rattle.ground.specs.Seats.{IsOf};
-ghost use Rattle.ground_tests.specs.Playing.{Plays, Moves};
+ghost use Rattle.ground_tests.specs.Playing.{Plays, ViewMoves};
 
 use commons::refusal::Refusal;
 use ground::pool::Ground;
@@ -22,7 +22,7 @@ pub(crate) fn claim(
     requires of { IsOf ground.now seat.old }
     requires same { view.old ≡ seat.old.known.view }
     ensures plays { Plays (Claim element) result seat.old seat.new }
-    ensures moves { Moves (Claim element) result view.old view.new }
+    ensures moves { ViewMoves (Claim element) result view.old view.new }
 {
     let Some(known) = view.hand.find(element) else {
         return Err(Refusal::StepRefused);
@@ -46,7 +46,7 @@ pub(crate) fn sole(
     requires of { IsOf ground.now seat.old }
     requires same { view.old ≡ seat.old.known.view }
     ensures plays { Plays (Sole element free) result seat.old seat.new }
-    ensures moves { Moves (Sole element free) result view.old view.new }
+    ensures moves { ViewMoves (Sole element free) result view.old view.new }
 {
     let Some(known) = view.holds.find(element) else {
         return Err(Refusal::StepRefused);
@@ -76,7 +76,7 @@ pub(crate) fn raise(
     requires of { IsOf ground.now seat.old }
     requires same { view.old ≡ seat.old.known.view }
     ensures plays { Plays (Raise element old) result seat.old seat.new }
-    ensures moves { Moves (Raise element old) result view.old view.new }
+    ensures moves { ViewMoves (Raise element old) result view.old view.new }
 {
     if old >= ground.limits().ref_limit {
         return Err(Refusal::StepRefused);
@@ -107,7 +107,7 @@ pub(crate) fn lower(
     requires of { IsOf ground.now seat.old }
     requires same { view.old ≡ seat.old.known.view }
     ensures plays { Plays (Lower element) result seat.old seat.new }
-    ensures moves { Moves (Lower element) result view.old view.new }
+    ensures moves { ViewMoves (Lower element) result view.old view.new }
 {
     let Some(known) = view.holds.find(element) else {
         return Err(Refusal::StepRefused);
@@ -135,7 +135,7 @@ pub(crate) fn reset(
     requires of { IsOf ground.now seat.old }
     requires same { view.old ≡ seat.old.known.view }
     ensures plays { Plays (Reset element) result seat.old seat.new }
-    ensures moves { Moves (Reset element) result view.old view.new }
+    ensures moves { ViewMoves (Reset element) result view.old view.new }
 {
     let Some(known) = view.zeros.find(element) else {
         return Err(Refusal::StepRefused);

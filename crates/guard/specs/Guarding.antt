@@ -34,38 +34,38 @@ AreSome ys xs = (zs : List ℕ) × AreCut ys zs xs
 -- can't lend as many, and nothing was done; or its part is greater, and the seat got them, and each
 -- rests at its place, out; or the get was refused; or a place had no room: the elements are in the
 -- seat's hand, but for those that were put since.
-abbrev pub Gets : ℕ → Result (List ℕ) Cause → Seated → Seated → Type 0
-Gets n (Err LentOut) s t = (s.known.view.part ≤ n) × (t ≡ s)
-Gets n (Ok xs) s t =
+abbrev pub GetsGuarded : ℕ → Result (List ℕ) Cause → Seated → Seated → Type 0
+GetsGuarded n (Err LentOut) s t = (s.known.view.part ≤ n) × (t ≡ s)
+GetsGuarded n (Ok xs) s t =
     (n < s.known.view.part) × (u : Seated) × Did DidOnWords side_of s (GetList n (Ok xs)) u × Rest xs u t
-Gets n (Err (Refused cause)) s t =
+GetsGuarded n (Err (Refused cause)) s t =
     (n < s.known.view.part) × Did DidOnWords side_of s (GetList n (Err cause)) t
-Gets n (Err Unrested) s t =
+GetsGuarded n (Err Unrested) s t =
     (n < s.known.view.part) × (xs : List ℕ) × (ys : List ℕ) × (u : Seated)
     × Did DidOnWords side_of s (GetList n (Ok xs)) u × AreSome ys xs × Rest ys u t
 
 -- What becomes of elements that were taken off their places, by the answer: they are on the stack;
 -- or the push was refused, and they rest as before; or some of them are in the seat's hand, since a
 -- place had no room.
-abbrev pub GoesOn : List ℕ → Result (Unit {0}) Cause → Seated → Seated → Type 0
-GoesOn xs (Ok met) u t = Did DidOnWords side_of u (PutList xs (Ok met)) t
-GoesOn xs (Err (Refused cause)) u t =
+abbrev pub GuardedGoOn : List ℕ → Result (Unit {0}) Cause → Seated → Seated → Type 0
+GuardedGoOn xs (Ok met) u t = Did DidOnWords side_of u (PutList xs (Ok met)) t
+GuardedGoOn xs (Err (Refused cause)) u t =
     (w : Seated) × Did DidOnWords side_of u (PutList xs (Err cause)) w × Rest xs w t
-GoesOn xs (Err LentOut) u t = ⊥
-GoesOn xs (Err Unrested) u t =
+GuardedGoOn xs (Err LentOut) u t = ⊥
+GuardedGoOn xs (Err Unrested) u t =
     (cause : Refusal) × (ys : List ℕ) × (w : Seated) × Did DidOnWords side_of u (PutList xs (Err cause)) w
     × AreSome ys xs × Rest ys w t
 
 -- What a put of the elements that rested at their places did, by its answer: nothing where none
 -- rested; else the seat has taken them.
-abbrev pub Puts : List ℕ → Result (Unit {0}) Cause → Seated → Seated → Type 0
-Puts xs answer s t =
-    ((length xs ≡ 0) × (answer ≡ Ok tt) × Rest [] t s) ⊎ ((u : Seated) × Rest xs u s × GoesOn xs answer u t)
+abbrev pub PutsGuarded : List ℕ → Result (Unit {0}) Cause → Seated → Seated → Type 0
+PutsGuarded xs answer s t =
+    ((length xs ≡ 0) × (answer ≡ Ok tt) × Rest [] t s) ⊎ ((u : Seated) × Rest xs u s × GuardedGoOn xs answer u t)
 
 -- the answer of a get, with the list that it gave
-abbrev pub with_list : Result (Unit {0}) Cause → List ℕ → Result (List ℕ) Cause
-with_list (Ok met) xs = Ok xs
-with_list (Err cause) xs = Err cause
+abbrev pub guarded_list : Result (Unit {0}) Cause → List ℕ → Result (List ℕ) Cause
+guarded_list (Ok met) xs = Ok xs
+guarded_list (Err cause) xs = Err cause
 
 -- why a pool isn't made
 abbrev pub IsMakeCause : Limits → Refusal → Type 0

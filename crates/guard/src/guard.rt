@@ -4,7 +4,7 @@ ghost use Rattle.std.specs.Prelude.{◌≡◌, ◌+◌, ◌<◌, ◌≤◌, ℕ,
 ghost use Rattle.commons.specs.Bag.{bag};
 ghost use Rattle.ground.specs.Own.{AtRest};
 ghost use Rattle.ground.specs.Seats.{IsOf};
-ghost use Rattle.guard.specs.Guarding.{Rest, AreCut, AreSome, Gets, Puts, IsMakeCause, with_list};
+ghost use Rattle.guard.specs.Guarding.{Rest, AreCut, AreSome, GetsGuarded, PutsGuarded, IsMakeCause, guarded_list};
 ghost use Rattle.guard.specs.Spots.{HasSpots, IsLoanOf, spot};
 ghost use Rattle.lending.specs.Lent.{loaned};
 ghost use Rattle.step_core.specs.World.{every_part};
@@ -113,7 +113,7 @@ impl Guard {
         count
     }
 
-    /// Gets as many elements as `out` has places: all of them, or none. Each is out then, with this
+    /// GetsGuarded as many elements as `out` has places: all of them, or none. Each is out then, with this
     /// number.
     ///
     /// Refused `LentOut` where the seat's part of the pool is no greater than the list, else as
@@ -123,7 +123,7 @@ impl Guard {
         requires of { IsOf self.now seat }
         requires who { 2 ≤ who }
         requires some { 0 < length out.old }
-        ensures done { Gets (length out.old) (with_list result.0 out.new) seat result.1 }
+        ensures done { GetsGuarded (length out.old) (guarded_list result.0 out.new) seat result.1 }
         ensures of { IsOf self.now result.1 }
     {
         let part = seat.part();
@@ -143,7 +143,7 @@ impl Guard {
         }
     }
 
-    /// Puts a list of whatever numbers, as far as they are out: by whichever seat they were got.
+    /// PutsGuarded a list of whatever numbers, as far as they are out: by whichever seat they were got.
     /// Those that were out come first in the list then, and the answer says how many; behind them
     /// are those that weren't out: that were put before, or twice in this list, or never got, or
     /// that are none of the pool. `words` has of each number of the list, as it stands now, the
@@ -164,7 +164,7 @@ impl Guard {
         ensures count { result.0 ≤ length list.new }
         ensures out { All (λ w. 2 ≤ w) (take result.0 words.new) }
         ensures refused { All (λ w. w < 2) (drop result.0 words.new) }
-        ensures done { Puts (take result.0 list.new) result.1 seat result.2 }
+        ensures done { PutsGuarded (take result.0 list.new) result.1 seat result.2 }
         ensures once { (i : ℕ) → bag seat.known.view.hand i + bag (take result.0 list.new) i ≤ 1 }
         ensures of { IsOf self.now result.2 }
     {

@@ -3,7 +3,7 @@
 ghost use Rattle.std.specs.Prelude.{◌≡◌, ◌+◌, ◌<◌, ◌≤◌, ℕ, All, [], length, take, drop, None, Some, IfOk, IfErr, OnOk, OnErr};
 ghost use Rattle.commons.specs.Bag.{bag};
 ghost use Rattle.commons.specs.Bounds.{IsPool};
-ghost use Rattle.commons.specs.Calls.{Calls, with_list as with_elements};
+ghost use Rattle.commons.specs.Calls.{Calls, guarded_list as with_elements};
 ghost use Rattle.ground.specs.Own.{AtRest};
 ghost use Rattle.ground.specs.Parting.{less_part, newcomer};
 ghost use Rattle.ground.specs.Seats.{IsOf};
@@ -14,7 +14,7 @@ ghost use Rattle.stack_lf.specs.Sides.{side_of};
 ghost use Rattle.stack_lf.specs.Tries.{DidOnWords};
 ghost use Rattle.step_core.specs.World.{every_part, worker_part};
 ghost use Rattle.guard.specs.Caching.{CachedFlushes, CachedGets, CachedPuts};
-ghost use Rattle.guard.specs.Guarding.{IsMakeCause, IsSplitCause, with_list};
+ghost use Rattle.guard.specs.Guarding.{IsMakeCause, IsSplitCause, guarded_list};
 
 use crate::cause::Cause;
 use crate::guard::Guard;
@@ -162,7 +162,7 @@ impl GuardWorker {
     #[inline(always)]
     pub fn get(&mut self, who: u64, out: &mut [u32]) -> Result<(), Cause>
         requires who { 2 ≤ who }
-        ensures { CachedGets (length out.old) (with_list result out.new) self.old self.new }
+        ensures { CachedGets (length out.old) (guarded_list result out.new) self.old self.new }
     {
         let n = out.len() as u64;
         if self.part <= n {

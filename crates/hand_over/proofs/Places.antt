@@ -3,7 +3,7 @@ use Rattle.std.proofs.Common.{◌≡◌, ◌≢◌, ℕ, zero, suc, ◌<◌, Lis
 use Rattle.commons.specs.Bag.{bag}
 use Rattle.step_core.specs.declared.view.View.{View}
 use Rattle.step_core.specs.Table.{Table, Hand, Same, Where}
-use Rattle.step_core.specs.Shows.{standing, Shows}
+use Rattle.step_core.specs.Shows.{standing, ShowsTable}
 use Rattle.step_core.specs.World.{World, view_at, view_of, link_in}
 use Rattle.step_core.proofs.Bags.{times-append}
 use Rattle.step_core.proofs.Events.{Alike, same_at}
@@ -45,7 +45,7 @@ module _ (w : World) (j k : ℕ) (xs : List ℕ) (apart : j ≢ k) (u : World) (
         desk = λ d. refl;
       }
 
-  pub moves_them : (t r : Table) → Shows w t → Shows after r → (i : ℕ) → i < w.limits.population →
+  pub moves_them : (t r : Table) → ShowsTable w t → ShowsTable after r → (i : ℕ) → i < w.limits.population →
       Where i xs ((t i ≡ Hand (suc j)) × (r i ≡ Hand (suc k))) (Same (t i) (r i))
   moves_them t r before later i below = (
     λ some. (
@@ -66,4 +66,4 @@ module _ (w : World) (j k : ℕ) (xs : List ℕ) (apart : j ≢ k) (u : World) (
 
 pub passing_moves_them : PassingMovesThem
 passing_moves_them w u j k xs apart p t r before later i below =
-    moves_them w j k xs apart u p t r before (subst (λ (x : World). Shows x r) p.after later) i below
+    moves_them w j k xs apart u p t r before (subst (λ (x : World). ShowsTable x r) p.after later) i below

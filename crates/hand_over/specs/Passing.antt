@@ -11,7 +11,7 @@ use Rattle.step_core.specs.Kept.{IsWorld}
 use Rattle.step_core.specs.declared.step.Outcome.{Outcome}
 use Rattle.step_core.specs.declared.step.Step.{Step}
 use Rattle.step_core.specs.Table.{Table, Hand, Same, Where}
-use Rattle.step_core.specs.Shows.{Shows}
+use Rattle.step_core.specs.Shows.{ShowsTable}
 use Rattle.step_core.specs.Steps.{play, event_of}
 
 -- a view with another hand
@@ -75,7 +75,7 @@ PassingKeepsHeaders =
 abbrev pub PassingMovesThem : Type 0
 PassingMovesThem =
     (w u : World) (j k : ℕ) (xs : List ℕ) → j ≢ k → PassesHand w u j k xs →
-    (t r : Table) → Shows w t → Shows u r → (i : ℕ) → i < w.limits.population →
+    (t r : Table) → ShowsTable w t → ShowsTable u r → (i : ℕ) → i < w.limits.population →
     Where i xs ((t i ≡ Hand (suc j)) × (r i ≡ Hand (suc k))) (Same (t i) (r i))
 
 -- both are refused, or both are played with one outcome, and between the worlds afterwards the same

@@ -33,9 +33,9 @@ pub record IsLent (xs : List ℕ) (s : Seated) (x : Loans) (t : Seated) (y : Loa
   pub lent : (i : ℕ) → bag y.lent i ≡ bag x.lent i + bag xs i
 
 -- the answer of a get, with the list that it gave
-abbrev pub with_list : Result (Unit {0}) Cause → List ℕ → Result (List ℕ) Cause
-with_list (Ok met) xs = Ok xs
-with_list (Err cause) xs = Err cause
+abbrev pub lent_list : Result (Unit {0}) Cause → List ℕ → Result (List ℕ) Cause
+lent_list (Ok met) xs = Ok xs
+lent_list (Err cause) xs = Err cause
 
 -- What a get of n elements did, by its answer: the seat has so small a part of the pool that it
 -- can't lend as many, and nothing was done; or its part is greater, and the seat got them, and they
@@ -48,16 +48,16 @@ GetsLoans n (Err (Refused cause)) s x t y =
     (n < s.known.view.part) × Did DidOnWords side_of s (GetList n (Err cause)) t × (y ≡ x)
 
 -- what becomes of elements that were to be put: they are on the stack, or lent as before
-abbrev pub GoesOn : List ℕ → Result (Unit {0}) Refusal → Seated → Loans → Seated → Loans → Type 0
-GoesOn xs (Ok _) s x t y = (t ≡ s) × (y ≡ x)
-GoesOn xs (Err cause) s x t y = IsLent xs s x t y
+abbrev pub LoansGoOn : List ℕ → Result (Unit {0}) Refusal → Seated → Loans → Seated → Loans → Type 0
+LoansGoOn xs (Ok _) s x t y = (t ≡ s) × (y ≡ x)
+LoansGoOn xs (Err cause) s x t y = IsLent xs s x t y
 
 -- What a put of a list did, by its answer: the seat took the loans in, and put the elements; or its
 -- put was refused, and they are lent again.
 abbrev pub PutsLoans : List ℕ → Result (Unit {0}) Refusal → Seated → Loans → Seated → Loans → Type 0
 PutsLoans xs answer s x t y =
     (u : Seated) × (w : Seated) × (z : Loans) × IsLent xs u z s x
-    × Did DidOnWords side_of u (PutList xs answer) w × GoesOn xs answer w z t y
+    × Did DidOnWords side_of u (PutList xs answer) w × LoansGoOn xs answer w z t y
 
 -- why a seat with this part of the pool isn't split: the pool has no more workers; or as much of
 -- the part is lent; or memory was refused

@@ -2,7 +2,7 @@
 
 ghost use Rattle.std.specs.Prelude.{◌≡◌, ◌<◌, ◌≤◌, ◌++◌, ℕ, List, [], length};
 ghost use Rattle.commons.specs.Bag.{bag};
-ghost use Rattle.commons.specs.Calls.{Did, GetList, PutList, CommonCount, with_list as with_elements};
+ghost use Rattle.commons.specs.Calls.{Did, GetList, PutList, CommonCount, lent_list as with_elements};
 ghost use Rattle.ground.specs.Own.{AtRest};
 ghost use Rattle.ground.specs.Seats.{IsOf};
 ghost use Rattle.step_core.specs.World.{worker_part};
@@ -45,7 +45,7 @@ impl Model for Lender {
 impl Lender {
     ghost use Rattle.ground.specs.Own.{Owned};
     ghost use Rattle.ground.specs.Parting.{less_part, newcomer};
-    ghost use Rattle.lending.specs.Lending.{GetsLoans, PutsLoans, with_list};
+    ghost use Rattle.lending.specs.Lending.{GetsLoans, PutsLoans, lent_list};
 
     /// A lender by this seat, which is at rest and has this part.
     pub fn new(seat: GroundSeat, part: u64) -> Lender
@@ -130,7 +130,7 @@ impl Lender {
         requires of { IsOf ground.now self }
         requires loans { AreOf ground.now loans.old }
         requires some { 0 < length out.old }
-        ensures { GetsLoans (length out.old) (with_list result.0 out.new) self loans.old result.1 loans.new }
+        ensures { GetsLoans (length out.old) (lent_list result.0 out.new) self loans.old result.1 loans.new }
     {
         let Lender { seat, part } = self;
         let n = out.len() as u64;

@@ -8,18 +8,18 @@ use Rattle.std.proofs.Math.Seq.{map-set_same}
 use Rattle.std.specs.Prelude.{Some, flat_map, slice_index_or}
 use Rattle.ground.specs.Seats.{Grounded}
 use Rattle.word_pool.specs.Lost.{AreLeft, AreLostOf}
-use Rattle.word_pool.specs.Workers.{IsWorker, Manned}
-use Rattle.mbufpool_c.specs.Closes.{AreApart, AreEmpty, Closes, HasClosed, HasOneOf, HaveSame, IsSettled, number_in, numbers_in, values_of}
-use Rattle.mbufpool_c.specs.inside.Halls.{AreAbove}
+use Rattle.word_pool.specs.Workers.{IsWorker, WorkerState}
+use Rattle.mbufpool_c.specs.Closes.{AreApart, AreEmpty, Closes, HasClosed, HasOneOf, HaveSame, IsSettled, worker_number, numbers_in, values_of}
+use Rattle.mbufpool_c.specs.inside.Shared.{AreAbove}
 use Rattle.mbufpool_c.specs.declared.ending.Ending.{Ending}
 use Rattle.mbufpool_c.specs.declared.worker_handle.WorkerHandle.{WorkerHandle}
 
 -- the numbers of handles and of one more
-joined : (hs : List WorkerHandle) (h : WorkerHandle) → numbers_in (hs ++ h ∷ []) ≡ numbers_in hs ++ number_in h.value
+joined : (hs : List WorkerHandle) (h : WorkerHandle) → numbers_in (hs ++ h ∷ []) ≡ numbers_in hs ++ worker_number h.value
 joined hs h =
-    ap (flat_map number_in) (map-append (λ (x : WorkerHandle). x.value) hs (h ∷ []))
-    ∙ flat_map-append number_in (values_of hs) (h.value ∷ [])
-    ∙ ap (λ (ws : List ℕ). numbers_in hs ++ ws) (append-nil (number_in h.value))
+    ap (flat_map worker_number) (map-append (λ (x : WorkerHandle). x.value) hs (h ∷ []))
+    ∙ flat_map-append worker_number (values_of hs) (h.value ∷ [])
+    ∙ ap (λ (ws : List ℕ). numbers_in hs ++ ws) (append-nil (worker_number h.value))
 
 -- a handle that has what it had changes nothing
 pub keeps_at : (old new : List WorkerHandle) (k : ℕ) (h d : WorkerHandle) → HaveSame old new →
@@ -32,8 +32,8 @@ pub empty_at : (old new : List WorkerHandle) (k : ℕ) (d : WorkerHandle) → Ha
 empty_at old new k d same low empty =
     let more : k < length (values_of new) = omega (arith, low, length-map new (λ (x : WorkerHandle). x.value)) in
     sym (get_or-map (λ (x : WorkerHandle). x.value) new k d None low)
-    ∙ All-get_or (λ (v : Option Manned). v ≡ None) (values_of new) k None more
-    (subst (All (λ (v : Option Manned). v ≡ None)) (sym same) empty)
+    ∙ All-get_or (λ (v : Option WorkerState). v ≡ None) (values_of new) k None more
+    (subst (All (λ (v : Option WorkerState). v ≡ None)) (sym same) empty)
 
 -- the handles before place k are empty, and so is the one there
 pub emptied_more : (hs : List WorkerHandle) (k : ℕ) (h : WorkerHandle) → k < length hs → h.value ≡ None →
@@ -61,16 +61,16 @@ others_stay old hs k h stay j d past =
 pub all_empty : (hs : List WorkerHandle) → ((j : ℕ) (d : WorkerHandle) → j < length hs → (get_or hs j d).value ≡ None) → AreEmpty hs
 all_empty [] each = λ k d low. absurd (omega (arith, low))
 all_empty (h ∷ hs) each =
-    All-from_get_or (λ (v : Option Manned). v ≡ None) (values_of (h ∷ hs)) None (λ j low.
+    All-from_get_or (λ (v : Option WorkerState). v ≡ None) (values_of (h ∷ hs)) None (λ j low.
     let there : j < length (h ∷ hs) = omega (arith, low, length-map (h ∷ hs) (λ (x : WorkerHandle). x.value)) in
     get_or-map (λ (x : WorkerHandle). x.value) (h ∷ hs) j h None there ∙ each j h there)
 
 -- the number of one more worker is noted
-pub noted_more : (old : List WorkerHandle) (k : ℕ) (d : WorkerHandle) (v : Option Manned) (xs : List ℕ) → k < length old →
-    v ≡ (get_or old k d).value → xs ≡ numbers_in (take k old) → xs ++ number_in v ≡ numbers_in (take (k + 1) old)
+pub noted_more : (old : List WorkerHandle) (k : ℕ) (d : WorkerHandle) (v : Option WorkerState) (xs : List ℕ) → k < length old →
+    v ≡ (get_or old k d).value → xs ≡ numbers_in (take k old) → xs ++ worker_number v ≡ numbers_in (take (k + 1) old)
 noted_more old k d v xs low is noted =
-    ap (λ (ys : List ℕ). ys ++ number_in v) noted
-    ∙ ap (λ (w : Option Manned). numbers_in (take k old) ++ number_in w) is
+    ap (λ (ys : List ℕ). ys ++ worker_number v) noted
+    ∙ ap (λ (w : Option WorkerState). numbers_in (take k old) ++ worker_number w) is
     ∙ sym (ap numbers_in (take_more old k d low)
     ∙ joined (take k old) (get_or old k d))
 
@@ -89,7 +89,7 @@ empty_of [] none = refl
 empty_of (x ∷ xs) none = absurd (omega (arith, none))
 
 -- all workers are settled
-pub closed_all : (numbers : List ℕ) (g : Grounded) (ms : List Manned) (missing : List ℕ) (e : Ending) →
+pub closed_all : (numbers : List ℕ) (g : Grounded) (ms : List WorkerState) (missing : List ℕ) (e : Ending) →
     AreAbove g 0 ms missing → missing ≡ [] → length ms ≡ length numbers → AreApart numbers missing →
     IsSettled g [] ms e → HasClosed g numbers e
 closed_all numbers g ms missing e are none as_many apart settled = record {
@@ -101,13 +101,13 @@ closed_all numbers g ms missing e are none as_many apart settled = record {
   settled = subst (λ (ws : List ℕ). IsSettled g ws ms e) (sym none) settled;
 }
 
-settled_some : (g : Grounded) (ms : List Manned) (missing : List ℕ) (e : Ending) → 0 < length missing →
+settled_some : (g : Grounded) (ms : List WorkerState) (missing : List ℕ) (e : Ending) → 0 < length missing →
     e.statement ≡ None → AreLeft g missing ms → AreLostOf g missing ms e.lost.items → IsSettled g missing ms e
 settled_some g ms [] e some none left lost = absurd (omega (arith, some))
 settled_some g ms (w ∷ missing) e some none left lost = (none, left, lost)
 
 -- those who are left are settled
-pub closed_some : (numbers : List ℕ) (g : Grounded) (ms : List Manned) (missing : List ℕ) (e : Ending) →
+pub closed_some : (numbers : List ℕ) (g : Grounded) (ms : List WorkerState) (missing : List ℕ) (e : Ending) →
     AreAbove g 0 ms missing → 0 < length missing → length ms ≡ length numbers → AreApart numbers missing →
     e.statement ≡ None → AreLeft g missing ms → AreLostOf g missing ms e.lost.items → HasClosed g numbers e
 closed_some numbers g ms missing e are some as_many apart none left lost = record {
@@ -122,7 +122,7 @@ closed_some numbers g ms missing e are some as_many apart none left lost = recor
 -- a worker that is in handles is in those that have the same
 pub one_same : (g : Grounded) (old new : List WorkerHandle) → HaveSame old new → HasOneOf g old → HasOneOf g new
 one_same g old new same (m, k, there, is) =
-    (m, k, subst (λ (vs : List (Option Manned)). slice_index_or vs k None ≡ Some m) (sym same) there, is)
+    (m, k, subst (λ (vs : List (Option WorkerState)). slice_index_or vs k None ≡ Some m) (sym same) there, is)
 
 -- handles that were looked at first are closed as well
 pub closes_same : (old looked new : List WorkerHandle) (ending : Option Ending) → HaveSame old looked →
@@ -133,5 +133,5 @@ closes_same old looked new ending same closes = record {
   there = closes.there;
   ground = closes.ground;
   of = one_same closes.ground looked old (sym same) closes.of;
-  closed = subst (λ (vs : List (Option Manned)). HasClosed closes.ground (flat_map number_in vs) closes.found) same closes.closed;
+  closed = subst (λ (vs : List (Option WorkerState)). HasClosed closes.ground (flat_map worker_number vs) closes.found) same closes.closed;
 }

@@ -3,7 +3,7 @@ mod CloseLemmas
 mod EndingHandles
 mod FillLemmas
 mod GuardHandles
-mod HallLemmas
+mod SharedLemmas
 mod Handles
 mod LooseSend
 mod MarkLemmas

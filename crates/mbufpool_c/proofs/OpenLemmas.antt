@@ -7,83 +7,83 @@ use Rattle.std.specs.List.{range_with_len}
 use Rattle.commons.specs.declared.limits.Limits.{Limits}
 use Rattle.ground.specs.Seats.{Grounded}
 use Rattle.mbuf.specs.Members.{Member}
-use Rattle.word_pool.specs.Workers.{Manned, AreNew, AreWorkers, members_of}
-use Rattle.mbufpool_c.proofs.HallLemmas.{numbers_are}
-use Rattle.mbufpool_c.specs.inside.Halls.{numbers_of}
+use Rattle.word_pool.specs.Workers.{WorkerState, AreNew, AreWorkers, members_of}
+use Rattle.mbufpool_c.proofs.SharedLemmas.{numbers_are}
+use Rattle.mbufpool_c.specs.inside.Shared.{numbers_of}
 use Rattle.mbufpool_c.specs.Opens.{IsNewCrew}
 use Rattle.mbufpool_c.specs.declared.worker_handle.WorkerHandle.{WorkerHandle}
 
 -- all workers are as many as the pool has
-pub count_of_crew : (g : Grounded) (ms : List Manned) → AreWorkers g ms → length ms ≡ g.limits.workers
+pub count_of_crew : (g : Grounded) (ms : List WorkerState) → AreWorkers g ms → length ms ≡ g.limits.workers
 count_of_crew g ms all =
-    sym (length-map ms (λ (m : Manned). m.member))
+    sym (length-map ms (λ (m : WorkerState). m.member))
     ∙ sym (length-map (members_of ms) (λ (m : Member). m.number))
     ∙ ap length all.numbers ∙ length-range_with_len 1 g.limits.workers
 
 -- and are numbered from 1
-pub numbers_of_crew : (g : Grounded) (ms : List Manned) → AreWorkers g ms → numbers_of ms ≡ range_with_len 1 (length ms)
+pub numbers_of_crew : (g : Grounded) (ms : List WorkerState) → AreWorkers g ms → numbers_of ms ≡ range_with_len 1 (length ms)
 numbers_of_crew g ms all =
     sym (numbers_are ms) ∙ all.numbers ∙ ap (range_with_len 1) (sym (count_of_crew g ms all))
 
 -- workers of a pool as it is made are a new crew, also where they went from list to list
-pub crew_of : (l : Limits) (g : Grounded) (ms ns : List Manned) → g.limits ≡ l → AreWorkers g ms → AreNew l ms →
+pub crew_of : (l : Limits) (g : Grounded) (ms ns : List WorkerState) → g.limits ≡ l → AreWorkers g ms → AreNew l ms →
     ns ≡ ms → IsNewCrew l ns
 crew_of l g ms ns limits workers new same = record {
   ground = g;
   limits = limits;
-  workers = subst (λ (xs : List Manned). AreWorkers g xs) (sym same) workers;
-  new = subst (λ (xs : List Manned). AreNew l xs) (sym same) new;
+  workers = subst (λ (xs : List WorkerState). AreWorkers g xs) (sym same) workers;
+  new = subst (λ (xs : List WorkerState). AreNew l xs) (sym same) new;
   as_many =
-      ap (λ (xs : List Manned). length xs) same ∙ count_of_crew g ms workers
+      ap (λ (xs : List WorkerState). length xs) same ∙ count_of_crew g ms workers
       ∙ ap (λ (m : Limits). m.workers) limits;
 }
 
-module _ {X : Type 0} (f : X → Manned) where
+module _ {X : Type 0} (f : X → WorkerState) where
   -- a list that has one more at its end, turned round
   turned : (xs : List X) (x : X) → reverse (map f (xs ++ x ∷ [])) ≡ f x ∷ reverse (map f xs)
   turned xs x = ap reverse (map-append f xs (x ∷ [])) ∙ reverse-append (map f xs) (f x ∷ [])
 
   -- the last of those who are left goes over to the others, before them
-  pub goes_over : (all left rest : List Manned) (m : Manned) (xs : List X) (x : X) →
+  pub goes_over : (all left rest : List WorkerState) (m : WorkerState) (xs : List X) (x : X) →
       all ≡ left ++ reverse (map f xs) → left ≡ rest ++ m ∷ [] → f x ≡ m →
       all ≡ rest ++ reverse (map f (xs ++ x ∷ []))
   goes_over all left rest m xs x split last same =
-      split ∙ ap (λ (ms : List Manned). ms ++ reverse (map f xs)) last
+      split ∙ ap (λ (ms : List WorkerState). ms ++ reverse (map f xs)) last
       ∙ append_assoc rest (m ∷ []) (reverse (map f xs))
-      ∙ ap (λ (n : Manned). rest ++ n ∷ reverse (map f xs)) (sym same)
-      ∙ ap (λ (ms : List Manned). rest ++ ms) (sym (turned xs x))
+      ∙ ap (λ (n : WorkerState). rest ++ n ∷ reverse (map f xs)) (sym same)
+      ∙ ap (λ (ms : List WorkerState). rest ++ ms) (sym (turned xs x))
 
   -- what is left of all, from place k on, begins with the last one
-  begins : (all : List Manned) (k : ℕ) (xs rest : List X) (x : X) →
+  begins : (all : List WorkerState) (k : ℕ) (xs rest : List X) (x : X) →
       reverse (map f xs) ≡ drop k all → xs ≡ rest ++ x ∷ [] → f x ∷ reverse (map f rest) ≡ drop k all
   begins all k xs rest x left last =
       sym (turned rest x) ∙ sym (ap (λ (ys : List X). reverse (map f ys)) last) ∙ left
 
   -- who is the worker at place k
-  pub at_place : (all : List Manned) (k : ℕ) (xs rest : List X) (x : X) →
-      reverse (map f xs) ≡ drop k all → xs ≡ rest ++ x ∷ [] → (d : Manned) → get_or all k d ≡ f x
+  pub at_place : (all : List WorkerState) (k : ℕ) (xs rest : List X) (x : X) →
+      reverse (map f xs) ≡ drop k all → xs ≡ rest ++ x ∷ [] → (d : WorkerState) → get_or all k d ≡ f x
   at_place all k xs rest x left last d =
       let here : k + 0 ≡ k = omega arith in
       sym (ap (λ (n : ℕ). get_or all n d) here)
       ∙ sym (get_or-drop k all 0 d)
-      ∙ sym (ap (λ (ms : List Manned). get_or ms 0 d) (begins all k xs rest x left last))
+      ∙ sym (ap (λ (ms : List WorkerState). get_or ms 0 d) (begins all k xs rest x left last))
 
   -- and the others are left, from the next place on
-  pub next_left : (all : List Manned) (k : ℕ) (xs rest : List X) (x : X) →
+  pub next_left : (all : List WorkerState) (k : ℕ) (xs rest : List X) (x : X) →
       reverse (map f xs) ≡ drop k all → xs ≡ rest ++ x ∷ [] → reverse (map f rest) ≡ drop (k + 1) all
   next_left all k xs rest x left last =
-      ap (λ (ms : List Manned). drop 1 ms) (begins all k xs rest x left last) ∙ drop-drop 1 k all
+      ap (λ (ms : List WorkerState). drop 1 ms) (begins all k xs rest x left last) ∙ drop-drop 1 k all
 
 -- the handles before place k have their workers, and so has the one that is put there
-pub one_more : (out : List WorkerHandle) (k : ℕ) (w : WorkerHandle) (all : List Manned) (v : Manned) →
-    k < length out → w.value ≡ Some v → ((d : Manned) → get_or all k d ≡ v) →
-    ((j : ℕ) (h : WorkerHandle) (m : Manned) → j < k → (get_or out j h).value ≡ Some (get_or all j m)) →
-    (j : ℕ) (h : WorkerHandle) (m : Manned) → j < k + 1 → (get_or (set out k w) j h).value ≡ Some (get_or all j m)
+pub one_more : (out : List WorkerHandle) (k : ℕ) (w : WorkerHandle) (all : List WorkerState) (v : WorkerState) →
+    k < length out → w.value ≡ Some v → ((d : WorkerState) → get_or all k d ≡ v) →
+    ((j : ℕ) (h : WorkerHandle) (m : WorkerState) → j < k → (get_or out j h).value ≡ Some (get_or all j m)) →
+    (j : ℕ) (h : WorkerHandle) (m : WorkerState) → j < k + 1 → (get_or (set out k w) j h).value ≡ Some (get_or all j m)
 one_more out k w all v more new here have j h m low = elim (cases_eq j k) [
   | inl same ↦
       ap (λ (n : ℕ). (get_or (set out k w) n h).value) same
       ∙ ap (λ (x : WorkerHandle). x.value) (get_or-set_same out k w h more)
-      ∙ new ∙ sym (ap (λ (x : Manned). Some x) (here m))
+      ∙ new ∙ sym (ap (λ (x : WorkerState). Some x) (here m))
       ∙ sym (ap (λ (n : ℕ). Some (get_or all n m)) same)
   | inr other ↦
       let before : j < k = omega (arith, low, other) in

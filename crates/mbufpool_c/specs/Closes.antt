@@ -7,12 +7,12 @@ use Rattle.pool_model.specs.declared.statement.Statement.{Statement}
 use Rattle.pool_model.specs.Statements.{ListsEachOnce, PlacesEachOnce}
 use Rattle.book.specs.Listing.{ListsPackets}
 use Rattle.word_pool.specs.Lost.{AreLeft, AreLostOf}
-use Rattle.word_pool.specs.Workers.{Manned, AreWorkers, IsStatementOfWorkers, IsWorker}
+use Rattle.word_pool.specs.Workers.{WorkerState, AreWorkers, IsStatementOfWorkers, IsWorker}
 use Rattle.mbufpool_c.specs.declared.ending.Ending.{Ending}
 use Rattle.mbufpool_c.specs.declared.worker_handle.WorkerHandle.{WorkerHandle}
 
 -- what handles have
-abbrev pub values_of : List WorkerHandle → List (Option Manned)
+abbrev pub values_of : List WorkerHandle → List (Option WorkerState)
 values_of handles = map (λ h. h.value) handles
 
 -- no handle has a worker
@@ -24,13 +24,13 @@ abbrev pub HaveSame : List WorkerHandle → List WorkerHandle → Type 0
 HaveSame old new = values_of new ≡ values_of old
 
 -- the number of the worker in a handle, where there is one
-abbrev pub number_in : Option Manned → List ℕ
-number_in None = []
-number_in (Some m) = m.member.number ∷ []
+abbrev pub worker_number : Option WorkerState → List ℕ
+worker_number None = []
+worker_number (Some m) = m.member.number ∷ []
 
 -- the numbers of the workers in handles
 abbrev pub numbers_in : List WorkerHandle → List ℕ
-numbers_in handles = flat_map number_in (values_of handles)
+numbers_in handles = flat_map worker_number (values_of handles)
 
 -- none of these numbers is another's
 abbrev pub AreApart : List ℕ → List ℕ → Type 0
@@ -44,7 +44,7 @@ misused = 25
 -- they left is the pool's statement: it lists each element exactly once, what is available and what
 -- is in use are the population, and each packet has a place of its own. Else it is the list of
 -- the elements that are lost with those who are missing.
-abbrev pub IsSettled : Grounded → List ℕ → List Manned → Ending → Type 0
+abbrev pub IsSettled : Grounded → List ℕ → List WorkerState → Ending → Type 0
 IsSettled g [] ms e = (s : Statement) × (e.statement ≡ Some s) × (e.lost.items ≡ [])
     × AreWorkers g ms × IsStatementOfWorkers g ms s
     × ListsEachOnce s × PlacesEachOnce g.limits s × ListsPackets g.limits s
@@ -54,12 +54,12 @@ IsSettled g (w ∷ missing) ms e = (e.statement ≡ None) × AreLeft g (w ∷ mi
 -- one of these handles has a worker of this ground: the ground's words and limits are that worker's
 abbrev pub HasOneOf : Grounded → List WorkerHandle → Type 0
 HasOneOf g handles =
-    (m : Manned) × (k : ℕ) × (slice_index_or (values_of handles) k None ≡ Some m) × IsWorker g m
+    (m : WorkerState) × (k : ℕ) × (slice_index_or (values_of handles) k None ≡ Some m) × IsWorker g m
 
 -- Workers of this ground are settled, as many as there were in handles. Each worker whose number
 -- one of these had is among them: none of those who are missing has it.
 pub record HasClosed (ground : Grounded) (numbers : List ℕ) (e : Ending) : Type 0 where
-  pub workers : List Manned
+  pub workers : List WorkerState
   pub missing : List ℕ
   pub as_many : length workers ≡ length numbers
   pub apart : AreApart numbers missing

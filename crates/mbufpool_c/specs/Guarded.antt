@@ -8,7 +8,7 @@ use Rattle.commons.specs.declared.refusal.Refusal.TheVariants.{StrangerShare}
 use Rattle.commons.specs.Refusals.{number_of}
 use Rattle.ground.specs.Parting.{less_part, newcomer}
 use Rattle.guard.specs.Caching.{Cached, CachedGets, CachedPuts}
-use Rattle.guard.specs.Guarding.{IsMakeCause, IsSplitCause, with_list}
+use Rattle.guard.specs.Guarding.{IsMakeCause, IsSplitCause, guarded_list}
 use Rattle.guard.specs.declared.cause.Cause.{Cause}
 use Rattle.guard.specs.declared.cause.Cause.TheVariants.{Refused, LentOut, Unrested}
 use Rattle.mempool.specs.declared.put.Put.{Put}
@@ -47,15 +47,15 @@ abbrev pub unrested : ℕ
 unrested = 28
 
 -- the number of a cause
-abbrev pub number_in : Cause → ℕ
-number_in (Refused cause) = number_of cause
-number_in LentOut = lent_out
-number_in Unrested = unrested
+abbrev pub guard_number : Cause → ℕ
+guard_number (Refused cause) = number_of cause
+guard_number LentOut = lent_out
+guard_number Unrested = unrested
 
 -- 0, or the number of the cause
-abbrev pub status_of : Result (Unit {0}) Cause → ℕ
-status_of (Ok _) = 0
-status_of (Err cause) = number_in cause
+abbrev pub guard_status : Result (Unit {0}) Cause → ℕ
+guard_status (Ok _) = 0
+guard_status (Err cause) = guard_number cause
 
 -- a new worker: nothing is in its hand or its cache, and it has every part
 pub record IsFirst (l : Limits) (s : Cached) : Type 0 where
@@ -80,15 +80,15 @@ SplitsGuard (Some s) new out =
 abbrev pub RefusesSplit : ℕ → Option Cached → Type 0
 RefusesSplit status None = status ≡ number_of StrangerShare
 RefusesSplit status (Some s) =
-    (cause : Cause) × (status ≡ number_in cause) × IsSplitCause s.seat.known.view.part cause
+    (cause : Cause) × (status ≡ guard_number cause) × IsSplitCause s.seat.known.view.part cause
 
 -- The worker of a handle got elements, or was refused, and C has the status of the answer. Where
 -- there is no worker nothing was done, and C has the number of a stranger.
 abbrev pub GetsGuard : ℕ → List ℕ → Option Cached → ℕ → Option Cached → Type 0
 GetsGuard n xs None status new = (status ≡ number_of StrangerShare) × (new ≡ None)
 GetsGuard n xs (Some s) status new =
-    (answer : Result (Unit {0}) Cause) × (t : Cached) × CachedGets n (with_list answer xs) s t
-    × (new ≡ Some t) × (status ≡ status_of answer)
+    (answer : Result (Unit {0}) Cause) × (t : Cached) × CachedGets n (guarded_list answer xs) s t
+    × (new ≡ Some t) × (status ≡ guard_status answer)
 
 -- 0 where all were out
 abbrev pub status_of_put : ℕ → ℕ → ℕ

@@ -8,7 +8,7 @@ use Rattle.commons.specs.Refusals.{number_of}
 use Rattle.ground.specs.Seats.{Seated}
 use Rattle.stack_lf.specs.Sides.{side_of}
 use Rattle.stack_lf.specs.Tries.{DidOnWords}
-use Rattle.mbufpool_c.specs.Stacks.{status_of}
+use Rattle.mbufpool_c.specs.Stacks.{status_of_put}
 
 -- 1 where the element is marked, else 0
 abbrev pub mark_at : List Bool → ℕ → ℕ
@@ -36,7 +36,7 @@ not_in_hand = 24
 abbrev pub PutsChecked : List ℕ → Seated → ℕ → Seated → Type 0
 PutsChecked xs s status t =
     ((status ≡ not_in_hand) × (t ≡ s) × ((e : ℕ) × ((side_of s).hand e < bag xs e)))
-    ⊎ ((answer : Result (Unit {0}) Refusal) × Did DidOnWords side_of s (PutList xs answer) t × (status ≡ status_of answer))
+    ⊎ ((answer : Result (Unit {0}) Refusal) × Did DidOnWords side_of s (PutList xs answer) t × (status ≡ status_of_put answer))
 
 abbrev pub PutsCheckedIn : List ℕ → Option Seated → ℕ → Option Seated → Type 0
 PutsCheckedIn xs None status new = (status ≡ number_of StrangerShare) × (new ≡ None)

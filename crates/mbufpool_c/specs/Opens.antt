@@ -7,7 +7,7 @@ use Rattle.commons.specs.declared.refusal.Refusal.{Refusal}
 use Rattle.commons.specs.declared.refusal.Refusal.TheVariants.{BadPool, OutOfMemory}
 use Rattle.commons.specs.Refusals.{number_of}
 use Rattle.ground.specs.Seats.{Grounded}
-use Rattle.word_pool.specs.Workers.{Manned, AreNew, AreWorkers}
+use Rattle.word_pool.specs.Workers.{WorkerState, AreNew, AreWorkers}
 use Rattle.mbufpool_c.specs.declared.opening.PoolLimits.{PoolLimits}
 use Rattle.mbufpool_c.specs.declared.worker_handle.WorkerHandle.{WorkerHandle}
 
@@ -27,7 +27,7 @@ pool_limits l = record {
 
 -- They are the workers of one new pool of these limits, all over the same words, in the order of
 -- their numbers from 1. They have nothing, and none has acted.
-pub record IsNewCrew (l : Limits) (ms : List Manned) : Type 0 where
+pub record IsNewCrew (l : Limits) (ms : List WorkerState) : Type 0 where
   pub ground : Grounded
   pub limits : ground.limits ≡ l
   pub workers : AreWorkers ground ms
@@ -35,14 +35,14 @@ pub record IsNewCrew (l : Limits) (ms : List Manned) : Type 0 where
   pub as_many : length ms ≡ l.workers
 
 -- each handle has the worker at its place
-pub record HaveWorkers (ms : List Manned) (handles : List WorkerHandle) : Type 0 where
+pub record HaveWorkers (ms : List WorkerState) (handles : List WorkerHandle) : Type 0 where
   pub as_many : length handles ≡ length ms
-  pub each : (k : ℕ) (h : WorkerHandle) (m : Manned) → k < length ms →
+  pub each : (k : ℕ) (h : WorkerHandle) (m : WorkerState) → k < length ms →
       (slice_index_or handles k h).value ≡ Some (slice_index_or ms k m)
 
 -- The handles have the workers of one new pool of these limits, one for each, in their order.
 pub record Opens (l : Limits) (handles : List WorkerHandle) : Type 0 where
-  pub workers : List Manned
+  pub workers : List WorkerState
   pub crew : IsNewCrew l workers
   pub have : HaveWorkers workers handles
 

@@ -5,7 +5,7 @@ use Rattle.commons.specs.declared.refusal.Refusal.{Refusal}
 use Rattle.commons.specs.declared.refusal.Refusal.TheVariants.{NoSuchPacket, StrangerShare, TooShort}
 use Rattle.commons.specs.Packets.{no_seg}
 use Rattle.commons.specs.Refusals.{number_of}
-use Rattle.word_pool.specs.Workers.{Manned}
+use Rattle.word_pool.specs.Workers.{WorkerState}
 use Rattle.mbufpool_c.specs.declared.packets.Segment.{Segment}
 
 -- the segment at this place of what is in a slot
@@ -28,11 +28,11 @@ segment_of s = record {
 }
 
 -- C has the segment, or the status says why not, and what was there stays
-abbrev pub Shows : Result Seg Refusal → ℕ → Segment → Segment → Type 0
-Shows (Ok seg) status was out = (status ≡ 0) × (out ≡ segment_of seg)
-Shows (Err cause) status was out = (status ≡ number_of cause) × (out ≡ was)
+abbrev pub GivesSegment : Result Seg Refusal → ℕ → Segment → Segment → Type 0
+GivesSegment (Ok seg) status was out = (status ≡ 0) × (out ≡ segment_of seg)
+GivesSegment (Err cause) status was out = (status ≡ number_of cause) × (out ≡ was)
 
-abbrev pub ShowsSegment : Option Manned → ℕ → ℕ → ℕ → Segment → Segment → Type 0
+abbrev pub ShowsSegment : Option WorkerState → ℕ → ℕ → ℕ → Segment → Segment → Type 0
 ShowsSegment None slot index status was out = (status ≡ number_of StrangerShare) × (out ≡ was)
 ShowsSegment (Some m) slot index status was out =
-    Shows (seg_at (slice_index_or m.member.table slot None) index) status was out
+    GivesSegment (seg_at (slice_index_or m.member.table slot None) index) status was out

@@ -10,7 +10,7 @@ use Rattle.commons.specs.Refusals.{number_of}
 use Rattle.ground.specs.Opening.{IsGroundCause}
 use Rattle.ground.specs.Parting.{IsBoth, less_part, newcomer}
 use Rattle.ground.specs.Seats.{Seated}
-use Rattle.lending.specs.Lending.{GetsLoans, IsSplitCause, PutsLoans, with_list}
+use Rattle.lending.specs.Lending.{GetsLoans, IsSplitCause, PutsLoans, lent_list}
 use Rattle.lending.specs.declared.cause.Cause.{Cause}
 use Rattle.lending.specs.declared.cause.Cause.TheVariants.{Refused, LentOut}
 use Rattle.lending.specs.declared.loans.Loans.{Loans}
@@ -24,9 +24,9 @@ AreLent None x xs = ⊤
 AreLent (Some s) x xs = (i : ℕ) → bag xs i ≤ bag x.lent i
 
 -- 0, or the number of the refusal
-abbrev pub status_of : Result (Unit {0}) Refusal → ℕ
-status_of (Ok _) = 0
-status_of (Err cause) = number_of cause
+abbrev pub status_of_put : Result (Unit {0}) Refusal → ℕ
+status_of_put (Ok _) = 0
+status_of_put (Err cause) = number_of cause
 
 -- what no refusal has: of a get, or of a split, by a seat that has lent as much of its part as it
 -- can
@@ -34,14 +34,14 @@ abbrev pub lent_out : ℕ
 lent_out = 29
 
 -- the number of a cause
-abbrev pub number_in : Cause → ℕ
-number_in (Refused cause) = number_of cause
-number_in LentOut = lent_out
+abbrev pub number_of_cause : Cause → ℕ
+number_of_cause (Refused cause) = number_of cause
+number_of_cause LentOut = lent_out
 
 -- of a get: 0, or the number of its cause
 abbrev pub status_of_get : Result (Unit {0}) Cause → ℕ
 status_of_get (Ok _) = 0
-status_of_get (Err cause) = number_in cause
+status_of_get (Err cause) = number_of_cause cause
 
 -- The seat of a handle made this call, and C has the status of its answer. Where there is no seat
 -- nothing was done, and C has the number of a stranger.
@@ -49,14 +49,14 @@ abbrev pub CallsIn : (Result (Unit {0}) Refusal → Call) → Option Seated → 
 CallsIn call None status new = (status ≡ number_of StrangerShare) × (new ≡ None)
 CallsIn call (Some s) status new =
     (answer : Result (Unit {0}) Refusal) × (t : Seated) × Did DidOnWords side_of s (call answer) t
-    × (new ≡ Some t) × (status ≡ status_of answer)
+    × (new ≡ Some t) × (status ≡ status_of_put answer)
 
 -- The seat of a handle got elements and lent them, or was refused, and C has the status of the
 -- answer. Where there is no seat nothing was done, and C has the number of a stranger.
 abbrev pub GetsIn : ℕ → List ℕ → Option Seated → Loans → ℕ → Option Seated → Loans → Type 0
 GetsIn n xs None x status new y = (status ≡ number_of StrangerShare) × (new ≡ None) × (y ≡ x)
 GetsIn n xs (Some s) x status new y =
-    (answer : Result (Unit {0}) Cause) × (t : Seated) × GetsLoans n (with_list answer xs) s x t y
+    (answer : Result (Unit {0}) Cause) × (t : Seated) × GetsLoans n (lent_list answer xs) s x t y
     × (new ≡ Some t) × (status ≡ status_of_get answer)
 
 -- the same of a put of elements that are lent
@@ -64,7 +64,7 @@ abbrev pub PutsIn : List ℕ → Option Seated → Loans → ℕ → Option Seat
 PutsIn xs None x status new y = (status ≡ number_of StrangerShare) × (new ≡ None) × (y ≡ x)
 PutsIn xs (Some s) x status new y =
     (answer : Result (Unit {0}) Refusal) × (t : Seated) × PutsLoans xs answer s x t y
-    × (new ≡ Some t) × (status ≡ status_of answer)
+    × (new ≡ Some t) × (status ≡ status_of_put answer)
 
 -- the limits of a pool of the bare stack
 abbrev pub stack_limits : ℕ → ℕ → ℕ → Limits
@@ -113,7 +113,7 @@ Splits (Some s) new out =
 abbrev pub RefusesSplit : ℕ → Option Seated → Type 0
 RefusesSplit status None = status ≡ number_of StrangerShare
 RefusesSplit status (Some s) =
-    (cause : Cause) × (status ≡ number_in cause) × IsSplitCause s.known.view.part cause
+    (cause : Cause) × (status ≡ number_of_cause cause) × IsSplitCause s.known.view.part cause
 
 -- The seat has back the part that it gave: it names what it named, and has forgotten what it had
 -- read of the common list.

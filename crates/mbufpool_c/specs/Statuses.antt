@@ -10,7 +10,7 @@ use Rattle.mbuf.specs.declared.acts.Answer.TheVariants as reply
 use Rattle.mbuf.specs.declared.acts.NewPacket.{NewPacket as Made}
 use Rattle.mbuf.specs.Acts.{Reply, as_reply, first_elem}
 use Rattle.stack_lf.specs.Remaining.{ReadsRemaining}
-use Rattle.word_pool.specs.Workers.{Manned, Acts, Stays}
+use Rattle.word_pool.specs.Workers.{WorkerState, Acts, Stays}
 use Rattle.mbufpool_c.specs.declared.packets.NewPacket.{NewPacket}
 
 -- 0, or the number of the refusal
@@ -45,30 +45,30 @@ status_of_reply (reply.Chained _ _) = 0
 status_of_reply (reply.Put _) = 0
 
 -- where there is no worker, the number of a stranger
-abbrev pub status_of : Option Reply → ℕ
-status_of None = number_of StrangerShare
-status_of (Some r) = status_of_reply r
+abbrev pub status_of_answer : Option Reply → ℕ
+status_of_answer None = number_of StrangerShare
+status_of_answer (Some r) = status_of_reply r
 
 -- the number that an answer tells of: a length, a number of segments, a count, or a slot; else what
 -- was there stays
-abbrev pub number_in : Reply → ℕ → ℕ
-number_in (reply.Len len) old = len
-number_in (reply.Segs segs) old = segs
-number_in (reply.Count count) old = count
-number_in (reply.Taken slot _ _) old = slot
-number_in (reply.Refused _) old = old
-number_in (reply.Allocated _ _) old = old
-number_in (reply.Bulk _) old = old
-number_in (reply.Freed _) old = old
-number_in reply.Attached old = old
-number_in (reply.Cloned _ _) old = old
-number_in reply.Offered old = old
-number_in (reply.Chained _ _) old = old
-number_in (reply.Put _) old = old
+abbrev pub number_of_reply : Reply → ℕ → ℕ
+number_of_reply (reply.Len len) old = len
+number_of_reply (reply.Segs segs) old = segs
+number_of_reply (reply.Count count) old = count
+number_of_reply (reply.Taken slot _ _) old = slot
+number_of_reply (reply.Refused _) old = old
+number_of_reply (reply.Allocated _ _) old = old
+number_of_reply (reply.Bulk _) old = old
+number_of_reply (reply.Freed _) old = old
+number_of_reply reply.Attached old = old
+number_of_reply (reply.Cloned _ _) old = old
+number_of_reply reply.Offered old = old
+number_of_reply (reply.Chained _ _) old = old
+number_of_reply (reply.Put _) old = old
 
 abbrev pub number_told : Option Reply → ℕ → ℕ
 number_told None old = old
-number_told (Some r) old = number_in r old
+number_told (Some r) old = number_of_reply r old
 
 -- the new packet that an answer tells of, with its first element
 abbrev pub new_in : Reply → NewPacket → NewPacket
@@ -91,25 +91,25 @@ new_told None old = old
 new_told (Some r) old = new_in r old
 
 -- The worker of a handle did this and was answered so; where there is none, nothing was done.
-abbrev pub ActsIn : Act → Option Manned → Option Reply → Option Manned → Type 0
+abbrev pub ActsIn : Act → Option WorkerState → Option Reply → Option WorkerState → Type 0
 ActsIn act None None new = new ≡ None
 ActsIn act None (Some r) new = ⊥
 ActsIn act (Some m) None new = ⊥
-ActsIn act (Some m) (Some r) new = (n : Manned) × Acts act m r n × (new ≡ Some n)
+ActsIn act (Some m) (Some r) new = (n : WorkerState) × Acts act m r n × (new ≡ Some n)
 
 -- and C has the status of the answer
-abbrev pub ActsAs : Act → Option Manned → ℕ → Option Manned → Type 0
-ActsAs act old status new = (answer : Option Reply) × ActsIn act old answer new × (status ≡ status_of answer)
+abbrev pub ActsAs : Act → Option WorkerState → ℕ → Option WorkerState → Type 0
+ActsAs act old status new = (answer : Option Reply) × ActsIn act old answer new × (status ≡ status_of_answer answer)
 
 -- and its number
-abbrev pub TellsNumber : Act → Option Manned → ℕ → ℕ → ℕ → Option Manned → Type 0
+abbrev pub TellsNumber : Act → Option WorkerState → ℕ → ℕ → ℕ → Option WorkerState → Type 0
 TellsNumber act old status was out new =
-    (answer : Option Reply) × ActsIn act old answer new × (status ≡ status_of answer) × (out ≡ number_told answer was)
+    (answer : Option Reply) × ActsIn act old answer new × (status ≡ status_of_answer answer) × (out ≡ number_told answer was)
 
 -- and its new packet
-abbrev pub TellsNew : Act → Option Manned → ℕ → NewPacket → NewPacket → Option Manned → Type 0
+abbrev pub TellsNew : Act → Option WorkerState → ℕ → NewPacket → NewPacket → Option WorkerState → Type 0
 TellsNew act old status was out new =
-    (answer : Option Reply) × ActsIn act old answer new × (status ≡ status_of answer) × (out ≡ new_told answer was)
+    (answer : Option Reply) × ActsIn act old answer new × (status ≡ status_of_answer answer) × (out ≡ new_told answer was)
 
 -- C has each of these packets in its place, as far as there are places
 abbrev pub AreTold : List Made → List NewPacket → Type 0
@@ -123,33 +123,33 @@ abbrev pub BulkTold : Option Reply → List NewPacket → List NewPacket → Typ
 BulkTold (Some (reply.Bulk made)) was out = AreTold made.items out
 BulkTold _ was out = out ≡ was
 
-abbrev pub TellsBulk : Act → Option Manned → ℕ → List NewPacket → List NewPacket → Option Manned → Type 0
+abbrev pub TellsBulk : Act → Option WorkerState → ℕ → List NewPacket → List NewPacket → Option WorkerState → Type 0
 TellsBulk act old status was out new =
-    (answer : Option Reply) × ActsIn act old answer new × (status ≡ status_of answer) × BulkTold answer was out
+    (answer : Option Reply) × ActsIn act old answer new × (status ≡ status_of_answer answer) × BulkTold answer was out
 
 -- ---- the same of the worker itself, which was in the handle and is in it again
 
 -- it did this, and C has the status of what was answered
-abbrev pub DoesAs : Act → Manned → ℕ → Manned → Type 0
+abbrev pub DoesAs : Act → WorkerState → ℕ → WorkerState → Type 0
 DoesAs act m status after = (r : Reply) × Acts act m r after × (status ≡ status_of_reply r)
 
 -- and its new packet
-abbrev pub MakesNew : Act → Manned → ℕ → NewPacket → NewPacket → Manned → Type 0
+abbrev pub MakesNew : Act → WorkerState → ℕ → NewPacket → NewPacket → WorkerState → Type 0
 MakesNew act m status was out after =
     (r : Reply) × Acts act m r after × (status ≡ status_of_reply r) × (out ≡ new_in r was)
 
 -- and those of a bulk
-abbrev pub MakesBulk : Act → Manned → ℕ → List NewPacket → List NewPacket → Manned → Type 0
+abbrev pub MakesBulk : Act → WorkerState → ℕ → List NewPacket → List NewPacket → WorkerState → Type 0
 MakesBulk act m status was out after =
     (r : Reply) × Acts act m r after × (status ≡ status_of_reply r) × BulkTold (Some r) was out
 
 -- the worker read how many changes of its pool's stack are left, and has what it had
-pub record WorkerReads (m : Manned) (left : ℕ) (after : Manned) : Type 0 where
+pub record WorkerReads (m : WorkerState) (left : ℕ) (after : WorkerState) : Type 0 where
   pub read : ReadsRemaining m.seat left after.seat
   pub member : after.member ≡ m.member
   pub stays : Stays m after
 
 -- the same of the worker of a handle; where there is none, C has 0
-abbrev pub WorkerRemains : Option Manned → ℕ → Option Manned → Type 0
+abbrev pub WorkerRemains : Option WorkerState → ℕ → Option WorkerState → Type 0
 WorkerRemains None left new = (left ≡ 0) × (new ≡ None)
-WorkerRemains (Some m) left new = (after : Manned) × WorkerReads m left after × (new ≡ Some after)
+WorkerRemains (Some m) left new = (after : WorkerState) × WorkerReads m left after × (new ≡ Some after)

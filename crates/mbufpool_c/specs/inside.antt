@@ -1,3 +1,3 @@
 -- For proofs and the inside of types only. No public clause cites these modules.
-pub mod Halls
+pub mod Shared
 pub mod Rooms

@@ -2,15 +2,15 @@
 
 ghost use Rattle.std.specs.Prelude.{◌≡◌, ◌≢◌, ◌<◌, ◌≤◌, ◌+◌, ◌++◌, ◌∷◌, [], All, None, Some, IfOk, IfErr, IfSome, IsTrue, length, vec_capacity, vec_len};
 ghost use Rattle.commons.specs.Refusals.{number_of};
-ghost use Rattle.word_pool.specs.Workers.{AreWorkers, IsWorker, Manned};
+ghost use Rattle.word_pool.specs.Workers.{AreWorkers, IsWorker, WorkerState};
 ghost use Rattle.word_pool.specs.Lost.{AreLeft, AreLostOf};
-ghost use Rattle.mbufpool_c.specs.Closes.{AreApart, AreEmpty, Closes, HasClosed, HasOneOf, HaveSame, IsEnded, IsRefused, IsSettled, RefusesClose, number_in, numbers_in};
-ghost use Rattle.mbufpool_c.specs.inside.Halls.{AreAbove, IsGathered};
+ghost use Rattle.mbufpool_c.specs.Closes.{AreApart, AreEmpty, Closes, HasClosed, HasOneOf, HaveSame, IsEnded, IsRefused, IsSettled, RefusesClose, worker_number, numbers_in};
+ghost use Rattle.mbufpool_c.specs.inside.Shared.{AreAbove, IsGathered};
 ghost use Rattle.mbufpool_c.specs.inside.Rooms.{IsRoom};
 
 use crate::ending::Ending;
 use crate::ending_handle::EndingHandle;
-use crate::hall::{Chair, Hall, rise};
+use crate::shared::{Entry, SharedPool, take_out};
 use crate::worker_handle::WorkerHandle;
 use commons::refusal::Refusal;
 use ground::pool::Ground;
@@ -76,32 +76,38 @@ fn make_room(alloc: Global, handles: usize, workers: usize) -> Result<Room, Allo
     })
 }
 
-/// The hall of the worker in a handle, where there is one.
-fn hall_of(alloc: Global, handle: &mut WorkerHandle) -> Option<Result<Arc<Hall>, AllocError>>
+/// What the worker in a handle shares with the others of its pool, where there is one.
+fn shared_of(
+    alloc: Global,
+    handle: &mut WorkerHandle,
+) -> Option<Result<Arc<SharedPool>, AllocError>>
     ensures same { handle.new.value ≡ handle.old.value }
     ensures none { handle.old.value ≡ None → result ≡ None }
-    ensures of { IfSome result (λ found. IfOk found (λ hall.
-        (m : Manned) × (handle.old.value ≡ Some m) × IsWorker hall.value m)) }
+    ensures of { IfSome result (λ found. IfOk found (λ shared.
+        (m : WorkerState) × (handle.old.value ≡ Some m) × IsWorker shared.value m)) }
 {
     match handle.take(alloc) {
         None => None,
         Some(own) => {
-            let hall = own.hall();
+            let shared = own.shared();
             handle.put(own);
-            Some(hall)
+            Some(shared)
         }
     }
 }
 
-/// The hall of the first worker in these handles, where there is one.
-fn first_hall(alloc: Global, handles: &mut [WorkerHandle]) -> Option<Result<Arc<Hall>, AllocError>>
+/// What the first worker in these handles shares with the others, where there is one.
+fn first_shared(
+    alloc: Global,
+    handles: &mut [WorkerHandle],
+) -> Option<Result<Arc<SharedPool>, AllocError>>
     ensures same { HaveSame handles.old handles.new }
     ensures none { AreEmpty handles.old → result ≡ None }
-    ensures of { IfSome result (λ found. IfOk found (λ hall. HasOneOf hall.value handles.old)) }
+    ensures of { IfSome result (λ found. IfOk found (λ shared. HasOneOf shared.value handles.old)) }
 {
     for k in 0..handles.len() {
-        if let Some(hall) = hall_of(alloc, &mut handles[k]) {
-            return Some(hall);
+        if let Some(shared) = shared_of(alloc, &mut handles[k]) {
+            return Some(shared);
         }
     }
     None
@@ -136,27 +142,27 @@ fn count_marked(alloc: Global, handles: &mut [WorkerHandle]) -> Option<u64>
     Some(count)
 }
 
-/// The room to close the pool of this hall, whose workers are in these handles, each of them, and
+/// The room to close this pool, whose workers are in these handles, each of them, and
 /// no other pool's.
 ///
 /// Refused `StrangerShare` where one is of another pool, `InUse` where one of the pool is
 /// elsewhere, and `OutOfMemory` where memory was refused.
-fn look(alloc: Global, hall: &Arc<Hall>, handles: &mut [WorkerHandle]) -> Result<Room, u32>
+fn look(alloc: Global, shared: &Arc<SharedPool>, handles: &mut [WorkerHandle]) -> Result<Room, u32>
     ensures same { HaveSame handles.old handles.new }
     ensures room { IfOk result (IsRoom (length handles.old)) }
     ensures refused { IfErr result IsRefused }
 {
-    hall.mark();
+    shared.mark();
     let count = count_marked(alloc, handles);
-    hall.unmark();
+    shared.unmark();
     let Some(count) = count else {
         return Err(Refusal::StrangerShare.number());
     };
-    // One more owner is the hall that looks.
-    if Arc::strong_count(hall) as u64 - 1 != count {
+    // One more owner is the one who looks.
+    if Arc::strong_count(shared) as u64 - 1 != count {
         return Err(Refusal::InUse.number());
     }
-    match make_room(alloc, handles.len(), hall.size()) {
+    match make_room(alloc, handles.len(), shared.size()) {
         Ok(room) => Ok(room),
         Err(_) => Err(Refusal::OutOfMemory.number()),
     }
@@ -174,7 +180,7 @@ fn note(numbers: &mut Vec<u32>, number: u32)
     }
 }
 
-/// Leaves the worker of a handle in its chair, in the last of these places, and notes its number.
+/// Leaves the worker of a handle in its entry, in the last of these places, and notes its number.
 fn leave(
     alloc: Global,
     handle: &mut WorkerHandle,
@@ -184,7 +190,7 @@ fn leave(
     requires place { 0 < vec_len places.old }
     requires room { vec_len numbers.old < vec_capacity numbers.old }
     ensures left { handle.new.value ≡ None }
-    ensures numbers { numbers.new.items ≡ numbers.old.items ++ number_in handle.old.value }
+    ensures numbers { numbers.new.items ≡ numbers.old.items ++ worker_number handle.old.value }
     ensures places { vec_len places.old ≤ vec_len places.new + 1 }
     ensures len { vec_len numbers.new ≤ vec_len numbers.old + 1 }
     ensures capacity { vec_capacity numbers.old ≤ vec_capacity numbers.new }
@@ -198,7 +204,7 @@ fn leave(
     note(numbers, Box::into_inner(own).leave(place));
 }
 
-/// Leaves the workers of these handles in their chairs, each in one of these places, and notes
+/// Leaves the workers of these handles in their entries, each in one of these places, and notes
 /// their numbers.
 fn leave_all(
     alloc: Global,
@@ -217,17 +223,17 @@ fn leave_all(
     }
 }
 
-/// Adds the worker of this number, who sits in this chair, or where nobody does its number to those
-/// who are missing. Refused where another sits there, or there is no room.
+/// Adds the worker of this number, who is in this entry, or where nobody is its number to those
+/// who are missing. Refused where another is there, or there is no room.
 fn gather(
-    chair: Chair,
+    entry: Entry,
     number: u32,
     workers: &mut Vec<WordWorker>,
     missing: &mut Vec<u32>,
 ) -> Result<(), ()>
-    ensures { IfOk result (λ _. IsGathered chair number workers.old.items workers.new.items missing.old.items missing.new.items) }
+    ensures { IfOk result (λ _. IsGathered entry number workers.old.items workers.new.items missing.old.items missing.new.items) }
 {
-    match rise(chair, number)? {
+    match take_out(entry, number)? {
         Some(worker) => match workers.push(worker) {
             Ok(()) => Ok(()),
             Err(_) => Err(()),
@@ -239,23 +245,23 @@ fn gather(
     }
 }
 
-/// Takes the workers out of these chairs of a pool with these words, in the order of their numbers,
-/// and the numbers of those who are missing. Answers `None` where one sits in another's chair.
+/// Takes the workers out of these entries of a pool with these words, in the order of their numbers,
+/// and the numbers of those who are missing. Answers `None` where one is in another's entry.
 fn gathered(
     ground: &Ground,
-    mut chairs: Vec<Chair>,
+    mut entries: Vec<Entry>,
     mut workers: Vec<WordWorker>,
     mut missing: Vec<u32>,
 ) -> Option<(Vec<WordWorker>, Vec<u32>)>
-    requires chairs { All (λ tag. tag ≡ ground.now) chairs.items }
+    requires entries { All (λ tag. tag ≡ ground.now) entries.items }
     requires workers { workers.items ≡ [] }
     requires missing { missing.items ≡ [] }
     ensures { IfSome result (λ found. AreAbove ground.now 0 found.0.items found.1.items) }
 {
     let count = ground.limits().workers as u32;
     for k in 0..count {
-        let chair = chairs.pop()?;
-        match gather(chair, count - k, &mut workers, &mut missing) {
+        let entry = entries.pop()?;
+        match gather(entry, count - k, &mut workers, &mut missing) {
             Ok(()) => {}
             Err(()) => return None,
         }
@@ -360,13 +366,13 @@ fn settle(
     settle_without(alloc, ground, workers, missing.as_slice(), place)
 }
 
-/// Settles the pool of a hall, in whose chairs its workers sit, those with these numbers among
+/// Settles a pool, in whose entries its workers are, those with these numbers among
 /// them.
 ///
 /// Refused `OutOfMemory` where memory was refused, and `MISUSED` where one isn't there.
-fn settle_hall(
+fn settle_shared(
     alloc: Global,
-    hall: Hall,
+    shared: SharedPool,
     numbers: &[u32],
     workers: Vec<WordWorker>,
     missing: Vec<u32>,
@@ -374,29 +380,29 @@ fn settle_hall(
 ) -> Result<Box<Ending>, u32>
     requires workers { workers.items ≡ [] }
     requires missing { missing.items ≡ [] }
-    ensures closed { IfOk result (λ ending. HasClosed hall numbers.now ending.value) }
+    ensures closed { IfOk result (λ ending. HasClosed shared numbers.now ending.value) }
     ensures ended { IfErr result IsEnded }
 {
-    let (ground, chairs) = hall.into_parts();
-    match gathered(&ground, chairs, workers, missing) {
+    let (ground, entries) = shared.into_parts();
+    match gathered(&ground, entries, workers, missing) {
         Some(found) => settle(alloc, ground, numbers, found, place),
         None => Err(MISUSED),
     }
 }
 
-/// Takes the workers out of these handles, and settles their pool, whose hall has no other owner.
+/// Takes the workers out of these handles, and settles their pool, which has no other owner.
 ///
 /// Refused `OutOfMemory` where memory was refused, and `MISUSED` where a worker isn't there, or the
-/// hall has another owner.
+/// pool has another owner.
 fn ended(
     alloc: Global,
-    hall: Arc<Hall>,
+    shared: Arc<SharedPool>,
     handles: &mut [WorkerHandle],
     room: Room,
 ) -> Result<Box<Ending>, u32>
     requires { IsRoom (length handles.old) room }
     ensures left { AreEmpty handles.new }
-    ensures closed { IfOk result (λ ending. HasClosed hall.value (numbers_in handles.old) ending.value) }
+    ensures closed { IfOk result (λ ending. HasClosed shared.value (numbers_in handles.old) ending.value) }
     ensures ended { IfErr result IsEnded }
 {
     let Room {
@@ -407,27 +413,27 @@ fn ended(
         ending,
     } = room;
     leave_all(alloc, handles, places, &mut numbers);
-    match Arc::into_inner(hall) {
-        Some(hall) => settle_hall(alloc, hall, numbers.as_slice(), workers, missing, ending),
+    match Arc::into_inner(shared) {
+        Some(shared) => settle_shared(alloc, shared, numbers.as_slice(), workers, missing, ending),
         None => Err(MISUSED),
     }
 }
 
-/// Ends the pool of this hall, with this room, and gives C what it left.
+/// Ends this pool, with this room, and gives C what it left.
 fn end(
     alloc: Global,
-    hall: Arc<Hall>,
+    shared: Arc<SharedPool>,
     handles: &mut [WorkerHandle],
     room: Room,
     out: &mut EndingHandle,
 ) -> u32
     requires room { IsRoom (length handles.old) room }
-    requires of { HasOneOf hall.value handles.old }
+    requires of { HasOneOf shared.value handles.old }
     ensures closed { result ≡ 0 → Closes handles.old handles.new out.new.value }
     ensures kept { result ≢ 0 → out.new.value ≡ out.old.value }
     ensures ended { result ≢ 0 → AreEmpty handles.new × IsEnded result }
 {
-    match ended(alloc, hall, handles, room) {
+    match ended(alloc, shared, handles, room) {
         Ok(ending) => {
             out.put(ending);
             0
@@ -436,20 +442,20 @@ fn end(
     }
 }
 
-/// Closes the pool of this hall.
+/// Closes this pool.
 fn close(
     alloc: Global,
-    hall: Arc<Hall>,
+    shared: Arc<SharedPool>,
     handles: &mut [WorkerHandle],
     out: &mut EndingHandle,
 ) -> u32
-    requires { HasOneOf hall.value handles.old }
+    requires { HasOneOf shared.value handles.old }
     ensures closed { result ≡ 0 → Closes handles.old handles.new out.new.value }
     ensures kept { result ≢ 0 → out.new.value ≡ out.old.value }
     ensures refused { result ≢ 0 → RefusesClose handles.old result handles.new }
 {
-    match look(alloc, &hall, handles) {
-        Ok(room) => end(alloc, hall, handles, room, out),
+    match look(alloc, &shared, handles) {
+        Ok(room) => end(alloc, shared, handles, room, out),
         Err(status) => status,
     }
 }
@@ -477,8 +483,8 @@ pub extern "C" fn mbufpool_worker_close(
     ensures refused { result ≢ 0 → RefusesClose workers.old result workers.new }
     ensures none { AreEmpty workers.old → result ≡ number_of Refusal.StrangerShare }
 {
-    match first_hall(alloc, workers) {
-        Some(Ok(hall)) => close(alloc, hall, workers, out),
+    match first_shared(alloc, workers) {
+        Some(Ok(shared)) => close(alloc, shared, workers, out),
         Some(Err(_)) => Refusal::OutOfMemory.number(),
         None => Refusal::StrangerShare.number(),
     }

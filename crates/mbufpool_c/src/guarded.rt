@@ -6,7 +6,7 @@ ghost use Rattle.commons.specs.Refusals.{number_of};
 ghost use Rattle.commons.specs.declared.refusal.Refusal.TheVariants.{NoRoom, OutOfMemory};
 ghost use Rattle.guard.specs.Caching.{Cached};
 ghost use Rattle.guard.specs.Guarding.{IsMakeCause};
-ghost use Rattle.mbufpool_c.specs.Guarded.{GetsGuard, GuardRemains, IsFirst, PutsGuard, RefusesGuard, RefusesSplit, SplitsGuard, guard_limits, guard_limits_at, nobody, number_in, status_of as status_in, status_of_put as status_in_put};
+ghost use Rattle.mbufpool_c.specs.Guarded.{GetsGuard, GuardRemains, IsFirst, PutsGuard, RefusesGuard, RefusesSplit, SplitsGuard, guard_limits, guard_limits_at, nobody, guard_number, guard_status as status_in, status_of_put as status_in_put};
 
 use crate::guard_handle::GuardHandle;
 use crate::stack::LENT_OUT;
@@ -28,7 +28,7 @@ pub const UNRESTED: u32 = 28;
 /// The number of a cause.
 #[inline(always)]
 fn number(cause: Cause) -> u32
-    ensures { result ≡ number_in cause }
+    ensures { result ≡ guard_number cause }
 {
     match cause {
         Cause::Refused(cause) => cause.number(),

@@ -4,10 +4,10 @@ ghost use Rattle.std.specs.Prelude.{◌≡◌, ◌≢◌, ◌≤◌, All, IfOk, 
 ghost use Rattle.std.specs.List.{range_with_len};
 ghost use Rattle.ground.specs.Opening.{IsGroundCause};
 ghost use Rattle.word_pool.specs.Workers.{AreWorkers, IsWorker};
-ghost use Rattle.mbufpool_c.specs.inside.Halls.{numbers_of};
+ghost use Rattle.mbufpool_c.specs.inside.Shared.{numbers_of};
 ghost use Rattle.mbufpool_c.specs.Opens.{HaveWorkers, IsNewCrew, Opens, RefusesOpen, pool_limits};
 
-use crate::hall::Hall;
+use crate::shared::SharedPool;
 use crate::worker_handle::WorkerHandle;
 use crate::workers::OwnWorker;
 use commons::limits::{Limits, PutRule};
@@ -48,39 +48,39 @@ fn limits_of(limits: &PoolLimits) -> Limits
     }
 }
 
-/// The worker of this number with its hall, on the heap.
+/// The worker of this number with what it shares, on the heap.
 fn owned(
     alloc: Global,
-    hall: &Arc<Hall>,
+    shared: &Arc<SharedPool>,
     worker: WordWorker,
     number: u32,
 ) -> Result<Box<OwnWorker>, AllocError>
-    requires of { IsWorker hall.now.value worker }
+    requires of { IsWorker shared.now.value worker }
     requires number { number ≡ worker.member.number }
     ensures { IfOk result (λ own. own.value ≡ worker) }
 {
-    let hall = Arc::try_clone(hall)?;
-    match Box::new(alloc, OwnWorker::new(hall, worker, number)) {
+    let shared = Arc::try_clone(shared)?;
+    match Box::new(alloc, OwnWorker::new(shared, worker, number)) {
         Ok(own) => Ok(own),
         Err(_) => Err(AllocError),
     }
 }
 
-/// These workers, of whom the first has number 1, with their hall, each on the heap, the last one
+/// These workers, of whom the first has number 1, with what they share, each on the heap, the last one
 /// first.
 fn boxed(
     alloc: Global,
-    hall: &Arc<Hall>,
+    shared: &Arc<SharedPool>,
     mut workers: Vec<WordWorker>,
 ) -> Result<Vec<Box<OwnWorker>>, AllocError>
-    requires each { All (IsWorker hall.now.value) workers.items }
+    requires each { All (IsWorker shared.now.value) workers.items }
     requires numbers { numbers_of workers.items ≡ range_with_len 1 (length workers.items) }
     requires few { length workers.items ≤ 64 }
     ensures { IfOk result (λ boxes. reverse (map (λ own. own.value) boxes.items) ≡ workers.items) }
 {
     let mut boxes = Vec::with_capacity(alloc, workers.len())?;
     while let Some(worker) = workers.pop() {
-        boxes.push(owned(alloc, hall, worker, workers.len() as u32 + 1)?)?;
+        boxes.push(owned(alloc, shared, worker, workers.len() as u32 + 1)?)?;
     }
     Ok(boxes)
 }
@@ -97,7 +97,7 @@ fn opened(alloc: Global, limits: &Limits) -> Result<Vec<Box<OwnWorker>>, Refusal
     }
 }
 
-/// All workers of these words, with one hall, the last one first.
+/// All workers of these words, with one shared pool, the last one first.
 fn shared(
     alloc: Global,
     ground: Ground,
@@ -107,11 +107,11 @@ fn shared(
     ensures { IfOk result (λ boxes. reverse (map (λ own. own.value) boxes.items) ≡ workers.items) }
 {
     let _ = ground.limits();
-    let hall = Hall::new(alloc, ground)?;
-    let Ok(hall) = Arc::new(alloc, hall) else {
+    let shared = SharedPool::new(alloc, ground)?;
+    let Ok(shared) = Arc::new(alloc, shared) else {
         return Err(AllocError);
     };
-    boxed(alloc, &hall, workers)
+    boxed(alloc, &shared, workers)
 }
 
 /// Puts these workers into the handles, the last into the first. Those that were there are lost.

@@ -3,7 +3,7 @@
 ghost use Rattle.std.specs.Prelude.{◌≡◌, ◌≤◌, None, length, map};
 ghost use Rattle.mbuf.specs.Acts.{HasRoom, new_packet};
 ghost use Rattle.mbufpool_c.specs.Segments.{ShowsSegment, segment_of as segment_in};
-ghost use Rattle.mbufpool_c.specs.Statuses.{ActsIn, ActsAs, AreTold, DoesAs, MakesBulk, MakesNew, TellsBulk, TellsNumber, TellsNew, WorkerRemains, new_at, status_of as status_in, status_of_result, replied};
+ghost use Rattle.mbufpool_c.specs.Statuses.{ActsIn, ActsAs, AreTold, DoesAs, MakesBulk, MakesNew, TellsBulk, TellsNumber, TellsNew, WorkerRemains, new_at, status_of_answer as status_in, status_of_result, replied};
 
 use crate::worker_handle::WorkerHandle;
 use crate::workers::OwnWorker;

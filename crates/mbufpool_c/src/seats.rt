@@ -2,13 +2,13 @@
 
 ghost use Rattle.std.specs.Prelude.{◌≡◌, ◌+◌, ◌^◌, ◌<◌, ◌≤◌, [], length, ℕ, None, Some, IfOk, IfErr};
 ghost use Rattle.commons.specs.Bag.{bag};
-ghost use Rattle.commons.specs.Calls.{Did, GetList, PutList, CommonCount, with_list as with_elements};
+ghost use Rattle.commons.specs.Calls.{Did, GetList, PutList, CommonCount, lent_list as with_elements};
 ghost use Rattle.ground.specs.Opening.{IsGroundCause};
 ghost use Rattle.ground.specs.Own.{Owned};
 ghost use Rattle.ground.specs.Parting.{IsBoth, less_part, newcomer};
 ghost use Rattle.ground.specs.Rule.{first_known};
 ghost use Rattle.ground.specs.Seats.{IsOf};
-ghost use Rattle.lending.specs.Lending.{GetsLoans, IsSplitCause, PutsLoans, with_list};
+ghost use Rattle.lending.specs.Lending.{GetsLoans, IsSplitCause, PutsLoans, lent_list};
 ghost use Rattle.lending.specs.Pools.{AreAt, none_of};
 ghost use Rattle.stack_lf.specs.Remaining.{ReadsRemaining};
 ghost use Rattle.stack_lf.specs.Sides.{side_of};
@@ -201,7 +201,7 @@ impl OwnSeat {
     pub fn get_lent(&mut self, out: &mut [u32], loans: &mut Loans) -> Result<(), Cause>
         requires some { 0 < length out.old }
         requires loans { AreAt self.old loans.old }
-        ensures { GetsLoans (length out.old) (with_list result out.new) self.old loans.old self.new loans.new }
+        ensures { GetsLoans (length out.old) (lent_list result out.new) self.old loans.old self.new loans.new }
     {
         let Some(lender) = self.lender.take() else {
             unreachable!()

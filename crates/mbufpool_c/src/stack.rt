@@ -8,7 +8,7 @@ ghost use Rattle.ground.specs.Parting.{less_part, newcomer};
 ghost use Rattle.ground.specs.Rule.{first_known};
 ghost use Rattle.ground.specs.Seats.{Seated};
 ghost use Rattle.lending.specs.Lending.{IsSplitCause};
-ghost use Rattle.mbufpool_c.specs.Stacks.{AreLent, GetsIn, HasBack, KeepsSeat, PutsIn, CountsIn, RefusesSplit, RefusesStack, RemainsIn, Splits, number_in, stack_limits, stack_limits_at, status_of as status_in, status_of_get as status_in_get};
+ghost use Rattle.mbufpool_c.specs.Stacks.{AreLent, GetsIn, HasBack, KeepsSeat, PutsIn, CountsIn, RefusesSplit, RefusesStack, RemainsIn, Splits, number_of_cause, stack_limits, stack_limits_at, status_of_put as status_in, status_of_get as status_in_get};
 
 use crate::seat_with_loans::SeatWithLoans;
 use crate::seats::OwnSeat;
@@ -34,7 +34,7 @@ pub(crate) fn status_of(answer: Result<(), Refusal>) -> u32
 /// The number of a cause.
 #[inline(always)]
 fn number(cause: Cause) -> u32
-    ensures { result ≡ number_in cause }
+    ensures { result ≡ number_of_cause cause }
 {
     match cause {
         Cause::Refused(cause) => cause.number(),

@@ -7,7 +7,7 @@ ghost use Rattle.mbufpool_c.specs.Segments.{seg_at};
 ghost use Rattle.mbufpool_c.specs.Statuses.{WorkerReads};
 ghost use Rattle.word_pool.specs.Workers.{Acts, IsWorker};
 
-use crate::hall::{Hall, Sitter};
+use crate::shared::{Returned, SharedPool};
 use commons::packet::Seg;
 use commons::refusal::Refusal;
 use mbuf::acts::{Act, Answer};
@@ -18,63 +18,63 @@ use std::marker::Model;
 use std::sync::Arc;
 use word_pool::worker::WordWorker;
 
-/// A worker, with the hall of its pool, which is freed with the last of its workers. It can be sent
+/// A worker, with what its pool's workers share, which is freed with the last of its workers. It can be sent
 /// to a thread. One that is dropped has died: what it has is lost to the pool.
 #[derive(Drop)]
 pub struct OwnWorker {
-    hall: Arc<Hall>,
+    shared: Arc<SharedPool>,
     worker: WordWorker,
     number: u32,
 }
 
 impl Model for OwnWorker {
     ghost use Rattle.std.specs.Prelude.{◌≡◌};
-    ghost use Rattle.word_pool.specs.Workers.{Manned, IsWorker};
+    ghost use Rattle.word_pool.specs.Workers.{WorkerState, IsWorker};
 
-    ghost Value = { Manned };
+    ghost Value = { WorkerState };
 
     ghost view = { λ w. w.worker };
 
-    ghost invariant = { λ w. IsWorker w.hall.value w.worker × (w.number ≡ w.worker.member.number) };
+    ghost invariant = { λ w. IsWorker w.shared.value w.worker × (w.number ≡ w.worker.member.number) };
 }
 
 impl OwnWorker {
-    /// The worker of this number, in this hall.
-    pub(crate) fn new(hall: Arc<Hall>, worker: WordWorker, number: u32) -> OwnWorker
-        requires of { IsWorker hall.value worker }
+    /// The worker of this number, of this pool.
+    pub(crate) fn new(shared: Arc<SharedPool>, worker: WordWorker, number: u32) -> OwnWorker
+        requires of { IsWorker shared.value worker }
         requires number { number ≡ worker.member.number }
         ensures { result ≡ worker }
     {
         OwnWorker {
-            hall,
+            shared,
             worker,
             number,
         }
     }
 
-    /// The hall of its pool, once more, unless there are too many owners.
-    pub(crate) fn hall(&self) -> Result<Arc<Hall>, AllocError>
-        ensures { IfOk result (λ hall. IsWorker hall.value self.now) }
+    /// What it shares, once more, unless there are too many owners.
+    pub(crate) fn shared(&self) -> Result<Arc<SharedPool>, AllocError>
+        ensures { IfOk result (λ shared. IsWorker shared.value self.now) }
     {
-        Arc::try_clone(&self.hall)
+        Arc::try_clone(&self.shared)
     }
 
     /// Whether its pool is marked.
     pub(crate) fn is_marked(&self) -> bool {
-        let hall: &Hall = &self.hall;
-        hall.is_marked()
+        let shared: &SharedPool = &self.shared;
+        shared.is_marked()
     }
 
-    /// Leaves the worker in its chair, in this place, and answers its number.
+    /// Leaves the worker in its entry, in this place, and answers its number.
     pub(crate) fn leave(self, place: Box<Option<WordWorker>>) -> u32
         ensures { result ≡ self.member.number }
     {
         let OwnWorker {
-            hall,
+            shared,
             worker,
             number,
         } = self;
-        hall.leave(Sitter::new(place, worker, number));
+        shared.leave(Returned::new(place, worker, number));
         number
     }
 
@@ -95,7 +95,7 @@ impl OwnWorker {
     pub fn changes_left(&mut self) -> u64
         ensures { WorkerReads self.old result self.new }
     {
-        self.worker.changes_left(self.hall.ground())
+        self.worker.changes_left(self.shared.ground())
     }
 
     /// Does this, beside the others, and answers with room for a bulk of `ROOM` packets.
@@ -104,7 +104,7 @@ impl OwnWorker {
         requires { HasRoom ROOM act }
         ensures { Acts act self.old (as_reply result) self.new }
     {
-        self.worker.act_in(self.hall.ground(), act)
+        self.worker.act_in(self.shared.ground(), act)
     }
 
     /// Makes a packet, beside the others, and answers its slot.
@@ -112,7 +112,7 @@ impl OwnWorker {
     pub fn alloc(&mut self) -> Result<Pid, Refusal>
         ensures { Acts Act.Alloc self.old (allocated result self.new.member.table) self.new }
     {
-        self.worker.alloc(self.hall.ground())
+        self.worker.alloc(self.shared.ground())
     }
 
     /// Makes as many packets as `slots` has places, all or none, and gives their slots.
@@ -121,7 +121,7 @@ impl OwnWorker {
         ensures { Acts (Act.AllocBulk (length slots.old)) self.old
             (allocated_bulk (with_list result slots.new) self.new.member.table) self.new }
     {
-        self.worker.alloc_bulk(self.hall.ground(), slots)
+        self.worker.alloc_bulk(self.shared.ground(), slots)
     }
 
     /// Frees a packet, and answers what was freed.
@@ -129,7 +129,7 @@ impl OwnWorker {
     pub fn free(&mut self, slot: Pid) -> Result<Freed, Refusal>
         ensures { Acts (Act.Free slot) self.old (freed result) self.new }
     {
-        self.worker.free(self.hall.ground(), slot)
+        self.worker.free(self.shared.ground(), slot)
     }
 
     /// Clones a packet, and answers the clone's slot.
@@ -137,7 +137,7 @@ impl OwnWorker {
     pub fn clone_packet(&mut self, slot: Pid) -> Result<Pid, Refusal>
         ensures { Acts (Act.ClonePacket slot) self.old (cloned result self.new.member.table) self.new }
     {
-        self.worker.clone_packet(self.hall.ground(), slot)
+        self.worker.clone_packet(self.shared.ground(), slot)
     }
 
     /// The element of the first segment of the packet in a slot, or 0 where none stands there.

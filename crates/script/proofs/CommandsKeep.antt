@@ -11,7 +11,7 @@ use Rattle.script_text.specs.PoolLine.{one_pool}
 use Rattle.pool_model.specs.Pool.{Pool, new_pool}
 use Rattle.pool_model.specs.PacketModel.{perform, after_acts}
 use Rattle.pool_model.proofs.AfterActs.{after_one_more}
-use Rattle.script.specs.Replay.{One, Run, Stock, asked, done_for, end_of, new_run, obey, perform_on}
+use Rattle.script.specs.Replay.{One, Run, Stock, asked, done_for, end_of, new_run, played, perform_on}
 use Rattle.twin_acts.specs.declared.acts.TwinAct.{TwinAct}
 use Rattle.twin_acts.specs.declared.acts.TwinAct.TheVariants.{OnFirst}
 
@@ -23,15 +23,15 @@ module _ (P : Stock → Type 0) (kept : (stock : Stock) (w : ℕ) (act : TwinAct
   done_for-keeps (Ok act) worker c run p = kept run.stock worker act p
 
   -- each command asks at most one act of the pools
-  obey-keeps : (worker : ℕ) (c : Command) (run : Run) → P run.stock → P (obey worker c run).1.stock
-  obey-keeps worker c run p = done_for-keeps (asked (run.stands worker) c) worker c run p
+  played-keeps : (worker : ℕ) (c : Command) (run : Run) → P run.stock → P (played worker c run).1.stock
+  played-keeps worker c run p = done_for-keeps (asked (run.stands worker) c) worker c run p
 
   -- and so do all lines
   pub end_of-keeps : (lines : List Line) (run : Run) → P run.stock → P (end_of lines run).stock
   end_of-keeps [] run p = p
   end_of-keeps (line ∷ lines) run p =
-      end_of-keeps lines (obey line.worker line.command run).1
-      (obey-keeps line.worker line.command run p)
+      end_of-keeps lines (played line.worker line.command run).1
+      (played-keeps line.worker line.command run p)
 
 -- A pool alone that acts, one after another, made of another.
 record IsReachedAlone (start : Pool) (stock : Stock) : Type 0 where

@@ -15,7 +15,7 @@ use Rattle.script.specs.Losing.{AreOfPool, LosesByActs, LosesOnWords}
 use Rattle.share_book.specs.Locked.{AreLeftBy}
 use Rattle.snapshot.specs.Lost.{IsAscending}
 use Rattle.word_pool.specs.Lost.{AreLostOf, left_of}
-use Rattle.word_pool.specs.Workers.{Manned, AreWorkers}
+use Rattle.word_pool.specs.Workers.{WorkerState, AreWorkers}
 
 -- where each element that is listed is below the population, all are
 of_pool : (l : Limits) (elems : List ℕ) → IsAscending elems → ((e : ℕ) → Contains elems e → e < l.population) →
@@ -26,21 +26,21 @@ of_pool l elems ascending below = record {
 }
 
 -- what is lost on words is of the pool
-pub of_pool_on_words : (l : Limits) (g : Grounded) (listed : List ℕ) (ms : List Manned) (elems : List ℕ) → g.limits ≡ l →
+pub of_pool_on_words : (l : Limits) (g : Grounded) (listed : List ℕ) (ms : List WorkerState) (elems : List ℕ) → g.limits ≡ l →
     AreLostOf g listed ms elems → AreOfPool l elems
 of_pool_on_words l g listed ms elems limits are =
     subst (λ (k : Limits). AreOfPool k elems) limits
     (of_pool g.limits elems are.lost.ascending (λ e there. ((are.lost.exactly e).0 there).0))
 
 -- and is lost at the end of a run on words
-pub loses_on_words : (l : Limits) (g : Grounded) (old new : List Manned) (w : ℕ) (elems : List ℕ) → g.limits ≡ l →
+pub loses_on_words : (l : Limits) (g : Grounded) (old new : List WorkerState) (w : ℕ) (elems : List ℕ) → g.limits ≡ l →
     AreWorkers g old → new ≡ left_of w old → AreLostOf g (w ∷ []) new elems → LosesOnWords l w elems
 loses_on_words l g old new w elems limits all left are = record {
   shared = g;
   workers = old;
   limits = limits;
   all = all;
-  lost = subst (λ (ms : List Manned). AreLostOf g (w ∷ []) ms elems) left are;
+  lost = subst (λ (ms : List WorkerState). AreLostOf g (w ∷ []) ms elems) left are;
 }
 
 -- what is lost under the lock is of the pool

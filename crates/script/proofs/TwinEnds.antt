@@ -11,7 +11,7 @@ use Rattle.snapshot.specs.Snapshots.{statement_in}
 use Rattle.share_book.specs.Locked.{AreTwinsLeftBy}
 use Rattle.book.specs.declared.closed_twin.ClosedTwin.{ClosedTwin}
 use Rattle.twin_acts.specs.declared.acts.TwinAct.{TwinAct}
-use Rattle.word_pool.specs.TwinWorkers.{AllTwinsStay, AreTwinWorkers, TwinManned, firsts_of, twins_of}
+use Rattle.word_pool.specs.TwinWorkers.{AllTwinsStay, AreTwinWorkers, TwinState, firsts_of, twins_of}
 use Rattle.script.specs.Running.{EndByActs}
 
 -- both statements are those of the pools that acts made of new ones
@@ -30,16 +30,16 @@ end_by_acts l k c first second reached =
     subst (λ (x : Limits). EndByActs l x s t) second (subst (λ (x : Limits). EndByActs x c.second_limits s t) first ends)
 
 -- the workers of two grounds are as many as these have
-pub twins_len : (g h : Grounded) (ms : List TwinManned) → AreTwinWorkers g h ms → length ms ≡ g.limits.workers
+pub twins_len : (g h : Grounded) (ms : List TwinState) → AreTwinWorkers g h ms → length ms ≡ g.limits.workers
 twins_len g h ms all =
-    sym (length-map ms (λ (m : TwinManned). m.member))
+    sym (length-map ms (λ (m : TwinState). m.member))
     ∙ sym (length-map (twins_of ms) (λ (t : TwinMember). t.first))
     ∙ sym (length-map (firsts_of ms) (λ (m : Member). m.number))
     ∙ ap (λ (ns : List ℕ). length ns) all.first_numbers
     ∙ length-range_with_len 1 g.limits.workers
 
 -- what is written back of a slice of them all, each of whom stayed, are all workers again
-pub twins_after : (g h : Grounded) (items lent new : List TwinManned) (len : ℕ) →
+pub twins_after : (g h : Grounded) (items lent new : List TwinState) (len : ℕ) →
     (AreTwinWorkers g h lent → AllTwinsStay lent new → AreTwinWorkers g h new) → lent ≡ items → length lent ≡ len →
     AreTwinWorkers g h items → AllTwinsStay lent new →
     AreTwinWorkers g h (take len (new ++ drop (length new) items))

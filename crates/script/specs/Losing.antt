@@ -16,7 +16,7 @@ use Rattle.script_text.specs.Commands.{Line}
 use Rattle.script_text.specs.Grammar.{IsCause, IsScript}
 use Rattle.snapshot.specs.Lost.{IsAscending}
 use Rattle.word_pool.specs.Lost.{AreLostOf, left_of}
-use Rattle.word_pool.specs.Workers.{Manned, AreWorkers}
+use Rattle.word_pool.specs.Workers.{WorkerState, AreWorkers}
 
 -- Under the lock: of a new pool of these limits after some acts of its workers, one after another,
 -- exactly these elements are in the cache of this one or held by it alone. Which acts these are
@@ -30,7 +30,7 @@ LosesByActs l worker elems =
 -- held by it alone, by what the ground left once the seats of all others had become one.
 pub record LosesOnWords (l : Limits) (worker : ℕ) (elems : List ℕ) : Type 0 where
   pub shared : Grounded
-  pub workers : List Manned
+  pub workers : List WorkerState
   pub limits : shared.limits ≡ l
   pub all : AreWorkers shared workers
   pub lost : AreLostOf shared (worker ∷ []) (left_of worker workers) elems

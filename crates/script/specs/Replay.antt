@@ -225,15 +225,15 @@ done_for (Ok act) worker command run =
     (done.0, record { stock = done.1; stands = stands_after worker command done.0 run.stands })
 
 -- the reply to a worker's command, and what is left
-abbrev pub obey : ℕ → Command → Run → Reply × Run
-obey worker command run = done_for (asked (run.stands worker) command) worker command run
+abbrev pub played : ℕ → Command → Run → Reply × Run
+played worker command run = done_for (asked (run.stands worker) command) worker command run
 
 -- the reply to each line, with its number
 abbrev pub replies_to : List Line → Run → List (ℕ × Reply)
 replies_to [] run = []
-replies_to (line ∷ lines) run = let done = obey line.worker line.command run in (line.number, done.0) ∷ replies_to lines done.1
+replies_to (line ∷ lines) run = let done = played line.worker line.command run in (line.number, done.0) ∷ replies_to lines done.1
 
 -- what is left after all lines
 abbrev pub end_of : List Line → Run → Run
 end_of [] run = run
-end_of (line ∷ lines) run = end_of lines (obey line.worker line.command run).1
+end_of (line ∷ lines) run = end_of lines (played line.worker line.command run).1

@@ -16,8 +16,8 @@ use Rattle.script_text.specs.declared.lines.Pools.{Pools}
 use Rattle.script_text.specs.Commands.{Line}
 use Rattle.script_text.specs.Grammar.{IsScript}
 use Rattle.twin_acts.specs.declared.acts.TwinAct.{TwinAct}
-use Rattle.word_pool.specs.TwinWorkers.{AreStatementsOfTwins, AreTwinWorkers, TwinManned}
-use Rattle.word_pool.specs.Workers.{Manned, AreWorkers, IsStatementOfWorkers}
+use Rattle.word_pool.specs.TwinWorkers.{AreStatementsOfTwins, AreTwinWorkers, TwinState}
+use Rattle.word_pool.specs.Workers.{WorkerState, AreWorkers, IsStatementOfWorkers}
 
 -- Under the lock: the statement of a new pool of these limits after some acts of its workers, one
 -- after another. Which acts these are isn't said.
@@ -35,7 +35,7 @@ pub record EndByActs (l k : Limits) (s t : Statement) : Type 0 where
 -- what it noted are theirs, all together.
 pub record EndsOnWords (l : Limits) (s : Statement) : Type 0 where
   pub shared : Grounded
-  pub workers : List Manned
+  pub workers : List WorkerState
   pub limits : shared.limits ≡ l
   pub all : AreWorkers shared workers
   pub statement : IsStatementOfWorkers shared workers s
@@ -44,7 +44,7 @@ pub record EndsOnWords (l : Limits) (s : Statement) : Type 0 where
 pub record EndOnWords (l k : Limits) (s t : Statement) : Type 0 where
   pub first_shared : Grounded
   pub second_shared : Grounded
-  pub workers : List TwinManned
+  pub workers : List TwinState
   pub first_limits : first_shared.limits ≡ l
   pub second_limits : second_shared.limits ≡ k
   pub all : AreTwinWorkers first_shared second_shared workers

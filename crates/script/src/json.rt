@@ -7,7 +7,7 @@ ghost use Rattle.script.specs.Printed.{json_for, IsJsonFor};
 ghost use Rattle.script.specs.Replay.{end_of, settled_of};
 ghost use Rattle.script.specs.inside.Standing.{fresh_run};
 
-use crate::playing::obey_all;
+use crate::playing::play_all;
 use crate::sites::Sites;
 use commons::refusal::Refusal;
 use pool_model::settled::Settled;
@@ -53,7 +53,7 @@ fn settled_after(alloc: Global, mut sites: Sites, lines: &[Line]) -> Result<Sett
     ensures settled { IfOk result (λ s. s ≡ settled_of (end_of lines.now (fresh_run sites)).stock) }
     ensures memory { IfErr result (λ refusal. refusal ≡ Refusal.OutOfMemory) }
 {
-    match obey_all(alloc, &mut sites, lines) {
+    match play_all(alloc, &mut sites, lines) {
         Ok(()) => sites.settled(alloc),
         Err(_) => {
             sites.lose();

@@ -1,7 +1,7 @@
 //! A script, played line by line on its pools: `replay`, and what a thread does of one line.
 ghost use Rattle.std.specs.Prelude.{◌≡◌, None, IfOk, IfErr, OnOk};
 ghost use Rattle.mbuf.specs.Acts.{as_reply};
-ghost use Rattle.script.specs.Replay.{CommandHasRoom, replies_to, end_of, new_run, all_named, obey as obeyed, settled_of, stands_after};
+ghost use Rattle.script.specs.Replay.{CommandHasRoom, replies_to, end_of, new_run, all_named, played, settled_of, stands_after};
 ghost use Rattle.script.specs.Settling.{ListsEachPoolOnce, ListsSoundInEach, PlacesInEach};
 ghost use Rattle.script.specs.inside.Standing.{limits_in, run_of, fresh_run, stock_of};
 ghost use Rattle.script.specs.Stands.{stands_in};
@@ -11,6 +11,7 @@ use crate::names::{Names, Stand};
 use crate::sites::Sites;
 use commons::refusal::Refusal;
 use mbuf::acts::{Answer, NewPacket, Reply};
+use mbuf::packets::SLOTS;
 use pool_model::settled::Settled;
 use script_text::commands::{Command, Line, Name, Script};
 use std::alloc::{AllocError, Global};
@@ -73,55 +74,46 @@ pub(crate) fn play(
     let mut names = Names::new(alloc);
     let mut replies = Vec::with_capacity(alloc, lines.len())?;
     for line in lines {
-        let reply = obey(sites, &mut names, line)?;
+        let reply = perform_line(sites, &mut names, line)?;
         replies.push((line.number, reply))?;
     }
     Ok(replies)
 }
 
 /// Performs each line in turn, and keeps no reply.
-pub(crate) fn obey_all(alloc: Global, sites: &mut Sites, lines: &[Line]) -> Result<(), AllocError>
+pub(crate) fn play_all(alloc: Global, sites: &mut Sites, lines: &[Line]) -> Result<(), AllocError>
     ensures sites { OnOk result (stock_of sites.new ≡ (end_of lines.now (fresh_run sites.old)).stock) }
     ensures limits { OnOk result (limits_in (stock_of sites.new) ≡ limits_in (stock_of sites.old)) }
 {
     let mut names = Names::new(alloc);
     for line in lines {
-        obey_line(sites, &mut names, line)?;
+        play_line(sites, &mut names, line)?;
     }
     Ok(())
 }
 
 /// Performs one line, and drops its reply, which has no more room than it needs.
-fn obey_line<'a>(sites: &mut Sites, names: &mut Names<'a>, line: &'a Line) -> Result<(), AllocError>
-    ensures run { OnOk result (run_of sites.new names.new ≡ (obeyed line.now.worker line.now.command (run_of sites.old names.old)).1) }
+fn play_line<'a>(sites: &mut Sites, names: &mut Names<'a>, line: &'a Line) -> Result<(), AllocError>
+    ensures run { OnOk result (run_of sites.new names.new ≡ (played line.now.worker line.now.command (run_of sites.old names.old)).1) }
     ensures limits { limits_in (stock_of sites.new) ≡ limits_in (stock_of sites.old) }
 {
     match &line.command {
-        Command::Bulk(_) => obey_any(sites, names, line),
-        _ => obey_small(sites, names, line),
+        Command::Bulk(_) => play_dropping::<SLOTS>(sites, names, line),
+        _ => play_dropping::<0>(sites, names, line),
     }
 }
 
-/// Performs one line with room for a bulk in its reply, which is dropped.
-fn obey_any<'a>(sites: &mut Sites, names: &mut Names<'a>, line: &'a Line) -> Result<(), AllocError>
-    ensures run { OnOk result (run_of sites.new names.new ≡ (obeyed line.now.worker line.now.command (run_of sites.old names.old)).1) }
-    ensures limits { limits_in (stock_of sites.new) ≡ limits_in (stock_of sites.old) }
-{
-    let _reply = obey(sites, names, line)?;
-    Ok(())
-}
-
-/// Performs one line with no room for a bulk in its reply, which is dropped.
-fn obey_small<'a>(
+/// Performs one line with room for a bulk of `ROOM` packets in its reply, which is dropped.
+fn play_dropping<'a, const ROOM: usize>(
     sites: &mut Sites,
     names: &mut Names<'a>,
     line: &'a Line,
 ) -> Result<(), AllocError>
-    requires room { CommandHasRoom 0 line.now.command }
-    ensures run { OnOk result (run_of sites.new names.new ≡ (obeyed line.now.worker line.now.command (run_of sites.old names.old)).1) }
+    requires room { CommandHasRoom ROOM line.now.command }
+    ensures run { OnOk result (run_of sites.new names.new ≡ (played line.now.worker line.now.command (run_of sites.old names.old)).1) }
     ensures limits { limits_in (stock_of sites.new) ≡ limits_in (stock_of sites.old) }
 {
-    let _reply = obey_in::<0>(sites, names, line)?;
+    let _reply = perform_line::<ROOM>(sites, names, line)?;
     Ok(())
 }
 
@@ -204,26 +196,15 @@ pub fn note<'a, const ROOM: usize>(
     Ok(())
 }
 
-/// Performs one line, and keeps what its names stand for.
-pub(crate) fn obey<'a>(
-    sites: &mut Sites,
-    names: &mut Names<'a>,
-    line: &'a Line,
-) -> Result<Reply, AllocError>
-    ensures done { IfOk result (λ r. (r, run_of sites.new names.new) ≡ obeyed line.now.worker line.now.command (run_of sites.old names.old)) }
-    ensures limits { limits_in (stock_of sites.new) ≡ limits_in (stock_of sites.old) }
-{
-    obey_in(sites, names, line)
-}
-
-/// Performs one line, and answers with room for a bulk of `ROOM` packets.
-pub(crate) fn obey_in<'a, const ROOM: usize>(
+/// Performs one line, keeps what its names stand for, and answers with room for a bulk of `ROOM`
+/// packets.
+pub(crate) fn perform_line<'a, const ROOM: usize>(
     sites: &mut Sites,
     names: &mut Names<'a>,
     line: &'a Line,
 ) -> Result<Answer<ROOM>, AllocError>
     requires room { CommandHasRoom ROOM line.now.command }
-    ensures done { IfOk result (λ r. (as_reply r, run_of sites.new names.new) ≡ obeyed line.now.worker line.now.command (run_of sites.old names.old)) }
+    ensures done { IfOk result (λ r. (as_reply r, run_of sites.new names.new) ≡ played line.now.worker line.now.command (run_of sites.old names.old)) }
     ensures limits { limits_in (stock_of sites.new) ≡ limits_in (stock_of sites.old) }
 {
     let act = match asked(names, line) {

@@ -6,15 +6,16 @@ ghost use Rattle.script_text.specs.Commands.{Line};
 ghost use Rattle.script_text.specs.Grammar.{IsScript, IsCause};
 ghost use Rattle.script.specs.ReplyText.{reply_line};
 ghost use Rattle.script.specs.Printed.{printed_for, IsPrintedFor};
-ghost use Rattle.script.specs.Replay.{CommandHasRoom, end_of, obey as obeyed, replies_to, settled_of};
+ghost use Rattle.script.specs.Replay.{CommandHasRoom, end_of, played, replies_to, settled_of};
 ghost use Rattle.script.specs.inside.Standing.{fresh_run, run_of, stock_of};
 ghost use Rattle.statement_text.specs.StatementText.{text_of_settled};
 
 use crate::names::Names;
-use crate::playing::{obey, obey_in};
+use crate::playing::perform_line;
 use crate::sites::Sites;
 use crate::texts::push_reply;
 use commons::refusal::Refusal;
+use mbuf::packets::SLOTS;
 use script_text::commands::{Command, Line, Script};
 use script_text::parse;
 use statement_text::statement_text;
@@ -100,47 +101,30 @@ fn answer<'a>(
     names: &mut Names<'a>,
     line: &'a Line,
 ) -> Result<(), Refusal>
-    ensures text { OnOk result (out.new.items ≡ out.old.items ++ reply_line line.now.number (obeyed line.now.worker line.now.command (run_of sites.old names.old)).0) }
-    ensures run { OnOk result (run_of sites.new names.new ≡ (obeyed line.now.worker line.now.command (run_of sites.old names.old)).1) }
+    ensures text { OnOk result (out.new.items ≡ out.old.items ++ reply_line line.now.number (played line.now.worker line.now.command (run_of sites.old names.old)).0) }
+    ensures run { OnOk result (run_of sites.new names.new ≡ (played line.now.worker line.now.command (run_of sites.old names.old)).1) }
     ensures memory { IfErr result (λ refusal. refusal ≡ Refusal.OutOfMemory) }
 {
     match &line.command {
-        Command::Bulk(_) => answer_any(out, sites, names, line),
-        _ => answer_small(out, sites, names, line),
+        Command::Bulk(_) => answer_in::<SLOTS>(out, sites, names, line),
+        _ => answer_in::<0>(out, sites, names, line),
     }
 }
 
-/// Performs one line with room for a bulk in the answer, and appends the line that answers it.
-fn answer_any<'a>(
+/// Performs one line with room for a bulk of `ROOM` packets in the answer, and appends the line that
+/// answers it.
+fn answer_in<'a, const ROOM: usize>(
     out: &mut Vec<u8>,
     sites: &mut Sites,
     names: &mut Names<'a>,
     line: &'a Line,
 ) -> Result<(), Refusal>
-    ensures text { OnOk result (out.new.items ≡ out.old.items ++ reply_line line.now.number (obeyed line.now.worker line.now.command (run_of sites.old names.old)).0) }
-    ensures run { OnOk result (run_of sites.new names.new ≡ (obeyed line.now.worker line.now.command (run_of sites.old names.old)).1) }
+    requires { CommandHasRoom ROOM line.now.command }
+    ensures text { OnOk result (out.new.items ≡ out.old.items ++ reply_line line.now.number (played line.now.worker line.now.command (run_of sites.old names.old)).0) }
+    ensures run { OnOk result (run_of sites.new names.new ≡ (played line.now.worker line.now.command (run_of sites.old names.old)).1) }
     ensures memory { IfErr result (λ refusal. refusal ≡ Refusal.OutOfMemory) }
 {
-    match obey(sites, names, line) {
-        Ok(reply) => push_reply(out, line.number, &reply),
-        Err(_) => Err(Refusal::OutOfMemory),
-    }
-}
-
-/// Performs one line with no room for a bulk in the answer, which is small then, and appends the
-/// line that answers it.
-fn answer_small<'a>(
-    out: &mut Vec<u8>,
-    sites: &mut Sites,
-    names: &mut Names<'a>,
-    line: &'a Line,
-) -> Result<(), Refusal>
-    requires { CommandHasRoom 0 line.now.command }
-    ensures text { OnOk result (out.new.items ≡ out.old.items ++ reply_line line.now.number (obeyed line.now.worker line.now.command (run_of sites.old names.old)).0) }
-    ensures run { OnOk result (run_of sites.new names.new ≡ (obeyed line.now.worker line.now.command (run_of sites.old names.old)).1) }
-    ensures memory { IfErr result (λ refusal. refusal ≡ Refusal.OutOfMemory) }
-{
-    match obey_in::<0>(sites, names, line) {
+    match perform_line::<ROOM>(sites, names, line) {
         Ok(reply) => push_reply(out, line.number, &reply),
         Err(_) => Err(Refusal::OutOfMemory),
     }

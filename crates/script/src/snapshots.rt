@@ -10,7 +10,7 @@ ghost use Rattle.script.specs.inside.Standing.{fresh_run, limits_in, stock_of};
 ghost use Rattle.snapshot_json.specs.SnapshotData.{json_of};
 
 use crate::gate::OpenGate;
-use crate::playing::obey_all;
+use crate::playing::play_all;
 use crate::sites::Sites;
 use crate::threaded::{Grounds, run_to_end};
 use commons::refusal::Refusal;
@@ -136,7 +136,7 @@ fn left_on(alloc: Global, mut sites: Sites, lines: &[Line]) -> Result<Snapshots,
     ensures limits { IfOk result (λ s. limits_of s ≡ limits_in (stock_of sites)) }
     ensures memory { IfErr result (λ refusal. refusal ≡ Refusal.OutOfMemory) }
 {
-    match obey_all(alloc, &mut sites, lines) {
+    match play_all(alloc, &mut sites, lines) {
         Ok(()) => sites.snapshots(alloc),
         Err(_) => {
             sites.lose();

@@ -6,7 +6,7 @@ use Rattle.std.proofs.lemmas.List.Elements.{All-append, All-cons, All-nil}
 use Rattle.std.proofs.KnownBytes.{Appends-trans, Consumes-trans}
 use Rattle.std.specs.Io.KnownBytes.{Appends, Consumes, IsAtEnd}
 use Rattle.script_io.specs.Readings.{LosesSome, ReadsMore}
-use Rattle.script_io.specs.Told.{EndsFailed, Takes, Tells, Told, Took, Writes}
+use Rattle.script_io.specs.Told.{EndsFailed, TakesBytes, AddsCalls, Told, Took, Writes}
 
 -- a reader that is at its end gave all that it had, which is no more than the limit
 pub read_whole : (old new : Option (List ℕ)) (bytes : List ℕ) (limit : ℕ) → Consumes old new bytes → IsAtEnd new → length bytes ≤ limit
@@ -52,14 +52,14 @@ pub written_whole : (old new : Option (List ℕ)) (text : List ℕ) (count : ℕ
 written_whole old new text count all written = subst (Appends old new) (take_all count text all) written
 
 -- calls that are told, and then others, are told one after another
-pub told_further : (a b c : Option (List Told)) (xs ys : List Told) → Tells a b xs → Tells b c ys → Tells a c (xs ++ ys)
+pub told_further : (a b c : Option (List Told)) (xs ys : List Told) → AddsCalls a b xs → AddsCalls b c ys → AddsCalls a c (xs ++ ys)
 told_further None b c xs ys p q = tt
 told_further (Some x) None c xs ys p q = absurd p
 told_further (Some x) (Some y) None xs ys p q = absurd q
 told_further (Some x) (Some y) (Some z) xs ys p q = q ∙ ap (λ l. l ++ ys) p ∙ append_assoc x xs ys
 
 -- one write more took bytes
-pub takes_more : (a b c : Option (List Told)) → Takes a b → (call : Told) → Took call → Tells b c (call ∷ []) → Takes a c
+pub takes_more : (a b c : Option (List Told)) → TakesBytes a b → (call : Told) → Took call → AddsCalls b c (call ∷ []) → TakesBytes a c
 takes_more a b c before call took told = record {
   calls = before.calls ++ call ∷ [];
   took = All-append Took before.calls (call ∷ []) before.took (All-cons Took call [] took (All-nil Took));
@@ -67,11 +67,11 @@ takes_more a b c before call took told = record {
 }
 
 -- all writes took bytes
-pub writes_all : (a b : Option (List Told)) → Takes a b → Writes {E = ℕ} a b (Ok tt)
+pub writes_all : (a b : Option (List Told)) → TakesBytes a b → Writes {E = ℕ} a b (Ok tt)
 writes_all a b before = record { calls = before.calls; took = before.took; end = before.told }
 
 -- after those that took bytes one failed
-pub writes_part : (a b c : Option (List Told)) → Takes a b → EndsFailed b c [] → (count : ℕ) → Writes {E = ℕ} a c (Err count)
+pub writes_part : (a b c : Option (List Told)) → TakesBytes a b → EndsFailed b c [] → (count : ℕ) → Writes {E = ℕ} a c (Err count)
 writes_part a b c before ends count = record {
   calls = before.calls;
   took = before.took;

@@ -15,10 +15,10 @@ answer_of (Ok count) = Ok count
 answer_of (Err error) = Err (error_kind error)
 
 -- these calls, and no others, came after those that are told of
-abbrev pub Tells : Option (List Told) → Option (List Told) → List Told → Type 0
-Tells None new calls = ⊤
-Tells (Some before) None calls = ⊥
-Tells (Some before) (Some after) calls = after ≡ before ++ calls
+abbrev pub AddsCalls : Option (List Told) → Option (List Told) → List Told → Type 0
+AddsCalls None new calls = ⊤
+AddsCalls (Some before) None calls = ⊥
+AddsCalls (Some before) (Some after) calls = after ≡ before ++ calls
 
 -- a write of so many bytes failed: it answered an error, or took none of some
 abbrev pub FailsAt : ℕ → Result ℕ ErrorKind → Type 0
@@ -34,20 +34,20 @@ abbrev pub Took : Told → Type 0
 Took call = ¬ Failed call
 
 -- writes that took bytes, and no others, came after those that are told of
-pub record Takes (old new : Option (List Told)) : Type 0 where
+pub record TakesBytes (old new : Option (List Told)) : Type 0 where
   pub calls : List Told
   pub took : All Took calls
-  pub told : Tells old new calls
+  pub told : AddsCalls old new calls
 
 -- the last write failed
 pub record EndsFailed (old new : Option (List Told)) (calls : List Told) : Type 0 where
   pub last : Told
   pub failed : Failed last
-  pub told : Tells old new (calls ++ last ∷ [])
+  pub told : AddsCalls old new (calls ++ last ∷ [])
 
 -- how the writes ended, of which these took bytes: with them, or with one more that failed
 abbrev pub EndsAfter : {E : Type 0} → Option (List Told) → Option (List Told) → List Told → Result Unit E → Type 0
-EndsAfter old new calls (Ok done) = Tells old new calls
+EndsAfter old new calls (Ok done) = AddsCalls old new calls
 EndsAfter old new calls (Err count) = EndsFailed old new calls
 
 -- the writes of a text: each took some of its bytes, but for the last where the answer is an error

@@ -3,7 +3,7 @@ ghost use Rattle.std.specs.Prelude.{◌≡◌, ◌∷◌, [], false, length};
 ghost use Rattle.std.specs.Io.{ReadsAtMost, WritesAtMost};
 ghost use Rattle.std.specs.Io.KnownBytes.{Keeps, ReadConsumes, WriteAppends};
 ghost use Rattle.script_io.specs.Tallies.{MarksRead, MarksWrite};
-ghost use Rattle.script_io.specs.Told.{Tells, answer_of};
+ghost use Rattle.script_io.specs.Told.{AddsCalls, answer_of};
 
 use crate::told::{Sink, Source};
 use std::io;
@@ -41,7 +41,7 @@ impl<R: Source> Read for Tally<R> {
             (R.remaining self.old.inner) (R.remaining self.new.inner) result buf.new }
         ensures marks { MarksRead self.old.failed self.new.failed result }
         // The inner reader was asked once, for as many bytes, and this is what it answered.
-        ensures told { Tells (R.told self.old.inner) (R.told self.new.inner)
+        ensures told { AddsCalls (R.told self.old.inner) (R.told self.new.inner)
             (record { bytes = length buf.old; answer = answer_of result } ∷ []) }
     {
         match self.inner.give(buf) {
@@ -65,7 +65,7 @@ impl<W: Sink> Write for Tally<W> {
             (W.contents self.old.inner) (W.contents self.new.inner) result buf.now }
         ensures marks { MarksWrite self.old.failed self.new.failed result buf.now }
         // The inner writer was asked once, to take these bytes, and this is what it answered.
-        ensures told { Tells (W.told self.old.inner) (W.told self.new.inner)
+        ensures told { AddsCalls (W.told self.old.inner) (W.told self.new.inner)
             (record { bytes = length buf.now; answer = answer_of result } ∷ []) }
     {
         match self.inner.accept(buf) {
@@ -85,7 +85,7 @@ impl<W: Sink> Write for Tally<W> {
     fn flush(&mut self) -> io::Result<()>
         ensures bytes { Keeps (W.contents self.old.inner) (W.contents self.new.inner) }
         ensures marks { self.new.failed ≡ self.old.failed }
-        ensures told { Tells (W.told self.old.inner) (W.told self.new.inner) [] }
+        ensures told { AddsCalls (W.told self.old.inner) (W.told self.new.inner) [] }
     {
         self.inner.settle()
     }

@@ -2,7 +2,7 @@
 ghost use Rattle.std.specs.Prelude.{◌∷◌, [], ℕ, List, None, Option, length};
 ghost use Rattle.std.specs.Io.{ReadsAtMost, WritesAtMost};
 ghost use Rattle.std.specs.Io.KnownBytes.{Keeps, ReadConsumes, WriteAppends};
-ghost use Rattle.script_io.specs.Told.{Tells, Told, answer_of};
+ghost use Rattle.script_io.specs.Told.{AddsCalls, Told, answer_of};
 
 use std::io;
 use std::io::{Read, Write};
@@ -20,7 +20,7 @@ pub trait Source {
     fn give(&mut self, buf: &mut [u8]) -> io::Result<usize>
         ensures bound { ReadsAtMost result buf.new }
         ensures bytes { ReadConsumes (remaining self.old) (remaining self.new) result buf.new }
-        ensures told { Tells (told self.old) (told self.new)
+        ensures told { AddsCalls (told self.old) (told self.new)
             (record { bytes = length buf.old; answer = answer_of result } ∷ []) };
 }
 
@@ -45,13 +45,13 @@ pub trait Sink {
     fn accept(&mut self, buf: &[u8]) -> io::Result<usize>
         ensures bound { WritesAtMost result buf.now }
         ensures bytes { WriteAppends (contents self.old) (contents self.new) result buf.now }
-        ensures told { Tells (told self.old) (told self.new)
+        ensures told { AddsCalls (told self.old) (told self.new)
             (record { bytes = length buf.now; answer = answer_of result } ∷ []) };
 
     /// A flush, which is no write.
     fn settle(&mut self) -> io::Result<()>
         ensures bytes { Keeps (contents self.old) (contents self.new) }
-        ensures told { Tells (told self.old) (told self.new) [] };
+        ensures told { AddsCalls (told self.old) (told self.new) [] };
 }
 
 impl<W: Write> Sink for W {

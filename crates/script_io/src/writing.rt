@@ -1,7 +1,7 @@
 //! A text, written whole or up to the first write that failed.
 ghost use Rattle.std.specs.Prelude.{◌≡◌, ◌≤◌, ◌↔◌, ◌<◌, ◌∷◌, [], IfErr, IfNone, IfSome, IsErr, IsNone, OnOk, OnSome, false, length, take, true};
 ghost use Rattle.std.specs.Io.KnownBytes.{Appends, Keeps};
-ghost use Rattle.script_io.specs.Told.{EndsFailed, Tells, Told, Took, Writes};
+ghost use Rattle.script_io.specs.Told.{EndsFailed, AddsCalls, Told, Took, Writes};
 
 use crate::tally::Tally;
 use crate::told::Sink;
@@ -50,7 +50,7 @@ fn put<W: Sink>(w: &mut Tally<W>, rest: &[u8]) -> Option<usize>
     ensures kept { IfNone result (Keeps (W.contents w.old.inner) (W.contents w.new.inner)) }
     ensures failed { IsNone result ↔ (w.new.failed ≡ true) }
     ensures told { IfSome result (λ _.
-        (call : Told) × Took call × Tells (W.told w.old.inner) (W.told w.new.inner) (call ∷ [])) }
+        (call : Told) × Took call × AddsCalls (W.told w.old.inner) (W.told w.new.inner) (call ∷ [])) }
     ensures broken { IsNone result → EndsFailed (W.told w.old.inner) (W.told w.new.inner) [] }
 {
     match w.write(rest) {

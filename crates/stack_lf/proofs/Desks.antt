@@ -17,7 +17,7 @@ use Rattle.step_core.specs.declared.view.View.{View}
 use Rattle.ground.specs.DeskSeats.{MayOpen, Holds, Fills}
 use Rattle.ground.specs.Own.{Owned}
 use Rattle.ground.specs.Seats.{Seated, view_with_slot}
-use Rattle.stack_lf.specs.Effects.{Offers, Takes, offered_as, taken_as}
+use Rattle.stack_lf.specs.Effects.{OffersOnWords, TakesOnWords, offered_as, taken_as}
 use Rattle.stack_lf.specs.Sides.{side_of}
 use Rattle.stack_lf.specs.Tries.{OfferFailed, Offered, TakeFailed, Taken, DidOnWords}
 use Rattle.stack_lf.proofs.Meeting.{doing, same_seat, kept}
@@ -97,7 +97,7 @@ header_ended v p i none =
 -- the seat's view after an offer, and after a take
 offer_effect : (d : ℕ) (p : List Seg) (s t : Seated) →
     ((i : ℕ) → bag (holds_of_packet p) i ≤ bag s.known.view.holds i) →
-    ((i : ℕ) → bag (own_of_packet p) i ≤ bag s.known.view.headers i) → Offers d p (Ok tt) s t →
+    ((i : ℕ) → bag (own_of_packet p) i ≤ bag s.known.view.headers i) → OffersOnWords d p (Ok tt) s t →
     HasEffect (Offer d p (Ok tt)) (side_of s) (side_of t)
 offer_effect d p s t held own g =
     subst (λ (z : Seated). HasEffect (Offer d p (Ok tt)) (side_of s) (side_of z)) (sym g.1)
@@ -116,7 +116,7 @@ offer_effect d p s t held own g =
     })
 
 -- the packet's holds and headers come to the seat by a take
-take_effect : (d : ℕ) (p : List Seg) (s t : Seated) → Takes d (Ok p) s t →
+take_effect : (d : ℕ) (p : List Seg) (s t : Seated) → TakesOnWords d (Ok p) s t →
     HasEffect (Take d (Ok p)) (side_of s) (side_of t)
 take_effect d p s t g =
     subst (λ (z : Seated). HasEffect (Take d (Ok p)) (side_of s) (side_of z)) (sym g.1)
@@ -130,7 +130,7 @@ take_effect d p s t g =
 -- what an offer did, by its answer
 pub offer_did : (d : ℕ) (p : List Seg) (r : Result (Unit {0}) Refusal) (s t : Seated) →
     ((i : ℕ) → bag (holds_of_packet p) i ≤ bag s.known.view.holds i) →
-    ((i : ℕ) → bag (own_of_packet p) i ≤ bag s.known.view.headers i) → Offers d p r s t →
+    ((i : ℕ) → bag (own_of_packet p) i ≤ bag s.known.view.headers i) → OffersOnWords d p r s t →
     Did DidOnWords side_of s (Offer d p r) t
 offer_did d p (Ok m) s t held own g =
     doing s (Offer d p (Ok m)) t (Offered d p ∷ []) (offered_as p s.known.view) (g.0, refl)
@@ -144,7 +144,7 @@ offer_did d p (Err DeskTaken) s t held own g =
 offer_did d p (Err _) s t held own g = absurd g
 
 -- and what a take did
-pub take_did : (d : ℕ) (r : Result (List Seg) Refusal) (s t : Seated) → Takes d r s t →
+pub take_did : (d : ℕ) (r : Result (List Seg) Refusal) (s t : Seated) → TakesOnWords d r s t →
     Did DidOnWords side_of s (Take d r) t
 take_did d (Ok p) s t g =
     doing s (Take d (Ok p)) t (Taken d p ∷ []) (taken_as p s.known.view) (g.0, refl)

@@ -20,7 +20,7 @@ use Rattle.ground.specs.Seats.{Seated, Note, after, Steps, KnowsLength, KnowsCou
 use Rattle.stack_lf.specs.Sides.{side_of}
 use Rattle.stack_lf.specs.Tries.{Try, Short, Claimed, Counted, notes, readings_of, IsOfCall, IsContended}
 use Rattle.stack_lf.specs.Tries.{KnowsShort, KnowsEnough, KnowsSpent, KnowsRaised, KnowsLowered, IsTold, lying_after, KeepsOrder, DidOnWords}
-use Rattle.stack_lf.specs.Effects.{IsAlone, tried_to, Gets, Puts, Raises, Lowers, lowered_as}
+use Rattle.stack_lf.specs.Effects.{IsAlone, tried_to, GetsOnWords, PutsOnWords, Raises, Lowers, lowered_as}
 use Rattle.stack_lf.proofs.Storing.{bag-minus}
 use Rattle.stack_lf.proofs.Reading.{causes}
 
@@ -71,7 +71,7 @@ headers_as s t a v e = ap {B = ℕ → ℕ} (λ (x : Seated). bag x.known.view.h
 
 -- a get that succeeds brings its elements into the hand, and a refused one leaves all as it was
 get_effect : (tries n : ℕ) (xs : List ℕ) (r : Result (Unit {0}) Refusal) (s t : Seated) →
-    Gets tries n xs r s t → HasEffect (GetList n (with_list r xs)) (side_of s) (side_of t)
+    GetsOnWords tries n xs r s t → HasEffect (GetList n (with_list r xs)) (side_of s) (side_of t)
 get_effect tries n xs (Ok _) s t g = record {
   limits = ap (λ (x : Seated). x.known.limits) g.4;
   hand = λ i.
@@ -112,7 +112,7 @@ raise_contended i _ c = absurd c
 
 -- what a get did, from what it leaves of the seat
 pub get_did : (n : ℕ) (xs : List ℕ) (r : Result (Unit {0}) Refusal) (s t : Seated) →
-    Gets s.known.limits.tries n xs r s t → (IsAlone s → r ≢ Err Contended) →
+    GetsOnWords s.known.limits.tries n xs r s t → (IsAlone s → r ≢ Err Contended) →
     (r ≡ Err NoEntries → KnowsShort n s) → IfOk r (λ _. KnowsEnough n s) →
     Did DidOnWords side_of s (GetList n (with_list r xs)) t
 get_did n xs (Ok m) s t g alone told enough =
@@ -127,7 +127,7 @@ get_did n xs (Err e) s t g alone told enough =
 
 -- a put that succeeds takes its elements out of the hand, and a refused one leaves all as it was
 put_effect : (tries : ℕ) (xs : List ℕ) (r : Result (Unit {0}) Refusal) (s t : Seated) →
-    ((i : ℕ) → bag xs i ≤ bag s.known.view.hand i) → Puts tries xs r s t →
+    ((i : ℕ) → bag xs i ≤ bag s.known.view.hand i) → PutsOnWords tries xs r s t →
     HasEffect (PutList xs r) (side_of s) (side_of t)
 put_effect tries xs (Ok _) s t h g = record {
   limits = ap (λ (x : Seated). x.known.limits) g.4;
@@ -142,7 +142,7 @@ put_effect tries xs (Err e) s t h g = ap side_of g.4
 
 -- what a put did, from what it leaves of the seat
 pub put_did : (xs : List ℕ) (r : Result (Unit {0}) Refusal) (s t : Seated) →
-    ((i : ℕ) → bag xs i ≤ bag s.known.view.hand i) → Puts s.known.limits.tries xs r s t →
+    ((i : ℕ) → bag xs i ≤ bag s.known.view.hand i) → PutsOnWords s.known.limits.tries xs r s t →
     (IsAlone s → r ≢ Err Contended) → Did DidOnWords side_of s (PutList xs r) t
 put_did xs (Ok m) s t h g alone =
     doing s (PutList xs (Ok m)) t g.0 _ g.3

@@ -11,7 +11,7 @@ use Rattle.step_core.specs.Bags.{minus}
 use Rattle.step_core.specs.Views.{raised}
 use Rattle.ground.specs.Seats.{Seated, Steps, KnowsCount}
 use Rattle.stack_lf.specs.Tries.{Try, Reserved, Short, Added, Raised, Counted, IsLostReserve, IsLostCut, IsLostPush, IsLostRaise, KnowsShort, KnowsEnough, KnowsSpent, KnowsRaised}
-use Rattle.stack_lf.specs.Effects.{tried_to, seen_as, cut_as, push_as, IsAlone, Repeats, EndsReserve, EndsCut, EndsPush, EndsRaise, Gets, Puts, Raises}
+use Rattle.stack_lf.specs.Effects.{tried_to, seen_as, cut_as, push_as, IsAlone, Repeats, EndsReserve, EndsCut, EndsPush, EndsRaise, GetsOnWords, PutsOnWords, Raises}
 use Rattle.stack_lf.proofs.Composing.{try_more, tries_more, last_try, knew_length, knew_count}
 
 -- ---- a get
@@ -56,7 +56,7 @@ fewer k tries ts less e = omega arith
 
 -- a get that succeeds: a reservation and a cut that won, each behind tries that lost
 pub get_met : (tries n : ℕ) (xs : List ℕ) (s t u : Seated) → Reserves tries n (Ok tt) s t →
-    Cuts tries n xs (Ok tt) t u → Gets tries n xs (Ok tt) s u
+    Cuts tries n xs (Ok tt) t u → GetsOnWords tries n xs (Ok tt) s u
 get_met tries n xs s t u r c =
     let misses : List Try = r.3.0 in
     let cuts : List Try = c.3.0 in
@@ -92,7 +92,7 @@ get_met tries n xs s t u r c =
 
 -- a get whose reservation is refused: a length below n was read, or all tries lost
 pub get_unreserved : (tries n : ℕ) (xs : List ℕ) (cause : Refusal) (s t : Seated) →
-    Reserves tries n (Err cause) s t → Gets tries n xs (Err cause) s t
+    Reserves tries n (Err cause) s t → GetsOnWords tries n xs (Err cause) s t
 get_unreserved tries n xs NoEntries s t r =
     let misses : List Try = r.3.0 in (
       misses ++ Short r.4.0 ∷ [],
@@ -127,7 +127,7 @@ given_back s t u w n ts cuts look before seen first e f d =
 -- back
 pub get_uncut : (tries n : ℕ) (xs : List ℕ) (cause : Refusal) (s t u w : Seated) →
     Reserves tries n (Ok tt) s t → Cuts tries n xs (Err cause) t u → Steps (Add n) Done u w →
-    Gets tries n xs (Err cause) s w
+    GetsOnWords tries n xs (Err cause) s w
 get_uncut tries n xs HeadSpent s t u w r c d =
     let misses : List Try = r.3.0 in
     let cuts : List Try = c.3.0 in
@@ -187,7 +187,7 @@ Pushes tries xs r s t = Repeats tries (IsLostPush xs) (EndsPush xs) r s t
 
 -- a put that succeeds: a push that won, behind tries that lost, and the addition to the length
 pub put_met : (tries : ℕ) (xs : List ℕ) (s t u : Seated) → Pushes tries xs (Ok tt) s t →
-    Steps (Add (length xs)) Done t u → Puts tries xs (Ok tt) s u
+    Steps (Add (length xs)) Done t u → PutsOnWords tries xs (Ok tt) s u
 put_met tries xs s t u p d =
     let ts : List Try = p.3.0 in
     let won = p.4 in
@@ -217,7 +217,7 @@ put_met tries xs s t u p d =
 
 -- a put whose push is refused: the head was spent, or all tries lost
 pub put_unmet : (tries : ℕ) (xs : List ℕ) (cause : Refusal) (s t : Seated) →
-    Pushes tries xs (Err cause) s t → Puts tries xs (Err cause) s t
+    Pushes tries xs (Err cause) s t → PutsOnWords tries xs (Err cause) s t
 put_unmet tries xs HeadSpent s t p =
     let ts : List Try = p.3.0 in
     let stop = p.4 in

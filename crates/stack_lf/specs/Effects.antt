@@ -143,14 +143,14 @@ EndsRaise l i (Err _) s t = ⊥
 -- ---- a whole call, by its answer
 
 -- a get: its elements come into the hand
-abbrev pub Gets : ℕ → ℕ → List ℕ → Result (Unit {0}) Refusal → Seated → Seated → Type 0
-Gets tries n xs (Ok _) s t =
+abbrev pub GetsOnWords : ℕ → ℕ → List ℕ → Result (Unit {0}) Refusal → Seated → Seated → Type 0
+GetsOnWords tries n xs (Ok _) s t =
     (ts : List Try) × (look : Option Look) × (seen : ℕ) × IsGet tries n (Ok xs) ts
     × (t ≡ tried_to s ts (record (seen_as s.known.view look seen) {
       hand =
           s.known.view.hand ++ xs;
     }))
-Gets tries n xs (Err cause) s t =
+GetsOnWords tries n xs (Err cause) s t =
     (ts : List Try) × (look : Option Look) × (seen : ℕ) × IsGet tries n (Err cause) ts
     × (t ≡ tried_to s ts (seen_as s.known.view look seen))
 
@@ -158,11 +158,11 @@ Gets tries n xs (Err cause) s t =
 abbrev pub put_as : List ℕ → View → Option Look → ℕ → View
 put_as xs v look seen = record (seen_as v look seen) { hand = minus v.hand (reverse xs) }
 
-abbrev pub Puts : ℕ → List ℕ → Result (Unit {0}) Refusal → Seated → Seated → Type 0
-Puts tries xs (Ok met) s t =
+abbrev pub PutsOnWords : ℕ → List ℕ → Result (Unit {0}) Refusal → Seated → Seated → Type 0
+PutsOnWords tries xs (Ok met) s t =
     (ts : List Try) × (look : Option Look) × (seen : ℕ) × IsPut tries xs (Ok met) ts
     × (t ≡ tried_to s ts (put_as xs s.known.view look seen))
-Puts tries xs (Err cause) s t =
+PutsOnWords tries xs (Err cause) s t =
     (ts : List Try) × (look : Option Look) × (seen : ℕ) × IsPut tries xs (Err cause) ts
     × (t ≡ tried_to s ts (seen_as s.known.view look seen))
 
@@ -196,23 +196,23 @@ abbrev pub taken_as : List Seg → View → View
 taken_as p v = working (seized v p) None
 
 -- an offer, by its answer
-abbrev pub Offers : ℕ → List Seg → Result (Unit {0}) Refusal → Seated → Seated → Type 0
-Offers d p (Ok _) s t =
+abbrev pub OffersOnWords : ℕ → List Seg → Result (Unit {0}) Refusal → Seated → Seated → Type 0
+OffersOnWords d p (Ok _) s t =
     (d < s.known.limits.desks) × (t ≡ laid d (Some p) (after s (notes (Offered d p)) (offered_as p s.known.view)))
     × KnowsEmpty d s.known
-Offers d p (Err NoSuchDesk) s t = (s.known.limits.desks ≤ d) × (t ≡ s)
-Offers d p (Err DeskTaken) s t =
+OffersOnWords d p (Err NoSuchDesk) s t = (s.known.limits.desks ≤ d) × (t ≡ s)
+OffersOnWords d p (Err DeskTaken) s t =
     (found : ℕ) × (d < s.known.limits.desks) × (found ≢ 0)
     × (t ≡ after s (notes (OfferFailed d found)) s.known.view) × KnowsFull d s.known
-Offers d p (Err _) s t = ⊥
+OffersOnWords d p (Err _) s t = ⊥
 
 -- a take, by its answer
-abbrev pub Takes : ℕ → Result (List Seg) Refusal → Seated → Seated → Type 0
-Takes d (Ok p) s t =
+abbrev pub TakesOnWords : ℕ → Result (List Seg) Refusal → Seated → Seated → Type 0
+TakesOnWords d (Ok p) s t =
     (d < s.known.limits.desks) × (t ≡ laid d None (after s (notes (Taken d p)) (taken_as p s.known.view)))
     × KnowsThere d p s.known
-Takes d (Err NoSuchDesk) s t = (s.known.limits.desks ≤ d) × (t ≡ s)
-Takes d (Err DeskEmpty) s t =
+TakesOnWords d (Err NoSuchDesk) s t = (s.known.limits.desks ≤ d) × (t ≡ s)
+TakesOnWords d (Err DeskEmpty) s t =
     (found : ℕ) × (d < s.known.limits.desks) × (found ≢ 2)
     × (t ≡ after s (notes (TakeFailed d found)) s.known.view) × KnowsEmpty d s.known
-Takes d (Err _) s t = ⊥
+TakesOnWords d (Err _) s t = ⊥

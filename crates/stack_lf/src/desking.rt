@@ -6,7 +6,7 @@ ghost use Rattle.commons.specs.Bag.{bag};
 ghost use Rattle.commons.specs.Calls.{without_packet};
 ghost use Rattle.commons.specs.Packets.{holds_of_packet, own_of_packet};
 ghost use Rattle.ground.specs.Seats.{IsOf};
-ghost use Rattle.stack_lf.specs.Effects.{Offers, Takes};
+ghost use Rattle.stack_lf.specs.Effects.{OffersOnWords, TakesOnWords};
 
 use commons::packet::Packet;
 use commons::refusal::Refusal;
@@ -25,7 +25,7 @@ pub(crate) fn offer(
     requires idle { seat.old.known.view.work ≡ None }
     requires held { (i : ℕ) → bag (holds_of_packet packet) i ≤ bag seat.old.known.view.holds i }
     requires own { (i : ℕ) → bag (own_of_packet packet) i ≤ bag seat.old.known.view.headers i }
-    ensures offered { Offers desk packet (without_packet result) seat.old seat.new }
+    ensures offered { OffersOnWords desk packet (without_packet result) seat.old seat.new }
     ensures kept { IfErr result (λ refused. refused.1 ≡ packet) }
 {
     seat.owned();
@@ -43,12 +43,12 @@ pub(crate) fn offer(
     }
 }
 
-/// Takes the packet off a desk that is full: seizes the desk, takes the packet out, and makes the
+/// TakesOnWords the packet off a desk that is full: seizes the desk, takes the packet out, and makes the
 /// desk empty.
 pub(crate) fn take(ground: &Ground, seat: &mut GroundSeat, desk: u32) -> Result<Packet, Refusal>
     requires of { IsOf ground.now seat.old }
     requires idle { seat.old.known.view.work ≡ None }
-    ensures { Takes desk result seat.old seat.new }
+    ensures { TakesOnWords desk result seat.old seat.new }
 {
     seat.at_desk();
     if ground.limits().desks <= desk as u64 {

@@ -4,7 +4,7 @@ ghost use Rattle.std.specs.Prelude.{◌≡◌, ◌≢◌, ◌<◌, ◌≤◌, Er
 ghost use Rattle.commons.specs.Bounds.{max_population};
 ghost use Rattle.ground.specs.Seats.{IsOf, KnowsEnd};
 ghost use Rattle.stack_lf.specs.Tries.{Walk, elements, IsLostReserve, IsLostCut, KnowsShort, KnowsEnough};
-ghost use Rattle.stack_lf.specs.Effects.{IsAlone, start, Walked, EndsReserve, EndsCut, Gets};
+ghost use Rattle.stack_lf.specs.Effects.{IsAlone, start, Walked, EndsReserve, EndsCut, GetsOnWords};
 
 use crate::attempt::{Attempt, by_tries};
 use crate::tried::Tried;
@@ -102,13 +102,13 @@ impl Attempt for Pop {
     ghost may_again = { λ a k v look seen h. h };
 }
 
-/// Gets as many elements as `out` has places: reserves them, and pops them, or gives back what was
+/// GetsOnWords as many elements as `out` has places: reserves them, and pops them, or gives back what was
 /// reserved.
 #[inline(always)]
 pub(crate) fn get(ground: &Ground, seat: &mut GroundSeat, out: &mut [u32]) -> Result<(), Refusal>
     requires of { IsOf ground.now seat.old }
     requires some { 1 ≤ length out.old }
-    ensures got { Gets ground.now.limits.tries (length out.old) out.new result seat.old seat.new }
+    ensures got { GetsOnWords ground.now.limits.tries (length out.old) out.new result seat.old seat.new }
     ensures told { result ≡ Err Refusal.NoEntries → KnowsShort (length out.old) seat.old }
     ensures enough { IfOk result (λ _. KnowsEnough (length out.old) seat.old) }
     ensures alone { IsAlone seat.old → result ≢ Err Refusal.Contended }

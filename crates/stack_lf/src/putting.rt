@@ -4,7 +4,7 @@ ghost use Rattle.std.specs.Prelude.{◌≡◌, ◌≢◌, ◌<◌, ◌≤◌, Er
 ghost use Rattle.commons.specs.Bag.{bag};
 ghost use Rattle.commons.specs.Bounds.{max_population};
 ghost use Rattle.ground.specs.Seats.{IsOf};
-ghost use Rattle.stack_lf.specs.Effects.{IsAlone, Stored, EndsPush, Puts};
+ghost use Rattle.stack_lf.specs.Effects.{IsAlone, Stored, EndsPush, PutsOnWords};
 ghost use Rattle.stack_lf.specs.Tries.{IsLostPush, last_of};
 
 use crate::attempt::{Attempt, by_tries};
@@ -68,14 +68,14 @@ impl Attempt for Push<'_> {
     ghost may_again = { λ a k v look seen h. h };
 }
 
-/// Puts a list onto the stack, and raises the length afterwards.
+/// PutsOnWords a list onto the stack, and raises the length afterwards.
 #[inline(always)]
 pub(crate) fn put(ground: &Ground, seat: &mut GroundSeat, list: &[u32]) -> Result<(), Refusal>
     requires of { IsOf ground.now seat.old }
     requires some { 1 ≤ length list.now }
     requires hand { (i : ℕ) → bag list.now i ≤ bag seat.old.known.view.hand i }
     requires chain { seat.old.known.view.chain ≡ None }
-    ensures put { Puts ground.now.limits.tries list.now result seat.old seat.new }
+    ensures put { PutsOnWords ground.now.limits.tries list.now result seat.old seat.new }
     ensures alone { IsAlone seat.old → result ≢ Err Refusal.Contended }
 {
     match by_tries(ground, seat, Push { list }, &mut []) {

@@ -4,8 +4,8 @@ use Rattle.commons.specs.Bag.{bag}
 use Rattle.commons.specs.Packets.{holds_of_packet}
 use Rattle.step_core.specs.Bags.{minus, Includes}
 use Rattle.step_core.specs.World.{Work, View, Desk, Packet, World, view_at, no_desk, desk_at, link_in, shelf}
-use Rattle.step_core.specs.Table.{Place, Common, Hand, Held, Table, Offer, Take, Same, Passed, desk_holds, Moves, SameTable}
-use Rattle.step_core.specs.Shows.{Standing, standing, Stands, OnePlace, Shows}
+use Rattle.step_core.specs.Table.{Place, Common, Hand, Held, Table, Offer, Take, Same, Passed, desk_holds, EventMoves, SameTable}
+use Rattle.step_core.specs.Shows.{Standing, standing, Stands, OnePlace, ShowsTable}
 use Rattle.step_core.proofs.Bags.{times-append, times-minus, at_or_else}
 use Rattle.step_core.proofs.Desks.{worked}
 use Rattle.step_core.proofs.Shows.{spells_same, times-replicate_here, times-replicate_other}
@@ -13,8 +13,8 @@ use Rattle.step_core.proofs.Events.{read_here, read_else, read_kept, same_at}
 use Rattle.step_core.proofs.HeldEvents.{held_place, is_held, at_place}
 
 module _ (w : World) (k d : ℕ) (here : k < length w.views) (inside : d < length w.desks) (x : Desk)
-    (hs rs : List ℕ) (work : Option Work) (t s : Table) (a : Shows w t)
-    (b : Shows (worked w k d x hs rs work) s) where
+    (hs rs : List ℕ) (work : Option Work) (t s : Table) (a : ShowsTable w t)
+    (b : ShowsTable (worked w k d x hs rs work) s) where
   same_list : a.common ≡ b.common
   same_list = spells_same (link_in w.links) w.head.top a.common b.common a.spelled b.spelled
 
@@ -62,7 +62,7 @@ module _ (w : World) (k d : ℕ) (here : k < length w.views) (inside : d < lengt
       hs ≡ minus (view_at w.views k).holds (holds_of_packet p)
       → ((i : ℕ) → bag (shelf (desk_at w.desks d)) i ≡ 0) →
       ((i : ℕ) → bag (shelf x) i ≡ bag (holds_of_packet p) i) →
-      Moves w.limits.population (Offer (suc k) d (holds_of_packet p)) t s
+      EventMoves w.limits.population (Offer (suc k) d (holds_of_packet p)) t s
   unfolding new_view
   offers p all is none full = (
     tt,
@@ -142,7 +142,7 @@ module _ (w : World) (k d : ℕ) (here : k < length w.views) (inside : d < lengt
   pub takes : (p : Packet) → hs ≡ (view_at w.views k).holds ++ holds_of_packet p
       → ((i : ℕ) → bag (shelf (desk_at w.desks d)) i ≡ bag (holds_of_packet p) i) →
       ((i : ℕ) → bag (shelf x) i ≡ 0) →
-      Moves w.limits.population (Take (suc k) d (holds_of_packet p)) t s
+      EventMoves w.limits.population (Take (suc k) d (holds_of_packet p)) t s
   unfolding new_view
   takes p is full none = (
     tt,

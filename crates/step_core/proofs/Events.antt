@@ -5,8 +5,8 @@ use Rattle.commons.specs.Bag.{bag}
 use Rattle.step_core.specs.Bags.{minus}
 use Rattle.step_core.specs.World.{Head, Look, Chain, View, World, empty_view, view_at, view_of, desk_at, link_in, shelf}
 use Rattle.step_core.specs.Links.{Spells, first_value}
-use Rattle.step_core.specs.Table.{Table, Get, Put, Same, Moves, SameTable}
-use Rattle.step_core.specs.Shows.{standing, Shows}
+use Rattle.step_core.specs.Table.{Table, Get, Put, Same, EventMoves, SameTable}
+use Rattle.step_core.specs.Shows.{standing, ShowsTable}
 use Rattle.step_core.specs.Steps.{next_head}
 use Rattle.step_core.proofs.Rules.{StackLaw}
 use Rattle.step_core.proofs.Bags.{times-append, times-minus}
@@ -40,7 +40,7 @@ pub record Alike (i : ℕ) (w u : World) : Type 0 where
 
 -- at one element
 pub same_at : (w u : World) (t s : Table) (n : ℕ) → w.limits.population ≡ n →
-    u.limits.population ≡ n → (a : Shows w t) (b : Shows u s) (i : ℕ) → i < n →
+    u.limits.population ≡ n → (a : ShowsTable w t) (b : ShowsTable u s) (i : ℕ) → i < n →
     bag a.common i ≡ bag b.common i → Alike i w u → Same (t i) (s i)
 same_at w u t s n p q a b i lt c m =
     let l : i < w.limits.population = omega arith in let r : i < u.limits.population = omega arith in
@@ -52,7 +52,7 @@ pub quiet_stack : (w : World) (k : ℕ) (h : Head) (n : ℕ) (ls : List ℕ) (u 
     k < length w.views → u.hand ≡ (view_at w.views k).hand → u.zeros ≡ (view_at w.views k).zeros →
     u.holds ≡ (view_at w.views k).holds
     → ((xs ys : List ℕ) → Spells (link_in w.links) w.head.top xs → Spells (link_in ls) h.top ys →
-    xs ≡ ys) → (t s : Table) → Shows w t → Shows (stepped w k h n ls u) s →
+    xs ≡ ys) → (t s : Table) → ShowsTable w t → ShowsTable (stepped w k h n ls u) s →
     SameTable w.limits.population t s
 quiet_stack w k h n ls u here hand zeros holds spelled t s a b i lt =
     same_at w (stepped w k h n ls u) t s w.limits.population refl refl a b i lt
@@ -72,16 +72,16 @@ quiet_stack w k h n ls u here hand zeros holds spelled t s a b i lt =
     })
 
 module _ (w : World) (k : ℕ) (here : k < length w.views) (busy : 0 < (view_at w.views k).part) (law : StackLaw w) where
-  common_is : (t : Table) (a : Shows w t) → law.common ≡ a.common
+  common_is : (t : Table) (a : ShowsTable w t) → law.common ≡ a.common
   common_is t a = spells_same _ _ _ _ law.spelled a.spelled
 
   pub cut_gets : (l : Look) (u : View) → (view_at w.views k).look ≡ Some l →
       w.head.top ≡ l.head.top → w.head.count ≡ l.head.count
       → u.hand ≡ (view_at w.views k).hand ++ l.front → u.zeros ≡ (view_at w.views k).zeros →
       u.holds ≡ (view_at w.views k).holds
-      → (t s : Table) → Shows w t →
-      Shows (stepped w k (next_head l.next l.head.count) w.length w.links u) s →
-      Moves w.limits.population (Get (suc k) l.front) t s
+      → (t s : Table) → ShowsTable w t →
+      ShowsTable (stepped w k (next_head l.next l.head.count) w.length w.links u) s →
+      EventMoves w.limits.population (Get (suc k) l.front) t s
   cut_gets l u e top count hand zeros holds t s a b =
       let m = look_of w k law here busy l e in
       -- the list before is the front and the list after
@@ -139,9 +139,9 @@ module _ (w : World) (k : ℕ) (here : k < length w.views) (busy : 0 < (view_at 
       c.end ≡ l.head.top → w.head.top ≡ l.head.top
       → u.hand ≡ minus (view_at w.views k).hand c.items → u.zeros ≡ (view_at w.views k).zeros →
       u.holds ≡ (view_at w.views k).holds
-      → (t s : Table) → Shows w t →
-      Shows (stepped w k (next_head (first_value c.items) l.head.count) w.length w.links u) s →
-      Moves w.limits.population (Put (suc k) c.items) t s
+      → (t s : Table) → ShowsTable w t →
+      ShowsTable (stepped w k (next_head (first_value c.items) l.head.count) w.length w.links u) s →
+      EventMoves w.limits.population (Put (suc k) c.items) t s
   push_puts l c u e ends top hand zeros holds t s a b =
       let m = chain_of w k law here busy c e in
       let all : b.common ≡ c.items ++ a.common =

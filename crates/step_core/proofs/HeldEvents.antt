@@ -3,8 +3,8 @@ use Rattle.std.proofs.Common.{◌≡◌, ℕ, suc, ◌+◌, ◌<◌, ◌≢◌, 
 use Rattle.commons.specs.Bag.{bag}
 use Rattle.step_core.specs.Bags.{without}
 use Rattle.step_core.specs.World.{View, Desk, World, view_at, link_in, shelf, all_holds}
-use Rattle.step_core.specs.Table.{Place, Common, Hand, Held, Table, Attach, Free, Same, Claimed, Gained, Freed, Becomes, Moves, SameTable, Claim}
-use Rattle.step_core.specs.Shows.{Standing, standing, Stands, OnePlace, Shows}
+use Rattle.step_core.specs.Table.{Place, Common, Hand, Held, Table, Attach, Free, Same, Claimed, Gained, Freed, Becomes, EventMoves, SameTable, Claim}
+use Rattle.step_core.specs.Shows.{Standing, standing, Stands, OnePlace, ShowsTable}
 use Rattle.step_core.proofs.Rules.{FourLaws}
 use Rattle.step_core.proofs.Bags.{times-nil, times-head, times-last, times-but_last, times-one, times-not_one, times-other, times-without_here, times-without_other, at_or_else}
 use Rattle.step_core.proofs.Frame.{moved}
@@ -32,7 +32,7 @@ pub at_place : (P : Place → Type 0) (p q : Place) → p ≡ q → P q → P p
 at_place P p q e h = subst P (sym e) h
 
 module _ (w : World) (k : ℕ) (here : k < length w.views) (law : FourLaws w) (cs : List ℕ) (u : View)
-    (t s : Table) (a : Shows w t) (b : Shows (moved w k w.head w.length w.links cs u) s) where
+    (t s : Table) (a : ShowsTable w t) (b : ShowsTable (moved w k w.head w.length w.links cs u) s) where
   same_common : a.common ≡ b.common
   same_common = spells_same (link_in w.links) w.head.top a.common b.common a.spelled b.spelled
 
@@ -55,7 +55,7 @@ module _ (w : World) (k : ℕ) (here : k < length w.views) (law : FourLaws w) (c
   pub claims : (i : ℕ) → 0 < bag (view_at w.views k).hand i →
       u.hand ≡ without i (view_at w.views k).hand → u.zeros ≡ (view_at w.views k).zeros →
       u.holds ≡ (view_at w.views k).holds ++ i ∷ [] →
-      Moves w.limits.population (Claim (suc k) i) t s
+      EventMoves w.limits.population (Claim (suc k) i) t s
   claims i mine hand zeros holds = (
     tt,
     at_or_else i (λ x. x < w.limits.population → Becomes (Claim (suc k) i) x (t x) (s x))
@@ -100,7 +100,7 @@ module _ (w : World) (k : ℕ) (here : k < length w.views) (law : FourLaws w) (c
 
   pub attaches : (i : ℕ) → 0 < bag (view_at w.views k).holds i → u.hand ≡ (view_at w.views k).hand →
       u.zeros ≡ (view_at w.views k).zeros → u.holds ≡ (view_at w.views k).holds ++ i ∷ [] →
-      Moves w.limits.population (Attach (suc k) i) t s
+      EventMoves w.limits.population (Attach (suc k) i) t s
   attaches i mine hand zeros holds = (
     tt,
     at_or_else i (λ x. x < w.limits.population → Becomes (Attach (suc k) i) x (t x) (s x))
@@ -149,7 +149,7 @@ module _ (w : World) (k : ℕ) (here : k < length w.views) (law : FourLaws w) (c
       bag u.hand i + bag u.zeros i ≡ 1 →
       ((x : ℕ) → i ≢ x → bag u.hand x + bag u.zeros x
       ≡ bag (view_at w.views k).hand x + bag (view_at w.views k).zeros x) →
-      u.holds ≡ without i (view_at w.views k).holds → Moves w.limits.population (Free (suc k) i) t s
+      u.holds ≡ without i (view_at w.views k).holds → EventMoves w.limits.population (Free (suc k) i) t s
   frees_last i mine one back others holds = (
     tt,
     at_or_else i (λ x. x < w.limits.population → Becomes (Free (suc k) i) x (t x) (s x))
@@ -194,7 +194,7 @@ module _ (w : World) (k : ℕ) (here : k < length w.views) (law : FourLaws w) (c
   -- another hold is left
   pub frees_one : (i : ℕ) → 0 < bag (view_at w.views k).holds i →
       u.hand ≡ (view_at w.views k).hand → u.zeros ≡ (view_at w.views k).zeros →
-      u.holds ≡ without i (view_at w.views k).holds → Moves w.limits.population (Free (suc k) i) t s
+      u.holds ≡ without i (view_at w.views k).holds → EventMoves w.limits.population (Free (suc k) i) t s
   frees_one i mine hand zeros holds = (
     tt,
     at_or_else i (λ x. x < w.limits.population → Becomes (Free (suc k) i) x (t x) (s x))

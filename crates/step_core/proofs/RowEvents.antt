@@ -6,8 +6,8 @@ use Rattle.commons.specs.Bag.{bag}
 use Rattle.step_core.specs.Bags.{without, still_held}
 use Rattle.step_core.specs.Links.{link_value}
 use Rattle.step_core.specs.World.{Look, Chain, Phase, ToFill, Filled, Seized, TakenOut, Packet, View, World, view_at, desk_at, link_in}
-use Rattle.step_core.specs.Table.{Table, SameTable, Event, Moves, Free}
-use Rattle.step_core.specs.Shows.{Shows}
+use Rattle.step_core.specs.Table.{Table, SameTable, Event, EventMoves, Free}
+use Rattle.step_core.specs.Shows.{ShowsTable}
 use Rattle.step_core.specs.Steps.{Step, LoadLength, Reserve, Add, LoadHead, LoadLink, Cut, StoreLink, Push, Claim, Sole, Raise, Lower, Reset, Hold, PutIn, Open, Seize, TakeOut, Clear, Play, given, row, reserve, add, cut, push, claim, sole, raise, lower, reset, hold, put_in, open_desk, open_with, seize, seize_with, take_out, clear, load_link, store_link, same_head, in_range, phase_at}
 use Rattle.step_core.proofs.Rules.{FourLaws}
 use Rattle.step_core.proofs.Bags.{times-last, times-but_last, times-without_here, times-without_other, at_or_else, includes_true}
@@ -25,14 +25,14 @@ use Rattle.step_core.proofs.Rows.{when_played, given_played, heads}
 -- what the event does to each element; without one the tables are the same
 abbrev pub MovesBy : ℕ → Option Event → Table → Table → Type 0
 MovesBy n None t u = SameTable n t u
-MovesBy n (Some e) t u = Moves n e t u
+MovesBy n (Some e) t u = EventMoves n e t u
 
 -- any table that the world shows leads to any that it shows after the play
 abbrev pub Goes : World → Play → Type 0
-Goes w p = (t s : Table) → Shows w t → Shows p.after s → MovesBy w.limits.population p.event t s
+Goes w p = (t s : Table) → ShowsTable w t → ShowsTable p.after s → MovesBy w.limits.population p.event t s
 
 module _ (w : World) (k : ℕ) (law : FourLaws w) (here : k < length w.views) (busy : 0 < (view_at w.views k).part) where
-  nothing : (t s : Table) → Shows w t → Shows w s → SameTable w.limits.population t s
+  nothing : (t s : Table) → ShowsTable w t → ShowsTable w s → SameTable w.limits.population t s
   nothing t s a b i lt =
       same_at w w t s w.limits.population refl refl a b i lt
       (ap (λ (xs : List ℕ). bag xs i) (spells_same _ _ _ _ a.spelled b.spelled))
@@ -41,7 +41,7 @@ module _ (w : World) (k : ℕ) (law : FourLaws w) (here : k < length w.views) (b
   -- a step that changes neither the head nor a link, nor what is in the hand
   knows_only : (n : ℕ) (u : View) → u.hand ≡ (view_at w.views k).hand →
       u.zeros ≡ (view_at w.views k).zeros → u.holds ≡ (view_at w.views k).holds → (t s : Table) →
-      Shows w t → Shows (stepped w k w.head n w.links u) s → SameTable w.limits.population t s
+      ShowsTable w t → ShowsTable (stepped w k w.head n w.links u) s → SameTable w.limits.population t s
   knows_only n u hand zeros holds =
       quiet_stack w k w.head n w.links u here hand zeros holds
       (spells_same (link_in w.links) w.head.top)
@@ -93,13 +93,13 @@ module _ (w : World) (k : ℕ) (law : FourLaws w) (here : k < length w.views) (b
   lower_goes i h =
       let v = view_at w.views k in let at = in_holds w k here busy law.stack law.counts i h in
       cond_both (slice_index w.counts i == 1) (v.zeros ++ i ∷ []) v.zeros
-      (λ z. (t s : Table) → Shows w t → Shows (moved w k w.head w.length w.links
+      (λ z. (t s : Table) → ShowsTable w t → ShowsTable (moved w k w.head w.length w.links
       (set w.counts i (slice_index w.counts i - 1)) (record (view_at w.views k) {
         holds = without i (view_at w.views k).holds;
         headers = still_held (view_at w.views k).headers (without i (view_at w.views k).holds);
         zeros = z;
       })) s →
-      Moves w.limits.population (Free (suc k) i) t s)
+      EventMoves w.limits.population (Free (suc k) i) t s)
       (λ e t s a b. frees_last w k here law _ _ t s a b i h
       (
       let c = count_of w k here busy law.stack law.counts i h in

@@ -8,7 +8,7 @@ use Rattle.commons.specs.Bag.{bag}
 use Rattle.step_core.specs.World.{View, Desk, World, empty_view, view_at, view_of, no_desk, desk_at, shelf, all_holds}
 use Rattle.step_core.specs.Links.{Spells}
 use Rattle.step_core.specs.Table.{Place, Common, Hand, Held, Table, Same}
-use Rattle.step_core.specs.Shows.{Standing, standing, Stands, OnePlace, Shows}
+use Rattle.step_core.specs.Shows.{Standing, standing, Stands, OnePlace, ShowsTable}
 use Rattle.step_core.proofs.Rules.{StackLaw}
 use Rattle.step_core.proofs.Bags.{times-nil, times-append, times-head, times-other, below-le, below-at}
 use Rattle.step_core.proofs.Paths.{path_front}
@@ -245,7 +245,7 @@ shown_table w law i =
     ⊎_elim (λ (l : i < w.limits.population). (place_of w law i l).0)
     (λ (l : w.limits.population ≤ i). Common) (cases_lt i w.limits.population)
 
-pub shows : (w : World) (law : StackLaw w) → Shows w (shown_table w law)
+pub shows : (w : World) (law : StackLaw w) → ShowsTable w (shown_table w law)
 unfolding shown_table
 shows w law = record {
   common = law.common;

@@ -5,13 +5,13 @@ use Rattle.std.proofs.lemmas.Bool.{cases_lt, cond_both}
 use Rattle.commons.specs.Bag.{bag}
 use Rattle.step_core.specs.Bags.{SameBag, IsDistinct}
 use Rattle.step_core.specs.World.{World, Limits, View, view_at, view_of, link_in, all_holds}
-use Rattle.step_core.specs.Table.{Place, Common, Hand, Held, Table, IsTable, Event, Get, Put, Claim, Attach, Free, Offer, Take, Same, Becomes, Leads, SameTable, Run, Where}
-use Rattle.step_core.specs.Shows.{Standing, Stands, Shows, Happens}
+use Rattle.step_core.specs.Table.{Place, Common, Hand, Held, Table, IsTable, Event, Get, Put, Claim, Attach, Free, Offer, Take, Same, Becomes, EventLeads, SameTable, Run, Where}
+use Rattle.step_core.specs.Shows.{Standing, Stands, ShowsTable, Happens}
 use Rattle.step_core.specs.Steps.{Outcome, Cut, Got, Play, played, event_of, row, cut, same_head}
 use Rattle.step_core.specs.Kept.{IsWorld}
 use Rattle.step_core.specs.Schedules.{Schedule}
 use Rattle.step_core.specs.Runs.{Reaches}
-use Rattle.step_core.specs.Headline.{held_below, AllAreThere, LengthIsBounded, FrontThenRest, LostIsLater, ChainIsOfHand, CutGetsAll, after_of, events_along, SchedulesAreRuns, Gets, Puts, IsHeld, HeldIsLeft, NotGivenAgain, StoppedKeepsItsView}
+use Rattle.step_core.specs.Headline.{held_below, AllAreThere, LengthIsBounded, FrontThenRest, LostIsLater, ChainIsOfHand, CutGetsAll, after_of, events_along, SchedulesAreRuns, EventGets, EventPuts, IsHeld, HeldIsLeft, NotGivenAgain, StoppedKeepsItsView}
 use Rattle.step_core.proofs.Rules.{FourLaws}
 use Rattle.step_core.proofs.Regroup.{four_of_eight}
 use Rattle.step_core.proofs.Bags.{times-append, times-from_length, below-le}
@@ -141,7 +141,7 @@ stands_same s (Hand j) (Held ws ds) m h = absurd m
 stands_same s (Held ws ds) Common m h = absurd m
 stands_same s (Held ws ds) (Hand k) m h = absurd m
 
-shows_same : (w : World) (t s : Table) → SameTable w.limits.population t s → Shows w s → Shows w t
+shows_same : (w : World) (t s : Table) → SameTable w.limits.population t s → ShowsTable w s → ShowsTable w t
 shows_same w t s m a = record {
   common = a.common;
   spelled = a.spelled;
@@ -159,18 +159,18 @@ same_again n t i l = again (t i)
 
 -- one step, as a run of one event or of none
 one_step : (u : World) (n worker : ℕ) (e : Option Event) (t s : Table) → u.limits.population ≡ n →
-    Happens n worker e t s → Shows u s
-    → (r : Table) × Shows u r × ((es : List Event) (z : Table) → Run n r es z → Run n t (option_to_list e ++ es) z)
+    Happens n worker e t s → ShowsTable u s
+    → (r : Table) × ShowsTable u r × ((es : List Event) (z : Table) → Run n r es z → Run n t (option_to_list e ++ es) z)
 one_step u n worker None t s q h b =
     (t, shows_same u t s (subst (λ (m : ℕ). SameTable m t s) (sym q) h) b, (λ es z r. r))
 one_step u n worker (Some e) t s q h b = (s, b, (λ es z r. (s, h.1, r)))
 
 runs : (n : ℕ) (w : World) (schedule : Schedule) (os : List Outcome) (u : World) →
-    w.limits.population ≡ n → IsWorld w → Reaches w schedule os u → (t : Table) → Shows w t →
-    (s : Table) × Shows u s × Run n t (events_along w schedule) s
+    w.limits.population ≡ n → IsWorld w → Reaches w schedule os u → (t : Table) → ShowsTable w t →
+    (s : Table) × ShowsTable u s × Run n t (events_along w schedule) s
 runs n w [] [] u e is r t a = (
   t,
-  subst (λ (x : World). Shows x t) (sym r) a,
+  subst (λ (x : World). ShowsTable x t) (sym r) a,
   (let b = subst (λ (m : ℕ). IsTable m t) e (is_table w t a) in (b, b, same_again n t)),
 )
 runs n w (x ∷ rest) (o ∷ os) u e is r t a =
@@ -215,7 +215,7 @@ module _ (i : ℕ) (p : Place) (away : p ≢ Common) where
       ⊎_elim (λ (l : 0 < bag xs i). f l (b.0 l))
       (λ (l : bag xs i ≤ 0). same_away p (b.1 (omega arith)) away) (cases_lt 0 (bag xs i))
 
-  stays_away : (e : Event) → Becomes e i p Common → (Puts i e → ⊥) → ⊥
+  stays_away : (e : Event) → Becomes e i p Common → (EventPuts i e → ⊥) → ⊥
   stays_away (Get w xs) b n = either xs _ b (λ l h. away h.0)
   stays_away (Put w xs) b n = either xs _ b (λ l h. n l)
   stays_away (Claim w j) b n = either (j ∷ []) _ b (λ l h. h)
@@ -239,7 +239,7 @@ module _ (i : ℕ) (p : Place) (away : p ≢ Common) where
       passed (Held ws ds) h = h
   stays_away (Take w d xs) b n = either xs _ b.1 (λ l h. h)
 
-  got_common : (e : Event) (q : Place) → Becomes e i p q → Gets i e → ⊥
+  got_common : (e : Event) (q : Place) → Becomes e i p q → EventGets i e → ⊥
   got_common (Get w xs) q b g = away (b.0 g).0
   got_common (Put w xs) q b g = g
   got_common (Claim w j) q b g = g
@@ -250,7 +250,7 @@ module _ (i : ℕ) (p : Place) (away : p ≢ Common) where
 
 -- nothing is done to what is held but to hold it once more, or once less
 module _ (i : ℕ) where
-  got_held : (p q : Place) (e : Event) → IsHeld p → Becomes e i p q → Gets i e → ⊥
+  got_held : (p q : Place) (e : Event) → IsHeld p → Becomes e i p q → EventGets i e → ⊥
   got_held p q (Get w xs) held b g = subst IsHeld (b.0 g).0 held
   got_held p q (Put w xs) held b g = g
   got_held p q (Claim w j) held b g = g
@@ -259,7 +259,7 @@ module _ (i : ℕ) where
   got_held p q (Offer w d xs) held b g = g
   got_held p q (Take w d xs) held b g = g
 
-  put_held : (p q : Place) (e : Event) → IsHeld p → Becomes e i p q → Puts i e → ⊥
+  put_held : (p q : Place) (e : Event) → IsHeld p → Becomes e i p q → EventPuts i e → ⊥
   put_held p q (Get w xs) held b g = g
   put_held p q (Put w xs) held b g = subst IsHeld (b.0 g).0 held
   put_held p q (Claim w j) held b g = g

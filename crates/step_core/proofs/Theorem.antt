@@ -6,7 +6,7 @@ use Rattle.std.proofs.lemmas.Option.{some_pair_parts}
 use Rattle.step_core.specs.World.{World, Limits, View, view_at, view_of, empty_view}
 use Rattle.step_core.specs.Law.{Lawful}
 use Rattle.step_core.specs.Table.{Table, IsTable, Place, Common, Hand, Held, IsPlace, Event, NamesBelow, worker_of}
-use Rattle.step_core.specs.Shows.{Shows, Standing, Stands, Happens}
+use Rattle.step_core.specs.Shows.{ShowsTable, Standing, Stands, Happens}
 use Rattle.step_core.specs.Steps.{Step, Outcome, Play, row, turn, played, play, event_of, in_range}
 use Rattle.step_core.specs.Opening.{opening}
 use Rattle.step_core.specs.Changes.{ChangesOne}
@@ -102,7 +102,7 @@ is_place s Common h = tt
 is_place s (Hand n) h = tt
 is_place s (Held ws ds) h = h.0
 
-pub is_table : (w : World) (t : Table) → Shows w t → IsTable w.limits.population t
+pub is_table : (w : World) (t : Table) → ShowsTable w t → IsTable w.limits.population t
 is_table w t a i lt = is_place _ (t i) (a.stands i lt)
 
 happens : (n k worker : ℕ) (e : Option Event) (t u : Table) → worker ≡ suc k → IsTable n t →
@@ -133,7 +133,7 @@ makes_its_event w worker s o u law busy e t r a b =
     played_row (λ v k q. Goes v q) w worker s p.0
     (λ k is here inside. row_goes w k four here (busy_at k is) s inside) p.1 in
     let by = played_row IsBy w worker s p.0 (λ k is here inside. row_by w k four here (busy_at k is) s) p.1 in
-    let after : Shows p.0.after r = subst (λ (x : World). Shows x r) (sym p.3) b in
+    let after : ShowsTable p.0.after r = subst (λ (x : World). ShowsTable x r) (sym p.3) b in
     let limits = same_population w u worker (changes_little w worker s o u e) in
     let tables : IsTable w.limits.population r =
     subst (λ (l : Limits). IsTable l.population r) limits (is_table u r b) in

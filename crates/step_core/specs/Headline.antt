@@ -5,8 +5,8 @@ use Rattle.step_core.specs.Bags.{Includes, IsDistinct}
 use Rattle.step_core.specs.Links.{Spells}
 use Rattle.step_core.specs.World.{World, Look, Chain, view_of, link_in, all_holds, credits}
 use Rattle.step_core.specs.Law.{Lawful}
-use Rattle.step_core.specs.Table.{Place, Common, Hand, Held, Table, Event, Get, Put, Claim, Attach, Free, Offer, Take, Leads, Run}
-use Rattle.step_core.specs.Shows.{Shows}
+use Rattle.step_core.specs.Table.{Place, Common, Hand, Held, Table, Event, Get, Put, Claim, Attach, Free, Offer, Take, EventLeads, Run}
+use Rattle.step_core.specs.Shows.{ShowsTable}
 use Rattle.step_core.specs.Steps.{Cut, Got, Play, play, played, event_of}
 use Rattle.step_core.specs.Kept.{IsWorld}
 use Rattle.step_core.specs.Schedules.{Schedule}
@@ -82,8 +82,8 @@ abbrev pub SchedulesAreRuns : Type 0
 SchedulesAreRuns =
     (w : World) (schedule : Schedule) (os : List Outcome) (u : World) → IsWorld w →
     Reaches w schedule os u
-    → (t : Table) → Shows w t →
-    (s : Table) × Shows u s × Run w.limits.population t (events_along w schedule) s
+    → (t : Table) → ShowsTable w t →
+    (s : Table) × ShowsTable u s × Run w.limits.population t (events_along w schedule) s
 
 -- no step of the schedule is this worker's
 abbrev pub NoneBy : ℕ → Schedule → Type 0
@@ -98,23 +98,23 @@ StoppedKeepsItsView =
     view_of u.views stopped ≡ view_of w.views stopped
 
 -- a get, and a put, that lists the element
-abbrev pub Gets : ℕ → Event → Type 0
-Gets i (Get w xs) = 0 < bag xs i
-Gets i (Put w xs) = ⊥
-Gets i (Claim w j) = ⊥
-Gets i (Attach w j) = ⊥
-Gets i (Free w j) = ⊥
-Gets i (Offer w d xs) = ⊥
-Gets i (Take w d xs) = ⊥
+abbrev pub EventGets : ℕ → Event → Type 0
+EventGets i (Get w xs) = 0 < bag xs i
+EventGets i (Put w xs) = ⊥
+EventGets i (Claim w j) = ⊥
+EventGets i (Attach w j) = ⊥
+EventGets i (Free w j) = ⊥
+EventGets i (Offer w d xs) = ⊥
+EventGets i (Take w d xs) = ⊥
 
-abbrev pub Puts : ℕ → Event → Type 0
-Puts i (Get w xs) = ⊥
-Puts i (Put w xs) = 0 < bag xs i
-Puts i (Claim w j) = ⊥
-Puts i (Attach w j) = ⊥
-Puts i (Free w j) = ⊥
-Puts i (Offer w d xs) = ⊥
-Puts i (Take w d xs) = ⊥
+abbrev pub EventPuts : ℕ → Event → Type 0
+EventPuts i (Get w xs) = ⊥
+EventPuts i (Put w xs) = 0 < bag xs i
+EventPuts i (Claim w j) = ⊥
+EventPuts i (Attach w j) = ⊥
+EventPuts i (Free w j) = ⊥
+EventPuts i (Offer w d xs) = ⊥
+EventPuts i (Take w d xs) = ⊥
 
 -- this is true of no event of the list
 abbrev pub Never : (Event → Type 0) → List Event → Type 0
@@ -130,17 +130,17 @@ IsHeld (Held ws ds) = ⊤
 -- a run in each of whose tables the element is held
 abbrev pub RunHeld : ℕ → ℕ → Table → List Event → Table → Type 0
 RunHeld n i t [] u = IsHeld (t i) × Run n t [] u
-RunHeld n i t (e ∷ es) u = IsHeld (t i) × ((s : Table) × Leads n e t s × RunHeld n i s es u)
+RunHeld n i t (e ∷ es) u = IsHeld (t i) × ((s : Table) × EventLeads n e t s × RunHeld n i s es u)
 
 -- no get and no put lists an element as long as it is held
 abbrev pub HeldIsLeft : Type 0
 HeldIsLeft =
     (n : ℕ) (t u : Table) (events : List Event) (i : ℕ) → i < n → RunHeld n i t events u →
-    Never (Gets i) events × Never (Puts i) events
+    Never (EventGets i) events × Never (EventPuts i) events
 
 -- While an element isn't common, and until a put lists it, no get lists it: so from its get on, and
 -- as long as anybody holds it.
 abbrev pub NotGivenAgain : Type 0
 NotGivenAgain =
     (n : ℕ) (t u : Table) (events : List Event) (i : ℕ) → Run n t events u → i < n → t i ≢ Common →
-    Never (Puts i) events → Never (Gets i) events
+    Never (EventPuts i) events → Never (EventGets i) events

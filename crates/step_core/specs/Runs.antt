@@ -5,7 +5,7 @@ use Rattle.commons.specs.declared.refusal.Refusal.TheVariants.{OutOfMemory, Step
 use Rattle.step_core.specs.Table.{Table}
 use Rattle.step_core.specs.World.{World}
 use Rattle.step_core.specs.Law.{Lawful}
-use Rattle.step_core.specs.Shows.{Shows, Happens}
+use Rattle.step_core.specs.Shows.{ShowsTable, Happens}
 use Rattle.step_core.specs.Steps.{Outcome, play, event_of}
 use Rattle.step_core.specs.Kept.{IsWorld, Grows}
 use Rattle.step_core.specs.Schedules.{Schedule}
@@ -21,16 +21,16 @@ Reaches w (p ∷ rest) [] u = ⊥
 -- a table, from this one on: the next table follows by the step's one event, by the worker that
 -- steps, or is the same
 abbrev pub Walks : World → Table → Schedule → List Outcome → World → Type 0
-Walks w t [] [] u = Lawful w × Shows w t × (u ≡ w)
+Walks w t [] [] u = Lawful w × ShowsTable w t × (u ≡ w)
 Walks w t (p ∷ rest) (o ∷ os) u =
-    Lawful w × Shows w t × ((v : World) × (s : Table) × (play w p.0 p.1 ≡ Some (o, v))
+    Lawful w × ShowsTable w t × ((v : World) × (s : Table) × (play w p.0 p.1 ≡ Some (o, v))
     × Happens w.limits.population p.0 (event_of w p.0 p.1) t s × Walks v s rest os u)
 Walks w t [] (o ∷ os) u = ⊥
 Walks w t (p ∷ rest) [] u = ⊥
 
 -- from whichever table the first world shows
 abbrev pub WalksFrom : World → Schedule → List Outcome → World → Type 0
-WalksFrom w schedule os u = (t : Table) → Shows w t → Walks w t schedule os u
+WalksFrom w schedule os u = (t : Table) → ShowsTable w t → Walks w t schedule os u
 
 -- every schedule that is played from a world of a pool walks so
 abbrev pub EveryScheduleWalks : Type 0

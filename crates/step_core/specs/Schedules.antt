@@ -2,7 +2,7 @@
 use Rattle.std.specs.Prelude.{◌≡◌, ◌≢◌, ℕ, ◌<◌, ◌≤◌, List, Option, Some, None}
 use Rattle.step_core.specs.Table.{Table}
 use Rattle.step_core.specs.World.{World, Limits, Packet, Desk, view_of, desk_at}
-use Rattle.step_core.specs.Shows.{Shows, Happens}
+use Rattle.step_core.specs.Shows.{ShowsTable, Happens}
 use Rattle.step_core.specs.Law.{Lawful}
 use Rattle.step_core.specs.Steps.{Step, Hold, PutIn, Open, Seize, TakeOut, Clear, Outcome, play, event_of}
 use Rattle.step_core.specs.Views.{view_after}
@@ -28,7 +28,7 @@ abbrev pub MakesItsEvent : Type 0
 MakesItsEvent =
     (w : World) (worker : ℕ) (s : Step) (o : Outcome) (u : World) → Lawful w →
     0 < (view_of w.views worker).part → play w worker s ≡ Some (o, u)
-    → (t r : Table) → Shows w t → Shows u r →
+    → (t r : Table) → ShowsTable w t → ShowsTable u r →
     Happens w.limits.population worker (event_of w worker s) t r
 
 -- a step changes at most one word or slot, and no other worker's view
@@ -57,4 +57,4 @@ MakesItsView =
 
 -- a lawful world shows a table
 abbrev pub LawfulShows : Type 0
-LawfulShows = (w : World) → Lawful w → (t : Table) × Shows w t
+LawfulShows = (w : World) → Lawful w → (t : Table) × ShowsTable w t

@@ -1,7 +1,7 @@
 -- The table that a world shows.
 use Rattle.std.specs.Prelude.{◌≡◌, ℕ, ◌+◌, ◌<◌, ◌≤◌, List, length, Option, MatchOption}
 use Rattle.commons.specs.Bag.{bag}
-use Rattle.step_core.specs.Table.{Place, Common, Hand, Held, Table, Event, worker_of, Leads, SameTable}
+use Rattle.step_core.specs.Table.{Place, Common, Hand, Held, Table, Event, worker_of, EventLeads, SameTable}
 use Rattle.step_core.specs.World.{World, view_of, desk_at, link_in, shelf}
 use Rattle.step_core.specs.Links.{Spells}
 
@@ -38,7 +38,7 @@ pub record OnePlace (s : Standing) : Type 0 where
   pub hand_alone : (k : ℕ) → 0 < s.hand k → (j : ℕ) → (s.holder j ≡ 0) × (s.desk j ≡ 0)
 
 -- each element of the pool has the one place that is true of it
-pub record Shows (w : World) (t : Table) : Type 0 where
+pub record ShowsTable (w : World) (t : Table) : Type 0 where
   pub common : List ℕ
   pub spelled : Spells (link_in w.links) w.head.top common
   pub one : (i : ℕ) → i < w.limits.population → OnePlace (standing w common i)
@@ -46,4 +46,4 @@ pub record Shows (w : World) (t : Table) : Type 0 where
 
 -- from one table to the next by one event of this worker, or by none
 abbrev pub Happens : ℕ → ℕ → Option Event → Table → Table → Type 0
-Happens n worker e t u = MatchOption e (SameTable n t u) (λ e. (worker_of e ≡ worker) × Leads n e t u)
+Happens n worker e t u = MatchOption e (SameTable n t u) (λ e. (worker_of e ≡ worker) × EventLeads n e t u)

@@ -128,19 +128,19 @@ IsListed (Offer w d xs) = ⊤
 IsListed (Take w d xs) = ⊤
 
 -- what the event does to each of n elements
-abbrev pub Moves : ℕ → Event → Table → Table → Type 0
-Moves n e t u = IsListed e × ((i : ℕ) → i < n → Becomes e i (t i) (u i))
+abbrev pub EventMoves : ℕ → Event → Table → Table → Type 0
+EventMoves n e t u = IsListed e × ((i : ℕ) → i < n → Becomes e i (t i) (u i))
 
 -- the event names elements of the pool alone
 abbrev pub NamesBelow : ℕ → Event → Type 0
 NamesBelow n e = (i : ℕ) → 0 < bag (named e) i → i < n
 
 -- the event is lawful in the first table of n elements, and leads to the second
-pub record Leads (n : ℕ) (e : Event) (t u : Table) : Type 0 where
+pub record EventLeads (n : ℕ) (e : Event) (t u : Table) : Type 0 where
   pub before : IsTable n t
   pub after : IsTable n u
   pub below : NamesBelow n e
-  pub moves : Moves n e t u
+  pub moves : EventMoves n e t u
 
 -- the same table of n elements
 abbrev pub SameTable : ℕ → Table → Table → Type 0
@@ -149,4 +149,4 @@ SameTable n t u = (i : ℕ) → i < n → Same (t i) (u i)
 -- events, each lawful where it comes
 abbrev pub Run : ℕ → Table → List Event → Table → Type 0
 Run n t [] u = IsTable n t × IsTable n u × SameTable n t u
-Run n t (e ∷ es) u = (s : Table) × Leads n e t s × Run n s es u
+Run n t (e ∷ es) u = (s : Table) × EventLeads n e t s × Run n s es u

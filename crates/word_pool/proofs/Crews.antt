@@ -15,7 +15,7 @@ use Rattle.pool_model.specs.Pool.{new_members}
 use Rattle.stack_lf.specs.Sides.{side_of}
 use Rattle.step_core.specs.declared.view.View.{View}
 use Rattle.step_core.specs.World.{empty_view, worker_part}
-use Rattle.word_pool.specs.Workers.{Manned, HasNotActed, IsWorker, AreNew, AreWorkers}
+use Rattle.word_pool.specs.Workers.{WorkerState, HasNotActed, IsWorker, AreNew, AreWorkers}
 use Rattle.word_pool.specs.inside.Crews.{AreFirst, IsUnused, new_member}
 
 -- new members, and the next one
@@ -49,39 +49,39 @@ pub none_first : (g : Grounded) → AreFirst g 0 []
 none_first g = record {
   members = refl;
   each = All-nil (IsWorker g);
-  views = All-nil (λ (m : Manned). m.seat.known.view ≡ empty_view worker_part);
+  views = All-nil (λ (m : WorkerState). m.seat.known.view ≡ empty_view worker_part);
   unmoved = All-nil HasNotActed;
 }
 
 -- a worker more, at a seat of a worker's part that names nothing
-pub one_more : (g : Grounded) (number : ℕ) (ms more : List Manned) (l : Limits) (s : Seated) → l ≡ g.limits →
+pub one_more : (g : Grounded) (number : ℕ) (ms more : List WorkerState) (l : Limits) (s : Seated) → l ≡ g.limits →
     1 ≤ number → AreFirst g (number - 1) ms → IsOf g s → IsUnused g.limits 1 s →
     more ≡ ms ++ record { seat = s; member = new_member l number } ∷ [] → AreFirst g number more
 one_more g number ms more l s same first before of unused added =
-    let m : Manned = record { seat = s; member = new_member g.limits number } in
+    let m : WorkerState = record { seat = s; member = new_member g.limits number } in
     let is : more ≡ ms ++ m ∷ [] =
     added ∙ ap (λ (k : Limits). ms ++ record { seat = s; member = new_member k number } ∷ []) same in
     let all : AreFirst g number (ms ++ m ∷ []) = record {
       members =
-          map-append (λ (x : Manned). x.member) ms (m ∷ [])
+          map-append (λ (x : WorkerState). x.member) ms (m ∷ [])
           ∙ ap (λ (xs : List Member). xs ++ new_member g.limits number ∷ []) before.members
           ∙ members_upto g.limits number first;
       each =
           All-push (IsWorker g) ms m before.each
           (record { of = of; part = ap (λ (v : View). v.part) unused.view });
-      views = All-push (λ (x : Manned). x.seat.known.view ≡ empty_view worker_part) ms m before.views unused.view;
+      views = All-push (λ (x : WorkerState). x.seat.known.view ≡ empty_view worker_part) ms m before.views unused.view;
       unmoved = All-push HasNotActed ms m before.unmoved unused.unmoved;
     } in
     subst (AreFirst g number) (sym is) all
 
 -- all of them are the workers of the new pool
-pub all_workers : (g : Grounded) (ms : List Manned) → AreFirst g g.limits.workers ms → AreWorkers g ms
+pub all_workers : (g : Grounded) (ms : List WorkerState) → AreFirst g g.limits.workers ms → AreWorkers g ms
 all_workers g ms all = record {
   numbers = ap (map (λ (m : Member). m.number)) all.members ∙ numbered_from g.limits 1 g.limits.workers;
   each = all.each;
 }
 
-pub all_new : (g : Grounded) (ms : List Manned) → AreFirst g g.limits.workers ms → AreNew g.limits ms
+pub all_new : (g : Grounded) (ms : List WorkerState) → AreFirst g g.limits.workers ms → AreNew g.limits ms
 all_new g ms all = record { members = all.members; views = all.views; unmoved = all.unmoved }
 
 -- a seat from which a part was taken names nothing, as before
@@ -119,7 +119,7 @@ rest_of g s t split of =
     subst (IsOf g) (sym split) (record { table = of.table; limits = of.limits })
 
 -- the last worker is made at the seat that is left, and with it they are all
-pub last_more : (g : Grounded) (number workers : ℕ) (ms more : List Manned) (l : Limits) (rest s : Seated) →
+pub last_more : (g : Grounded) (number workers : ℕ) (ms more : List WorkerState) (l : Limits) (rest s : Seated) →
     l ≡ g.limits → number ≡ g.limits.workers → workers ≡ g.limits.workers → 1 ≤ number → AreFirst g (number - 1) ms →
     IsOf g rest → IsUnused g.limits (g.limits.workers + 1 - number) rest → s ≡ rest →
     more ≡ ms ++ record { seat = s; member = new_member l workers } ∷ [] → AreFirst g g.limits.workers more

@@ -12,20 +12,20 @@ use Rattle.ground.specs.Parting.{both_with, both_views, IsBoth}
 use Rattle.ground.specs.Seats.{Grounded, Note, Seated, IsOf}
 use Rattle.mbuf.specs.Members.{Member}
 use Rattle.word_pool.specs.Shares.{AreSharesOf}
-use Rattle.word_pool.specs.Workers.{Manned, AreWorkers, HasNotActed, IsIdle, IsWorker, members_of}
+use Rattle.word_pool.specs.Workers.{WorkerState, AreWorkers, HasNotActed, IsIdle, IsWorker, members_of}
 use Rattle.word_pool.specs.inside.Joins.{AreJoined}
 use Rattle.word_pool.proofs.Joined.{both_shares, one_share}
 use Rattle.step_core.specs.World.{worker_part}
 
 -- all workers are as many as the pool has
-pub count_of_workers : (g : Grounded) (ms : List Manned) → AreWorkers g ms → length ms ≡ g.limits.workers
+pub count_of_workers : (g : Grounded) (ms : List WorkerState) → AreWorkers g ms → length ms ≡ g.limits.workers
 count_of_workers g ms all =
-    sym (length-map ms (λ (m : Manned). m.member))
+    sym (length-map ms (λ (m : WorkerState). m.member))
     ∙ sym (length-map (members_of ms) (λ (m : Member). m.number))
     ∙ ap length all.numbers ∙ length-range_with_len 1 g.limits.workers
 
 -- the last worker's seat is the first of them
-pub last_joined : (g : Grounded) (all left : List Manned) (m : Manned) (s : Seated) (p : Member) (handed : List Member) →
+pub last_joined : (g : Grounded) (all left : List WorkerState) (m : WorkerState) (s : Seated) (p : Member) (handed : List Member) →
     All (IsWorker g) all → all ≡ left ++ m ∷ [] → IsIdle m → s ≡ m.seat → p ≡ m.member → handed ≡ p ∷ [] →
     AreJoined g all left s handed
 last_joined g all left m s p handed each e idle seat packets shares =
@@ -69,7 +69,7 @@ both_notes n o lying notes same =
     ∙ ap (λ (xs : List Note). (n.steps ++ n.joined) ++ xs) same
 
 -- and each seat that is joined to those behind it has what all of them have
-pub next_joined : (g : Grounded) (all before left : List Manned) (m : Manned)
+pub next_joined : (g : Grounded) (all before left : List WorkerState) (m : WorkerState)
     (s o t : Seated) (p : Member) (handed more : List Member) →
     AreJoined g all before s handed → before ≡ left ++ m ∷ [] → IsIdle m → o ≡ m.seat → p ≡ m.member →
     IsBoth o s.known t → more ≡ handed ++ p ∷ [] →
@@ -88,7 +88,7 @@ next_joined g all before left m s o t p handed more joined e idle seat packets j
       each = split.0;
       done = m ∷ joined.done;
       split =
-          joined.split ∙ ap (λ (xs : List Manned). xs ++ joined.done) e
+          joined.split ∙ ap (λ (xs : List WorkerState). xs ++ joined.done) e
           ∙ append_assoc left (m ∷ []) joined.done;
       idle = All-cons IsIdle m joined.done idle joined.idle;
       of = record { table = split.1.of.table; limits = split.1.of.limits };
@@ -102,7 +102,7 @@ next_joined g all before left m s o t p handed more joined e idle seat packets j
         headers = ap (λ (xs : List ℕ). m.seat.known.view.headers ++ xs) joined.made.headers;
         notes =
             both_notes m.seat.known s.known join.0
-            (flat_map (λ (x : Manned). x.seat.known.steps ++ x.seat.known.joined) joined.done) joined.made.notes;
+            (flat_map (λ (x : WorkerState). x.seat.known.steps ++ x.seat.known.joined) joined.done) joined.made.notes;
         rest = record { zeros = refl; credit = refl; chain = refl; work = refl };
       };
       members = turned ∙ ap (λ (xs : List Member). m.member ∷ xs) joined.members;
@@ -119,13 +119,13 @@ next_joined g all before left m s o t p handed more joined e idle seat packets j
     (subst (λ (xs : List Member). AreJoined g all left (record m.seat { known = both_with m.seat.known s.known join.0 }) xs) (sym one_share_more) here)
 
 -- once none is left, all are joined
-pub all_done : (g : Grounded) (all left : List Manned) (s : Seated) (handed : List Member)
+pub all_done : (g : Grounded) (all left : List WorkerState) (s : Seated) (handed : List Member)
     (joined : AreJoined g all left s handed) → length left ≡ 0 → joined.done ≡ all
 all_done g all [] s handed joined none = sym joined.split
 all_done g all (m ∷ left) s handed joined none = absurd (omega arith)
 
 -- the last of some workers is one of the ground
-pub last_is_of : (g : Grounded) (before left : List Manned) (m : Manned) (s : Seated) → All (IsWorker g) before →
+pub last_is_of : (g : Grounded) (before left : List WorkerState) (m : WorkerState) (s : Seated) → All (IsWorker g) before →
     before ≡ left ++ m ∷ [] → s ≡ m.seat → IsOf g s
 last_is_of g before left m s each e seat =
     let split = All-pop (IsWorker g) before left (Some m) e each in

@@ -14,7 +14,7 @@ use Rattle.mbuf.specs.Members.{Member}
 use Rattle.book.specs.Lost.{AreOrdered, IsOf}
 use Rattle.book.proofs.Lost.{all_ordered}
 use Rattle.word_pool.specs.Lost.{AreLeft, left_of}
-use Rattle.word_pool.specs.Workers.{Manned, AreWorkers, IsWorker, members_of}
+use Rattle.word_pool.specs.Workers.{WorkerState, AreWorkers, IsWorker, members_of}
 use Rattle.word_pool.proofs.Joins.{count_of_workers}
 
 -- the numbers of members
@@ -74,7 +74,7 @@ module _ (l : Limits) (members : List Member) (all : numbers members ≡ range_w
 
 -- ---- so of a ground's workers
 
-module _ (g : Grounded) (ms : List Manned) (workers : AreWorkers g ms) (n : ℕ) (of : IsOf g.limits n) where
+module _ (g : Grounded) (ms : List WorkerState) (workers : AreWorkers g ms) (n : ℕ) (of : IsOf g.limits n) where
   pub as_many : length ms ≡ g.limits.workers
   as_many = count_of_workers g ms workers
 
@@ -94,18 +94,18 @@ module _ (g : Grounded) (ms : List Manned) (workers : AreWorkers g ms) (n : ℕ)
         All-append (IsWorker g) (take (n - 1) ms) (drop (suc (n - 1)) ms) (All-take (IsWorker g) (n - 1) ms workers.each)
         (All-drop (IsWorker g) (suc (n - 1)) ms workers.each);
     ordered =
-        subst (AreOrdered g.limits (n ∷ [])) (sym (map-remove (λ (m : Manned). m.member) ms (n - 1)))
+        subst (AreOrdered g.limits (n ∷ [])) (sym (map-remove (λ (m : WorkerState). m.member) ms (n - 1)))
         (ordered_without g.limits (members_of ms) workers.numbers n of);
   }
 
 -- the number of a worker is one of as many
-pub number_within : (g : Grounded) (ms : List Manned) (number : ℕ) → AreWorkers g ms → IsOf g.limits number →
+pub number_within : (g : Grounded) (ms : List WorkerState) (number : ℕ) → AreWorkers g ms → IsOf g.limits number →
     (1 ≤ number) × (number ≤ length ms)
 number_within g ms number workers of =
     (of.first, (let last = of.last in omega (arith, as_many g ms workers number of)))
 
 -- who is left once one is lost
-pub left_after : (g : Grounded) (ms : List Manned) (number : ℕ) → AreWorkers g ms → IsOf g.limits number →
+pub left_after : (g : Grounded) (ms : List WorkerState) (number : ℕ) → AreWorkers g ms → IsOf g.limits number →
     AreLeft g (number ∷ []) (left_of number ms)
 left_after g ms number workers of =
     cond_both (length ms == 1) ms (remove ms (number - 1)) (AreLeft g (number ∷ []))

@@ -24,13 +24,13 @@ use Rattle.step_core.proofs.Bags.{times-nil}
 use Rattle.word_pool.specs.LostViews.{IsLeftWithout, others}
 use Rattle.word_pool.specs.Shares.{AreSharesOf}
 use Rattle.word_pool.specs.Lost.{AreLostOf, views_listed}
-use Rattle.word_pool.specs.Workers.{Manned, IsIdle, IsSeatOf, members_of}
+use Rattle.word_pool.specs.Workers.{WorkerState, IsIdle, IsSeatOf, members_of}
 use Rattle.word_pool.specs.inside.Closing.{IsClosedBy}
 use Rattle.word_pool.proofs.LostViews.{lost_by}
 
 -- what the views of listed workers have, their caches and packets have
 listed_part : (listed : List ℕ) (of_view : View → ℕ) (of_member : Member → ℕ) →
-    ((m : Manned) → IsIdle m → of_view m.seat.known.view ≡ of_member m.member) → (ms : List Manned) → All IsIdle ms →
+    ((m : WorkerState) → IsIdle m → of_view m.seat.known.view ≡ of_member m.member) → (ms : List WorkerState) → All IsIdle ms →
     sum_by of_view (views_listed listed ms) ≡ sum_by of_member (listed_of listed (members_of ms))
 listed_part listed of_view of_member same [] idle = refl
 listed_part listed of_view of_member same (m ∷ ms) idle =
@@ -48,7 +48,7 @@ listed_part listed of_view of_member same (m ∷ ms) idle =
     ]
 
 -- who is at rest has no element of count 0
-no_zeros : (listed : List ℕ) (i : ℕ) (ms : List Manned) → All IsIdle ms → all_zeros i (views_listed listed ms) ≡ 0
+no_zeros : (listed : List ℕ) (i : ℕ) (ms : List WorkerState) → All IsIdle ms → all_zeros i (views_listed listed ms) ≡ 0
 no_zeros listed i [] idle = refl
 no_zeros listed i (m ∷ ms) idle =
     let rest = no_zeros listed i ms (All-tail IsIdle m ms idle) in
@@ -64,7 +64,7 @@ no_zeros listed i (m ∷ ms) idle =
       | inr other ↦ rw other rest
     ]
 
-module _ (g : Grounded) (listed : List ℕ) (ms : List Manned) (v : View) (c : Closed) (left : LeftOf g.limits v c)
+module _ (g : Grounded) (listed : List ℕ) (ms : List WorkerState) (v : View) (c : Closed) (left : LeftOf g.limits v c)
     (rest : AtRest v) (idle : All IsIdle ms) (shares : AreSharesOf (members_of ms) v) where
   abbrev lost : List View
   lost = others left.world.views left.id ++ views_listed listed ms
@@ -117,7 +117,7 @@ module _ (g : Grounded) (listed : List ℕ) (ms : List Manned) (v : View) (c : C
   }
 
 -- what is lost beside the one seat that closed the ground is what these workers leave lost
-pub lost_of_workers : (g : Grounded) (listed : List ℕ) (ms : List Manned) (n : Known) (handed : List Member) (elems : List ℕ)
+pub lost_of_workers : (g : Grounded) (listed : List ℕ) (ms : List WorkerState) (n : Known) (handed : List Member) (elems : List ℕ)
     (l : Limits) (c : Closed) → IsSeatOf ms n → All IsIdle ms → handed ≡ members_of ms → AreSharesOf handed n.view →
     IsClosedBy g n l c → AreLost (snapshot_of l c (unlisted_of listed handed)) elems → AreLostOf g listed ms elems
 lost_of_workers g listed ms n handed elems l c one idle same shares closed out =

@@ -12,13 +12,13 @@ use Rattle.mbuf.proofs.ForeignLemmas.{own_new_twin}
 use Rattle.pool_model.specs.Pool.{new_members}
 use Rattle.stack_lf.specs.Sides.{side_of}
 use Rattle.step_core.specs.declared.view.View.{View}
-use Rattle.word_pool.specs.TwinWorkers.{TwinManned, AreNewTwins, AreTwinPools, AreTwinWorkers, HasNotActedTwice, IsTwinWorker, firsts_of, seconds_of, twins_of}
+use Rattle.word_pool.specs.TwinWorkers.{TwinState, AreNewTwins, AreTwinPools, AreTwinWorkers, HasNotActedTwice, IsTwinWorker, firsts_of, seconds_of, twins_of}
 use Rattle.word_pool.specs.inside.Crews.{IsUnused, new_member}
 use Rattle.word_pool.specs.inside.TwinCrews.{AreFirstTwins}
 use Rattle.word_pool.proofs.Crews.{members_upto, numbered_from}
 
 -- a worker of this number who has nothing, at these seats
-abbrev pub newcomer_at : Limits → Limits → ℕ → Seated → Seated → TwinManned
+abbrev pub newcomer_at : Limits → Limits → ℕ → Seated → Seated → TwinState
 newcomer_at l k number s u = record {
   first = s;
   second = u;
@@ -31,23 +31,23 @@ no_twins_yet g h =
     record { firsts = refl; seconds = refl; each = All-nil (IsTwinWorker g h); unmoved = All-nil HasNotActedTwice }
 
 -- one worker more, by its parts of either pool
-firsts_more : (ms : List TwinManned) (m : TwinManned) → firsts_of (ms ++ m ∷ []) ≡ firsts_of ms ++ m.member.first ∷ []
+firsts_more : (ms : List TwinState) (m : TwinState) → firsts_of (ms ++ m ∷ []) ≡ firsts_of ms ++ m.member.first ∷ []
 firsts_more ms m =
-    ap (map (λ (t : TwinMember). t.first)) (map-append (λ (x : TwinManned). x.member) ms (m ∷ []))
+    ap (map (λ (t : TwinMember). t.first)) (map-append (λ (x : TwinState). x.member) ms (m ∷ []))
     ∙ map-append (λ (t : TwinMember). t.first) (twins_of ms) (m.member ∷ [])
 
-seconds_more : (ms : List TwinManned) (m : TwinManned) → seconds_of (ms ++ m ∷ []) ≡ seconds_of ms ++ m.member.second ∷ []
+seconds_more : (ms : List TwinState) (m : TwinState) → seconds_of (ms ++ m ∷ []) ≡ seconds_of ms ++ m.member.second ∷ []
 seconds_more ms m =
-    ap (map (λ (t : TwinMember). t.second)) (map-append (λ (x : TwinManned). x.member) ms (m ∷ []))
+    ap (map (λ (t : TwinMember). t.second)) (map-append (λ (x : TwinState). x.member) ms (m ∷ []))
     ∙ map-append (λ (t : TwinMember). t.second) (twins_of ms) (m.member ∷ [])
 
 -- a worker more, at seats of one part that name nothing
-pub one_twin_more : (g h : Grounded) (number : ℕ) (ms more : List TwinManned) (l k : Limits) (s u : Seated) →
+pub one_twin_more : (g h : Grounded) (number : ℕ) (ms more : List TwinState) (l k : Limits) (s u : Seated) →
     l ≡ g.limits → k ≡ h.limits → 1 ≤ number → AreFirstTwins g h (number - 1) ms → IsOf g s → IsOf h u →
     IsUnused g.limits 1 s → IsUnused h.limits 1 u → more ≡ ms ++ newcomer_at l k number s u ∷ [] →
     AreFirstTwins g h number more
 one_twin_more g h number ms more l k s u same also low before of over one two added =
-    let m : TwinManned = newcomer_at g.limits h.limits number s u in
+    let m : TwinState = newcomer_at g.limits h.limits number s u in
     let is : more ≡ ms ++ m ∷ [] =
     added ∙ ap (λ (x : Limits). ms ++ newcomer_at x k number s u ∷ []) same
     ∙ ap (λ (x : Limits). ms ++ newcomer_at g.limits x number s u ∷ []) also in
@@ -67,7 +67,7 @@ one_twin_more g h number ms more l k s u same also low before of over one two ad
     subst (AreFirstTwins g h number) (sym is) all
 
 -- the last worker is made at the seats that are left, and with it they are all
-pub last_twin_more : (g h : Grounded) (number workers : ℕ) (ms more : List TwinManned) (l k : Limits) (rest over s u : Seated) →
+pub last_twin_more : (g h : Grounded) (number workers : ℕ) (ms more : List TwinState) (l k : Limits) (rest over s u : Seated) →
     l ≡ g.limits → k ≡ h.limits → h.limits.workers ≡ g.limits.workers → number ≡ g.limits.workers →
     workers ≡ g.limits.workers → 1 ≤ number → AreFirstTwins g h (number - 1) ms → IsOf g rest → IsOf h over →
     IsUnused g.limits (g.limits.workers + 1 - number) rest → IsUnused h.limits (g.limits.workers + 1 - number) over →
@@ -83,7 +83,7 @@ last_twin_more g h number workers ms more l k rest over s u same also twins last
     (added ∙ ap (λ (n : ℕ). ms ++ newcomer_at l k n s u ∷ []) to_last))
 
 -- all of them are the workers of the new pools
-pub all_twins : (g h : Grounded) (ms : List TwinManned) → AreTwinPools g.limits h.limits →
+pub all_twins : (g h : Grounded) (ms : List TwinState) → AreTwinPools g.limits h.limits →
     AreFirstTwins g h g.limits.workers ms → AreTwinWorkers g h ms
 all_twins g h ms pools all = record {
   pools = pools;
@@ -94,7 +94,7 @@ all_twins g h ms pools all = record {
   each = all.each;
 }
 
-pub all_new_twins : (g h : Grounded) (ms : List TwinManned) → AreTwinPools g.limits h.limits →
+pub all_new_twins : (g h : Grounded) (ms : List TwinState) → AreTwinPools g.limits h.limits →
     AreFirstTwins g h g.limits.workers ms → AreNewTwins g.limits h.limits ms
 all_new_twins g h ms pools all = record {
   firsts = all.firsts;

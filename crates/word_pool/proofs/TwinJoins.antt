@@ -11,23 +11,23 @@ use Rattle.ground.specs.Parting.{both_with, both_views, IsBoth}
 use Rattle.ground.specs.Seats.{Grounded, Seated, IsOf}
 use Rattle.mbuf.specs.Members.{Member}
 use Rattle.mbuf.specs.Twins.{TwinMember}
-use Rattle.word_pool.specs.TwinWorkers.{TwinManned, AreTwinWorkers, HasNotActedTwice, IsTwinIdle, IsTwinWorker, first_crew, firsts_of, second_crew, twins_of}
-use Rattle.word_pool.specs.Workers.{Manned}
+use Rattle.word_pool.specs.TwinWorkers.{TwinState, AreTwinWorkers, HasNotActedTwice, IsTwinIdle, IsTwinWorker, first_crew, firsts_of, second_crew, twins_of}
+use Rattle.word_pool.specs.Workers.{WorkerState}
 use Rattle.word_pool.specs.inside.TwinCrews.{AreTwinsJoined, IsWhole}
 use Rattle.word_pool.proofs.Joins.{both_notes, both_unmoved}
 use Rattle.word_pool.proofs.TwinJoined.{both_twin_shares, one_twin_share}
 use Rattle.step_core.specs.World.{worker_part}
 
 -- all workers are as many as the pools have
-pub count_of_twins : (g h : Grounded) (ms : List TwinManned) → AreTwinWorkers g h ms → length ms ≡ g.limits.workers
+pub count_of_twins : (g h : Grounded) (ms : List TwinState) → AreTwinWorkers g h ms → length ms ≡ g.limits.workers
 count_of_twins g h ms all =
-    sym (length-map ms (λ (m : TwinManned). m.member))
+    sym (length-map ms (λ (m : TwinState). m.member))
     ∙ sym (length-map (twins_of ms) (λ (t : TwinMember). t.first))
     ∙ sym (length-map (firsts_of ms) (λ (m : Member). m.number))
     ∙ ap length all.first_numbers ∙ length-range_with_len 1 g.limits.workers
 
 -- a worker's seat is that of one worker
-lone_seat : (g : Grounded) (m : Manned) → IsOf g m.seat → m.seat.known.view.part ≡ worker_part →
+lone_seat : (g : Grounded) (m : WorkerState) → IsOf g m.seat → m.seat.known.view.part ≡ worker_part →
     AtRest m.seat.known.view → m.seat.slots ≡ [] → IsWhole g (m ∷ []) m.seat
 lone_seat g m of part rest slots = record {
   of = of;
@@ -43,7 +43,7 @@ lone_seat g m of part rest slots = record {
 }
 
 -- the last worker's seats are the first of them
-pub last_twin_joined : (g h : Grounded) (all left : List TwinManned) (m : TwinManned) (s u : Seated)
+pub last_twin_joined : (g h : Grounded) (all left : List TwinState) (m : TwinState) (s u : Seated)
     (t : TwinMember) (handed : List TwinMember) → All (IsTwinWorker g h) all → all ≡ left ++ m ∷ [] → IsTwinIdle m →
     s ≡ m.first → u ≡ m.second → t ≡ m.member → handed ≡ t ∷ [] → AreTwinsJoined g h all left s u handed
 last_twin_joined g h all left m s u t handed each e idle first second twin shares =
@@ -65,7 +65,7 @@ last_twin_joined g h all left m s u t handed each e idle first second twin share
     })
 
 -- a seat that another was joined to has what both had
-joined_whole : (g : Grounded) (m : Manned) (ms : List Manned) (other s : Seated) → IsOf g m.seat → m.seat.slots ≡ [] →
+joined_whole : (g : Grounded) (m : WorkerState) (ms : List WorkerState) (other s : Seated) → IsOf g m.seat → m.seat.slots ≡ [] →
     m.seat.known.view.part ≡ worker_part → IsWhole g ms other → IsBoth m.seat other.known s → IsWhole g (m ∷ ms) s
 joined_whole g m ms other s of slots one whole both =
     let part = whole.made.part in
@@ -79,7 +79,7 @@ joined_whole g m ms other s of slots one whole both =
         headers = ap (λ (xs : List ℕ). m.seat.known.view.headers ++ xs) whole.made.headers;
         notes =
             both_notes m.seat.known other.known both.0
-            (flat_map (λ (x : Manned). x.seat.known.steps ++ x.seat.known.joined) ms) whole.made.notes;
+            (flat_map (λ (x : WorkerState). x.seat.known.steps ++ x.seat.known.joined) ms) whole.made.notes;
         rest = record { zeros = refl; credit = refl; chain = refl; work = refl };
       };
     } in
@@ -97,7 +97,7 @@ joined_view : (mine s : Seated) (other : Seated) → IsBoth mine other.known s �
 joined_view mine s other both = ap (λ (x : Seated). x.known.view) both.1
 
 -- and each pair of seats that is joined to those behind it has what all of them have
-pub next_twin_joined : (g h : Grounded) (all before left : List TwinManned) (m : TwinManned)
+pub next_twin_joined : (g h : Grounded) (all before left : List TwinState) (m : TwinState)
     (s u o p s' u' : Seated) (t : TwinMember) (handed more : List TwinMember) → AreTwinsJoined g h all before s u handed →
     before ≡ left ++ m ∷ [] → IsTwinIdle m → o ≡ m.first → p ≡ m.second → t ≡ m.member →
     IsBoth o s.known s' → IsBoth p u.known u' → more ≡ handed ++ t ∷ [] → AreTwinsJoined g h all left s' u' more
@@ -111,7 +111,7 @@ next_twin_joined g h all before left m s u o p s' u' t handed more joined e idle
       each = split.0;
       done = m ∷ joined.done;
       split =
-          joined.split ∙ ap (λ (xs : List TwinManned). xs ++ joined.done) e ∙ append_assoc left (m ∷ []) joined.done;
+          joined.split ∙ ap (λ (xs : List TwinState). xs ++ joined.done) e ∙ append_assoc left (m ∷ []) joined.done;
       idle = All-cons IsTwinIdle m joined.done idle joined.idle;
       first =
           joined_whole g (record { seat = m.first; member = m.member.first }) (first_crew joined.done) s s' split.1.first
@@ -135,13 +135,13 @@ next_twin_joined g h all before left m s u o p s' u' t handed more joined e idle
     })
 
 -- once none is left, all are joined
-pub all_twins_done : (g h : Grounded) (all left : List TwinManned) (s u : Seated) (handed : List TwinMember)
+pub all_twins_done : (g h : Grounded) (all left : List TwinState) (s u : Seated) (handed : List TwinMember)
     (joined : AreTwinsJoined g h all left s u handed) → length left ≡ 0 → joined.done ≡ all
 all_twins_done g h all [] s u handed joined none = sym joined.split
 all_twins_done g h all (m ∷ left) s u handed joined none = absurd (omega arith)
 
 -- the last of some workers is one of both grounds
-pub last_is_of_both : (g h : Grounded) (before left : List TwinManned) (m : TwinManned) (s u : Seated) →
+pub last_is_of_both : (g h : Grounded) (before left : List TwinState) (m : TwinState) (s u : Seated) →
     All (IsTwinWorker g h) before → before ≡ left ++ m ∷ [] → s ≡ m.first → u ≡ m.second → IsOf g s × IsOf h u
 last_is_of_both g h before left m s u each e first second =
     let split = All-pop (IsTwinWorker g h) before left (Some m) e each in

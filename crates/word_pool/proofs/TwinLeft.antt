@@ -31,8 +31,8 @@ use Rattle.book.specs.Left.{AreLeftWhole, IsLawfulByTypes, first_of, second_of}
 use Rattle.book.proofs.Spelled.{lawful}
 use Rattle.book.proofs.TwinGuests.{guests_are_bases, guests_of_workers, local_holds, sum_both, sum_same}
 use Rattle.word_pool.specs.TwinShares.{AreFirstShares, AreSecondShares, AreTwinShares}
-use Rattle.word_pool.specs.TwinWorkers.{TwinManned, AreStatementsOfTwins}
-use Rattle.word_pool.specs.Workers.{Manned}
+use Rattle.word_pool.specs.TwinWorkers.{TwinState, AreStatementsOfTwins}
+use Rattle.word_pool.specs.Workers.{WorkerState}
 use Rattle.ground.specs.Changing.{IsFresh, IsUnmoved, closed_at_start}
 use Rattle.word_pool.specs.Leaving.{IsLeftAtRest}
 use Rattle.word_pool.specs.inside.TwinCrews.{AreTwinsClosed}
@@ -115,25 +115,25 @@ counts_of s n few =
     All-map (λ (held : Held). held.count ≤ n) (entry_with s.guests (own_pool s).members (own_pool s).shared.desks)
     (elements_with s.guests (own_pool s)) (λ k d within. few (get_or (elements_with s.guests (own_pool s)) k d))
 
-abbrev first_of_crew : TwinManned → Manned
+abbrev first_of_crew : TwinState → WorkerState
 first_of_crew m = record { seat = m.first; member = m.member.first }
 
-abbrev second_of_crew : TwinManned → Manned
+abbrev second_of_crew : TwinState → WorkerState
 second_of_crew m = record { seat = m.second; member = m.member.second }
 
 -- ---- of the workers of two grounds that were closed, each by the one seat of theirs
 
-module _ (g h : Grounded) (ms : List TwinManned) (s u : Seated) (c : ClosedTwin) (are : AreTwinsClosed g h ms s u c) where
+module _ (g h : Grounded) (ms : List TwinState) (s u : Seated) (c : ClosedTwin) (are : AreTwinsClosed g h ms s u c) where
   first_parts : s.known.view.part ≡ every_part g.limits
   first_parts =
       are.first_whole.made.part
-      ∙ ap (λ (n : ℕ). n * worker_part) (length-map ms (λ (m : TwinManned). first_of_crew m) ∙ count_of_twins g h ms are.all)
+      ∙ ap (λ (n : ℕ). n * worker_part) (length-map ms (λ (m : TwinState). first_of_crew m) ∙ count_of_twins g h ms are.all)
 
   second_parts : u.known.view.part ≡ every_part h.limits
   second_parts =
       are.second_whole.made.part
       ∙ ap (λ (n : ℕ). n * worker_part)
-      (length-map ms (λ (m : TwinManned). second_of_crew m) ∙ count_of_twins g h ms are.all
+      (length-map ms (λ (m : TwinState). second_of_crew m) ∙ count_of_twins g h ms are.all
       ∙ sym are.all.pools.twins.workers)
 
   first_at_rest : IsLeftAtRest g.limits c.first s.known.view

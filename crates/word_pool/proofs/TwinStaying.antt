@@ -3,10 +3,10 @@ use Rattle.std.proofs.Common.{ℕ, suc, ◌≡◌, ◌<◌, List, [], ◌∷◌,
 use Rattle.std.specs.Prelude.{slice_index_or}
 use Rattle.ground.specs.Seats.{Grounded}
 use Rattle.mbuf.specs.Members.{Member}
-use Rattle.word_pool.specs.TwinWorkers.{TwinManned, AllTwinsStay, AreTwinWorkers, IsTwinWorker, TwinStays, firsts_of, seconds_of}
+use Rattle.word_pool.specs.TwinWorkers.{TwinState, AllTwinsStay, AreTwinWorkers, IsTwinWorker, TwinStays, firsts_of, seconds_of}
 
 -- a worker that stays is a worker of its grounds
-stays_worker : (g h : Grounded) (m n : TwinManned) → IsTwinWorker g h m → TwinStays m n → IsTwinWorker g h n
+stays_worker : (g h : Grounded) (m n : TwinState) → IsTwinWorker g h m → TwinStays m n → IsTwinWorker g h n
 stays_worker g h m n worker stays = record {
   first = record { table = stays.first.table ∙ worker.first.table; limits = stays.first.limits ∙ worker.first.limits };
   second = record { table = stays.second.table ∙ worker.second.table; limits = stays.second.limits ∙ worker.second.limits };
@@ -14,15 +14,15 @@ stays_worker g h m n worker stays = record {
   second_part = stays.second.part ∙ worker.second_part;
 }
 
-abbrev first_numbers : List TwinManned → List ℕ
+abbrev first_numbers : List TwinState → List ℕ
 first_numbers ms = map (λ (m : Member). m.number) (firsts_of ms)
 
-abbrev second_numbers : List TwinManned → List ℕ
+abbrev second_numbers : List TwinState → List ℕ
 second_numbers ms = map (λ (m : Member). m.number) (seconds_of ms)
 
 -- and has its numbers
-same_numbers : (ms ns : List TwinManned) → length ns ≡ length ms →
-    ((i : ℕ) (d : TwinManned) → i < length ms → TwinStays (slice_index_or ms i d) (slice_index_or ns i d)) →
+same_numbers : (ms ns : List TwinState) → length ns ≡ length ms →
+    ((i : ℕ) (d : TwinState) → i < length ms → TwinStays (slice_index_or ms i d) (slice_index_or ns i d)) →
     (first_numbers ns ≡ first_numbers ms) × (second_numbers ns ≡ second_numbers ms)
 same_numbers [] [] long stay = (refl, refl)
 same_numbers [] (n ∷ ns) long stay = absurd (omega arith)
@@ -34,7 +34,7 @@ same_numbers (m ∷ ms) (n ∷ ns) long stay =
     let rest = same_numbers ms ns (omega arith) (λ i d b. stay (suc i) d (omega arith)) in
     (rw (first, rest.0) refl, rw (second, rest.1) refl)
 
-pub twins_stay : (g h : Grounded) (old new : List TwinManned) → AreTwinWorkers g h old → AllTwinsStay old new →
+pub twins_stay : (g h : Grounded) (old new : List TwinState) → AreTwinWorkers g h old → AllTwinsStay old new →
     AreTwinWorkers g h new
 twins_stay g h old new workers stay =
     let numbers = same_numbers old new stay.as_many stay.each in record {

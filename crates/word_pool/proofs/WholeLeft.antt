@@ -28,7 +28,7 @@ use Rattle.book.proofs.Spelled.{lawful}
 use Rattle.step_core.specs.declared.view.View.{View}
 use Rattle.word_pool.specs.Leaving.{IsLeftAtRest, statement_at_start}
 use Rattle.word_pool.specs.Shares.{AreSharesOf}
-use Rattle.word_pool.specs.Workers.{Manned, IsStatementOfWorkers, members_of}
+use Rattle.word_pool.specs.Workers.{WorkerState, IsStatementOfWorkers, members_of}
 use Rattle.word_pool.specs.inside.Joins.{AreClosed}
 use Rattle.word_pool.proofs.OneView.{common, held_few, words_show}
 use Rattle.step_core.specs.World.{every_part}
@@ -64,7 +64,7 @@ module _ (l : Limits) (c : Closed) (v : View) (members : List Member) (h : IsLef
 
 -- ---- of the workers of a ground that was closed by the one seat of theirs
 
-module _ (g : Grounded) (ms : List Manned) (n : Known) (l : Limits) (c : Closed) (handed : List Member)
+module _ (g : Grounded) (ms : List WorkerState) (n : Known) (l : Limits) (c : Closed) (handed : List Member)
     (are : AreClosed g ms n l c handed) where
   at_rest : IsLeftAtRest g.limits c n.view
   at_rest = record { left = are.closed.left; whole = are.whole; rest = are.seat.rest }

@@ -21,18 +21,18 @@ use Rattle.twin_acts.specs.declared.acts.TwinAct.{TwinAct}
 use Rattle.word_pool.specs.TwinShares.{AreStatementsOf, AreTwinShares}
 use Rattle.ground.specs.declared.known.Known.{Known}
 use Rattle.ground.specs.Lying.{LieByNotes}
-use Rattle.word_pool.specs.Workers.{Manned, IsSeatOf, notes_by}
+use Rattle.word_pool.specs.Workers.{WorkerState, IsSeatOf, notes_by}
 use Rattle.step_core.specs.World.{worker_part, every_part}
 
 -- a worker: its seat at the ground of either pool, and what it has of both
-pub record TwinManned : Type 0 where
+pub record TwinState : Type 0 where
   pub first : Seated
   pub second : Seated
   pub member : TwinMember
 
 -- between its acts: both seats are at rest, no slot is out with them, and packets and clones are the
 -- worker's own
-pub record IsTwinIdle (m : TwinManned) : Type 0 where
+pub record IsTwinIdle (m : TwinState) : Type 0 where
   pub first_rest : AtRest m.first.known.view
   pub second_rest : AtRest m.second.known.view
   pub first_slots : m.first.slots ≡ []
@@ -46,20 +46,20 @@ pub record SeatStays (old new : Seated) : Type 0 where
   pub part : new.known.view.part ≡ old.known.view.part
 
 -- it is the same worker of the same pools
-pub record TwinStays (old new : TwinManned) : Type 0 where
+pub record TwinStays (old new : TwinState) : Type 0 where
   pub first : SeatStays old.first new.first
   pub second : SeatStays old.second new.second
   pub member : KeepsTwin old.member new.member
 
 -- each of these workers is the same
-pub record AllTwinsStay (old new : List TwinManned) : Type 0 where
+pub record AllTwinsStay (old new : List TwinState) : Type 0 where
   pub as_many : length new ≡ length old
-  pub each : (i : ℕ) (d : TwinManned) → i < length old → TwinStays (slice_index_or old i d) (slice_index_or new i d)
+  pub each : (i : ℕ) (d : TwinState) → i < length old → TwinStays (slice_index_or old i d) (slice_index_or new i d)
 
 -- The worker did this and was answered so: by calls over the words of either ground, each of which
 -- took the steps of its tries. What the answer tells of as new the worker held none of; and where
 -- the act was refused, all is as before, but for the free elements after a clone.
-pub record DoesTwin (act : TwinAct) (old : TwinManned) (reply : Reply) (new : TwinManned) : Type 0 where
+pub record DoesTwin (act : TwinAct) (old : TwinState) (reply : Reply) (new : TwinState) : Type 0 where
   pub calls : BothCalls DidOnWords side_of old.first new.first DidOnWords side_of old.second new.second
       (λ firsts seconds. PerformsTwin act old.member firsts seconds reply new.member)
   pub fresh : AreFreshByAct act old.member (side_of old.first) (side_of old.second) (new_elements reply)
@@ -68,36 +68,36 @@ pub record DoesTwin (act : TwinAct) (old : TwinManned) (reply : Reply) (new : Tw
   pub stays : TwinStays old new
 
 -- a worker of these grounds, with a worker's part of either
-pub record IsTwinWorker (g h : Grounded) (m : TwinManned) : Type 0 where
+pub record IsTwinWorker (g h : Grounded) (m : TwinState) : Type 0 where
   pub first : IsOf g m.first
   pub second : IsOf h m.second
   pub first_part : m.first.known.view.part ≡ worker_part
   pub second_part : m.second.known.view.part ≡ worker_part
 
 -- what workers have of both pools, and of either
-abbrev pub twins_of : List TwinManned → List TwinMember
+abbrev pub twins_of : List TwinState → List TwinMember
 twins_of ms = map (λ m. m.member) ms
 
-abbrev pub firsts_of : List TwinManned → List Member
+abbrev pub firsts_of : List TwinState → List Member
 firsts_of ms = map (λ t. t.first) (twins_of ms)
 
-abbrev pub seconds_of : List TwinManned → List Member
+abbrev pub seconds_of : List TwinState → List Member
 seconds_of ms = map (λ t. t.second) (twins_of ms)
 
 -- the workers as those of either pool: the seat at its ground, and what they have of it
-abbrev pub first_crew : List TwinManned → List Manned
+abbrev pub first_crew : List TwinState → List WorkerState
 first_crew ms = map (λ m. record { seat = m.first; member = m.member.first }) ms
 
-abbrev pub second_crew : List TwinManned → List Manned
+abbrev pub second_crew : List TwinState → List WorkerState
 second_crew ms = map (λ m. record { seat = m.second; member = m.member.second }) ms
 
 -- neither seat of the worker has taken a step, nor was one that has joined to it
-pub record HasNotActedTwice (m : TwinManned) : Type 0 where
+pub record HasNotActedTwice (m : TwinState) : Type 0 where
   pub first : IsUnmoved m.first.known
   pub second : IsUnmoved m.second.known
 
 -- all workers of these grounds, in their order
-pub record AreTwinWorkers (g h : Grounded) (ms : List TwinManned) : Type 0 where
+pub record AreTwinWorkers (g h : Grounded) (ms : List TwinState) : Type 0 where
   pub pools : AreTwinPools g.limits h.limits
   pub first_numbers : map (λ m. m.number) (firsts_of ms) ≡ range_with_len 1 g.limits.workers
   pub second_numbers : map (λ m. m.number) (seconds_of ms) ≡ range_with_len 1 h.limits.workers
@@ -105,14 +105,14 @@ pub record AreTwinWorkers (g h : Grounded) (ms : List TwinManned) : Type 0 where
 
 -- They are the workers of new pools, who have nothing: their caches and tables are empty. None of
 -- them has taken a step.
-pub record AreNewTwins (l k : Limits) (ms : List TwinManned) : Type 0 where
+pub record AreNewTwins (l k : Limits) (ms : List TwinState) : Type 0 where
   pub firsts : firsts_of ms ≡ new_members l 1 l.workers
   pub seconds : seconds_of ms ≡ new_members k 1 k.workers
   pub unmoved : All HasNotActedTwice ms
 
 -- The statements of what two grounds left, each closed by its only seat, to which the seats there of
 -- these workers were joined, and of their caches, packets and clones, which are what those seats had.
-pub record AreStatementsOfTwins (g h : Grounded) (ms : List TwinManned) (s : Statement × Statement) : Type 0 where
+pub record AreStatementsOfTwins (g h : Grounded) (ms : List TwinState) (s : Statement × Statement) : Type 0 where
   pub first_known : Known
   pub second_known : Known
   pub first_seat : IsSeatOf (first_crew ms) first_known

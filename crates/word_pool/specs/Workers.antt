@@ -24,33 +24,33 @@ use Rattle.word_pool.specs.Leaving.{IsStatementOf}
 use Rattle.word_pool.specs.Shares.{AreSharesOf}
 
 -- a worker: its seat, and its cache and packets
-pub record Manned : Type 0 where
+pub record WorkerState : Type 0 where
   pub seat : Seated
   pub member : Member
 
 -- between its acts: the seat is at rest, no slot is out with it, and the packets are the worker's
 -- own
-pub record IsIdle (m : Manned) : Type 0 where
+pub record IsIdle (m : WorkerState) : Type 0 where
   pub rest : AtRest m.seat.known.view
   pub slots : m.seat.slots ≡ []
   pub own : Own m.member (side_of m.seat)
 
 -- it is the same worker: of the same pool, with the same number and the same part of it
-pub record Stays (old new : Manned) : Type 0 where
+pub record Stays (old new : WorkerState) : Type 0 where
   pub table : new.seat.table ≡ old.seat.table
   pub limits : new.seat.known.limits ≡ old.seat.known.limits
   pub part : new.seat.known.view.part ≡ old.seat.known.view.part
   pub number : new.member.number ≡ old.member.number
 
 -- each of these workers is the same
-pub record AllStay (old new : List Manned) : Type 0 where
+pub record AllStay (old new : List WorkerState) : Type 0 where
   pub as_many : length new ≡ length old
-  pub each : (i : ℕ) (d : Manned) → i < length old → Stays (slice_index_or old i d) (slice_index_or new i d)
+  pub each : (i : ℕ) (d : WorkerState) → i < length old → Stays (slice_index_or old i d) (slice_index_or new i d)
 
 -- The worker did this and was answered so: by calls over the words, each of which took the steps
 -- of its tries. What the answer tells of as new, none of its packets held; and where the act was
 -- refused, all is as before, but for the free elements after a clone.
-pub record Acts (act : Act) (old : Manned) (reply : Reply) (new : Manned) : Type 0 where
+pub record Acts (act : Act) (old : WorkerState) (reply : Reply) (new : WorkerState) : Type 0 where
   pub calls : Calls DidOnWords side_of old.seat new.seat (λ calls. Performs act old.member calls reply new.member)
   pub fresh : AreFresh old.member.limits.population (held_in old.member.table) (new_elements reply)
   pub refused : IfRefused reply (AsBefore act old.member (side_of old.seat) new.member (side_of new.seat))
@@ -58,36 +58,36 @@ pub record Acts (act : Act) (old : Manned) (reply : Reply) (new : Manned) : Type
   pub stays : Stays old new
 
 -- a worker of this ground, with a worker's part of it
-pub record IsWorker (g : Grounded) (m : Manned) : Type 0 where
+pub record IsWorker (g : Grounded) (m : WorkerState) : Type 0 where
   pub of : IsOf g m.seat
   pub part : m.seat.known.view.part ≡ worker_part
 
 -- the caches and packets of workers
-abbrev pub members_of : List Manned → List Member
+abbrev pub members_of : List WorkerState → List Member
 members_of ms = map (λ m. m.member) ms
 
 -- all workers of this ground, in their order
-pub record AreWorkers (g : Grounded) (ms : List Manned) : Type 0 where
+pub record AreWorkers (g : Grounded) (ms : List WorkerState) : Type 0 where
   pub numbers : map (λ member. member.number) (members_of ms) ≡ range_with_len 1 g.limits.workers
   pub each : All (IsWorker g) ms
 
 -- the worker's seat has taken no step, and no seat that has was joined to it
-abbrev pub HasNotActed : Manned → Type 0
+abbrev pub HasNotActed : WorkerState → Type 0
 HasNotActed m = IsUnmoved m.seat.known
 
 -- They are the workers of a new pool, who have nothing: their caches and tables are empty, and
 -- their views name nothing. None of them has taken a step.
-pub record AreNew (l : Limits) (ms : List Manned) : Type 0 where
+pub record AreNew (l : Limits) (ms : List WorkerState) : Type 0 where
   pub members : members_of ms ≡ new_members l 1 l.workers
   pub views : All (λ m. m.seat.known.view ≡ empty_view worker_part) ms
   pub unmoved : All HasNotActed ms
 
 -- the steps that the seats of these workers noted, and those of the seats that were joined to them
-abbrev pub notes_by : List Manned → List Note
+abbrev pub notes_by : List WorkerState → List Note
 notes_by ms = flat_map (λ m. m.seat.known.steps ++ m.seat.known.joined) ms
 
 -- What the one seat knows that the seats of all these workers were joined to, in their order.
-pub record IsSeatOf (ms : List Manned) (n : Known) : Type 0 where
+pub record IsSeatOf (ms : List WorkerState) (n : Known) : Type 0 where
   -- it has the part of each
   pub part : n.view.part ≡ length ms * worker_part
   -- the elements in its hand, those that it holds and its headers are theirs, all together
@@ -102,7 +102,7 @@ pub record IsSeatOf (ms : List Manned) (n : Known) : Type 0 where
 
 -- The statement of what a ground left, closed by the only seat, to which the seats of these workers
 -- were joined, and of their caches and packets, which are what that seat has.
-pub record IsStatementOfWorkers (g : Grounded) (ms : List Manned) (s : Statement) : Type 0 where
+pub record IsStatementOfWorkers (g : Grounded) (ms : List WorkerState) (s : Statement) : Type 0 where
   pub known : Known
   pub seat : IsSeatOf ms known
   pub limits : known.limits ≡ g.limits

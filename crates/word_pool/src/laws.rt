@@ -27,27 +27,27 @@ ghost use Rattle.word_pool.specs.Lost.{AreLeft, left_of};
 ghost use Rattle.word_pool.specs.LostViews.{AreLostBy, IsLeftWithout};
 ghost use Rattle.word_pool.specs.Shares.{AreSharesOf, side_in};
 ghost use Rattle.word_pool.specs.TwinShares.{AreTwinShares};
-ghost use Rattle.word_pool.specs.TwinWorkers.{AllTwinsStay, AreTwinWorkers, TwinManned};
-ghost use Rattle.word_pool.specs.Workers.{AllStay, AreWorkers, Manned};
+ghost use Rattle.word_pool.specs.TwinWorkers.{AllTwinsStay, AreTwinWorkers, TwinState};
+ghost use Rattle.word_pool.specs.Workers.{AllStay, AreWorkers, WorkerState};
 
 /// Where each of a pool's workers has stayed, whatever it did, they are all its workers, as before.
 pub fn workers_who_stay_are_all()
-    ensures { (g : Grounded) (old new : List Manned) → AreWorkers g old → AllStay old new → AreWorkers g new }
+    ensures { (g : Grounded) (old new : List WorkerState) → AreWorkers g old → AllStay old new → AreWorkers g new }
 {}
 
 /// The number of each worker of a pool is one that `pool::lose` takes, and where the worker is lost, the
 /// others are those who are left, or an only one is.
 pub fn a_worker_is_lost_and_the_others_are_left()
-    ensures number { (g : Grounded) (ms : List Manned) (number : ℕ) → AreWorkers g ms → IsWorkerOf g.limits number →
+    ensures number { (g : Grounded) (ms : List WorkerState) (number : ℕ) → AreWorkers g ms → IsWorkerOf g.limits number →
         (1 ≤ number) × (number ≤ length ms) }
-    ensures left { (g : Grounded) (ms : List Manned) (number : ℕ) → AreWorkers g ms → IsWorkerOf g.limits number →
+    ensures left { (g : Grounded) (ms : List WorkerState) (number : ℕ) → AreWorkers g ms → IsWorkerOf g.limits number →
         AreLeft g (number ∷ []) (left_of number ms) }
 {}
 
 /// Where each of the workers of two pools has stayed, whatever it did, they are all their workers, as
 /// before.
 pub fn twins_who_stay_are_all()
-    ensures { (g h : Grounded) (old new : List TwinManned) → AreTwinWorkers g h old → AllTwinsStay old new → AreTwinWorkers g h new }
+    ensures { (g h : Grounded) (old new : List TwinState) → AreTwinWorkers g h old → AllTwinsStay old new → AreTwinWorkers g h new }
 {}
 
 /// A worker whose packets are its own, over the view of its seat, has a share of what that view

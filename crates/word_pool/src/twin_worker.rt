@@ -34,9 +34,9 @@ pub struct WordTwin {
 }
 
 impl Model for WordTwin {
-    ghost use Rattle.word_pool.specs.TwinWorkers.{TwinManned};
+    ghost use Rattle.word_pool.specs.TwinWorkers.{TwinState};
 
-    ghost Value = { TwinManned };
+    ghost Value = { TwinState };
 
     ghost use Rattle.word_pool.specs.inside.TwinKept.{twin_manned_of, IsTwinKept};
 

@@ -32,9 +32,9 @@ pub struct WordWorker {
 }
 
 impl Model for WordWorker {
-    ghost use Rattle.word_pool.specs.Workers.{Manned};
+    ghost use Rattle.word_pool.specs.Workers.{WorkerState};
 
-    ghost Value = { Manned };
+    ghost Value = { WorkerState };
 
     ghost use Rattle.word_pool.specs.inside.Kept.{manned_of, IsKept};
 

@@ -6,7 +6,7 @@ use Rattle.ground.specs.Seats.{Grounded, Seated}
 use Rattle.mbuf.specs.Members.{Member, slots}
 use Rattle.pool_model.specs.Pool.{new_members}
 use Rattle.step_core.specs.World.{empty_view, worker_part}
-use Rattle.word_pool.specs.Workers.{Manned, HasNotActed, IsWorker, members_of}
+use Rattle.word_pool.specs.Workers.{WorkerState, HasNotActed, IsWorker, members_of}
 
 -- a seat with this many workers' parts of a pool of these limits, which names nothing and has taken no step
 pub record IsUnused (l : Limits) (parts : ℕ) (s : Seated) : Type 0 where
@@ -20,7 +20,7 @@ abbrev pub new_member : Limits → ℕ → Member
 new_member l number = record { limits = l; number = number; cache = []; table = replicate slots None }
 
 -- the first n workers of a new pool
-pub record AreFirst (g : Grounded) (n : ℕ) (ms : List Manned) : Type 0 where
+pub record AreFirst (g : Grounded) (n : ℕ) (ms : List WorkerState) : Type 0 where
   pub members : members_of ms ≡ new_members g.limits 1 n
   pub each : All (IsWorker g) ms
   pub views : All (λ m. m.seat.known.view ≡ empty_view worker_part) ms

@@ -8,15 +8,15 @@ use Rattle.ground.specs.Seats.{Grounded, Seated, IsOf}
 use Rattle.ground.specs.declared.known.Known.{Known}
 use Rattle.mbuf.specs.Members.{Member}
 use Rattle.word_pool.specs.Shares.{AreSharesOf}
-use Rattle.word_pool.specs.Workers.{Manned, AreWorkers, HasNotActed, IsIdle, IsSeatOf, IsWorker, members_of}
+use Rattle.word_pool.specs.Workers.{WorkerState, AreWorkers, HasNotActed, IsIdle, IsSeatOf, IsWorker, members_of}
 use Rattle.word_pool.specs.inside.Closing.{IsClosedBy}
 use Rattle.step_core.specs.World.{worker_part, every_part}
 
 -- The seats of the last workers are one seat, which is at rest and has their parts, and their
 -- shares are handed in, the last worker's first. The others are left.
-pub record AreJoined (g : Grounded) (all left : List Manned) (seat : Seated) (handed : List Member) : Type 0 where
+pub record AreJoined (g : Grounded) (all left : List WorkerState) (seat : Seated) (handed : List Member) : Type 0 where
   pub each : All (IsWorker g) left
-  pub done : List Manned
+  pub done : List WorkerState
   pub split : all ≡ left ++ done
   pub idle : All IsIdle done
   pub of : IsOf g seat
@@ -31,7 +31,7 @@ pub record AreJoined (g : Grounded) (all left : List Manned) (seat : Seated) (ha
 
 -- The ground was closed by the one seat that the seats of all these workers were joined to, and
 -- their shares, which were handed in, are what that seat had.
-pub record AreClosed (g : Grounded) (ms : List Manned) (n : Known) (l : Limits) (c : Closed) (handed : List Member) : Type 0 where
+pub record AreClosed (g : Grounded) (ms : List WorkerState) (n : Known) (l : Limits) (c : Closed) (handed : List Member) : Type 0 where
   pub all : AreWorkers g ms
   pub closed : IsClosedBy g n l c
   pub seat : IsSeatOf ms n

@@ -2,7 +2,7 @@
 use Rattle.std.specs.Prelude.{◌≡◌, [], Option, Some, None}
 use Rattle.ground.specs.Parting.{spent_seat}
 use Rattle.ground.specs.Seats.{Seated}
-use Rattle.word_pool.specs.Workers.{Manned, IsIdle}
+use Rattle.word_pool.specs.Workers.{WorkerState, IsIdle}
 use Rattle.word_pool.specs.declared.worker.WordWorker.TheInside.{Inside}
 
 -- stands for a seat where there is none
@@ -26,7 +26,7 @@ abbrev pub seat_in : Option Seated → Seated
 seat_in None = no_seat
 seat_in (Some s) = s
 
-abbrev pub manned_of : Inside → Manned
+abbrev pub manned_of : Inside → WorkerState
 manned_of w = record { seat = seat_in w.seat; member = w.packets }
 
 -- between its acts the worker has its seat, and is idle

@@ -8,27 +8,27 @@ use Rattle.mbuf.specs.Twins.{TwinMember}
 use Rattle.pool_model.specs.Pool.{new_members}
 use Rattle.word_pool.specs.TwinShares.{AreTwinShares}
 use Rattle.word_pool.specs.inside.Closing.{IsClosedBy}
-use Rattle.word_pool.specs.TwinWorkers.{TwinManned, AreTwinWorkers, HasNotActedTwice, IsTwinIdle, IsTwinWorker, first_crew, firsts_of, second_crew, seconds_of, twins_of}
-use Rattle.word_pool.specs.Workers.{Manned, IsSeatOf}
+use Rattle.word_pool.specs.TwinWorkers.{TwinState, AreTwinWorkers, HasNotActedTwice, IsTwinIdle, IsTwinWorker, first_crew, firsts_of, second_crew, seconds_of, twins_of}
+use Rattle.word_pool.specs.Workers.{WorkerState, IsSeatOf}
 
 -- the first n workers of new pools
-pub record AreFirstTwins (g h : Grounded) (n : ℕ) (ms : List TwinManned) : Type 0 where
+pub record AreFirstTwins (g h : Grounded) (n : ℕ) (ms : List TwinState) : Type 0 where
   pub firsts : firsts_of ms ≡ new_members g.limits 1 n
   pub seconds : seconds_of ms ≡ new_members h.limits 1 n
   pub each : All (IsTwinWorker g h) ms
   pub unmoved : All HasNotActedTwice ms
 
 -- a seat of this ground that the seats of these workers were joined to
-pub record IsWhole (g : Grounded) (ms : List Manned) (s : Seated) : Type 0 where
+pub record IsWhole (g : Grounded) (ms : List WorkerState) (s : Seated) : Type 0 where
   pub of : IsOf g s
   pub slots : s.slots ≡ []
   pub made : IsSeatOf ms s.known
 
 -- The seats of the last workers are one seat of either ground, which is at rest and has their parts,
 -- and their shares are handed in, the last worker's first. The others are left.
-pub record AreTwinsJoined (g h : Grounded) (all left : List TwinManned) (s u : Seated) (handed : List TwinMember) : Type 0 where
+pub record AreTwinsJoined (g h : Grounded) (all left : List TwinState) (s u : Seated) (handed : List TwinMember) : Type 0 where
   pub each : All (IsTwinWorker g h) left
-  pub done : List TwinManned
+  pub done : List TwinState
   pub split : all ≡ left ++ done
   pub idle : All IsTwinIdle done
   pub first : IsWhole g (first_crew done) s
@@ -40,7 +40,7 @@ pub record AreTwinsJoined (g h : Grounded) (all left : List TwinManned) (s u : S
 
 -- Each ground was closed by the one seat there that the seats of all these workers were joined to,
 -- and their shares are what these seats had.
-pub record AreTwinsClosed (g h : Grounded) (ms : List TwinManned) (s u : Seated) (c : ClosedTwin) : Type 0 where
+pub record AreTwinsClosed (g h : Grounded) (ms : List TwinState) (s u : Seated) (c : ClosedTwin) : Type 0 where
   pub all : AreTwinWorkers g h ms
   pub first : IsClosedBy g s.known c.first_limits c.first
   pub second : IsClosedBy h u.known c.second_limits c.second

@@ -1,6 +1,6 @@
 -- How a `WordTwin` is kept. No public clause cites this module.
 use Rattle.std.specs.Prelude.{◌≡◌, Option, Some, None}
-use Rattle.word_pool.specs.TwinWorkers.{TwinManned, IsTwinIdle}
+use Rattle.word_pool.specs.TwinWorkers.{TwinState, IsTwinIdle}
 use Rattle.word_pool.specs.inside.Kept.{no_seat}
 use Rattle.word_pool.specs.declared.twin_worker.Seats.{Seats}
 use Rattle.word_pool.specs.declared.twin_worker.WordTwin.TheInside.{Inside}
@@ -13,7 +13,7 @@ abbrev pub seats_in : Option Seats → Seats
 seats_in None = no_seats
 seats_in (Some s) = s
 
-abbrev pub twin_manned_of : Inside → TwinManned
+abbrev pub twin_manned_of : Inside → TwinState
 twin_manned_of w = record { first = (seats_in w.seats).first; second = (seats_in w.seats).second; member = w.twin }
 
 -- between its acts the worker has its seats, and is idle

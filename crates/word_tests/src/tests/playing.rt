@@ -32,7 +32,7 @@ pub(super) fn act_of<'a>(names: &Names<'a>, line: &'a Line) -> Result<Act, Refus
 }
 
 /// Lets the worker of a line do what the line asks for.
-fn obey<'a>(
+fn play_line<'a>(
     ground: &Ground,
     names: &Names<'a>,
     line: &'a Line,
@@ -58,7 +58,7 @@ fn obey<'a>(
 }
 
 /// Plays the lines, and lists the replies.
-fn obey_all(
+fn play_all(
     alloc: Global,
     ground: &Ground,
     lines: &[Line],
@@ -73,7 +73,7 @@ fn obey_all(
     let mut names = Names::new(alloc);
     let mut replies = Vec::new(alloc);
     for line in lines {
-        let reply = obey(ground, &names, line, first, second);
+        let reply = play_line(ground, &names, line, first, second);
         note(&mut names, line, &reply)?;
         replies.push(reply)?;
     }
@@ -110,7 +110,7 @@ pub(super) fn play(alloc: Global, script: &Script) -> Result<Played, Fail> {
         Some(free) => Some(Player::make(alloc, &ground, free, 2)?),
         None => None,
     };
-    let replies = obey_all(
+    let replies = play_all(
         alloc,
         &ground,
         script.lines.as_slice(),

@@ -2,7 +2,7 @@ use Rattle.std.proofs.Common.{◌≡◌, ◌++◌, ◌∷◌, [], List, drop, sy
 use Rattle.std.specs.Slots.{slots_items}
 use mathlib.Core.Option.{some}
 use lib.ListN.{get_elem?}
-use Rattle.ground.specs.Closing.{IsKept}
+use Rattle.ground.specs.Closing.{AreOnFullDesks}
 use Rattle.ground.specs.Rule.{Slot}
 use Rattle.ground.proofs.Closes.{drop_get, kept_more}
 use Rattle.ground.proofs.rows.read_desks.Goals as goal
@@ -16,8 +16,8 @@ loop-i-preserved c =
     let at_word : get_elem? (drop c.args.from words) c.loop-i.i ≡ some c.word-word.result =
     drop_get words c.args.from c.loop-i.i c.word-word.result (search rules) in
     let at_slot : get_elem? slots c.loop-i.i ≡ some c.take-slot.result = search rules in
-    let more : IsKept (drop c.args.from words) slots c.push_reserved.new.self.items =
-    subst (λ (xs : List Slot). IsKept (drop c.args.from words) slots xs)
+    let more : AreOnFullDesks (drop c.args.from words) slots c.push_reserved.new.self.items =
+    subst (λ (xs : List Slot). AreOnFullDesks (drop c.args.from words) slots xs)
     (sym (c.push_reserved.ensures.items
     ∙ ap (λ (y : Slot). c.loop-i.out.items ++ y ∷ []) c.kept_on.ensures))
     (kept_more (drop c.args.from words) slots c.loop-i.out.items c.loop-i.i c.word-word.result

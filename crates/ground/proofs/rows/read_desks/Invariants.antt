@@ -2,7 +2,7 @@ use Rattle.std.proofs.Common.{◌≡◌, ℕ, ◌<◌, ◌≤◌, false, true, l
 use Rattle.std.specs.Prelude.{slice_index_or}
 use Rattle.std.specs.Slots.{slots_items, slots_len, slots_filled}
 use Rattle.std.specs.Vec.{vec_len, vec_capacity}
-use Rattle.ground.specs.Closing.{IsKept}
+use Rattle.ground.specs.Closing.{AreOnFullDesks}
 use Rattle.ground.proofs.rows.read_desks.Given as goal
 
 -- the slots before are empty, and the others are full; the packets of full desks before are listed
@@ -16,4 +16,4 @@ invariant-loop-i l =
     slice_index_or (slots_filled l.left.slots) k false ≡ true)
     × (length l.out.items ≡ l.i) × (vec_len l.out ≡ l.i)
     × (slots_len l.initial.left.slots ≤ vec_capacity l.out)
-    × IsKept (drop l.fn.from (slots_items l.initial.left.words)) (slots_items l.initial.left.slots) l.out.items
+    × AreOnFullDesks (drop l.fn.from (slots_items l.initial.left.words)) (slots_items l.initial.left.slots) l.out.items

@@ -3,7 +3,7 @@ use Rattle.word_pool.specs.Lost.{AreLeft, AreLostOf}
 use Rattle.mbufpool_c.specs.Closes.{AreApart, HasClosed, IsSettled}
 use Rattle.mbufpool_c.specs.declared.ending.Ending.{Ending}
 use Rattle.mbufpool_c.proofs.CloseLemmas.{closed_all, closed_some, empty_of, if_ok, if_ok_both}
-use Rattle.mbufpool_c.proofs.HallLemmas.{all_there, some_there}
+use Rattle.mbufpool_c.proofs.SharedLemmas.{all_there, some_there}
 use Rattle.mbufpool_c.proofs.closing.settle.Goals as goal
 
 -- nobody is missing

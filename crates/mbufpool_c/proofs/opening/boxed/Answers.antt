@@ -1,8 +1,8 @@
 use Rattle.std.proofs.Common.{◌++◌, ◌∷◌, [], Box, Global, List, Some, length, length-append, map, reverse, arith, ap, ◌∙◌, sym}
 use Rattle.std.proofs.lemmas.List.Elements.{All-pop}
-use Rattle.word_pool.specs.Workers.{Manned, IsWorker}
+use Rattle.word_pool.specs.Workers.{WorkerState, IsWorker}
 use Rattle.mbufpool_c.specs.declared.workers.OwnWorker.{OwnWorker}
-use Rattle.mbufpool_c.proofs.HallLemmas.{last_number}
+use Rattle.mbufpool_c.proofs.SharedLemmas.{last_number}
 use Rattle.mbufpool_c.proofs.OpenLemmas.{goes_over}
 use Rattle.mbufpool_c.proofs.opening.boxed.Goals as goal
 
@@ -17,14 +17,14 @@ owned-requires-clause-number c =
 -- it goes over to those on the heap
 pub loop-worker-preserved : goal.loop-worker-preserved
 loop-worker-preserved c =
-    let worker_in : Box OwnWorker Global → Manned = λ own. own.value in
+    let worker_in : Box OwnWorker Global → WorkerState = λ own. own.value in
     let left = c.loop-worker.workers.items in
     let rest = c.pop.new.self.items in
     let last = last_number left rest c.in-Some.worker c.in-Some.ensures.items c.loop-worker.invariant.numbers in
-    let more = ap (λ (ms : List Manned). length ms) c.in-Some.ensures.items in
+    let more = ap (λ (ms : List WorkerState). length ms) c.in-Some.ensures.items in
     record {
       each =
-          (All-pop (IsWorker c.args.hall.now.value) left rest (Some c.in-Some.worker) c.in-Some.ensures.items
+          (All-pop (IsWorker c.args.shared.now.value) left rest (Some c.in-Some.worker) c.in-Some.ensures.items
           c.loop-worker.invariant.each).0;
       numbers = last.1;
       few = omega (arith, c.loop-worker.invariant.few, more, length-append rest (c.in-Some.worker ∷ []));

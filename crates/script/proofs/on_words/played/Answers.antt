@@ -1,7 +1,7 @@
 -- The workers are all those of the ground, before their threads and after.
 use Rattle.std.proofs.Common.{List, length, ap, arith}
 use Rattle.commons.specs.declared.limits.Limits.{Limits}
-use Rattle.word_pool.specs.Workers.{AllStay, Manned}
+use Rattle.word_pool.specs.Workers.{AllStay, WorkerState}
 use Rattle.script.proofs.WordWorkers.{crew_len, crew_after}
 use Rattle.script.proofs.on_words.played.Goals as goal
 
@@ -11,7 +11,7 @@ play-requires-clause-some g c κs within =
     let made = c.in_ok-ground in
     omega (
       arith,
-      ap (λ (ms : List Manned). length ms) c.as_mut_slice.ensures.value,
+      ap (λ (ms : List WorkerState). length ms) c.as_mut_slice.ensures.value,
       crew_len made.ground made.workers.items made.ensures.workers,
       ap (λ (l : Limits). l.workers) made.ensures.limits,
       made.ensures.pool.workers_low,
@@ -23,7 +23,7 @@ play-requires-clause-few g c κs within =
     let made = c.in_ok-ground in
     omega (
       arith,
-      ap (λ (ms : List Manned). length ms) c.as_mut_slice.ensures.value,
+      ap (λ (ms : List WorkerState). length ms) c.as_mut_slice.ensures.value,
       crew_len made.ground made.workers.items made.ensures.workers,
       ap (λ (l : Limits). l.workers) made.ensures.limits,
       made.ensures.pool.workers,

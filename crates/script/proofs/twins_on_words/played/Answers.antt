@@ -1,7 +1,7 @@
 -- The workers are all those of both grounds, before their threads and after.
 use Rattle.std.proofs.Common.{List, length, ap, arith}
 use Rattle.commons.specs.declared.limits.Limits.{Limits}
-use Rattle.word_pool.specs.TwinWorkers.{AllTwinsStay, TwinManned}
+use Rattle.word_pool.specs.TwinWorkers.{AllTwinsStay, TwinState}
 use Rattle.script.proofs.TwinEnds.{twins_after, twins_len}
 use Rattle.script.proofs.twins_on_words.played.Goals as goal
 
@@ -11,7 +11,7 @@ play-requires-clause-some g c κs within =
     let made = c.in_ok-first_ground in
     omega (
       arith,
-      ap (λ (ms : List TwinManned). length ms) c.as_mut_slice.ensures.value,
+      ap (λ (ms : List TwinState). length ms) c.as_mut_slice.ensures.value,
       twins_len made.first_ground made.second_ground made.workers.items made.ensures.workers,
       ap (λ (l : Limits). l.workers) made.ensures.first_limits,
       c.requires.pools.twins.first.workers_low,
@@ -23,7 +23,7 @@ play-requires-clause-few g c κs within =
     let made = c.in_ok-first_ground in
     omega (
       arith,
-      ap (λ (ms : List TwinManned). length ms) c.as_mut_slice.ensures.value,
+      ap (λ (ms : List TwinState). length ms) c.as_mut_slice.ensures.value,
       twins_len made.first_ground made.second_ground made.workers.items made.ensures.workers,
       ap (λ (l : Limits). l.workers) made.ensures.first_limits,
       c.requires.pools.twins.first.workers,

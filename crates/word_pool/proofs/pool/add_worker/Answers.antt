@@ -2,7 +2,7 @@
 use Rattle.std.proofs.Common.{◌≡◌, ◌++◌, ◌∷◌, [], ◌∙◌, ap, subst}
 use Rattle.std.specs.Prelude.{IfOk}
 use Rattle.mbuf.specs.Members.{Member}
-use Rattle.word_pool.specs.Workers.{Manned}
+use Rattle.word_pool.specs.Workers.{WorkerState}
 use Rattle.word_pool.proofs.Crews.{new_is_own}
 use Rattle.word_pool.proofs.pool.add_worker.Goals as goal
 
@@ -15,5 +15,5 @@ new-requires-clause-own c =
 pub returns-in-Ok-clause-added : goal.returns-in-Ok-clause-added
 returns-in-Ok-clause-added c =
     let same = c.new.ensures ∙ ap (λ (m : Member). record { seat = c.args.seat; member = m }) c.in-Ok.ensures.ok in
-    subst (λ (w : Manned). IfOk c.add.result (λ _. c.add.new.workers.items ≡ c.args.workers.now.items ++ w ∷ [])) same
+    subst (λ (w : WorkerState). IfOk c.add.result (λ _. c.add.new.workers.items ≡ c.args.workers.now.items ++ w ∷ [])) same
     c.add.ensures.added

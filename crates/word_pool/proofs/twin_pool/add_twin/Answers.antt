@@ -2,7 +2,7 @@
 use Rattle.std.proofs.Common.{◌≡◌, ◌++◌, ◌∷◌, [], ◌∙◌, ap, subst}
 use Rattle.std.specs.Prelude.{IfOk}
 use Rattle.mbuf.specs.Twins.{TwinMember}
-use Rattle.word_pool.specs.TwinWorkers.{TwinManned}
+use Rattle.word_pool.specs.TwinWorkers.{TwinState}
 use Rattle.word_pool.specs.inside.Crews.{new_member}
 use Rattle.word_pool.proofs.TwinCrews.{newcomer_at}
 use Rattle.word_pool.proofs.twin_pool.add_twin.Goals as goal
@@ -17,5 +17,5 @@ returns-in-Ok-clause-added c =
     λ i. record { first = c.in-Ok.ensures.first i; second = c.in-Ok.ensures.second i } in
     let same : c.new.result ≡ newcomer_at l k n seats.first seats.second =
     c.new.ensures ∙ ap (λ (t : TwinMember). record { first = seats.first; second = seats.second; member = t }) made in
-    subst (λ (w : TwinManned). IfOk c.add.result (λ _. c.add.new.workers.items ≡ c.args.workers.now.items ++ w ∷ [])) same
+    subst (λ (w : TwinState). IfOk c.add.result (λ _. c.add.new.workers.items ≡ c.args.workers.now.items ++ w ∷ [])) same
     c.add.ensures.added

@@ -4,7 +4,7 @@ use Rattle.commons.specs.declared.closed.Closed.{Closed}
 use Rattle.commons.specs.declared.limits.Limits.{Limits}
 use Rattle.ground.specs.Layout.{links_at}
 use Rattle.ground.specs.Changing.{IsFresh, closed_at_start}
-use Rattle.ground.specs.Closing.{LeftOf, IsKept}
+use Rattle.ground.specs.Closing.{LeftOf, AreOnFullDesks}
 use Rattle.ground.specs.Lying.{LieByNotes}
 use Rattle.ground.specs.Rule.{Slot}
 use Rattle.ground.specs.Seats.{Grounded, Seated}
@@ -43,7 +43,7 @@ left_of c =
     (ap (λ (xs : List Slot). length xs) c.new-3.ensures
     ∙ (c.read_desks.ensures.count ∙ (c.close_with-left.ensures.counts.1 ∙ c.self.invariant.3)))
     (subst (λ (xs : List Slot).
-    IsKept (drop (links_at + 2 * c.self.inside.limits.population) (slots_items c.close_with-left.result.words))
+    AreOnFullDesks (drop (links_at + 2 * c.self.inside.limits.population) (slots_items c.close_with-left.result.words))
     (slots_items c.close_with-left.result.slots) xs) (sym c.new-3.ensures) c.read_desks.ensures.desks)
     c.seat.invariant.0.busy
 

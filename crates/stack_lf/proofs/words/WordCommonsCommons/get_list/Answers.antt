@@ -1,6 +1,6 @@
 use Rattle.std.proofs.Common.{sym, subst, length, rules}
 use Rattle.commons.specs.declared.limits.Limits.{Limits}
-use Rattle.stack_lf.specs.Effects.{Gets}
+use Rattle.stack_lf.specs.Effects.{GetsOnWords}
 use Rattle.stack_lf.proofs.Meeting.{get_did}
 use Rattle.stack_lf.proofs.words.WordCommonsCommons.get_list.Goals as goal
 
@@ -10,7 +10,7 @@ returns c =
     let me = c.args.self.now in
     let n = length c.args.out.now in
     let got =
-    subst (λ (l : Limits). Gets l.tries n c.get-answer.new.out c.get-answer.result me.seat c.get-answer.new.seat)
+    subst (λ (l : Limits). GetsOnWords l.tries n c.get-answer.new.out c.get-answer.result me.seat c.get-answer.new.seat)
     (sym me.of.limits) c.get-answer.ensures.got in
     let d = get_did n c.get-answer.new.out c.get-answer.result me.seat c.get-answer.new.seat got (search rules) c.get-answer.ensures.told
     c.get-answer.ensures.enough in

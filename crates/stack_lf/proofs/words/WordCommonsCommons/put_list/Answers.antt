@@ -1,6 +1,6 @@
 use Rattle.std.proofs.Common.{sym, subst, rules}
 use Rattle.commons.specs.declared.limits.Limits.{Limits}
-use Rattle.stack_lf.specs.Effects.{Puts}
+use Rattle.stack_lf.specs.Effects.{PutsOnWords}
 use Rattle.stack_lf.proofs.Meeting.{put_did}
 use Rattle.stack_lf.proofs.words.WordCommonsCommons.put_list.Goals as goal
 
@@ -9,7 +9,7 @@ pub returns : goal.returns
 returns c =
     let me = c.args.self.now in
     let put =
-    subst (λ (l : Limits). Puts l.tries c.args.list.now c.put-answer.result me.seat c.put-answer.new.seat)
+    subst (λ (l : Limits). PutsOnWords l.tries c.args.list.now c.put-answer.result me.seat c.put-answer.new.seat)
     (sym me.of.limits) c.put-answer.ensures.put in
     let d = put_did c.args.list.now c.put-answer.result me.seat c.put-answer.new.seat c.requires.in_hand put
     (search rules) in

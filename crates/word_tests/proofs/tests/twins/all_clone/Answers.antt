@@ -1,6 +1,6 @@
 -- Each worker is left the same by its call, so they are all the workers.
 use Rattle.std.proofs.Common.{slice_index_or, subst}
-use Rattle.word_pool.specs.TwinWorkers.{AllTwinsStay, TwinManned, TwinStays}
+use Rattle.word_pool.specs.TwinWorkers.{AllTwinsStay, TwinState, TwinStays}
 use Rattle.word_tests.proofs.tests.twins.all_clone.Goals as goal
 
 pub returns : goal.returns
@@ -9,7 +9,7 @@ returns g c =
       as_many = c.for_each_mut.auto.s;
       each = λ i d l.
           let changed = (c.for_each_mut.ensures i d l).1 in
-          subst (λ (x : TwinManned). TwinStays x (slice_index_or c.for_each_mut.new.s i d)) changed.argument_is
-          (subst (λ (x : TwinManned). TwinStays changed.argument.now x) changed.left changed.call);
+          subst (λ (x : TwinState). TwinStays x (slice_index_or c.for_each_mut.new.s i d)) changed.argument_is
+          (subst (λ (x : TwinState). TwinStays changed.argument.now x) changed.left changed.call);
     } in
     c.twins_who_stay_are_all.ensures c.args.first.now c.args.second.now c.args.workers.now c.for_each_mut.new.s c.requires stay

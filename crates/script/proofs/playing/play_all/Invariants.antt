@@ -1,7 +1,7 @@
 use Rattle.std.proofs.Common.{◌≡◌, drop}
 use Rattle.script.specs.Replay.{end_of}
 use Rattle.script.specs.inside.Standing.{fresh_run, limits_in, run_of, stock_of}
-use Rattle.script.proofs.playing.obey_all.Given as goal
+use Rattle.script.proofs.playing.play_all.Given as goal
 
 -- the lines that are left lead to the end of all
 abbrev pub invariant-loop-line : goal.invariant-loop-line

@@ -1,6 +1,6 @@
 use Rattle.std.specs.Prelude.{IfSome}
 use Rattle.word_tests.specs.Ready.{IsReady}
-use Rattle.word_tests.proofs.tests.playing.obey_all.Given as goal
+use Rattle.word_tests.proofs.tests.playing.play_all.Given as goal
 
 -- both workers are ready for the next line
 abbrev pub invariant-loop-line : goal.invariant-loop-line

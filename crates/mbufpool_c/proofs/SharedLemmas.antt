@@ -1,4 +1,4 @@
--- Workers are taken out of their chairs, from the last number to the first.
+-- Workers are taken out of their entries, from the last number to the first.
 use Rattle.std.proofs.Common.{ℕ, ◌≡◌, ◌+◌, ◌-◌, ◌<◌, ◌≤◌, inl, inr, All, Contains, List, [], ◌∷◌, ◌++◌, length, map, refl, sym, ap, ◌∙◌, subst, arith, add-one, get_or, length-append, map-id, reverse}
 use Rattle.std.proofs.lemmas.Bool.{cases_eq}
 use Rattle.std.proofs.lemmas.List.{append_cancel_right, get_or_push, length-map, map-append, reverse-append}
@@ -11,8 +11,8 @@ use Rattle.commons.specs.declared.limits.Limits.{Limits}
 use Rattle.ground.specs.Seats.{Grounded}
 use Rattle.snapshot.specs.Lost.{IsAscending}
 use Rattle.word_pool.specs.Lost.{AreLeft}
-use Rattle.word_pool.specs.Workers.{Manned, AreWorkers, IsWorker, members_of}
-use Rattle.mbufpool_c.specs.inside.Halls.{AreAbove, IsGathered, numbers_of}
+use Rattle.word_pool.specs.Workers.{WorkerState, AreWorkers, IsWorker, members_of}
+use Rattle.mbufpool_c.specs.inside.Shared.{AreAbove, IsGathered, numbers_of}
 
 -- no worker is above the last
 pub none_above : (g : Grounded) (k : ℕ) → k ≡ g.limits.workers → AreAbove g k [] []
@@ -29,7 +29,7 @@ none_above g k last = record {
 }
 
 -- the worker of the number below is there
-pub one_there : (g : Grounded) (k n : ℕ) (ms : List Manned) (missing : List ℕ) (m : Manned) →
+pub one_there : (g : Grounded) (k n : ℕ) (ms : List WorkerState) (missing : List ℕ) (m : WorkerState) →
     n ≡ k + 1 → n ≤ g.limits.workers → AreAbove g n ms missing → IsWorker g m → m.member.number ≡ n →
     AreAbove g k (m ∷ ms) missing
 one_there g k n ms missing m next low are of is = record {
@@ -64,7 +64,7 @@ one_there g k n ms missing m next low are of is = record {
 }
 
 -- the worker of the number below is missing
-pub one_missing : (g : Grounded) (k n : ℕ) (ms : List Manned) (missing : List ℕ) →
+pub one_missing : (g : Grounded) (k n : ℕ) (ms : List WorkerState) (missing : List ℕ) →
     n ≡ k + 1 → n ≤ g.limits.workers → AreAbove g n ms missing → AreAbove g k ms (missing ++ n ∷ [])
 one_missing g k n ms missing next low are = record {
   each = are.each;
@@ -85,12 +85,12 @@ one_missing g k n ms missing next low are = record {
 }
 
 -- the numbers of workers are those of their members
-pub numbers_are : (ms : List Manned) → map (λ member. member.number) (members_of ms) ≡ numbers_of ms
+pub numbers_are : (ms : List WorkerState) → map (λ member. member.number) (members_of ms) ≡ numbers_of ms
 numbers_are [] = refl
 numbers_are (m ∷ ms) = ap (λ (ws : List ℕ). m.member.number ∷ ws) (numbers_are ms)
 
 -- where none is missing, they are all
-pub all_there : (g : Grounded) (ms : List Manned) (missing : List ℕ) → AreAbove g 0 ms missing → missing ≡ [] → AreWorkers g ms
+pub all_there : (g : Grounded) (ms : List WorkerState) (missing : List ℕ) → AreAbove g 0 ms missing → missing ≡ [] → AreWorkers g ms
 all_there g ms missing are none = record {
   numbers =
       numbers_are ms ∙ are.full none
@@ -98,7 +98,7 @@ all_there g ms missing are none = record {
   each = are.each;
 }
 
-are_numbers : (l : Limits) (ms : List Manned) → All (λ w. 0 < w) (numbers_of ms) → All (λ w. w ≤ l.workers) (numbers_of ms) →
+are_numbers : (l : Limits) (ms : List WorkerState) → All (λ w. 0 < w) (numbers_of ms) → All (λ w. w ≤ l.workers) (numbers_of ms) →
     All (λ m. IsOf l m.number) (members_of ms)
 are_numbers l [] first last = All-nil (λ m. IsOf l m.number)
 are_numbers l (m ∷ ms) first last =
@@ -111,7 +111,7 @@ are_numbers l (m ∷ ms) first last =
     (All-tail (λ w. w ≤ l.workers) m.member.number (numbers_of ms) last))
 
 -- and else they are those who are left
-pub some_there : (g : Grounded) (ms : List Manned) (missing : List ℕ) → AreAbove g 0 ms missing → 0 < length ms → AreLeft g missing ms
+pub some_there : (g : Grounded) (ms : List WorkerState) (missing : List ℕ) → AreAbove g 0 ms missing → 0 < length ms → AreLeft g missing ms
 some_there g ms missing are some = record {
   some = some;
   each = are.each;
@@ -128,26 +128,26 @@ some_there g ms missing are some = record {
 }
 
 -- a worker is added at the end, and is the first of all turned round
-turned : (ms : List Manned) (m : Manned) → reverse (ms ++ m ∷ []) ≡ m ∷ reverse ms
+turned : (ms : List WorkerState) (m : WorkerState) → reverse (ms ++ m ∷ []) ≡ m ∷ reverse ms
 turned ms m = reverse-append ms (m ∷ [])
 
--- one more chair is passed
-pub gathered_more : (g tag : Grounded) (k n : ℕ) (ms new : List Manned) (missing gone : List ℕ) → tag ≡ g →
+-- one more entry is passed
+pub gathered_more : (g tag : Grounded) (k n : ℕ) (ms new : List WorkerState) (missing gone : List ℕ) → tag ≡ g →
     n ≡ k + 1 → n ≤ g.limits.workers → AreAbove g n (reverse ms) missing → IsGathered tag n ms new missing gone →
     AreAbove g k (reverse new) gone
 gathered_more g tag k n ms new missing gone same next low are (inl (m, of, is, more, kept)) =
-    subst (λ (xs : List Manned). AreAbove g k xs gone) (sym (ap reverse more ∙ turned ms m))
+    subst (λ (xs : List WorkerState). AreAbove g k xs gone) (sym (ap reverse more ∙ turned ms m))
     (subst (λ (ws : List ℕ). AreAbove g k (m ∷ reverse ms) ws) (sym kept)
     (one_there g k n (reverse ms) missing m next low are (subst (λ (h : Grounded). IsWorker h m) same of) is))
 gathered_more g tag k n ms new missing gone same next low are (inr (kept, more)) =
-    subst (λ (xs : List Manned). AreAbove g k (reverse xs) gone) (sym kept)
+    subst (λ (xs : List WorkerState). AreAbove g k (reverse xs) gone) (sym kept)
     (subst (λ (ws : List ℕ). AreAbove g k (reverse ms) ws) (sym more) (one_missing g k n (reverse ms) missing next low are))
 
--- all chairs are passed
-pub gathered_all : (g : Grounded) (k : ℕ) (ms new : List Manned) (missing : List ℕ) → k ≡ 0 → new ≡ reverse ms →
+-- all entries are passed
+pub gathered_all : (g : Grounded) (k : ℕ) (ms new : List WorkerState) (missing : List ℕ) → k ≡ 0 → new ≡ reverse ms →
     AreAbove g k (reverse ms) missing → AreAbove g 0 new missing
 gathered_all g k ms new missing last turned are =
-    subst (λ (xs : List Manned). AreAbove g 0 xs missing) (sym turned)
+    subst (λ (xs : List WorkerState). AreAbove g 0 xs missing) (sym turned)
     (subst (λ (n : ℕ). AreAbove g n (reverse ms) missing) last are)
 
 -- numbers in a row, and one more
@@ -157,16 +157,16 @@ range_more a n =
     ∙ ap (λ (ws : List ℕ). ws ++ (a + n) ∷ []) (map-id (range_with_len a n))
 
 -- the last of workers numbered from 1 has the number of all, and the others are so numbered
-pub last_number : (ms rest : List Manned) (m : Manned) → ms ≡ rest ++ m ∷ [] → numbers_of ms ≡ range_with_len 1 (length ms) →
+pub last_number : (ms rest : List WorkerState) (m : WorkerState) → ms ≡ rest ++ m ∷ [] → numbers_of ms ≡ range_with_len 1 (length ms) →
     (length rest + 1 ≡ m.member.number) × (numbers_of rest ≡ range_with_len 1 (length rest))
 last_number ms rest m last all =
     let n = length rest in
-    let few : length ms ≡ n + 1 = ap (λ (xs : List Manned). length xs) last ∙ length-append rest (m ∷ []) in
+    let few : length ms ≡ n + 1 = ap (λ (xs : List WorkerState). length xs) last ∙ length-append rest (m ∷ []) in
     let both : numbers_of rest ++ m.member.number ∷ [] ≡ range_with_len 1 n ++ (1 + n) ∷ [] =
-    sym (map-append (λ (x : Manned). x.member.number) rest (m ∷ [])) ∙ sym (ap numbers_of last) ∙ all
+    sym (map-append (λ (x : WorkerState). x.member.number) rest (m ∷ [])) ∙ sym (ap numbers_of last) ∙ all
     ∙ ap (range_with_len 1) few ∙ range_more 1 n in
     let is : m.member.number ≡ 1 + n =
-    sym (get_or_push (numbers_of rest) m.member.number 0 n (length-map rest (λ (x : Manned). x.member.number)))
+    sym (get_or_push (numbers_of rest) m.member.number 0 n (length-map rest (λ (x : WorkerState). x.member.number)))
     ∙ ap (λ (ws : List ℕ). get_or ws n 0) both
     ∙ get_or_push (range_with_len 1 n) (1 + n) 0 n (length-range_with_len 1 n) in (
       omega (arith, is),
