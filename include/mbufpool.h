@@ -110,7 +110,7 @@ enum mbufpool_refusal {
 	MBUFPOOL_NOBODY = 27,		/**< (guarded pools alone) a get with a number below 2 */
 	MBUFPOOL_UNRESTED = 28,		/**< (guarded pools alone) a word that must be 0 wasn't: no run has
 					 * met it */
-	MBUFPOOL_LENT_OUT = 29,		/**< (seats, guarded pools) this seat has lent its share of the pool,
+	MBUFPOOL_LENT_OUT = 29,		/**< (seats, guarded pools) this seat has lent its part of the pool,
 					 * 2^56 elements more than it put: at 10^8 a second that takes 22
 					 * years; get by another seat, or put by this one */
 };
@@ -178,7 +178,7 @@ static inline const char *mbufpool_strerror(uint32_t status)
 	case MBUFPOOL_UNRESTED:
 		return "unrested: the word of an element that isn't out wasn't 0";
 	case MBUFPOOL_LENT_OUT:
-		return "lent out: the seat has lent its share of the pool, get by another or put by this one";
+		return "lent out: the seat has lent its part of the pool, get by another or put by this one";
 	default:
 		return "unknown status";
 	}
@@ -204,7 +204,7 @@ static inline const char *mbufpool_strerror(uint32_t status)
  *
  * Each get and each put that succeeds, of whatever length but 0, takes one of 2^40 - 1 changes.
  *
- * A seat's share of the pool is 2^56 elements that it can have lent: got, and not put by itself. The
+ * A seat's part of the pool is 2^56 elements that it can have lent: got, and not put by itself. The
  * first seat has as much for each seat that isn't split off it yet besides. */
 
 /** A seat, or none where the pointer is null. The pointer is the library's. */
@@ -252,11 +252,11 @@ uint32_t mbufpool_seat_open_at(uint32_t population, uint32_t seats, uint32_t tri
  * @param out
  *   Gets the new seat, as mbufpool_seat_open's does.
  * @return
- *   - 0: `out` has a seat, with 2^56 elements of the first seat's share of the pool.
+ *   - 0: `out` has a seat, with 2^56 elements of the first seat's part of the pool.
  *   - MBUFPOOL_STRANGER: the handle has no seat, or one that isn't the pool's first, or the pool has no
  *     more of them.
- *   - MBUFPOOL_LENT_OUT: so much of the first seat's share of the pool is lent that no seat's is left.
- *   - MBUFPOOL_NO_MEMORY: memory was refused; the first seat has its share of the pool back.
+ *   - MBUFPOOL_LENT_OUT: so much of the first seat's part of the pool is lent that no seat's is left.
+ *   - MBUFPOOL_NO_MEMORY: memory was refused; the first seat has its part of the pool back.
  */
 uint32_t mbufpool_seat_split(struct mbufpool_seat *seat, struct mbufpool_seat *out);
 
@@ -273,7 +273,7 @@ uint32_t mbufpool_seat_split(struct mbufpool_seat *seat, struct mbufpool_seat *o
  * @return
  *   - 0: the n elements are the caller's.
  *   - MBUFPOOL_STRANGER
- *   - MBUFPOOL_LENT_OUT: the seat has lent its share of the pool, or would have by this list.
+ *   - MBUFPOOL_LENT_OUT: the seat has lent its part of the pool, or would have by this list.
  *   - MBUFPOOL_NO_ENTRIES, MBUFPOOL_CONTENDED, MBUFPOOL_HEAD_SPENT: by the stack, as a get.
  */
 uint32_t mbufpool_seat_get(struct mbufpool_seat *seat, uint32_t *out, size_t n);
