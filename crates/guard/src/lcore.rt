@@ -3,7 +3,7 @@
 ghost use Rattle.std.specs.Prelude.{◌≡◌, ◌+◌, ◌<◌, ◌≤◌, ℕ, All, [], length, take, drop, None, Some, IfOk, IfErr, OnOk, OnErr};
 ghost use Rattle.commons.specs.Bag.{bag};
 ghost use Rattle.commons.specs.Bounds.{IsPool};
-ghost use Rattle.commons.specs.Calls.{Calls, guarded_list as with_elements};
+ghost use Rattle.commons.specs.Calls.{Calls, with_list as with_elements};
 ghost use Rattle.ground.specs.Own.{AtRest};
 ghost use Rattle.ground.specs.Parting.{less_part, newcomer};
 ghost use Rattle.ground.specs.Seats.{IsOf};

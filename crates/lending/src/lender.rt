@@ -2,7 +2,7 @@
 
 ghost use Rattle.std.specs.Prelude.{◌≡◌, ◌<◌, ◌≤◌, ◌++◌, ℕ, List, [], length};
 ghost use Rattle.commons.specs.Bag.{bag};
-ghost use Rattle.commons.specs.Calls.{Did, GetList, PutList, CommonCount, lent_list as with_elements};
+ghost use Rattle.commons.specs.Calls.{Did, GetList, PutList, CommonCount, with_list as with_elements};
 ghost use Rattle.ground.specs.Own.{AtRest};
 ghost use Rattle.ground.specs.Seats.{IsOf};
 ghost use Rattle.step_core.specs.World.{worker_part};

@@ -2,7 +2,7 @@
 
 ghost use Rattle.std.specs.Prelude.{◌≡◌, ◌+◌, ◌^◌, ◌<◌, ◌≤◌, [], length, ℕ, None, Some, IfOk, IfErr};
 ghost use Rattle.commons.specs.Bag.{bag};
-ghost use Rattle.commons.specs.Calls.{Did, GetList, PutList, CommonCount, lent_list as with_elements};
+ghost use Rattle.commons.specs.Calls.{Did, GetList, PutList, CommonCount, with_list as with_elements};
 ghost use Rattle.ground.specs.Opening.{IsGroundCause};
 ghost use Rattle.ground.specs.Own.{Owned};
 ghost use Rattle.ground.specs.Parting.{IsBoth, less_part, newcomer};

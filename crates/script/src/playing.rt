@@ -11,7 +11,6 @@ use crate::names::{Names, Stand};
 use crate::sites::Sites;
 use commons::refusal::Refusal;
 use mbuf::acts::{Answer, NewPacket, Reply};
-use mbuf::packets::SLOTS;
 use pool_model::settled::Settled;
 use script_text::commands::{Command, Line, Name, Script};
 use std::alloc::{AllocError, Global};
@@ -98,22 +97,20 @@ fn play_line<'a>(sites: &mut Sites, names: &mut Names<'a>, line: &'a Line) -> Re
     ensures limits { limits_in (stock_of sites.new) ≡ limits_in (stock_of sites.old) }
 {
     match &line.command {
-        Command::Bulk(_) => play_dropping::<SLOTS>(sites, names, line),
-        _ => play_dropping::<0>(sites, names, line),
+        Command::Bulk(_) => play_bulk(sites, names, line),
+        _ => {
+            let _reply = perform_line::<0>(sites, names, line)?;
+            Ok(())
+        }
     }
 }
 
-/// Performs one line with room for a bulk of `ROOM` packets in its reply, which is dropped.
-fn play_dropping<'a, const ROOM: usize>(
-    sites: &mut Sites,
-    names: &mut Names<'a>,
-    line: &'a Line,
-) -> Result<(), AllocError>
-    requires room { CommandHasRoom ROOM line.now.command }
+/// Performs one line with room for any bulk in its reply, which is dropped.
+fn play_bulk<'a>(sites: &mut Sites, names: &mut Names<'a>, line: &'a Line) -> Result<(), AllocError>
     ensures run { OnOk result (run_of sites.new names.new ≡ (played line.now.worker line.now.command (run_of sites.old names.old)).1) }
     ensures limits { limits_in (stock_of sites.new) ≡ limits_in (stock_of sites.old) }
 {
-    let _reply = perform_line::<ROOM>(sites, names, line)?;
+    let _reply: Reply = perform_line(sites, names, line)?;
     Ok(())
 }
 

@@ -15,11 +15,11 @@ use crate::playing::perform_line;
 use crate::sites::Sites;
 use crate::texts::push_reply;
 use commons::refusal::Refusal;
-use mbuf::packets::SLOTS;
+use mbuf::acts::Reply;
 use script_text::commands::{Command, Line, Script};
 use script_text::parse;
 use statement_text::statement_text;
-use std::alloc::Global;
+use std::alloc::{AllocError, Global};
 
 /// All that the replay of a script prints: a line for the reply to each command, and then the
 /// statement that places every element, or with a second pool both statements.
@@ -106,25 +106,27 @@ fn answer<'a>(
     ensures memory { IfErr result (λ refusal. refusal ≡ Refusal.OutOfMemory) }
 {
     match &line.command {
-        Command::Bulk(_) => answer_in::<SLOTS>(out, sites, names, line),
-        _ => answer_in::<0>(out, sites, names, line),
+        Command::Bulk(_) => answer_bulk(out, sites, names, line),
+        _ => match perform_line::<0>(sites, names, line) {
+            Ok(reply) => push_reply(out, line.number, &reply),
+            Err(_) => Err(Refusal::OutOfMemory),
+        },
     }
 }
 
-/// Performs one line with room for a bulk of `ROOM` packets in the answer, and appends the line that
-/// answers it.
-fn answer_in<'a, const ROOM: usize>(
+/// Performs one line with room for any bulk in the answer, and appends the line that answers it.
+fn answer_bulk<'a>(
     out: &mut Vec<u8>,
     sites: &mut Sites,
     names: &mut Names<'a>,
     line: &'a Line,
 ) -> Result<(), Refusal>
-    requires { CommandHasRoom ROOM line.now.command }
     ensures text { OnOk result (out.new.items ≡ out.old.items ++ reply_line line.now.number (played line.now.worker line.now.command (run_of sites.old names.old)).0) }
     ensures run { OnOk result (run_of sites.new names.new ≡ (played line.now.worker line.now.command (run_of sites.old names.old)).1) }
     ensures memory { IfErr result (λ refusal. refusal ≡ Refusal.OutOfMemory) }
 {
-    match perform_line::<ROOM>(sites, names, line) {
+    let reply: Result<Reply, AllocError> = perform_line(sites, names, line);
+    match reply {
         Ok(reply) => push_reply(out, line.number, &reply),
         Err(_) => Err(Refusal::OutOfMemory),
     }
