@@ -27,11 +27,12 @@ mod texts;
 use answers::is_told;
 use shown::{assert_end, numbers_of};
 
-/// A name, a pool's limits, steps that are all done, and steps that are then refused one after
-/// another.
+/// A name, a pool's limits, steps that are all done, in two parts, and steps that are then refused
+/// one after another.
 type RefusedRow = (
     &'static str,
     Limits,
+    &'static [(u32, Act)],
     &'static [(u32, Act)],
     &'static [(u32, Act)],
 );
@@ -179,9 +180,10 @@ fn refuse_all<R: Abort>(rt: &R, world: &mut World, steps: &[(u32, Act)], name: &
 }
 
 fn refused_rows<R: Abort + AllocGlobal>(rt: &R, rows: &[RefusedRow]) -> Result<(), Fail> {
-    for (name, limits, steps, refused) in rows {
+    for (name, limits, begun, then, refused) in rows {
         let mut world = World::open(rt.alloc(), limits)?;
-        play_all(rt, &mut world, steps, name);
+        play_all(rt, &mut world, begun, name);
+        play_all(rt, &mut world, then, name);
         refuse_all(rt, &mut world, refused, name);
     }
     Ok(())
@@ -269,22 +271,20 @@ fn printed_by(alloc: Global, script: &str) -> Result<Vec<u8>, Refusal> {
 /// A script prints its text.
 fn assert_prints<R: Abort + AllocGlobal>(
     rt: &R,
-    (name, script, text): &texts::Row,
+    name: &str,
+    script: &str,
+    text: &str,
 ) -> Result<(), Fail> {
     let printed = printed_by(rt.alloc(), script)?;
-    same(
-        rt,
-        &str::from_utf8(printed.as_slice()).ok(),
-        &Some(*text),
-        name,
-    );
+    let given = str::from_utf8(printed.as_slice()).ok();
+    same(rt, &given, &Some(text), name);
     Ok(())
 }
 
 #[test]
 fn each_script_of_steps_prints_its_text(rt: HostRuntime) -> Result<(), Fail> {
-    for row in texts::ROWS {
-        assert_prints(&rt, row)?;
+    for (name, script, text) in texts::ROWS {
+        assert_prints(&rt, name, script, text)?;
     }
     for (name, text, refusal) in texts::FAULTY {
         let cause = printed_by(rt.alloc(), text).err();
@@ -323,15 +323,39 @@ fn assert_each_in_one_place<R: Abort>(rt: &R, text: &str, name: &str) {
     }
 }
 
+/// The script of a row, and what it prints: each answer behind the number of its step's line, and
+/// then the world.
+fn texts_of(alloc: Global, row: &stopped::Row) -> Result<(String, String), Fail> {
+    let steps = format!(in alloc; "{}{}{}", row.begun, row.then, row.other)?;
+    let mut script = format!(in alloc; "pool 4 workers 2 desks 1\n")?;
+    let mut text = String::new(alloc);
+    for (number, line) in (2u64..).zip(steps.as_str().lines()) {
+        let Some((step, answer)) = line.split_once(" = ") else {
+            return Err(Fail::from("a step without an answer"));
+        };
+        writeln!(script, "{step}")?;
+        writeln!(text, "{number}: {answer}")?;
+    }
+    text.push_str(row.world)?;
+    Ok((script, text))
+}
+
+/// Each row prints its text, with each element in one place.
+fn stopped_rows<R: Abort + AllocGlobal>(rt: &R, rows: &[stopped::Row]) -> Result<(), Fail> {
+    for row in rows {
+        let (script, text) = texts_of(rt.alloc(), row)?;
+        assert_prints(rt, row.last, script.as_str(), text.as_str())?;
+        assert_each_in_one_place(rt, row.world, row.last);
+    }
+    Ok(())
+}
+
 #[test]
 fn wherever_a_worker_stopped_each_element_is_in_one_place(rt: HostRuntime) -> Result<(), Fail> {
     let mut kinds = 0usize;
-    for table in stopped::TABLES {
+    for table in [stopped::LISTS, stopped::COUNTS, stopped::DESKS] {
         kinds = kinds.wrapping_add(table.len());
-        for row in table {
-            assert_prints(&rt, row)?;
-            assert_each_in_one_place(&rt, row.2, row.0);
-        }
+        stopped_rows(&rt, table)?;
     }
     same(&rt, &kinds, &19, "the kinds of step");
     Ok(())

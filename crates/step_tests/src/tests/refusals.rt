@@ -2,16 +2,26 @@
 
 use super::RefusedRow;
 use commons::limits::Limits;
+use random_steps::acts::Act;
 use random_steps::acts::Act::*;
 use random_steps::schedules::{SPENT, TWO};
 
 /// A number whose low 32 bits are 0.
 const PAST_32_BITS: u64 = 4_294_967_296;
 
+/// Worker 1 gets element 0.
+const GOT: &[(u32, Act)] = &[
+    (1, Reserve(3, 1)),
+    (1, LoadHead),
+    (1, LoadLink(0)),
+    (1, Cut),
+];
+
 pub(super) const STACK: &[RefusedRow] = &[
     (
         "a new world",
         TWO,
+        &[],
         &[],
         &[
             (0, LoadLength),
@@ -29,6 +39,7 @@ pub(super) const STACK: &[RefusedRow] = &[
     (
         "nothing is walked",
         TWO,
+        &[],
         &[(1, Reserve(3, 1)), (1, LoadHead)],
         &[
             (1, LoadLink(1)),
@@ -46,6 +57,7 @@ pub(super) const STACK: &[RefusedRow] = &[
     (
         "more is walked than is reserved",
         TWO,
+        &[],
         &[
             (1, Reserve(3, 1)),
             (1, LoadHead),
@@ -60,6 +72,7 @@ pub(super) const STACK: &[RefusedRow] = &[
             start_count: SPENT,
             ..TWO
         },
+        &[],
         &[(1, Reserve(3, 1)), (1, LoadHead), (1, LoadLink(0))],
         &[(1, Cut)],
     ),
@@ -69,25 +82,15 @@ pub(super) const STACK: &[RefusedRow] = &[
             start_count: SPENT - 1,
             ..TWO
         },
-        &[
-            (1, Reserve(3, 1)),
-            (1, LoadHead),
-            (1, LoadLink(0)),
-            (1, Cut),
-            (1, LoadHead),
-            (1, StoreLink(0, Some(1))),
-        ],
+        GOT,
+        &[(1, LoadHead), (1, StoreLink(0, Some(1)))],
         &[(1, Push)],
     ),
     (
         "what may be stored",
         TWO,
-        &[
-            (1, Reserve(3, 1)),
-            (1, LoadHead),
-            (1, LoadLink(0)),
-            (1, Cut),
-        ],
+        GOT,
+        &[],
         &[
             (1, StoreLink(1, None)),
             (1, StoreLink(3, None)),
@@ -101,26 +104,15 @@ pub(super) const STACK: &[RefusedRow] = &[
     (
         "a chain that doesn't end at the top",
         TWO,
-        &[
-            (1, Reserve(3, 1)),
-            (1, LoadHead),
-            (1, LoadLink(0)),
-            (1, Cut),
-            (1, LoadHead),
-            (1, StoreLink(0, None)),
-        ],
+        GOT,
+        &[(1, LoadHead), (1, StoreLink(0, None))],
         &[(1, Push), (2, Push)],
     ),
     (
         "a chain without a look",
         TWO,
-        &[
-            (1, Reserve(3, 1)),
-            (1, LoadHead),
-            (1, LoadLink(0)),
-            (1, Cut),
-            (1, StoreLink(0, Some(1))),
-        ],
+        GOT,
+        &[(1, StoreLink(0, Some(1)))],
         &[(1, Push)],
     ),
 ];
@@ -129,6 +121,7 @@ pub(super) const COUNTS: &[RefusedRow] = &[
     (
         "nothing is in the hand, and nothing held",
         TWO,
+        &[],
         &[],
         &[
             (1, Claim(0)),
@@ -145,12 +138,8 @@ pub(super) const COUNTS: &[RefusedRow] = &[
     (
         "in the hand",
         TWO,
-        &[
-            (1, Reserve(3, 1)),
-            (1, LoadHead),
-            (1, LoadLink(0)),
-            (1, Cut),
-        ],
+        GOT,
+        &[],
         &[
             (1, Sole(0)),
             (1, SoleFree(0)),
@@ -165,13 +154,8 @@ pub(super) const COUNTS: &[RefusedRow] = &[
     (
         "held",
         TWO,
-        &[
-            (1, Reserve(3, 1)),
-            (1, LoadHead),
-            (1, LoadLink(0)),
-            (1, Cut),
-            (1, Claim(0)),
-        ],
+        GOT,
+        &[(1, Claim(0))],
         &[
             (1, Claim(0)),
             (1, Reset(0)),
@@ -189,26 +173,15 @@ pub(super) const COUNTS: &[RefusedRow] = &[
             ref_limit: 1,
             ..TWO
         },
-        &[
-            (1, Reserve(3, 1)),
-            (1, LoadHead),
-            (1, LoadLink(0)),
-            (1, Cut),
-            (1, Claim(0)),
-        ],
+        GOT,
+        &[(1, Claim(0))],
         &[(1, Raise(0, 1))],
     ),
     (
         "a count of 0 for the moment",
         TWO,
-        &[
-            (1, Reserve(3, 1)),
-            (1, LoadHead),
-            (1, LoadLink(0)),
-            (1, Cut),
-            (1, Claim(0)),
-            (1, Lower(0)),
-        ],
+        GOT,
+        &[(1, Claim(0)), (1, Lower(0))],
         &[
             (1, Claim(0)),
             (1, StoreLink(0, None)),
@@ -228,6 +201,7 @@ pub(super) const DESKS: &[RefusedRow] = &[
         "no desk in work",
         DESKED,
         &[],
+        &[],
         &[
             (1, Hold(2)),
             (1, Hold(u32::MAX)),
@@ -241,6 +215,7 @@ pub(super) const DESKS: &[RefusedRow] = &[
     (
         "to be filled",
         DESKED,
+        &[],
         &[(1, Hold(0))],
         &[
             (1, Hold(0)),
@@ -258,6 +233,7 @@ pub(super) const DESKS: &[RefusedRow] = &[
     (
         "filled with what isn't held",
         DESKED,
+        &[],
         &[(1, Hold(0)), (1, PutIn(0, 0, None))],
         &[
             (1, Open(0)),
@@ -270,25 +246,15 @@ pub(super) const DESKS: &[RefusedRow] = &[
     (
         "filled with what is held once and asked for twice",
         DESKED,
-        &[
-            (1, Reserve(3, 1)),
-            (1, LoadHead),
-            (1, LoadLink(0)),
-            (1, Cut),
-            (1, Claim(0)),
-            (1, Hold(0)),
-            (1, PutIn(0, 0, Some(0))),
-        ],
+        GOT,
+        &[(1, Claim(0)), (1, Hold(0)), (1, PutIn(0, 0, Some(0)))],
         &[(1, Open(0))],
     ),
     (
         "seized",
         DESKED,
+        GOT,
         &[
-            (1, Reserve(3, 1)),
-            (1, LoadHead),
-            (1, LoadLink(0)),
-            (1, Cut),
             (1, Claim(0)),
             (1, Hold(0)),
             (1, PutIn(0, 0, None)),
@@ -308,11 +274,8 @@ pub(super) const DESKS: &[RefusedRow] = &[
     (
         "taken out",
         DESKED,
+        GOT,
         &[
-            (1, Reserve(3, 1)),
-            (1, LoadHead),
-            (1, LoadLink(0)),
-            (1, Cut),
             (1, Claim(0)),
             (1, Hold(0)),
             (1, PutIn(0, 0, None)),
