@@ -6,6 +6,7 @@ use snapshot::audit::audit;
 use snapshot::fault::Fault;
 use snapshot::snapshot::Snapshot;
 use snapshot_json::{read_snapshot, snapshot_json};
+use snapshot_rows::{FAULTS, LIMITS, Members, written};
 use std::alloc::{AllocError, Global};
 use std::process::Abort;
 use std::test::Fail;
@@ -13,13 +14,11 @@ use std::test::Fail;
 mod calling;
 mod damaged;
 mod drawn;
-mod faulty;
 mod pictures;
 
 use calling::with_length;
 use damaged::{LIST, OF_LIST, OF_WORDS, WHOLE, WORDS};
 use drawn::{Source, drawn};
-use faulty::{FAULTS, LIMITS};
 use pictures::{PICTURES, picture_of};
 
 /// A name, what is replaced in a text, by what, and what is printed of the text. Where `^` stands
@@ -285,8 +284,8 @@ fn line_of(alloc: Global, snapshot: &Snapshot) -> Result<Option<Vec<u8>>, Refusa
 }
 
 /// The line of the first fault of a text's snapshot, where it is one that has a fault.
-fn line_of_text(alloc: Global, members: &str) -> Result<Option<Vec<u8>>, Refusal> {
-    let Ok(text) = format!(in alloc; "{LIMITS}{members}") else {
+fn line_of_text(alloc: Global, members: &Members) -> Result<Option<Vec<u8>>, Refusal> {
+    let Ok(text) = written(alloc, LIMITS, members) else {
         return Err(Refusal::OutOfMemory);
     };
     match read_snapshot(alloc, text.as_bytes()) {
@@ -299,7 +298,7 @@ fn line_of_text(alloc: Global, members: &str) -> Result<Option<Vec<u8>>, Refusal
 #[test]
 fn each_fault_has_its_line(rt: HostRuntime) {
     for row in FAULTS {
-        let told = line_of_text(rt.alloc(), row.members);
+        let told = line_of_text(rt.alloc(), &row.members);
         let line = row.line;
         let is = match &told {
             Ok(Some(told)) => told.as_slice() == line.as_bytes(),
@@ -314,7 +313,7 @@ fn each_fault_has_its_line(rt: HostRuntime) {
 #[test]
 fn refused_memory_changes_no_line(rt: HostRuntime) {
     if let Some(row) = FAULTS.last() {
-        let told = line_of_text(rt.alloc(), row.members);
+        let told = line_of_text(rt.alloc(), &row.members);
         let line = row.line;
         let is = match &told {
             Ok(Some(told)) => told.as_slice() == line.as_bytes(),

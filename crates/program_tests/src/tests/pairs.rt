@@ -1,11 +1,12 @@
 //! Two snapshots of one pool: the statement of the newer one with what stays since the older one, or
 //! the line of the failure.
-use super::audits::{FAULTS, HEALTHY, LIMITS, STATEMENT};
+use super::audits::STATEMENT;
 use super::files::outcome;
 use super::same;
 use super::screen::{Narrow, Screen};
 use commons::refusal::Refusal;
 use script_io::{ReadFault, Tally};
+use snapshot_rows::{FAULTS, HEALTHY, LIMITS, written};
 use std::alloc::Global;
 use std::sync::Wait;
 use std::test::Fail;
@@ -241,19 +242,17 @@ fn told_of(alloc: Global, newer: &str, older: &str) -> Result<String, Fail> {
 
 #[test]
 fn a_fault_is_told_of_the_newer_one_or_as_the_older_ones(rt: HostRuntime) -> Result<(), Fail> {
-    let healthy = format!(in rt.alloc(); "{LIMITS}{HEALTHY}")?;
+    let healthy = written(rt.alloc(), LIMITS, &HEALTHY)?;
     for row in FAULTS {
-        if row.line == STATEMENT {
-            continue;
-        }
-        let faulty = format!(in rt.alloc(); "{LIMITS}{}", row.members)?;
-        let since = format!(in rt.alloc(); "since: {}", row.line)?;
+        let faulty = written(rt.alloc(), LIMITS, &row.members)?;
+        let line = format!(in rt.alloc(); "{}\n", row.line)?;
+        let since = format!(in rt.alloc(); "since: {line}")?;
         let of_newer = told_of(rt.alloc(), faulty.as_str(), healthy.as_str())?;
-        same(&rt, &of_newer.as_str(), &row.line, row.members);
+        same(&rt, &of_newer.as_str(), &line.as_str(), row.line);
         let of_older = told_of(rt.alloc(), healthy.as_str(), faulty.as_str())?;
-        same(&rt, &of_older.as_str(), &since.as_str(), row.members);
+        same(&rt, &of_older.as_str(), &since.as_str(), row.line);
         let of_first = told_of(rt.alloc(), faulty.as_str(), "{}")?;
-        same(&rt, &of_first.as_str(), &row.line, row.members);
+        same(&rt, &of_first.as_str(), &line.as_str(), row.line);
     }
     Ok(())
 }
@@ -266,8 +265,8 @@ const NO_POOL: &str = "{\"limits\":{\"population\":8,\"cache\":2,\"workers\":0,\
 fn what_is_no_snapshot_of_a_pool_is_told_of_the_newer_one_or_as_the_older_ones(
     rt: HostRuntime,
 ) -> Result<(), Fail> {
-    let healthy = format!(in rt.alloc(); "{LIMITS}{HEALTHY}")?;
-    let no_pool = format!(in rt.alloc(); "{NO_POOL}{HEALTHY}")?;
+    let healthy = written(rt.alloc(), LIMITS, &HEALTHY)?;
+    let no_pool = written(rt.alloc(), NO_POOL, &HEALTHY)?;
     for (newer, older, line) in [
         ("[", healthy.as_str(), "snapshot: not JSON, at byte 1\n"),
         (
@@ -331,7 +330,7 @@ fn the_first_limit_that_differs_is_told(rt: HostRuntime) -> Result<(), Fail> {
 fn a_file_that_cant_be_read_is_named_and_missing_memory_is_told_as_that(
     rt: HostRuntime,
 ) -> Result<(), Fail> {
-    let healthy = format!(in rt.alloc(); "{LIMITS}{HEALTHY}")?;
+    let healthy = written(rt.alloc(), LIMITS, &HEALTHY)?;
     let both = Both {
         newer: healthy.as_str(),
         older: healthy.as_str(),
@@ -356,7 +355,7 @@ fn a_file_that_cant_be_read_is_named_and_missing_memory_is_told_as_that(
 
 #[test]
 fn a_print_goes_to_the_output_and_a_failure_to_the_errors(rt: HostRuntime) -> Result<(), Fail> {
-    let healthy = format!(in rt.alloc(); "{LIMITS}{HEALTHY}")?;
+    let healthy = written(rt.alloc(), LIMITS, &HEALTHY)?;
     let both = Both {
         newer: healthy.as_str(),
         older: healthy.as_str(),
@@ -416,7 +415,7 @@ fn is_as_with_ample_memory(alloc: Global, both: &Both<'_>) -> bool {
 
 #[test]
 fn refused_memory_changes_no_print(rt: HostRuntime) -> Result<(), Fail> {
-    let Ok(healthy) = format!(in rt.alloc(); "{LIMITS}{HEALTHY}") else {
+    let Ok(healthy) = written(rt.alloc(), LIMITS, &HEALTHY) else {
         return Ok(());
     };
     let both = Both {

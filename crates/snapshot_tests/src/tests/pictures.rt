@@ -1,12 +1,12 @@
 //! A pool, and its picture: with each element, and as sums.
 
-use super::faulty::LIMITS;
 use commons::refusal::Refusal;
 use pool_model::statement::Statement;
 use pool_picture::pool_dot;
 use snapshot::audit::audit;
 use snapshot::snapshot::Snapshot;
 use snapshot_json::read_snapshot;
+use snapshot_rows::LIMITS;
 use std::alloc::Global;
 
 /// The elements 3 and 2 are on the stack, 4 in the first cache, 0 and 1 in the second. Worker 1 has a
