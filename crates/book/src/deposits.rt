@@ -1,12 +1,40 @@
 //! The shares of all workers, or of those who are left, put in the book of their pool.
 
-ghost use Rattle.std.specs.Prelude.{◌≡◌, Some, map};
+ghost use Rattle.std.specs.Prelude.{◌≡◌, IfErr, IfOk, Some, map};
 ghost use Rattle.std.specs.List.{range_with_len};
+ghost use Rattle.commons.specs.Bounds.{IsPool};
 ghost use Rattle.book.specs.Books.{IsFull, IsMissing, new_book, shares_in};
 ghost use Rattle.book.specs.Lost.{AreOrdered, IsFullBut, unlisted_of, with_unlisted};
 
 use crate::book::Book;
-use crate::share::Share;
+use crate::share::{Share, lose_all};
+use commons::limits::Limits;
+use commons::refusal::Refusal;
+use std::alloc::Global;
+
+/// The book of a pool of these limits with the shares of all workers, which are in the order of
+/// their numbers.
+///
+/// Refused `OutOfMemory` where memory was refused. The shares are lost then.
+pub fn full_book(alloc: Global, limits: &Limits, shares: Vec<Share>) -> Result<Book, Refusal>
+    requires range { IsPool limits.now }
+    requires workers { map (λ share. share.number) shares.items ≡ range_with_len 1 limits.now.workers }
+    ensures limits { IfOk result (λ book. book.limits ≡ limits.now) }
+    ensures shares { IfOk result (λ book. shares_in book.places ≡ shares.items) }
+    ensures full { IfOk result (λ book. IsFull book) }
+    ensures memory { IfErr result (λ e. e ≡ Refusal.OutOfMemory) }
+{
+    match Book::make(alloc, limits) {
+        Ok(mut book) => {
+            deposit_all(&mut book, shares);
+            Ok(book)
+        }
+        Err(cause) => {
+            lose_all(shares);
+            Err(cause)
+        }
+    }
+}
 
 /// Puts the shares of all workers, in the order of their numbers, in a book without shares.
 pub fn deposit_all(book: &mut Book, mut shares: Vec<Share>)

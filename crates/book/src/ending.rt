@@ -14,7 +14,7 @@ ghost use Rattle.book.specs.Lost.{AreOrdered, IsFullBut, unlisted_of};
 ghost use Rattle.book.specs.Settling.{snapshot_with};
 
 use crate::book::Book;
-use crate::deposits::{deposit_all, deposit_unlisted};
+use crate::deposits::{deposit_unlisted, full_book};
 use crate::losing::settle_without;
 use crate::settling::{Unsettled, settle};
 use crate::share::{Share, lose_all};
@@ -45,16 +45,8 @@ pub fn settled_parts(
     ensures whole { IfOk result (λ s. s.available + s.in_use ≡ limits.now.population) }
     ensures memory { IfErr result (λ e. e ≡ Refusal.OutOfMemory) }
 {
-    match Book::make(alloc, limits) {
-        Ok(mut book) => {
-            deposit_all(&mut book, shares);
-            settled_book(alloc, closed, book)
-        }
-        Err(cause) => {
-            lose_all(shares);
-            Err(cause)
-        }
-    }
+    let book = full_book(alloc, limits, shares)?;
+    settled_book(alloc, closed, book)
 }
 
 /// Settles what a pool left with a book that has the shares of all its workers.

@@ -12,11 +12,10 @@ use crate::book::Book;
 use crate::closed_twin::ClosedTwin;
 use crate::copies;
 use crate::copies::{first_snapshot, second_snapshot};
-use crate::deposits::deposit_all;
-use crate::share::{Share, lose_all};
+use crate::deposits::full_book;
+use crate::share::Share;
 use crate::twin_book::TwinBook;
-use crate::twin_deposits::deposit_all_twins;
-use crate::twin_share::lose_all_twins;
+use crate::twin_deposits::full_twin_book;
 use commons::closed::Closed;
 use commons::limits::Limits;
 use commons::refusal::Refusal;
@@ -38,16 +37,8 @@ pub fn snapshot_of_parts(
     ensures lawful { IfOk result (λ s. IsLawful s) }
     ensures memory { IfErr result (λ e. e ≡ Refusal.OutOfMemory) }
 {
-    match Book::make(alloc, limits) {
-        Ok(mut book) => {
-            deposit_all(&mut book, shares);
-            snapshot_of_book(alloc, closed, book)
-        }
-        Err(cause) => {
-            lose_all(shares);
-            Err(cause)
-        }
-    }
+    let book = full_book(alloc, limits, shares)?;
+    snapshot_of_book(alloc, closed, book)
 }
 
 /// The snapshot of what a pool left with its book, which is ended.
@@ -87,16 +78,8 @@ pub fn snapshots_of_twins(
         second,
         shares,
     } = closed;
-    match TwinBook::make(alloc, &first_limits, &second_limits) {
-        Ok(mut book) => {
-            deposit_all_twins(&mut book, shares);
-            snapshots_of_book(alloc, first, second, book)
-        }
-        Err(cause) => {
-            lose_all_twins(shares);
-            Err(cause)
-        }
-    }
+    let book = full_twin_book(alloc, &first_limits, &second_limits, shares)?;
+    snapshots_of_book(alloc, first, second, book)
 }
 
 /// The snapshots of what two pools left with their book, which is ended.

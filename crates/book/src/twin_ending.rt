@@ -11,9 +11,8 @@ ghost use Rattle.book.specs.TwinSettling.{first_with, second_with};
 
 use crate::closed_twin::ClosedTwin;
 use crate::twin_book::TwinBook;
-use crate::twin_deposits::deposit_all_twins;
+use crate::twin_deposits::full_twin_book;
 use crate::twin_settling::{TwinUnsettled, settle_twin};
-use crate::twin_share::lose_all_twins;
 use commons::closed::Closed;
 use commons::refusal::Refusal;
 use pool_model::statement::Statement;
@@ -49,16 +48,8 @@ pub fn settled_twins(alloc: Global, closed: ClosedTwin) -> Result<(Statement, St
         second,
         shares,
     } = closed;
-    match TwinBook::make(alloc, &first_limits, &second_limits) {
-        Ok(mut book) => {
-            deposit_all_twins(&mut book, shares);
-            settled_book(alloc, first, second, book)
-        }
-        Err(cause) => {
-            lose_all_twins(shares);
-            Err(cause)
-        }
-    }
+    let book = full_twin_book(alloc, &first_limits, &second_limits, shares)?;
+    settled_book(alloc, first, second, book)
 }
 
 /// Settles what two pools left with a book that has the shares of all their workers.
