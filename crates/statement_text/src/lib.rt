@@ -7,7 +7,7 @@ mod json;
 pub mod laws;
 mod lists;
 mod segments;
-mod values;
+pub mod values;
 mod whole;
 
 pub use json::{pool_json, statement_json};

@@ -43,7 +43,7 @@ pub(crate) fn settled(alloc: Global, settled: &Settled) -> Result<Value, AllocEr
 }
 
 /// A list of numbers.
-pub(crate) fn numbers(alloc: Global, numbers: &[u32]) -> Result<Value, AllocError>
+pub fn numbers(alloc: Global, numbers: &[u32]) -> Result<Value, AllocError>
     ensures { IfOk result (λ v. view v ≡ counts_data numbers.now) }
 {
     let mut values = Vec::with_capacity(alloc, numbers.len())?;
@@ -105,7 +105,7 @@ fn on_desk(alloc: Global, packet: &DeskPacket) -> Result<Value, AllocError>
 }
 
 /// The segments of a packet.
-fn segs(alloc: Global, segs: &[Seg]) -> Result<Value, AllocError>
+pub fn segs(alloc: Global, segs: &[Seg]) -> Result<Value, AllocError>
     ensures { IfOk result (λ v. view v ≡ segs_data segs.now) }
 {
     let mut values = Vec::with_capacity(alloc, segs.len())?;
