@@ -9,6 +9,7 @@ use commons::refusal::Refusal;
 use ground::pool::Ground;
 use mbuf::acts::Act;
 use pool_model::settled::Settled;
+use pool_model::statement::Statement;
 use script::statement_text;
 use std::alloc::Global;
 use std::test::Fail;
@@ -45,8 +46,27 @@ fn clone_and_free(first: &Ground, second: &Ground, worker: &mut WordTwin)
     let _gone = worker.act(first, second, TwinAct::FreeClone(0));
 }
 
-/// Lets all workers clone and free, each in a thread of its own.
-fn all_clone<R: Threads + Sync>(rt: &R, first: &Ground, second: &Ground, workers: &mut [WordTwin])
+/// Makes a clone of a packet that is freed, and frees the clone too where that is asked.
+fn work(first: &Ground, second: &Ground, worker: &mut WordTwin, frees: bool)
+    requires first { IsOf first.now worker.old.first }
+    requires second { IsOf second.now worker.old.second }
+    ensures { TwinStays worker.old worker.new }
+{
+    if frees {
+        clone_and_free(first, second, worker);
+    } else {
+        clone(first, second, worker);
+    }
+}
+
+/// The work of all workers, each in a thread of its own.
+fn all_work<R: Threads + Sync>(
+    rt: &R,
+    first: &Ground,
+    second: &Ground,
+    workers: &mut [WordTwin],
+    frees: bool,
+)
     requires { AreTwinWorkers first.now second.now workers.old }
     ensures { AreTwinWorkers first.now second.now workers.new }
 {
@@ -59,21 +79,21 @@ fn all_clone<R: Threads + Sync>(rt: &R, first: &Ground, second: &Ground, workers
             requires first { IsOf first.now worker.now.first }
             requires second { IsOf second.now worker.now.second }
             ensures { TwinStays worker.entry.now worker.exit.now }
-        { clone_and_free(first, second, worker) },
+        { work(first, second, worker, frees) },
     );
 }
 
-/// How many elements of either pool are free once all workers have cloned and freed.
-fn free_at_the_end<R: Threads + Sync>(
+/// The statements of two pools whose workers have made clones, and freed them or left them.
+fn ended<R: Threads + Sync>(
     rt: &R,
     alloc: Global,
     first: &Limits,
     second: &Limits,
-) -> Result<(u64, u64), Refusal> {
+    frees: bool,
+) -> Result<(Statement, Statement), Refusal> {
     let (one, other, mut workers) = twin_pool::make(alloc, first, second)?;
-    all_clone(rt, &one, &other, workers.as_mut_slice());
-    let (one, other) = twin_pool::settled(alloc, one, other, workers)?;
-    Ok((one.available, other.available))
+    all_work(rt, &one, &other, workers.as_mut_slice(), frees);
+    twin_pool::settled(alloc, one, other, workers)
 }
 
 #[test]
@@ -93,54 +113,15 @@ fn threads_of_two_pools_leave_all_free(rt: HostRuntime) -> Result<(), Fail> {
             buf: 0,
             ..DEFAULTS
         };
-        let available = free_at_the_end(&rt, rt.alloc(), &first, &second)?;
+        let (first, second) = ended(&rt, rt.alloc(), &first, &second, true)?;
         same(
             &rt,
-            &available,
+            &(first.available, second.available),
             &(64, 32),
             "what two pools have free at the end",
         );
     }
     Ok(())
-}
-
-/// Lets all workers leave a clone, each in a thread of its own.
-fn all_leave_clones<R: Threads + Sync>(
-    rt: &R,
-    first: &Ground,
-    second: &Ground,
-    workers: &mut [WordTwin],
-)
-    requires { AreTwinWorkers first.now second.now workers.old }
-    ensures { AreTwinWorkers first.now second.now workers.new }
-{
-    twins_who_stay_are_all();
-    thread::for_each_mut(
-        rt,
-        workers,
-        4,
-        &|_, worker: &mut WordTwin|
-            requires first { IsOf first.now worker.now.first }
-            requires second { IsOf second.now worker.now.second }
-            ensures { TwinStays worker.entry.now worker.exit.now }
-        { clone(first, second, worker) },
-    );
-}
-
-/// The statements of two pools whose workers have clones left.
-fn settled_with_clones<R: Threads + Sync>(
-    rt: &R,
-    alloc: Global,
-    first: &Limits,
-    second: &Limits,
-) -> Result<Settled, Refusal> {
-    let (one, other, mut workers) = twin_pool::make(alloc, first, second)?;
-    all_leave_clones(rt, &one, &other, workers.as_mut_slice());
-    let (first, second) = twin_pool::settled(alloc, one, other, workers)?;
-    Ok(Settled {
-        first,
-        second: Some(second),
-    })
 }
 
 const TEXT: &str = "population 4\navailable 3\nin use 1\ncommon 3: 1 2 3\ncache 1 0:\n\
@@ -160,8 +141,9 @@ fn a_clone_on_words_holds_the_buffer_of_the_first_pool(rt: HostRuntime) -> Resul
         buf: 0,
         ..DEFAULTS
     };
-    let settled = settled_with_clones(&rt, rt.alloc(), &first, &second)?;
-    let text = statement_text(rt.alloc(), &settled)?;
+    let (first, second) = ended(&rt, rt.alloc(), &first, &second, false)?;
+    let second = Some(second);
+    let text = statement_text(rt.alloc(), &Settled { first, second })?;
     same(
         &rt,
         &text.as_slice(),

@@ -1,7 +1,7 @@
 -- Each worker is left the same by its call, so they are all the workers.
 use Rattle.std.proofs.Common.{slice_index_or, subst}
 use Rattle.word_pool.specs.TwinWorkers.{AllTwinsStay, TwinState, TwinStays}
-use Rattle.word_tests.proofs.tests.twins.all_clone.Goals as goal
+use Rattle.word_tests.proofs.tests.twins.all_work.Goals as goal
 
 pub returns : goal.returns
 returns g c =
