@@ -1,7 +1,7 @@
 //! Scripts that are read whole, up to one byte more than they may have, or not at all.
 
 use crate::equal::same;
-use script_io::{ReadFault, Retrying, Tally, read_script};
+use script_io::{ReadFault, Retrying, Tally, read_bytes, read_script};
 use std::io;
 use std::io::{ErrorKind, Read};
 
@@ -131,6 +131,31 @@ fn all_bytes_are_read_or_it_is_said_that_the_reader_failed(rt: HostRuntime) {
         same(&rt, &found.map(|bytes| bytes.len()), &wanted, name);
         same(&rt, &source.failed, &wanted.is_err(), name);
         same(&rt, &source.inner.calls, &calls, name);
+    }
+}
+
+/// A reader that never ends, as a device of zeros, and how often it was called.
+#[derive(Drop)]
+struct Endless {
+    calls: u32,
+}
+
+impl Read for Endless {
+    fn read(&mut self, buf: &mut [u8]) -> io::Result<usize> {
+        self.calls = self.calls.saturating_add(1);
+        buf.fill(0);
+        Ok(buf.len())
+    }
+}
+
+#[test]
+fn a_reader_that_never_ends_is_read_up_to_the_limit(rt: HostRuntime) {
+    for (limit, calls) in [(0, 0), (1, 1), (8_192, 1), (8_193, 2), (2_000_000, 245)] {
+        let mut source = Tally::new(Endless { calls: 0 });
+        let found = read_bytes(rt.alloc(), &mut source, limit);
+        let what = "a reader that never ends";
+        same(&rt, &found.map(|bytes| bytes.len()), &Ok(limit), what);
+        same(&rt, &source.inner.calls, &calls, what);
     }
 }
 

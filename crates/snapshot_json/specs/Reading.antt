@@ -10,10 +10,15 @@ use Rattle.statement_text.specs.StatementData.{counts_data}
 use Rattle.snapshot.specs.declared.snapshot.Snapshot.{Snapshot}
 use Rattle.snapshot_json.specs.SnapshotData.{HasWords, IsSnapshotData}
 use Rattle.snapshot_json.specs.declared.fault.SnapshotFault.{SnapshotFault}
-use Rattle.snapshot_json.specs.declared.fault.SnapshotFault.TheVariants.{NotJson, Doubled}
+use Rattle.snapshot_json.specs.declared.fault.SnapshotFault.TheVariants.{NotJson, Doubled, TooLong}
 
--- bytes are a text of JSON that is a snapshot's data, in which no object has a key twice
+-- the most bytes of a snapshot's text
+abbrev pub max_bytes : ℕ
+max_bytes = 2147483647
+
+-- bytes are, within that bound, a text of JSON that is a snapshot's data, in which no object has a key twice
 pub record IsSnapshotText (bytes : List ℕ) (s : Snapshot) : Type 0 where
+  pub size : length bytes ≤ max_bytes
   pub utf8 : IsUtf8 bytes
   pub value : IsSomeAnd (read bytes) (λ d. IsSnapshotData d s)
   pub once : IsSomeAnd (document bytes) HasUniqueKeys
@@ -47,5 +52,6 @@ HasLeastDouble d elem first second =
 -- what a fault says beside that there is no snapshot
 abbrev pub IsFaultOf : List ℕ → SnapshotFault → Type 0
 IsFaultOf bytes (NotJson byte) = IsNoJson bytes
+IsFaultOf bytes TooLong = max_bytes < length bytes
 IsFaultOf bytes (Doubled elem first second) = IsSomeAnd (read bytes) (λ d. HasLeastDouble d elem first second)
 IsFaultOf bytes _ = ⊤

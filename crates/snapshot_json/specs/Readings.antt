@@ -7,7 +7,7 @@ use Rattle.snapshot.specs.declared.snapshot.Snapshot.{Snapshot}
 use Rattle.snapshot_json.specs.Reading.{HasLeastDouble, IsNoSnapshotData}
 use Rattle.snapshot_json.specs.SnapshotData.{HasCommon, HasWords, IsSnapshotData, common_data, snapshot_data}
 use Rattle.snapshot_json.specs.declared.fault.SnapshotFault.{SnapshotFault}
-use Rattle.snapshot_json.specs.declared.fault.SnapshotFault.TheVariants.{OutOfMemory, NotJson, Wrong, Doubled}
+use Rattle.snapshot_json.specs.declared.fault.SnapshotFault.TheVariants.{OutOfMemory, TooLong, NotJson, Wrong, Doubled}
 use Rattle.snapshot_json.specs.declared.reading.Reading.{Reading}
 use Rattle.snapshot_json.specs.declared.reading.Reading.TheVariants.{Whole, Twice, Other}
 
@@ -48,4 +48,5 @@ abbrev pub IsKeyFault : List ℕ → SnapshotFault → Type 0
 IsKeyFault text OutOfMemory = ⊤
 IsKeyFault text (NotJson byte) = document text ≡ None
 IsKeyFault text (Wrong flaw) = IsSomeAnd (document text) (λ j. ¬ HasUniqueKeys j)
+IsKeyFault text TooLong = ⊥
 IsKeyFault text (Doubled elem first second) = ⊥

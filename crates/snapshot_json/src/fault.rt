@@ -1,5 +1,6 @@
 //! What is wrong with a snapshot's text, and where.
 
+use crate::MAX_BYTES;
 use std::fmt;
 use std::fmt::InlineText;
 
@@ -202,6 +203,8 @@ impl fmt::Display for Flaw {
 pub enum SnapshotFault {
     /// Memory was refused: nothing is said of the text.
     OutOfMemory,
+    /// The text has more bytes than a snapshot's may have.
+    TooLong,
     /// The text isn't JSON: it ends or goes wrong at about this byte.
     NotJson(u64),
     /// A part of the value is wrong.
@@ -215,6 +218,7 @@ impl fmt::Display for SnapshotFault {
     fn fmt<W: fmt::Write>(&self, f: &mut fmt::Formatter<W>) -> fmt::Result {
         match *self {
             SnapshotFault::OutOfMemory => f.write_str("out of memory"),
+            SnapshotFault::TooLong => write!(f, "snapshot: more than {MAX_BYTES} bytes"),
             SnapshotFault::NotJson(byte) => write!(f, "snapshot: not JSON, at byte {byte}"),
             SnapshotFault::Wrong(flaw) => write!(f, "{flaw}"),
             SnapshotFault::Doubled(elem, first, second) => write!(

@@ -25,6 +25,15 @@ use serde_json::{Error, Value};
 use snapshot::snapshot::Snapshot;
 use std::alloc::{AllocError, Global};
 
+/// The most bytes of a snapshot's text: 128 for each of the 16,777,214 elements that a pool can have,
+/// and 255 more.
+///
+/// An element takes up to 109 bytes, as a dump writes it: 73 as the one segment of a packet, with a
+/// base (`[{"elem":16777213,"base":16777213,"off":65535,"len":65535,"buf":65535}],` and a line feed),
+/// 6 for its count, and 30 for a guest (`{"worker":64,"elem":16777213},`). A link takes 9 more. What
+/// is left is for the limits, the shares and the names of members.
+pub const MAX_BYTES: usize = 2_147_483_647;
+
 /// The snapshot whose text these bytes are, else what is wrong with them, or `OutOfMemory` where
 /// memory was refused.
 pub fn read_snapshot(alloc: Global, bytes: &[u8]) -> Result<Snapshot, SnapshotFault>
@@ -32,6 +41,9 @@ pub fn read_snapshot(alloc: Global, bytes: &[u8]) -> Result<Snapshot, SnapshotFa
     ensures none { IfErr result (λ f. f ≢ SnapshotFault.OutOfMemory → IsNoSnapshotText bytes.now) }
     ensures tells { IfErr result (λ f. IsFaultOf bytes.now f) }
 {
+    if bytes.len() > MAX_BYTES {
+        return Err(SnapshotFault::TooLong);
+    }
     let text = match std::str::from_utf8(bytes) {
         Ok(text) => text,
         Err(fault) => return Err(SnapshotFault::NotJson(fault.valid_up_to() as u64)),

@@ -5,6 +5,7 @@ use commons::refusal::Refusal;
 use snapshot::audit::audit;
 use snapshot::fault::Fault;
 use snapshot::snapshot::Snapshot;
+use snapshot_json::fault::SnapshotFault;
 use snapshot_json::{read_snapshot, snapshot_json};
 use snapshot_rows::{FAULTS, LIMITS, Members, written};
 use std::alloc::{AllocError, Global};
@@ -189,6 +190,15 @@ fn both_forms_are_read(rt: HostRuntime) {
             links.is_some() && list.len() == BOTH.len(),
             "a list: {list}"
         );
+    }
+}
+
+/// A text that is too long says so.
+#[test]
+fn a_text_that_is_too_long_says_so(rt: HostRuntime) {
+    if let Ok(line) = format!(in rt.alloc(); "{}", SnapshotFault::TooLong) {
+        let line = line.as_str();
+        assert!(&rt; line == "snapshot: more than 2147483647 bytes", "{line}");
     }
 }
 

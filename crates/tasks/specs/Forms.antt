@@ -1,5 +1,5 @@
 -- What is printed in each form, and for each task.
-use Rattle.std.specs.Prelude.{ℕ, ◌≡◌, List, ◌++◌, codes}
+use Rattle.std.specs.Prelude.{ℕ, suc, ◌≡◌, List, ◌++◌, codes}
 use Rattle.statement_text.specs.StatementData.{json_of_settled, numbers_of}
 use Rattle.pool_model.specs.declared.settled.Settled.{Settled}
 use Rattle.script.specs.Losing.{IsCauseWithout, LosesFrom, lost_text}
@@ -10,6 +10,7 @@ use Rattle.script.specs.declared.threaded.Grounds.{Grounds}
 use Rattle.statement_text.specs.StatementText.{text_of_settled}
 use Rattle.script_text.specs.Grammar.{IsCause}
 use Rattle.script_text.specs.StepGrammar.{IsStepCause}
+use Rattle.snapshot_json.specs.Reading.{max_bytes}
 use Rattle.step_text.specs.Printed.{IsStepsPrint}
 use Rattle.tasks.specs.Audits.{IsAuditCause, IsAuditPrintedAs, IsPictureOf}
 use Rattle.tasks.specs.Failures.{IsFaultOf}
@@ -70,6 +71,11 @@ IsCauseFor (RunLost grounds turns lose form) bytes = IsFaultOf (IsCauseWithout l
 IsCauseFor Steps bytes = IsFaultOf (IsStepCause bytes)
 IsCauseFor (Audit form) bytes = IsAuditCause bytes
 IsCauseFor Picture bytes = IsAuditCause bytes
+
+-- the most bytes of such a file that are read: one more than it may have
+abbrev pub most_read : Kind → ℕ
+most_read Script = 1048577
+most_read Snapshot = suc max_bytes
 
 -- what it is done with: a snapshot, or a script
 abbrev pub kind_of : Task → Kind

@@ -1,10 +1,11 @@
 //! Where scripts and snapshots come from.
-ghost use Rattle.std.specs.Prelude.{ℕ, List, IfErr, IfOk};
+ghost use Rattle.std.specs.Prelude.{ℕ, ◌≤◌, List, IfErr, IfOk, vec_len};
 ghost use Rattle.script_io.specs.declared.reading.ReadFault.{ReadFault};
+ghost use Rattle.tasks.specs.Forms.{most_read};
 ghost use Rattle.tasks.specs.declared.kind.Kind.{Kind};
 
 use crate::kind::Kind;
-use script_io::{ReadFault, Retrying, Tally, read_bytes, read_script};
+use script_io::{ReadFault, Retrying, Tally, read_bytes};
 use std::alloc::Global;
 use std::fs::File;
 use std::io::{Input, Read};
@@ -18,8 +19,8 @@ pub trait Scripts {
     /// The faults with which a reading of this name may fail.
     ghost fails: { Self → Kind → List ℕ → ReadFault → Type 0 } = { λ _ _ _ _. Unit {0} };
 
-    /// The bytes of the file of this kind with this name; of a script that is too long, as many as
-    /// show that.
+    /// The bytes of the file of this kind with this name; of one that is too long, as many as show
+    /// that.
     ///
     /// `Device` where it isn't found or can't be read, and `Memory` where memory was refused.
     fn read(&self, alloc: Global, kind: Kind, name: &str) -> Result<Vec<u8>, ReadFault>
@@ -33,7 +34,11 @@ pub struct Disk<'a, R>(pub &'a R);
 
 impl<R: Files + Input> Scripts for Disk<'_, R> {
     /// Opening takes no memory of the program's, so that each error of it is the device's.
-    fn read(&self, alloc: Global, kind: Kind, name: &str) -> Result<Vec<u8>, ReadFault> {
+    ///
+    /// A file without an end is read no further than one that is too long.
+    fn read(&self, alloc: Global, kind: Kind, name: &str) -> Result<Vec<u8>, ReadFault>
+        ensures most { IfOk result (λ bytes. vec_len bytes ≤ most_read kind) }
+    {
         if kind == Kind::Snapshot && name == "-" {
             return whole(alloc, kind, self.0.reader());
         }
@@ -44,11 +49,10 @@ impl<R: Files + Input> Scripts for Disk<'_, R> {
     }
 }
 
-/// The bytes of a file of this kind.
-fn whole<F: Read + Drop>(alloc: Global, kind: Kind, file: F) -> Result<Vec<u8>, ReadFault> {
+/// The bytes of a file of this kind; of one that is too long, as many as show that.
+fn whole<F: Read + Drop>(alloc: Global, kind: Kind, file: F) -> Result<Vec<u8>, ReadFault>
+    ensures most { IfOk result (λ bytes. vec_len bytes ≤ most_read kind) }
+{
     let mut source = Tally::new(Retrying(file));
-    match kind {
-        Kind::Script => read_script(alloc, &mut source),
-        Kind::Snapshot => read_bytes(alloc, &mut source, usize::MAX),
-    }
+    read_bytes(alloc, &mut source, kind.most_read())
 }
