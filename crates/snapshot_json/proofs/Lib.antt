@@ -1,8 +1,10 @@
 mod Depths
 mod Doubles
+mod Dumps
 mod Items
 mod NoFloats
 mod Own
 mod Refused
 mod Stacks
+mod Texts
 mod Unique

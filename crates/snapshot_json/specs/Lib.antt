@@ -1,4 +1,5 @@
 pub mod Doubles
+pub mod Dumped
 pub mod Reading
 pub mod Readings
 pub mod Shown

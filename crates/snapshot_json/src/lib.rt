@@ -1,6 +1,7 @@
 //! A pool's snapshot as JSON, written and read.
 #![tactic(auto)]
 
+mod dumped;
 pub mod fault;
 mod flaws;
 pub mod laws;
@@ -9,7 +10,7 @@ mod reading;
 mod stack;
 mod values;
 
-ghost use Rattle.std.specs.Prelude.{◌≡◌, ◌≢◌, ◌++◌, codes, IfErr, IfOk, IsSomeAnd, OnOk, Some};
+ghost use Rattle.std.specs.Prelude.{◌≡◌, ◌≢◌, ◌++◌, codes, IfErr, IfOk, IfSome, IsSomeAnd, OnOk, Some};
 ghost use Rattle.json.specs.Json.{document};
 ghost use Rattle.json.specs.Strict.{HasUniqueKeys};
 ghost use Rattle.serde_json.specs.Read.{read};
@@ -48,6 +49,9 @@ pub fn read_snapshot(alloc: Global, bytes: &[u8]) -> Result<Snapshot, SnapshotFa
         Ok(text) => text,
         Err(fault) => return Err(SnapshotFault::NotJson(fault.valid_up_to() as u64)),
     };
+    if let Some(snapshot) = of_dump(alloc, text) {
+        return Ok(snapshot);
+    }
     check_keys(alloc, text)?;
     let value = match Value::from_str(alloc, text) {
         Ok(value) => value,
@@ -67,6 +71,19 @@ pub fn read_snapshot(alloc: Global, bytes: &[u8]) -> Result<Snapshot, SnapshotFa
         )),
         Ok(Reading::Other) => Err(wrong(alloc, text)),
         Err(_) => Err(SnapshotFault::OutOfMemory),
+    }
+}
+
+/// The snapshot whose text this is, as a dump writes it. Nothing where it is written otherwise, or
+/// where memory was refused.
+fn of_dump(alloc: Global, text: &str) -> Option<Snapshot>
+    ensures data { IfSome result (λ s. IsSomeAnd (read text.now) (λ d. IsSnapshotData d s)) }
+    ensures once { IfSome result (λ _. IsSomeAnd (document text.now) HasUniqueKeys) }
+{
+    let listed = dumped::read_listed(alloc, text)?;
+    match reading::with_words(alloc, listed) {
+        Ok(Reading::Whole(snapshot)) => Some(snapshot),
+        _ => None,
     }
 }
 

@@ -88,9 +88,9 @@ fn of_common(alloc: Global, value: &Value) -> Result<Reading, AllocError>
 
 /// A snapshot without its stack, and the list of elements that stands for it.
 #[derive(Drop)]
-struct Listed {
-    shown: Snapshot,
-    common: Vec<u32>,
+pub(crate) struct Listed {
+    pub(crate) shown: Snapshot,
+    pub(crate) common: Vec<u32>,
 }
 
 /// The snapshot whose data a value is, with its stack as a list.
@@ -115,7 +115,7 @@ fn list_form(alloc: Global, value: &Value) -> Result<Option<Listed>, AllocError>
 }
 
 /// The snapshot with the words that its list stands for, where it stands for any.
-fn with_words(alloc: Global, listed: Listed) -> Result<Reading, AllocError>
+pub(crate) fn with_words(alloc: Global, listed: Listed) -> Result<Reading, AllocError>
     ensures { IfOk result
         (λ reading. ReadsCommon (common_data listed.shown listed.common.items) reading) }
 {

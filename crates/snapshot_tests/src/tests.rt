@@ -18,7 +18,7 @@ mod drawn;
 mod pictures;
 
 use calling::with_length;
-use damaged::{LIST, OF_LIST, OF_WORDS, WHOLE, WORDS};
+use damaged::{DUMPED, LIST, OF_DUMPED, OF_LIST, OF_WORDS, WHOLE, WORDS};
 use drawn::{Source, drawn};
 use pictures::{PICTURES, picture_of};
 
@@ -105,6 +105,7 @@ fn assert_told(rt: &impl Abort, alloc: Global, text: &str, rows: &[Row]) {
 fn each_damaged_text_has_its_line(rt: HostRuntime) {
     assert_told(&rt, rt.alloc(), WORDS, OF_WORDS);
     assert_told(&rt, rt.alloc(), LIST, OF_LIST);
+    assert_told(&rt, rt.alloc(), DUMPED, OF_DUMPED);
 }
 
 /// And so is each whole text.
@@ -193,6 +194,17 @@ fn both_forms_are_read(rt: HostRuntime) {
     }
 }
 
+/// A text in the order of a dump is read as one in another order is.
+#[test]
+fn a_dump_is_read_as_its_members_in_another_order(rt: HostRuntime) {
+    if let Ok((list, _)) = shown(&rt, rt.alloc(), LIST.as_bytes(), "a list") {
+        if let Ok((dumped, _)) = shown(&rt, rt.alloc(), DUMPED.as_bytes(), "a dump") {
+            let (list, dumped) = (list.as_str(), dumped.as_str());
+            assert!(&rt; list == dumped, "{dumped}, not {list}");
+        }
+    }
+}
+
 /// A text that is too long says so.
 #[test]
 fn a_text_that_is_too_long_says_so(rt: HostRuntime) {
@@ -278,8 +290,10 @@ fn both_forms_in(rt: &impl Abort, alloc: Global) {
             "words"
         );
     }
-    if let Ok((list, _)) = shown(rt, alloc, LIST.as_bytes(), "a list") {
-        assert!(rt; list.len() == BOTH.len(), "a list");
+    for (text, name) in [(LIST, "a list"), (DUMPED, "a dump")] {
+        if let Ok((list, _)) = shown(rt, alloc, text.as_bytes(), name) {
+            assert!(rt; list.len() == BOTH.len(), "{name}");
+        }
     }
 }
 

@@ -25,6 +25,67 @@ pub(super) const LIST: &str =
     },{\"worker\":2,\"c\\u0061che\":[4],\"slots\":[null,[{\"elem\":1,\"base\":0,\"off\":128,\
     \"len\":100,\"buf\":2048}]]}]} ";
 
+/// The same with its members in the order in which a dump writes them.
+pub(super) const DUMPED: &str =
+    "{\"limits\":{\"population\":5,\"cache\":2,\"workers\":2,\"desks\":1,\"buf\":2048,\"refs\":7,\
+    \"tries\":100,\"start\":0,\"putrule\":0},\n\"common\":[2,3],\n\"counts\":[3,1,1,1,1],\n\
+    \"desks\":[null],\n\"shares\":[{\"worker\":1,\"cache\":[],\"slots\":[\n\
+    [{\"elem\":0,\"base\":null,\"off\":128,\"len\":100,\"buf\":2048}],null]},\n{\"worker\":2,\
+    \"cache\":[4],\"slots\":[null,[{\"elem\":1,\"base\":0,\"off\":128,\"len\":100,\
+    \"buf\":2048}]]}],\n\"guests\":[{\"worker\":1,\"elem\":0}],\n\"foreign\":false}\n";
+
+/// Of that text: what is replaced, by what, and the fault.
+pub(super) const OF_DUMPED: &[Row] = &[
+    (
+        "a number with a fraction",
+        "\"off\":128",
+        "\"off\":^128.0",
+        "snapshot shares[0].slots[0][0].off: not a whole number",
+    ),
+    (
+        "a number out of its range",
+        "\"len\":100",
+        "\"len\":^65536",
+        "snapshot shares[0].slots[0][0].len: out of 0 to 65535",
+    ),
+    (
+        "a put rule that is none",
+        "\"putrule\":0",
+        "\"putrule\":^2",
+        "snapshot limits.putrule: out of 0 to 1",
+    ),
+    (
+        "a member more at the end of a share",
+        "null]},",
+        "null],^\"colour\":1},",
+        "snapshot shares[0]: unknown member colour",
+    ),
+    (
+        "a text for a flag",
+        "\"foreign\":false}",
+        "\"foreign\":^\"false\"}",
+        "snapshot foreign: not true or false",
+    ),
+    (
+        "an element twice",
+        "[2,3]",
+        "[2,2]",
+        "snapshot common: element 2 stands at common[0] and common[1]",
+    ),
+    (
+        "an element of no pool",
+        "[2,3]",
+        "[2,^5]",
+        "snapshot common[1]: not below the population, 5",
+    ),
+    (
+        "a second value",
+        "\"foreign\":false}",
+        "\"foreign\":false}^{}",
+        "snapshot: not JSON",
+    ),
+];
+
 /// Of the text with words: what is replaced, by what, and the fault.
 pub(super) const OF_WORDS: &[Row] = &[
     (

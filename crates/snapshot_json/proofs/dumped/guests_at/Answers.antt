@@ -1,0 +1,10 @@
+use Rattle.std.proofs.Common.{map}
+use Rattle.json.specs.Value.{value_view}
+use Rattle.snapshot_json.specs.SnapshotData.{guest_data}
+use Rattle.snapshot_json.proofs.Dumps.{list_read, member_read}
+use Rattle.snapshot_json.proofs.dumped.guests_at.Goals as goal
+
+pub returns : goal.returns
+returns c =
+    member_read _ _ _ _ _ c.in_ok-found.ensures
+    (list_read guest_data _ (map value_view c.in_ok-list.list.now) _ c.in_ok-list.ensures c.in_ok-guests.ensures)
