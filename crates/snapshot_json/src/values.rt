@@ -2,7 +2,6 @@
 
 ghost use Rattle.std.specs.Prelude.{◌≡◌, IfOk, map};
 ghost use Rattle.serde_json.specs.View.{view};
-ghost use Rattle.statement_text.specs.StatementData.{counts_data, seg_data, segs_data};
 ghost use Rattle.snapshot_json.specs.SnapshotData.{common_data, guest_data, guests_data, limits_data, place_data, places_data, rule_data, share_data, shares_data, snapshot_data};
 
 use commons::limits::{Limits, PutRule};
@@ -11,6 +10,7 @@ use commons::seq::Seq;
 use pool_model::guest::Guest;
 use serde_json::{Value, json};
 use snapshot::snapshot::{ShareData, Snapshot};
+use statement_text::values::{numbers, segs};
 use std::alloc::{AllocError, Global};
 
 /// A snapshot, with its stack as words.
@@ -76,17 +76,6 @@ fn rule(rule: PutRule) -> Value
     }
 }
 
-/// A list of numbers.
-fn numbers(alloc: Global, numbers: &[u32]) -> Result<Value, AllocError>
-    ensures { IfOk result (λ v. view v ≡ counts_data numbers.now) }
-{
-    let mut values = Vec::with_capacity(alloc, numbers.len())?;
-    for number in numbers {
-        values.push(Value::from(*number))?;
-    }
-    Ok(Value::from(values))
-}
-
 /// The places of a table, or desks.
 fn places(alloc: Global, places: &[Option<Seq<Seg>>]) -> Result<Value, AllocError>
     ensures { IfOk result (λ v. view v ≡ places_data places.now) }
@@ -106,30 +95,6 @@ fn a_place(alloc: Global, place: &Option<Seq<Seg>>) -> Result<Value, AllocError>
         None => Ok(Value::Null),
         Some(packet) => segs(alloc, packet.as_slice()),
     }
-}
-
-/// The segments of a packet.
-fn segs(alloc: Global, segs: &[Seg]) -> Result<Value, AllocError>
-    ensures { IfOk result (λ v. view v ≡ segs_data segs.now) }
-{
-    let mut values = Vec::with_capacity(alloc, segs.len())?;
-    for seg in segs {
-        values.push(segment(alloc, *seg)?)?;
-    }
-    Ok(Value::from(values))
-}
-
-/// A segment.
-fn segment(alloc: Global, seg: Seg) -> Result<Value, AllocError>
-    ensures { IfOk result (λ v. view v ≡ seg_data seg) }
-{
-    json!(in alloc; {
-        "base": seg.base,
-        "buf": seg.buf_len,
-        "elem": seg.elem,
-        "len": seg.data_len,
-        "off": seg.data_off
-    })
 }
 
 /// The shares.
