@@ -77,7 +77,7 @@ fn get_some(alloc: Global, seat: &mut CheckedHandle, out: &mut [u32]) -> u32
         None => Refusal::StrangerShare.number(),
         Some(mut own) => {
             let answer = own.get(out);
-            seat.put(own);
+            seat.put_back(own);
             status_of(answer)
         }
     }
@@ -109,7 +109,7 @@ fn put_some(alloc: Global, seat: &mut CheckedHandle, list: &[u32]) -> u32
         None => Refusal::StrangerShare.number(),
         Some(mut own) => {
             let status = own.put(list);
-            seat.put(own);
+            seat.put_back(own);
             status
         }
     }
@@ -136,7 +136,7 @@ pub extern "C" fn mbufpool_checked_count(alloc: Global, seat: &mut CheckedHandle
         None => 0,
         Some(mut own) => {
             let count = own.count();
-            seat.put(own);
+            seat.put_back(own);
             count
         }
     }
@@ -152,7 +152,7 @@ pub extern "C" fn mbufpool_checked_changes_left(alloc: Global, seat: &mut Checke
         None => 0,
         Some(mut own) => {
             let left = own.changes_left();
-            seat.put(own);
+            seat.put_back(own);
             left
         }
     }

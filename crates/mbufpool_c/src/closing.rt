@@ -90,7 +90,7 @@ fn shared_of(
         None => None,
         Some(own) => {
             let shared = own.shared();
-            handle.put(own);
+            handle.put_back(own);
             Some(shared)
         }
     }
@@ -121,7 +121,7 @@ fn is_marked(alloc: Global, handle: &mut WorkerHandle) -> Option<bool>
         None => None,
         Some(own) => {
             let is_marked = own.is_marked();
-            handle.put(own);
+            handle.put_back(own);
             Some(is_marked)
         }
     }

@@ -89,6 +89,16 @@ impl GuardHandle {
     {
         *self = GuardHandle::full(Loose::of(seat));
     }
+
+    /// Puts a worker back into the handle that it was taken out of.
+    #[inline(always)]
+    pub(crate) fn put_back(&mut self, seat: Box<GuardWorker>)
+        requires { self.old.value ≡ None }
+        ensures { self.new.value ≡ Some seat.value }
+    {
+        let empty = std::mem::replace(self, GuardHandle::full(Loose::of(seat)));
+        std::mem::forget(empty);
+    }
 }
 
 impl Drop for GuardHandle {

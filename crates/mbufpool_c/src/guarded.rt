@@ -151,7 +151,7 @@ pub extern "C" fn mbufpool_guard_split(
         None => Refusal::StrangerShare.number(),
         Some(mut own) => {
             let answer = own.split(alloc);
-            worker.put(own);
+            worker.put_back(own);
             match answer {
                 Ok(other) => hand_out(alloc, other, out),
                 Err(cause) => number(cause),
@@ -198,7 +198,7 @@ pub extern "C" fn mbufpool_guard_get(
         None => Refusal::StrangerShare.number(),
         Some(mut own) => {
             let answer = own.get(who, out);
-            worker.put(own);
+            worker.put_back(own);
             status_of(answer)
         }
     }
@@ -228,7 +228,7 @@ pub extern "C" fn mbufpool_guard_put(
         None => Refusal::StrangerShare.number(),
         Some(mut own) => {
             let (count, _) = own.put(list, words);
-            worker.put(own);
+            worker.put_back(own);
             *taken = count as u64;
             status_of_put(list.len(), count)
         }
@@ -245,7 +245,7 @@ pub extern "C" fn mbufpool_guard_changes_left(alloc: Global, worker: &mut GuardH
         None => 0,
         Some(mut own) => {
             let left = own.changes_left();
-            worker.put(own);
+            worker.put_back(own);
             left
         }
     }
@@ -260,7 +260,7 @@ pub extern "C" fn mbufpool_guard_who(alloc: Global, worker: &mut GuardHandle, el
         None => 0,
         Some(own) => {
             let who = own.who(element);
-            worker.put(own);
+            worker.put_back(own);
             who
         }
     }
@@ -276,7 +276,7 @@ pub extern "C" fn mbufpool_guard_out(alloc: Global, worker: &mut GuardHandle) ->
         None => 0,
         Some(own) => {
             let count = own.count_out();
-            worker.put(own);
+            worker.put_back(own);
             count as u64
         }
     }

@@ -61,7 +61,7 @@ fn act(alloc: Global, worker: &mut WorkerHandle, act: Act) -> Option<Answer<0>>
         None => None,
         Some(mut own) => {
             let answer = own.act(act);
-            worker.put(own);
+            worker.put_back(own);
             Some(answer)
         }
     }
@@ -144,7 +144,7 @@ pub extern "C" fn mbufpool_worker_alloc(
         None => Refusal::StrangerShare.number(),
         Some(mut own) => {
             let status = make(&mut own, out);
-            worker.put(own);
+            worker.put_back(own);
             status
         }
     }
@@ -160,7 +160,7 @@ fn act_bulk(alloc: Global, worker: &mut WorkerHandle, count: usize) -> Option<Re
         None => None,
         Some(mut own) => {
             let answer = own.act(Act::AllocBulk(count));
-            worker.put(own);
+            worker.put_back(own);
             Some(answer)
         }
     }
@@ -248,7 +248,7 @@ fn bulk_in<const N: usize>(alloc: Global, worker: &mut WorkerHandle, out: &mut [
         None => Refusal::StrangerShare.number(),
         Some(mut own) => {
             let status = make_in::<N>(&mut own, out);
-            worker.put(own);
+            worker.put_back(own);
             status
         }
     }
@@ -281,7 +281,7 @@ pub extern "C" fn mbufpool_worker_free(alloc: Global, worker: &mut WorkerHandle,
         None => Refusal::StrangerShare.number(),
         Some(mut own) => {
             let status = free(&mut own, slot);
-            worker.put(own);
+            worker.put_back(own);
             status
         }
     }
@@ -391,7 +391,7 @@ pub extern "C" fn mbufpool_worker_clone(
         None => Refusal::StrangerShare.number(),
         Some(mut own) => {
             let status = make_clone(&mut own, slot, out);
-            worker.put(own);
+            worker.put_back(own);
             status
         }
     }
@@ -481,7 +481,7 @@ pub extern "C" fn mbufpool_worker_changes_left(alloc: Global, worker: &mut Worke
         None => 0,
         Some(mut own) => {
             let left = own.changes_left();
-            worker.put(own);
+            worker.put_back(own);
             left
         }
     }
@@ -528,7 +528,7 @@ pub extern "C" fn mbufpool_worker_segment(
         None => Refusal::StrangerShare.number(),
         Some(own) => {
             let answer = own.seg(slot, index);
-            worker.put(own);
+            worker.put_back(own);
             match answer {
                 Ok(seg) => {
                     *out = segment_of(seg);

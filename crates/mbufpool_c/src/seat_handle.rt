@@ -89,6 +89,16 @@ impl SeatHandle {
     {
         *self = SeatHandle::full(Loose::of(seat));
     }
+
+    /// Puts a seat back into the handle that it was taken out of.
+    #[inline(always)]
+    pub(crate) fn put_back(&mut self, seat: Box<OwnSeat>)
+        requires { self.old.value ≡ None }
+        ensures { self.new.value ≡ Some seat.value }
+    {
+        let empty = std::mem::replace(self, SeatHandle::full(Loose::of(seat)));
+        std::mem::forget(empty);
+    }
 }
 
 impl Drop for SeatHandle {

@@ -148,7 +148,7 @@ pub extern "C" fn mbufpool_seat_split(
         None => Refusal::StrangerShare.number(),
         Some(mut own) => {
             let answer = split(alloc, &mut own);
-            seat.handle.put(own);
+            seat.handle.put_back(own);
             match answer {
                 Ok(other) => {
                     out.fill(other);
@@ -189,7 +189,7 @@ fn get_some(alloc: Global, seat: &mut SeatWithLoans, out: &mut [u32]) -> u32
         None => Refusal::StrangerShare.number(),
         Some(mut own) => {
             let answer = own.get_lent(out, &mut seat.loans);
-            seat.handle.put(own);
+            seat.handle.put_back(own);
             status_of_get(answer)
         }
     }
@@ -222,7 +222,7 @@ fn put_some(alloc: Global, seat: &mut SeatWithLoans, list: &[u32]) -> u32
         None => Refusal::StrangerShare.number(),
         Some(mut own) => {
             let answer = own.put_lent(list, &mut seat.loans);
-            seat.handle.put(own);
+            seat.handle.put_back(own);
             status_of(answer)
         }
     }
@@ -256,7 +256,7 @@ pub extern "C" fn mbufpool_seat_count(alloc: Global, seat: &mut SeatWithLoans) -
         None => 0,
         Some(mut own) => {
             let count = own.count();
-            seat.handle.put(own);
+            seat.handle.put_back(own);
             count
         }
     }
@@ -274,7 +274,7 @@ pub extern "C" fn mbufpool_seat_changes_left(alloc: Global, seat: &mut SeatWithL
         None => 0,
         Some(mut own) => {
             let left = own.changes_left();
-            seat.handle.put(own);
+            seat.handle.put_back(own);
             left
         }
     }

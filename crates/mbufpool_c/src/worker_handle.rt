@@ -89,6 +89,16 @@ impl WorkerHandle {
     {
         *self = WorkerHandle::full(Loose::of(worker));
     }
+
+    /// Puts a worker back into the handle that it was taken out of.
+    #[inline(always)]
+    pub(crate) fn put_back(&mut self, worker: Box<OwnWorker>)
+        requires { self.old.value ≡ None }
+        ensures { self.new.value ≡ Some worker.value }
+    {
+        let empty = std::mem::replace(self, WorkerHandle::full(Loose::of(worker)));
+        std::mem::forget(empty);
+    }
 }
 
 impl Drop for WorkerHandle {

@@ -6,6 +6,6 @@ use Rattle.mbufpool_c.proofs.packets.mbufpool_worker_free.Goals as goal
 -- the worker that was in the handle did it, and is in the handle again
 pub returns-in-Some : goal.returns-in-Some
 returns-in-Some c =
-    tells_as (Free c.args.slot) c.args.worker.now.value c.put.new.self.value c.deref_mut.result.now c.free-status.new.own
+    tells_as (Free c.args.slot) c.args.worker.now.value c.put_back.new.self.value c.deref_mut.result.now c.free-status.new.own
     c.free-status.result (c.in-Some.ensures.worker ∙ ap Some (sym c.deref_mut.ensures.value))
-    c.put.ensures c.free-status.ensures
+    c.put_back.ensures c.free-status.ensures
