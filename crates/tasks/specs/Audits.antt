@@ -18,7 +18,7 @@ use Rattle.snapshot_json.specs.declared.fault.SnapshotFault.TheVariants as reads
 use Rattle.statement_text.specs.StatementText.{text_of}
 use Rattle.tasks.specs.declared.auditing.Placed.{Placed}
 use Rattle.tasks.specs.declared.failures.Failure.{Failure}
-use Rattle.tasks.specs.declared.failures.Failure.TheVariants.{Unreadable, Fault, Misread, Audited}
+use Rattle.tasks.specs.declared.failures.Failure.TheVariants.{Fault, Misread, Audited}
 use Rattle.tasks.specs.declared.task.Form.{Form}
 use Rattle.tasks.specs.declared.task.Form.TheVariants.{Text, Json}
 

@@ -1,5 +1,5 @@
 //! Where scripts and snapshots come from.
-ghost use Rattle.std.specs.Prelude.{ℕ, ◌≤◌, List, IfErr, IfOk, vec_len};
+ghost use Rattle.std.specs.Prelude.{ℕ, ◌≤◌, List, IfErr, IfOk, length};
 ghost use Rattle.script_io.specs.declared.reading.ReadFault.{ReadFault};
 ghost use Rattle.tasks.specs.Forms.{most_read};
 ghost use Rattle.tasks.specs.declared.kind.Kind.{Kind};
@@ -33,12 +33,11 @@ pub trait Scripts {
 pub struct Disk<'a, R>(pub &'a R);
 
 impl<R: Files + Input> Scripts for Disk<'_, R> {
+    // A file without an end is read no further than one that is too long.
+    ghost gives = { λ _ kind _ bytes. length bytes ≤ most_read kind };
+
     /// Opening takes no memory of the program's, so that each error of it is the device's.
-    ///
-    /// A file without an end is read no further than one that is too long.
-    fn read(&self, alloc: Global, kind: Kind, name: &str) -> Result<Vec<u8>, ReadFault>
-        ensures most { IfOk result (λ bytes. vec_len bytes ≤ most_read kind) }
-    {
+    fn read(&self, alloc: Global, kind: Kind, name: &str) -> Result<Vec<u8>, ReadFault> {
         if kind == Kind::Snapshot && name == "-" {
             return whole(alloc, kind, self.0.reader());
         }
@@ -51,7 +50,7 @@ impl<R: Files + Input> Scripts for Disk<'_, R> {
 
 /// The bytes of a file of this kind; of one that is too long, as many as show that.
 fn whole<F: Read + Drop>(alloc: Global, kind: Kind, file: F) -> Result<Vec<u8>, ReadFault>
-    ensures most { IfOk result (λ bytes. vec_len bytes ≤ most_read kind) }
+    ensures most { IfOk result (λ bytes. length bytes.items ≤ most_read kind) }
 {
     let mut source = Tally::new(Retrying(file));
     read_bytes(alloc, &mut source, kind.most_read())
