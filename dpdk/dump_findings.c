@@ -143,6 +143,8 @@ begin_audit(const char *program, const char *file, pid_t *pid)
 		return NULL;
 	posix_spawn_file_actions_init(&actions);
 	posix_spawn_file_actions_adddup2(&actions, ends[1], STDOUT_FILENO);
+	/* (a fault is told on standard error) */
+	posix_spawn_file_actions_adddup2(&actions, ends[1], STDERR_FILENO);
 	errno = posix_spawnp(pid, program, &actions, NULL, argv, environ);
 	if (errno == 0)
 		from = fdopen(ends[0], "r");
