@@ -16,7 +16,7 @@ use std::alloc::Global;
 /// their numbers.
 ///
 /// Refused `OutOfMemory` where memory was refused. The shares are lost then.
-pub fn full_book(alloc: Global, limits: &Limits, shares: Vec<Share>) -> Result<Book, Refusal>
+pub(crate) fn full_book(alloc: Global, limits: &Limits, shares: Vec<Share>) -> Result<Book, Refusal>
     requires range { IsPool limits.now }
     requires workers { map (λ share. share.number) shares.items ≡ range_with_len 1 limits.now.workers }
     ensures limits { IfOk result (λ book. book.limits ≡ limits.now) }

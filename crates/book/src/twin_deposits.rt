@@ -15,7 +15,7 @@ use std::alloc::Global;
 /// their numbers.
 ///
 /// Refused `OutOfMemory` where memory was refused. The shares are lost then.
-pub fn full_twin_book(
+pub(crate) fn full_twin_book(
     alloc: Global,
     first: &Limits,
     second: &Limits,
