@@ -1,6 +1,6 @@
 //! A seat with the words that it is at.
 
-ghost use Rattle.std.specs.Prelude.{◌≡◌, ◌+◌, ◌^◌, ◌<◌, ◌≤◌, [], length, ℕ, None, Some, IfOk, IfErr};
+ghost use Rattle.std.specs.Prelude.{◌≡◌, ◌+◌, ◌^◌, ◌<◌, ◌≤◌, length, ℕ, IfOk, IfErr};
 ghost use Rattle.commons.specs.Bag.{bag};
 ghost use Rattle.commons.specs.Calls.{Did, GetList, PutList, CommonCount, with_list as with_elements};
 ghost use Rattle.ground.specs.Opening.{IsGroundCause};
@@ -9,7 +9,7 @@ ghost use Rattle.ground.specs.Parting.{IsBoth, less_part, newcomer};
 ghost use Rattle.ground.specs.Rule.{first_known};
 ghost use Rattle.ground.specs.Seats.{IsOf};
 ghost use Rattle.lending.specs.Lending.{GetsLoans, IsSplitCause, PutsLoans, lent_list};
-ghost use Rattle.lending.specs.Pools.{AreAt, none_of};
+ghost use Rattle.lending.specs.Pools.{AreAt, AreOf, none_of};
 ghost use Rattle.stack_lf.specs.Remaining.{ReadsRemaining};
 ghost use Rattle.stack_lf.specs.Sides.{side_of};
 ghost use Rattle.step_core.specs.World.{worker_part};
@@ -17,6 +17,7 @@ ghost use Rattle.stack_lf.specs.Tries.{DidOnWords};
 
 use commons::limits::Limits;
 use commons::refusal::Refusal;
+use core::mem::replace_with;
 use ground::pool::Ground;
 use lending::cause::Cause;
 use lending::lender::Lender;
@@ -30,8 +31,7 @@ use step_core::view::WORKER_PART;
 /// sent to a thread. One that is dropped is lost with what is in its hand.
 pub struct OwnSeat {
     ground: Arc<Ground>,
-    /// There is none within a call alone.
-    lender: Option<Lender>,
+    lender: Lender,
     /// How many seats can be made of it, itself among them.
     parts: u32,
 }
@@ -55,9 +55,7 @@ impl Drop for OwnSeat {
             lender,
             parts: _,
         } = self;
-        if let Some(lender) = lender {
-            lender.lose();
-        }
+        lender.lose();
         drop(ground);
     }
 }
@@ -75,7 +73,7 @@ impl OwnSeat {
         match Arc::new(alloc, ground) {
             Ok(ground) => Ok(OwnSeat {
                 ground,
-                lender: Some(Lender::new(seat, limits.workers * WORKER_PART)),
+                lender: Lender::new(seat, limits.workers * WORKER_PART),
                 parts: limits.workers as u32,
             }),
             Err(failed) => {
@@ -108,15 +106,15 @@ impl OwnSeat {
         let Ok(ground) = Arc::try_clone(&self.ground) else {
             return Err(Cause::Refused(Refusal::OutOfMemory));
         };
-        let Some(lender) = self.lender.take() else {
-            unreachable!()
-        };
-        let (lender, other) = lender.split(&ground);
-        put_back(&mut self.lender, lender);
+        let lender = replace_with(
+            &mut self.lender,
+            &ground,
+            |lender, ground| lender.split(ground),
+        );
         self.parts -= 1;
         Ok(OwnSeat {
             ground,
-            lender: Some(other),
+            lender,
             parts: 1,
         })
     }
@@ -133,12 +131,9 @@ impl OwnSeat {
             lender,
             parts,
         } = other;
-        let Some(own) = self.lender.take() else {
-            unreachable!()
-        };
-        let Some(other) = lender else { unreachable!() };
-        let lender = joined(&self.ground, own, other);
-        put_back(&mut self.lender, lender);
+        replace_with(&mut self.lender, lender, |own, other| {
+            (joined(&self.ground, own, other), ())
+        });
         self.parts = self.parts.saturating_add(parts);
         drop(ground);
     }
@@ -147,20 +142,14 @@ impl OwnSeat {
     fn part(&self) -> u64
         ensures { result ≡ self.now.known.view.part }
     {
-        match &self.lender {
-            Some(lender) => lender.part(),
-            None => unreachable!(),
-        }
+        self.lender.part()
     }
 
     /// No loans, of the seat's pool.
     pub fn no_loans(&self) -> Loans
         ensures { result ≡ none_of (record { table = self.now.table; limits = self.now.known.limits }) }
     {
-        match &self.lender {
-            Some(lender) => lender.no_loans(),
-            None => unreachable!(),
-        }
+        self.lender.no_loans()
     }
 
     /// Takes as many elements off the stack into the hand as `out` has places: all of them, or
@@ -170,11 +159,10 @@ impl OwnSeat {
         requires { 0 < length out.old }
         ensures { Did DidOnWords side_of self.old (GetList (length out.old) (with_elements result out.new)) self.new }
     {
-        let Some(lender) = self.lender.take() else {
-            unreachable!()
-        };
-        let (answer, lender) = lender.get_own(&self.ground, out);
-        put_back(&mut self.lender, lender);
+        let (answer, _) = replace_with(&mut self.lender, out, |lender, out| {
+            let (answer, lender) = lender.get_own(&self.ground, out);
+            (lender, (answer, out))
+        });
         answer
     }
 
@@ -185,12 +173,10 @@ impl OwnSeat {
         requires in_hand { (i : ℕ) → bag list.now i ≤ (side_of self.old).hand i }
         ensures { Did DidOnWords side_of self.old (PutList list.now result) self.new }
     {
-        let Some(lender) = self.lender.take() else {
-            unreachable!()
-        };
-        let (answer, lender) = lender.put_own(&self.ground, list);
-        put_back(&mut self.lender, lender);
-        answer
+        replace_with(&mut self.lender, (), |lender, _| {
+            let (answer, lender) = lender.put_own(&self.ground, list);
+            (lender, answer)
+        })
     }
 
     /// Takes as many elements off the stack as `out` has places, and lends them: all of them, or
@@ -203,11 +189,7 @@ impl OwnSeat {
         requires loans { AreAt self.old loans.old }
         ensures { GetsLoans (length out.old) (lent_list result out.new) self.old loans.old self.new loans.new }
     {
-        let Some(lender) = self.lender.take() else {
-            unreachable!()
-        };
-        let (answer, lender) = lender.get(&self.ground, out, loans);
-        put_back(&mut self.lender, lender);
+        let (answer, _, _) = lend_for(&self.ground, &mut self.lender, out, loans);
         answer
     }
 
@@ -221,11 +203,10 @@ impl OwnSeat {
         ensures done { PutsLoans list.now result self.old loans.old self.new loans.new }
         ensures once { (i : ℕ) → bag list.now i ≤ 1 }
     {
-        let Some(lender) = self.lender.take() else {
-            unreachable!()
-        };
-        let (answer, lender) = lender.put(&self.ground, list, loans);
-        put_back(&mut self.lender, lender);
+        let (answer, _) = replace_with(&mut self.lender, loans, |lender, loans| {
+            let (answer, lender) = lender.put(&self.ground, list, loans);
+            (lender, (answer, loans))
+        });
         answer
     }
 
@@ -233,35 +214,52 @@ impl OwnSeat {
     pub fn owned(&self)
         ensures { Owned self.now.known.limits self.now.known.view }
     {
-        match &self.lender {
-            Some(lender) => lender.owned(),
-            None => unreachable!(),
-        }
+        self.lender.owned()
     }
 
     /// The length word of the stack.
     pub fn count(&mut self) -> u32
         ensures { Did DidOnWords side_of self.old (CommonCount result) self.new }
     {
-        let Some(lender) = self.lender.take() else {
-            unreachable!()
-        };
-        let (count, lender) = lender.count(&self.ground);
-        put_back(&mut self.lender, lender);
-        count
+        replace_with(&mut self.lender, (), |lender, _| {
+            let (count, lender) = lender.count(&self.ground);
+            (lender, count)
+        })
     }
 
     /// How many changes of the stack are left.
     pub fn changes_left(&mut self) -> u64
         ensures { ReadsRemaining self.old result self.new }
     {
-        let Some(lender) = self.lender.take() else {
-            unreachable!()
-        };
-        let (left, lender) = lender.changes_left(&self.ground);
-        put_back(&mut self.lender, lender);
-        left
+        replace_with(&mut self.lender, (), |lender, _| {
+            let (left, lender) = lender.changes_left(&self.ground);
+            (lender, left)
+        })
     }
+}
+
+/// Takes as many elements off the stack as `out` has places, and lends them. Gives the references
+/// back, by which a caller knows what they leave.
+#[inline(always)]
+fn lend_for<'a, 'b>(
+    ground: &Ground,
+    lender: &mut Lender,
+    out: &'a mut [u32],
+    loans: &'b mut Loans,
+) -> (Result<(), Cause>, &'a mut [u32], &'b mut Loans)
+    requires of { IsOf ground.now lender.old }
+    requires loans { AreOf ground.now loans.old }
+    requires some { 0 < length out.old }
+    ensures of { IsOf ground.now lender.new }
+    ensures done { GetsLoans (length out.old) (lent_list result.0 result.1.now) lender.old loans.old
+        lender.new result.2.now }
+    ensures out { result.1.ghost_name ≡ out.entry.ghost_name }
+    ensures loans { result.2.ghost_name ≡ loans.entry.ghost_name }
+{
+    replace_with(lender, (out, loans), |lender, (out, loans)| {
+        let (answer, lender) = lender.get(ground, out, loans);
+        (lender, (answer, out, loans))
+    })
 }
 
 /// Makes one lender of two of this ground.
@@ -275,15 +273,4 @@ fn joined(ground: &Ground, own: Lender, other: Lender) -> Lender
     let mut seat = own.into_seat();
     ground.join(&mut seat, other.into_seat());
     Lender::new(seat, part)
-}
-
-/// Gives a lender back to its place.
-#[inline(always)]
-fn put_back(place: &mut Option<Lender>, lender: Lender)
-    requires empty { place.old ≡ None }
-    ensures { place.new ≡ Some lender }
-{
-    if let Some(other) = place.replace(lender) {
-        other.lose();
-    }
 }

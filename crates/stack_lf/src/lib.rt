@@ -7,6 +7,7 @@ mod counting;
 mod desking;
 mod getting;
 pub mod laws;
+pub mod lent;
 mod putting;
 mod tried;
 pub mod words;

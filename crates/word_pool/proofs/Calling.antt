@@ -1,9 +1,8 @@
 -- What one call of a worker's packets over words leaves of the worker.
-use Rattle.std.proofs.Common.{◌≡◌, ℕ, List, [], ◌∷◌, Result, Ok, Err, ap, sym, ◌∙◌, subst}
+use Rattle.std.proofs.Common.{◌≡◌, ℕ, List, [], ◌∷◌, Result, Ok, Err, refl, ap, sym, ◌∙◌, subst}
 use Rattle.std.specs.Prelude.{IfOk, OnErr, OnOk, length}
 use Rattle.commons.specs.Calls.{Call, Made, Leads, Side, calls_of, with_list}
 use Rattle.commons.specs.declared.refusal.Refusal.{Refusal}
-use Rattle.ground.specs.Own.{AtRest}
 use Rattle.ground.specs.Seats.{Seated}
 use Rattle.mbuf.specs.Acts.{Performs, Reply, allocated, allocated_bulk, cloned, freed}
 use Rattle.mbuf.specs.Fresh.{AreFresh, new_elements, own_in_slots}
@@ -19,38 +18,33 @@ use Rattle.mbuf.proofs.FreshLemmas.{allocated_elements, bulk_elements, fresh_non
 use Rattle.mbuf.proofs.MemberLemmas.{performs_keeps}
 use Rattle.mbuf.proofs.RefusedLemmas.{clone_refused}
 use Rattle.stack_lf.specs.Sides.{side_of}
-use Rattle.stack_lf.specs.Tries.{DidOnWords}
+use Rattle.stack_lf.specs.declared.lent.LentWords.{LentWords}
 use Rattle.word_pool.specs.Workers.{Acts, IsIdle}
-use Rattle.word_pool.proofs.Leading.{acted, leads_sits, of_seats}
+use Rattle.word_pool.proofs.Leading.{DidByLent, acted, leads_sits, of_lent, side_by_lent}
 
--- the seat that comes back has taken the steps of all calls, from where it was
-pub left_idle : {S : Type 0} (seat : S → Seated) (s : Seated) (before : S) (made : List Made) (after : S) (v : Seated)
-    (m n : Member) → seat before ≡ s → v ≡ seat after → AtRest v.known.view → s.slots ≡ [] → Own m (side_of s) →
-    Leads (λ s call rs t. DidOnWords (seat s) call rs (seat t)) (λ s. side_of (seat s)) before made after →
-    (Own m (side_of (seat before)) → Own n (side_of (seat after))) →
-    IsIdle (record { seat = v; member = n })
-left_idle seat s before made after v m n there back rest slots own led keeps =
-    let sits = leads_sits (seat before) made (seat after) (of_seats seat before made after led) in
+-- the seat has taken the steps of all calls, from where it was
+pub left_idle : (s : Seated) (before : LentWords) (made : List Made) (after : LentWords) (m n : Member) →
+    before.seat.now ≡ s → Leads DidByLent side_by_lent before made after → IsIdle (record { seat = s; member = m }) →
+    (Own m (side_by_lent before) → Own n (side_by_lent after)) →
+    IsIdle (record { seat = after.seat.now; member = n })
+left_idle s before made after m n there led idle keeps =
+    let sits = leads_sits before.seat.now made after.seat.now (of_lent before made after led).1 in
     record {
-      rest = rest;
-      slots = ap (λ (x : Seated). x.slots) back ∙ (sits.slots ∙ (ap (λ (x : Seated). x.slots) there ∙ slots));
-      own =
-          subst (λ (x : Seated). Own n (side_of x)) (sym back)
-          (keeps (subst (λ (x : Seated). Own m (side_of x)) (sym there) own));
+      rest = after.rest;
+      slots = sits.slots ∙ (ap (λ (x : Seated). x.slots) there ∙ idle.slots);
+      own = keeps (subst (λ (x : Seated). Own m (side_of x)) (sym there) idle.own);
     }
 
 -- what the calls did over the words is what the act did to seat and packets
-pub did_act : {S : Type 0} (seat : S → Seated) (act : Act) (r : Reply) (s : Seated) (before : S) (made : List Made)
-    (after : S) (v : Seated) (m n : Member) → seat before ≡ s → v ≡ seat after → Own m (side_of s) →
-    length m.table ≡ slots →
-    Leads (λ s call rs t. DidOnWords (seat s) call rs (seat t)) (λ s. side_of (seat s)) before made after →
-    Performs act m (calls_of made) r n →
-    AreFresh m.limits.population (side_of (seat before)).holds (new_elements r) →
-    IfRefused r (AsBefore act m (side_of (seat before)) n (side_of (seat after))) →
-    Acts act (record { seat = s; member = m }) r (record { seat = v; member = n })
-did_act seat act r s before made after v m n there back own wide led did fresh refused =
-    acted act r s (seat before) (seat after) v m n made there back (of_seats seat before made after led) did
-    (fresh_packets no_guests m (side_of (seat before)) m.limits.population (new_elements r)
+pub did_act : (act : Act) (r : Reply) (s : Seated) (before : LentWords) (made : List Made) (after : LentWords)
+    (m n : Member) → before.seat.now ≡ s → Own m (side_of s) → length m.table ≡ slots →
+    Leads DidByLent side_by_lent before made after → Performs act m (calls_of made) r n →
+    AreFresh m.limits.population (side_by_lent before).holds (new_elements r) →
+    IfRefused r (AsBefore act m (side_by_lent before) n (side_by_lent after)) →
+    Acts act (record { seat = s; member = m }) r (record { seat = after.seat.now; member = n })
+did_act act r s before made after m n there own wide led did fresh refused =
+    acted act r s before.seat.now after.seat.now after.seat.now m n made there refl (of_lent before made after led).1 did
+    (fresh_packets no_guests m (side_by_lent before) m.limits.population (new_elements r)
     (subst (λ (x : Seated). Own m (side_of x)) (sym there) own) fresh)
     refused (performs_keeps act m (calls_of made) r n did wide)
 

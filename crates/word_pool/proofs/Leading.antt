@@ -1,6 +1,6 @@
 -- Calls over words leave a seat at its table, with its part.
 use Rattle.std.proofs.Common.{◌≡◌, List, [], ◌∷◌, refl, ap, sym, ◌∙◌, subst}
-use Rattle.commons.specs.Calls.{Leads, Made, calls_of}
+use Rattle.commons.specs.Calls.{Call, Leads, Made, Reading, Side, calls_of}
 use Rattle.commons.specs.Packets.{held_in}
 use Rattle.ground.specs.Seats.{Seated}
 use Rattle.mbuf.specs.declared.acts.Act.{Act}
@@ -10,7 +10,15 @@ use Rattle.mbuf.specs.Members.{Member, KeepsMember}
 use Rattle.mbuf.specs.Refused.{AsBefore, IfRefused}
 use Rattle.stack_lf.specs.Sides.{side_of}
 use Rattle.stack_lf.specs.Tries.{DidOnWords}
+use Rattle.stack_lf.specs.declared.lent.LentWords.{LentWords}
 use Rattle.word_pool.specs.Workers.{Acts}
+
+-- what the trait's relation and side are at a seat that is lent
+abbrev pub DidByLent : LentWords → Call → List Reading → LentWords → Type 0
+DidByLent s call rs t = (t.seat.ghost_name ≡ s.seat.ghost_name) × DidOnWords s.seat.now call rs t.seat.now
+
+abbrev pub side_by_lent : LentWords → Side
+side_by_lent s = side_of s.seat.now
 
 -- the second seat is one of the same ground as the first, with the same part and the same slots out
 pub record Sits (s t : Seated) : Type 0 where
@@ -34,16 +42,23 @@ leads_sits before (m ∷ made) after led =
       slots = rest.slots ∙ did.slots;
     }
 
--- what holders of seats were led through, their seats were
-pub of_seats : {S : Type 0} (seat : S → Seated) (before : S) (made : List Made) (after : S) →
-    Leads (λ s call rs t. DidOnWords (seat s) call rs (seat t)) (λ s. side_of (seat s)) before made after →
-    Leads DidOnWords side_of (seat before) made (seat after)
-of_seats seat before [] after led = ap seat led
-of_seats seat before (m ∷ made) after led = (
-  seat led.0,
-  record { led = led.1.led; cause = led.1.cause; effect = led.1.effect },
-  of_seats seat led.0 made after led.2,
+-- what a lent seat's words were led through, the seat was, which is still the one that was lent
+pub of_lent : (before : LentWords) (made : List Made) (after : LentWords) → Leads DidByLent side_by_lent before made after →
+    (after.seat.ghost_name ≡ before.seat.ghost_name)
+    × Leads DidOnWords side_of before.seat.now made after.seat.now
+of_lent before [] after led = (
+  ap (λ (x : LentWords). x.seat.ghost_name) (sym led),
+  ap (λ (x : LentWords). x.seat.now) led,
 )
+of_lent before (m ∷ made) after led =
+    let rest = of_lent led.0 made after led.2 in (
+      rest.0 ∙ led.1.led.0,
+      (
+        led.0.seat.now,
+        record { led = led.1.led.1; cause = led.1.cause; effect = led.1.effect },
+        rest.1,
+      ),
+    )
 
 -- so a worker whose seat was led through the calls of an act did that act
 pub acted : (act : Act) (r : Reply) (s t u v : Seated) (m n : Member) (made : List Made) → t ≡ s → v ≡ u →

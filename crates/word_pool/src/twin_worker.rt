@@ -1,6 +1,6 @@
 //! A worker of two pools on words.
 
-ghost use Rattle.std.specs.Prelude.{◌≡◌, [], None, Some};
+ghost use Rattle.std.specs.Prelude.{◌≡◌, []};
 ghost use Rattle.ground.specs.Own.{AtRest};
 ghost use Rattle.ground.specs.Seats.{IsOf};
 ghost use Rattle.mbuf.specs.Acts.{as_reply};
@@ -8,13 +8,14 @@ ghost use Rattle.mbuf.specs.Twins.{OwnTwin};
 ghost use Rattle.stack_lf.specs.Sides.{side_of};
 ghost use Rattle.twin_acts.specs.TwinActs.{HasTwinRoom};
 ghost use Rattle.word_pool.specs.TwinWorkers.{DoesTwin, IsTwinIdle};
+ghost use Rattle.word_pool.specs.inside.TwinKept.{twin_at};
 
 use ground::pool::Ground;
 use ground::seat::GroundSeat;
 use mbuf::acts::{Answer, Reply};
 use mbuf::packets::Packets;
 use mbuf::twin::Twin;
-use stack_lf::words::WordCommons;
+use stack_lf::lent::LentWords;
 use std::marker::Model;
 use twin_acts::acts::{TwinAct, perform_twin_in};
 
@@ -28,8 +29,7 @@ pub(crate) struct Seats {
 /// foreign clones, which are its own. It can be sent to a thread. One that is dropped has died: what
 /// it has is lost to both pools.
 pub struct WordTwin {
-    /// They are missing only within an act.
-    seats: Option<Seats>,
+    seats: Seats,
     twin: Twin,
 }
 
@@ -38,9 +38,9 @@ impl Model for WordTwin {
 
     ghost Value = { TwinState };
 
-    ghost use Rattle.word_pool.specs.inside.TwinKept.{twin_manned_of, IsTwinKept};
+    ghost use Rattle.word_pool.specs.inside.TwinKept.{IsTwinKept, twin_state_of};
 
-    ghost view = { twin_manned_of };
+    ghost view = { twin_state_of };
 
     ghost invariant = { IsTwinKept };
 }
@@ -48,9 +48,7 @@ impl Model for WordTwin {
 impl Drop for WordTwin {
     fn drop(self) {
         let WordTwin { seats, twin } = self;
-        if let Some(seats) = seats {
-            lose(seats);
-        }
+        lose(seats);
         twin.lose();
     }
 }
@@ -72,10 +70,7 @@ impl WordTwin {
         requires own { OwnTwin twin (side_of seats.first) (side_of seats.second) }
         ensures { result ≡ record { first = seats.first; second = seats.second; member = twin } }
     {
-        WordTwin {
-            seats: Some(seats),
-            twin,
-        }
+        WordTwin { seats, twin }
     }
 
     /// The seats of the worker, and what it has of both pools.
@@ -84,13 +79,7 @@ impl WordTwin {
         ensures idle { IsTwinIdle self }
     {
         let WordTwin { seats, twin } = self;
-        match seats {
-            Some(seats) => (seats, twin),
-            None => {
-                twin.lose();
-                unreachable!()
-            }
-        }
+        (seats, twin)
     }
 
     /// A law of each worker between its acts: its seats are at rest, and its packets and clones are
@@ -142,12 +131,11 @@ impl WordTwin {
         requires second { IsOf second.now self.old.second }
         ensures { DoesTwin act self.old (as_reply result) self.new }
     {
-        let Some(seats) = self.seats.take() else {
-            unreachable!()
-        };
-        let (reply, seats) = act_by(first, second, seats, &mut self.twin, act);
-        put_back(&mut self.seats, seats);
-        reply
+        let Seats {
+            first: first_seat,
+            second: second_seat,
+        } = &mut self.seats;
+        act_by(first, second, first_seat, second_seat, &mut self.twin, act)
     }
 }
 
@@ -155,42 +143,20 @@ impl WordTwin {
 fn act_by<const ROOM: usize>(
     first: &Ground,
     second: &Ground,
-    seats: Seats,
+    first_seat: &mut GroundSeat,
+    second_seat: &mut GroundSeat,
     twin: &mut Twin,
     act: TwinAct,
-) -> (Answer<ROOM>, Seats)
+) -> Answer<ROOM>
     requires room { HasTwinRoom ROOM act }
-    requires first { IsOf first.now seats.first }
-    requires second { IsOf second.now seats.second }
-    requires first_rest { AtRest seats.first.known.view }
-    requires second_rest { AtRest seats.second.known.view }
-    requires first_slots { seats.first.slots ≡ [] }
-    requires second_slots { seats.second.slots ≡ [] }
-    requires own { OwnTwin twin.old (side_of seats.first) (side_of seats.second) }
-    ensures idle { IsTwinIdle (record { first = result.1.first; second = result.1.second; member = twin.new }) }
-    ensures acts { DoesTwin act (record { first = seats.first; second = seats.second; member = twin.old }) (as_reply result.0)
-        (record { first = result.1.first; second = result.1.second; member = twin.new }) }
+    requires first { IsOf first.now first_seat.old }
+    requires second { IsOf second.now second_seat.old }
+    requires idle { IsTwinIdle (twin_at first_seat.old second_seat.old twin.old) }
+    ensures idle { IsTwinIdle (twin_at first_seat.new second_seat.new twin.new) }
+    ensures acts { DoesTwin act (twin_at first_seat.old second_seat.old twin.old) (as_reply result)
+        (twin_at first_seat.new second_seat.new twin.new) }
 {
-    let Seats {
-        first: first_seat,
-        second: second_seat,
-    } = seats;
-    let mut c = WordCommons::new(first, first_seat);
-    let mut d = WordCommons::new(second, second_seat);
-    let reply = perform_twin_in(twin, &mut c, &mut d, act);
-    let seats = Seats {
-        first: c.into_seat(),
-        second: d.into_seat(),
-    };
-    (reply, seats)
-}
-
-/// Gives a worker its seats back.
-fn put_back(place: &mut Option<Seats>, seats: Seats)
-    requires empty { place.old ≡ None }
-    ensures { place.new ≡ Some seats }
-{
-    if let Some(others) = place.replace(seats) {
-        lose(others);
-    }
+    let mut c = LentWords::new(first, first_seat);
+    let mut d = LentWords::new(second, second_seat);
+    perform_twin_in(twin, &mut c, &mut d, act)
 }

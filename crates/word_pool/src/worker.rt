@@ -10,6 +10,7 @@ ghost use Rattle.mbuf.specs.Own.{Own};
 ghost use Rattle.stack_lf.specs.Remaining.{ReadsRemaining};
 ghost use Rattle.stack_lf.specs.Sides.{side_of};
 ghost use Rattle.word_pool.specs.Workers.{Acts, IsIdle, Stays};
+ghost use Rattle.word_pool.specs.inside.Kept.{worker_at};
 
 use crate::calls;
 use commons::packet::Packet;
@@ -20,14 +21,13 @@ use mbuf::acts;
 use mbuf::acts::{Act, Answer, Reply};
 use mbuf::freed::Freed;
 use mbuf::packets::{Packets, Pid};
-use stack_lf::words::WordCommons;
+use stack_lf::lent::LentWords;
 use std::marker::Model;
 
 /// A worker of a pool on words: its seat, its cache and its packets, which are its own. It can be
 /// sent to a thread. One that is dropped has died: what it has is lost to the pool.
 pub struct WordWorker {
-    /// It is missing only within an act.
-    seat: Option<GroundSeat>,
+    seat: GroundSeat,
     packets: Packets,
 }
 
@@ -36,9 +36,9 @@ impl Model for WordWorker {
 
     ghost Value = { WorkerState };
 
-    ghost use Rattle.word_pool.specs.inside.Kept.{manned_of, IsKept};
+    ghost use Rattle.word_pool.specs.inside.Kept.{IsKept, state_of};
 
-    ghost view = { manned_of };
+    ghost view = { state_of };
 
     ghost invariant = { IsKept };
 }
@@ -46,9 +46,7 @@ impl Model for WordWorker {
 impl Drop for WordWorker {
     fn drop(self) {
         let WordWorker { seat, packets } = self;
-        if let Some(seat) = seat {
-            seat.lose();
-        }
+        seat.lose();
         packets.lose();
     }
 }
@@ -61,10 +59,7 @@ impl WordWorker {
         requires own { Own packets (side_of seat) }
         ensures { result ≡ record { seat = seat; member = packets } }
     {
-        WordWorker {
-            seat: Some(seat),
-            packets,
-        }
+        WordWorker { seat, packets }
     }
 
     /// The seat of the worker, and its packets.
@@ -73,13 +68,7 @@ impl WordWorker {
         ensures idle { IsIdle self }
     {
         let WordWorker { seat, packets } = self;
-        match seat {
-            Some(seat) => (seat, packets),
-            None => {
-                packets.lose();
-                unreachable!()
-            }
-        }
+        (seat, packets)
     }
 
     /// A law of each worker between its acts: its seat is at rest, and its packets are its own. It
@@ -107,12 +96,8 @@ impl WordWorker {
         ensures member { self.new.member ≡ self.old.member }
         ensures stays { Stays self.old self.new }
     {
-        let Some(seat) = self.seat.take() else {
-            unreachable!()
-        };
-        let (left, seat) = remaining_by(ground, seat, &self.packets);
-        put_back(&mut self.seat, seat);
-        left
+        let mut c = LentWords::new(ground, &mut self.seat);
+        c.changes_left()
     }
 
     /// Lets the worker do this over the words of its ground, beside others, and answers what came
@@ -136,12 +121,7 @@ impl WordWorker {
         requires of { IsOf ground.now self.old.seat }
         ensures { Acts act self.old (as_reply result) self.new }
     {
-        let Some(seat) = self.seat.take() else {
-            unreachable!()
-        };
-        let (reply, seat) = act_by(ground, seat, &mut self.packets, act);
-        put_back(&mut self.seat, seat);
-        reply
+        act_by(ground, &mut self.seat, &mut self.packets, act)
     }
 
     /// Makes a packet, as the act `Alloc` does, and answers its slot. Like the three calls below it
@@ -151,12 +131,7 @@ impl WordWorker {
         requires of { IsOf ground.now self.old.seat }
         ensures { Acts Act.Alloc self.old (allocated result self.new.member.table) self.new }
     {
-        let Some(seat) = self.seat.take() else {
-            unreachable!()
-        };
-        let (answer, seat) = calls::alloc(ground, seat, &mut self.packets);
-        put_back(&mut self.seat, seat);
-        answer
+        calls::alloc(ground, &mut self.seat, &mut self.packets)
     }
 
     /// Makes as many packets as `slots` has places, as the act `AllocBulk` does, all or none, and
@@ -167,12 +142,7 @@ impl WordWorker {
         ensures { Acts (Act.AllocBulk (length slots.old)) self.old
             (allocated_bulk (with_list result slots.new) self.new.member.table) self.new }
     {
-        let Some(seat) = self.seat.take() else {
-            unreachable!()
-        };
-        let (answer, seat) = calls::alloc_bulk(ground, seat, &mut self.packets, slots);
-        put_back(&mut self.seat, seat);
-        answer
+        calls::alloc_bulk(ground, &mut self.seat, &mut self.packets, slots)
     }
 
     /// Frees a packet, as the act `Free` does, and answers what was freed.
@@ -181,12 +151,7 @@ impl WordWorker {
         requires of { IsOf ground.now self.old.seat }
         ensures { Acts (Act.Free slot) self.old (freed result) self.new }
     {
-        let Some(seat) = self.seat.take() else {
-            unreachable!()
-        };
-        let (answer, seat) = calls::free(ground, seat, &mut self.packets, slot);
-        put_back(&mut self.seat, seat);
-        answer
+        calls::free(ground, &mut self.seat, &mut self.packets, slot)
     }
 
     /// Clones a packet, as the act `ClonePacket` does, and answers the clone's slot.
@@ -195,12 +160,7 @@ impl WordWorker {
         requires of { IsOf ground.now self.old.seat }
         ensures { Acts (Act.ClonePacket slot) self.old (cloned result self.new.member.table) self.new }
     {
-        let Some(seat) = self.seat.take() else {
-            unreachable!()
-        };
-        let (answer, seat) = calls::clone_packet(ground, seat, &mut self.packets, slot);
-        put_back(&mut self.seat, seat);
-        answer
+        calls::clone_packet(ground, &mut self.seat, &mut self.packets, slot)
     }
 }
 
@@ -208,48 +168,17 @@ impl WordWorker {
 #[inline(always)]
 fn act_by<const ROOM: usize>(
     ground: &Ground,
-    seat: GroundSeat,
+    seat: &mut GroundSeat,
     packets: &mut Packets,
     act: Act,
-) -> (Answer<ROOM>, GroundSeat)
+) -> Answer<ROOM>
     requires room { HasRoom ROOM act }
-    requires of { IsOf ground.now seat }
-    requires rest { AtRest seat.known.view }
-    requires slots { seat.slots ≡ [] }
-    requires own { Own packets.old (side_of seat) }
-    ensures idle { IsIdle (record { seat = result.1; member = packets.new }) }
-    ensures acts { Acts act (record { seat = seat; member = packets.old }) (as_reply result.0)
-        (record { seat = result.1; member = packets.new }) }
+    requires of { IsOf ground.now seat.old }
+    requires idle { IsIdle (worker_at seat.old packets.old) }
+    ensures idle { IsIdle (worker_at seat.new packets.new) }
+    ensures acts { Acts act (worker_at seat.old packets.old) (as_reply result)
+        (worker_at seat.new packets.new) }
 {
-    let mut c = WordCommons::new(ground, seat);
-    let reply = acts::perform_in(packets, &mut c, act);
-    (reply, c.into_seat())
-}
-
-/// A read of the head by the seat of this worker, for the changes that are left.
-fn remaining_by(ground: &Ground, seat: GroundSeat, packets: &Packets) -> (u64, GroundSeat)
-    requires of { IsOf ground.now seat }
-    requires rest { AtRest seat.known.view }
-    requires slots { seat.slots ≡ [] }
-    requires own { Own packets.now (side_of seat) }
-    ensures idle { IsIdle (record { seat = result.1; member = packets.now }) }
-    ensures read { ReadsRemaining seat result.0 result.1 }
-    ensures stays { Stays (record { seat = seat; member = packets.now })
-        (record { seat = result.1; member = packets.now }) }
-{
-    let _ = packets;
-    let mut c = WordCommons::new(ground, seat);
-    let left = c.changes_left();
-    (left, c.into_seat())
-}
-
-/// Gives a worker its seat back.
-#[inline(always)]
-fn put_back(place: &mut Option<GroundSeat>, seat: GroundSeat)
-    requires empty { place.old ≡ None }
-    ensures { place.new ≡ Some seat }
-{
-    if let Some(other) = place.replace(seat) {
-        other.lose();
-    }
+    let mut c = LentWords::new(ground, seat);
+    acts::perform_in(packets, &mut c, act)
 }
