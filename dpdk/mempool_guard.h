@@ -35,8 +35,8 @@ extern "C" {
  *   -EIO     it can't be written */
 MBUFPOOL_GUARD_EXPORT int mbufpool_guard_report(FILE *out, const struct rte_mempool *mp);
 
-/* Writes, of each object that is out, its number and address, and who got it, by number, and of
- * `most` objects at most:
+/* Writes a line for each object that is out, `most` at most, in the order of their numbers: its number,
+ * its address, and who got it:
  *
  *     element 29  0x103fcc040  lcore 1  app+0x1100
  *

@@ -38,9 +38,9 @@
  *              start or join, or a sequentially consistent atomic.
  *   closing    One thread at a time closes a pool: no two calls of mbufpool_worker_close that run
  *              at once are given workers of one pool.
- *   memory     `out` has room for n of its kind and `list` has n numbers, n > 0 or not. What the
- *              pointers of one call lead to doesn't overlap (two handles are two structs), and is
- *              the call's alone while it runs.
+ *   memory     `out` has room for n of its kind and `list` has n numbers; where n is 0 nothing is
+ *              read or written there. What the pointers of one call lead to doesn't overlap (two
+ *              handles are two structs), and is the call's alone while it runs.
  *   elements   (seats alone) Each number that is put was got by a seat of this pool, by whichever
  *              thread, and not put since: so a list has it once. It doesn't matter whether that seat
  *              is ended by now. An element passes from thread to thread as a handle does, or by any
@@ -77,7 +77,7 @@ extern "C" {
  */
 uint32_t mbufpool_version(void);
 
-/** Why a call was refused. */
+/** Why a call was refused. The numbers that aren't here are of the program alone. */
 enum mbufpool_refusal {
 	MBUFPOOL_BAD_POOL = 1,		/**< limits out of range */
 	MBUFPOOL_NO_MEMORY = 2,
@@ -205,7 +205,7 @@ static inline const char *mbufpool_strerror(uint32_t status)
  * Each get and each put that succeeds, of whatever length but 0, takes one of 2^40 - 1 changes.
  *
  * A seat's part of the pool is 2^56 elements that it can have lent: got, and not put by itself. The
- * first seat has as much for each seat that isn't split off it yet besides. */
+ * first seat has besides 2^56 for each seat that hasn't been split off it yet. */
 
 /** A seat, or none where the pointer is null. The pointer is the library's. */
 struct mbufpool_seat { void *at; };
@@ -463,7 +463,8 @@ struct mbufpool_guard { void *at; };
  * @param tries
  *   As mbufpool_seat_open has it.
  * @param out
- *   Gets the worker. One that was in it is ended; where the call is refused, it stays.
+ *   Gets the worker. One that was in it is lost with what is in its cache: end it before, by
+ *   mbufpool_guard_end. Where the call is refused, it stays.
  * @return
  *   - 0: the pool is made.
  *   - MBUFPOOL_BAD_POOL: one of the four numbers is out of range.
@@ -612,11 +613,11 @@ void mbufpool_guard_end(struct mbufpool_guard *worker);
  * when the last hold of an element ends, goes through the cache, as an element that is got: both as a
  * guarded worker's, above. `out` is written where the answer is 0.
  *
- * Each is after the call of DPDK 21.11 that has its last word behind rte_pktmbuf_,
- * mbufpool_worker_refcnt after rte_mbuf_refcnt_read, mbufpool_worker_nb_segs after that field of
- * struct rte_mbuf, and mbufpool_worker_flush after rte_mempool_cache_flush. Unlike there a chain has 32
- * segments at most, and a reference count a limit of the pool's. Desks are the library's own: DPDK passes
- * mbufs from lcore to lcore over an rte_ring. */
+ * mbufpool_worker_alloc, alloc_bulk, free, clone, chain, attach, detach, append, prepend, trim and adj
+ * are after the calls of DPDK 21.11 that have these words behind rte_pktmbuf_; refcnt is after
+ * rte_mbuf_refcnt_read, pkt_len and nb_segs after those fields of struct rte_mbuf, and flush after
+ * rte_mempool_cache_flush. Unlike there a chain has 32 segments at most, and a reference count a limit of
+ * the pool's. Desks are the library's own: DPDK passes mbufs from lcore to lcore over an rte_ring. */
 
 /** A worker, or none where the pointer is null. The pointer is the library's. */
 struct mbufpool_worker { void *at; };

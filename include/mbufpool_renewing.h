@@ -125,7 +125,8 @@ uint32_t mbufpool_renewing_open(const struct mbufpool_renewing_limits *limits,
  *   How many; 0 is answered 0.
  * @return
  *   - 0: the n elements are the caller's.
- *   - MBUFPOOL_LENT_OUT: as a seat is refused by it, which takes lists of more than 65,536 elements.
+ *   - MBUFPOOL_LENT_OUT: as of a seat. It doesn't come with lists of 65,536 elements or fewer: the stack
+ *     is renewed before.
  *   - MBUFPOOL_NO_ENTRIES: so many weren't there, at some moment of the call.
  *   - MBUFPOOL_CONTENDED: as many tries were lost to other threads as the pool allows: try again.
  */
