@@ -6,6 +6,8 @@
  *   - each get whose number no put found is out still, and the pool says its number;
  *   - everything else is in the pool, which says 0 of it, and gives it all again.
  *
+ * What is refused, of openings, splits and puts, changes nothing.
+ *
  *     make any_frees && ./any_frees [CALLS [THREADS [SEED]]] */
 #include <pthread.h>
 #include <stdio.h>
@@ -221,6 +223,41 @@ static void compare(struct thread *t, unsigned threads)
 	free(put.all);
 }
 
+/* Each refusal but for want of memory, and that it leaves everything as it was. */
+static void meet_refusals(void)
+{
+	struct mbufpool_guard first = MBUFPOOL_NONE, second = MBUFPOOL_NONE, none = MBUFPOOL_NONE;
+	uint32_t list[3] = { 2, 1, 0 }, one;
+	uint64_t words[3] = { 7, 8, 9 }, taken = 99;
+	const uint64_t spent = (UINT64_C(1) << 40) - 1; /* changes of a stack */
+
+	MUST(mbufpool_guard_open(0, 0, 1, 1, &first) == MBUFPOOL_BAD_POOL && first.at == NULL);
+	/* to fill the places takes two changes */
+	MUST(mbufpool_guard_open_at(3, 0, 2, 1, spent, &first) == MBUFPOOL_HEAD_SPENT);
+	MUST(mbufpool_guard_open_at(3, 0, 2, 1, spent - 1, &first) == MBUFPOOL_HEAD_SPENT && first.at == NULL);
+	MUST(mbufpool_guard_open_at(3, 0, 2, 1, spent - 2, &first) == 0);
+	MUST(mbufpool_guard_changes_left(&first) == 0);
+	MUST(mbufpool_guard_get(&first, 2, &one, 1) == MBUFPOOL_HEAD_SPENT);
+	mbufpool_guard_end(&first);
+	MUST(mbufpool_guard_open(3, 0, 2, 1, &first) == 0);
+	MUST(mbufpool_guard_split(&none, &second) == MBUFPOOL_STRANGER && second.at == NULL);
+	MUST(mbufpool_guard_split(&first, &second) == 0);
+	/* a worker of each is all that the pool has */
+	MUST(mbufpool_guard_split(&first, &none) == MBUFPOOL_STRANGER && none.at == NULL);
+	MUST(mbufpool_guard_split(&second, &none) == MBUFPOOL_STRANGER && none.at == NULL);
+	MUST(mbufpool_guard_get(&first, 2, list, 2) == 0 && mbufpool_guard_out(&second) == 2);
+	list[0] = 2, list[1] = 1, list[2] = 0;
+	MUST(mbufpool_guard_put(&first, list, 3, words, 2, &taken) == MBUFPOOL_NO_ROOM && taken == 0);
+	taken = 99;
+	MUST(mbufpool_guard_put(&none, list, 3, words, 3, &taken) == MBUFPOOL_STRANGER && taken == 0);
+	MUST(list[0] == 2 && list[1] == 1 && list[2] == 0 && words[0] == 7 && words[1] == 8 && words[2] == 9);
+	MUST(mbufpool_guard_out(&first) == 2);
+	MUST(mbufpool_guard_put(&second, list, 3, words, 3, &taken) == MBUFPOOL_NOT_OUT && taken == 2);
+	mbufpool_guard_end(&second);
+	MUST(mbufpool_guard_get(&first, 2, list, 3) == 0);
+	mbufpool_guard_end(&first);
+}
+
 int main(int argc, char **argv)
 {
 	static struct thread t[MOST_THREADS];
@@ -234,6 +271,7 @@ int main(int argc, char **argv)
 	if (argc > 3)
 		seed = strtoul(argv[3], NULL, 10);
 	MUST(threads >= 1 && threads <= MOST_THREADS);
+	meet_refusals();
 	for (i = 0; i < threads; i++) {
 		t[i].number = i;
 		t[i].state = 0x9e3779b97f4a7c15u * (seed * MOST_THREADS + i + 1);

@@ -29,7 +29,7 @@ seat_in None = no_seat
 seat_in (Some s) = s
 
 abbrev pub cached_of : Inside → Cached
-cached_of w = record { seat = seat_in w.seat; cache = w.cache }
+cached_of w = record { seat = seat_in w.seat; cache = w.cache; parts = w.parts }
 
 -- between calls the seat is there and at rest, of these words; its part is counted; and the cache
 -- is of the same pool, and in its hand

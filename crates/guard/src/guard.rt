@@ -4,7 +4,7 @@ ghost use Rattle.std.specs.Prelude.{◌≡◌, ◌+◌, ◌<◌, ◌≤◌, ℕ,
 ghost use Rattle.commons.specs.Bag.{bag};
 ghost use Rattle.ground.specs.Own.{AtRest};
 ghost use Rattle.ground.specs.Seats.{IsOf};
-ghost use Rattle.guard.specs.Guarding.{Rest, AreCut, AreSome, GetsGuarded, PutsGuarded, IsMakeCause, guarded_list};
+ghost use Rattle.guard.specs.Guarding.{Rest, AreCut, AreSome, GetsGuarded, PutsGuarded, IsFilled, IsMakeCause, guarded_list};
 ghost use Rattle.guard.specs.Spots.{HasSpots, IsLoanOf, spot};
 ghost use Rattle.lending.specs.Lent.{loaned};
 ghost use Rattle.step_core.specs.World.{every_part};
@@ -44,11 +44,14 @@ impl Guard {
     /// elements are on the stack, and nothing is out.
     ///
     /// Refused `BadPool` where the limits are out of range, `OutOfMemory` where memory was refused,
-    /// and `HeadSpent` where the head's count is spent already.
+    /// and `HeadSpent` where the head's count is spent before the places are filled, by a get of all
+    /// elements and a put of them.
     pub fn make(alloc: Global, limits: &Limits) -> Result<(Guard, Lender), Refusal>
         ensures limits { IfOk result (λ made. made.0.limits ≡ limits.now) }
         ensures of { IfOk result (λ made. IsOf made.0 made.1) }
         ensures empty { IfOk result (λ made. (i : ℕ) → bag made.1.known.view.hand i ≡ 0) }
+        ensures held { IfOk result (λ made. (i : ℕ) → bag made.1.known.view.holds i ≡ 0) }
+        ensures filled { IfOk result (λ made. IsFilled limits.now made.1.known.steps) }
         ensures part { IfOk result (λ made. made.1.known.view.part ≡ every_part limits.now) }
         ensures cause { IfErr result (IsMakeCause limits.now) }
     {
@@ -113,7 +116,7 @@ impl Guard {
         count
     }
 
-    /// GetsGuarded as many elements as `out` has places: all of them, or none. Each is out then, with this
+    /// Gets as many elements as `out` has places: all of them, or none. Each is out then, with this
     /// number.
     ///
     /// Refused `LentOut` where the seat's part of the pool is no greater than the list, else as
@@ -143,7 +146,7 @@ impl Guard {
         }
     }
 
-    /// PutsGuarded a list of whatever numbers, as far as they are out: by whichever seat they were got.
+    /// Puts a list of whatever numbers, as far as they are out: by whichever seat they were got.
     /// Those that were out come first in the list then, and the answer says how many; behind them
     /// are those that weren't out: that were put before, or twice in this list, or never got, or
     /// that are none of the pool. `words` has of each number of the list, as it stands now, the
@@ -224,7 +227,7 @@ impl Guard {
         requires below { (i : ℕ) → self.now.limits.population ≤ i → bag list.now i ≡ 0 }
         requires part { length list.now < seat.old.known.view.part }
         ensures all { IfOk result (λ _. Rest list.now seat.old seat.new) }
-        ensures some { IfErr result (λ gone. (ys : List ℕ) × (length ys ≡ gone) × AreSome ys list.now × Rest ys seat.old seat.new) }
+        ensures some { IfErr result (λ gone. (ys : List ℕ) × (length ys ≡ gone) × AreSome ys list.now × (gone < length list.now) × Rest ys seat.old seat.new) }
         ensures rest { AtRest seat.new.known.view }
     {
         for k in 0..list.len() {
@@ -268,7 +271,7 @@ impl Guard {
         requires below { (i : ℕ) → self.now.limits.population ≤ i → bag list.now i ≡ 0 }
         requires part { length list.now < seat.old.known.view.part }
         ensures all { IfOk result (λ _. Rest list.now seat.old seat.new) }
-        ensures some { IfErr result (λ gone. (ys : List ℕ) × (length ys ≡ gone) × AreSome ys list.now × Rest ys seat.old seat.new) }
+        ensures some { IfErr result (λ gone. (ys : List ℕ) × (length ys ≡ gone) × AreSome ys list.now × (gone < length list.now) × Rest ys seat.old seat.new) }
         ensures rest { AtRest seat.new.known.view }
     {
         for k in 0..list.len() {

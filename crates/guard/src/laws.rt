@@ -3,6 +3,7 @@
 ghost use Rattle.std.specs.Prelude.{◌≡◌, ◌+◌, ◌≤◌, ℕ, []};
 ghost use Rattle.commons.specs.Bag.{bag};
 ghost use Rattle.ground.specs.Own.{AtRest};
+ghost use Rattle.ground.specs.Parting.{IsBoth};
 ghost use Rattle.ground.specs.Seats.{IsOf};
 
 use ground::pool::Ground;
@@ -17,7 +18,8 @@ pub fn no_element_is_in_two_hands(ground: &Ground, first: &mut GroundSeat, secon
     requires rest { AtRest first.old.known.view }
     requires second_rest { AtRest second.known.view }
     requires slots { second.slots ≡ [] }
-    ensures { (i : ℕ) → bag first.old.known.view.hand i + bag second.known.view.hand i ≤ 1 }
+    ensures once { (i : ℕ) → bag first.old.known.view.hand i + bag second.known.view.hand i ≤ 1 }
+    ensures joined { IsBoth first.old second.known first.new }
 {
     ground.join(first, second);
     first.owned();

@@ -1,6 +1,6 @@
 //! A worker of a guarded pool: a seat with a cache.
 
-ghost use Rattle.std.specs.Prelude.{◌≡◌, ◌+◌, ◌<◌, ◌≤◌, ℕ, All, [], length, take, drop, None, Some, IfOk, IfErr, OnOk, OnErr};
+ghost use Rattle.std.specs.Prelude.{◌≡◌, ◌+◌, ◌-◌, ◌<◌, ◌≤◌, ℕ, All, [], length, take, drop, None, Some, IfOk, IfErr, OnOk, OnErr};
 ghost use Rattle.commons.specs.Bag.{bag};
 ghost use Rattle.commons.specs.Bounds.{IsPool};
 ghost use Rattle.commons.specs.Calls.{Calls, with_list as with_elements};
@@ -14,7 +14,7 @@ ghost use Rattle.stack_lf.specs.Sides.{side_of};
 ghost use Rattle.stack_lf.specs.Tries.{DidOnWords};
 ghost use Rattle.step_core.specs.World.{every_part, worker_part};
 ghost use Rattle.guard.specs.Caching.{CachedFlushes, CachedGets, CachedPuts};
-ghost use Rattle.guard.specs.Guarding.{IsMakeCause, IsSplitCause, guarded_list};
+ghost use Rattle.guard.specs.Guarding.{IsFilled, IsMakeCause, IsSplitCause, guarded_list};
 
 use crate::cause::Cause;
 use crate::guard::Guard;
@@ -78,11 +78,15 @@ impl GuardWorker {
     /// Makes a pool, and the one worker of it, with an empty cache.
     ///
     /// Refused `BadPool` where the limits are out of range, `OutOfMemory` where memory was refused,
-    /// and `HeadSpent` where the head's count is spent already.
+    /// and `HeadSpent` where the head's count is spent before the places are filled, which takes two
+    /// changes.
     pub fn open(alloc: Global, limits: &Limits) -> Result<GuardWorker, Refusal>
         ensures cache { IfOk result (λ w. w.cache ≡ record { limits = limits.now; number = 1; cache = [] }) }
         ensures empty { IfOk result (λ w. (i : ℕ) → bag w.seat.known.view.hand i ≡ 0) }
+        ensures held { IfOk result (λ w. (i : ℕ) → bag w.seat.known.view.holds i ≡ 0) }
+        ensures filled { IfOk result (λ w. IsFilled limits.now w.seat.known.steps) }
         ensures part { IfOk result (λ w. w.seat.known.view.part ≡ every_part limits.now) }
+        ensures parts { IfOk result (λ w. w.parts ≡ limits.now.workers) }
         ensures cause { IfErr result (IsMakeCause limits.now) }
     {
         limits.check()?;
@@ -117,12 +121,16 @@ impl GuardWorker {
     /// seat's part is out, and `OutOfMemory` where memory was refused, or there are too many
     /// owners. This worker is as before then.
     pub fn split(&mut self, alloc: Global) -> Result<GuardWorker, Cause>
-        ensures left { IfOk result (λ _. self.new ≡ record self.old { seat = record self.old.seat { known = less_part self.old.seat.known } }) }
+        ensures left { IfOk result (λ _. self.new ≡ record self.old {
+          seat = record self.old.seat { known = less_part self.old.seat.known };
+          parts = self.old.parts - 1;
+        }) }
+        ensures more { IfOk result (λ other. (2 ≤ self.old.parts) × (other.parts ≡ 1)) }
         ensures made { IfOk result (λ other. (other.seat.table ≡ self.old.seat.table) × (other.seat.known ≡ newcomer self.old.seat.known)) }
         ensures cache { IfOk result (λ other. other.cache ≡ record { limits = self.old.cache.limits; number = 1; cache = [] }) }
         ensures part { IfOk result (λ _. worker_part < self.old.seat.known.view.part) }
         ensures kept { IfErr result (λ _. self.new ≡ self.old) }
-        ensures cause { IfErr result (IsSplitCause self.old.seat.known.view.part) }
+        ensures cause { IfErr result (IsSplitCause self.old.parts self.old.seat.known.view.part) }
     {
         if self.parts < 2 {
             return Err(Cause::Refused(Refusal::StrangerShare));
@@ -240,6 +248,7 @@ impl GuardWorker {
     pub fn changes_left(&mut self) -> u64
         ensures read { ReadsRemaining self.old.seat result self.new.seat }
         ensures cache { self.new.cache ≡ self.old.cache }
+        ensures parts { self.new.parts ≡ self.old.parts }
     {
         let Some(seat) = self.seat.take() else {
             unreachable!()

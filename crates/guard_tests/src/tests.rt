@@ -75,10 +75,16 @@ fn one_worker_puts_what_another_got(rt: HostRuntime) -> Result<(), Fail> {
     let Some(mut first) = opened(&rt) else {
         return Ok(());
     };
-    let Ok(mut second) = first.split(rt.alloc()) else {
-        return Ok(());
+    let mut second = match first.split(rt.alloc()) {
+        Ok(second) => second,
+        Err(cause) => {
+            assert!(rt; cause == Cause::Refused(Refusal::OutOfMemory), "{cause:?}");
+            return Ok(());
+        }
     };
-    assert!(rt; second.split(rt.alloc()).is_err());
+    let none_left = Some(Cause::Refused(Refusal::StrangerShare));
+    assert!(rt; second.split(rt.alloc()).err() == none_left);
+    assert!(rt; first.split(rt.alloc()).err() == none_left);
     let mut out = [0u32; 8];
     assert!(rt; first.get(5, &mut out) == Ok(()));
     let mut one = [0u32; 1];
@@ -96,4 +102,20 @@ fn one_worker_puts_what_another_got(rt: HostRuntime) -> Result<(), Fail> {
     assert!(rt; first.get(6, &mut out) == Ok(()));
     assert!(rt; second.who(out[7]) == 6);
     Ok(())
+}
+
+/// The places are filled by two changes of the stack.
+#[test]
+fn a_pool_whose_count_is_spent_is_refused(rt: HostRuntime) {
+    for (left, opens) in [(0, false), (1, false), (2, true)] {
+        let limits = Limits {
+            start_count: SPENT - left,
+            ..LIMITS
+        };
+        match GuardWorker::open(rt.alloc(), &limits) {
+            Ok(mut worker) => assert!(rt; opens && worker.changes_left() == 0, "{left}"),
+            Err(Refusal::OutOfMemory) => {}
+            Err(refusal) => assert!(rt; !opens && refusal == Refusal::HeadSpent, "{left}"),
+        }
+    }
 }

@@ -1,14 +1,14 @@
 -- What C is answered by a worker of a guarded pool.
-use Rattle.std.specs.Prelude.{◌≡◌, ◌+◌, ◌<◌, ◌≤◌, ◌==◌, ℕ, All, List, [], length, take, drop, cond, Option, Some, None, Result, Ok, Err}
+use Rattle.std.specs.Prelude.{◌≡◌, ◌⊎◌, ◌+◌, ◌-◌, ◌<◌, ◌≤◌, ◌==◌, ℕ, All, List, [], length, take, drop, cond, Option, Some, None, Result, Ok, Err}
 use Rattle.commons.specs.Bag.{bag}
 use Rattle.commons.specs.declared.limits.Limits.{Limits}
 use Rattle.commons.specs.declared.limits.PutRule.TheVariants.{Keep}
 use Rattle.commons.specs.declared.refusal.Refusal.{Refusal}
-use Rattle.commons.specs.declared.refusal.Refusal.TheVariants.{StrangerShare}
+use Rattle.commons.specs.declared.refusal.Refusal.TheVariants.{OutOfMemory, StrangerShare}
 use Rattle.commons.specs.Refusals.{number_of}
 use Rattle.ground.specs.Parting.{less_part, newcomer}
 use Rattle.guard.specs.Caching.{Cached, CachedGets, CachedPuts}
-use Rattle.guard.specs.Guarding.{IsMakeCause, IsSplitCause, guarded_list}
+use Rattle.guard.specs.Guarding.{IsFilled, IsMakeCause, IsSplitCause, guarded_list}
 use Rattle.guard.specs.declared.cause.Cause.{Cause}
 use Rattle.guard.specs.declared.cause.Cause.TheVariants.{Refused, LentOut, Unrested}
 use Rattle.mempool.specs.declared.put.Put.{Put}
@@ -57,30 +57,51 @@ abbrev pub guard_status : Result (Unit {0}) Cause → ℕ
 guard_status (Ok _) = 0
 guard_status (Err cause) = guard_number cause
 
--- a new worker: nothing is in its hand or its cache, and it has every part
+-- a new worker, the only one of its pool: nothing is in its hand or its cache, it holds nothing, it
+-- has taken no steps but those of a get of all elements and a put of them, and it has every part, and
+-- as many workers to make as the pool can have
 pub record IsFirst (l : Limits) (s : Cached) : Type 0 where
   pub cache : s.cache ≡ record { limits = l; number = 1; cache = [] }
   pub empty : (i : ℕ) → bag s.seat.known.view.hand i ≡ 0
+  pub held : (i : ℕ) → bag s.seat.known.view.holds i ≡ 0
+  pub filled : IsFilled l s.seat.known.steps
   pub part : s.seat.known.view.part ≡ every_part l
+  pub parts : s.parts ≡ l.workers
 
 -- why a guarded pool isn't made, by the number that C has
 abbrev pub RefusesGuard : Limits → ℕ → Type 0
 RefusesGuard l status = (cause : Refusal) × (status ≡ number_of cause) × IsMakeCause l cause
 
--- the worker of the first handle gave a worker's part to a new one, which is in the second
+-- a worker that has given a worker's part away
+abbrev pub less_worker : Cached → Cached
+less_worker s = record s {
+  seat = record s.seat { known = less_part s.seat.known };
+  parts = s.parts - 1;
+}
+
+-- the worker of the first handle gave a worker's part to a new one with an empty cache, which is in
+-- the second
 abbrev pub SplitsGuard : Option Cached → Option Cached → Option Cached → Type 0
 SplitsGuard None new out = ⊥
 SplitsGuard (Some s) new out =
-    (new ≡ Some (record s { seat = record s.seat { known = less_part s.seat.known } }))
+    (new ≡ Some (less_worker s))
     × ((other : Cached) × (out ≡ Some other) × (other.seat.table ≡ s.seat.table)
-    × (other.seat.known ≡ newcomer s.seat.known))
+    × (other.seat.known ≡ newcomer s.seat.known) × (other.parts ≡ 1)
+    × (other.cache ≡ record { limits = s.cache.limits; number = 1; cache = [] }))
+
+-- What a refused split leaves in the first handle: what was there; or, where memory was refused for
+-- the new worker once its part was taken, the same worker without that part.
+abbrev pub KeepsWorker : ℕ → Option Cached → Option Cached → Type 0
+KeepsWorker status None new = new ≡ None
+KeepsWorker status (Some s) new =
+    (new ≡ Some s) ⊎ ((status ≡ number_of OutOfMemory) × (new ≡ Some (less_worker s)))
 
 -- Why no worker is made, by the number that C has: the first handle has none, or its worker isn't
 -- split.
 abbrev pub RefusesSplit : ℕ → Option Cached → Type 0
 RefusesSplit status None = status ≡ number_of StrangerShare
 RefusesSplit status (Some s) =
-    (cause : Cause) × (status ≡ guard_number cause) × IsSplitCause s.seat.known.view.part cause
+    (cause : Cause) × (status ≡ guard_number cause) × IsSplitCause s.parts s.seat.known.view.part cause
 
 -- The worker of a handle got elements, or was refused, and C has the status of the answer. Where
 -- there is no worker nothing was done, and C has the number of a stranger.
@@ -109,6 +130,7 @@ PutsGuard list words taken (Some s) status new =
 pub record GuardReads (s : Cached) (left : ℕ) (t : Cached) : Type 0 where
   pub read : ReadsRemaining s.seat left t.seat
   pub cache : t.cache ≡ s.cache
+  pub parts : t.parts ≡ s.parts
 
 -- the same of the worker of a handle; where there is none, C has 0
 abbrev pub GuardRemains : Option Cached → ℕ → Option Cached → Type 0

@@ -1,12 +1,12 @@
 //! A guarded pool for C: what C puts may be any numbers, and each that isn't out is refused.
 
-ghost use Rattle.std.specs.Prelude.{◌≡◌, ◌≢◌, ◌<◌, ◌≤◌, ℕ, None, Some, length, IfOk, IfErr};
+ghost use Rattle.std.specs.Prelude.{◌≡◌, ◌≢◌, ◌⊎◌, ◌<◌, ◌≤◌, ℕ, None, Some, length, IfOk, IfErr, IfSome};
 ghost use Rattle.commons.specs.Bag.{bag};
 ghost use Rattle.commons.specs.Refusals.{number_of};
 ghost use Rattle.commons.specs.declared.refusal.Refusal.TheVariants.{NoRoom, OutOfMemory};
 ghost use Rattle.guard.specs.Caching.{Cached};
 ghost use Rattle.guard.specs.Guarding.{IsMakeCause};
-ghost use Rattle.mbufpool_c.specs.Guarded.{GetsGuard, GuardRemains, IsFirst, PutsGuard, RefusesGuard, RefusesSplit, SplitsGuard, guard_limits, guard_limits_at, nobody, guard_number, guard_status as status_in, status_of_put as status_in_put};
+ghost use Rattle.mbufpool_c.specs.Guarded.{GetsGuard, GuardRemains, IsFirst, KeepsWorker, PutsGuard, RefusesGuard, RefusesSplit, SplitsGuard, guard_limits, guard_limits_at, nobody, guard_number, guard_status as status_in, status_of_put as status_in_put};
 
 use crate::guard_handle::GuardHandle;
 use crate::stack::LENT_OUT;
@@ -144,6 +144,7 @@ pub extern "C" fn mbufpool_guard_split(
     out: &mut GuardHandle,
 ) -> u32
     ensures made { result ≡ 0 → SplitsGuard worker.old.value worker.new.value out.new.value }
+    ensures first { result ≢ 0 → KeepsWorker result worker.old.value worker.new.value }
     ensures kept { result ≢ 0 → out.new.value ≡ out.old.value }
     ensures cause { result ≢ 0 → RefusesSplit result worker.old.value }
 {
@@ -218,6 +219,7 @@ pub extern "C" fn mbufpool_guard_put(
 ) -> u32
     ensures list { (i : ℕ) → bag list.new i ≡ bag list.old i }
     ensures apart { length words.old ≢ length list.old → (result ≡ number_of NoRoom) × (worker.new.value ≡ worker.old.value) × (taken.new ≡ 0) }
+    ensures unread { (length words.old ≢ length list.old) ⊎ (worker.old.value ≡ None) → (list.new ≡ list.old) × (words.new ≡ words.old) }
     ensures called { length words.old ≡ length list.old → PutsGuard list.new words.new taken.new worker.old.value result worker.new.value }
 {
     *taken = 0;
@@ -254,7 +256,8 @@ pub extern "C" fn mbufpool_guard_changes_left(alloc: Global, worker: &mut GuardH
 /// The number that came with an element that is out, or 0: it isn't out, or is none of the pool.
 #[unsafe(no_mangle)]
 pub extern "C" fn mbufpool_guard_who(alloc: Global, worker: &mut GuardHandle, element: u32) -> u64
-    ensures { worker.new.value ≡ worker.old.value }
+    ensures kept { worker.new.value ≡ worker.old.value }
+    ensures none { worker.old.value ≡ None → result ≡ 0 }
 {
     match worker.take(alloc) {
         None => 0,
@@ -270,7 +273,9 @@ pub extern "C" fn mbufpool_guard_who(alloc: Global, worker: &mut GuardHandle, el
 /// meanwhile may count or not.
 #[unsafe(no_mangle)]
 pub extern "C" fn mbufpool_guard_out(alloc: Global, worker: &mut GuardHandle) -> u64
-    ensures { worker.new.value ≡ worker.old.value }
+    ensures kept { worker.new.value ≡ worker.old.value }
+    ensures none { worker.old.value ≡ None → result ≡ 0 }
+    ensures most { IfSome worker.old.value (λ s. result ≤ s.cache.limits.population) }
 {
     match worker.take(alloc) {
         None => 0,

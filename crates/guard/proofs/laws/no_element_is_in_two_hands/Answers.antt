@@ -4,8 +4,8 @@ use Rattle.commons.proofs.Bags.{bag-append}
 use Rattle.ground.specs.Seats.{Seated}
 use Rattle.guard.proofs.laws.no_element_is_in_two_hands.Goals as goal
 
-pub returns : goal.returns
-returns c i =
+pub returns-clause-once : goal.returns-clause-once
+returns-clause-once c i =
     let a = c.args.first.now.known.view.hand in
     let b = c.args.second.known.view.hand in
     let both : bag c.join.new.seat.known.view.hand i ≡ bag (a ++ b) i =

@@ -32,7 +32,7 @@ returns-in-Err-clause-some c =
     let back = came_back (take k list) e c.loop-k.seat.known.limits c.args.seat.now c.loop-k.seat c.lend-loan.new.seat c.join.new.seat
     c.in-Err.loan.known h.rests there enough c.lend-loan.ensures.old
     (ap (λ (s : Seated). s.known) c.in-Err.ensures.back ∙ c.lend-loan.ensures.known) c.join.ensures in
-    (take k list, length-take-le k list (omega arith), first_some list k, back.0)
+    (take k list, length-take-le k list (omega arith), first_some list k, c.loop-k-test.true, back.0)
 
 pub loop-k-preserved : goal.loop-k-preserved
 loop-k-preserved c =

@@ -1,5 +1,5 @@
-use Rattle.std.proofs.Common.{ℕ, List, take, get_or, sym, ◌∙◌, ap, subst}
-use Rattle.std.proofs.lemmas.List.{take_more}
+use Rattle.std.proofs.Common.{ℕ, ◌<◌, List, length, take, get_or, sym, ◌∙◌, ap, subst, arith}
+use Rattle.std.proofs.lemmas.List.{take_more, length-take-le}
 use Rattle.commons.specs.Bag.{bag}
 use Rattle.ground.specs.Seats.{Seated}
 use Rattle.lending.proofs.Moving.{next_there}
@@ -32,10 +32,13 @@ returns-in-Err-clause-some c =
     let back = came_back (take k list) e c.loop-k.seat.known.limits c.args.seat.now c.loop-k.seat c.lend-loan.new.seat c.join.new.seat
     c.in-Err.loan.known h.rests there enough c.lend-loan.ensures.old
     (ap (λ (s : Seated). s.known) c.in-Err.ensures.back ∙ c.lend-loan.ensures.known) c.join.ensures in
-    let b = c.take_back.ensures.back in (
+    let b = c.take_back.ensures.back in
+    let first = length-take-le k list (omega (arith, c.loop-k-test.true)) in
+    let fewer : c.take_back.result < length list = omega (arith, b.2.count, b.3, first, c.loop-k-test.true) in (
       b.1,
       b.3,
       some_first b.0 b.1 list k b.2,
+      fewer,
       rest_left (take k list) b.0 b.1 c.args.seat.now c.join.new.seat c.take_back.new.seat back.0 b.2 b.4,
     )
 
