@@ -1,5 +1,5 @@
 -- The first get and the first put of a pool, by its only seat.
-use Rattle.std.proofs.Common.{◌≡◌, ◌≢◌, ℕ, zero, suc, ◌+◌, ◌<◌, List, [], ◌++◌, Option, Some, None, Result, Ok, Err, flat_map, length, replicate, refl, sym, ap, ◌∙◌, subst, arith}
+use Rattle.std.proofs.Common.{◌≡◌, ℕ, zero, suc, List, [], ◌++◌, Option, Some, None, Ok, Err, flat_map, replicate, refl, sym, ap, ◌∙◌, subst, arith}
 use Rattle.commons.specs.Bounds.{IsPool}
 use Rattle.commons.specs.Calls.{GetList, PutList, Reading}
 use Rattle.commons.specs.Packets.{holds_in_slot}

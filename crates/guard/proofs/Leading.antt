@@ -1,9 +1,17 @@
 -- Calls over words leave a seat at its table, with its part.
-use Rattle.std.proofs.Common.{◌≡◌, List, [], ◌∷◌, refl, sym, ap, ◌∙◌, subst}
-use Rattle.commons.specs.Calls.{Leads, Made}
+use Rattle.std.proofs.Common.{◌≡◌, List, [], ◌∷◌, refl, ap, sym, ◌∙◌, subst}
+use Rattle.commons.specs.Calls.{Call, Calls, Leads, Made, Reading, Side}
 use Rattle.ground.specs.Seats.{Grounded, Seated, IsOf}
 use Rattle.stack_lf.specs.Sides.{side_of}
 use Rattle.stack_lf.specs.Tries.{DidOnWords}
+use Rattle.stack_lf.specs.declared.lent.LentWords.{LentWords}
+
+-- what the trait's relation and side are at a seat that is lent
+abbrev pub DidByLent : LentWords → Call → List Reading → LentWords → Type 0
+DidByLent s call rs t = (t.seat.ghost_name ≡ s.seat.ghost_name) × DidOnWords s.seat.now call rs t.seat.now
+
+abbrev pub side_by_lent : LentWords → Side
+side_by_lent s = side_of s.seat.now
 
 -- the second seat is one of the same ground as the first, with the same part and the same slots out
 pub record Sits (s t : Seated) : Type 0 where
@@ -27,24 +35,34 @@ leads_sits before (m ∷ made) after led =
       slots = rest.slots ∙ did.slots;
     }
 
--- what holders of seats were led through, their seats were
-pub of_seats : {S : Type 0} (seat : S → Seated) (before : S) (made : List Made) (after : S) →
-    Leads (λ s call rs t. DidOnWords (seat s) call rs (seat t)) (λ s. side_of (seat s)) before made after →
-    Leads DidOnWords side_of (seat before) made (seat after)
-of_seats seat before [] after led = ap seat led
-of_seats seat before (m ∷ made) after led = (
-  seat led.0,
-  record { led = led.1.led; cause = led.1.cause; effect = led.1.effect },
-  of_seats seat led.0 made after led.2,
+-- what a lent seat's words were led through, the seat was, which is still the one that was lent
+pub of_lent : (before : LentWords) (made : List Made) (after : LentWords) → Leads DidByLent side_by_lent before made after →
+    (after.seat.ghost_name ≡ before.seat.ghost_name)
+    × Leads DidOnWords side_of before.seat.now made after.seat.now
+of_lent before [] after led = (
+  ap (λ (x : LentWords). x.seat.ghost_name) (sym led),
+  ap (λ (x : LentWords). x.seat.now) led,
 )
+of_lent before (m ∷ made) after led =
+    let rest = of_lent led.0 made after led.2 in (
+      rest.0 ∙ led.1.led.0,
+      (
+        led.0.seat.now,
+        record { led = led.1.led.1; cause = led.1.cause; effect = led.1.effect },
+        rest.1,
+      ),
+    )
 
--- the same of a seat that went into a holder, and of one that came out
-pub led_through : {S : Type 0} (seat : S → Seated) (x : S) (made : List Made) (y : S) (s t : Seated) → seat x ≡ s → t ≡ seat y →
-    Leads (λ s call rs t. DidOnWords (seat s) call rs (seat t)) (λ s. side_of (seat s)) x made y →
-    Leads DidOnWords side_of s made t
-led_through seat x made y s t into out led =
-    subst (λ (u : Seated). Leads DidOnWords side_of s made u) (sym out)
-    (subst (λ (u : Seated). Leads DidOnWords side_of u made (seat y)) into (of_seats seat x made y led))
+-- the same from the seat that was lent on
+pub led_from : (s : Seated) (before : LentWords) (made : List Made) (after : LentWords) → before.seat.now ≡ s →
+    Leads DidByLent side_by_lent before made after → Leads DidOnWords side_of s made after.seat.now
+led_from s before made after there led =
+    subst (λ (x : Seated). Leads DidOnWords side_of x made after.seat.now) there (of_lent before made after led).1
+
+pub calls_from : (s : Seated) (before after : LentWords) (rule : List Call → Type 0) → before.seat.now ≡ s →
+    Calls DidByLent side_by_lent before after rule →
+    Calls DidOnWords side_of s after.seat.now rule
+calls_from s before after rule there calls = (calls.0, led_from s before calls.0 after there calls.1, calls.2)
 
 -- and a seat of a ground is one of it still
 pub is_of : (g : Grounded) (s : Seated) (made : List Made) (t : Seated) → IsOf g s → Leads DidOnWords side_of s made t → IsOf g t

@@ -1,5 +1,4 @@
 pub mod Resting
 pub mod Arranging
 pub mod Leading
-pub mod Keeping
 pub mod Filling

@@ -25,7 +25,7 @@ use ground::seat::GroundSeat;
 use lending::lender::Lender;
 use mempool::put::Put;
 use mempool::worker::Worker;
-use stack_lf::words::WordCommons;
+use stack_lf::lent::LentWords;
 use std::alloc::Global;
 use std::marker::Model;
 use std::sync::Arc;
@@ -36,8 +36,7 @@ use step_core::view::WORKER_PART;
 /// isn't out. A worker that is dropped is lost with what is in its cache.
 pub struct GuardWorker {
     guard: Arc<Guard>,
-    /// It is missing only within a call.
-    seat: Option<GroundSeat>,
+    seat: GroundSeat,
     /// The seat's part of the pool, of which 1 goes with each element that is out by it.
     part: u64,
     /// How many workers can be made of it, itself among them.
@@ -66,9 +65,7 @@ impl Drop for GuardWorker {
             parts: _,
             cache,
         } = self;
-        if let Some(seat) = seat {
-            seat.lose();
-        }
+        seat.lose();
         cache.lose();
         drop(guard);
     }
@@ -96,7 +93,7 @@ impl GuardWorker {
                 Ok(guard) => Ok(GuardWorker {
                     guard,
                     part: seat.part(),
-                    seat: Some(seat.into_seat()),
+                    seat: seat.into_seat(),
                     parts: limits.workers as u32,
                     cache,
                 }),
@@ -146,16 +143,12 @@ impl GuardWorker {
             cache.lose();
             return Err(Cause::Refused(Refusal::OutOfMemory));
         };
-        let Some(mut seat) = self.seat.take() else {
-            unreachable!()
-        };
-        let other = guard.ground().split(&mut seat);
-        put_back(&mut self.seat, seat);
+        let seat = guard.ground().split(&mut self.seat);
         self.part -= WORKER_PART;
         self.parts -= 1;
         Ok(GuardWorker {
             guard,
-            seat: Some(other),
+            seat,
             part: WORKER_PART,
             parts: 1,
             cache,
@@ -176,23 +169,17 @@ impl GuardWorker {
         if self.part <= n {
             return Err(Cause::LentOut);
         }
-        let Some(seat) = self.seat.take() else {
-            unreachable!()
-        };
-        let (answer, mut seat) = get_by(self.guard.ground(), seat, &mut self.cache, out);
+        let answer = get_by(self.guard.ground(), &mut self.seat, &mut self.cache, out);
         if let Err(cause) = answer {
-            put_back(&mut self.seat, seat);
             return Err(Cause::Refused(cause));
         }
-        seat.owned();
-        match self.guard.rest_all(&mut seat, who, out) {
+        self.seat.owned();
+        match self.guard.rest_all(&mut self.seat, who, out) {
             Ok(()) => {
-                put_back(&mut self.seat, seat);
                 self.part -= n;
                 Ok(())
             }
             Err(gone) => {
-                put_back(&mut self.seat, seat);
                 self.part -= gone;
                 Err(Cause::Unrested)
             }
@@ -220,13 +207,14 @@ impl GuardWorker {
         ensures done { CachedPuts (take result.0 list.new) result.1 self.old self.new }
         ensures once { (i : ℕ) → bag self.old.cache.cache i + bag (take result.0 list.new) i ≤ 1 }
     {
-        let Some(mut seat) = self.seat.take() else {
-            unreachable!()
-        };
-        let taken = self.guard.take_all(&mut seat, list, words);
-        seat.owned();
-        let (answer, seat) = put_by(self.guard.ground(), seat, &mut self.cache, &list[..taken]);
-        put_back(&mut self.seat, seat);
+        let taken = self.guard.take_all(&mut self.seat, list, words);
+        self.seat.owned();
+        let answer = put_by(
+            self.guard.ground(),
+            &mut self.seat,
+            &mut self.cache,
+            &list[..taken],
+        );
         self.part += taken as u64;
         (taken, answer)
     }
@@ -235,12 +223,7 @@ impl GuardWorker {
     pub fn flush(&mut self) -> Put
         ensures { CachedFlushes result self.old self.new }
     {
-        let Some(seat) = self.seat.take() else {
-            unreachable!()
-        };
-        let (answer, seat) = flush_by(self.guard.ground(), seat, &mut self.cache);
-        put_back(&mut self.seat, seat);
-        answer
+        flush_by(self.guard.ground(), &mut self.seat, &mut self.cache)
     }
 
     /// How many changes of the stack are left until its gets and puts are refused `HeadSpent`, as one
@@ -250,12 +233,7 @@ impl GuardWorker {
         ensures cache { self.new.cache ≡ self.old.cache }
         ensures parts { self.new.parts ≡ self.old.parts }
     {
-        let Some(seat) = self.seat.take() else {
-            unreachable!()
-        };
-        let (left, seat) = remaining_by(self.guard.ground(), seat);
-        put_back(&mut self.seat, seat);
-        left
+        remaining_by(self.guard.ground(), &mut self.seat)
     }
 
     /// The number that came with an element that is out, or 0: it isn't out, or is none of the
@@ -273,102 +251,87 @@ impl GuardWorker {
     }
 }
 
-/// Gives a seat back to its place.
-#[inline(always)]
-fn put_back(place: &mut Option<GroundSeat>, seat: GroundSeat)
-    requires empty { place.old ≡ None }
-    ensures { place.new ≡ Some seat }
-{
-    if let Some(other) = place.replace(seat) {
-        other.lose();
-    }
-}
-
 /// A read of the head by this seat, for the changes that are left.
-fn remaining_by(ground: &Ground, seat: GroundSeat) -> (u64, GroundSeat)
-    requires of { IsOf ground.now seat }
-    requires rest { AtRest seat.known.view }
-    requires slots { seat.slots ≡ [] }
-    ensures read { ReadsRemaining seat result.0 result.1 }
-    ensures of { IsOf ground.now result.1 }
-    ensures rest { AtRest result.1.known.view }
-    ensures slots { result.1.slots ≡ [] }
-    ensures part { result.1.known.view.part ≡ seat.known.view.part }
+fn remaining_by(ground: &Ground, seat: &mut GroundSeat) -> u64
+    requires of { IsOf ground.now seat.old }
+    requires rest { AtRest seat.old.known.view }
+    requires slots { seat.old.slots ≡ [] }
+    ensures read { ReadsRemaining seat.old result seat.new }
+    ensures of { IsOf ground.now seat.new }
+    ensures rest { AtRest seat.new.known.view }
+    ensures slots { seat.new.slots ≡ [] }
+    ensures part { seat.new.known.view.part ≡ seat.old.known.view.part }
 {
-    let mut c = WordCommons::new(ground, seat);
-    let left = c.changes_left();
-    (left, c.into_seat())
+    let mut c = LentWords::new(ground, seat);
+    c.changes_left()
 }
 
 /// A get of the cache over this seat.
 #[inline(always)]
 fn get_by(
     ground: &Ground,
-    seat: GroundSeat,
+    seat: &mut GroundSeat,
     cache: &mut Worker,
     out: &mut [u32],
-) -> (Result<(), Refusal>, GroundSeat)
-    requires of { IsOf ground.now seat }
-    requires rest { AtRest seat.known.view }
-    requires slots { seat.slots ≡ [] }
-    requires limits { cache.old.limits ≡ seat.known.limits }
-    ensures calls { Calls DidOnWords side_of seat result.1 (λ calls.
-        Gets cache.old.limits cache.old.cache (length out.old) calls (with_elements result.0 out.new) cache.new.cache) }
-    ensures hand { OnOk result.0 ((i : ℕ) → bag result.1.known.view.hand i + bag cache.old.cache i
-        ≡ bag seat.known.view.hand i + bag cache.new.cache i + bag out.new i) }
-    ensures refused { OnErr result.0 ((side_of result.1 ≡ side_of seat) × (cache.new.cache ≡ cache.old.cache)) }
+) -> Result<(), Refusal>
+    requires of { IsOf ground.now seat.old }
+    requires rest { AtRest seat.old.known.view }
+    requires slots { seat.old.slots ≡ [] }
+    requires limits { cache.old.limits ≡ seat.old.known.limits }
+    ensures calls { Calls DidOnWords side_of seat.old seat.new (λ calls.
+        Gets cache.old.limits cache.old.cache (length out.old) calls (with_elements result out.new) cache.new.cache) }
+    ensures hand { OnOk result ((i : ℕ) → bag seat.new.known.view.hand i + bag cache.old.cache i
+        ≡ bag seat.old.known.view.hand i + bag cache.new.cache i + bag out.new i) }
+    ensures refused { OnErr result ((side_of seat.new ≡ side_of seat.old) × (cache.new.cache ≡ cache.old.cache)) }
     ensures number { KeepsNumber cache.old cache.new }
-    ensures of { IsOf ground.now result.1 }
-    ensures rest { AtRest result.1.known.view }
-    ensures slots { result.1.slots ≡ [] }
-    ensures part { result.1.known.view.part ≡ seat.known.view.part }
+    ensures of { IsOf ground.now seat.new }
+    ensures rest { AtRest seat.new.known.view }
+    ensures slots { seat.new.slots ≡ [] }
+    ensures part { seat.new.known.view.part ≡ seat.old.known.view.part }
 {
-    let mut c = WordCommons::new(ground, seat);
-    let answer = cache.get_bulk(&mut c, out);
-    (answer, c.into_seat())
+    let mut c = LentWords::new(ground, seat);
+    cache.get_bulk(&mut c, out)
 }
 
 /// A put of a list of the hand into the cache over this seat.
 #[inline(always)]
-fn put_by(ground: &Ground, seat: GroundSeat, cache: &mut Worker, list: &[u32]) -> (Put, GroundSeat)
-    requires of { IsOf ground.now seat }
-    requires rest { AtRest seat.known.view }
-    requires slots { seat.slots ≡ [] }
-    requires limits { cache.old.limits ≡ seat.known.limits }
-    requires in_hand { (i : ℕ) → bag cache.old.cache i + bag list.now i ≤ bag seat.known.view.hand i }
-    ensures calls { Calls DidOnWords side_of seat result.1 (λ calls.
-        Puts cache.old.limits cache.old.cache list.now calls result.0 cache.new.cache) }
-    ensures hand { (i : ℕ) → bag result.1.known.view.hand i + bag cache.old.cache i + bag list.now i
-        ≡ bag seat.known.view.hand i + bag cache.new.cache i }
+fn put_by(ground: &Ground, seat: &mut GroundSeat, cache: &mut Worker, list: &[u32]) -> Put
+    requires of { IsOf ground.now seat.old }
+    requires rest { AtRest seat.old.known.view }
+    requires slots { seat.old.slots ≡ [] }
+    requires limits { cache.old.limits ≡ seat.old.known.limits }
+    requires in_hand { (i : ℕ) → bag cache.old.cache i + bag list.now i ≤ bag seat.old.known.view.hand i }
+    ensures calls { Calls DidOnWords side_of seat.old seat.new (λ calls.
+        Puts cache.old.limits cache.old.cache list.now calls result cache.new.cache) }
+    ensures hand { (i : ℕ) → bag seat.new.known.view.hand i + bag cache.old.cache i + bag list.now i
+        ≡ bag seat.old.known.view.hand i + bag cache.new.cache i }
     ensures number { KeepsNumber cache.old cache.new }
-    ensures of { IsOf ground.now result.1 }
-    ensures rest { AtRest result.1.known.view }
-    ensures slots { result.1.slots ≡ [] }
-    ensures part { result.1.known.view.part ≡ seat.known.view.part }
+    ensures of { IsOf ground.now seat.new }
+    ensures rest { AtRest seat.new.known.view }
+    ensures slots { seat.new.slots ≡ [] }
+    ensures part { seat.new.known.view.part ≡ seat.old.known.view.part }
 {
-    let mut c = WordCommons::new(ground, seat);
-    let answer = cache.put_bulk(&mut c, list);
-    (answer, c.into_seat())
+    let mut c = LentWords::new(ground, seat);
+    cache.put_bulk(&mut c, list)
 }
 
 /// A flush of the cache over this seat.
-fn flush_by(ground: &Ground, seat: GroundSeat, cache: &mut Worker) -> (Put, GroundSeat)
-    requires of { IsOf ground.now seat }
-    requires rest { AtRest seat.known.view }
-    requires slots { seat.slots ≡ [] }
-    requires limits { cache.old.limits ≡ seat.known.limits }
-    requires in_hand { (i : ℕ) → bag cache.old.cache i ≤ bag seat.known.view.hand i }
-    ensures calls { Calls DidOnWords side_of seat result.1 (λ calls.
-        Flushes cache.old.cache calls result.0 cache.new.cache) }
-    ensures hand { (i : ℕ) → bag result.1.known.view.hand i + bag cache.old.cache i
-        ≡ bag seat.known.view.hand i + bag cache.new.cache i }
+fn flush_by(ground: &Ground, seat: &mut GroundSeat, cache: &mut Worker) -> Put
+    requires of { IsOf ground.now seat.old }
+    requires rest { AtRest seat.old.known.view }
+    requires slots { seat.old.slots ≡ [] }
+    requires limits { cache.old.limits ≡ seat.old.known.limits }
+    requires in_hand { (i : ℕ) → bag cache.old.cache i ≤ bag seat.old.known.view.hand i }
+    ensures calls { Calls DidOnWords side_of seat.old seat.new (λ calls.
+        Flushes cache.old.cache calls result cache.new.cache) }
+    ensures hand { (i : ℕ) → bag seat.new.known.view.hand i + bag cache.old.cache i
+        ≡ bag seat.old.known.view.hand i + bag cache.new.cache i }
     ensures number { KeepsNumber cache.old cache.new }
-    ensures of { IsOf ground.now result.1 }
-    ensures rest { AtRest result.1.known.view }
-    ensures slots { result.1.slots ≡ [] }
-    ensures part { result.1.known.view.part ≡ seat.known.view.part }
+    ensures of { IsOf ground.now seat.new }
+    ensures rest { AtRest seat.new.known.view }
+    ensures slots { seat.new.slots ≡ [] }
+    ensures part { seat.new.known.view.part ≡ seat.old.known.view.part }
 {
-    let mut c = WordCommons::new(ground, seat);
-    let answer = cache.flush(&mut c);
-    (answer, c.into_seat())
+    let mut c = LentWords::new(ground, seat);
+    cache.flush(&mut c)
 }

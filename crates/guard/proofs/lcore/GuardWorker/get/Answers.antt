@@ -1,70 +1,53 @@
-use Rattle.std.proofs.Common.{◌<◌, length, ap, sym, subst, arith}
-use Rattle.ground.specs.Seats.{Seated}
-use Rattle.guard.specs.Caching.{Cached, Denied}
-use Rattle.guard.specs.Guarding.{Rest}
-use Rattle.guard.specs.Kept.{seat_in}
-use Rattle.guard.proofs.Keeping.{with_cache, taken_out, given_back, of_worker, greater_part, gave_by, denied_by}
+use Rattle.std.proofs.Common.{◌<◌, length, ap, refl, subst, arith}
+use Rattle.guard.specs.Caching.{Cached, Denied, Gave}
 use Rattle.guard.proofs.lcore.GuardWorker.get.Goals as goal
 
+-- the worker has as much of the pool as it has counted
 pub returns-in-Err : goal.returns-in-Err
 returns-in-Err c =
-    let more = greater_part (length c.args.out.now) c.self.inside.part c.self.inside.seat c.self.inside.cache c.self.inside.parts c.args.self.now
-    (omega (arith, c.if-self-n.false)) c.self.invariant.part c.self.view_is in
-    let k = c.self.inside.cache in
-    let m = c.self.inside.parts in
-    let s = c.in-Some.seat in
     let n = length c.args.out.now in
-    let f = c.get_by-answer in (
+    let f = c.get_by-answer in
+    let e = c.in-Err.ensures in
+    let counted = ap (λ (v : Cached). v.seat.known.view.part) c.self.view_is in
+    let more : n < c.args.self.now.seat.known.view.part = omega (arith, c.if-self-n.false, c.self.invariant.part, counted) in
+    let left : Cached = record { seat = f.new.seat; cache = f.new.cache; parts = c.self.inside.parts } in (
       more,
-      of_worker (Denied n c.in-Err.cause) (with_cache s k m) c.args.self.now
-          (with_cache f.result.1 f.new.cache m) (with_cache (seat_in c.put_back.new.place) f.new.cache m)
-          (taken_out c.self.inside.seat s k m c.args.self.now c.in-Some.ensures.value c.self.view_is)
-          (given_back c.put_back.new.place f.result.1 f.new.cache m c.put_back.ensures)
-          (denied_by n f.new.out s f.result.1 k f.new.cache m f.result.0 c.in-Err.cause c.in-Err.is f.ensures.calls f.ensures.refused f.ensures.number),
+      subst (λ (v : Cached). Denied n c.in-Err.cause v left) c.self.view_is
+          (record { calls = e.calls; side = e.refused.0; cache = e.refused.1; number = e.number; parts = refl }),
     )
 
 pub returns-in-Ok : goal.returns-in-Ok
 returns-in-Ok c =
-    let more = greater_part (length c.args.out.now) c.self.inside.part c.self.inside.seat c.self.inside.cache c.self.inside.parts c.args.self.now
-    (omega (arith, c.if-self-n.false)) c.self.invariant.part c.self.view_is in
-    let k = c.self.inside.cache in
-    let m = c.self.inside.parts in
-    let s = c.in-Some.seat in
+    let n = length c.args.out.now in
     let f = c.get_by-answer in
-    let u = f.result.1 in
-    let xs = f.new.out in
-    let gave = gave_by (length c.args.out.now) xs s u k f.new.cache m c.args.self.now f.result.0 c.in_default-answer.field-0
-    (taken_out c.self.inside.seat s k m c.args.self.now c.in-Some.ensures.value c.self.view_is)
-    c.in_default-answer.is f.ensures.calls f.ensures.hand f.ensures.number in (
+    let d = c.in_default.ensures in
+    let counted = ap (λ (v : Cached). v.seat.known.view.part) c.self.view_is in
+    let more : n < c.args.self.now.seat.known.view.part = omega (arith, c.if-self-n.false, c.self.invariant.part, counted) in (
       more,
-      u,
-      gave,
-      subst (λ (v : Seated). Rest xs u v) (ap seat_in (sym c.put_back-in-Ok.ensures)) c.in-Ok.ensures.all,
+      f.new.seat,
+      subst (λ (v : Cached). Gave n f.new.out v f.new.seat f.new.cache) c.self.view_is
+          (record { calls = d.calls; hand = d.hand; number = d.number }),
+      c.in-Ok.ensures.all,
       ap (λ (v : Cached). v.parts) c.self.view_is,
     )
 
 pub returns-in-Err-rest_all : goal.returns-in-Err-rest_all
 returns-in-Err-rest_all c =
-    let more = greater_part (length c.args.out.now) c.self.inside.part c.self.inside.seat c.self.inside.cache c.self.inside.parts c.args.self.now
-    (omega (arith, c.if-self-n.false)) c.self.invariant.part c.self.view_is in
-    let k = c.self.inside.cache in
-    let m = c.self.inside.parts in
-    let s = c.in-Some.seat in
+    let n = length c.args.out.now in
     let f = c.get_by-answer in
-    let u = f.result.1 in
-    let xs = f.new.out in
-    let gave = gave_by (length c.args.out.now) xs s u k f.new.cache m c.args.self.now f.result.0 c.in_default-answer.field-0
-    (taken_out c.self.inside.seat s k m c.args.self.now c.in-Some.ensures.value c.self.view_is)
-    c.in_default-answer.is f.ensures.calls f.ensures.hand f.ensures.number in
+    let d = c.in_default.ensures in
+    let counted = ap (λ (v : Cached). v.seat.known.view.part) c.self.view_is in
+    let more : n < c.args.self.now.seat.known.view.part = omega (arith, c.if-self-n.false, c.self.invariant.part, counted) in
     let left = c.in-Err-rest_all.ensures.some in
-    let fewer : length left.0 < length xs = omega (arith, left.1, left.3) in (
+    let fewer : length left.0 < length f.new.out = omega (arith, left.1, left.3) in (
       more,
-      xs,
+      f.new.out,
       left.0,
-      u,
-      gave,
+      f.new.seat,
+      subst (λ (v : Cached). Gave n f.new.out v f.new.seat f.new.cache) c.self.view_is
+          (record { calls = d.calls; hand = d.hand; number = d.number }),
       left.2,
       fewer,
-      subst (λ (v : Seated). Rest left.0 u v) (ap seat_in (sym c.put_back-in-Err-rest_all.ensures)) left.4,
+      left.4,
       ap (λ (v : Cached). v.parts) c.self.view_is,
     )

@@ -1,4 +1,4 @@
-use Rattle.std.proofs.Common.{refl, sym, ap, ◌∙◌, subst, arith}
+use Rattle.std.proofs.Common.{sym, ap, ◌∙◌, subst, arith}
 use Rattle.commons.specs.Bag.{bag}
 use Rattle.commons.proofs.Bags.{bag-nil}
 use Rattle.ground.specs.Own.{AtRest}
@@ -12,7 +12,6 @@ invariant_of-result c =
     let here = sym seat in
     let cache = c.in_ok-cache.ensures.ok in
     record {
-      there = refl;
       of = subst (λ (s : Seated). IsOf c.in-Ok-new.guard.value s) here
           (subst (λ (g : Grounded). IsOf g c.in-Ok.seat) (sym c.in-Ok-new.ensures.ok) c.in-Ok.ensures.of);
       rest = subst (λ (s : Seated). AtRest s.known.view) here c.into_seat.ensures.rest;
