@@ -14,6 +14,7 @@ use Rattle.serde_json.specs.View.{items_of}
 use Rattle.snapshot.specs.declared.snapshot.ShareData.{ShareData}
 use Rattle.snapshot.specs.declared.snapshot.Snapshot.{Snapshot}
 use Rattle.snapshot_json.specs.SnapshotData.{FitsBase, FitsGuest, FitsPlace, FitsSeg, FitsShare, HasCommon, HasWords, common_data, guest_data, limits_data, place_data, places_data, rule_data, share_data, snapshot_data}
+use Rattle.snapshot_json.specs.Reading.{IsOfPool}
 use Rattle.snapshot_json.specs.Shown.{beside_stack, guest_in, items_at, items_in, limits_at, limits_in, list_of, number32_in, number_in, numbers_at, place_in, rule_from, seg_in, share_in, some_within, with_words, within}
 
 -- a number below the bound is kept
@@ -109,10 +110,11 @@ snapshot_own s fits =
     rw (within-own (2 ^ 32) s.top fits.top, counts_own s.links fits.links) (words_own s s.top s.length s.links fits)
 
 -- the common list shows its elements
-pub list_own : (s : Snapshot) (common : List ℕ) → HasCommon common s → numbers_at (codes "common") (common_data s common) ≡ common
-list_own s common has = counts_own common
-    (λ k d l. let below : get_or common k d < s.limits.population = has.known k d l in
-    omega (arith, below, has.population))
+pub list_own : (s : Snapshot) (common : List ℕ) → IsOfPool s.limits.population common →
+    numbers_at (codes "common") (common_data s common) ≡ common
+list_own s common of_pool = counts_own common
+    (λ k d l. let below : get_or common k d < s.limits.population = of_pool.1 k d l in
+    omega (arith, below, of_pool.0))
 
 -- numbers of any size are shown by their JSON
 plain_own : (ns : List ℕ) → map number_in (items_in (counts_data ns)) ≡ ns

@@ -1,12 +1,9 @@
 -- Data with a list of elements that stands for no words.
-use Rattle.std.proofs.Common.{ℕ, ◌≡◌, ◌<◌, ◌≤◌, List, subst, sym, arith}
-use Rattle.std.specs.Prelude.{All}
+use Rattle.std.proofs.Common.{ℕ, ◌≡◌, ◌≤◌, List, subst, sym, arith}
 use Rattle.commons.specs.Bag.{bag}
-use Rattle.commons.specs.Bounds.{max_population}
 use Rattle.commons.specs.declared.limits.Limits.{Limits}
 use Rattle.snapshot.specs.declared.snapshot.Snapshot.{Snapshot}
-use Rattle.snapshot_json.specs.Doubles.{IsOfPool}
-use Rattle.snapshot_json.specs.Reading.{IsLeastDouble}
+use Rattle.snapshot_json.specs.Reading.{IsLeastDouble, IsNoListData, IsOfPool}
 use Rattle.snapshot_json.specs.Readings.{IsNoCommon}
 use Rattle.snapshot_json.specs.SnapshotData.{common_data}
 use Rattle.snapshot_json.proofs.Doubles.{double-twice}
@@ -14,14 +11,12 @@ use Rattle.snapshot_json.proofs.Own.{limits_same, list_same}
 
 -- where the list isn't one of the pool's elements
 pub refused-elements : (shown : Snapshot) (list : List ℕ) → ¬ (IsOfPool shown.limits.population list) →
-    IsNoCommon (common_data shown list)
-refused-elements shown list not s common fits is has = not (
+    IsNoListData (common_data shown list)
+refused-elements shown list not s common fits is of_pool = not (
     let limits : shown.limits ≡ s.limits = limits_same shown s list common is in
     let same : list ≡ common = list_same shown s list common is in
-    let known : All (λ e. e < s.limits.population) list =
-    subst (λ (xs : List ℕ). All (λ e. e < s.limits.population) xs) (sym same) has.known in
-    subst (λ (l : Limits). (l.population ≤ max_population) × All (λ e. e < l.population) list) (sym limits)
-    (has.population, known)
+    subst (λ (l : Limits). IsOfPool l.population list) (sym limits)
+    (subst (λ (xs : List ℕ). IsOfPool s.limits.population xs) (sym same) of_pool)
     )
 
 -- where an element stands twice in it

@@ -1,13 +1,8 @@
 -- Lists of elements, and elements that stand twice in them. For private clauses.
-use Rattle.std.specs.Prelude.{ℕ, suc, ◌≡◌, ◌<◌, ◌≤◌, List, All, Option, None, Some, nat_le, if◌then◌else◌, length, slice_index, take}
+use Rattle.std.specs.Prelude.{ℕ, suc, ◌≡◌, ◌<◌, ◌≤◌, List, Option, None, Some, nat_le, if◌then◌else◌, length, slice_index, take}
 use Rattle.commons.specs.Bag.{bag}
-use Rattle.commons.specs.Bounds.{max_population}
 use Rattle.snapshot_json.specs.Reading.{IsLeastDouble}
 use Rattle.snapshot_json.specs.declared.stack.Double.{Double}
-
--- there are elements of the population alone, and it is one that a pool can have
-abbrev pub IsOfPool : ℕ → List ℕ → Type 0
-IsOfPool population common = (population ≤ max_population) × All (λ e. e < population) common
 
 -- of the first elements of a list, the least one that stands twice, if one does
 abbrev pub IsLeastOf : List ℕ → ℕ → Option Double → Type 0

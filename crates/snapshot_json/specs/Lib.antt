@@ -4,3 +4,4 @@ pub mod Reading
 pub mod Readings
 pub mod Shown
 pub mod SnapshotData
+pub mod Told

@@ -1,16 +1,17 @@
 -- What a text says of a snapshot, and why it says nothing.
-use Rattle.std.specs.Prelude.{ℕ, ◌≡◌, ◌⊎◌, ◌<◌, ◌≤◌, List, None, Some, IsSomeAnd, IsUtf8, ⊤, codes, length, slice_index}
+use Rattle.std.specs.Prelude.{ℕ, ◌≡◌, ◌⊎◌, ◌<◌, ◌≤◌, List, All, None, Some, IsSomeAnd, IsUtf8, ⊤, codes, length, slice_index}
 use Rattle.json.specs.Json.{document}
 use Rattle.json.specs.Strict.{HasUniqueKeys}
 use Rattle.serde_json.specs.Data.{Data}
 use Rattle.serde_json.specs.Find.{get}
 use Rattle.serde_json.specs.Read.{read}
 use Rattle.commons.specs.Bag.{bag}
+use Rattle.commons.specs.Bounds.{max_population}
 use Rattle.statement_text.specs.StatementData.{counts_data}
 use Rattle.snapshot.specs.declared.snapshot.Snapshot.{Snapshot}
-use Rattle.snapshot_json.specs.SnapshotData.{HasWords, IsSnapshotData}
+use Rattle.snapshot_json.specs.SnapshotData.{HasWords, IsSnapshotData, common_data}
 use Rattle.snapshot_json.specs.declared.fault.SnapshotFault.{SnapshotFault}
-use Rattle.snapshot_json.specs.declared.fault.SnapshotFault.TheVariants.{NotJson, Doubled, TooLong}
+use Rattle.snapshot_json.specs.declared.fault.SnapshotFault.TheVariants.{OutOfMemory, TooLong, NotJson, Wrong, Doubled}
 
 -- the most bytes of a snapshot's text
 abbrev pub max_bytes : ℕ
@@ -49,9 +50,27 @@ abbrev pub HasLeastDouble : Data → ℕ → ℕ → ℕ → Type 0
 HasLeastDouble d elem first second =
     (common : List ℕ) × (get (codes "common") d ≡ Some (counts_data common)) × IsLeastDouble common elem first second
 
+-- the elements of a list are of a pool with this population, which is one that a pool can have
+abbrev pub IsOfPool : ℕ → List ℕ → Type 0
+IsOfPool population common = (population ≤ max_population) × All (λ e. e < population) common
+
+-- A value is the data of no snapshot with its stack as a list of its pool's elements, whether each
+-- stands there once or not.
+abbrev pub IsNoListData : Data → Type 0
+IsNoListData d = (s : Snapshot) (common : List ℕ) → HasWords s → d ≡ common_data s common →
+    ¬ (IsOfPool s.limits.population common)
+
+-- Bytes are, within the bound, a text of JSON in which an object has a key twice, or whose value has
+-- no such list: more is wrong with it than that an element stands twice.
+pub record IsWrongText (bytes : List ℕ) : Type 0 where
+  pub size : length bytes ≤ max_bytes
+  pub utf8 : IsUtf8 bytes
+  pub value : IsSomeAnd (document bytes) (λ j. HasUniqueKeys j → IsSomeAnd (read bytes) IsNoListData)
+
 -- what a fault says beside that there is no snapshot
 abbrev pub IsFaultOf : List ℕ → SnapshotFault → Type 0
-IsFaultOf bytes (NotJson byte) = IsNoJson bytes
+IsFaultOf bytes OutOfMemory = ⊤
 IsFaultOf bytes TooLong = max_bytes < length bytes
+IsFaultOf bytes (NotJson byte) = IsNoJson bytes
+IsFaultOf bytes (Wrong flaw) = IsWrongText bytes
 IsFaultOf bytes (Doubled elem first second) = IsSomeAnd (read bytes) (λ d. HasLeastDouble d elem first second)
-IsFaultOf bytes _ = ⊤

@@ -4,7 +4,7 @@ use Rattle.json.specs.Json.{document}
 use Rattle.json.specs.Strict.{HasUniqueKeys}
 use Rattle.serde_json.specs.Data.{Data}
 use Rattle.snapshot.specs.declared.snapshot.Snapshot.{Snapshot}
-use Rattle.snapshot_json.specs.Reading.{HasLeastDouble, IsNoSnapshotData}
+use Rattle.snapshot_json.specs.Reading.{HasLeastDouble, IsNoListData, IsNoSnapshotData}
 use Rattle.snapshot_json.specs.SnapshotData.{HasCommon, HasWords, IsSnapshotData, common_data, snapshot_data}
 use Rattle.snapshot_json.specs.declared.fault.SnapshotFault.{SnapshotFault}
 use Rattle.snapshot_json.specs.declared.fault.SnapshotFault.TheVariants.{OutOfMemory, TooLong, NotJson, Wrong, Doubled}
@@ -23,13 +23,13 @@ IsNoCommon d = (s : Snapshot) (common : List ℕ) → HasWords s → d ≡ commo
 abbrev pub ReadsCommon : Data → Reading → Type 0
 ReadsCommon d (Whole s) = (common : List ℕ) × (d ≡ common_data s common) × HasCommon common s
 ReadsCommon d (Twice x) = HasLeastDouble d x.elem x.first x.second × IsNoCommon d
-ReadsCommon d Other = IsNoCommon d
+ReadsCommon d Other = IsNoListData d
 
 -- what a value is
 abbrev pub Reads : Data → Reading → Type 0
 Reads d (Whole s) = IsSnapshotData d s
 Reads d (Twice x) = HasLeastDouble d x.elem x.first x.second × IsNoSnapshotData d
-Reads d Other = IsNoSnapshotData d
+Reads d Other = IsNoSnapshotData d × IsNoListData d
 
 -- a fault names a flaw, or says that memory was refused
 abbrev pub IsFlaw : SnapshotFault → Type 0

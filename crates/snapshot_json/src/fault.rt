@@ -1,5 +1,8 @@
 //! What is wrong with a snapshot's text, and where.
 
+ghost use Rattle.std.specs.Prelude.{◌≡◌, [], Some, codes};
+ghost use Rattle.snapshot_json.specs.Told.{cause_text, flaw_text, key_name, path_text, places_text, step_text, told_of};
+
 use crate::MAX_BYTES;
 use std::fmt;
 use std::fmt::InlineText;
@@ -11,7 +14,7 @@ const MOST_STEPS: usize = 6;
 const SHOWN: usize = 32;
 
 /// The key of a member of a snapshot's value.
-#[derive(Clone, Copy, PartialEq, Eq, Debug)]
+#[derive(Clone, Copy)]
 pub enum Key {
     Base,
     Buf,
@@ -41,7 +44,9 @@ pub enum Key {
 
 impl Key {
     /// The key as it stands in a text.
-    pub fn name(self) -> &'static str {
+    pub fn name(self) -> &'static str
+        ensures { result.now ≡ key_name self }
+    {
         match self {
             Key::Base => "base",
             Key::Buf => "buf",
@@ -72,7 +77,7 @@ impl Key {
 }
 
 /// A step from a value to a part of it.
-#[derive(Clone, Copy, PartialEq, Eq, Debug)]
+#[derive(Clone, Copy)]
 pub enum Step {
     /// A member of an object.
     Key(Key),
@@ -81,7 +86,7 @@ pub enum Step {
 }
 
 /// The way from the whole value to a part of it.
-#[derive(Clone, Copy, PartialEq, Eq, Debug)]
+#[derive(Clone, Copy)]
 pub struct Path {
     steps: [Option<Step>; MOST_STEPS],
 }
@@ -107,21 +112,47 @@ impl Path {
     }
 }
 
-impl fmt::Display for Path {
+/// The first step of a path.
+#[derive(Clone, Copy)]
+struct First(Option<Step>);
+
+impl fmt::Display for First {
+    ghost output = { λ it. Some (step_text [] it.0) };
+
     fn fmt<W: fmt::Write>(&self, f: &mut fmt::Formatter<W>) -> fmt::Result {
-        let mut begun = false;
-        for step in self.steps.iter() {
-            match *step {
-                Some(Step::Key(key)) => {
-                    if begun {
-                        f.write_str(".")?;
-                    }
-                    f.write_str(key.name())?;
-                }
-                Some(Step::Item(index)) => write!(f, "[{index}]")?,
-                None => {}
+        match self.0 {
+            Some(Step::Key(key)) => f.write_str(key.name()),
+            Some(Step::Item(index)) => write!(f, "[{index}]"),
+            None => Ok(()),
+        }
+    }
+}
+
+/// A further step, with a point in front of a key.
+#[derive(Clone, Copy)]
+struct Further(Option<Step>);
+
+impl fmt::Display for Further {
+    ghost output = { λ it. Some (step_text (codes ".") it.0) };
+
+    fn fmt<W: fmt::Write>(&self, f: &mut fmt::Formatter<W>) -> fmt::Result {
+        match self.0 {
+            Some(Step::Key(key)) => write!(f, ".{}", key.name()),
+            Some(Step::Item(index)) => write!(f, "[{index}]"),
+            None => Ok(()),
+        }
+    }
+}
+
+impl fmt::Display for Path {
+    ghost output = { λ path. Some (path_text path.steps) };
+
+    fn fmt<W: fmt::Write>(&self, f: &mut fmt::Formatter<W>) -> fmt::Result {
+        if let [first, further @ ..] = &self.steps[..] {
+            f.write(First(*first))?;
+            for step in further {
+                f.write(Further(*step))?;
             }
-            begun = true;
         }
         Ok(())
     }
@@ -168,33 +199,36 @@ pub struct Flaw {
     pub byte: u64,
 }
 
-impl fmt::Display for Flaw {
+impl fmt::Display for Cause {
+    ghost output = { λ cause. Some (cause_text cause) };
+
     fn fmt<W: fmt::Write>(&self, f: &mut fmt::Formatter<W>) -> fmt::Result {
-        let path = self.path;
-        let byte = self.byte;
-        f.write_str("snapshot")?;
-        if path != Path::whole() {
-            write!(f, " {path}")?;
+        match self {
+            Cause::Missing => f.write_str("missing"),
+            Cause::Unknown(key) => write!(f, "unknown member {}", key.as_str()),
+            Cause::Twice => f.write_str("twice"),
+            Cause::NotObject => f.write_str("not an object"),
+            Cause::NotList => f.write_str("not a list"),
+            Cause::NotPlace => f.write_str("not a list or null"),
+            Cause::NotNumber => f.write_str("not a whole number"),
+            Cause::NotBase => f.write_str("not a whole number or null"),
+            Cause::NotFlag => f.write_str("not true or false"),
+            Cause::OutOfRange(high) => write!(f, "out of 0 to {high}"),
+            Cause::NoElement(population) => write!(f, "not below the population, {population}"),
+            Cause::Other => f.write_str("not a snapshot"),
         }
-        f.write_str(": ")?;
-        match self.cause {
-            Cause::Missing => f.write_str("missing")?,
-            Cause::Unknown(key) => {
-                let key = key.as_str();
-                write!(f, "unknown member {key}")?;
-            }
-            Cause::Twice => f.write_str("twice")?,
-            Cause::NotObject => f.write_str("not an object")?,
-            Cause::NotList => f.write_str("not a list")?,
-            Cause::NotPlace => f.write_str("not a list or null")?,
-            Cause::NotNumber => f.write_str("not a whole number")?,
-            Cause::NotBase => f.write_str("not a whole number or null")?,
-            Cause::NotFlag => f.write_str("not true or false")?,
-            Cause::OutOfRange(high) => write!(f, "out of 0 to {high}")?,
-            Cause::NoElement(population) => write!(f, "not below the population, {population}")?,
-            Cause::Other => f.write_str("not a snapshot")?,
+    }
+}
+
+impl fmt::Display for Flaw {
+    ghost output = { λ flaw. Some (flaw_text flaw) };
+
+    fn fmt<W: fmt::Write>(&self, f: &mut fmt::Formatter<W>) -> fmt::Result {
+        let Flaw { path, cause, byte } = *self;
+        match path.steps[0] {
+            Some(_) => write!(f, "snapshot {path}: {cause}, at byte {byte}"),
+            None => write!(f, "snapshot: {cause}, at byte {byte}"),
         }
-        write!(f, ", at byte {byte}")
     }
 }
 
@@ -214,17 +248,35 @@ pub enum SnapshotFault {
     Doubled(u32, u64, u64),
 }
 
+/// Where an element stands twice in the common list.
+#[derive(Clone, Copy)]
+struct Places {
+    first: u64,
+    second: u64,
+}
+
+impl fmt::Display for Places {
+    ghost output = { λ places. Some (places_text places.first places.second) };
+
+    fn fmt<W: fmt::Write>(&self, f: &mut fmt::Formatter<W>) -> fmt::Result {
+        let Places { first, second } = *self;
+        write!(f, " stands at common[{first}] and common[{second}]")
+    }
+}
+
 impl fmt::Display for SnapshotFault {
+    ghost output = { λ fault. Some (told_of fault) };
+
     fn fmt<W: fmt::Write>(&self, f: &mut fmt::Formatter<W>) -> fmt::Result {
         match *self {
             SnapshotFault::OutOfMemory => f.write_str("out of memory"),
             SnapshotFault::TooLong => write!(f, "snapshot: more than {MAX_BYTES} bytes"),
             SnapshotFault::NotJson(byte) => write!(f, "snapshot: not JSON, at byte {byte}"),
             SnapshotFault::Wrong(flaw) => write!(f, "{flaw}"),
-            SnapshotFault::Doubled(elem, first, second) => write!(
-                f,
-                "snapshot common: element {elem} stands at common[{first}] and common[{second}]"
-            ),
+            SnapshotFault::Doubled(elem, first, second) => {
+                let places = Places { first, second };
+                write!(f, "snapshot common: element {elem}{places}")
+            }
         }
     }
 }

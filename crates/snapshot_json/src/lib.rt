@@ -14,7 +14,7 @@ ghost use Rattle.std.specs.Prelude.{◌≡◌, ◌≢◌, ◌++◌, codes, IfErr
 ghost use Rattle.json.specs.Json.{document};
 ghost use Rattle.json.specs.Strict.{HasUniqueKeys};
 ghost use Rattle.serde_json.specs.Read.{read};
-ghost use Rattle.snapshot_json.specs.Reading.{IsFaultOf, IsNoSnapshotText, IsSnapshotText};
+ghost use Rattle.snapshot_json.specs.Reading.{IsFaultOf, IsNoSnapshotText, IsSnapshotText, IsWrongText};
 ghost use Rattle.snapshot_json.specs.Readings.{IsBroken, IsFlaw, IsKeyFault};
 ghost use Rattle.snapshot_json.specs.SnapshotData.{IsSnapshotData, json_of, snapshot_data};
 
@@ -143,7 +143,8 @@ fn byte_of(bytes: &[u8], fault: &Error) -> u64 {
 
 /// What is wrong with a text of JSON.
 fn wrong(alloc: Global, text: &str) -> SnapshotFault
-    ensures { IsFlaw result }
+    ensures flaw { IsFlaw result }
+    ensures told { IsWrongText text.now → IsFaultOf text.now result }
 {
     match flaws::first(alloc, text) {
         Ok(flaw) => SnapshotFault::Wrong(flaw),

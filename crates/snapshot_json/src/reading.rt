@@ -6,7 +6,8 @@ ghost use Rattle.serde_json.specs.Data.{depth};
 ghost use Rattle.serde_json.specs.Read.{max_depth};
 ghost use Rattle.serde_json.specs.View.{view};
 ghost use Rattle.serde_json.specs.Written.{has_float};
-ghost use Rattle.snapshot_json.specs.Readings.{IsNoCommon, IsNoWords, Reads, ReadsCommon};
+ghost use Rattle.snapshot_json.specs.Reading.{IsNoListData};
+ghost use Rattle.snapshot_json.specs.Readings.{IsNoWords, Reads, ReadsCommon};
 ghost use Rattle.snapshot_json.specs.SnapshotData.{common_data, snapshot_data};
 
 use crate::parts::{self, Stack};
@@ -96,7 +97,7 @@ pub(crate) struct Listed {
 /// The snapshot whose data a value is, with its stack as a list.
 fn list_form(alloc: Global, value: &Value) -> Result<Option<Listed>, AllocError>
     requires low { depth (view value.now) ≤ max_depth }
-    ensures { IfOk result (λ found. MatchOption found (IsNoCommon (view value.now))
+    ensures { IfOk result (λ found. MatchOption found (IsNoListData (view value.now))
         (λ l. view value.now ≡ common_data l.shown l.common.items)) }
 {
     let common = parts::numbers(alloc, value, "common")?;

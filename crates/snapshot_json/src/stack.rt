@@ -3,7 +3,8 @@
 ghost use Rattle.std.specs.Prelude.{◌≡◌, ℕ, ◌<◌, ◌≤◌, ◌↔◌, All, IfOk, IsTrue, length, replicate};
 ghost use Rattle.commons.specs.Bag.{bag};
 ghost use Rattle.commons.specs.Bounds.{max_population};
-ghost use Rattle.snapshot_json.specs.Doubles.{IsLeastOf, IsOfPool, lesser_of};
+ghost use Rattle.snapshot_json.specs.Doubles.{IsLeastOf, lesser_of};
+ghost use Rattle.snapshot_json.specs.Reading.{IsOfPool};
 ghost use Rattle.snapshot_json.specs.SnapshotData.{links_of, top_of};
 
 use commons::limits::MAX_POPULATION;

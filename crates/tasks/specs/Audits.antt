@@ -78,9 +78,9 @@ IsFailureIn s (Audited line) = IsFirstLine s line.items
 IsFailureIn s (Fault refusal) = IsRefusalIn s refusal
 IsFailureIn s _ = ⊥
 
--- this fault of a reading is reported: by a line, or memory was refused
+-- this fault of a reading is reported: as itself, or memory was refused
 abbrev pub IsMisread : SnapshotFault → Failure → Type 0
-IsMisread fault (Misread told text) = (told ≡ fault) × (fault ≢ reads.OutOfMemory)
+IsMisread fault (Misread told) = (told ≡ fault) × (fault ≢ reads.OutOfMemory)
 IsMisread fault failure = failure ≡ Fault refusals.OutOfMemory
 
 -- the failure that came of bytes which are a snapshot's
@@ -91,7 +91,7 @@ pub record FailsSnapshot (bytes : List ℕ) (failure : Failure) : Type 0 where
 
 -- that of bytes which aren't, or of memory that was refused for their reading
 abbrev pub FailsBytes : List ℕ → Failure → Type 0
-FailsBytes bytes (Misread fault text) = IsNoSnapshotText bytes × IsFaultOf bytes fault
+FailsBytes bytes (Misread fault) = IsNoSnapshotText bytes × IsFaultOf bytes fault
 FailsBytes bytes failure = failure ≡ Fault refusals.OutOfMemory
 
 -- the failure that came of the audit of bytes

@@ -1,11 +1,12 @@
 -- What the program says of a failure.
-use Rattle.std.specs.Prelude.{◌≡◌, ℕ, List, [], ◌++◌, codes, decimal, string_bytes}
+use Rattle.std.specs.Prelude.{◌≡◌, ℕ, List, [], ◌++◌, codes, decimal}
 use Rattle.commons.specs.declared.refusal.Refusal.{Refusal}
 use Rattle.commons.specs.declared.refusal.Refusal.TheVariants.{MissingShare, ScriptFault}
 use Rattle.commons.specs.declared.refusal.Refusal.TheVariants as refusals
 use Rattle.commons.specs.Refusals.{name_of, number_of}
 use Rattle.script_io.specs.declared.reading.ReadFault.{ReadFault}
 use Rattle.script_io.specs.declared.reading.ReadFault.TheVariants.{Device, Memory}
+use Rattle.snapshot_json.specs.Told.{told_of}
 use Rattle.tasks.specs.declared.failures.Failure.{Failure}
 use Rattle.tasks.specs.declared.failures.Failure.TheVariants.{Unreadable, Fault, Misread, Audited}
 
@@ -40,5 +41,5 @@ fault_text refusal =
 abbrev pub line_of : Failure → List ℕ
 line_of (Unreadable file) = codes "cannot read " ++ file.now ++ codes "\n"
 line_of (Fault refusal) = fault_text refusal ++ codes "\n"
-line_of (Misread fault text) = string_bytes text ++ codes "\n"
+line_of (Misread fault) = told_of fault ++ codes "\n"
 line_of (Audited line) = line.items ++ codes "\n"

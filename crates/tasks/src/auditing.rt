@@ -63,21 +63,18 @@ pub(crate) fn audited<'a>(alloc: Global, bytes: &[u8]) -> Result<Placed, Failure
 {
     match read_snapshot(alloc, bytes) {
         Ok(snapshot) => of_snapshot(alloc, &snapshot),
-        Err(fault) => Err(misread(alloc, fault)),
+        Err(fault) => Err(misread(fault)),
     }
 }
 
 /// What is reported of bytes that are no snapshot's.
-fn misread<'a>(alloc: Global, fault: SnapshotFault) -> Failure<'a>
+fn misread<'a>(fault: SnapshotFault) -> Failure<'a>
     ensures { IsMisread fault result }
 {
     if let SnapshotFault::OutOfMemory = fault {
         return Failure::Fault(Refusal::OutOfMemory);
     }
-    match format!(in alloc; "{fault}") {
-        Ok(text) => Failure::Misread(fault, text),
-        Err(_) => Failure::Fault(Refusal::OutOfMemory),
-    }
+    Failure::Misread(fault)
 }
 
 /// The audit of a snapshot.

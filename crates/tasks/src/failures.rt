@@ -17,8 +17,8 @@ pub enum Failure<'a> {
     Unreadable(&'a str),
     /// The script has a fault, a snapshot isn't one of a pool, or memory was refused.
     Fault(Refusal),
-    /// The bytes are no snapshot's, and this is said of that.
-    Misread(SnapshotFault, String),
+    /// The bytes are no snapshot's, and this is why.
+    Misread(SnapshotFault),
     /// The snapshot has a fault, and this is its line.
     Audited(Vec<u8>),
 }
@@ -60,7 +60,7 @@ pub fn tell<E: Write>(errors: &mut E, failure: &Failure<'_>) -> io::Result<()>
     match failure {
         Failure::Unreadable(file) => writeln!(errors, "cannot read {file}"),
         Failure::Fault(refusal) => writeln!(errors, "{}", FaultLine(*refusal)),
-        Failure::Misread(_, text) => writeln!(errors, "{text}"),
+        Failure::Misread(fault) => writeln!(errors, "{fault}"),
         Failure::Audited(line) => {
             errors.write_all(line.as_slice())?;
             writeln!(errors)
@@ -115,7 +115,7 @@ fn before(failure: &Failure<'_>) -> &'static [u8]
     match failure {
         Failure::Unreadable(_) => b"",
         Failure::Fault(refusal) => before_refusal(*refusal),
-        Failure::Misread(_, _) => b"since: ",
+        Failure::Misread(_) => b"since: ",
         Failure::Audited(_) => b"since: ",
     }
 }

@@ -1,8 +1,8 @@
 use Rattle.std.proofs.Common.{◌≤◌, ℕ, List, Option, None, Some, true≢false, length, ap, subst, sym, refl, ◌∙◌, arith}
 use Rattle.std.proofs.Math.Seq.{take-length}
 use Rattle.commons.specs.Bag.{bag}
-use Rattle.snapshot_json.specs.Doubles.{IsLeastOf, IsOfPool}
-use Rattle.snapshot_json.specs.Reading.{IsLeastDouble}
+use Rattle.snapshot_json.specs.Doubles.{IsLeastOf}
+use Rattle.snapshot_json.specs.Reading.{IsLeastDouble, IsOfPool}
 use Rattle.snapshot_json.specs.SnapshotData.{links_of, top_of}
 use Rattle.snapshot_json.specs.declared.stack.Double.{Double}
 use Rattle.snapshot_json.proofs.Doubles.{least-whole}
