@@ -1,6 +1,7 @@
 pub mod Guarded
 pub mod Kept
 pub mod Owned
+pub mod OwnSeated
 pub mod Stacks
 pub mod Statuses
 pub mod Segments

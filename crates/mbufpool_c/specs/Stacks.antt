@@ -10,13 +10,16 @@ use Rattle.commons.specs.Refusals.{number_of}
 use Rattle.ground.specs.Opening.{IsGroundCause}
 use Rattle.ground.specs.Parting.{IsBoth, less_part, newcomer}
 use Rattle.ground.specs.Seats.{Seated}
-use Rattle.lending.specs.Lending.{GetsLoans, IsSplitCause, PutsLoans, lent_list}
+use Rattle.guard.specs.Guarding.{IsSplitCause}
+use Rattle.guard.specs.declared.cause.Cause as guarded
+use Rattle.lending.specs.Lending.{GetsLoans, PutsLoans, lent_list}
 use Rattle.lending.specs.declared.cause.Cause.{Cause}
 use Rattle.lending.specs.declared.cause.Cause.TheVariants.{Refused, LentOut}
 use Rattle.lending.specs.declared.loans.Loans.{Loans}
 use Rattle.stack_lf.specs.Remaining.{ReadsRemaining}
 use Rattle.stack_lf.specs.Sides.{side_of}
 use Rattle.stack_lf.specs.Tries.{DidOnWords}
+use Rattle.mbufpool_c.specs.OwnSeated.{OwnSeated, less_seat}
 
 -- each element of the list is among the loans, and no two loans are of one
 abbrev pub AreLent : Option Seated → Loans → List ℕ → Type 0
@@ -100,35 +103,39 @@ abbrev pub RemainsIn : Option Seated → ℕ → Option Seated → Type 0
 RemainsIn None left new = (left ≡ 0) × (new ≡ None)
 RemainsIn (Some s) left new = (t : Seated) × ReadsRemaining s left t × (new ≡ Some t)
 
--- the seat of the first handle gave a worker's part to a new seat at its words, which is in the
--- second
-abbrev pub Splits : Option Seated → Option Seated → Option Seated → Type 0
+-- The seat of the first handle, of which two at least could be made, gave a worker's part to a new
+-- seat at its words, which is in the second, and of which no other can be made.
+abbrev pub Splits : Option OwnSeated → Option OwnSeated → Option OwnSeated → Type 0
 Splits None new out = ⊥
 Splits (Some s) new out =
-    (new ≡ Some (record s { known = less_part s.known }))
-    × ((other : Seated) × (out ≡ Some other) × (other.table ≡ s.table) × (other.known ≡ newcomer s.known))
+    (2 ≤ s.parts) × (new ≡ Some (less_seat s))
+    × ((other : OwnSeated) × (out ≡ Some other) × (other.seat.table ≡ s.seat.table)
+    × (other.seat.known ≡ newcomer s.seat.known) × (other.parts ≡ 1))
+
+-- a seat's cause, as a worker of a guarded pool has it, which is split by the same rule
+abbrev pub as_guarded : Cause → guarded.Cause
+as_guarded (Refused cause) = guarded.TheVariants.Refused cause
+as_guarded LentOut = guarded.TheVariants.LentOut
 
 -- Why no seat is made, by the number that C has: the first handle has no seat, or the seat isn't
 -- split.
-abbrev pub RefusesSplit : ℕ → Option Seated → Type 0
+abbrev pub RefusesSplit : ℕ → Option OwnSeated → Type 0
 RefusesSplit status None = status ≡ number_of StrangerShare
 RefusesSplit status (Some s) =
-    (cause : Cause) × (status ≡ number_of_cause cause) × IsSplitCause s.known.view.part cause
+    (cause : Cause) × (status ≡ number_of_cause cause)
+    × IsSplitCause s.parts s.seat.known.view.part (as_guarded cause)
 
--- The seat has back the part that it gave: it names what it named, and has forgotten what it had
--- read of the common list.
-abbrev pub HasBack : Seated → Seated → Type 0
-HasBack s t = IsBoth (record s { known = less_part s.known }) (newcomer s.known) t
+-- The seat has back the part that it gave: as many seats can be made of it as before, it names what
+-- it named, and it has forgotten what it had read of the common list.
+abbrev pub HasBack : OwnSeated → OwnSeated → Type 0
+HasBack s t =
+    IsBoth (record s.seat { known = less_part s.seat.known }) (newcomer s.seat.known) t.seat
+    × (t.parts ≡ s.parts)
 
 -- Where no seat is made the first is as it was; or memory was refused for the second, and the first
 -- has its part back.
-abbrev pub KeepsSeat : ℕ → Option Seated → Option Seated → Type 0
+abbrev pub KeepsSeat : ℕ → Option OwnSeated → Option OwnSeated → Type 0
 KeepsSeat status None new = new ≡ None
 KeepsSeat status (Some s) new =
-    (new ≡ Some s) ⊎ ((status ≡ number_of OutOfMemory) × ((t : Seated) × (new ≡ Some t) × HasBack s t))
-
--- the same where that part is gone then
-abbrev pub KeepsSeatOrPart : ℕ → Option Seated → Option Seated → Type 0
-KeepsSeatOrPart status None new = new ≡ None
-KeepsSeatOrPart status (Some s) new =
-    (new ≡ Some s) ⊎ ((status ≡ number_of OutOfMemory) × (new ≡ Some (record s { known = less_part s.known })))
+    (new ≡ Some s)
+    ⊎ ((status ≡ number_of OutOfMemory) × ((t : OwnSeated) × (new ≡ Some t) × HasBack s t))

@@ -32,9 +32,9 @@ impl Model for CheckedSeat {
 
     ghost Value = { Seated };
 
-    ghost view = { λ s. s.own };
+    ghost view = { λ s. s.own.seat };
 
-    ghost invariant = { λ s. IsMarked s.own s.marks.items };
+    ghost invariant = { λ s. IsMarked s.own.seat s.marks.items };
 }
 
 impl CheckedSeat {

@@ -2,7 +2,7 @@
 
 ghost use Rattle.std.specs.Prelude.{Option};
 ghost use Rattle.std.specs.Coded.{coded_option};
-ghost use Rattle.ground.specs.Seats.{Seated};
+ghost use Rattle.mbufpool_c.specs.OwnSeated.{OwnSeated};
 ghost use Rattle.mbufpool_c.specs.contracts.seats.OwnSeat.{the_row};
 
 use crate::loose::Loose;
@@ -17,7 +17,7 @@ use std::ptr::null_mut;
 pub struct SeatHandle {
     at: *mut u8,
     alloc: Global,
-    pub ghost value: { Option Seated } by { coded_option the_row.coded },
+    pub ghost value: { Option OwnSeated } by { coded_option the_row.coded },
 }
 
 impl Model for SeatHandle {

@@ -15,7 +15,7 @@ use lending::loans::Loans;
 pub struct SeatWithLoans {
     pub handle: SeatHandle,
     pub loans: Loans,
-    pub ghost of: { IfSome handle.value (λ s. AreAt s loans) } by { Prim.hlevel props },
+    pub ghost of: { IfSome handle.value (λ s. AreAt s.seat loans) } by { Prim.hlevel props },
 }
 
 impl SeatWithLoans {
@@ -25,7 +25,10 @@ impl SeatWithLoans {
     /// Puts a seat into the handle, with no loans. One that was there is lost.
     pub(crate) fn fill(&mut self, seat: Box<OwnSeat>)
         ensures seat { self.new.handle.value ≡ Some seat.value }
-        ensures loans { self.new.loans ≡ none_of (record { table = seat.value.table; limits = seat.value.known.limits }) }
+        ensures loans { self.new.loans ≡ none_of (record {
+          table = seat.value.seat.table;
+          limits = seat.value.seat.known.limits;
+        }) }
     {
         self.loans = seat.no_loans();
         self.handle.put(seat);

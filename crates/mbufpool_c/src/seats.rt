@@ -1,19 +1,22 @@
 //! A seat with the words that it is at.
 
-ghost use Rattle.std.specs.Prelude.{◌≡◌, ◌+◌, ◌^◌, ◌<◌, ◌≤◌, length, ℕ, IfOk, IfErr};
+ghost use Rattle.std.specs.Prelude.{◌≡◌, ◌+◌, ◌-◌, ◌^◌, ◌<◌, ◌≤◌, length, min, ℕ, IfOk, IfErr};
 ghost use Rattle.commons.specs.Bag.{bag};
 ghost use Rattle.commons.specs.Calls.{Did, GetList, PutList, CommonCount, with_list as with_elements};
 ghost use Rattle.ground.specs.Opening.{IsGroundCause};
 ghost use Rattle.ground.specs.Own.{Owned};
-ghost use Rattle.ground.specs.Parting.{IsBoth, less_part, newcomer};
+ghost use Rattle.ground.specs.Parting.{IsBoth, newcomer};
 ghost use Rattle.ground.specs.Rule.{first_known};
 ghost use Rattle.ground.specs.Seats.{IsOf};
-ghost use Rattle.lending.specs.Lending.{GetsLoans, IsSplitCause, PutsLoans, lent_list};
+ghost use Rattle.guard.specs.Guarding.{IsSplitCause};
+ghost use Rattle.lending.specs.Lending.{GetsLoans, PutsLoans, lent_list};
 ghost use Rattle.lending.specs.Pools.{AreAt, AreOf, none_of};
 ghost use Rattle.stack_lf.specs.Remaining.{ReadsRemaining};
 ghost use Rattle.stack_lf.specs.Sides.{side_of};
 ghost use Rattle.step_core.specs.World.{worker_part};
 ghost use Rattle.stack_lf.specs.Tries.{DidOnWords};
+ghost use Rattle.mbufpool_c.specs.OwnSeated.{less_seat};
+ghost use Rattle.mbufpool_c.specs.Stacks.{as_guarded};
 
 use commons::limits::Limits;
 use commons::refusal::Refusal;
@@ -37,9 +40,9 @@ pub struct OwnSeat {
 }
 
 impl Model for OwnSeat {
-    ghost use Rattle.ground.specs.Seats.{Seated};
+    ghost use Rattle.mbufpool_c.specs.OwnSeated.{OwnSeated};
 
-    ghost Value = { Seated };
+    ghost Value = { OwnSeated };
 
     ghost use Rattle.mbufpool_c.specs.Kept.{seated_of, IsKept};
 
@@ -66,7 +69,8 @@ impl OwnSeat {
     /// Refused `BadPool` where the limits are out of range, and `OutOfMemory` where memory was
     /// refused.
     pub fn open(alloc: Global, limits: &Limits) -> Result<OwnSeat, Refusal>
-        ensures known { IfOk result (λ seat. seat.known ≡ first_known limits.now) }
+        ensures known { IfOk result (λ own. own.seat.known ≡ first_known limits.now) }
+        ensures parts { IfOk result (λ own. own.parts ≡ limits.now.workers) }
         ensures cause { IfErr result (IsGroundCause limits.now) }
     {
         let (ground, seat) = Ground::make(alloc, limits)?;
@@ -90,12 +94,16 @@ impl OwnSeat {
     /// seat's part is lent, and `OutOfMemory` where there are too many owners. This seat is as
     /// before then.
     pub fn split(&mut self) -> Result<OwnSeat, Cause>
-        ensures left { IfOk result (λ _. self.new ≡ record self.old { known = less_part self.old.known }) }
-        ensures made { IfOk result (λ other. (other.table ≡ self.old.table) × (other.known ≡ newcomer self.old.known)) }
+        ensures left { IfOk result (λ _. self.new ≡ less_seat self.old) }
+        ensures more { IfOk result (λ other. (2 ≤ self.old.parts) × (self.old.parts < 2 ^ 32)
+            × (other.parts ≡ 1)) }
+        ensures made { IfOk result (λ other. (other.seat.table ≡ self.old.seat.table)
+            × (other.seat.known ≡ newcomer self.old.seat.known)) }
         ensures kept { IfErr result (λ _. self.new ≡ self.old) }
-        ensures part { IfOk result (λ _. (worker_part < self.old.known.view.part)
-            × (self.old.known.view.part < 2 ^ 64)) }
-        ensures cause { IfErr result (IsSplitCause self.old.known.view.part) }
+        ensures part { IfOk result (λ _. (worker_part < self.old.seat.known.view.part)
+            × (self.old.seat.known.view.part < 2 ^ 64)) }
+        ensures cause { IfErr result (λ cause.
+            IsSplitCause self.old.parts self.old.seat.known.view.part (as_guarded cause)) }
     {
         if self.parts < 2 {
             return Err(Cause::Refused(Refusal::StrangerShare));
@@ -119,12 +127,14 @@ impl OwnSeat {
         })
     }
 
-    /// Takes a seat back that was split off this one, with its part.
+    /// Takes a seat back that was split off this one, with its part. As many seats can be made of
+    /// this one then as of both.
     pub fn rejoin(&mut self, other: OwnSeat)
-        requires table { other.table ≡ self.old.table }
-        requires limits { other.known.limits ≡ self.old.known.limits }
-        requires part { self.old.known.view.part + other.known.view.part < 2 ^ 64 }
-        ensures { IsBoth self.old other.known self.new }
+        requires table { other.seat.table ≡ self.old.seat.table }
+        requires limits { other.seat.known.limits ≡ self.old.seat.known.limits }
+        requires part { self.old.seat.known.view.part + other.seat.known.view.part < 2 ^ 64 }
+        ensures both { IsBoth self.old.seat other.seat.known self.new.seat }
+        ensures parts { self.new.parts ≡ min (self.old.parts + other.parts) (2 ^ 32 - 1) }
     {
         let OwnSeat {
             ground,
@@ -140,14 +150,17 @@ impl OwnSeat {
 
     /// The seat's part of the pool.
     fn part(&self) -> u64
-        ensures { result ≡ self.now.known.view.part }
+        ensures { result ≡ self.now.seat.known.view.part }
     {
         self.lender.part()
     }
 
     /// No loans, of the seat's pool.
     pub fn no_loans(&self) -> Loans
-        ensures { result ≡ none_of (record { table = self.now.table; limits = self.now.known.limits }) }
+        ensures { result ≡ none_of (record {
+          table = self.now.seat.table;
+          limits = self.now.seat.known.limits;
+        }) }
     {
         self.lender.no_loans()
     }
@@ -157,7 +170,9 @@ impl OwnSeat {
     #[inline(always)]
     pub fn get(&mut self, out: &mut [u32]) -> Result<(), Refusal>
         requires { 0 < length out.old }
-        ensures { Did DidOnWords side_of self.old (GetList (length out.old) (with_elements result out.new)) self.new }
+        ensures did { Did DidOnWords side_of self.old.seat
+            (GetList (length out.old) (with_elements result out.new)) self.new.seat }
+        ensures parts { self.new.parts ≡ self.old.parts }
     {
         let (answer, _) = replace_with(&mut self.lender, out, |lender, out| {
             let (answer, lender) = lender.get_own(&self.ground, out);
@@ -170,8 +185,9 @@ impl OwnSeat {
     #[inline(always)]
     pub fn put(&mut self, list: &[u32]) -> Result<(), Refusal>
         requires some { 0 < length list.now }
-        requires in_hand { (i : ℕ) → bag list.now i ≤ (side_of self.old).hand i }
-        ensures { Did DidOnWords side_of self.old (PutList list.now result) self.new }
+        requires in_hand { (i : ℕ) → bag list.now i ≤ (side_of self.old.seat).hand i }
+        ensures did { Did DidOnWords side_of self.old.seat (PutList list.now result) self.new.seat }
+        ensures parts { self.new.parts ≡ self.old.parts }
     {
         replace_with(&mut self.lender, (), |lender, _| {
             let (answer, lender) = lender.put_own(&self.ground, list);
@@ -186,8 +202,10 @@ impl OwnSeat {
     #[inline(always)]
     pub fn get_lent(&mut self, out: &mut [u32], loans: &mut Loans) -> Result<(), Cause>
         requires some { 0 < length out.old }
-        requires loans { AreAt self.old loans.old }
-        ensures { GetsLoans (length out.old) (lent_list result out.new) self.old loans.old self.new loans.new }
+        requires loans { AreAt self.old.seat loans.old }
+        ensures done { GetsLoans (length out.old) (lent_list result out.new) self.old.seat loans.old
+            self.new.seat loans.new }
+        ensures parts { self.new.parts ≡ self.old.parts }
     {
         let (answer, _, _) = lend_for(&self.ground, &mut self.lender, out, loans);
         answer
@@ -198,9 +216,10 @@ impl OwnSeat {
     #[inline(always)]
     pub fn put_lent(&mut self, list: &[u32], loans: &mut Loans) -> Result<(), Refusal>
         requires some { 0 < length list.now }
-        requires loans { AreAt self.old loans.old }
+        requires loans { AreAt self.old.seat loans.old }
         requires lent { (i : ℕ) → bag list.now i ≤ bag loans.old.lent i }
-        ensures done { PutsLoans list.now result self.old loans.old self.new loans.new }
+        ensures done { PutsLoans list.now result self.old.seat loans.old self.new.seat loans.new }
+        ensures parts { self.new.parts ≡ self.old.parts }
         ensures once { (i : ℕ) → bag list.now i ≤ 1 }
     {
         let (answer, _) = replace_with(&mut self.lender, loans, |lender, loans| {
@@ -212,14 +231,15 @@ impl OwnSeat {
 
     /// What is true of the seat's view by itself.
     pub fn owned(&self)
-        ensures { Owned self.now.known.limits self.now.known.view }
+        ensures { Owned self.now.seat.known.limits self.now.seat.known.view }
     {
         self.lender.owned()
     }
 
     /// The length word of the stack.
     pub fn count(&mut self) -> u32
-        ensures { Did DidOnWords side_of self.old (CommonCount result) self.new }
+        ensures did { Did DidOnWords side_of self.old.seat (CommonCount result) self.new.seat }
+        ensures parts { self.new.parts ≡ self.old.parts }
     {
         replace_with(&mut self.lender, (), |lender, _| {
             let (count, lender) = lender.count(&self.ground);
@@ -229,7 +249,8 @@ impl OwnSeat {
 
     /// How many changes of the stack are left.
     pub fn changes_left(&mut self) -> u64
-        ensures { ReadsRemaining self.old result self.new }
+        ensures read { ReadsRemaining self.old.seat result self.new.seat }
+        ensures parts { self.new.parts ≡ self.old.parts }
     {
         replace_with(&mut self.lender, (), |lender, _| {
             let (left, lender) = lender.changes_left(&self.ground);

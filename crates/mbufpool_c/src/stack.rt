@@ -1,14 +1,14 @@
 //! The bare stack for C: pools of elements without packets.
 
-ghost use Rattle.std.specs.Prelude.{◌≡◌, ◌≢◌, ◌⊎◌, ◌<◌, None, Some, length, IfOk, IfErr};
+ghost use Rattle.std.specs.Prelude.{◌≡◌, ◌≢◌, ◌⊎◌, ◌<◌, ◌≤◌, None, Some, length, IfOk, IfErr};
 ghost use Rattle.commons.specs.Bounds.{IsPool};
 ghost use Rattle.commons.specs.Refusals.{number_of};
 ghost use Rattle.ground.specs.Opening.{IsGroundCause};
-ghost use Rattle.ground.specs.Parting.{less_part, newcomer};
+ghost use Rattle.ground.specs.Parting.{newcomer};
 ghost use Rattle.ground.specs.Rule.{first_known};
-ghost use Rattle.ground.specs.Seats.{Seated};
-ghost use Rattle.lending.specs.Lending.{IsSplitCause};
-ghost use Rattle.mbufpool_c.specs.Stacks.{AreLent, GetsIn, HasBack, KeepsSeat, PutsIn, CountsIn, RefusesSplit, RefusesStack, RemainsIn, Splits, number_of_cause, stack_limits, stack_limits_at, status_of_put as status_in, status_of_get as status_in_get};
+ghost use Rattle.guard.specs.Guarding.{IsSplitCause};
+ghost use Rattle.mbufpool_c.specs.OwnSeated.{OwnSeated, less_seat, parts_in, seat_in};
+ghost use Rattle.mbufpool_c.specs.Stacks.{AreLent, GetsIn, HasBack, KeepsSeat, PutsIn, CountsIn, RefusesSplit, RefusesStack, RemainsIn, Splits, as_guarded, number_of_cause, stack_limits, stack_limits_at, status_of_put as status_in, status_of_get as status_in_get};
 
 use crate::seat_with_loans::SeatWithLoans;
 use crate::seats::OwnSeat;
@@ -72,7 +72,8 @@ pub(crate) fn stack_of(population: u32, seats: u32, tries: u32, start: u64) -> L
 
 /// A pool of these limits, with one seat, of which others are made.
 fn opened(alloc: Global, limits: &Limits) -> Result<Box<OwnSeat>, Refusal>
-    ensures known { IfOk result (λ own. own.value.known ≡ first_known limits.now) }
+    ensures known { IfOk result (λ own. own.value.seat.known ≡ first_known limits.now) }
+    ensures parts { IfOk result (λ own. own.value.parts ≡ limits.now.workers) }
     ensures cause { IfErr result (IsGroundCause limits.now) }
 {
     let seat = OwnSeat::open(alloc, limits)?;
@@ -92,8 +93,9 @@ pub extern "C" fn mbufpool_seat_open(
     tries: u32,
     out: &mut SeatWithLoans,
 ) -> u32
-    ensures opened { result ≡ 0 → (s : Seated) × (out.new.handle.value ≡ Some s)
-        × (s.known ≡ first_known (stack_limits population seats tries)) }
+    ensures opened { result ≡ 0 → (s : OwnSeated) × (out.new.handle.value ≡ Some s)
+        × (s.seat.known ≡ first_known (stack_limits population seats tries))
+        × (s.parts ≡ seats) }
     ensures kept { result ≢ 0 → out.new ≡ out.old }
     ensures cause { result ≢ 0 → RefusesStack (stack_limits population seats tries) result }
 {
@@ -112,8 +114,9 @@ pub extern "C" fn mbufpool_seat_open_at(
     start: u64,
     out: &mut SeatWithLoans,
 ) -> u32
-    ensures opened { result ≡ 0 → (s : Seated) × (out.new.handle.value ≡ Some s)
-        × (s.known ≡ first_known (stack_limits_at population seats tries start)) }
+    ensures opened { result ≡ 0 → (s : OwnSeated) × (out.new.handle.value ≡ Some s)
+        × (s.seat.known ≡ first_known (stack_limits_at population seats tries start))
+        × (s.parts ≡ seats) }
     ensures kept { result ≢ 0 → out.new ≡ out.old }
     ensures cause { result ≢ 0 → RefusesStack (stack_limits_at population seats tries start) result }
 {
@@ -162,12 +165,14 @@ pub extern "C" fn mbufpool_seat_split(
 
 /// One more seat, on the heap; the first has its part back where memory is refused.
 fn split(alloc: Global, own: &mut OwnSeat) -> Result<Box<OwnSeat>, Cause>
-    ensures left { IfOk result (λ _. own.new ≡ record own.old { known = less_part own.old.known }) }
-    ensures made { IfOk result (λ other.
-        (other.value.table ≡ own.old.table) × (other.value.known ≡ newcomer own.old.known)) }
+    ensures left { IfOk result (λ _. own.new ≡ less_seat own.old) }
+    ensures more { IfOk result (λ other. (2 ≤ own.old.parts) × (other.value.parts ≡ 1)) }
+    ensures made { IfOk result (λ other. (other.value.seat.table ≡ own.old.seat.table)
+        × (other.value.seat.known ≡ newcomer own.old.seat.known)) }
     ensures kept { IfErr result (λ cause. (own.new ≡ own.old)
         ⊎ ((cause ≡ Cause.Refused Refusal.OutOfMemory) × HasBack own.old own.new)) }
-    ensures cause { IfErr result (IsSplitCause own.old.known.view.part) }
+    ensures cause { IfErr result (λ cause.
+        IsSplitCause own.old.parts own.old.seat.known.view.part (as_guarded cause)) }
 {
     let other = own.split()?;
     match Box::new(alloc, other) {
@@ -183,7 +188,9 @@ fn split(alloc: Global, own: &mut OwnSeat) -> Result<Box<OwnSeat>, Cause>
 #[inline(always)]
 fn get_some(alloc: Global, seat: &mut SeatWithLoans, out: &mut [u32]) -> u32
     requires { 0 < length out.old }
-    ensures { GetsIn (length out.old) out.new seat.old.handle.value seat.old.loans result seat.new.handle.value seat.new.loans }
+    ensures called { GetsIn (length out.old) out.new (seat_in seat.old.handle.value) seat.old.loans
+        result (seat_in seat.new.handle.value) seat.new.loans }
+    ensures parts { parts_in seat.new.handle.value ≡ parts_in seat.old.handle.value }
 {
     match seat.handle.take(alloc) {
         None => Refusal::StrangerShare.number(),
@@ -203,7 +210,9 @@ fn get_some(alloc: Global, seat: &mut SeatWithLoans, out: &mut [u32]) -> u32
 pub extern "C" fn mbufpool_seat_get(alloc: Global, seat: &mut SeatWithLoans, out: &mut [u32]) -> u32
     ensures nothing { length out.old ≡ 0 → (result ≡ 0) × (seat.new ≡ seat.old) }
     ensures called { 0 < length out.old →
-        GetsIn (length out.old) out.new seat.old.handle.value seat.old.loans result seat.new.handle.value seat.new.loans }
+        GetsIn (length out.old) out.new (seat_in seat.old.handle.value) seat.old.loans
+        result (seat_in seat.new.handle.value) seat.new.loans }
+    ensures parts { parts_in seat.new.handle.value ≡ parts_in seat.old.handle.value }
 {
     if out.len() == 0 {
         return 0;
@@ -215,8 +224,10 @@ pub extern "C" fn mbufpool_seat_get(alloc: Global, seat: &mut SeatWithLoans, out
 #[inline(always)]
 fn put_some(alloc: Global, seat: &mut SeatWithLoans, list: &[u32]) -> u32
     requires some { 0 < length list.now }
-    requires lent { AreLent seat.old.handle.value seat.old.loans list.now }
-    ensures { PutsIn list.now seat.old.handle.value seat.old.loans result seat.new.handle.value seat.new.loans }
+    requires lent { AreLent (seat_in seat.old.handle.value) seat.old.loans list.now }
+    ensures called { PutsIn list.now (seat_in seat.old.handle.value) seat.old.loans
+        result (seat_in seat.new.handle.value) seat.new.loans }
+    ensures parts { parts_in seat.new.handle.value ≡ parts_in seat.old.handle.value }
 {
     match seat.handle.take(alloc) {
         None => Refusal::StrangerShare.number(),
@@ -235,10 +246,12 @@ fn put_some(alloc: Global, seat: &mut SeatWithLoans, list: &[u32]) -> u32
 /// was lent is lent still then.
 #[unsafe(no_mangle)]
 pub extern "C" fn mbufpool_seat_put(alloc: Global, seat: &mut SeatWithLoans, list: &[u32]) -> u32
-    requires { AreLent seat.old.handle.value seat.old.loans list.now }
+    requires { AreLent (seat_in seat.old.handle.value) seat.old.loans list.now }
     ensures nothing { length list.now ≡ 0 → (result ≡ 0) × (seat.new ≡ seat.old) }
     ensures called { 0 < length list.now →
-        PutsIn list.now seat.old.handle.value seat.old.loans result seat.new.handle.value seat.new.loans }
+        PutsIn list.now (seat_in seat.old.handle.value) seat.old.loans
+        result (seat_in seat.new.handle.value) seat.new.loans }
+    ensures parts { parts_in seat.new.handle.value ≡ parts_in seat.old.handle.value }
 {
     if list.len() == 0 {
         return 0;
@@ -249,7 +262,9 @@ pub extern "C" fn mbufpool_seat_put(alloc: Global, seat: &mut SeatWithLoans, lis
 /// How many elements the common stack has, as its length word says.
 #[unsafe(no_mangle)]
 pub extern "C" fn mbufpool_seat_count(alloc: Global, seat: &mut SeatWithLoans) -> u32
-    ensures count { CountsIn seat.old.handle.value result seat.new.handle.value }
+    ensures count { CountsIn (seat_in seat.old.handle.value) result
+        (seat_in seat.new.handle.value) }
+    ensures parts { parts_in seat.new.handle.value ≡ parts_in seat.old.handle.value }
     ensures loans { seat.new.loans ≡ seat.old.loans }
 {
     match seat.handle.take(alloc) {
@@ -267,7 +282,9 @@ pub extern "C" fn mbufpool_seat_count(alloc: Global, seat: &mut SeatWithLoans) -
 /// seat.
 #[unsafe(no_mangle)]
 pub extern "C" fn mbufpool_seat_changes_left(alloc: Global, seat: &mut SeatWithLoans) -> u64
-    ensures left { RemainsIn seat.old.handle.value result seat.new.handle.value }
+    ensures left { RemainsIn (seat_in seat.old.handle.value) result
+        (seat_in seat.new.handle.value) }
+    ensures parts { parts_in seat.new.handle.value ≡ parts_in seat.old.handle.value }
     ensures loans { seat.new.loans ≡ seat.old.loans }
 {
     match seat.handle.take(alloc) {

@@ -6,7 +6,7 @@ use Rattle.mbufpool_c.proofs.checked.CheckedSeat.get.Goals as goal
 -- what came is in the hand, and so of the pool, and each of its elements has a mark
 pub mark-requires-clause-below : goal.mark-requires-clause-below
 mark-requires-clause-below c =
-    let effect = c.in-Ok.ensures.step.effect in
+    let effect = c.in-Ok.ensures.did.step.effect in
     let marks = ap (λ (bs : List Bool). length bs) c.as_mut_slice.ensures.value in
     let same = ap (λ (l : Limits). l.population) effect.limits in
     all_below c.get.new.out (length c.as_mut_slice.result.now) (λ i past.
