@@ -12,7 +12,7 @@ use std::env::Env;
 use std::io::{Eprint, Print};
 
 /// What can be measured.
-#[derive(Clone, Copy, PartialEq, Eq, Debug)]
+#[derive(Clone, Copy)]
 pub enum Workload {
     /// Replays of scripts of 10,000 commands.
     Replays,
@@ -72,7 +72,7 @@ const WORKLOADS: [(Workload, &str, &str); 8] = [
 ];
 
 /// What the words ask for.
-#[derive(Clone, Copy, Debug)]
+#[derive(Clone, Copy)]
 pub struct Asked<'a> {
     /// The workload. None: the list of all.
     pub workload: Option<Workload>,

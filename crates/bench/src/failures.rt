@@ -8,7 +8,7 @@ use std::io;
 use std::io::Eprint;
 
 /// Why nothing was measured.
-#[derive(Debug, Drop)]
+#[derive(Drop)]
 pub enum Failure {
     /// The clock, or an output, failed.
     System(io::Error),

@@ -40,7 +40,7 @@ const LIMITS: Limits = Limits {
 };
 
 /// Whose calls hand the packet over, and by how many threads.
-#[derive(Clone, Copy, PartialEq, Eq, Debug)]
+#[derive(Clone, Copy)]
 enum Way {
     /// `Packets::offer` and `take`, by two threads.
     Calls,
@@ -155,7 +155,7 @@ fn by_calls<R: Clock + AllocGlobal + Threads + Sync>(
 }
 
 /// What a worker does in a run.
-#[derive(Clone, Copy, PartialEq, Eq, Debug)]
+#[derive(Clone, Copy)]
 enum Part {
     /// It hands the packet over, and waits for it to come back.
     First,

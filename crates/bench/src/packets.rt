@@ -13,7 +13,7 @@ use std::rt::Runtime;
 use std::time::{Clock, Instant};
 
 /// What is done again and again.
-#[derive(Clone, Copy, PartialEq, Eq, Debug)]
+#[derive(Clone, Copy)]
 enum Round {
     // An alloc, and the free of its packet.
     Alloc,

@@ -10,7 +10,7 @@ use std::rt::Runtime;
 use std::time::{Clock, Instant};
 
 /// The commands of a script.
-#[derive(Clone, Copy, PartialEq, Eq, Debug)]
+#[derive(Clone, Copy)]
 enum Commands {
     // An alloc and a free in turn.
     Alloc,

@@ -19,7 +19,7 @@ use std::time::{Clock, Instant};
 
 /// The cells that are measured: those of each workload, each number of threads and each size of
 /// cache.
-#[derive(Clone, Copy, Debug)]
+#[derive(Clone, Copy)]
 pub struct Cells<'a> {
     /// The names of the workloads, with commas between.
     pub names: &'a str,

@@ -2,7 +2,7 @@
 
 /// How long a list is: a constant of the code, as in a program that knows how many packets it
 /// takes at once.
-#[derive(Clone, Copy, PartialEq, Eq, Debug)]
+#[derive(Clone, Copy, PartialEq, Eq)]
 pub enum Width {
     One = 1,
     Eight = 8,
@@ -13,7 +13,7 @@ pub enum Width {
 pub const MOST_WIDE: usize = 32;
 
 /// What a round is.
-#[derive(Clone, Copy, PartialEq, Eq, Debug)]
+#[derive(Clone, Copy, PartialEq, Eq)]
 pub enum Kind {
     /// A list of this width off the bare stack, and back.
     Stack(Width),
