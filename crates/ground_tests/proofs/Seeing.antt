@@ -13,8 +13,8 @@ use Rattle.step_core.specs.declared.view.Work.{Work}
 use Rattle.ground.specs.DeskSeats.{MayOpen}
 use Rattle.ground.specs.Seats.{Seated, view_with_slot, work_by, phase_by}
 use Rattle.ground_tests.specs.Playing.{Mirrors, IsOfSeat, slots_at, slots_by, known_by, packet_in, with_packet}
-use Rattle.ground_tests.specs.declared.desks.Sees.{Sees}
-use Rattle.ground_tests.specs.declared.desks.Sees.TheVariants as sees
+use Rattle.ground_tests.specs.declared.sees.Sees.{Sees}
+use Rattle.ground_tests.specs.declared.sees.Sees.TheVariants as sees
 
 phase_here : (d : ℕ) (ph : Phase) → phase_at d (at_desk d ph) ≡ Some ph
 phase_here d ph = cond-true (d == d) (Some ph) None (eq-eqb d d refl)

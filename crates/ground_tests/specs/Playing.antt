@@ -13,8 +13,8 @@ use Rattle.step_core.specs.declared.view.Work.{Work}
 use Rattle.step_core.specs.Views.{view_after, working, seized, at_desk}
 use Rattle.ground.specs.DeskSeats.{Holds, Fills, Opens, Seizes, Empties, Clears}
 use Rattle.ground.specs.Seats.{Seated, Steps}
-use Rattle.ground_tests.specs.declared.desks.Sees.{Sees}
-use Rattle.ground_tests.specs.declared.desks.Sees.TheVariants as sees
+use Rattle.ground_tests.specs.declared.sees.Sees.{Sees}
+use Rattle.ground_tests.specs.declared.sees.Sees.TheVariants as sees
 
 -- a chain is of elements that a pool can have
 abbrev pub IsInPool : View → Type 0

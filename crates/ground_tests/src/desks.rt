@@ -14,6 +14,7 @@ ghost use Rattle.step_core.specs.declared.view.Phase.TheVariants.{ToFill, Seized
 ghost use Rattle.ground.specs.Seats.{IsOf, Seated};
 ghost use Rattle.ground_tests.specs.Playing.{IsInPool, Plays, Mirrors, IsOfSeat};
 
+use crate::sees::Sees;
 use commons::packet::{Packet, Seg};
 use commons::refusal::Refusal;
 use ground::pool::Ground;
@@ -21,17 +22,6 @@ use ground::seat::GroundSeat;
 use std::mem;
 use step_core::step::Outcome;
 use step_core::view::{Phase, View, Work};
-
-/// What a player sees of its seat.
-#[derive(Debug, Drop)]
-pub enum Sees {
-    /// What the seat knows, and what is in its slot.
-    All,
-    /// What the seat knew before it seized this desk, whose packet is in the slot.
-    Seizure(u32),
-    /// What the seat knew before it seized this desk, and the packet that it has taken out since.
-    Out(u32, Packet),
-}
 
 /// Begins to fill a desk, if it is empty.
 pub(crate) fn hold(

@@ -2,10 +2,16 @@
 //! beside the machine.
 #![tactic(auto)]
 
-pub mod arms;
-pub mod counts;
-pub mod desks;
-pub mod pair;
-pub mod player;
+#[cfg(test)]
+mod arms;
+#[cfg(test)]
+mod counts;
+#[cfg(test)]
+mod desks;
+#[cfg(test)]
+mod pair;
+#[cfg(test)]
+mod player;
+pub mod sees;
 #[cfg(test)]
 mod tests;

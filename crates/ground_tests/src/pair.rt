@@ -22,7 +22,7 @@ pub struct Pair {
 
 impl Pair {
     /// Makes the ground and both players. Refused `BadPool` too where the pool is for one worker.
-    pub fn make(alloc: Global, limits: &Limits) -> Result<Pair, Refusal> {
+    pub(crate) fn make(alloc: Global, limits: &Limits) -> Result<Pair, Refusal> {
         let (pool, mut first) = Player::make(alloc, limits)?;
         match first.split(&pool) {
             Some(second) => Ok(Pair {
@@ -38,7 +38,7 @@ impl Pair {
     }
 
     /// A step of worker 1 or 2.
-    pub fn step(&mut self, worker: u32, step: &Step) -> Result<Outcome, Refusal> {
+    pub(crate) fn step(&mut self, worker: u32, step: &Step) -> Result<Outcome, Refusal> {
         match worker {
             1 => self.first.step(&self.pool, step),
             2 => self.second.step(&self.pool, step),
@@ -47,7 +47,7 @@ impl Pair {
     }
 
     /// The view of worker 1 or 2.
-    pub fn view(&self, worker: u32) -> &View {
+    pub(crate) fn view(&self, worker: u32) -> &View {
         match worker {
             1 => self.first.view(),
             _ => self.second.view(),
@@ -55,7 +55,7 @@ impl Pair {
     }
 
     /// Whether the view of worker 1 or 2 is what its seat knows.
-    pub fn sees_all(&self, worker: u32) -> bool {
+    pub(crate) fn sees_all(&self, worker: u32) -> bool {
         match worker {
             1 => self.first.sees_all(),
             _ => self.second.sees_all(),
@@ -63,13 +63,13 @@ impl Pair {
     }
 
     /// Whether both players are between calls.
-    pub fn is_at_rest(&self) -> bool {
+    pub(crate) fn is_at_rest(&self) -> bool {
         self.first.is_at_rest() && self.second.is_at_rest()
     }
 
     /// Ends the ground with the first player, once the second has joined it, or is lost where it
     /// can't.
-    pub fn close(self) -> Result<Closed, Refusal> {
+    pub(crate) fn close(self) -> Result<Closed, Refusal> {
         let Pair {
             pool,
             mut first,

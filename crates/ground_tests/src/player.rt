@@ -9,7 +9,7 @@ ghost use Rattle.ground.specs.Own.{AtRest};
 ghost use Rattle.ground.specs.Seats.{IsOf};
 ghost use Rattle.ground_tests.specs.Playing.{IsInPool, Plays, Mirrors, IsOfSeat};
 
-use crate::desks::Sees;
+use crate::sees::Sees;
 use crate::{arms, counts, desks};
 use commons::closed::Closed;
 use commons::limits::Limits;
@@ -284,7 +284,7 @@ fn merge(
 
 impl Player {
     /// Makes a ground, and the player of its one seat.
-    pub fn make(alloc: Global, limits: &Limits) -> Result<(Ground, Player), Refusal>
+    pub(crate) fn make(alloc: Global, limits: &Limits) -> Result<(Ground, Player), Refusal>
         ensures { IfOk result (λ made. IsOf made.0 made.1.seat) }
     {
         let (ground, seat) = Ground::make(alloc, limits)?;
@@ -300,7 +300,7 @@ impl Player {
 
     /// Makes the player of one more seat, of a worker's part of this one's, or none where this one
     /// hasn't two, or has seized a desk.
-    pub fn split(&mut self, ground: &Ground) -> Option<Player>
+    pub(crate) fn split(&mut self, ground: &Ground) -> Option<Player>
         requires of { IsOf ground.now self.old.seat }
         ensures of { IsOf ground.now self.new.seat }
         ensures other { IfSome result (λ player. IsOf ground.now player.seat) }
@@ -321,7 +321,7 @@ impl Player {
 
     /// Lends an element: makes the player of one more seat, which has it alone. Or none, where this
     /// one isn't between calls or hasn't the element in its hand, or memory was refused.
-    pub fn lend(&mut self, ground: &Ground, element: u32) -> Option<Player>
+    pub(crate) fn lend(&mut self, ground: &Ground, element: u32) -> Option<Player>
         requires of { IsOf ground.now self.old.seat }
         ensures of { IsOf ground.now self.new.seat }
         ensures other { IfSome result (λ player. IsOf ground.now player.seat) }
@@ -353,7 +353,7 @@ impl Player {
     /// the player's where the desk is opened, and between a seizure and the step that takes the
     /// packet out every other is refused. Refused `OutOfMemory` where the player's own view
     /// couldn't grow. The ground isn't touched then.
-    pub fn step(&mut self, ground: &Ground, step: &Step) -> Result<Outcome, Refusal>
+    pub(crate) fn step(&mut self, ground: &Ground, step: &Step) -> Result<Outcome, Refusal>
         requires { IsOf ground.now self.old.seat }
         ensures { Plays step.now result self.old.seat self.new.seat }
     {
@@ -370,14 +370,14 @@ impl Player {
     }
 
     /// The view, which is what the seat knows, or knew before it seized a desk.
-    pub fn view(&self) -> &View
+    pub(crate) fn view(&self) -> &View
         ensures { result.now ≡ self.now.view }
     {
         &self.view
     }
 
     /// Whether the view is what the seat knows: the player hasn't seized a desk since.
-    pub fn sees_all(&self) -> bool
+    pub(crate) fn sees_all(&self) -> bool
         ensures { IsTrue result → self.now.sees ≡ Sees.All }
     {
         sees_all(&self.sees)
@@ -385,13 +385,13 @@ impl Player {
 
     /// Whether the player is between calls: nothing is reserved, nothing chained, and no busy
     /// desk.
-    pub fn is_at_rest(&self) -> bool {
+    pub(crate) fn is_at_rest(&self) -> bool {
         is_between_calls(&self.view, &self.sees)
     }
 
     /// Takes over what another player has, or gives the other back: where one of both is not
     /// between calls, or memory for their hands was refused.
-    pub fn join(&mut self, ground: &Ground, other: Player) -> Option<Player>
+    pub(crate) fn join(&mut self, ground: &Ground, other: Player) -> Option<Player>
         requires of { IsOf ground.now self.old.seat }
         requires other_of { IsOf ground.now other.seat }
         ensures { IsOf ground.now self.new.seat }
@@ -407,7 +407,7 @@ impl Player {
     }
 
     /// Ends the ground, whatever this player has.
-    pub fn close(self, pool: Ground) -> Result<Closed, Refusal>
+    pub(crate) fn close(self, pool: Ground) -> Result<Closed, Refusal>
         requires { IsOf pool self.seat }
     {
         let Player {
@@ -427,7 +427,7 @@ impl Player {
     }
 
     /// Ends a player that is out of play, and gives nothing back.
-    pub fn lose(self) {
+    pub(crate) fn lose(self) {
         let Player {
             seat,
             view: _,
