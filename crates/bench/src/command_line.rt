@@ -14,12 +14,6 @@ use std::io::{Eprint, Print};
 /// What can be measured.
 #[derive(Clone, Copy)]
 pub enum Workload {
-    /// Replays of scripts of 10,000 commands.
-    Replays,
-    /// Gets and puts of elements, by a worker's cache and by the stack calls alone.
-    Elements,
-    /// Packets that are made, cloned, passed and freed.
-    Packets,
     /// Audits of a large lawful snapshot, beside a plain pass over its words.
     Audits,
     /// The end of a large pool: close, deposits and settling.
@@ -32,18 +26,7 @@ pub enum Workload {
     Memory,
 }
 
-const WORKLOADS: [(Workload, &str, &str); 8] = [
-    (Workload::Replays, "replays", "scripts of 10,000 commands"),
-    (
-        Workload::Elements,
-        "elements",
-        "a get of n elements and the put of the same list",
-    ),
-    (
-        Workload::Packets,
-        "packets",
-        "packets that are made, cloned, passed over a desk and freed",
-    ),
+const WORKLOADS: [(Workload, &str, &str); 5] = [
     (
         Workload::Audits,
         "audits",
@@ -162,7 +145,7 @@ fn command<'a>(alloc: Global) -> Result<Command<'a>, Error> {
         "What is measured; none: the list of workloads",
     );
     let bench = Command::new(alloc, "bench")
-        .about("Measures the pool on the lists, and on its words")
+        .about("Measures the words of a pool, and its end")
         .arg(workload)?
         .arg(whole(alloc, "rounds", 1_000_000_000, "How many rounds a run has"))?
         .arg(whole(alloc, "runs", 1_000, "Of how many runs the least is told"))?;

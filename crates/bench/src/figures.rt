@@ -19,12 +19,6 @@ pub fn print_each<R: Print>(rt: &R, name: &str, nanos: u64, rounds: u64) -> Resu
     Ok(rt.println(format_args!("{name:<52} {whole:>8}.{tenth} ns"))?)
 }
 
-/// Prints how many of them are done in a second, where all take this many nanoseconds.
-pub fn print_rate<R: Print>(rt: &R, name: &str, nanos: u64, count: u64) -> Result<(), Failure> {
-    let rate = u128::from(count) * 1_000_000_000 / u128::from(nanos.max(1));
-    Ok(rt.println(format_args!("{name:<52} {rate:>10} commands/s"))?)
-}
-
 /// The figure at a place, or 0 where there is none.
 pub fn at(picos: &[u64], place: usize) -> u64 {
     match picos.get(place) {

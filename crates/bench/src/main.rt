@@ -1,17 +1,14 @@
-//! Measures the pool on the lists, and on its words: `bench WORKLOAD [--rounds N] [--runs R]`.
+//! Measures the words of a pool, and its end: `bench WORKLOAD [--rounds N] [--runs R]`.
 #![tactic(auto)]
 
 mod audits;
 mod command_line;
-mod elements;
 mod endings;
 mod failures;
 mod figures;
 mod handovers;
 mod memory;
-mod packets;
 mod pools;
-mod replays;
 mod words;
 
 use command_line::{Asked, Workload};
@@ -49,9 +46,6 @@ fn measure<R: Runtime + AllocGlobal + Threads + Sync>(
 ) -> Result<(), Failure> {
     match asked.workload {
         None => command_line::list(rt),
-        Some(Workload::Replays) => replays::measure(rt, asked.rounds, asked.runs),
-        Some(Workload::Elements) => elements::measure(rt, asked.rounds, asked.runs),
-        Some(Workload::Packets) => packets::measure(rt, asked.rounds, asked.runs),
         Some(Workload::Audits) => audits::measure(rt, asked.rounds, asked.runs),
         Some(Workload::Endings) => endings::measure(rt, asked.rounds, asked.runs),
         Some(Workload::Words) => words::measure(rt, &asked.cells, asked.rounds, asked.runs),

@@ -1,13 +1,11 @@
 -- Elements that pass from a seat's hand into loans, and back.
-use Rattle.std.specs.Prelude.{◌≡◌, ℕ, ◌+◌, ◌<◌, ◌≤◌, List, length, Result, Ok, Err, ⊤}
+use Rattle.std.specs.Prelude.{◌≡◌, ℕ, ◌+◌, ◌<◌, ◌≤◌, List, length, Result, Ok, Err}
 use Rattle.commons.specs.Bag.{bag}
 use Rattle.commons.specs.Calls.{Did, GetList, PutList}
 use Rattle.commons.specs.declared.refusal.Refusal.{Refusal}
-use Rattle.commons.specs.declared.refusal.Refusal.TheVariants.{OutOfMemory, StrangerShare}
 use Rattle.ground.specs.Seats.{Seated}
 use Rattle.stack_lf.specs.Sides.{side_of}
 use Rattle.stack_lf.specs.Tries.{DidOnWords}
-use Rattle.step_core.specs.World.{worker_part}
 use Rattle.lending.specs.declared.cause.Cause.{Cause}
 use Rattle.lending.specs.declared.cause.Cause.TheVariants.{Refused, LentOut}
 use Rattle.lending.specs.declared.loans.Loans.{Loans}
@@ -58,11 +56,3 @@ abbrev pub PutsLoans : List ℕ → Result (Unit {0}) Refusal → Seated → Loa
 PutsLoans xs answer s x t y =
     (u : Seated) × (w : Seated) × (z : Loans) × IsLent xs u z s x
     × Did DidOnWords side_of u (PutList xs answer) w × LoansGoOn xs answer w z t y
-
--- why a seat with this part of the pool isn't split: the pool has no more workers; or as much of
--- the part is lent; or memory was refused
-abbrev pub IsSplitCause : ℕ → Cause → Type 0
-IsSplitCause part (Refused StrangerShare) = ⊤
-IsSplitCause part LentOut = part ≤ worker_part
-IsSplitCause part (Refused OutOfMemory) = worker_part < part
-IsSplitCause part _ = ⊥

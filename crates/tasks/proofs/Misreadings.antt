@@ -11,6 +11,6 @@ use Rattle.tasks.specs.declared.failures.Failure.TheVariants.{Unreadable, Fault,
 pub told_of_bytes : (bytes : List ℕ) (fault : SnapshotFault) (failure : Failure) → (fault ≢ reads.OutOfMemory → IsNoSnapshotText bytes)
     → IsFaultOf bytes fault → IsMisread fault failure → FailsBytes bytes failure
 told_of_bytes bytes fault (Misread told) none tells so = (none so.1, subst (IsFaultOf bytes) (sym so.0) tells)
-told_of_bytes bytes fault (Unreadable file) none tells so = so
-told_of_bytes bytes fault (Fault refusal) none tells so = so
-told_of_bytes bytes fault (Audited line) none tells so = so
+told_of_bytes bytes fault (Unreadable file) none tells so = so.0
+told_of_bytes bytes fault (Fault refusal) none tells so = so.0
+told_of_bytes bytes fault (Audited line) none tells so = so.0

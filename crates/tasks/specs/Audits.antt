@@ -78,10 +78,10 @@ IsFailureIn s (Audited line) = IsFirstLine s line.items
 IsFailureIn s (Fault refusal) = IsRefusalIn s refusal
 IsFailureIn s _ = ⊥
 
--- this fault of a reading is reported: as itself, or memory was refused
+-- this fault of a reading is reported: as itself, but for memory that was refused
 abbrev pub IsMisread : SnapshotFault → Failure → Type 0
 IsMisread fault (Misread told) = (told ≡ fault) × (fault ≢ reads.OutOfMemory)
-IsMisread fault failure = failure ≡ Fault refusals.OutOfMemory
+IsMisread fault failure = (failure ≡ Fault refusals.OutOfMemory) × (fault ≡ reads.OutOfMemory)
 
 -- the failure that came of bytes which are a snapshot's
 pub record FailsSnapshot (bytes : List ℕ) (failure : Failure) : Type 0 where

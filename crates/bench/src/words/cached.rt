@@ -9,7 +9,6 @@ ghost use Rattle.stack_lf.specs.Sides.{side_of};
 use super::carried::Carried;
 use super::kinds::{MOST_WIDE, Width};
 use super::span::Rounds;
-use crate::elements::there_and_back;
 use crate::failures::Failure;
 use commons::shared::Commons;
 use ground::pool::Ground;
@@ -32,6 +31,21 @@ fn first_there_and_back<C: Commons, const N: usize>(
     ensures cached { (i : ℕ) → bag worker.new.cache i ≤ (C.side c.new).hand i }
 {
     there_and_back(worker, c, &mut list[..N])
+}
+
+/// Gets a list and puts it back, and answers whether the get succeeded.
+#[inline(always)]
+fn there_and_back<C: Commons>(worker: &mut Worker, c: &mut C, list: &mut [u32]) -> bool
+    requires limits { (C.side c.old).limits ≡ worker.old.limits }
+    requires cached { (i : ℕ) → bag worker.old.cache i ≤ (C.side c.old).hand i }
+    ensures limits { (C.side c.new).limits ≡ worker.new.limits }
+    ensures cached { (i : ℕ) → bag worker.new.cache i ≤ (C.side c.new).hand i }
+{
+    if worker.get_bulk(c, list).is_err() {
+        return false;
+    }
+    let _put = worker.put_bulk(c, list);
+    true
 }
 
 /// A worker with a cache, who gets a list and puts it back.
