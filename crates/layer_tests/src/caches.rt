@@ -24,7 +24,6 @@ const LIMITS: Limits = Limits {
 };
 
 /// What a worker does once it has got elements.
-#[derive(Clone, Copy)]
 enum Then {
     /// It puts them back.
     Puts,
@@ -32,108 +31,109 @@ enum Then {
     Flushes,
 }
 
-/// A row: its name; the put rule; how many elements are got, and the least of them, which the
-/// others follow; what the worker does then, and what comes of it; the cache afterwards; and how
-/// many elements the common list has then, with its top.
-type Row = (
-    &'static str,
-    PutRule,
-    usize,
-    u32,
-    Then,
-    (Put, Option<Put>),
-    &'static [u32],
-    usize,
-    u32,
-);
+/// What a worker gets and then does.
+struct Row {
+    name: &'static str,
+    rule: PutRule,
+    /// How many elements are got.
+    count: usize,
+    /// The least of them, which the others follow.
+    least: u32,
+    then: Then,
+    /// What comes of that.
+    done: (Put, Option<Put>),
+    /// The cache afterwards.
+    cache: &'static [u32],
+    /// How many elements the common list has then.
+    common: usize,
+    /// The top of that list.
+    top: u32,
+}
 
-const ROWS: [Row; 6] = [
-    (
-        "a bulk of 512 goes through the cache",
-        PutRule::Keep,
-        512,
-        0,
-        Then::Puts,
-        (Put::Flushed(508), None),
-        &[0, 1, 2, 3],
-        1_096,
-        511,
-    ),
-    (
-        "a bulk of 513 goes past the cache",
-        PutRule::Keep,
-        513,
-        0,
-        Then::Puts,
-        (Put::Flushed(513), None),
-        &[],
-        1_100,
-        512,
-    ),
-    (
-        "a get of 1 fills the cache with 5 and takes the last, and a flush gives the other 4 back",
-        PutRule::Keep,
-        1,
-        4,
-        Then::Flushes,
-        (Put::Flushed(4), Some(Put::Kept)),
-        &[],
-        1_099,
-        3,
-    ),
-    (
-        "where a cache goes whole, a bulk of 6 stays in it",
-        PutRule::Whole,
-        6,
-        0,
-        Then::Puts,
-        (Put::Kept, None),
-        &[0, 1, 2, 3, 4, 5],
-        1_094,
-        6,
-    ),
-    (
-        "where a cache goes whole, a bulk of 7 goes past it",
-        PutRule::Whole,
-        7,
-        0,
-        Then::Puts,
-        (Put::Flushed(7), None),
-        &[],
-        1_100,
-        6,
-    ),
-    (
-        "where a cache goes whole, a bulk of 513 goes past it",
-        PutRule::Whole,
-        513,
-        0,
-        Then::Puts,
-        (Put::Flushed(513), None),
-        &[],
-        1_100,
-        512,
-    ),
+static ROWS: [Row; 6] = [
+    Row {
+        name: "a bulk of 512 goes through the cache",
+        rule: PutRule::Keep,
+        count: 512,
+        least: 0,
+        then: Then::Puts,
+        done: (Put::Flushed(508), None),
+        cache: &[0, 1, 2, 3],
+        common: 1_096,
+        top: 511,
+    },
+    Row {
+        name: "a bulk of 513 goes past the cache",
+        rule: PutRule::Keep,
+        count: 513,
+        least: 0,
+        then: Then::Puts,
+        done: (Put::Flushed(513), None),
+        cache: &[],
+        common: 1_100,
+        top: 512,
+    },
+    Row {
+        name: "a get of 1 fills the cache with 5 and takes the last, and a flush gives the other 4 back",
+        rule: PutRule::Keep,
+        count: 1,
+        least: 4,
+        then: Then::Flushes,
+        done: (Put::Flushed(4), Some(Put::Kept)),
+        cache: &[],
+        common: 1_099,
+        top: 3,
+    },
+    Row {
+        name: "where a cache goes whole, a bulk of 6 stays in it",
+        rule: PutRule::Whole,
+        count: 6,
+        least: 0,
+        then: Then::Puts,
+        done: (Put::Kept, None),
+        cache: &[0, 1, 2, 3, 4, 5],
+        common: 1_094,
+        top: 6,
+    },
+    Row {
+        name: "where a cache goes whole, a bulk of 7 goes past it",
+        rule: PutRule::Whole,
+        count: 7,
+        least: 0,
+        then: Then::Puts,
+        done: (Put::Flushed(7), None),
+        cache: &[],
+        common: 1_100,
+        top: 6,
+    },
+    Row {
+        name: "where a cache goes whole, a bulk of 513 goes past it",
+        rule: PutRule::Whole,
+        count: 513,
+        least: 0,
+        then: Then::Puts,
+        done: (Put::Flushed(513), None),
+        cache: &[],
+        common: 1_100,
+        top: 512,
+    },
 ];
 
-/// What came of a get and of what the worker did then, the cache that it left, and the common list,
-/// top last.
-fn got_and(
-    alloc: Global,
-    rule: PutRule,
-    out: &mut [u32],
-    then: Then,
-) -> Result<((Put, Option<Put>), Vec<u32>, Vec<u32>), Fail> {
+/// Plays a row.
+fn play<R: Abort + AllocGlobal>(rt: &R, row: &Row) -> Result<(), Fail> {
     let limits = Limits {
-        put_rule: rule,
+        put_rule: row.rule,
         ..LIMITS
     };
-    let mut site = PlainSite::make(alloc, &limits)?;
-    let mut worker = Worker::make(alloc, &limits, 1)?;
+    let mut out = Vec::new(rt.alloc());
+    out.resize(row.count, 0)?;
+    let list = out.as_mut_slice();
+    let mut site = PlainSite::make(rt.alloc(), &limits)?;
+    let mut worker = Worker::make(rt.alloc(), &limits, 1)?;
     let mut c = PlainCommons::new(&mut site, 1);
-    let done = match worker.get_bulk(&mut c, out) {
-        Ok(()) => match then {
-            Then::Puts => Ok((worker.put_bulk(&mut c, out), None)),
+    let done = match worker.get_bulk(&mut c, list) {
+        Ok(()) => match row.then {
+            Then::Puts => Ok((worker.put_bulk(&mut c, list), None)),
             Then::Flushes => {
                 let first = worker.flush(&mut c);
                 let second = worker.flush(&mut c);
@@ -142,35 +142,25 @@ fn got_and(
         },
         Err(cause) => Err(cause),
     };
-    let cache = worker.cache().to_vec(alloc);
-    worker.lose();
-    Ok((done?, cache?, site.common().to_vec(alloc)?))
-}
-
-/// Plays a row.
-fn assert_row<R: Abort + AllocGlobal>(rt: &R, row: &Row) -> Result<(), Fail> {
-    let (name, rule, count, least, then, wanted, left, in_common, top) = *row;
-    let mut out = Vec::new(rt.alloc());
-    out.resize(count, 0)?;
-    let (done, cache, common) = got_and(rt.alloc(), rule, &mut out, then)?;
-    for (i, x) in out.iter().enumerate() {
-        same(rt, &(*x as usize), &(i + least as usize), name);
-    }
-    same(rt, &done, &wanted, name);
-    same(rt, &cache.as_slice(), &left, name);
     same(
         rt,
-        &(common.len(), common.last()),
-        &(in_common, Some(&top)),
-        name,
+        &(done, worker.cache()),
+        &(Ok(row.done), row.cache),
+        row.name,
     );
+    worker.lose();
+    let left = (site.common().len(), site.common().last());
+    same(rt, &left, &(row.common, Some(&row.top)), row.name);
+    for (element, wanted) in list.iter().zip(row.least..) {
+        same(rt, element, &wanted, row.name);
+    }
     Ok(())
 }
 
 #[test]
 fn each_bulk_leaves_its_cache(rt: HostRuntime) -> Result<(), Fail> {
     for row in ROWS.iter() {
-        assert_row(&rt, row)?;
+        play(&rt, row)?;
     }
     Ok(())
 }

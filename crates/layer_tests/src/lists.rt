@@ -12,7 +12,6 @@ use commons::plain::PlainCommons;
 use commons::refusal::{Lowered, Refusal};
 use commons::shared::Commons;
 use commons::site::PlainSite;
-use std::alloc::Global;
 use std::process::Abort;
 use std::test::Fail;
 
@@ -39,17 +38,6 @@ fn held(site: &PlainSite, element: u32) -> Option<(u32, u32, Place)> {
 }
 
 #[test]
-fn a_large_pool_has_all_elements_in_the_common_list(rt: HostRuntime) -> Result<(), Fail> {
-    let limits = Limits {
-        population: 70_000,
-        ..LIMITS
-    };
-    let site = PlainSite::make(rt.alloc(), &limits)?;
-    same(&rt, &site.common_count(), &70_000, "the length");
-    Ok(())
-}
-
-#[test]
 fn a_pool_has_16777214_elements_at_most(rt: HostRuntime) {
     let counts = [
         (0, Err(Refusal::BadPool)),
@@ -70,28 +58,30 @@ fn a_pool_has_16777214_elements_at_most(rt: HostRuntime) {
 #[test]
 fn a_new_site_has_all_elements_in_the_common_list(rt: HostRuntime) -> Result<(), Fail> {
     let site = PlainSite::make(rt.alloc(), &LIMITS)?;
-    same(&rt, &site.limits(), &LIMITS, "the limits");
+    let lists = (site.common(), site.places());
+    let wanted = ([2, 1, 0].as_slice(), [Place::Common; 3].as_slice());
+    same(&rt, &lists, &wanted, "the common list and the places");
+    let shown = (site.limits(), site.common_count());
     same(
         &rt,
-        &site.common(),
-        &[2, 1, 0].as_slice(),
-        "the common list",
+        &shown,
+        &(LIMITS, 3),
+        "the limits, and how many are common",
     );
-    same(&rt, &site.common_count(), &3, "its length");
+    let holds = (held(&site, 0), held(&site, 2));
+    let free = Some((0, 0, Place::Common));
+    same(&rt, &holds, &(free, free), "elements 0 and 2");
+    let limits = Limits {
+        population: 70_000,
+        ..LIMITS
+    };
+    let large = PlainSite::make(rt.alloc(), &limits)?;
     same(
         &rt,
-        &site.places(),
-        &[Place::Common; 3].as_slice(),
-        "the places",
+        &large.common_count(),
+        &70_000,
+        "how many are common of a large pool",
     );
-    for (name, element) in [("element 0", 0), ("element 2", 2)] {
-        same(
-            &rt,
-            &held(&site, element),
-            &Some((0, 0, Place::Common)),
-            name,
-        );
-    }
     Ok(())
 }
 
@@ -122,59 +112,40 @@ static REFUSALS: [(Refusal, u32, &str, &str); 23] = [
     (Refusal::SamePacket, 23, "SamePacket", ""),
 ];
 
-// A refusal as it is displayed.
-fn displayed(alloc: Global, refusal: Refusal) -> Result<String, Fail> {
-    Ok(format!(in alloc; "{refusal}")?)
-}
-
 #[test]
 fn each_refusal_has_its_number_and_displays_its_name(rt: HostRuntime) -> Result<(), Fail> {
     for (refusal, number, name, more) in REFUSALS.iter() {
+        let told = format!(in rt.alloc(); "{refusal}")?;
+        let behind = told.as_str().strip_prefix(*name);
         same(
             &rt,
-            &(refusal.number(), refusal.name()),
-            &(*number, *name),
+            &(refusal.number(), refusal.name(), behind),
+            &(*number, *name, Some(*more)),
             *name,
         );
-        let told = displayed(rt.alloc(), *refusal)?;
-        let behind = told.as_str().strip_prefix(*name);
-        same(&rt, &behind, &Some(*more), *name);
     }
     Ok(())
 }
 
-// Gets two elements, puts them back, and tells of them and of how many were common in between.
-fn put_back<C: Commons>(c: &mut C) -> Result<([u32; 2], u32), Refusal> {
+// Gets two elements and puts them back, and tells of them, of how many were common in between, and
+// of what a get of four is told then.
+fn put_back<C: Commons>(c: &mut C) -> Result<([u32; 2], u32, Result<(), Refusal>), Refusal> {
     let mut two = [0; 2];
     c.get_list(&mut two)?;
     let left = c.common_count();
     c.put_list(&two)?;
-    Ok((two, left))
-}
-
-// What a get of four elements is told.
-fn got_four<C: Commons>(c: &mut C) -> Result<(), Refusal> {
-    let mut four = [0; 4];
-    c.get_list(&mut four)
+    Ok((two, left, c.get_list(&mut [0; 4])))
 }
 
 #[test]
 fn a_list_goes_back_with_its_last_on_top(rt: HostRuntime) -> Result<(), Fail> {
     let mut site = PlainSite::make(rt.alloc(), &LIMITS)?;
-    let mut c = PlainCommons::new(&mut site, 1);
-    let list = put_back(&mut c);
-    let short = got_four(&mut c);
+    let told = put_back(&mut PlainCommons::new(&mut site, 1));
     same(
         &rt,
-        &list,
-        &Ok(([0, 1], 1)),
-        "the list, and what is common without it",
-    );
-    same(
-        &rt,
-        &short,
-        &Err(Refusal::NoEntries),
-        "a get of more than there are",
+        &told,
+        &Ok(([0, 1], 1, Err(Refusal::NoEntries))),
+        "the list, what is common without it, and a get of more than there are",
     );
     same(
         &rt,
@@ -194,13 +165,12 @@ fn a_spent_head_is_told_of_behind_a_short_list(rt: HostRuntime) -> Result<(), Fa
     let mut site = PlainSite::make(rt.alloc(), &limits)?;
     let mut c = PlainCommons::new(&mut site, 1);
     let spent = claimed(&mut c);
-    let short = got_four(&mut c);
-    same(&rt, &spent, &Err(Refusal::HeadSpent), "a get of one");
+    let short = c.get_list(&mut [0; 4]);
     same(
         &rt,
-        &short,
-        &Err(Refusal::NoEntries),
-        "a get of more than there are",
+        &(spent, short),
+        &(Err(Refusal::HeadSpent), Err(Refusal::NoEntries)),
+        "a get of one, and of more than there are",
     );
     same(
         &rt,
@@ -211,29 +181,26 @@ fn a_spent_head_is_told_of_behind_a_short_list(rt: HostRuntime) -> Result<(), Fa
     Ok(())
 }
 
-// Raises the count of an element twice, and tells of the count before and after the first raise,
-// of what the second one is told, and of the count after it.
-fn raised_twice<C: Commons>(
+/// The count of an element before and after a raise, what a second raise is told, and the count
+/// after that.
+type Raised = (u32, u32, Result<(), Refusal>, u32);
+
+// Raises the count of an element twice and lowers it twice, and tells of the raises, and of both
+// lowers with the count in between.
+fn counted<C: Commons>(
     c: &mut C,
     element: u32,
-) -> Result<(u32, u32, Result<(), Refusal>, u32), Refusal>
+) -> Result<(Raised, (Lowered, u32, Lowered)), Refusal>
     requires held { 0 < (C.side c.old).holds element }
-    ensures held { IfOk result (λ told. 2 ≤ (C.side c.new).holds element) }
 {
-    let first = c.count(element);
+    let before = c.count(element);
     c.raise(element)?;
-    let second = c.count(element);
+    let raised = c.count(element);
     let spent = c.raise(element);
-    Ok((first, second, spent, c.count(element)))
-}
-
-// Lowers the count of an element twice, and tells of both, and of the count in between.
-fn lowered_twice<C: Commons>(c: &mut C, element: u32) -> (Lowered, u32, Lowered)
-    requires held { 2 ≤ (C.side c.old).holds element }
-{
+    let told = (before, raised, spent, c.count(element));
     let first = c.lower(element);
     let between = c.count(element);
-    (first, between, c.lower(element))
+    Ok((told, (first, between, c.lower(element))))
 }
 
 #[test]
@@ -245,20 +212,14 @@ fn a_count_is_raised_to_its_limit_and_lowered(rt: HostRuntime) -> Result<(), Fai
     let mut site = PlainSite::make(rt.alloc(), &limits)?;
     let mut c = PlainCommons::new(&mut site, 1);
     let element = claimed(&mut c)?;
-    let raised = raised_twice(&mut c, element)?;
-    let lowered = lowered_twice(&mut c, element);
-    same(&rt, &element, &0, "the element");
+    let told = counted(&mut c, element)?;
+    let raised = (1, 2, Err(Refusal::RefSpent), 2);
+    let lowered = (Lowered::Still, 1, Lowered::Last);
     same(
         &rt,
-        &raised,
-        &(1, 2, Err(Refusal::RefSpent), 2),
-        "raised twice",
-    );
-    same(
-        &rt,
-        &lowered,
-        &(Lowered::Still, 1, Lowered::Last),
-        "lowered twice",
+        &(element, told),
+        &(0, (raised, lowered)),
+        "the element, raised twice and lowered twice",
     );
     same(
         &rt,
@@ -335,37 +296,27 @@ fn same_segs(rt: &impl Abort, packet: &Packet, wanted: &[Seg], what: &str) {
     same(rt, &packet.segs(), &wanted, what);
 }
 
-// The segments of the packet on the pool's one desk, where one lies there; `None` for other desks.
-fn on_desk(site: &PlainSite) -> Option<Option<&[Seg]>> {
-    match site.desks() {
+// A packet of these segments lies on the pool's one desk, or none.
+fn same_on_desk(rt: &impl Abort, site: &PlainSite, wanted: Option<&[Seg]>, what: &str) {
+    let on_desk = match site.desks() {
         [Some(packet)] => Some(Some(packet.segs())),
         [None] => Some(None),
         _ => None,
-    }
-}
-
-// A packet of these segments lies on the pool's one desk, or none.
-fn same_on_desk(rt: &impl Abort, site: &PlainSite, wanted: Option<&[Seg]>, what: &str) {
-    same(rt, &on_desk(site), &Some(wanted), what);
+    };
+    same(rt, &on_desk, &Some(wanted), what);
 }
 
 #[test]
 fn a_packet_passes_over_a_desk_with_all_its_holds(rt: HostRuntime) -> Result<(), Fail> {
     let mut site = PlainSite::make(rt.alloc(), &LIMITS)?;
     let mut second = PlainCommons::new(&mut site, 2);
-    let missing = second.take(1).err();
-    let empty = second.take(0).err();
+    let refused = (second.take(1).err(), second.take(0).err());
+    let wanted = (Some(Refusal::NoSuchDesk), Some(Refusal::DeskEmpty));
     same(
         &rt,
-        &missing,
-        &Some(Refusal::NoSuchDesk),
-        "a take off no desk",
-    );
-    same(
-        &rt,
-        &empty,
-        &Some(Refusal::DeskEmpty),
-        "a take off an empty desk",
+        &refused,
+        &wanted,
+        "a take off no desk, and off an empty one",
     );
     let mut first = PlainCommons::new(&mut site, 1);
     let packet = indirect(&mut first)?;
@@ -396,22 +347,18 @@ fn an_offer_refused_gives_the_packet_back(rt: HostRuntime) -> Result<(), Fail> {
     let is_offered = c.offer(0, first).is_ok();
     assert!(rt; is_offered);
     let second = indirect(&mut c)?;
-    let (missing, packet) = match c.offer(1, second) {
-        Ok(()) => return Err(Refusal::DeskEmpty.into()),
-        Err(refused) => refused,
+    let Err((missing, packet)) = c.offer(1, second) else {
+        return Err(Refusal::DeskEmpty.into());
     };
     same_segs(&rt, &packet, &[SECOND], "the packet back from no desk");
-    let (taken, packet) = match c.offer(0, packet) {
-        Ok(()) => return Err(Refusal::DeskEmpty.into()),
-        Err(refused) => refused,
+    let Err((taken, packet)) = c.offer(0, packet) else {
+        return Err(Refusal::DeskEmpty.into());
     };
-    same_segs(&rt, &packet, &[SECOND], "the packet back from a taken desk");
-    let refusals = (missing, taken);
     same(
         &rt,
-        &refusals,
-        &(Refusal::NoSuchDesk, Refusal::DeskTaken),
-        "the refusals",
+        &(missing, taken, packet.segs()),
+        &(Refusal::NoSuchDesk, Refusal::DeskTaken, [SECOND].as_slice()),
+        "the refusals, and the packet back from a taken desk",
     );
     let holds = (held(&site, 1), held(&site, 2));
     let kept = (Some((2, 0, Place::Held(2))), Some((1, 0, Place::Held(1))));

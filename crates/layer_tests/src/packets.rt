@@ -5,8 +5,8 @@ ghost use Rattle.commons.specs.Beside.{KeepsSides, LeavesOthers};
 ghost use Rattle.commons.specs.Lists.{hand_of, holds_of};
 ghost use Rattle.layer_tests.specs.OwnAtSite.{OwnAtSite};
 
-use crate::equal::same;
-use crate::rows::{Left, ONE, REFUSED_AT_A_GET, REFUSED_AT_A_RAISE, ROWS, Show, Step};
+use crate::equal::{same, text_of};
+use crate::rows::{ONE, REFUSED_AT_A_GET, REFUSED_AT_A_RAISE, ROWS, Step, Steps};
 use commons::laws::a_worker_leaves_the_others;
 use commons::limits::Limits;
 use commons::place::Place;
@@ -18,8 +18,8 @@ use std::alloc::Global;
 use std::process::Abort;
 use std::test::Fail;
 
-// Lets a worker do this.
-fn acted(packets: &mut Packets, c: &mut PlainCommons, act: Act) -> Reply
+/// Lets a worker do this.
+pub(crate) fn acted(packets: &mut Packets, c: &mut PlainCommons, act: Act) -> Reply
     requires own { OwnAtSite packets.old c.old }
     ensures own { OwnAtSite packets.new c.new }
     ensures others { LeavesOthers c.old c.new }
@@ -55,41 +55,10 @@ fn repeated(packets: &mut Packets, c: &mut PlainCommons, count: u32, chains: boo
 }
 
 // A reply as text. Of a bulk of more than 8 packets only the number is reported.
-fn told(alloc: Global, reply: Reply) -> Result<String, Fail> {
-    match &reply {
+fn told(alloc: Global, reply: &Reply) -> Result<String, Fail> {
+    match reply {
         Reply::Bulk(list) if list.len() > 8 => Ok(format!(in alloc; "{} packets", list.len())?),
-        _ => Ok(format!(in alloc; "{reply:?}")?),
-    }
-}
-
-// What a step shows of a worker's packets.
-fn shown(alloc: Global, packets: &Packets, show: Show) -> Result<String, Fail> {
-    match show {
-        Show::Number => Ok(format!(in alloc; "{}", packets.worker())?),
-        Show::Cache => Ok(format!(in alloc; "{:?}", packets.cache())?),
-        Show::Place(slot) => Ok(format!(in alloc; "{:?}", packets.place(slot))?),
-        Show::Bases(slot) => Ok(format!(in alloc; "{}", bases(packets, slot))?),
-    }
-}
-
-// Lets a worker take a step, and tells what came of it.
-#[tactic(auto, using(crate::proofs::BesideLemmas::beside))]
-fn said(
-    alloc: Global,
-    packets: &mut Packets,
-    c: &mut PlainCommons,
-    step: &Step,
-) -> Result<String, Fail>
-    requires own { OwnAtSite packets.old c.old }
-    ensures own { OwnAtSite packets.new c.new }
-    ensures others { LeavesOthers c.old c.new }
-{
-    match step {
-        Step::Act(act) => told(alloc, acted(packets, c, *act)),
-        Step::Makes(count) => Ok(format!(in alloc; "{}", repeated(packets, c, *count, false))?),
-        Step::Chains(count) => Ok(format!(in alloc; "{}", repeated(packets, c, *count, true))?),
-        Step::Segs(slot) => Ok(format!(in alloc; "{:?}", packets.segs(c, *slot))?),
-        Step::Shows(show) => shown(alloc, packets, *show),
+        _ => text_of(alloc, reply),
     }
 }
 
@@ -106,93 +75,114 @@ fn bases(packets: &Packets, slot: u32) -> u32 {
     count
 }
 
-// Lets a worker take its steps, and tells of the first of which something else came than is
-// expected.
-fn differs(
+// Lets a worker take a step, and tells what came of it.
+#[tactic(auto, using(crate::proofs::BesideLemmas::beside))]
+fn said(
     alloc: Global,
     packets: &mut Packets,
     c: &mut PlainCommons,
-    steps: &[(Step, &'static str)],
-) -> Result<Option<String>, Fail>
+    step: &Step,
+) -> Result<String, Fail>
+    requires own { OwnAtSite packets.old c.old }
+    ensures own { OwnAtSite packets.new c.new }
+    ensures others { LeavesOthers c.old c.new }
+{
+    match step {
+        Step::Act(act) => told(alloc, &acted(packets, c, *act)),
+        Step::Makes(count) => text_of(alloc, &repeated(packets, c, *count, false)),
+        Step::Chains(count) => text_of(alloc, &repeated(packets, c, *count, true)),
+        Step::Segs(slot) => text_of(alloc, &packets.segs(c, *slot)),
+        Step::Number => text_of(alloc, &packets.worker()),
+        Step::Cache => text_of(alloc, &packets.cache()),
+        Step::Place(slot) => text_of(alloc, &packets.place(*slot)),
+        Step::Bases(slot) => text_of(alloc, &bases(packets, *slot)),
+    }
+}
+
+// Lets a worker take its steps, each of which has to say what is expected.
+fn all_said<R: Abort + AllocGlobal>(
+    rt: &R,
+    name: &str,
+    packets: &mut Packets,
+    c: &mut PlainCommons,
+    steps: Steps,
+) -> Result<(), Fail>
     requires own { OwnAtSite packets.old c.old }
     ensures others { LeavesOthers c.old c.new }
 {
     for (place, (step, wanted)) in steps.iter().enumerate() {
-        let said = said(alloc, packets, c, step)?;
-        if said.as_str() != *wanted {
-            return Ok(Some(format!(in alloc; "step {place} says {said}")?));
-        }
+        let said = said(rt.alloc(), packets, c, step)?;
+        let at = (packets.worker(), place);
+        same(
+            rt,
+            &("worker, step", at, said.as_str()),
+            &("worker, step", at, *wanted),
+            name,
+        );
     }
-    Ok(None)
+    Ok(())
 }
 
-// Whether these elements are held so often in turn, 0 for one in the common list, and all after
-// them are in the common list.
-fn are_held(site: &PlainSite, counts: &[u32]) -> bool {
-    let mut same = true;
+// Lets a worker, who has nothing yet, take its steps.
+#[tactic(auto, using(crate::proofs::BesideLemmas::beside))]
+fn turn<R: Abort + AllocGlobal>(
+    rt: &R,
+    name: &str,
+    site: &mut PlainSite,
+    number: u32,
+    steps: Steps,
+) -> Result<(), Fail>
+    requires hand { (i : ℕ) → hand_of site.old number i ≡ 0 }
+    requires holds { (i : ℕ) → holds_of site.old number i ≡ 0 }
+    ensures sides { KeepsSides number site.old site.new }
+{
+    let mut packets = Packets::make(rt.alloc(), &site.limits(), number)?;
+    let mut c = PlainCommons::new(site, number);
+    let taken = all_said(rt, name, &mut packets, &mut c, steps);
+    packets.lose();
+    taken
+}
+
+// Lets the workers of a new pool, two at most, take their steps, one worker after another, and
+// answers the pool.
+fn played<R: Abort + AllocGlobal>(
+    rt: &R,
+    name: &str,
+    limits: &Limits,
+    workers: &[Steps],
+) -> Result<PlainSite, Fail> {
+    let mut site = PlainSite::make(rt.alloc(), limits)?;
+    for index in 0..2u32 {
+        let Some(steps) = workers.get(index as usize) else {
+            break;
+        };
+        turn(rt, name, &mut site, index + 1, steps)?;
+    }
+    Ok(site)
+}
+
+// These elements are held so often in turn, 0 for one in the common list, and all after them are in
+// the common list.
+fn assert_held<R: Abort>(rt: &R, site: &PlainSite, counts: &[u32], name: &str) {
     for (element, place) in site.places().iter().enumerate() {
         let wanted = match counts.get(element) {
             None | Some(0) => Place::Common,
             Some(count) => Place::Held(*count),
         };
-        same = same && *place == wanted;
+        same(rt, &(element, *place), &(element, wanted), name);
     }
-    same
-}
-
-// Lets a worker, who has nothing yet, take its steps, and tells of the first that isn't as
-// expected.
-#[tactic(auto, using(crate::proofs::BesideLemmas::beside))]
-fn turn(
-    alloc: Global,
-    site: &mut PlainSite,
-    number: u32,
-    steps: &[(Step, &'static str)],
-) -> Result<Option<String>, Fail>
-    requires hand { (i : ℕ) → hand_of site.old number i ≡ 0 }
-    requires holds { (i : ℕ) → holds_of site.old number i ≡ 0 }
-    ensures sides { KeepsSides number site.old site.new }
-{
-    let mut packets = Packets::make(alloc, &site.limits(), number)?;
-    let mut c = PlainCommons::new(site, number);
-    let differs = differs(alloc, &mut packets, &mut c, steps);
-    packets.lose();
-    differs
-}
-
-// Lets the workers of a new pool, two at most, take their steps, one worker after another, and
-// tells of the first thing that isn't as expected.
-fn played(
-    alloc: Global,
-    limits: &Limits,
-    workers: &[&[(Step, &'static str)]],
-    left: Left,
-) -> Result<Option<String>, Fail> {
-    let mut site = PlainSite::make(alloc, limits)?;
-    for index in 0..2u32 {
-        let Some(steps) = workers.get(index as usize) else {
-            break;
-        };
-        if let Some(text) = turn(alloc, &mut site, index + 1, steps)? {
-            return Ok(Some(format!(in alloc; "worker {}, {text}", index + 1)?));
-        }
-    }
-    let is_left = match left {
-        Left::Common(common) => site.common() == common,
-        Left::Held(counts) => are_held(&site, counts),
-        Left::Unsaid => true,
-    };
-    if is_left {
-        return Ok(None);
-    }
-    Ok(Some(format!(in alloc; "{:?} and {:?} are left", site.common(), site.places())?))
 }
 
 #[test]
 fn each_row_goes_as_it_says(rt: HostRuntime) -> Result<(), Fail> {
     for row in ROWS.iter() {
-        let differs = played(rt.alloc(), &row.limits, row.workers, row.left)?;
-        same(&rt, &differs, &None, row.name);
+        let site = played(&rt, row.name, &row.limits, row.workers)?;
+        if let Some(common) = row.common {
+            same(&rt, &site.common(), &common, row.name);
+        }
+        if let Some(held) = row.held {
+            assert_held(&rt, &site, held, row.name);
+        }
     }
     Ok(())
 }
@@ -201,22 +191,13 @@ fn each_row_goes_as_it_says(rt: HostRuntime) -> Result<(), Fail> {
 #[test]
 fn a_clone_refused_at_each_of_its_gets_leaves_all_as_before(rt: HostRuntime) -> Result<(), Fail> {
     for left in 0..32u64 {
+        let name = format!(in rt.alloc(); "{left} elements are left")?;
         let limits = Limits {
             population: 32 + left,
             ..ONE
         };
-        let differs = played(
-            rt.alloc(),
-            &limits,
-            &[&REFUSED_AT_A_GET],
-            Left::Held(&[1; 32]),
-        )?;
-        same(
-            &rt,
-            &(left, differs),
-            &(left, None),
-            "so many elements are left",
-        );
+        let site = played(&rt, name.as_str(), &limits, &[&REFUSED_AT_A_GET])?;
+        assert_held(&rt, &site, &[1; 32], name.as_str());
     }
     Ok(())
 }
@@ -226,6 +207,7 @@ fn a_clone_refused_at_each_of_its_gets_leaves_all_as_before(rt: HostRuntime) -> 
 #[test]
 fn a_clone_refused_at_each_of_its_raises_leaves_all_as_before(rt: HostRuntime) -> Result<(), Fail> {
     for spent in 0..32u32 {
+        let name = format!(in rt.alloc(); "the count of {spent} is at its limit")?;
         let limits = Limits {
             population: 65,
             ref_limit: 2,
@@ -235,13 +217,8 @@ fn a_clone_refused_at_each_of_its_raises_leaves_all_as_before(rt: HostRuntime) -
         steps[1] = (Step::Act(Act::Attach(32, spent)), "Attached");
         let mut counts = [1; 33];
         counts[spent as usize] = 2;
-        let differs = played(rt.alloc(), &limits, &[&steps], Left::Held(&counts))?;
-        same(
-            &rt,
-            &(spent, differs),
-            &(spent, None),
-            "the count of it is at its limit",
-        );
+        let site = played(&rt, name.as_str(), &limits, &[&steps])?;
+        assert_held(&rt, &site, &counts, name.as_str());
     }
     Ok(())
 }

@@ -5,7 +5,7 @@ use mbuf::acts::Act;
 
 /// What a worker does at one step of a row.
 #[derive(Clone, Copy)]
-pub enum Step {
+pub(crate) enum Step {
     /// It does this, and its reply is reported.
     Act(Act),
     /// It makes this many packets one at a time, and it reports how many stood in the slots from 0
@@ -16,49 +16,36 @@ pub enum Step {
     Chains(u32),
     /// The segments of the packet in this slot are reported.
     Segs(u32),
-    /// This is reported.
-    Shows(Show),
-}
-
-/// What a worker shows.
-#[derive(Clone, Copy)]
-pub enum Show {
-    /// Its number.
+    /// Its number is reported.
     Number,
-    /// Its cache.
+    /// Its cache is reported.
     Cache,
-    /// The packet in this slot.
+    /// The packet in this slot is reported.
     Place(u32),
-    /// How many segments of the packet in this slot use another's buffer.
+    /// It is reported how many segments of the packet in this slot use another's buffer.
     Bases(u32),
 }
 
-/// What is left once all workers have taken their steps.
-#[derive(Clone, Copy)]
-pub enum Left<'a> {
-    /// This is the common list, top last.
-    Common(&'a [u32]),
-    /// Each element is held this often. 0 is one of the common list, as all after them are.
-    Held(&'a [u32]),
-    /// The row doesn't say it.
-    Unsaid,
-}
+/// The steps of a worker, with what is reported of each.
+pub(crate) type Steps<'a> = &'a [(Step, &'static str)];
 
 /// What the workers of a new pool do, one after another.
-#[derive(Clone, Copy)]
-pub struct Row {
+pub(crate) struct Row {
     /// What it shows.
-    pub name: &'static str,
+    pub(crate) name: &'static str,
     /// The pool's limits.
-    pub limits: Limits,
-    /// The steps of worker 1, and then those of worker 2, with what is reported of each.
-    pub workers: &'static [&'static [(Step, &'static str)]],
-    /// What is left.
-    pub left: Left<'static>,
+    pub(crate) limits: Limits,
+    /// The steps of worker 1, and then those of worker 2.
+    pub(crate) workers: &'static [Steps<'static>],
+    /// The common list that is left, top last, where the row says it.
+    pub(crate) common: Option<&'static [u32]>,
+    /// How often each element is held then, where the row says it. 0 is one of the common list, as
+    /// all after them are.
+    pub(crate) held: Option<&'static [u32]>,
 }
 
 /// A pool of one worker, without desks.
-pub const ONE: Limits = Limits {
+pub(crate) const ONE: Limits = Limits {
     population: 4,
     cache: 0,
     workers: 1,
@@ -71,7 +58,7 @@ pub const ONE: Limits = Limits {
 };
 
 /// The rows.
-pub const ROWS: [Row; 14] = [
+pub(crate) static ROWS: [Row; 14] = [
     Row {
         name: "a chain is freed",
         limits: ONE,
@@ -84,7 +71,8 @@ pub const ROWS: [Row; 14] = [
                 "Freed(Freed { back: 2, flushed: 2, put_off: None })",
             ),
         ]],
-        left: Left::Common(&[3, 2, 0, 1]),
+        common: Some(&[3, 2, 0, 1]),
+        held: None,
     },
     Row {
         name: "lengths change within the buffer",
@@ -101,11 +89,12 @@ pub const ROWS: [Row; 14] = [
             (Step::Act(Act::Adj(0, 2_049)), "Refused(TooShort)"),
             (Step::Act(Act::Trim(0, 2_048)), "Len(0)"),
             (
-                Step::Shows(Show::Place(0)),
+                Step::Place(0),
                 "Some(Packet { segs: [Seg { elem: 0, base: None, data_off: 0, data_len: 0, buf_len: 2048 }] })",
             ),
         ]],
-        left: Left::Unsaid,
+        common: None,
+        held: None,
     },
     Row {
         name: "a packet has 32 segments at most",
@@ -123,7 +112,8 @@ pub const ROWS: [Row; 14] = [
             (Step::Act(Act::PktLen(32)), "Len(0)"),
             (Step::Act(Act::PktLen(256)), "Refused(NoSuchPacket)"),
         ]],
-        left: Left::Unsaid,
+        common: None,
+        held: None,
     },
     Row {
         name: "the 257th packet is refused, and one that is freed leaves its slot to the next",
@@ -145,7 +135,8 @@ pub const ROWS: [Row; 14] = [
                 "Ok([Seg { elem: 7, base: None, data_off: 128, data_len: 0, buf_len: 2048 }])",
             ),
         ]],
-        left: Left::Unsaid,
+        common: None,
+        held: None,
     },
     Row {
         name: "an alloc fills the cache with five and takes the last, and a flush gives the other four back",
@@ -156,12 +147,13 @@ pub const ROWS: [Row; 14] = [
         },
         workers: &[&[
             (Step::Act(Act::Alloc), "Allocated(0, 4)"),
-            (Step::Shows(Show::Cache), "[0, 1, 2, 3]"),
+            (Step::Cache, "[0, 1, 2, 3]"),
             (Step::Act(Act::Flush), "Put(Flushed(4))"),
             (Step::Act(Act::Flush), "Put(Kept)"),
-            (Step::Shows(Show::Number), "1"),
+            (Step::Number, "1"),
         ]],
-        left: Left::Common(&[7, 6, 5, 0, 1, 2, 3]),
+        common: Some(&[7, 6, 5, 0, 1, 2, 3]),
+        held: None,
     },
     Row {
         name: "a bulk fills the lowest free slots",
@@ -184,7 +176,8 @@ pub const ROWS: [Row; 14] = [
                 "Bulk([NewPacket { slot: 1, elem: 1 }, NewPacket { slot: 4, elem: 4 }])",
             ),
         ]],
-        left: Left::Common(&[7, 6, 5]),
+        common: Some(&[7, 6, 5]),
+        held: None,
     },
     Row {
         name: "a bulk past the last free slot asks the pool for nothing",
@@ -196,7 +189,8 @@ pub const ROWS: [Row; 14] = [
             (Step::Act(Act::AllocBulk(250)), "250 packets"),
             (Step::Act(Act::AllocBulk(7)), "Refused(PacketsFull)"),
         ]],
-        left: Left::Held(&[1; 250]),
+        common: None,
+        held: Some(&[1; 250]),
     },
     Row {
         name: "each act is replied to",
@@ -225,7 +219,8 @@ pub const ROWS: [Row; 14] = [
             (Step::Act(Act::Flush), "Put(Flushed(4))"),
             (Step::Act(Act::AllocBulk(257)), "Refused(PacketsFull)"),
         ]],
-        left: Left::Unsaid,
+        common: None,
+        held: None,
     },
     Row {
         name: "each act on a desk is replied to",
@@ -254,7 +249,8 @@ pub const ROWS: [Row; 14] = [
             (Step::Act(Act::PktLen(0)), "Len(60)"),
             (Step::Act(Act::Take(0)), "Refused(DeskEmpty)"),
         ]],
-        left: Left::Held(&[0, 1, 1]),
+        common: None,
+        held: Some(&[0, 1, 1]),
     },
     Row {
         name: "a full table takes no packet, and a desk that the pool hasn't is told of before",
@@ -279,7 +275,8 @@ pub const ROWS: [Row; 14] = [
                 "Ok([Seg { elem: 0, base: None, data_off: 128, data_len: 0, buf_len: 2048 }])",
             ),
         ]],
-        left: Left::Unsaid,
+        common: None,
+        held: None,
     },
     Row {
         name: "a packet passes from worker to worker",
@@ -293,7 +290,7 @@ pub const ROWS: [Row; 14] = [
                 (Step::Act(Act::Alloc), "Allocated(0, 0)"),
                 (Step::Act(Act::Append(0, 60)), "Len(60)"),
                 (Step::Act(Act::Offer(0, 0)), "Offered"),
-                (Step::Shows(Show::Place(0)), "None"),
+                (Step::Place(0), "None"),
             ],
             &[
                 (Step::Act(Act::Alloc), "Allocated(0, 1)"),
@@ -306,7 +303,8 @@ pub const ROWS: [Row; 14] = [
                 ),
             ],
         ],
-        left: Left::Unsaid,
+        common: None,
+        held: None,
     },
     Row {
         name: "a count is the number of holds: a clone of a clone uses the same buffer",
@@ -328,7 +326,8 @@ pub const ROWS: [Row; 14] = [
             (Step::Act(Act::Attach(1, 0)), "Attached"),
             (Step::Act(Act::CountOf(0)), "Count(3)"),
         ]],
-        left: Left::Held(&[3, 1, 1]),
+        common: None,
+        held: Some(&[3, 1, 1]),
     },
     Row {
         name: "a base goes back with the last clone that uses it, before the clone's own element",
@@ -345,7 +344,8 @@ pub const ROWS: [Row; 14] = [
                 "Freed(Freed { back: 2, flushed: 2, put_off: None })",
             ),
         ]],
-        left: Left::Common(&[3, 2, 0, 1]),
+        common: Some(&[3, 2, 0, 1]),
+        held: None,
     },
     Row {
         name: "each act on a shared buffer is replied to",
@@ -365,28 +365,29 @@ pub const ROWS: [Row; 14] = [
             ),
             (Step::Act(Act::ClonePacket(7)), "Refused(NoSuchPacket)"),
         ]],
-        left: Left::Unsaid,
+        common: None,
+        held: None,
     },
 ];
 
 /// A clone of 32 segments that is refused at a get.
-pub const REFUSED_AT_A_GET: [(Step, &'static str); 6] = [
+pub(crate) const REFUSED_AT_A_GET: [(Step, &'static str); 6] = [
     (Step::Makes(32), "32"),
     (Step::Chains(32), "31"),
     (Step::Act(Act::ClonePacket(0)), "Refused(NoEntries)"),
     (Step::Act(Act::NbSegs(0)), "Segs(32)"),
-    (Step::Shows(Show::Bases(0)), "0"),
-    (Step::Shows(Show::Place(1)), "None"),
+    (Step::Bases(0), "0"),
+    (Step::Place(1), "None"),
 ];
 
 /// A clone of 32 segments that is refused at the raise of the element to which another packet is
 /// attached at the second step.
-pub const REFUSED_AT_A_RAISE: [(Step, &'static str); 7] = [
+pub(crate) const REFUSED_AT_A_RAISE: [(Step, &'static str); 7] = [
     (Step::Makes(33), "33"),
     (Step::Act(Act::Attach(32, 0)), "Attached"),
     (Step::Chains(32), "31"),
     (Step::Act(Act::ClonePacket(0)), "Refused(RefSpent)"),
     (Step::Act(Act::NbSegs(0)), "Segs(32)"),
-    (Step::Shows(Show::Bases(0)), "0"),
-    (Step::Shows(Show::Place(1)), "None"),
+    (Step::Bases(0), "0"),
+    (Step::Place(1), "None"),
 ];

@@ -1,18 +1,18 @@
 //! Two workers of one pool, each with packets of its own, which the other's calls leave so.
 
 ghost use Rattle.std.specs.Prelude.{◌≡◌, ◌≤◌, ℕ, length};
-ghost use Rattle.commons.specs.Beside.{KeepsSides, LeavesOthers};
+ghost use Rattle.commons.specs.Beside.{KeepsSides};
 ghost use Rattle.commons.specs.Lists.{hand_of, holds_of, side_of};
-ghost use Rattle.layer_tests.specs.OwnAtSite.{OwnAtSite};
 ghost use Rattle.mbuf.specs.Own.{Own};
 
 use crate::equal::same;
-use commons::laws::a_worker_leaves_the_others;
+use crate::packets::acted;
 use commons::limits::{Limits, PutRule};
 use commons::plain::PlainCommons;
 use commons::refusal::Refusal;
 use commons::shared::Commons;
 use commons::site::PlainSite;
+use mbuf::acts::{Act, Reply};
 use mbuf::laws::packets_stay_own;
 use mbuf::packets::{Packets, Pid};
 use std::alloc::Global;
@@ -30,18 +30,8 @@ const LIMITS: Limits = Limits {
     put_rule: PutRule::Keep,
 };
 
-// Makes a packet of one element, at any site.
-fn made(packets: &mut Packets, c: &mut PlainCommons) -> Result<Pid, Refusal>
-    requires own { OwnAtSite packets.old c.old }
-    ensures own { OwnAtSite packets.new c.new }
-    ensures others { LeavesOthers c.old c.new }
-{
-    a_worker_leaves_the_others();
-    packets.alloc(c)
-}
-
 // Lets a worker make a packet at a site, where every other worker keeps what it has.
-fn made_at(site: &mut PlainSite, worker: u32, packets: &mut Packets) -> Result<Pid, Refusal>
+fn made_at(site: &mut PlainSite, worker: u32, packets: &mut Packets) -> Reply
     requires low { 1 ≤ worker }
     requires high { worker ≤ site.old.limits.workers }
     requires own { Own packets.old (side_of site.old worker) }
@@ -49,27 +39,7 @@ fn made_at(site: &mut PlainSite, worker: u32, packets: &mut Packets) -> Result<P
     ensures sides { KeepsSides worker site.old site.new }
 {
     let mut c = PlainCommons::new(site, worker);
-    made(packets, &mut c)
-}
-
-// Lets one worker make a packet, and then another, whose packets were its own before the first
-// one's call and are so still. The first one's stay its own too.
-fn both_made(
-    site: &mut PlainSite,
-    first: &mut Packets,
-    second: &mut Packets,
-) -> (Result<Pid, Refusal>, Result<Pid, Refusal>)
-    requires two { 2 ≤ site.old.limits.workers }
-    requires first { Own first.old (side_of site.old 1) }
-    requires second { Own second.old (side_of site.old 2) }
-    ensures first { Own first.new (side_of site.new 1) }
-    ensures second { Own second.new (side_of site.new 2) }
-    ensures limits { site.new.limits ≡ site.old.limits }
-{
-    packets_stay_own();
-    let one = made_at(site, 1, first);
-    let other = made_at(site, 2, second);
-    (one, other)
+    acted(packets, &mut c, Act::Alloc)
 }
 
 // A byte of the buffer of a packet's first segment, for a caller that keeps a buffer for each
@@ -89,8 +59,9 @@ fn first_elem(packets: &Packets) -> Option<u32> {
     Some(packets.place(0)?.segs()[0].elem)
 }
 
-// Makes worker 2 of a pool of three elements, who has nothing yet, lets both workers make a packet,
-// and tells of their elements and of the first one's byte.
+// Makes worker 2 of a pool of three elements, who has nothing yet, lets worker 1 make a packet and
+// then worker 2, and tells of their elements and of the first one's byte. What the other does leaves
+// each one's packets its own.
 fn with_second(
     alloc: Global,
     site: &mut PlainSite,
@@ -102,8 +73,10 @@ fn with_second(
     requires hand { (i : ℕ) → hand_of site.old 2 i ≡ 0 }
     requires holds { (i : ℕ) → holds_of site.old 2 i ≡ 0 }
 {
+    packets_stay_own();
     let mut second = Packets::make(alloc, &site.limits(), 2)?;
-    let _made = both_made(site, first, &mut second);
+    let _one = made_at(site, 1, first);
+    let _other = made_at(site, 2, &mut second);
     let other = first_elem(&second);
     second.lose();
     let c = PlainCommons::new(site, 1);

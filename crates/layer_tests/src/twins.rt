@@ -1,23 +1,20 @@
 //! Plays what a worker of two pools does on two lists, and looks at what is reported to it and what
 //! is left of either pool.
 
-ghost use Rattle.std.specs.Prelude.{◌≡◌};
 ghost use Rattle.layer_tests.specs.OwnAtSite.{OwnAtSites};
 
-use crate::equal::same;
+use crate::equal::{same, text_of};
 use commons::limits::{Limits, PutRule};
-use commons::packet::Seg;
 use commons::place::Place;
 use commons::plain::PlainCommons;
 use commons::site::PlainSite;
 use mbuf::acts::Act;
 use mbuf::twin::Twin;
-use std::alloc::{AllocError, Global};
-use std::fmt::Write;
+use std::alloc::Global;
+use std::process::Abort;
 use std::test::Fail;
 
 /// What a worker of two pools does at one step.
-#[derive(Clone, Copy)]
 enum Step {
     /// It does this with its packets of the first pool, and its reply is reported.
     First(Act),
@@ -31,22 +28,20 @@ enum Step {
     Count(u32),
     /// It frees the clone.
     Free(u32),
-    /// The segments of the clone in this slot are reported.
-    Segs(u32),
+    /// The clone in this slot is reported.
+    Place(u32),
     /// Its caches are reported, that of the first pool and that of the second.
     Caches,
 }
 
 /// What is left of a pool: the common list, top last, and so often is each element held, 0 being
 /// one that isn't.
-#[derive(Clone, Copy)]
 struct Left {
     common: &'static [u32],
     held: &'static [u32],
 }
 
 /// What a worker of two new pools does.
-#[derive(Clone, Copy)]
 struct Row {
     name: &'static str,
     first: Limits,
@@ -75,7 +70,7 @@ const SECOND: Limits = Limits {
     ..FIRST
 };
 
-const ROWS: [Row; 9] = [
+static ROWS: [Row; 9] = [
     Row {
         name: "a foreign clone keeps its base when the packet is freed",
         first: FIRST,
@@ -90,7 +85,10 @@ const ROWS: [Row; 9] = [
                 "Freed(Freed { back: 0, flushed: 0, put_off: None })",
             ),
             (Step::Count(0), "Ok(1)"),
-            (Step::Segs(0), "0>0@128+100/2048"),
+            (
+                Step::Place(0),
+                "Some(Packet { segs: [Seg { elem: 0, base: Some(0), data_off: 128, data_len: 100, buf_len: 2048 }] })",
+            ),
         ],
         first_left: Left {
             common: &[3, 2, 1],
@@ -139,7 +137,7 @@ const ROWS: [Row; 9] = [
             (Step::First(Act::Alloc), "Allocated(1, 1)"),
             (Step::First(Act::Chain(0, 1)), "Chained(2, 0)"),
             (Step::CloneInto(0), "Err(NoEntries)"),
-            (Step::Segs(0), "none"),
+            (Step::Place(0), "None"),
         ],
         first_left: Left {
             common: &[3, 2],
@@ -164,7 +162,7 @@ const ROWS: [Row; 9] = [
             (Step::First(Act::Alloc), "Allocated(0, 0)"),
             (Step::CloneInto(0), "Ok(0)"),
             (Step::CloneInto(0), "Err(RefSpent)"),
-            (Step::Segs(1), "none"),
+            (Step::Place(1), "None"),
         ],
         first_left: Left {
             common: &[3, 2, 1],
@@ -183,7 +181,10 @@ const ROWS: [Row; 9] = [
             (Step::First(Act::Alloc), "Allocated(0, 0)"),
             (Step::First(Act::ClonePacket(0)), "Cloned(1, [1])"),
             (Step::CloneInto(1), "Ok(0)"),
-            (Step::Segs(0), "0>0@128+0/2048"),
+            (
+                Step::Place(0),
+                "Some(Packet { segs: [Seg { elem: 0, base: Some(0), data_off: 128, data_len: 0, buf_len: 2048 }] })",
+            ),
         ],
         first_left: Left {
             common: &[3, 2],
@@ -206,7 +207,10 @@ const ROWS: [Row; 9] = [
             (Step::Adj(0, 10), "Ok(90)"),
             (Step::Trim(0, 20), "Ok(70)"),
             (Step::Trim(0, 71), "Err(TooShort)"),
-            (Step::Segs(0), "0>0@138+70/2048"),
+            (
+                Step::Place(0),
+                "Some(Packet { segs: [Seg { elem: 0, base: Some(0), data_off: 138, data_len: 70, buf_len: 2048 }] })",
+            ),
             (Step::First(Act::PktLen(0)), "Len(100)"),
         ],
         first_left: Left {
@@ -249,9 +253,9 @@ const ROWS: [Row; 9] = [
         },
         steps: &[
             (Step::First(Act::Alloc), "Allocated(0, 2)"),
-            (Step::Caches, "[0, 1] []"),
+            (Step::Caches, "([0, 1], [])"),
             (Step::CloneInto(0), "Ok(0)"),
-            (Step::Caches, "[0, 1] [0, 1]"),
+            (Step::Caches, "([0, 1], [0, 1])"),
             (
                 Step::First(Act::Free(0)),
                 "Freed(Freed { back: 0, flushed: 0, put_off: None })",
@@ -260,7 +264,7 @@ const ROWS: [Row; 9] = [
                 Step::Free(0),
                 "Ok(Freed { back: 2, flushed: 2, put_off: None })",
             ),
-            (Step::Caches, "[0, 1] [0, 1]"),
+            (Step::Caches, "([0, 1], [0, 1])"),
         ],
         first_left: Left {
             common: &[3, 2],
@@ -293,7 +297,7 @@ const ROWS: [Row; 9] = [
                 Step::Free(0),
                 "Ok(Freed { back: 2, flushed: 0, put_off: Some((1, HeadSpent)) })",
             ),
-            (Step::Caches, "[0] [0]"),
+            (Step::Caches, "([0], [0])"),
         ],
         first_left: Left {
             common: &[3, 2, 1],
@@ -306,143 +310,85 @@ const ROWS: [Row; 9] = [
     },
 ];
 
-// The segments of the clone in a slot as a statement prints them.
-fn segs_of(alloc: Global, twin: &Twin, slot: u32) -> Result<String, Fail> {
-    let Some(packet) = twin.second().place(slot) else {
-        return Ok(format!(in alloc; "none")?);
-    };
-    let mut text = String::new(alloc);
-    for seg in packet.segs() {
-        if !text.is_empty() {
-            text.push_str(" ")?;
-        }
-        write_seg(&mut text, seg)?;
-    }
-    Ok(text)
-}
-
-// Adds a segment as a statement prints it.
-fn write_seg(text: &mut String, seg: &Seg) -> Result<(), AllocError> {
-    write!(text, "{}", seg.elem)?;
-    if let Some(base) = seg.base {
-        write!(text, ">{base}")?;
-    }
-    write!(text, "@{}+{}/{}", seg.data_off, seg.data_len, seg.buf_len)
-}
-
 // Lets a worker take a step, and reports what came of it.
 fn said(
     alloc: Global,
     twin: &mut Twin,
     c: &mut PlainCommons,
     d: &mut PlainCommons,
-    step: Step,
+    step: &Step,
 ) -> Result<String, Fail>
     requires own { OwnAtSites twin.old c.old d.old }
     ensures own { OwnAtSites twin.new c.new d.new }
 {
     match step {
-        Step::First(act) => {
-            let reply = twin.perform_first(c, d, act);
-            Ok(format!(in alloc; "{reply:?}")?)
-        }
-        Step::CloneInto(p) => {
-            let answer = twin.clone_into(c, d, p);
-            Ok(format!(in alloc; "{answer:?}")?)
-        }
-        Step::Adj(p, len) => {
-            let answer = twin.adj_clone(c, d, p, len);
-            Ok(format!(in alloc; "{answer:?}")?)
-        }
-        Step::Trim(p, len) => {
-            let answer = twin.trim_clone(c, d, p, len);
-            Ok(format!(in alloc; "{answer:?}")?)
-        }
-        Step::Count(p) => {
-            let answer = twin.count_clone(c, d, p);
-            Ok(format!(in alloc; "{answer:?}")?)
-        }
-        Step::Free(p) => {
-            let answer = twin.free_clone(c, d, p);
-            Ok(format!(in alloc; "{answer:?}")?)
-        }
-        Step::Segs(slot) => segs_of(alloc, twin, slot),
-        Step::Caches => {
-            Ok(format!(in alloc; "{:?} {:?}", twin.first().cache(), twin.second().cache())?)
-        }
+        Step::First(act) => text_of(alloc, &twin.perform_first(c, d, *act)),
+        Step::CloneInto(p) => text_of(alloc, &twin.clone_into(c, d, *p)),
+        Step::Adj(p, len) => text_of(alloc, &twin.adj_clone(c, d, *p, *len)),
+        Step::Trim(p, len) => text_of(alloc, &twin.trim_clone(c, d, *p, *len)),
+        Step::Count(p) => text_of(alloc, &twin.count_clone(c, d, *p)),
+        Step::Free(p) => text_of(alloc, &twin.free_clone(c, d, *p)),
+        Step::Place(slot) => text_of(alloc, &twin.second().place(*slot)),
+        Step::Caches => text_of(alloc, &(twin.first().cache(), twin.second().cache())),
     }
 }
 
-// Lets a worker take its steps, and reports the first that came to something else than is expected.
-fn differs(
-    alloc: Global,
+// Lets a worker take its steps, each of which has to come to what is expected.
+fn all_said<R: Abort + AllocGlobal>(
+    rt: &R,
     twin: &mut Twin,
     c: &mut PlainCommons,
     d: &mut PlainCommons,
-    steps: &[(Step, &'static str)],
-) -> Result<Option<String>, Fail>
+    row: &Row,
+) -> Result<(), Fail>
     requires own { OwnAtSites twin.old c.old d.old }
 {
-    for (place, (step, wanted)) in steps.iter().enumerate() {
-        let said = said(alloc, twin, c, d, *step)?;
-        if said.as_str() != *wanted {
-            return Ok(Some(format!(in alloc; "step {place} says {said}")?));
-        }
+    for (place, (step, wanted)) in row.steps.iter().enumerate() {
+        let said = said(rt.alloc(), twin, c, d, step)?;
+        same(
+            rt,
+            &("step", place, said.as_str()),
+            &("step", place, *wanted),
+            row.name,
+        );
     }
-    Ok(None)
+    Ok(())
 }
 
-// How often what is in this place is held.
-fn holds_of(place: Place) -> u32 {
-    match place {
-        Place::Held(count) => count,
-        _ => 0,
+// This is left of a pool.
+fn assert_left<R: Abort>(rt: &R, site: &PlainSite, left: &Left, name: &str) {
+    same(rt, &site.common(), &left.common, name);
+    same(rt, &site.places().len(), &left.held.len(), name);
+    for (element, (place, wanted)) in site.places().iter().zip(left.held).enumerate() {
+        let held = match place {
+            Place::Held(count) => *count,
+            _ => 0,
+        };
+        same(rt, &(element, held), &(element, *wanted), name);
     }
 }
 
-// Whether this is left of a pool.
-fn is_left(site: &PlainSite, left: Left) -> bool {
-    let places = site.places();
-    site.common() == left.common
-        && places.len() == left.held.len()
-        && places
-            .iter()
-            .zip(left.held)
-            .all(|(place, held)| holds_of(*place) == *held)
-}
-
-// Lets a worker of two new pools take its steps, and reports the first thing that isn't as
-// expected.
-fn played(alloc: Global, row: &Row) -> Result<Option<String>, Fail> {
-    let mut first = PlainSite::make(alloc, &row.first)?;
-    let mut second = PlainSite::make(alloc, &row.second)?;
-    let mut twin = Twin::make(alloc, &row.first, &row.second, 1)?;
-    let differs = {
+// Lets a worker of two new pools take its steps, and looks at what is left of both.
+fn play<R: Abort + AllocGlobal>(rt: &R, row: &Row) -> Result<(), Fail> {
+    let mut first = PlainSite::make(rt.alloc(), &row.first)?;
+    let mut second = PlainSite::make(rt.alloc(), &row.second)?;
+    let mut twin = Twin::make(rt.alloc(), &row.first, &row.second, 1)?;
+    let taken = {
         let mut c = PlainCommons::new(&mut first, 1);
         let mut d = PlainCommons::new(&mut second, 1);
-        differs(alloc, &mut twin, &mut c, &mut d, row.steps)
+        all_said(rt, &mut twin, &mut c, &mut d, row)
     };
     twin.lose();
-    if let Some(text) = differs? {
-        return Ok(Some(text));
-    }
-    if is_left(&first, row.first_left) && is_left(&second, row.second_left) {
-        return Ok(None);
-    }
-    Ok(Some(format!(in alloc;
-        "{:?} and {:?} are left, and of the second pool {:?} and {:?}",
-        first.common(),
-        first.places(),
-        second.common(),
-        second.places()
-    )?))
+    taken?;
+    assert_left(rt, &first, &row.first_left, row.name);
+    assert_left(rt, &second, &row.second_left, row.name);
+    Ok(())
 }
 
 #[test]
 fn each_row_of_two_pools_goes_as_it_says(rt: HostRuntime) -> Result<(), Fail> {
     for row in ROWS.iter() {
-        let differs = played(rt.alloc(), row)?;
-        same(&rt, &differs, &None, row.name);
+        play(&rt, row)?;
     }
     Ok(())
 }

@@ -4,7 +4,7 @@ use Rattle.layer_tests.proofs.packets.played.Goals as goal
 
 -- in a new pool nobody has anything
 pub loop-index-init : goal.loop-index-init
-loop-index-init c =
+loop-index-init g c =
     let l = c.args.limits.now in
     record {
       hands = λ w i e. rw c.in_ok-site.ensures.ok (nothing_in_hand l.population w i);
@@ -13,7 +13,7 @@ loop-index-init c =
 
 -- a worker's turn leaves what the others have
 pub loop-index-preserved : goal.loop-index-preserved
-loop-index-preserved c =
+loop-index-preserved g c =
     let inv = c.loop-index.invariant in
     let others = c.turn.ensures.sides.others in
     record {

@@ -4,8 +4,8 @@ use Rattle.mbuf.proofs.OwnLemmas.{own_new}
 use Rattle.layer_tests.proofs.packets.turn.Goals as goal
 
 -- a new worker's packets are its own
-pub differs-differs-requires : goal.differs-differs-requires
-differs-differs-requires c =
+pub all_said-taken-requires : goal.all_said-taken-requires
+all_said-taken-requires g c =
     let s = c.args.site.now in
     let w = c.args.number in
     let own : OwnAtSite c.in_ok-packets.packets c.new-c.result =

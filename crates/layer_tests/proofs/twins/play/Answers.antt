@@ -1,11 +1,11 @@
 use Rattle.commons.specs.Lists.{side_of}
 use Rattle.mbuf.specs.Twins.{OwnTwin}
 use Rattle.layer_tests.proofs.NewSites.{new_own_twin}
-use Rattle.layer_tests.proofs.twins.played.Goals as goal
+use Rattle.layer_tests.proofs.twins.play.Goals as goal
 
 -- a new worker of two new pools is its own in both
-pub differs-differs-requires : goal.differs-differs-requires
-differs-differs-requires c =
+pub all_said-taken-requires : goal.all_said-taken-requires
+all_said-taken-requires g c =
     let row = c.args.row.now in
     let own : OwnTwin c.in_ok-twin.twin (side_of c.new-c.result.site.now c.new-c.result.worker)
     (side_of c.new-d.result.site.now c.new-d.result.worker) =
