@@ -2,18 +2,16 @@
 //! in decimal. It is read without a tree of serde's values, which takes three times the memory. What
 //! is written otherwise isn't refused here: nothing is said of it.
 
-ghost use Rattle.std.specs.Prelude.{[], ◌≡◌, ◌<◌, ◌^◌, IfSome, IsSomeAnd, Some, decimal, map, true};
+ghost use Rattle.std.specs.Prelude.{[], ◌≡◌, ◌<◌, ◌^◌, IfSome, IsSomeAnd, Some, decimal, true};
 ghost use Rattle.commons.specs.declared.packet.Seg.{Seg};
 ghost use Rattle.json.specs.Json.{array, document, member as a_member, no_members, object, skip_value};
 ghost use Rattle.json.specs.Strict.{HasUniqueKeys};
 ghost use Rattle.json.specs.Value.{items_view, members_view, value_view};
 ghost use Rattle.pool_model.specs.declared.guest.Guest.{Guest};
-ghost use Rattle.serde_json.specs.Data.{boolean};
 ghost use Rattle.serde_json.specs.Read.{max_depth, read};
 ghost use Rattle.snapshot.specs.declared.snapshot.ShareData.{ShareData};
-ghost use Rattle.snapshot_json.specs.Dumped.{AreOf, IsLow, IsOf, Passes};
-ghost use Rattle.snapshot_json.specs.SnapshotData.{common_data, guest_data, guests_data, limits_data, place_data, places_data, rule_data, share_data, shares_data};
-ghost use Rattle.statement_text.specs.StatementData.{base_data, count_data, counts_data, seg_data, segs_data};
+ghost use Rattle.snapshot_json.specs.Dumped.{IsLow, IsOf, Passes};
+ghost use Rattle.snapshot_json.specs.SnapshotData.{common_data};
 
 use crate::reading::Listed;
 use commons::limits::{Limits, PutRule};
@@ -28,6 +26,17 @@ use std::alloc::Global;
 /// The members of an object that are still to be read.
 type Members<'v, 'a> = &'v [(&'a str, Value<'a>)];
 
+/// A part of a snapshot, which is read of a value.
+trait Part: Drop {
+    ghost use Rattle.serde_json.specs.Data.{Data};
+
+    ghost data_of: { Self → Data };
+
+    /// The part that a value is, if it is one.
+    fn read(alloc: Global, value: &Value<'_>) -> Option<Self>
+        ensures { IfSome result (λ part. IsOf (value_view value.now) (data_of part)) };
+}
+
 /// The members of a value, if it is an object.
 fn members<'v, 'a>(value: &'v Value<'a>) -> Option<Members<'v, 'a>>
     ensures { IfSome result (λ ms. value_view value.now ≡ object (members_view ms.now)) }
@@ -38,13 +47,20 @@ fn members<'v, 'a>(value: &'v Value<'a>) -> Option<Members<'v, 'a>>
     }
 }
 
-/// The value of the first member, if it has this key, and the members behind it.
-fn member<'v, 'a>(members: Members<'v, 'a>, key: &str) -> Option<(&'v Value<'a>, Members<'v, 'a>)>
-    ensures { IfSome result (λ r. members_view members.now
-        ≡ a_member key.now (value_view r.0.now) (members_view r.1.now)) }
+/// The part that the first member is, if it has this key, and the members behind it.
+fn at<'v, 'a, T: Part>(
+    alloc: Global,
+    members: Members<'v, 'a>,
+    key: &str,
+) -> Option<(T, Members<'v, 'a>)>
+    ensures { IfSome result (λ r. Passes key.now (T.data_of r.0)
+        (members_view members.now) (members_view r.1.now)) }
 {
     match members.split_first() {
-        Some((first, rest)) if first.0 == key => Some((&first.1, rest)),
+        Some((first, rest)) if first.0 == key => {
+            let part = T::read(alloc, &first.1)?;
+            Some((part, rest))
+        }
         _ => None,
     }
 }
@@ -74,357 +90,244 @@ fn is_written(number: u64, digits: &str) -> bool
 }
 
 /// A number.
-fn number(value: &Value<'_>) -> Option<u64>
-    ensures { IfSome result (λ n. IsOf (value_view value.now) (count_data n)) }
-{
-    let digits = value.as_number()?;
-    let number = value.as_u64()?;
-    if is_written(number, digits) {
-        Some(number)
-    } else {
-        None
+impl Part for u64 {
+    ghost use Rattle.statement_text.specs.StatementData.{count_data};
+
+    ghost data_of = { count_data };
+
+    fn read(_alloc: Global, value: &Value<'_>) -> Option<u64> {
+        let digits = value.as_number()?;
+        let number = value.as_u64()?;
+        if is_written(number, digits) {
+            Some(number)
+        } else {
+            None
+        }
     }
 }
 
 /// A number below 2^32.
-fn word(value: &Value<'_>) -> Option<u32>
-    ensures { IfSome result (λ n. IsOf (value_view value.now) (count_data n)) }
-{
-    let number = number(value)?;
-    if number < 1 << 32 {
-        Some(number as u32)
-    } else {
-        None
+impl Part for u32 {
+    ghost use Rattle.statement_text.specs.StatementData.{count_data};
+
+    ghost data_of = { count_data };
+
+    fn read(alloc: Global, value: &Value<'_>) -> Option<u32> {
+        let number = u64::read(alloc, value)?;
+        if number < 1 << 32 {
+            Some(number as u32)
+        } else {
+            None
+        }
     }
 }
 
-/// The number of the first member, if it has this key.
-fn number_at<'v, 'a>(members: Members<'v, 'a>, key: &str) -> Option<(u64, Members<'v, 'a>)>
-    ensures { IfSome result (λ r. Passes key.now (count_data r.0)
-        (members_view members.now) (members_view r.1.now)) }
-{
-    let found = member(members, key)?;
-    let number = number(found.0)?;
-    Some((number, found.1))
-}
+/// A number below 2^16.
+impl Part for u16 {
+    ghost use Rattle.statement_text.specs.StatementData.{count_data};
 
-/// The number below 2^32 of the first member, if it has this key.
-fn word_at<'v, 'a>(members: Members<'v, 'a>, key: &str) -> Option<(u32, Members<'v, 'a>)>
-    ensures { IfSome result (λ r. Passes key.now (count_data r.0)
-        (members_view members.now) (members_view r.1.now)) }
-{
-    let found = number_at(members, key)?;
-    let number = found.0;
-    if number < 1 << 32 {
-        Some((number as u32, found.1))
-    } else {
-        None
-    }
-}
+    ghost data_of = { count_data };
 
-/// The number below 2^16 of the first member, if it has this key.
-fn short_at<'v, 'a>(members: Members<'v, 'a>, key: &str) -> Option<(u16, Members<'v, 'a>)>
-    ensures { IfSome result (λ r. Passes key.now (count_data r.0)
-        (members_view members.now) (members_view r.1.now)) }
-{
-    let found = number_at(members, key)?;
-    let number = found.0;
-    if number < 1 << 16 {
-        Some((number as u16, found.1))
-    } else {
-        None
+    fn read(alloc: Global, value: &Value<'_>) -> Option<u16> {
+        let number = u64::read(alloc, value)?;
+        if number < 1 << 16 {
+            Some(number as u16)
+        } else {
+            None
+        }
     }
 }
 
 /// A base: a number below 2^32, or null.
-fn base(value: &Value<'_>) -> Option<Option<u32>>
-    ensures { IfSome result (λ base. IsOf (value_view value.now) (base_data base)) }
-{
-    if value.is_null() {
-        return Some(None);
-    }
-    let number = word(value)?;
-    Some(Some(number))
-}
+impl Part for Option<u32> {
+    ghost use Rattle.statement_text.specs.StatementData.{base_data};
 
-/// The base of the first member, if it has this key.
-fn base_at<'v, 'a>(members: Members<'v, 'a>, key: &str) -> Option<(Option<u32>, Members<'v, 'a>)>
-    ensures { IfSome result (λ r. Passes key.now (base_data r.0)
-        (members_view members.now) (members_view r.1.now)) }
-{
-    let found = member(members, key)?;
-    let base = base(found.0)?;
-    Some((base, found.1))
-}
+    ghost data_of = { base_data };
 
-/// Whether the first member is true, if it has this key; it is that or false.
-fn flag_at<'v, 'a>(members: Members<'v, 'a>, key: &str) -> Option<(bool, Members<'v, 'a>)>
-    ensures { IfSome result (λ r. Passes key.now (boolean r.0)
-        (members_view members.now) (members_view r.1.now)) }
-{
-    let found = member(members, key)?;
-    let flag = found.0.as_bool()?;
-    Some((flag, found.1))
-}
-
-/// The rule of puts whose number the first member is, if it has this key.
-fn rule_at<'v, 'a>(members: Members<'v, 'a>, key: &str) -> Option<(PutRule, Members<'v, 'a>)>
-    ensures { IfSome result (λ r. Passes key.now (rule_data r.0)
-        (members_view members.now) (members_view r.1.now)) }
-{
-    let found = number_at(members, key)?;
-    match found.0 {
-        0 => Some((PutRule::Keep, found.1)),
-        1 => Some((PutRule::Whole, found.1)),
-        _ => None,
+    fn read(alloc: Global, value: &Value<'_>) -> Option<Option<u32>> {
+        if value.is_null() {
+            return Some(None);
+        }
+        let number = u32::read(alloc, value)?;
+        Some(Some(number))
     }
 }
 
-/// The numbers that items are.
-fn words(alloc: Global, items: &[Value<'_>]) -> Option<Vec<u32>>
-    ensures { IfSome result (λ v. AreOf count_data (map value_view items.now) v.items) }
-{
-    let mut found = Vec::with_capacity(alloc, items.len()).ok()?;
-    for item in items {
-        found.push(word(item)?).ok()?;
+/// A flag: true or false.
+impl Part for bool {
+    ghost use Rattle.serde_json.specs.Data.{boolean};
+
+    ghost data_of = { boolean };
+
+    fn read(_alloc: Global, value: &Value<'_>) -> Option<bool> {
+        value.as_bool()
     }
-    Some(found)
 }
 
-/// The numbers of the first member's list, if it has this key.
-fn words_at<'v, 'a>(
-    alloc: Global,
-    members: Members<'v, 'a>,
-    key: &str,
-) -> Option<(Vec<u32>, Members<'v, 'a>)>
-    ensures { IfSome result (λ r. Passes key.now (counts_data r.0.items)
-        (members_view members.now) (members_view r.1.now)) }
-{
-    let found = member(members, key)?;
-    let list = items(found.0)?;
-    let words = words(alloc, list)?;
-    Some((words, found.1))
+/// The rule of puts, by its number.
+impl Part for PutRule {
+    ghost use Rattle.snapshot_json.specs.SnapshotData.{rule_data};
+
+    ghost data_of = { rule_data };
+
+    fn read(alloc: Global, value: &Value<'_>) -> Option<PutRule> {
+        match u64::read(alloc, value)? {
+            0 => Some(PutRule::Keep),
+            1 => Some(PutRule::Whole),
+            _ => None,
+        }
+    }
+}
+
+/// A list of parts of one kind.
+impl<T: Part> Part for Seq<T> {
+    ghost use Rattle.std.specs.Prelude.{map};
+    ghost use Rattle.serde_json.specs.Data.{array};
+    ghost use Rattle.serde_json.specs.View.{items_of};
+
+    ghost data_of = { λ list. array (items_of (map T.data_of list)) };
+
+    fn read(alloc: Global, value: &Value<'_>) -> Option<Seq<T>> {
+        let items = items(value)?;
+        let mut found = Vec::with_capacity(alloc, items.len()).ok()?;
+        for item in items {
+            found.push(T::read(alloc, item)?).ok()?;
+        }
+        Some(Seq::new(found))
+    }
 }
 
 /// A segment.
-fn segment(value: &Value<'_>) -> Option<Seg>
-    ensures { IfSome result (λ seg. IsOf (value_view value.now) (seg_data seg)) }
-{
-    let all = members(value)?;
-    let elem = word_at(all, "elem")?;
-    let base = base_at(elem.1, "base")?;
-    let off = short_at(base.1, "off")?;
-    let len = short_at(off.1, "len")?;
-    let buf = short_at(len.1, "buf")?;
-    ended(buf.1)?;
-    Some(Seg {
-        elem: elem.0,
-        base: base.0,
-        data_off: off.0,
-        data_len: len.0,
-        buf_len: buf.0,
-    })
-}
+impl Part for Seg {
+    ghost use Rattle.statement_text.specs.StatementData.{seg_data};
 
-/// The segments that items are.
-fn segs(alloc: Global, items: &[Value<'_>]) -> Option<Vec<Seg>>
-    ensures { IfSome result (λ v. AreOf seg_data (map value_view items.now) v.items) }
-{
-    let mut found = Vec::with_capacity(alloc, items.len()).ok()?;
-    for item in items {
-        found.push(segment(item)?).ok()?;
+    ghost data_of = { seg_data };
+
+    fn read(alloc: Global, value: &Value<'_>) -> Option<Seg> {
+        let all = members(value)?;
+        let elem = at(alloc, all, "elem")?;
+        let base = at(alloc, elem.1, "base")?;
+        let off = at(alloc, base.1, "off")?;
+        let len = at(alloc, off.1, "len")?;
+        let buf = at(alloc, len.1, "buf")?;
+        ended(buf.1)?;
+        Some(Seg {
+            elem: elem.0,
+            base: base.0,
+            data_off: off.0,
+            data_len: len.0,
+            buf_len: buf.0,
+        })
     }
-    Some(found)
 }
 
 /// A place: the segments of a packet, or null.
-fn place(alloc: Global, value: &Value<'_>) -> Option<Option<Seq<Seg>>>
-    ensures { IfSome result (λ place. IsOf (value_view value.now) (place_data place)) }
-{
-    if value.is_null() {
-        return Some(None);
-    }
-    let list = items(value)?;
-    let segs = segs(alloc, list)?;
-    let packet = Seq::new(segs);
-    Some(Some(packet))
-}
+impl Part for Option<Seq<Seg>> {
+    ghost use Rattle.snapshot_json.specs.SnapshotData.{place_data};
 
-/// The places that items are.
-fn places(alloc: Global, items: &[Value<'_>]) -> Option<Vec<Option<Seq<Seg>>>>
-    ensures { IfSome result (λ v. AreOf place_data (map value_view items.now) v.items) }
-{
-    let mut found = Vec::with_capacity(alloc, items.len()).ok()?;
-    for item in items {
-        found.push(place(alloc, item)?).ok()?;
-    }
-    Some(found)
-}
+    ghost data_of = { place_data };
 
-/// The places of the first member's list, if it has this key.
-fn places_at<'v, 'a>(
-    alloc: Global,
-    members: Members<'v, 'a>,
-    key: &str,
-) -> Option<(Vec<Option<Seq<Seg>>>, Members<'v, 'a>)>
-    ensures { IfSome result (λ r. Passes key.now (places_data r.0.items)
-        (members_view members.now) (members_view r.1.now)) }
-{
-    let found = member(members, key)?;
-    let list = items(found.0)?;
-    let places = places(alloc, list)?;
-    Some((places, found.1))
+    fn read(alloc: Global, value: &Value<'_>) -> Option<Option<Seq<Seg>>> {
+        if value.is_null() {
+            return Some(None);
+        }
+        let packet = Seq::read(alloc, value)?;
+        Some(Some(packet))
+    }
 }
 
 /// A share.
-fn share(alloc: Global, value: &Value<'_>) -> Option<ShareData>
-    ensures { IfSome result (λ share. IsOf (value_view value.now) (share_data share)) }
-{
-    let all = members(value)?;
-    let worker = word_at(all, "worker")?;
-    let cache = words_at(alloc, worker.1, "cache")?;
-    let slots = places_at(alloc, cache.1, "slots")?;
-    ended(slots.1)?;
-    let its_cache = Seq::new(cache.0);
-    let its_slots = Seq::new(slots.0);
-    Some(ShareData {
-        worker: worker.0,
-        cache: its_cache,
-        slots: its_slots,
-    })
-}
+impl Part for ShareData {
+    ghost use Rattle.snapshot_json.specs.SnapshotData.{share_data};
 
-/// The shares that items are.
-fn shares(alloc: Global, items: &[Value<'_>]) -> Option<Vec<ShareData>>
-    ensures { IfSome result (λ v. AreOf share_data (map value_view items.now) v.items) }
-{
-    let mut found = Vec::with_capacity(alloc, items.len()).ok()?;
-    for item in items {
-        found.push(share(alloc, item)?).ok()?;
+    ghost data_of = { share_data };
+
+    fn read(alloc: Global, value: &Value<'_>) -> Option<ShareData> {
+        let all = members(value)?;
+        let worker = at(alloc, all, "worker")?;
+        let cache = at(alloc, worker.1, "cache")?;
+        let slots = at(alloc, cache.1, "slots")?;
+        ended(slots.1)?;
+        Some(ShareData {
+            worker: worker.0,
+            cache: cache.0,
+            slots: slots.0,
+        })
     }
-    Some(found)
-}
-
-/// The shares of the first member's list, if it has this key.
-fn shares_at<'v, 'a>(
-    alloc: Global,
-    members: Members<'v, 'a>,
-    key: &str,
-) -> Option<(Vec<ShareData>, Members<'v, 'a>)>
-    ensures { IfSome result (λ r. Passes key.now (shares_data r.0.items)
-        (members_view members.now) (members_view r.1.now)) }
-{
-    let found = member(members, key)?;
-    let list = items(found.0)?;
-    let shares = shares(alloc, list)?;
-    Some((shares, found.1))
 }
 
 /// A guest.
-fn guest(value: &Value<'_>) -> Option<Guest>
-    ensures { IfSome result (λ guest. IsOf (value_view value.now) (guest_data guest)) }
-{
-    let all = members(value)?;
-    let worker = word_at(all, "worker")?;
-    let elem = word_at(worker.1, "elem")?;
-    ended(elem.1)?;
-    Some(Guest {
-        worker: worker.0,
-        elem: elem.0,
-    })
-}
+impl Part for Guest {
+    ghost use Rattle.snapshot_json.specs.SnapshotData.{guest_data};
 
-/// The guests that items are.
-fn guests(alloc: Global, items: &[Value<'_>]) -> Option<Vec<Guest>>
-    ensures { IfSome result (λ v. AreOf guest_data (map value_view items.now) v.items) }
-{
-    let mut found = Vec::with_capacity(alloc, items.len()).ok()?;
-    for item in items {
-        found.push(guest(item)?).ok()?;
+    ghost data_of = { guest_data };
+
+    fn read(alloc: Global, value: &Value<'_>) -> Option<Guest> {
+        let all = members(value)?;
+        let worker = at(alloc, all, "worker")?;
+        let elem = at(alloc, worker.1, "elem")?;
+        ended(elem.1)?;
+        Some(Guest {
+            worker: worker.0,
+            elem: elem.0,
+        })
     }
-    Some(found)
-}
-
-/// The guests of the first member's list, if it has this key.
-fn guests_at<'v, 'a>(
-    alloc: Global,
-    members: Members<'v, 'a>,
-    key: &str,
-) -> Option<(Vec<Guest>, Members<'v, 'a>)>
-    ensures { IfSome result (λ r. Passes key.now (guests_data r.0.items)
-        (members_view members.now) (members_view r.1.now)) }
-{
-    let found = member(members, key)?;
-    let list = items(found.0)?;
-    let guests = guests(alloc, list)?;
-    Some((guests, found.1))
 }
 
 /// Limits.
-fn limits(value: &Value<'_>) -> Option<Limits>
-    ensures { IfSome result (λ l. IsOf (value_view value.now) (limits_data l)) }
-{
-    let all = members(value)?;
-    let population = number_at(all, "population")?;
-    let cache = number_at(population.1, "cache")?;
-    let workers = number_at(cache.1, "workers")?;
-    let desks = number_at(workers.1, "desks")?;
-    let buf = number_at(desks.1, "buf")?;
-    let refs = number_at(buf.1, "refs")?;
-    let tries = number_at(refs.1, "tries")?;
-    let start = number_at(tries.1, "start")?;
-    let rule = rule_at(start.1, "putrule")?;
-    ended(rule.1)?;
-    Some(Limits {
-        population: population.0,
-        cache: cache.0,
-        workers: workers.0,
-        desks: desks.0,
-        buf: buf.0,
-        ref_limit: refs.0,
-        tries: tries.0,
-        start_count: start.0,
-        put_rule: rule.0,
-    })
-}
+impl Part for Limits {
+    ghost use Rattle.snapshot_json.specs.SnapshotData.{limits_data};
 
-/// The limits of the first member, if it has this key.
-fn limits_at<'v, 'a>(members: Members<'v, 'a>, key: &str) -> Option<(Limits, Members<'v, 'a>)>
-    ensures { IfSome result (λ r. Passes key.now (limits_data r.0)
-        (members_view members.now) (members_view r.1.now)) }
-{
-    let found = member(members, key)?;
-    let limits = limits(found.0)?;
-    Some((limits, found.1))
+    ghost data_of = { limits_data };
+
+    fn read(alloc: Global, value: &Value<'_>) -> Option<Limits> {
+        let all = members(value)?;
+        let population = at(alloc, all, "population")?;
+        let cache = at(alloc, population.1, "cache")?;
+        let workers = at(alloc, cache.1, "workers")?;
+        let desks = at(alloc, workers.1, "desks")?;
+        let buf = at(alloc, desks.1, "buf")?;
+        let refs = at(alloc, buf.1, "refs")?;
+        let tries = at(alloc, refs.1, "tries")?;
+        let start = at(alloc, tries.1, "start")?;
+        let rule = at(alloc, start.1, "putrule")?;
+        ended(rule.1)?;
+        Some(Limits {
+            population: population.0,
+            cache: cache.0,
+            workers: workers.0,
+            desks: desks.0,
+            buf: buf.0,
+            ref_limit: refs.0,
+            tries: tries.0,
+            start_count: start.0,
+            put_rule: rule.0,
+        })
+    }
 }
 
 /// The whole of a snapshot, whose stack is a list.
 fn listed(alloc: Global, value: &Value<'_>) -> Option<Listed>
-    ensures { IfSome result (λ l. IsOf (value_view value.now) (common_data l.shown l.common.items)) }
+    ensures { IfSome result (λ l. IsOf (value_view value.now) (common_data l.shown l.common)) }
 {
     let all = members(value)?;
-    let limits = limits_at(all, "limits")?;
-    let common = words_at(alloc, limits.1, "common")?;
-    let counts = words_at(alloc, common.1, "counts")?;
-    let desks = places_at(alloc, counts.1, "desks")?;
-    let shares = shares_at(alloc, desks.1, "shares")?;
-    let guests = guests_at(alloc, shares.1, "guests")?;
-    let foreign = flag_at(guests.1, "foreign")?;
+    let limits = at(alloc, all, "limits")?;
+    let common = at(alloc, limits.1, "common")?;
+    let counts = at(alloc, common.1, "counts")?;
+    let desks = at(alloc, counts.1, "desks")?;
+    let shares = at(alloc, desks.1, "shares")?;
+    let guests = at(alloc, shares.1, "guests")?;
+    let foreign = at(alloc, guests.1, "foreign")?;
     ended(foreign.1)?;
-    let no_links = Seq::new(Vec::new(alloc));
-    let all_counts = Seq::new(counts.0);
-    let all_desks = Seq::new(desks.0);
-    let all_shares = Seq::new(shares.0);
-    let all_guests = Seq::new(guests.0);
     let shown = Snapshot {
         limits: limits.0,
         top: 0,
         length: 0,
-        links: no_links,
-        counts: all_counts,
-        desks: all_desks,
-        shares: all_shares,
-        guests: all_guests,
+        links: Seq::new(Vec::new(alloc)),
+        counts: counts.0,
+        desks: desks.0,
+        shares: shares.0,
+        guests: guests.0,
         foreign: foreign.0,
     };
     Some(Listed {
@@ -463,7 +366,7 @@ fn ends_low(reader: Reader<'_>) -> bool
 /// The snapshot whose text this is, as a dump writes it, without its stack, and the list of elements
 /// that stands for it. Nothing where it is written otherwise, or where memory was refused.
 pub(crate) fn read_listed(alloc: Global, text: &str) -> Option<Listed>
-    ensures data { IfSome result (λ l. read text.now ≡ Some (common_data l.shown l.common.items)) }
+    ensures data { IfSome result (λ l. read text.now ≡ Some (common_data l.shown l.common)) }
     ensures once { IfSome result (λ _. IsSomeAnd (document text.now) HasUniqueKeys) }
 {
     let mut scratch = Scratch::new(alloc);

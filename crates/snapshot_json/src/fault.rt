@@ -1,9 +1,10 @@
 //! What is wrong with a snapshot's text, and where.
 
-ghost use Rattle.std.specs.Prelude.{◌≡◌, [], Some, codes};
+ghost use Rattle.std.specs.Prelude.{◌≡◌, Some};
 ghost use Rattle.snapshot_json.specs.Told.{cause_text, flaw_text, key_name, path_text, places_text, step_text, told_of};
 
 use crate::MAX_BYTES;
+use std::alloc::AllocError;
 use std::fmt;
 use std::fmt::InlineText;
 
@@ -14,7 +15,6 @@ const MOST_STEPS: usize = 6;
 const SHOWN: usize = 32;
 
 /// The key of a member of a snapshot's value.
-#[derive(Clone, Copy)]
 pub enum Key {
     Base,
     Buf,
@@ -41,6 +41,20 @@ pub enum Key {
     Worker,
     Workers,
 }
+
+impl Clone for Key {
+    ghost use Rattle.std.specs.Prelude.{◌≡◌, ⊤};
+
+    ghost is_clone = { λ x y. y ≡ x };
+
+    ghost is_infallible = { λ _. ⊤ };
+
+    fn clone(&self) -> Result<Key, AllocError> {
+        Ok(*self)
+    }
+}
+
+impl Copy for Key {}
 
 impl Key {
     /// The key as it stands in a text.
@@ -77,7 +91,6 @@ impl Key {
 }
 
 /// A step from a value to a part of it.
-#[derive(Clone, Copy)]
 pub enum Step {
     /// A member of an object.
     Key(Key),
@@ -85,11 +98,38 @@ pub enum Step {
     Item(u64),
 }
 
+impl Clone for Step {
+    ghost use Rattle.std.specs.Prelude.{◌≡◌, ⊤};
+
+    ghost is_clone = { λ x y. y ≡ x };
+
+    ghost is_infallible = { λ _. ⊤ };
+
+    fn clone(&self) -> Result<Step, AllocError> {
+        Ok(*self)
+    }
+}
+
+impl Copy for Step {}
+
 /// The way from the whole value to a part of it.
-#[derive(Clone, Copy)]
 pub struct Path {
     steps: [Option<Step>; MOST_STEPS],
 }
+
+impl Clone for Path {
+    ghost use Rattle.std.specs.Prelude.{◌≡◌, ⊤};
+
+    ghost is_clone = { λ x y. y ≡ x };
+
+    ghost is_infallible = { λ _. ⊤ };
+
+    fn clone(&self) -> Result<Path, AllocError> {
+        Ok(*self)
+    }
+}
+
+impl Copy for Path {}
 
 impl Path {
     /// The whole value.
@@ -112,32 +152,19 @@ impl Path {
     }
 }
 
-/// The first step of a path.
-#[derive(Clone, Copy)]
-struct First(Option<Step>);
-
-impl fmt::Display for First {
-    ghost output = { λ it. Some (step_text [] it.0) };
-
-    fn fmt<W: fmt::Write>(&self, f: &mut fmt::Formatter<W>) -> fmt::Result {
-        match self.0 {
-            Some(Step::Key(key)) => f.write_str(key.name()),
-            Some(Step::Item(index)) => write!(f, "[{index}]"),
-            None => Ok(()),
-        }
-    }
+/// A step of a path, with what stands in front of a key.
+#[derive(Drop)]
+struct Shown {
+    before: &'static str,
+    step: Option<Step>,
 }
 
-/// A further step, with a point in front of a key.
-#[derive(Clone, Copy)]
-struct Further(Option<Step>);
-
-impl fmt::Display for Further {
-    ghost output = { λ it. Some (step_text (codes ".") it.0) };
+impl fmt::Display for Shown {
+    ghost output = { λ it. Some (step_text it.before.now it.step) };
 
     fn fmt<W: fmt::Write>(&self, f: &mut fmt::Formatter<W>) -> fmt::Result {
-        match self.0 {
-            Some(Step::Key(key)) => write!(f, ".{}", key.name()),
+        match self.step {
+            Some(Step::Key(key)) => write!(f, "{}{}", self.before, key.name()),
             Some(Step::Item(index)) => write!(f, "[{index}]"),
             None => Ok(()),
         }
@@ -149,9 +176,15 @@ impl fmt::Display for Path {
 
     fn fmt<W: fmt::Write>(&self, f: &mut fmt::Formatter<W>) -> fmt::Result {
         if let [first, further @ ..] = &self.steps[..] {
-            f.write(First(*first))?;
+            f.write(Shown {
+                before: "",
+                step: *first,
+            })?;
             for step in further {
-                f.write(Further(*step))?;
+                f.write(Shown {
+                    before: ".",
+                    step: *step,
+                })?;
             }
         }
         Ok(())
@@ -159,7 +192,7 @@ impl fmt::Display for Path {
 }
 
 /// What is wrong with a part of a snapshot's value.
-#[derive(Clone, Copy, Drop)]
+#[derive(Drop)]
 pub enum Cause {
     /// It isn't there.
     Missing,
@@ -189,7 +222,7 @@ pub enum Cause {
 
 /// What is wrong, of which part, and where that stands in the text. Of a missing member the byte is
 /// that of its object.
-#[derive(Clone, Copy, Drop)]
+#[derive(Drop)]
 pub struct Flaw {
     /// The part.
     pub path: Path,
@@ -224,7 +257,7 @@ impl fmt::Display for Flaw {
     ghost output = { λ flaw. Some (flaw_text flaw) };
 
     fn fmt<W: fmt::Write>(&self, f: &mut fmt::Formatter<W>) -> fmt::Result {
-        let Flaw { path, cause, byte } = *self;
+        let Flaw { path, cause, byte } = self;
         match path.steps[0] {
             Some(_) => write!(f, "snapshot {path}: {cause}, at byte {byte}"),
             None => write!(f, "snapshot: {cause}, at byte {byte}"),
@@ -233,7 +266,7 @@ impl fmt::Display for Flaw {
 }
 
 /// Why no snapshot was read from a text.
-#[derive(Clone, Copy, Drop)]
+#[derive(Drop)]
 pub enum SnapshotFault {
     /// Memory was refused: nothing is said of the text.
     OutOfMemory,
@@ -249,7 +282,7 @@ pub enum SnapshotFault {
 }
 
 /// Where an element stands twice in the common list.
-#[derive(Clone, Copy)]
+#[derive(Drop)]
 struct Places {
     first: u64,
     second: u64,
@@ -259,7 +292,7 @@ impl fmt::Display for Places {
     ghost output = { λ places. Some (places_text places.first places.second) };
 
     fn fmt<W: fmt::Write>(&self, f: &mut fmt::Formatter<W>) -> fmt::Result {
-        let Places { first, second } = *self;
+        let Places { first, second } = self;
         write!(f, " stands at common[{first}] and common[{second}]")
     }
 }
@@ -268,13 +301,16 @@ impl fmt::Display for SnapshotFault {
     ghost output = { λ fault. Some (told_of fault) };
 
     fn fmt<W: fmt::Write>(&self, f: &mut fmt::Formatter<W>) -> fmt::Result {
-        match *self {
+        match self {
             SnapshotFault::OutOfMemory => f.write_str("out of memory"),
             SnapshotFault::TooLong => write!(f, "snapshot: more than {MAX_BYTES} bytes"),
             SnapshotFault::NotJson(byte) => write!(f, "snapshot: not JSON, at byte {byte}"),
             SnapshotFault::Wrong(flaw) => write!(f, "{flaw}"),
             SnapshotFault::Doubled(elem, first, second) => {
-                let places = Places { first, second };
+                let places = Places {
+                    first: *first,
+                    second: *second,
+                };
                 write!(f, "snapshot common: element {elem}{places}")
             }
         }

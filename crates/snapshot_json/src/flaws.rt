@@ -14,7 +14,6 @@ const DEPTH: usize = 16;
 const SKIPPED: usize = 127;
 
 /// What a part of a snapshot's value is.
-#[derive(Clone, Copy, PartialEq, Eq)]
 enum Kind {
     Words,
     List,
@@ -34,6 +33,14 @@ enum Kind {
     Population,
     Number(u64),
 }
+
+impl Clone for Kind {
+    fn clone(&self) -> Result<Kind, AllocError> {
+        Ok(*self)
+    }
+}
+
+impl Copy for Kind {}
 
 /// The members of an object, ascending by key.
 type Members = &'static [(Key, Kind)];
@@ -107,12 +114,19 @@ struct Scope {
 }
 
 /// What a value is, where it stands.
-#[derive(Clone, Copy)]
 struct Part {
     kind: Kind,
     path: Path,
     byte: u64,
 }
+
+impl Clone for Part {
+    fn clone(&self) -> Result<Part, AllocError> {
+        Ok(*self)
+    }
+}
+
+impl Copy for Part {}
 
 impl Part {
     /// What is wrong with it.
@@ -255,8 +269,8 @@ fn value(
     if let Some(kind) = items_of(part.kind) {
         return match token {
             Token::BeginArray if depth > 0 => list(reader, text, scope, part, kind, depth - 1),
-            Token::Null if part.kind == Kind::Place => Ok(()),
-            _ if part.kind == Kind::Place => Err(part.flaw(Cause::NotPlace)),
+            Token::Null if matches!(part.kind, Kind::Place) => Ok(()),
+            _ if matches!(part.kind, Kind::Place) => Err(part.flaw(Cause::NotPlace)),
             _ => Err(part.flaw(Cause::NotList)),
         };
     }
@@ -351,19 +365,24 @@ fn list(
 
 /// What is wrong with a value that is no object and no list.
 fn leaf(scope: Scope, kind: Kind, token: Token<'_>) -> Option<Cause> {
-    match token {
-        Token::Bool(_) if kind == Kind::Flag => None,
-        _ if kind == Kind::Flag => Some(Cause::NotFlag),
-        Token::Null if kind == Kind::Base => None,
-        Token::Number(digits) => match kind {
-            Kind::Base => out_of(digits, 4_294_967_295),
-            Kind::Population if scope.list => out_of(digits, MAX_POPULATION),
-            Kind::Population => out_of(digits, u64::MAX),
-            Kind::Element => stranger(scope, digits),
-            Kind::Number(high) => out_of(digits, high),
-            _ => Some(Cause::NotNumber),
-        },
-        _ if kind == Kind::Base => Some(Cause::NotBase),
+    match (token, kind) {
+        (Token::Bool(_), Kind::Flag) => None,
+        (_, Kind::Flag) => Some(Cause::NotFlag),
+        (Token::Null, Kind::Base) => None,
+        (Token::Number(digits), _) => number(scope, kind, digits),
+        (_, Kind::Base) => Some(Cause::NotBase),
+        _ => Some(Cause::NotNumber),
+    }
+}
+
+/// What is wrong with a number, where one may stand.
+fn number(scope: Scope, kind: Kind, digits: &str) -> Option<Cause> {
+    match kind {
+        Kind::Base => out_of(digits, 4_294_967_295),
+        Kind::Population if scope.list => out_of(digits, MAX_POPULATION),
+        Kind::Population => out_of(digits, u64::MAX),
+        Kind::Element => stranger(scope, digits),
+        Kind::Number(high) => out_of(digits, high),
         _ => Some(Cause::NotNumber),
     }
 }

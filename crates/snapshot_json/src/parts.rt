@@ -3,7 +3,7 @@
 
 ghost use Rattle.std.specs.Prelude.{◌≡◌, ◌^◌, IfOk, map};
 ghost use Rattle.serde_json.specs.View.{view};
-ghost use Rattle.snapshot_json.specs.Shown.{base_at, beside_stack, flag_at, guest_in, items_at, items_in, limits_at, limits_in, number16_at, number32_at, number32_in, number_at, number_in, numbers_at, place_in, places_at, rule_from, seg_in, share_in, some_within, within};
+ghost use Rattle.snapshot_json.specs.Shown.{base_at, beside_stack, flag_at, items_at, items_in, limits_at, limits_in, number16_at, number32_at, number_at, number_in, rule_from, some_within, within};
 
 use commons::limits::{Limits, PutRule};
 use commons::packet::Seg;
@@ -21,28 +21,39 @@ pub(crate) struct Stack {
     /// The length word.
     pub(crate) length: u64,
     /// The links.
-    pub(crate) links: Vec<u32>,
+    pub(crate) links: Seq<u32>,
+}
+
+/// A part of a snapshot, which any value shows.
+pub(crate) trait Part: Drop {
+    ghost use Rattle.serde_json.specs.Data.{Data};
+
+    ghost shown: { Data → Self };
+
+    /// What a value shows.
+    fn shown_by(alloc: Global, value: &Value) -> Result<Self, AllocError>
+        ensures { IfOk result (λ part. part ≡ shown (view value.now)) };
 }
 
 /// The snapshot that a value shows, with this stack.
 pub(crate) fn snapshot(alloc: Global, value: &Value, stack: Stack) -> Result<Snapshot, AllocError>
     ensures { IfOk result
-        (λ s. s ≡ beside_stack (view value.now) stack.top stack.length stack.links.items) }
+        (λ s. s ≡ beside_stack (view value.now) stack.top stack.length stack.links) }
 {
     let Stack { top, length, links } = stack;
-    let counts = numbers(alloc, value, "counts")?;
-    let desks = places(alloc, value, "desks")?;
-    let shares = shares(alloc, items(value, "shares"))?;
-    let guests = guests(alloc, items(value, "guests"))?;
+    let counts = list(alloc, value, "counts")?;
+    let desks = list(alloc, value, "desks")?;
+    let shares = list(alloc, value, "shares")?;
+    let guests = list(alloc, value, "guests")?;
     Ok(Snapshot {
         limits: limits(value, "limits"),
         top,
         length,
-        links: Seq::new(links),
-        counts: Seq::new(counts),
-        desks: Seq::new(desks),
-        shares: Seq::new(shares),
-        guests: Seq::new(guests),
+        links,
+        counts,
+        desks,
+        shares,
+        guests,
         foreign: flag(value, "foreign"),
     })
 }
@@ -112,22 +123,33 @@ fn items<'v>(value: &'v Value, key: &str) -> &'v [Value]
     }
 }
 
-/// The numbers of a member, or none.
-pub(crate) fn numbers(alloc: Global, value: &Value, key: &str) -> Result<Vec<u32>, AllocError>
-    ensures { IfOk result (λ v. v.items ≡ numbers_at key.now (view value.now)) }
+/// The list of parts of a member, or an empty one.
+pub(crate) fn list<T: Part>(alloc: Global, value: &Value, key: &str) -> Result<Seq<T>, AllocError>
+    ensures { IfOk result (λ v. v ≡ map T.shown (items_at key.now (view value.now))) }
 {
-    words(alloc, items(value, key))
+    all(alloc, items(value, key))
 }
 
-/// The numbers that items are.
-fn words(alloc: Global, items: &[Value]) -> Result<Vec<u32>, AllocError>
-    ensures { IfOk result (λ v. v.items ≡ map number32_in (map view items.now)) }
+/// The parts that items show.
+fn all<T: Part>(alloc: Global, items: &[Value]) -> Result<Seq<T>, AllocError>
+    ensures { IfOk result (λ v. v ≡ map T.shown (map view items.now)) }
 {
     let mut found = Vec::with_capacity(alloc, items.len())?;
     for item in items {
-        found.push(word(number_of(item)))?;
+        found.push(T::shown_by(alloc, item)?)?;
     }
-    Ok(found)
+    Ok(Seq::new(found))
+}
+
+/// A number below 2^32.
+impl Part for u32 {
+    ghost use Rattle.snapshot_json.specs.Shown.{number32_in};
+
+    ghost shown = { number32_in };
+
+    fn shown_by(_alloc: Global, value: &Value) -> Result<u32, AllocError> {
+        Ok(word(number_of(value)))
+    }
 }
 
 /// A base: the number below 2^32 of a member, where it is one.
@@ -164,101 +186,66 @@ fn flag(value: &Value, key: &str) -> bool
     }
 }
 
-/// The segment that a value shows.
-fn segment(value: &Value) -> Seg
-    ensures { result ≡ seg_in (view value.now) }
-{
-    Seg {
-        elem: number32(value, "elem"),
-        base: base(value, "base"),
-        data_off: number16(value, "off"),
-        data_len: number16(value, "len"),
-        buf_len: number16(value, "buf"),
+/// A segment.
+impl Part for Seg {
+    ghost use Rattle.snapshot_json.specs.Shown.{seg_in};
+
+    ghost shown = { seg_in };
+
+    fn shown_by(_alloc: Global, value: &Value) -> Result<Seg, AllocError> {
+        Ok(Seg {
+            elem: number32(value, "elem"),
+            base: base(value, "base"),
+            data_off: number16(value, "off"),
+            data_len: number16(value, "len"),
+            buf_len: number16(value, "buf"),
+        })
     }
 }
 
-/// The segments that items show.
-fn segs(alloc: Global, items: &[Value]) -> Result<Vec<Seg>, AllocError>
-    ensures { IfOk result (λ v. v.items ≡ map seg_in (map view items.now)) }
-{
-    let mut found = Vec::with_capacity(alloc, items.len())?;
-    for item in items {
-        found.push(segment(item))?;
-    }
-    Ok(found)
-}
+/// A place.
+impl Part for Option<Seq<Seg>> {
+    ghost use Rattle.snapshot_json.specs.Shown.{place_in};
 
-/// The place that a value shows.
-fn a_place(alloc: Global, value: &Value) -> Result<Option<Seq<Seg>>, AllocError>
-    ensures { IfOk result (λ place. place ≡ place_in (view value.now)) }
-{
-    match value.as_array() {
-        Some(list) => Ok(Some(Seq::new(segs(alloc, list.as_slice())?))),
-        None => Ok(None),
+    ghost shown = { place_in };
+
+    fn shown_by(alloc: Global, value: &Value) -> Result<Option<Seq<Seg>>, AllocError> {
+        match value.as_array() {
+            Some(items) => Ok(Some(all(alloc, items.as_slice())?)),
+            None => Ok(None),
+        }
     }
 }
 
-/// The places of a member, or none.
-fn places(alloc: Global, value: &Value, key: &str) -> Result<Vec<Option<Seq<Seg>>>, AllocError>
-    ensures { IfOk result (λ v. v.items ≡ places_at key.now (view value.now)) }
-{
-    all_places(alloc, items(value, key))
-}
+/// A share.
+impl Part for ShareData {
+    ghost use Rattle.snapshot_json.specs.Shown.{share_in};
 
-/// The places that items show.
-fn all_places(alloc: Global, items: &[Value]) -> Result<Vec<Option<Seq<Seg>>>, AllocError>
-    ensures { IfOk result (λ v. v.items ≡ map place_in (map view items.now)) }
-{
-    let mut found = Vec::with_capacity(alloc, items.len())?;
-    for item in items {
-        found.push(a_place(alloc, item)?)?;
-    }
-    Ok(found)
-}
+    ghost shown = { share_in };
 
-/// The share that a value shows.
-fn a_share(alloc: Global, value: &Value) -> Result<ShareData, AllocError>
-    ensures { IfOk result (λ share. share ≡ share_in (view value.now)) }
-{
-    let cache = numbers(alloc, value, "cache")?;
-    let slots = places(alloc, value, "slots")?;
-    Ok(ShareData {
-        worker: number32(value, "worker"),
-        cache: Seq::new(cache),
-        slots: Seq::new(slots),
-    })
-}
-
-/// The shares that items show.
-fn shares(alloc: Global, items: &[Value]) -> Result<Vec<ShareData>, AllocError>
-    ensures { IfOk result (λ v. v.items ≡ map share_in (map view items.now)) }
-{
-    let mut found = Vec::with_capacity(alloc, items.len())?;
-    for item in items {
-        found.push(a_share(alloc, item)?)?;
-    }
-    Ok(found)
-}
-
-/// The guest that a value shows.
-fn a_guest(value: &Value) -> Guest
-    ensures { result ≡ guest_in (view value.now) }
-{
-    Guest {
-        worker: number32(value, "worker"),
-        elem: number32(value, "elem"),
+    fn shown_by(alloc: Global, value: &Value) -> Result<ShareData, AllocError> {
+        let cache = list(alloc, value, "cache")?;
+        let slots = list(alloc, value, "slots")?;
+        Ok(ShareData {
+            worker: number32(value, "worker"),
+            cache,
+            slots,
+        })
     }
 }
 
-/// The guests that items show.
-fn guests(alloc: Global, items: &[Value]) -> Result<Vec<Guest>, AllocError>
-    ensures { IfOk result (λ v. v.items ≡ map guest_in (map view items.now)) }
-{
-    let mut found = Vec::with_capacity(alloc, items.len())?;
-    for item in items {
-        found.push(a_guest(item))?;
+/// A guest.
+impl Part for Guest {
+    ghost use Rattle.snapshot_json.specs.Shown.{guest_in};
+
+    ghost shown = { guest_in };
+
+    fn shown_by(_alloc: Global, value: &Value) -> Result<Guest, AllocError> {
+        Ok(Guest {
+            worker: number32(value, "worker"),
+            elem: number32(value, "elem"),
+        })
     }
-    Ok(found)
 }
 
 /// The rule of puts with this number; no other than 0 and 1 is one.

@@ -65,7 +65,7 @@ fn of_words(alloc: Global, value: &Value) -> Result<Option<Snapshot>, AllocError
     let stack = Stack {
         top: parts::number32(value, "top"),
         length: parts::number(value, "length"),
-        links: parts::numbers(alloc, value, "links")?,
+        links: parts::list(alloc, value, "links")?,
     };
     let snapshot = parts::snapshot(alloc, value, stack)?;
     let written = values::snapshot(alloc, &snapshot)?;
@@ -91,20 +91,20 @@ fn of_common(alloc: Global, value: &Value) -> Result<Reading, AllocError>
 #[derive(Drop)]
 pub(crate) struct Listed {
     pub(crate) shown: Snapshot,
-    pub(crate) common: Vec<u32>,
+    pub(crate) common: Seq<u32>,
 }
 
 /// The snapshot whose data a value is, with its stack as a list.
 fn list_form(alloc: Global, value: &Value) -> Result<Option<Listed>, AllocError>
     requires low { depth (view value.now) ≤ max_depth }
     ensures { IfOk result (λ found. MatchOption found (IsNoListData (view value.now))
-        (λ l. view value.now ≡ common_data l.shown l.common.items)) }
+        (λ l. view value.now ≡ common_data l.shown l.common)) }
 {
-    let common = parts::numbers(alloc, value, "common")?;
+    let common = parts::list(alloc, value, "common")?;
     let no_stack = Stack {
         top: 0,
         length: 0,
-        links: Vec::new(alloc),
+        links: Seq::new(Vec::new(alloc)),
     };
     let shown = parts::snapshot(alloc, value, no_stack)?;
     let written = values::with_common(alloc, &shown, common.as_slice())?;
@@ -118,7 +118,7 @@ fn list_form(alloc: Global, value: &Value) -> Result<Option<Listed>, AllocError>
 /// The snapshot with the words that its list stands for, where it stands for any.
 pub(crate) fn with_words(alloc: Global, listed: Listed) -> Result<Reading, AllocError>
     ensures { IfOk result
-        (λ reading. ReadsCommon (common_data listed.shown listed.common.items) reading) }
+        (λ reading. ReadsCommon (common_data listed.shown listed.common) reading) }
 {
     let Listed { shown, common } = listed;
     let population = shown.limits.population;

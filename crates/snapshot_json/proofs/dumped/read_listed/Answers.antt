@@ -7,5 +7,5 @@ use Rattle.snapshot_json.proofs.dumped.read_listed.Goals as goal
 pub returns-in-Ok-clause-data : goal.returns-in-Ok-clause-data
 returns-in-Ok-clause-data c =
     read_low c.args.text.now (value_view c.in-Ok.value)
-    (common_data c.in_ok-found-in-Ok.found.shown c.in_ok-found-in-Ok.found.common.items)
+    (common_data c.in_ok-found-in-Ok.found.shown c.in_ok-found-in-Ok.found.common)
     (c.is_low.ensures c.if-not-is_low.false) c.in-Ok.ensures.ok c.in_ok-found-in-Ok.ensures

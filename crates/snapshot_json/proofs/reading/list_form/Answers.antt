@@ -24,11 +24,11 @@ pub returns-else-branch : goal.returns-else-branch
 returns-else-branch c = λ s common fits is of_pool.
     let d = view c.args.value.now in
     let shown : c.in_ok-shown.shown ≡ beside_stack d 0 0 [] =
-    c.in_ok-shown.ensures ∙ ap (λ (links : List ℕ). beside_stack d 0 0 links) c.new.ensures.items in
+    c.in_ok-shown.ensures ∙ ap (λ (links : List ℕ). beside_stack d 0 0 links) (c.new-2.ensures ∙ c.new.ensures.items) in
     let own : beside_stack d 0 0 [] ≡ record s { top = 0; length = 0; links = [] } =
     ap (λ (e : Data). beside_stack e 0 0 []) is ∙ common_own s common 0 0 [] fits in
     let list : c.as_slice.result.now ≡ common =
-    c.as_slice.ensures.value ∙ c.in_ok-common.ensures ∙ ap (numbers_at (codes "common")) is ∙ list_own s common of_pool in
+    c.as_slice.ensures ∙ c.in_ok-common.ensures ∙ ap (numbers_at (codes "common")) is ∙ list_own s common of_pool in
     let same : d ≡ view c.in_ok-written.written =
     is
     ∙ sym (ap (λ (x : Snapshot). common_data x common) (shown ∙ own))

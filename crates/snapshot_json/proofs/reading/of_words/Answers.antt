@@ -23,7 +23,7 @@ pub returns-else-branch : goal.returns-else-branch
 returns-else-branch c = λ s fits is.
     let d = view c.args.value.now in
     let words : c.in_ok-snapshot.snapshot ≡ with_words d =
-    c.in_ok-snapshot.ensures ∙ rw (c.number32.ensures, c.number.ensures, c.in_ok-numbers.ensures) refl in
+    c.in_ok-snapshot.ensures ∙ rw (c.number32.ensures, c.number.ensures, c.in_ok-list.ensures) refl in
     let own : c.in_ok-snapshot.snapshot ≡ s = words ∙ ap with_words is ∙ snapshot_own s fits in
     let same : d ≡ view c.in_ok-written.written = is ∙ ap snapshot_data (sym own) ∙ sym c.in_ok-written.ensures in
     true≢false (sym (c.in_ok-is_same.ensures.1 same) ∙ c.if-branch.false)

@@ -1,9 +1,0 @@
-use Rattle.std.proofs.Common.{map, take}
-use Rattle.json.specs.Value.{value_view}
-use Rattle.snapshot_json.specs.Dumped.{AreOf}
-use Rattle.statement_text.specs.StatementData.{count_data}
-use Rattle.snapshot_json.proofs.dumped.words.Given as goal
-
--- what the items so far are
-abbrev pub invariant-loop-item : goal.invariant-loop-item
-invariant-loop-item l = AreOf count_data (map value_view (take l.item-index l.items)) l.found.items

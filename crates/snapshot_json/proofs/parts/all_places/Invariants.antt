@@ -1,8 +1,0 @@
-use Rattle.std.proofs.Common.{◌≡◌, map, take}
-use Rattle.serde_json.specs.View.{view}
-use Rattle.snapshot_json.specs.Shown.{place_in}
-use Rattle.snapshot_json.proofs.parts.all_places.Given as goal
-
--- what the items so far show
-abbrev pub invariant-loop-item : goal.invariant-loop-item
-invariant-loop-item l = l.found.items ≡ map place_in (map view (take l.item-index l.items))

@@ -1,8 +1,0 @@
-use Rattle.std.proofs.Common.{◌≡◌, map, take}
-use Rattle.serde_json.specs.View.{view}
-use Rattle.snapshot_json.specs.Shown.{number32_in}
-use Rattle.snapshot_json.proofs.parts.words.Given as goal
-
--- what the items so far show
-abbrev pub invariant-loop-item : goal.invariant-loop-item
-invariant-loop-item l = l.found.items ≡ map number32_in (map view (take l.item-index l.items))
