@@ -1,6 +1,6 @@
 //! Faults: their lines and statuses.
 use super::same;
-use super::screen::Full;
+use super::screen::Narrow;
 use commons::refusal::Refusal;
 use std::test::Fail;
 use tasks::failures::{Failure, FaultLine};
@@ -68,7 +68,8 @@ fn a_failure_has_its_line(rt: HostRuntime) -> Result<(), Fail> {
         let mut errors = Vec::new(rt.alloc());
         tell(&mut errors, failure)?;
         same(&rt, &String::from_utf8(errors)?.as_str(), line, line);
-        same(&rt, &tell(&mut Full, failure).is_err(), &true, "untold");
+        let untold = tell(&mut Narrow::new(rt.alloc(), 0), failure);
+        same(&rt, &untold.is_err(), &true, "untold");
     }
     Ok(())
 }

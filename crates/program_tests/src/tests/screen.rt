@@ -1,30 +1,31 @@
-//! Terminals that take nothing or little, and what another one took.
-ghost use Rattle.std.specs.Prelude.{◌≡◌, false};
+//! A writer that takes nothing, or little.
+ghost use Rattle.std.specs.Prelude.{◌≡◌};
 
-use script_io::Tally;
 use std::alloc::Global;
 use std::io;
 use std::io::Write;
 use std::test::Fail;
 
-#[derive(Drop)]
-pub struct Full;
-
-impl Write for Full {
-    fn write(&mut self, _bytes: &[u8]) -> io::Result<usize> {
-        Err(io::Error::from(io::ErrorKind::StorageFull))
-    }
-
-    fn flush(&mut self) -> io::Result<()> {
-        Ok(())
-    }
-}
-
 /// A terminal that has room for so many bytes, and then takes nothing.
 #[derive(Drop)]
-pub struct Narrow {
-    pub taken: Vec<u8>,
-    pub room: usize,
+pub(super) struct Narrow {
+    taken: Vec<u8>,
+    room: usize,
+}
+
+impl Narrow {
+    /// One that has taken nothing.
+    pub(super) fn new(alloc: Global, room: usize) -> Narrow {
+        Narrow {
+            taken: Vec::new(alloc),
+            room,
+        }
+    }
+
+    /// What it took.
+    pub(super) fn text(self) -> Result<String, Fail> {
+        Ok(String::from_utf8(self.taken)?)
+    }
 }
 
 impl Write for Narrow {
@@ -40,30 +41,5 @@ impl Write for Narrow {
 
     fn flush(&mut self) -> io::Result<()> {
         Ok(())
-    }
-}
-
-/// What was written to the standard output, and to the standard error.
-#[derive(Drop)]
-pub struct Screen {
-    pub output: Tally<Vec<u8>>,
-    pub errors: Vec<u8>,
-}
-
-impl Screen {
-    /// A screen on which nothing stands, and of which no write has failed.
-    pub(super) fn new(alloc: Global) -> Screen
-        ensures { result.output.failed ≡ false }
-    {
-        Screen {
-            output: Tally::new(Vec::new(alloc)),
-            errors: Vec::new(alloc),
-        }
-    }
-
-    /// Both as text.
-    pub(super) fn written(self) -> Result<(String, String), Fail> {
-        let Screen { output, errors } = self;
-        Ok((String::from_utf8(output.inner)?, String::from_utf8(errors)?))
     }
 }
