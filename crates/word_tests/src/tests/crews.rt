@@ -1,14 +1,34 @@
 //! What the workers of a pool do in threads of their own, act by act, and what is reported of it.
 
 ghost use Rattle.ground.specs.Seats.{IsOf};
-ghost use Rattle.word_pool.specs.Workers.{Stays};
+ghost use Rattle.word_pool.specs.Workers.{AreWorkers, Stays};
 
+use super::passing::{CROWD, clear, pass_all};
+use super::threads::rounds;
+use commons::limits::Limits;
 use commons::refusal::Refusal;
 use ground::pool::Ground;
 use mbuf::acts::{Act, Reply};
 use mbuf::packets::Pid;
+use pool_model::statement::Statement;
+use std::alloc::Global;
 use std::sync::atomic::{AtomicU64, Ordering};
+use std::thread;
+use std::thread::Threads;
+use word_pool::laws::workers_who_stay_are_all;
+use word_pool::pool;
 use word_pool::worker::WordWorker;
+
+/// What each worker does in a thread of its own.
+#[derive(Clone, Copy)]
+pub(super) enum Task {
+    /// It makes packets that share a buffer and frees them, so often.
+    Rounds(u32),
+    /// It passes clones of its own packet round, and frees the packet at the end or keeps it.
+    Pass { frees: bool },
+    /// It takes the packet off a desk, one for each worker, and frees it.
+    Clear,
+}
 
 /// What is reported of one worker's acts.
 #[derive(Clone, Copy, Default)]
@@ -50,7 +70,7 @@ impl Tally {
 
 /// What is reported of the acts of all workers together.
 #[derive(Drop)]
-pub(super) struct Tallies {
+struct Tallies {
     calls: AtomicU64,
     made: AtomicU64,
     left: AtomicU64,
@@ -60,7 +80,7 @@ pub(super) struct Tallies {
 
 impl Tallies {
     /// Of no acts.
-    pub(super) fn new() -> Tallies {
+    fn new() -> Tallies {
         Tallies {
             calls: AtomicU64::new(0),
             made: AtomicU64::new(0),
@@ -71,7 +91,7 @@ impl Tallies {
     }
 
     /// Adds what is reported of one worker's.
-    pub(super) fn add(&self, tally: &Tally) {
+    fn add(&self, tally: &Tally) {
         self.calls.fetch_add(tally.calls, Ordering::SeqCst);
         self.made.fetch_add(tally.made, Ordering::SeqCst);
         self.left.fetch_add(tally.left, Ordering::SeqCst);
@@ -80,7 +100,7 @@ impl Tallies {
     }
 
     /// What is reported of all.
-    pub(super) fn all(&self) -> Tally {
+    fn all(&self) -> Tally {
         Tally {
             calls: self.calls.load(Ordering::SeqCst),
             made: self.made.load(Ordering::SeqCst),
@@ -143,4 +163,60 @@ pub(super) fn free_any(
         Some(slot) => free(ground, worker, tally, slot),
         None => {}
     }
+}
+
+/// All that one worker does.
+fn work(ground: &Ground, worker: &mut WordWorker, tallies: &Tallies, number: usize, task: Task)
+    requires of { IsOf ground.now worker.old.seat }
+    ensures stays { Stays worker.old worker.new }
+{
+    let mut tally = Tally::default();
+    match task {
+        Task::Rounds(times) => rounds(ground, worker, &mut tally, times),
+        Task::Pass { frees } => pass_all(ground, worker, &mut tally, number, frees),
+        Task::Clear => clear(ground, worker, &mut tally, number),
+    }
+    tallies.add(&tally);
+}
+
+/// The work of all workers, 64 at most, each in a thread of its own.
+fn all_work<R: Threads + Sync>(
+    rt: &R,
+    ground: &Ground,
+    workers: &mut [WordWorker],
+    tallies: &Tallies,
+    task: Task,
+)
+    requires workers { AreWorkers ground.now workers.old }
+    ensures workers { AreWorkers ground.now workers.new }
+{
+    workers_who_stay_are_all();
+    thread::for_each_mut(
+        rt,
+        workers,
+        CROWD as usize,
+        &|number, worker: &mut WordWorker|
+            requires { IsOf ground.now worker.now.seat }
+            ensures { Stays worker.entry.now worker.exit.now }
+        { work(ground, worker, tallies, number, task) },
+    );
+}
+
+/// What is reported of the workers of a new pool who have done this, and then, where there is more
+/// to do, that, and the statement of the pool.
+pub(super) fn ended<R: Threads + Sync>(
+    rt: &R,
+    alloc: Global,
+    limits: &Limits,
+    first: Task,
+    then: Option<Task>,
+) -> Result<(Tally, Statement), Refusal> {
+    let tallies = Tallies::new();
+    let (ground, mut workers) = pool::make(alloc, limits)?;
+    all_work(rt, &ground, workers.as_mut_slice(), &tallies, first);
+    if let Some(task) = then {
+        all_work(rt, &ground, workers.as_mut_slice(), &tallies, task);
+    }
+    let statement = pool::settled(alloc, ground, workers)?;
+    Ok((tallies.all(), statement))
 }

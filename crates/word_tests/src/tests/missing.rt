@@ -1,23 +1,21 @@
 //! The end of a pool of four workers, one of whom hands in no share.
 
-ghost use Rattle.std.specs.Prelude.{◌≡◌, [], IfOk, OnOk};
+ghost use Rattle.std.specs.Prelude.{◌≡◌, [], IfOk};
 ghost use Rattle.stack_tests.specs.Idle.{IsIdle};
-ghost use Rattle.word_tests.specs.Ready.{IsReady};
 
+use super::places::assert_each_once;
 use super::players::{FreeSeat, Player, Retired};
-use super::playing::act_of;
+use super::playing::play_own;
+use super::same;
 use super::settling::Ending;
-use super::{assert_each_once, assert_holds, same};
 use book::settling::Unsettled;
 use commons::refusal::Refusal;
 use ground::pool::Ground;
 use pool_model::statement::Statement;
 use script::names::Names;
-use script::playing::note;
-use script_text::commands::{Line, Script};
+use script_text::commands::Script;
 use script_text::parse;
 use std::alloc::Global;
-use std::process::Abort;
 use std::test::Fail;
 
 /// Each worker makes a packet and a clone of it, frees the packet, and offers the clone. The desk
@@ -27,31 +25,6 @@ const SCRIPT: &str = "pool 16 workers 4 desks 2\n\
     2: alloc a\n2: clone a b\n2: free a\n2: offer b 0\n2: free b\n\
     3: alloc a\n3: clone a b\n3: free a\n3: offer b 1\n3: free b\n\
     4: alloc a\n4: clone a b\n4: free a\n4: offer b 1\n4: free b\n";
-
-/// Plays the lines of one worker.
-fn play_own(
-    alloc: Global,
-    ground: &Ground,
-    lines: &[Line],
-    player: &mut Player,
-    number: u32,
-) -> Result<(), Fail>
-    requires ready { IsReady ground.now player.old.c.seat player.old.packets }
-    ensures ready { OnOk result (IsReady ground.now player.new.c.seat player.new.packets) }
-{
-    let mut names = Names::new(alloc);
-    for line in lines {
-        if line.worker != number {
-            continue;
-        }
-        let Ok(act) = act_of(&names, line) else {
-            continue;
-        };
-        let reply = player.act(act);
-        note(&mut names, line, &reply)?;
-    }
-    Ok(())
-}
 
 /// A worker of this number with this seat, and its lines from the first to the last.
 fn played(
@@ -67,7 +40,14 @@ fn played(
     ensures idle { IfOk result (λ retired. IsIdle ground.now retired.seat) }
 {
     let mut player = Player::make(alloc, ground, free, number)?;
-    play_own(alloc, ground, script.lines.as_slice(), &mut player, number)?;
+    let mut names = Names::new(alloc);
+    play_own(
+        ground,
+        &mut names,
+        script.lines.as_slice(),
+        &mut player,
+        number,
+    )?;
     Ok(player.retire())
 }
 
@@ -105,19 +85,6 @@ fn end_of(alloc: Global, third_is_missing: bool) -> Result<Result<Statement, Uns
     Ok(end)
 }
 
-/// A statement of the end where each clone is on a desk, and each other packet was freed.
-fn assert_settled<R: Abort>(rt: &R, alloc: Global, statement: &Statement) -> Result<(), Fail> {
-    let packets = (statement.desks.len(), statement.packets.len());
-    same(
-        rt,
-        &packets,
-        &(2, 0),
-        "a clone is on each desk, each other was freed",
-    );
-    assert_each_once(rt, alloc, statement, "four workers")?;
-    assert_holds(rt, alloc, statement, "four workers")
-}
-
 #[test]
 fn a_share_that_is_missing_is_named(rt: HostRuntime) -> Result<(), Fail> {
     let cause = end_of(rt.alloc(), true)?.err();
@@ -133,7 +100,12 @@ fn a_share_that_is_missing_is_named(rt: HostRuntime) -> Result<(), Fail> {
 #[test]
 fn four_workers_and_all_their_shares_settle(rt: HostRuntime) -> Result<(), Fail> {
     match end_of(rt.alloc(), false)? {
-        Ok(statement) => assert_settled(&rt, rt.alloc(), &statement),
+        Ok(statement) => {
+            let packets = (statement.desks.len(), statement.packets.len());
+            let what = "a clone is on each desk, each other was freed";
+            same(&rt, &packets, &(2, 0), what);
+            assert_each_once(&rt, rt.alloc(), &statement, "four workers")
+        }
         Err(cause) => {
             same(&rt, &Some(cause), &None, "why there is no statement");
             Ok(())

@@ -16,7 +16,7 @@ use script::asking::asked;
 use script::names::Names;
 use script::playing::note;
 use script_text::commands::{Line, Script};
-use std::alloc::Global;
+use std::alloc::{AllocError, Global};
 use std::test::Fail;
 use twin_acts::acts::TwinAct;
 
@@ -24,11 +24,36 @@ use twin_acts::acts::TwinAct;
 pub(super) type Played = (Vec<Reply>, Result<Statement, Unsettled>);
 
 /// What a line asks of a pool alone, or why it is refused.
-pub(super) fn act_of<'a>(names: &Names<'a>, line: &'a Line) -> Result<Act, Refusal> {
+fn act_of<'a>(names: &Names<'a>, line: &'a Line) -> Result<Act, Refusal> {
     match asked(names, line)? {
         TwinAct::OnFirst(act) => Ok(act),
         _ => Err(Refusal::Foreign),
     }
+}
+
+/// Plays the lines of the worker of this number, where their names stand for packets.
+pub(super) fn play_own<'a>(
+    ground: &Ground,
+    names: &mut Names<'a>,
+    lines: &'a [Line],
+    player: &mut Player,
+    number: u32,
+) -> Result<(), AllocError>
+    requires ready { IsReady ground.now player.old.c.seat player.old.packets }
+    ensures ready { IsReady ground.now player.new.c.seat player.new.packets }
+{
+    let _ = ground;
+    for line in lines {
+        if line.worker != number {
+            continue;
+        }
+        let Ok(act) = act_of(names, line) else {
+            continue;
+        };
+        let reply = player.act(act);
+        note(names, line, &reply)?;
+    }
+    Ok(())
 }
 
 /// Lets the worker of a line do what the line asks for.

@@ -34,25 +34,9 @@ fn refusals(replies: &[(u32, Reply)], cause: Refusal) -> (u32, u32) {
     (all, such)
 }
 
-/// Plays a script in which a clone is refused for this cause, and nothing else is, and all packets
-/// are freed.
+/// Plays a script in which a clone is refused for this cause, at this number, and nothing else is,
+/// and all packets are freed.
 fn assert_refused<R: Abort>(
-    rt: &R,
-    alloc: Global,
-    text: &str,
-    cause: Refusal,
-    name: &str,
-) -> Result<(), Fail> {
-    let script = parse(alloc, text.as_bytes())?;
-    let (replies, statement) = assert_same(rt, alloc, &script, name)?;
-    let told = refusals(replies.as_slice(), cause);
-    let wanted = ((1, 1), script.pools.first.population);
-    same(rt, &(told, statement.available), &wanted, name);
-    Ok(())
-}
-
-/// Plays such a script, which has this number.
-fn assert_refused_at<R: Abort>(
     rt: &R,
     alloc: Global,
     text: &str,
@@ -60,32 +44,26 @@ fn assert_refused_at<R: Abort>(
     number: u32,
 ) -> Result<(), Fail> {
     let name = format!(in alloc; "{cause:?} at {number}")?;
-    assert_refused(rt, alloc, text, cause, name.as_str())
-}
-
-/// A script in which this many elements are left for a clone of 32 segments.
-fn with_elements_left(alloc: Global, left: u32) -> Result<String, Fail> {
-    let population = left.wrapping_add(32);
-    let packets = written(alloc, PACKETS)?;
-    let chains = written(alloc, CHAINS)?;
-    Ok(format!(in alloc; "pool {population}\n{packets}{chains}clone p0 c\nfree p0\n")?)
-}
-
-/// A script in which the count of this element of 32 is at its limit.
-fn with_spent_count(alloc: Global, spent: u32) -> Result<String, Fail> {
-    let packets = written(alloc, PACKETS)?;
-    let chains = written(alloc, CHAINS)?;
-    Ok(format!(in alloc;
-        "pool 65 refs 2\n{packets}alloc x\nattach x p{spent}\n{chains}clone p0 c\nfree p0\nfree x\n"
-    )?)
+    let script = parse(alloc, text.as_bytes())?;
+    let (replies, statement) = assert_same(rt, alloc, &script, name.as_str())?;
+    let told = refusals(replies.as_slice(), cause);
+    let wanted = ((1, 1), script.pools.first.population);
+    same(rt, &(told, statement.available), &wanted, name.as_str());
+    Ok(())
 }
 
 /// A clone of 32 segments is refused where this many elements are left.
 #[test]
 fn a_clone_is_refused_at_each_of_its_gets(rt: HostRuntime) -> Result<(), Fail> {
+    let alloc = rt.alloc();
+    let packets = written(alloc, PACKETS)?;
+    let chains = written(alloc, CHAINS)?;
     for left in 0..32u32 {
-        let text = with_elements_left(rt.alloc(), left)?;
-        assert_refused_at(&rt, rt.alloc(), text.as_str(), Refusal::NoEntries, left)?;
+        let text = format!(in alloc;
+            "pool {}\n{packets}{chains}clone p0 c\nfree p0\n",
+            left + 32
+        )?;
+        assert_refused(&rt, alloc, text.as_str(), Refusal::NoEntries, left)?;
     }
     Ok(())
 }
@@ -93,9 +71,14 @@ fn a_clone_is_refused_at_each_of_its_gets(rt: HostRuntime) -> Result<(), Fail> {
 /// A clone of 32 segments is refused where the count of the element of one of them is at its limit.
 #[test]
 fn a_clone_is_refused_at_each_of_its_raises(rt: HostRuntime) -> Result<(), Fail> {
+    let alloc = rt.alloc();
+    let packets = written(alloc, PACKETS)?;
+    let chains = written(alloc, CHAINS)?;
     for spent in 0..32u32 {
-        let text = with_spent_count(rt.alloc(), spent)?;
-        assert_refused_at(&rt, rt.alloc(), text.as_str(), Refusal::RefSpent, spent)?;
+        let text = format!(in alloc;
+            "pool 65 refs 2\n{packets}alloc x\nattach x p{spent}\n{chains}clone p0 c\nfree p0\nfree x\n"
+        )?;
+        assert_refused(&rt, alloc, text.as_str(), Refusal::RefSpent, spent)?;
     }
     Ok(())
 }

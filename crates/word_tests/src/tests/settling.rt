@@ -93,19 +93,12 @@ impl Ending {
     ) -> Result<Result<Statement, Unsettled>, Refusal>
         requires { IsIdle ground self.seat }
     {
-        let Ending { seat, book } = self;
-        match ground.close(seat) {
-            Ok(closed) => match settle(alloc, closed, book) {
-                Ok(statement) => Ok(Ok(statement)),
-                Err((cause, _, book)) => {
-                    book.lose();
-                    Ok(Err(cause))
-                }
-            },
-            Err((refusal, _, seat)) => {
-                seat.lose();
+        let (closed, book) = self.close(ground)?;
+        match settle(alloc, closed, book) {
+            Ok(statement) => Ok(Ok(statement)),
+            Err((cause, _, book)) => {
                 book.lose();
-                Err(refusal)
+                Ok(Err(cause))
             }
         }
     }

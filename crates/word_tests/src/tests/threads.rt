@@ -1,23 +1,18 @@
 //! Four workers in threads of their own, who make packets and free them on the words of one pool.
 
 ghost use Rattle.ground.specs.Seats.{IsOf};
-ghost use Rattle.word_pool.specs.Workers.{AreWorkers, Stays};
+ghost use Rattle.word_pool.specs.Workers.{Stays};
 
-use super::crews::{Tallies, Tally, act, free, free_any, make};
+use super::crews::{Tally, Task, act, ended, free, free_any, make};
 use super::{DEFAULTS, assert_all_free, same};
 use commons::limits::Limits;
-use commons::refusal::Refusal;
 use ground::pool::Ground;
 use mbuf::acts::{Act, Reply};
 use mbuf::packets::Pid;
-use pool_model::statement::Statement;
 use std::alloc::Global;
 use std::process::Abort;
 use std::test::Fail;
-use std::thread;
 use std::thread::Threads;
-use word_pool::laws::workers_who_stay_are_all;
-use word_pool::pool;
 use word_pool::worker::WordWorker;
 
 /// How often each worker makes three packets and frees them, in the pool that is worked on longest.
@@ -68,66 +63,18 @@ fn round(ground: &Ground, worker: &mut WordWorker, tally: &mut Tally)
 }
 
 /// This many rounds of one worker.
-fn rounds(ground: &Ground, worker: &mut WordWorker, tallies: &Tallies, times: u32)
+pub(super) fn rounds(ground: &Ground, worker: &mut WordWorker, tally: &mut Tally, times: u32)
     requires of { IsOf ground.now worker.old.seat }
+    ensures of { IsOf ground.now worker.new.seat }
     ensures stays { Stays worker.old worker.new }
 {
-    let mut tally = Tally::default();
     for _ in 0..times {
-        round(ground, worker, &mut tally);
+        round(ground, worker, tally);
     }
-    tallies.add(&tally);
 }
 
-/// The rounds of all workers, each in a thread of its own.
-fn all_work<R: Threads + Sync>(
-    rt: &R,
-    ground: &Ground,
-    workers: &mut [WordWorker],
-    tallies: &Tallies,
-    times: u32,
-)
-    requires workers { AreWorkers ground.now workers.old }
-    ensures workers { AreWorkers ground.now workers.new }
-{
-    workers_who_stay_are_all();
-    thread::for_each_mut(
-        rt,
-        workers,
-        4,
-        &|_, worker: &mut WordWorker|
-            requires { IsOf ground.now worker.now.seat }
-            ensures { Stays worker.entry.now worker.exit.now }
-        { rounds(ground, worker, tallies, times) },
-    );
-}
-
-/// The statement of a pool whose workers have freed all that they made.
-fn ended<R: Threads + Sync>(
-    rt: &R,
-    alloc: Global,
-    limits: &Limits,
-    tallies: &Tallies,
-    times: u32,
-) -> Result<Statement, Refusal> {
-    let (ground, mut workers) = pool::make(alloc, limits)?;
-    all_work(rt, &ground, workers.as_mut_slice(), tallies, times);
-    pool::settled(alloc, ground, workers)
-}
-
-/// No call was refused for another cause, and at least this many packets were made.
-fn assert_told<R: Abort>(rt: &R, told: &Tally, times: u32, name: &str) {
-    let enough = told.made >= u64::from(times);
-    let wanted = ("wrong, made", 0, told.made, true);
-    same(
-        rt,
-        &("wrong, made", told.wrong, told.made, enough),
-        &wanted,
-        name,
-    );
-}
-
-/// Four workers of one pool, who free all that they made.
+/// Four workers of one pool, who free all that they made: no call was refused for another cause, and
+/// at least this many packets were made.
 fn four_of<R: Threads + Sync + Abort>(
     rt: &R,
     alloc: Global,
@@ -142,9 +89,15 @@ fn four_of<R: Threads + Sync + Abort>(
         workers: 4,
         ..DEFAULTS
     };
-    let tallies = Tallies::new();
-    let statement = ended(rt, alloc, &limits, &tallies, times)?;
-    assert_told(rt, &tallies.all(), times, name.as_str());
+    let (told, statement) = ended(rt, alloc, &limits, Task::Rounds(times), None)?;
+    let enough = told.made >= u64::from(times);
+    let given = ("wrong, made", told.wrong, told.made, enough);
+    same(
+        rt,
+        &given,
+        &("wrong, made", 0, told.made, true),
+        name.as_str(),
+    );
     assert_all_free(rt, alloc, &statement, name.as_str())
 }
 

@@ -20,42 +20,32 @@ use word_pool::laws::twins_who_stay_are_all;
 use word_pool::twin_pool;
 use word_pool::twin_worker::WordTwin;
 
-/// Makes a packet of 100 bytes and a clone of it in the second pool, and frees the packet.
-fn clone(first: &Ground, second: &Ground, worker: &mut WordTwin)
-    requires first { IsOf first.now worker.old.first }
-    requires second { IsOf second.now worker.old.second }
-    ensures { TwinStays worker.old worker.new }
-{
-    let _made = worker.act(first, second, TwinAct::OnFirst(Act::Alloc));
-    let _longer = worker.act(first, second, TwinAct::OnFirst(Act::Append(0, 100)));
-    let _cloned = worker.act(first, second, TwinAct::CloneInto(0));
-    let _freed = worker.act(first, second, TwinAct::OnFirst(Act::Free(0)));
-}
+/// A packet of 100 bytes is made, and a clone of it in the second pool, and the packet is freed.
+const CLONE: &[TwinAct] = &[
+    TwinAct::OnFirst(Act::Alloc),
+    TwinAct::OnFirst(Act::Append(0, 100)),
+    TwinAct::CloneInto(0),
+    TwinAct::OnFirst(Act::Free(0)),
+];
 
-/// Makes a packet of two segments and a clone of it, and frees the packet and then the clone.
-fn clone_and_free(first: &Ground, second: &Ground, worker: &mut WordTwin)
-    requires first { IsOf first.now worker.old.first }
-    requires second { IsOf second.now worker.old.second }
-    ensures { TwinStays worker.old worker.new }
-{
-    let _one = worker.act(first, second, TwinAct::OnFirst(Act::Alloc));
-    let _other = worker.act(first, second, TwinAct::OnFirst(Act::Alloc));
-    let _chained = worker.act(first, second, TwinAct::OnFirst(Act::Chain(0, 1)));
-    let _cloned = worker.act(first, second, TwinAct::CloneInto(0));
-    let _freed = worker.act(first, second, TwinAct::OnFirst(Act::Free(0)));
-    let _gone = worker.act(first, second, TwinAct::FreeClone(0));
-}
+/// A packet of two segments is made and a clone of it, and the packet is freed and then the clone.
+const CLONE_AND_FREE: &[TwinAct] = &[
+    TwinAct::OnFirst(Act::Alloc),
+    TwinAct::OnFirst(Act::Alloc),
+    TwinAct::OnFirst(Act::Chain(0, 1)),
+    TwinAct::CloneInto(0),
+    TwinAct::OnFirst(Act::Free(0)),
+    TwinAct::FreeClone(0),
+];
 
-/// Makes a clone of a packet that is freed, and frees the clone too where that is asked.
-fn work(first: &Ground, second: &Ground, worker: &mut WordTwin, frees: bool)
+/// A worker does this in turn.
+fn work(first: &Ground, second: &Ground, worker: &mut WordTwin, acts: &[TwinAct])
     requires first { IsOf first.now worker.old.first }
     requires second { IsOf second.now worker.old.second }
     ensures { TwinStays worker.old worker.new }
 {
-    if frees {
-        clone_and_free(first, second, worker);
-    } else {
-        clone(first, second, worker);
+    for act in acts {
+        let _reply = worker.act(first, second, *act);
     }
 }
 
@@ -65,7 +55,7 @@ fn all_work<R: Threads + Sync>(
     first: &Ground,
     second: &Ground,
     workers: &mut [WordTwin],
-    frees: bool,
+    acts: &[TwinAct],
 )
     requires { AreTwinWorkers first.now second.now workers.old }
     ensures { AreTwinWorkers first.now second.now workers.new }
@@ -79,20 +69,20 @@ fn all_work<R: Threads + Sync>(
             requires first { IsOf first.now worker.now.first }
             requires second { IsOf second.now worker.now.second }
             ensures { TwinStays worker.entry.now worker.exit.now }
-        { work(first, second, worker, frees) },
+        { work(first, second, worker, acts) },
     );
 }
 
-/// The statements of two pools whose workers have made clones, and freed them or left them.
+/// The statements of two pools each of whose workers has done this.
 fn ended<R: Threads + Sync>(
     rt: &R,
     alloc: Global,
     first: &Limits,
     second: &Limits,
-    frees: bool,
+    acts: &[TwinAct],
 ) -> Result<(Statement, Statement), Refusal> {
     let (one, other, mut workers) = twin_pool::make(alloc, first, second)?;
-    all_work(rt, &one, &other, workers.as_mut_slice(), frees);
+    all_work(rt, &one, &other, workers.as_mut_slice(), acts);
     twin_pool::settled(alloc, one, other, workers)
 }
 
@@ -113,7 +103,7 @@ fn threads_of_two_pools_leave_all_free(rt: HostRuntime) -> Result<(), Fail> {
             buf: 0,
             ..DEFAULTS
         };
-        let (first, second) = ended(&rt, rt.alloc(), &first, &second, true)?;
+        let (first, second) = ended(&rt, rt.alloc(), &first, &second, CLONE_AND_FREE)?;
         same(
             &rt,
             &(first.available, second.available),
@@ -141,7 +131,7 @@ fn a_clone_on_words_holds_the_buffer_of_the_first_pool(rt: HostRuntime) -> Resul
         buf: 0,
         ..DEFAULTS
     };
-    let (first, second) = ended(&rt, rt.alloc(), &first, &second, false)?;
+    let (first, second) = ended(&rt, rt.alloc(), &first, &second, CLONE)?;
     let second = Some(second);
     let text = statement_text(rt.alloc(), &Settled { first, second })?;
     same(

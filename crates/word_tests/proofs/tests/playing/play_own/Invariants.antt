@@ -1,5 +1,5 @@
 use Rattle.word_tests.specs.Ready.{IsReady}
-use Rattle.word_tests.proofs.tests.missing.play_own.Given as goal
+use Rattle.word_tests.proofs.tests.playing.play_own.Given as goal
 
 -- the worker is ready for the next line
 abbrev pub invariant-loop-line : goal.invariant-loop-line
