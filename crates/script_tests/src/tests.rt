@@ -3,19 +3,16 @@
 use commons::limits::{Limits, PutRule};
 use commons::packet::Seg;
 use commons::refusal::Refusal;
-use commons::seq::Seq;
-use mbuf::acts::{Act, Reply};
-use mbuf::freed::Freed;
+use mbuf::acts::Reply;
 use pool_model::settled::Settled;
-use pool_model::statement::{Held, Holder, PlacedPacket, Statement};
+use pool_model::statement::Holder;
 use script::texts::push_reply;
 use script::{replay, run_replay, run_replay_json, statement_json, statement_text};
-use script_rows::parts::{Part, written};
-use script_rows::pools::{FIRST_RUN, FIRST_RUN_TEXT};
-use script_rows::{BuiltRow, Row, built, caches, desks, packets, pools, sharing, twins as foreign};
+use script_rows::parts::written;
+use script_rows::{built, caches, desks, packets, pools, sharing, twins as foreign};
 use script_text::parse;
 use serde_json::Value;
-use share_book::ending::settled;
+use share_book::TwinAct;
 use statement_text::pool_text;
 use std::alloc::Global;
 use std::fmt::Debug;
@@ -36,24 +33,38 @@ mod readings;
 mod replies;
 mod settling;
 mod shown;
-mod site_pools;
+mod sites;
 mod statements;
 mod step_readings;
 mod step_texts;
 mod texts;
 mod threads;
-mod told;
-mod twin_sites;
+mod twin_steps;
 mod twins;
 
 use building::placed;
-use told::{Told, reply};
 
-/// A name, and texts with their refusals; a script has none.
-type TextsRow = (&'static str, &'static [(&'static str, Option<Refusal>)]);
+/// A row of a table of texts.
+enum TextRow {
+    /// What the texts behind it are about.
+    About(&'static str),
+    /// A script.
+    Good(&'static str),
+    /// A text that is none, and why.
+    Bad(&'static str, Refusal),
+}
 
-/// A name, the parts of a text, its length in bytes, and its refusal; a script has none.
-type LongRow = (&'static str, &'static [Part], usize, Option<Refusal>);
+/// A name, a text's front, how often its middle stands in it, the middle, its end, its length in
+/// bytes, and its refusal; a script has none.
+type LongRow = (
+    &'static str,
+    &'static str,
+    u32,
+    &'static str,
+    &'static str,
+    usize,
+    Option<Refusal>,
+);
 
 /// A name, a script, its limits, those of its second pool, and what its lines say.
 type ReadRow = (
@@ -64,26 +75,23 @@ type ReadRow = (
     &'static str,
 );
 
-/// A name, a pool's limits, and what is done with it.
-type PoolRow = (&'static str, Limits, &'static [Step]);
+/// A name, a pool's limits, those of its second pool, and what is done with them.
+type PoolRow = (&'static str, Limits, Option<Limits>, &'static [Step]);
 
-/// A name, limits within which no pool is made, and the refusal.
-type UnmadeRow = (&'static str, Limits, Refusal);
-
-/// What is done with a pool.
+/// What is done with pools.
 enum Step {
-    /// A worker's act has this reply.
-    Act(u32, Act, Told),
+    /// A worker's act has this reply, as its `Debug` shows it.
+    Act(u32, TwinAct, &'static str),
     /// A worker makes this many packets at once.
     Bulk(u32, usize),
     /// Each of these workers is refused so for each of these acts.
-    Refused(&'static [u32], &'static [Act], Refusal),
-    /// The statement of the pool has this text.
+    Refused(&'static [u32], &'static [TwinAct], Refusal),
+    /// The statement of the pools has this text.
     Statement(&'static str),
 }
 
 /// The line of a reply, the number of the line, and the reply.
-type ReplyRow = (&'static str, u32, Told);
+type ReplyRow = (&'static str, u32, Reply);
 
 /// A statement as plain data.
 struct Places {
@@ -133,31 +141,9 @@ fn assert_given<R: Abort>(rt: &R, given: Result<Vec<u8>, Refusal>, wanted: &str,
     }
 }
 
-/// The text of a pool's statement.
-fn text_of(alloc: Global, statement: &Statement) -> Result<String, Fail> {
-    let bytes = pool_text(alloc, statement)?;
-    Ok(String::from_utf8(bytes)?)
-}
-
 /// The text of what a script's pools come to.
 fn text_of_end(alloc: Global, settled: &Settled) -> Result<String, Fail> {
     let bytes = statement_text(alloc, settled)?;
-    Ok(String::from_utf8(bytes)?)
-}
-
-/// The same text, of what ends here.
-fn into_text(alloc: Global, settled: Settled) -> Result<String, Fail> {
-    text_of_end(alloc, &settled)
-}
-
-/// What is printed for a text.
-fn printed(alloc: Global, text: &str) -> Result<Vec<u8>, Refusal> {
-    run_replay(alloc, text.as_bytes())
-}
-
-/// What the replay of a script prints.
-fn replayed(alloc: Global, script: &str) -> Result<String, Fail> {
-    let bytes = printed(alloc, script)?;
     Ok(String::from_utf8(bytes)?)
 }
 
@@ -176,12 +162,6 @@ fn text_of_replies(alloc: Global, replies: &[(u32, Reply)]) -> Result<String, Fa
     Ok(String::from_utf8(text)?)
 }
 
-/// What the replies of a script and its end print, each by its own call.
-fn replayed_in_parts(alloc: Global, script: &str) -> Result<String, Fail> {
-    let (replies, settled) = played(alloc, script)?;
-    text_of_parts(alloc, replies.as_slice(), &settled)
-}
-
 /// The text of replies, and behind it that of the end.
 fn text_of_parts(
     alloc: Global,
@@ -193,93 +173,75 @@ fn text_of_parts(
     Ok(text)
 }
 
-/// A script prints this text at once.
-fn print_at_once<R: Abort + AllocGlobal>(
-    rt: &R,
-    script: &str,
-    text: &str,
-    name: &str,
-) -> Result<(), Fail> {
-    let whole = replayed(rt.alloc(), script)?;
-    same(rt, &("at once", whole.as_str()), &("at once", text), name);
-    Ok(())
+/// What the replies of a script and its end print, each by its own call.
+fn replayed_in_parts(alloc: Global, script: &str) -> Result<String, Fail> {
+    let (replies, settled) = played(alloc, script)?;
+    text_of_parts(alloc, replies.as_slice(), &settled)
 }
 
-/// It does so by its parts.
-fn print_by_parts<R: Abort + AllocGlobal>(
+/// A script prints this text, at once and by its parts.
+fn print_text<R: Abort + AllocGlobal>(
     rt: &R,
     script: &str,
     text: &str,
     name: &str,
 ) -> Result<(), Fail> {
+    let whole = String::from_utf8(run_replay(rt.alloc(), script.as_bytes())?)?;
+    same(rt, &("at once", whole.as_str()), &("at once", text), name);
     let parts = replayed_in_parts(rt.alloc(), script)?;
     let (how, printed) = ("by its parts", parts.as_str());
     same(rt, &(how, printed), &(how, text), name);
     Ok(())
 }
 
-fn print_texts<R: Abort + AllocGlobal>(rt: &R, rows: &[Row]) -> Result<(), Fail> {
-    for (name, script, text) in rows {
-        print_at_once(rt, script, text, name)?;
-        print_by_parts(rt, script, text, name)?;
-    }
-    Ok(())
-}
-
 #[test]
 fn each_script_prints_its_text(rt: HostRuntime) -> Result<(), Fail> {
-    print_texts(&rt, pools::ROWS)?;
-    print_texts(&rt, caches::ROWS)?;
-    print_texts(&rt, packets::ROWS)?;
-    print_texts(&rt, sharing::ROWS)?;
-    print_texts(&rt, desks::ROWS)?;
-    print_texts(&rt, foreign::ROWS)
-}
-
-fn print_long_texts<R: Abort + AllocGlobal>(rt: &R, rows: &[BuiltRow]) -> Result<(), Fail> {
-    for (name, script, text) in rows {
-        let script = written(rt.alloc(), script)?;
-        let text = written(rt.alloc(), text)?;
-        let printed = replayed(rt.alloc(), script.as_str())?;
-        same(rt, &printed.as_str(), &text.as_str(), name);
+    for rows in [
+        pools::ROWS,
+        caches::ROWS,
+        packets::ROWS,
+        sharing::ROWS,
+        desks::ROWS,
+        foreign::ROWS,
+    ] {
+        for (name, script, text) in rows {
+            print_text(&rt, script, text, name)?;
+        }
     }
     Ok(())
 }
 
 #[test]
 fn each_long_script_prints_its_text(rt: HostRuntime) -> Result<(), Fail> {
-    print_long_texts(&rt, built::rows())
-}
-
-/// Each line is put after those before it.
-fn print_replies<R: Abort + AllocGlobal>(rt: &R, rows: &[ReplyRow]) -> Result<(), Fail> {
-    let mut printed = Vec::new(rt.alloc());
-    let mut text = String::new(rt.alloc());
-    for (line, number, told) in rows {
-        push_reply(&mut printed, *number, &reply(*told))?;
-        text.push_str(line)?;
-        same(rt, &printed.as_slice(), &text.as_bytes(), line);
+    for (name, script, text) in built::rows() {
+        let script = written(rt.alloc(), script)?;
+        let text = written(rt.alloc(), text)?;
+        print_text(&rt, script.as_str(), text.as_str(), name)?;
     }
     Ok(())
 }
 
+/// Each line is put after those before it.
 #[test]
 fn each_reply_prints_behind_its_line(rt: HostRuntime) -> Result<(), Fail> {
-    print_replies(&rt, replies::ROWS)
-}
-
-fn print_statements<R: Abort + AllocGlobal>(rt: &R, rows: &[StatementRow]) -> Result<(), Fail> {
-    for (name, places, text) in rows {
-        let statement = placed(rt.alloc(), places)?;
-        let printed = text_of(rt.alloc(), &statement)?;
-        same(rt, &printed.as_str(), text, name);
+    let mut printed = Vec::new(rt.alloc());
+    let mut text = String::new(rt.alloc());
+    for (line, number, reply) in &replies::rows() {
+        push_reply(&mut printed, *number, reply)?;
+        text.push_str(line)?;
+        same(&rt, &printed.as_slice(), &text.as_bytes(), line);
     }
     Ok(())
 }
 
 #[test]
 fn each_statement_prints_its_text(rt: HostRuntime) -> Result<(), Fail> {
-    print_statements(&rt, statements::ROWS)
+    for (name, places, text) in statements::ROWS {
+        let statement = placed(rt.alloc(), places)?;
+        let printed = String::from_utf8(pool_text(rt.alloc(), &statement)?)?;
+        same(&rt, &printed.as_str(), text, name);
+    }
+    Ok(())
 }
 
 /// The population that a reader of JSON finds, of two pools that of the first.
@@ -287,23 +249,6 @@ fn population_in(alloc: Global, json: &str) -> Result<Option<u64>, Fail> {
     let settled = Value::from_str(alloc, json)?;
     let statement = settled.get("first").unwrap_or(&settled);
     Ok(statement.get("population").and_then(Value::as_u64))
-}
-
-/// What a script prints as JSON.
-fn json_of(alloc: Global, script: &str) -> Result<String, Fail> {
-    let bytes = run_replay_json(alloc, script.as_bytes())?;
-    Ok(String::from_utf8(bytes)?)
-}
-
-/// What a script's pools come to as JSON.
-fn json_of_end(alloc: Global, script: &str) -> Result<String, Fail> {
-    let (_replies, settled) = played(alloc, script)?;
-    json_of_settled(alloc, &settled)
-}
-
-fn json_of_settled(alloc: Global, settled: &Settled) -> Result<String, Fail> {
-    let bytes = statement_json(alloc, settled)?;
-    Ok(String::from_utf8(bytes)?)
 }
 
 /// A script prints this line, its end does, and a reader finds this population in it.
@@ -314,120 +259,27 @@ fn print_json_line<R: Abort + AllocGlobal>(
     population: u64,
     name: &str,
 ) -> Result<(), Fail> {
-    let whole = json_of(rt.alloc(), script)?;
-    same(rt, &whole.as_str(), &line, name);
-    let end = json_of_end(rt.alloc(), script)?;
+    let whole = String::from_utf8(run_replay_json(rt.alloc(), script.as_bytes())?)?;
+    let (_replies, settled) = played(rt.alloc(), script)?;
+    let end = String::from_utf8(statement_json(rt.alloc(), &settled)?)?;
+    same(rt, &("at once", whole.as_str()), &("at once", line), name);
     same(rt, &("its end", end.as_str()), &("its end", line), name);
     let found = population_in(rt.alloc(), whole.as_str())?;
+    let wanted = Some(population);
     same(
         rt,
         &("its population", found),
-        &("its population", Some(population)),
+        &("its population", wanted),
         name,
     );
     Ok(())
 }
 
-fn print_json<R: Abort + AllocGlobal>(rt: &R, rows: &[JsonRow]) -> Result<(), Fail> {
-    for (name, script, json, population) in rows {
-        let line = format!(in rt.alloc(); "{json}\n")?;
-        print_json_line(rt, script, line.as_str(), *population, name)?;
-    }
-    Ok(())
-}
-
 #[test]
 fn each_script_prints_its_json(rt: HostRuntime) -> Result<(), Fail> {
-    print_json(&rt, json::ROWS)
-}
-
-/// Whether these are the packets of the first run's end.
-fn assert_first_packets(rt: &impl Abort, packets: &[PlacedPacket]) {
-    same(rt, &packets.len(), &1, "how many packets");
-    for placed in packets {
-        let seg = Seg {
-            elem: 1,
-            base: None,
-            data_off: 128,
-            data_len: 0,
-            buf_len: 2_048,
-        };
-        let given = (placed.worker, placed.slot, placed.segs.as_slice());
-        same(rt, &given, &(1, 1, [seg].as_slice()), "the packet");
+    for (name, script, json, population) in json::ROWS {
+        let line = format!(in rt.alloc(); "{json}\n")?;
+        print_json_line(&rt, script, line.as_str(), *population, name)?;
     }
-}
-
-/// Whether these are the held elements of the first run's end.
-fn assert_first_held(rt: &impl Abort, held: &[Held]) {
-    same(rt, &held.len(), &1, "how many are held");
-    for held in held {
-        let given = (held.elem, held.count, held.holders.as_slice());
-        same(
-            rt,
-            &given,
-            &(1, 1, [Holder::Worker(1)].as_slice()),
-            "what is held",
-        );
-    }
-}
-
-/// Whether these are the caches of the first run's end.
-fn assert_first_caches(rt: &impl Abort, caches: &[Seq<u32>]) {
-    same(rt, &caches.len(), &1, "how many caches");
-    for cache in caches {
-        same(rt, &cache.is_empty(), &true, "a cache is empty");
-    }
-}
-
-/// Whether this is the statement of the first run's end.
-fn assert_first_end(rt: &impl Abort, statement: &Statement) {
-    let totals = (statement.population, statement.available, statement.in_use);
-    same(rt, &totals, &(3, 2, 1), "the totals");
-    let lists = (statement.common.as_slice(), statement.desks.len());
-    same(
-        rt,
-        &lists,
-        &([0, 2].as_slice(), 0),
-        "the common list, and how many desks",
-    );
-    assert_first_caches(rt, statement.caches.as_slice());
-    assert_first_packets(rt, statement.packets.as_slice());
-    assert_first_held(rt, statement.held.as_slice());
-}
-
-/// Whether these are the replies of the first run.
-fn assert_first_replies(rt: &impl Abort, replies: &[(u32, Reply)]) {
-    let freed = Freed {
-        back: 1,
-        flushed: 1,
-        put_off: None,
-    };
-    let wanted = [
-        (2, Reply::Allocated(0, 0)),
-        (3, Reply::Allocated(1, 1)),
-        (4, Reply::Freed(freed)),
-    ];
-    same(rt, &replies, &wanted.as_slice(), "the replies");
-}
-
-#[test]
-fn a_replay_answers_each_command_and_places_each_element(rt: HostRuntime) -> Result<(), Fail> {
-    let (replies, settled) = played(rt.alloc(), FIRST_RUN)?;
-    assert_first_replies(&rt, replies.as_slice());
-    assert_first_end(&rt, &settled.first);
     Ok(())
-}
-
-/// Whichever request for memory is refused, the same JSON is given or none.
-#[test]
-fn refused_memory_changes_no_json(rt: HostRuntime) {
-    let given = run_replay_json(rt.alloc(), FIRST_RUN.as_bytes());
-    assert_given(&rt, given, json::FIRST_RUN_JSON, "the first run as JSON");
-}
-
-/// Whichever request for memory is refused, the same is printed or nothing.
-#[test]
-fn refused_memory_changes_no_answer(rt: HostRuntime) {
-    let given = printed(rt.alloc(), FIRST_RUN);
-    assert_given(&rt, given, FIRST_RUN_TEXT, "the first run");
 }

@@ -1,23 +1,14 @@
 //! What a `SitePool` replies to its workers' acts, and where its elements are then.
 
-use super::told::Told;
-use super::{DEFAULTS, PoolRow, Step, UnmadeRow};
+use super::{DEFAULTS, PoolRow, Step};
 use commons::limits::Limits;
 use commons::refusal::Refusal;
-use mbuf::acts::Act;
-use mbuf::freed::Freed;
+use mbuf::acts::Act::{Alloc, Append, Flush, Free, Offer, Take};
+use share_book::TwinAct::OnFirst;
 
-const BACK_AND_FLUSHED: Told = Told::Freed(Freed {
-    back: 1,
-    flushed: 1,
-    put_off: None,
-});
+const BACK_AND_FLUSHED: &str = "Freed(Freed { back: 1, flushed: 1, put_off: None })";
 
-const BACK_AND_KEPT: Told = Told::Freed(Freed {
-    back: 1,
-    flushed: 0,
-    put_off: None,
-});
+const BACK_AND_KEPT: &str = "Freed(Freed { back: 1, flushed: 0, put_off: None })";
 
 const OF_THREE: Limits = Limits {
     population: 3,
@@ -36,11 +27,12 @@ pub(super) const ROWS: &[PoolRow] = &[
     (
         "a site pool performs the first run",
         OF_THREE,
+        None,
         &[
-            Step::Act(1, Act::Alloc, Told::Allocated(0, 0)),
-            Step::Act(1, Act::Alloc, Told::Allocated(1, 1)),
-            Step::Act(1, Act::Free(0), BACK_AND_FLUSHED),
-            Step::Refused(&[1], &[Act::Free(0)], Refusal::NoSuchPacket),
+            Step::Act(1, OnFirst(Alloc), "Allocated(0, 0)"),
+            Step::Act(1, OnFirst(Alloc), "Allocated(1, 1)"),
+            Step::Act(1, OnFirst(Free(0)), BACK_AND_FLUSHED),
+            Step::Refused(&[1], &[OnFirst(Free(0))], Refusal::NoSuchPacket),
             Step::Statement(
                 "population 3\navailable 2\nin use 1\ncommon 2: 0 2\ncache 1 0:\n\
                 packet 1 1 segs 1 len 0: 1@128+0/2048\nheld 1 count 1: 1\n",
@@ -53,12 +45,13 @@ pub(super) const ROWS: &[PoolRow] = &[
             workers: 2,
             ..OF_THREE
         },
+        None,
         &[
-            Step::Act(2, Act::Alloc, Told::Allocated(0, 0)),
+            Step::Act(2, OnFirst(Alloc), "Allocated(0, 0)"),
             Step::Statement(ONE_OF_THREE),
             Step::Refused(
                 &[0, 3, 65_536, 4_294_967_295],
-                &[Act::Alloc, Act::Free(0), Act::Flush],
+                &[OnFirst(Alloc), OnFirst(Free(0)), OnFirst(Flush)],
                 Refusal::StrangerShare,
             ),
             Step::Statement(ONE_OF_THREE),
@@ -74,11 +67,12 @@ pub(super) const ROWS: &[PoolRow] = &[
             workers: 2,
             ..DEFAULTS
         },
+        None,
         &[
-            Step::Act(2, Act::Alloc, Told::Allocated(0, 4)),
-            Step::Act(1, Act::Alloc, Told::Allocated(0, 9)),
-            Step::Act(2, Act::Free(0), BACK_AND_KEPT),
-            Step::Refused(&[2], &[Act::Free(0)], Refusal::NoSuchPacket),
+            Step::Act(2, OnFirst(Alloc), "Allocated(0, 4)"),
+            Step::Act(1, OnFirst(Alloc), "Allocated(0, 9)"),
+            Step::Act(2, OnFirst(Free(0)), BACK_AND_KEPT),
+            Step::Refused(&[2], &[OnFirst(Free(0))], Refusal::NoSuchPacket),
             Step::Statement(
                 "population 12\navailable 11\nin use 1\ncommon 2: 10 11\n\
                 cache 1 4: 5 6 7 8\ncache 2 5: 0 1 2 3 4\n\
@@ -89,17 +83,18 @@ pub(super) const ROWS: &[PoolRow] = &[
     (
         "a packet passes over a desk",
         WITH_A_DESK,
+        None,
         &[
-            Step::Act(1, Act::Alloc, Told::Allocated(0, 0)),
-            Step::Act(1, Act::Alloc, Told::Allocated(1, 1)),
-            Step::Act(1, Act::Append(0, 9), Told::Len(9)),
-            Step::Act(1, Act::Offer(0, 0), Told::Offered),
+            Step::Act(1, OnFirst(Alloc), "Allocated(0, 0)"),
+            Step::Act(1, OnFirst(Alloc), "Allocated(1, 1)"),
+            Step::Act(1, OnFirst(Append(0, 9)), "Len(9)"),
+            Step::Act(1, OnFirst(Offer(0, 0)), "Offered"),
             Step::Statement(
                 "population 4\navailable 2\nin use 2\ncommon 2: 2 3\ncache 1 0:\ncache 2 0:\n\
                 packet 1 1 segs 1 len 0: 1@128+0/2048\ndesk 0 segs 1 len 9: 0@128+9/2048\n\
                 held 0 count 1: d0\nheld 1 count 1: 1\n",
             ),
-            Step::Act(2, Act::Take(0), Told::Taken(0, 1, 9)),
+            Step::Act(2, OnFirst(Take(0)), "Taken(0, 1, 9)"),
             Step::Statement(
                 "population 4\navailable 2\nin use 2\ncommon 2: 2 3\ncache 1 0:\ncache 2 0:\n\
                 packet 1 1 segs 1 len 0: 1@128+0/2048\npacket 2 0 segs 1 len 9: 0@128+9/2048\n\
@@ -111,44 +106,49 @@ pub(super) const ROWS: &[PoolRow] = &[
     (
         "offers and takes are refused in their order",
         WITH_A_DESK,
+        None,
         &[
-            Step::Refused(&[2], &[Act::Take(0)], Refusal::DeskEmpty),
-            Step::Act(1, Act::Alloc, Told::Allocated(0, 0)),
-            Step::Act(1, Act::Alloc, Told::Allocated(1, 1)),
-            Step::Act(1, Act::Offer(0, 0), Told::Offered),
+            Step::Refused(&[2], &[OnFirst(Take(0))], Refusal::DeskEmpty),
+            Step::Act(1, OnFirst(Alloc), "Allocated(0, 0)"),
+            Step::Act(1, OnFirst(Alloc), "Allocated(1, 1)"),
+            Step::Act(1, OnFirst(Offer(0, 0)), "Offered"),
             Step::Statement(ONE_ON_A_DESK),
             Step::Refused(
                 &[1],
                 &[
-                    Act::Offer(0, 0),
-                    Act::Offer(0, 1),
-                    Act::Offer(2, 0),
-                    Act::Offer(2, 1),
-                    Act::Offer(256, 0),
-                    Act::Offer(256, 1),
-                    Act::Offer(4_294_967_295, 0),
-                    Act::Offer(4_294_967_295, 1),
+                    OnFirst(Offer(0, 0)),
+                    OnFirst(Offer(0, 1)),
+                    OnFirst(Offer(2, 0)),
+                    OnFirst(Offer(2, 1)),
+                    OnFirst(Offer(256, 0)),
+                    OnFirst(Offer(256, 1)),
+                    OnFirst(Offer(4_294_967_295, 0)),
+                    OnFirst(Offer(4_294_967_295, 1)),
                 ],
                 Refusal::NoSuchPacket,
             ),
             Step::Refused(
                 &[1],
                 &[
-                    Act::Offer(1, 1),
-                    Act::Offer(1, 64),
-                    Act::Offer(1, 4_294_967_295),
+                    OnFirst(Offer(1, 1)),
+                    OnFirst(Offer(1, 64)),
+                    OnFirst(Offer(1, 4_294_967_295)),
                 ],
                 Refusal::NoSuchDesk,
             ),
             Step::Refused(
                 &[2],
-                &[Act::Take(1), Act::Take(64), Act::Take(4_294_967_295)],
+                &[
+                    OnFirst(Take(1)),
+                    OnFirst(Take(64)),
+                    OnFirst(Take(4_294_967_295)),
+                ],
                 Refusal::NoSuchDesk,
             ),
-            Step::Refused(&[1], &[Act::Offer(1, 0)], Refusal::DeskTaken),
+            Step::Refused(&[1], &[OnFirst(Offer(1, 0))], Refusal::DeskTaken),
             Step::Refused(
                 &[0, 3, 4_294_967_295],
-                &[Act::Offer(1, 0), Act::Take(0), Act::Take(1)],
+                &[OnFirst(Offer(1, 0)), OnFirst(Take(0)), OnFirst(Take(1))],
                 Refusal::StrangerShare,
             ),
             Step::Statement(ONE_ON_A_DESK),
@@ -161,12 +161,13 @@ pub(super) const ROWS: &[PoolRow] = &[
             population: 300,
             ..WITH_A_DESK
         },
+        None,
         &[
             Step::Bulk(1, 256),
-            Step::Refused(&[1], &[Act::Take(1)], Refusal::NoSuchDesk),
-            Step::Refused(&[1], &[Act::Take(0)], Refusal::PacketsFull),
-            Step::Act(1, Act::Offer(7, 0), Told::Offered),
-            Step::Act(1, Act::Take(0), Told::Taken(7, 1, 0)),
+            Step::Refused(&[1], &[OnFirst(Take(1))], Refusal::NoSuchDesk),
+            Step::Refused(&[1], &[OnFirst(Take(0))], Refusal::PacketsFull),
+            Step::Act(1, OnFirst(Offer(7, 0)), "Offered"),
+            Step::Act(1, OnFirst(Take(0)), "Taken(7, 1, 0)"),
         ],
     ),
 ];
@@ -181,12 +182,3 @@ const ONE_ON_A_DESK: &str =
     "population 4\navailable 2\nin use 2\ncommon 2: 2 3\ncache 1 0:\ncache 2 0:\n\
     packet 1 1 segs 1 len 0: 1@128+0/2048\ndesk 0 segs 1 len 0: 0@128+0/2048\n\
     held 0 count 1: d0\nheld 1 count 1: 1\n";
-
-pub(super) const UNMADE: &[UnmadeRow] = &[(
-    "a site pool out of range is refused",
-    Limits {
-        population: 16_777_215,
-        ..DEFAULTS
-    },
-    Refusal::BadPool,
-)];

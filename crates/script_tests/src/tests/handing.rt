@@ -21,14 +21,7 @@ fn handed_over(alloc: Global, limits: &Limits) -> Result<u64, Refusal> {
     Ok(statement.available)
 }
 
-/// This many elements are free then, or memory was refused.
-fn assert_free<R: Abort + AllocGlobal>(rt: &R, limits: &Limits, free: u64, what: &str) {
-    match handed_over(rt.alloc(), limits) {
-        Ok(available) => same(rt, &available, &free, what),
-        Err(cause) => same(rt, &cause, &Refusal::OutOfMemory, "the pool wasn't made"),
-    }
-}
-
+/// Whichever request for memory is refused, the packet is freed, or the pool isn't made.
 #[test]
 fn a_packet_is_made_by_one_worker_and_freed_by_another(rt: HostRuntime) {
     let two = Limits {
@@ -37,8 +30,12 @@ fn a_packet_is_made_by_one_worker_and_freed_by_another(rt: HostRuntime) {
         desks: 1,
         ..DEFAULTS
     };
-    assert_free(&rt, &two, 4, "no element is in use");
     // Without a desk the packet stays with the worker that made it.
     let without = Limits { desks: 0, ..two };
-    assert_free(&rt, &without, 3, "the packet is in use");
+    for (limits, free) in [(two, 4), (without, 3)] {
+        match handed_over(rt.alloc(), &limits) {
+            Ok(available) => same(&rt, &available, &free, "how many elements are free"),
+            Err(cause) => same(&rt, &cause, &Refusal::OutOfMemory, "the pool wasn't made"),
+        }
+    }
 }

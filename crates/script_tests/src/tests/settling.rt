@@ -1,6 +1,6 @@
 //! How a pool is settled with the shares of its workers, and what is refused.
 
-use super::{DEFAULTS, assert_given, same, text_of};
+use super::{DEFAULTS, assert_given, same};
 use commons::closed::Closed;
 use commons::limits::Limits;
 use commons::refusal::Refusal;
@@ -42,19 +42,27 @@ const FOR_DESK_1: &[Act] = &[
     Act::Free(1),
 ];
 
-/// What four workers do, of whom two each want one desk, worker by worker.
-const FOUR_WORKERS: [(u32, &[Act]); 4] = [
+/// What four workers do, of whom two each want one desk, worker by worker, and a fifth, who is a
+/// stranger.
+const FOUR_WORKERS: [(u32, &[Act]); 5] = [
     (1, FOR_DESK_0),
     (2, FOR_DESK_0),
     (3, FOR_DESK_1),
     (4, FOR_DESK_1),
+    (5, FOR_DESK_0),
 ];
+
+/// How often what takes memory is tried where memory is ample.
+pub(super) const ONCE: u32 = 1;
+
+/// How often it is tried where one request for memory may be refused.
+pub(super) const TWICE: u32 = 2;
 
 /// What is there of a closed pool.
 type Parts = (Limits, Closed, Vec<Share>);
 
 /// How a pool without a worker's share settled: why it didn't, and its statement with that share.
-type Late = (Option<Unsettled>, Option<Statement>);
+type Late = (Option<Unsettled>, Result<Statement, Unsettled>);
 
 /// Lets a worker do all this.
 pub(super) fn play(pool: &mut SitePool, worker: u32, acts: &[Act]) {
@@ -70,89 +78,28 @@ pub(super) fn play_four(pool: &mut SitePool) {
     }
 }
 
-/// Lets a worker do all this under a lock. Each reply is that of a pool without one.
-fn play_locked<R: Wait + Abort>(
-    rt: &R,
-    site: &LockedSite,
-    pool: &mut SitePool,
-    worker: u32,
-    acts: &[Act],
-) {
-    for act in acts {
-        let given = site.act(rt, worker, *act);
-        let wanted = pool.perform(worker, *act);
-        same(
-            rt,
-            &(worker, *act, given),
-            &(worker, *act, wanted),
-            "a reply under the lock",
-        );
-    }
-}
-
-/// Plays the lines of the four workers under a lock, and lets a fifth try, who is a stranger.
+/// Plays the lines of the four workers under a lock. Each reply is that of a pool without one.
 fn play_four_locked<R: Wait + Abort>(rt: &R, site: &LockedSite, pool: &mut SitePool) {
     for (worker, acts) in FOUR_WORKERS {
-        play_locked(rt, site, pool, worker, acts);
-    }
-    play_locked(rt, site, pool, 5, FOR_DESK_0);
-}
-
-/// Closes a pool.
-fn closed_once(alloc: Global, pool: SitePool) -> Option<Parts> {
-    match pool.close(alloc) {
-        Ok(parts) => Some(parts),
-        Err((_, pool)) => {
-            pool.lose();
-            None
+        for act in acts {
+            let given = (worker, *act, site.act(rt, worker, *act));
+            let wanted = (worker, *act, pool.perform(worker, *act));
+            same(rt, &given, &wanted, "a reply under the lock");
         }
     }
 }
 
-/// Closes a pool, and tries once more with what a refusal handed back.
-pub(super) fn closed_at_last(alloc: Global, pool: SitePool) -> Option<Parts> {
-    match pool.close(alloc) {
-        Ok(parts) => Some(parts),
-        Err((_, pool)) => closed_once(alloc, pool),
-    }
-}
-
-/// Takes a pool out of its lock and closes it, and tries once more with what a refusal handed back.
-fn unlocked_at_last(alloc: Global, site: LockedSite) -> Option<Parts> {
-    match site.close(alloc) {
-        Ok(parts) => Some(parts),
-        Err((_, pool)) => closed_once(alloc, pool),
-    }
-}
-
-/// An empty book, made at the second try where the first is refused.
-pub(super) fn book_at_last(alloc: Global, limits: &Limits) -> Option<Book> {
-    match Book::make(alloc, limits) {
-        Ok(book) => Some(book),
-        Err(_) => match Book::make(alloc, limits) {
-            Ok(book) => Some(book),
-            Err(_) => None,
-        },
-    }
-}
-
-/// The statement of a closed pool with this book, if it settles.
-fn settled_once(alloc: Global, closed: Closed, book: Book) -> Option<Statement> {
-    match settle(alloc, closed, book) {
-        Ok(statement) => Some(statement),
-        Err((_, _, book)) => {
-            book.lose();
-            None
+/// Closes a pool by so many tries, each with what the refusal before handed back.
+pub(super) fn closed_at_last(alloc: Global, pool: SitePool, tries: u32) -> Option<Parts> {
+    let mut pool = pool;
+    for _ in 0..tries {
+        match pool.close(alloc) {
+            Ok(parts) => return Some(parts),
+            Err((_, back)) => pool = back,
         }
     }
-}
-
-/// Settles a closed pool, and tries once more with what a refusal handed back.
-fn settled_at_last(alloc: Global, closed: Closed, book: Book) -> Option<Statement> {
-    match settle(alloc, closed, book) {
-        Ok(statement) => Some(statement),
-        Err((_, closed, book)) => settled_once(alloc, closed, book),
-    }
+    pool.lose();
+    None
 }
 
 /// Puts a share in a book, where there is one and its place is free.
@@ -171,65 +118,86 @@ pub(super) fn lose_one(share: Option<Share>) {
     }
 }
 
-/// Puts the shares of four workers in a book but the third's, which is answered.
-fn deposit_but_third(book: &mut Book, mut shares: Vec<Share>) -> Option<Share> {
-    deposit_one(book, shares.pop());
-    let third = shares.pop();
-    deposit_one(book, shares.pop());
-    deposit_one(book, shares.pop());
-    lose_all(shares);
-    third
+/// Puts all shares in a book.
+fn deposit_all(book: &mut Book, mut shares: Vec<Share>) {
+    while let Some(share) = shares.pop() {
+        deposit_one(book, Some(share));
+    }
+    shares.destroy_empty();
 }
 
-/// Settles with the shares of all workers but the third, and then with that one too. Tells why the
-/// first was refused.
-fn settled_late(alloc: Global, closed: Closed, mut book: Book, shares: Vec<Share>) -> Late {
-    let third = deposit_but_third(&mut book, shares);
+/// A book with these shares, which is made by so many tries.
+pub(super) fn book_with(
+    alloc: Global,
+    limits: &Limits,
+    shares: Vec<Share>,
+    tries: u32,
+) -> Option<Book> {
+    for _ in 0..tries {
+        if let Ok(mut book) = Book::make(alloc, limits) {
+            deposit_all(&mut book, shares);
+            return Some(book);
+        }
+    }
+    lose_all(shares);
+    None
+}
+
+/// Settles a closed pool by so many tries, each with what a refusal of memory handed back.
+pub(super) fn settled_at_last(
+    alloc: Global,
+    closed: Closed,
+    book: Book,
+    tries: u32,
+) -> Result<Statement, Unsettled> {
+    let (mut closed, mut book) = (closed, book);
+    for _ in 0..tries {
+        match settle(alloc, closed, book) {
+            Ok(statement) => return Ok(statement),
+            Err((Unsettled::OutOfMemory, closed_back, book_back)) => {
+                closed = closed_back;
+                book = book_back;
+            }
+            Err((cause, _, book)) => {
+                book.lose();
+                return Err(cause);
+            }
+        }
+    }
+    book.lose();
+    Err(Unsettled::OutOfMemory)
+}
+
+/// Settles a closed pool without this share, and then with it.
+fn settled_late(alloc: Global, closed: Closed, book: Book, late: Option<Share>) -> Late {
     match settle(alloc, closed, book) {
         Ok(statement) => {
-            lose_one(third);
-            (None, Some(statement))
+            lose_one(late);
+            (None, Ok(statement))
         }
         Err((cause, closed, mut book)) => {
-            deposit_one(&mut book, third);
-            (Some(cause), settled_at_last(alloc, closed, book))
+            deposit_one(&mut book, late);
+            (Some(cause), settled_at_last(alloc, closed, book, TWICE))
         }
     }
 }
 
-/// Settles late what a closed pool left, if it was closed.
-fn settled_with_book(alloc: Global, parts: Option<Parts>) -> Late {
-    let Some((limits, closed, shares)) = parts else {
-        return (None, None);
+/// Settles what a closed pool left without the share of its last worker but one, and then with it.
+fn settled_parts(alloc: Global, parts: Option<Parts>) -> Late {
+    let Some((limits, closed, mut shares)) = parts else {
+        return (None, Err(Unsettled::OutOfMemory));
     };
-    match book_at_last(alloc, &limits) {
-        Some(book) => settled_late(alloc, closed, book, shares),
+    let last = shares.pop();
+    let late = shares.pop();
+    match book_with(alloc, &limits, shares, TWICE) {
+        Some(mut book) => {
+            deposit_one(&mut book, last);
+            settled_late(alloc, closed, book, late)
+        }
         None => {
-            lose_all(shares);
-            (None, None)
-        }
-    }
-}
-
-/// Plays the lines, closes the pool, and settles it late.
-fn settle_four(alloc: Global) -> Result<Late, Refusal> {
-    let mut pool = SitePool::make(alloc, &FOUR)?;
-    play_four(&mut pool);
-    Ok(settled_with_book(alloc, closed_at_last(alloc, pool)))
-}
-
-/// Plays the lines under a lock, closes the pool, and settles it late.
-fn settle_four_locked<R: Wait + Abort>(rt: &R, alloc: Global) -> Result<Late, Refusal> {
-    let site = LockedSite::make(alloc, &FOUR)?;
-    match SitePool::make(alloc, &FOUR) {
-        Ok(mut pool) => {
-            play_four_locked(rt, &site, &mut pool);
-            pool.lose();
-            Ok(settled_with_book(alloc, unlocked_at_last(alloc, site)))
-        }
-        Err(cause) => {
-            site.lose();
-            Err(cause)
+            lose_one(last);
+            lose_one(late);
+            (None, Err(Unsettled::OutOfMemory))
         }
     }
 }
@@ -241,22 +209,16 @@ const FOUR_TEXT: &str = "population 16\navailable 12\nin use 4\n\
     desk 0 segs 1 len 0: 1>0@128+0/2048\ndesk 1 segs 1 len 0: 2>3@128+0/2048\n\
     held 0 count 1: d0\nheld 1 count 1: d0\nheld 2 count 1: d1\nheld 3 count 1: d1\n";
 
-/// Whether the statement is that of the four workers' pool, where there is memory to print it.
-fn assert_end<R: Abort + AllocGlobal>(rt: &R, statement: &Statement) {
-    let text = pool_text(rt.alloc(), statement);
-    assert_given(rt, text, FOUR_TEXT, "the statement of the four workers");
-}
-
-/// The missing share was named, and what was handed back settled, or memory for a pool was
-/// refused.
-fn assert_late<R: Abort + AllocGlobal>(rt: &R, late: Result<Late, Refusal>) {
-    match late {
-        Ok((cause, Some(statement))) => {
-            same(rt, &cause, &Some(Unsettled::MissingShare(3)), "the cause");
-            assert_end(rt, &statement);
+/// The missing share was named, and what was handed back settled.
+fn assert_late<R: Abort + AllocGlobal>(rt: &R, late: Late) {
+    let (cause, end) = late;
+    same(rt, &cause, &Some(Unsettled::MissingShare(3)), "the cause");
+    match end {
+        Ok(statement) => {
+            let text = pool_text(rt.alloc(), &statement);
+            assert_given(rt, text, FOUR_TEXT, "the statement of the four workers");
         }
-        Ok((_, None)) => assert!(rt; false, "what was handed back doesn't settle"),
-        Err(refusal) => same(rt, &refusal, &Refusal::OutOfMemory, "the refusal"),
+        Err(cause) => same(rt, &Some(cause), &None, "what was handed back settles"),
     }
 }
 
@@ -264,14 +226,43 @@ fn assert_late<R: Abort + AllocGlobal>(rt: &R, late: Result<Late, Refusal>) {
 /// settles.
 #[test]
 fn a_missing_share_is_named_and_what_is_handed_back_settles(rt: HostRuntime) {
-    assert_late(&rt, settle_four(rt.alloc()));
+    match SitePool::make(rt.alloc(), &FOUR) {
+        Ok(mut pool) => {
+            play_four(&mut pool);
+            let parts = closed_at_last(rt.alloc(), pool, TWICE);
+            assert_late(&rt, settled_parts(rt.alloc(), parts));
+        }
+        Err(refusal) => same(&rt, &refusal, &Refusal::OutOfMemory, "the refusal"),
+    }
+}
+
+/// Plays the lines under a lock, and closes the pool.
+fn closed_four_locked<R: Wait + Abort>(rt: &R, alloc: Global) -> Result<Option<Parts>, Refusal> {
+    let site = LockedSite::make(alloc, &FOUR)?;
+    match SitePool::make(alloc, &FOUR) {
+        Ok(mut pool) => {
+            play_four_locked(rt, &site, &mut pool);
+            pool.lose();
+        }
+        Err(cause) => {
+            site.lose();
+            return Err(cause);
+        }
+    }
+    match site.close(alloc) {
+        Ok(parts) => Ok(Some(parts)),
+        Err((_, pool)) => Ok(closed_at_last(alloc, pool, ONCE)),
+    }
 }
 
 /// A missing share of a pool under a lock is named too, and what was handed back settles. Each act
 /// is replied to as without a lock.
 #[test]
 fn a_missing_share_of_a_locked_pool_is_named_and_what_is_handed_back_settles(rt: HostRuntime) {
-    assert_late(&rt, settle_four_locked(&rt, rt.alloc()));
+    match closed_four_locked(&rt, rt.alloc()) {
+        Ok(parts) => assert_late(&rt, settled_parts(rt.alloc(), parts)),
+        Err(refusal) => same(&rt, &refusal, &Refusal::OutOfMemory, "the refusal"),
+    }
 }
 
 /// A pool of as many workers and desks as there can be.
@@ -321,52 +312,26 @@ fn play_most(pool: &mut SitePool) {
     }
 }
 
-/// Puts all shares in a book.
-pub(super) fn deposit_all(book: &mut Book, mut shares: Vec<Share>) {
-    while let Some(share) = shares.pop() {
-        deposit_one(book, Some(share));
-    }
-    shares.destroy_empty();
-}
-
-/// The statement of a closed pool with these shares, if it settles.
-fn ended(alloc: Global, limits: &Limits, closed: Closed, shares: Vec<Share>) -> Option<Statement> {
-    match Book::make(alloc, limits) {
-        Ok(mut book) => {
-            deposit_all(&mut book, shares);
-            settled_once(alloc, closed, book)
-        }
-        Err(_) => {
-            lose_all(shares);
-            None
-        }
-    }
-}
-
-/// Plays for all workers, closes the pool and settles it.
-fn settle_most(alloc: Global) -> Result<Option<Statement>, Refusal> {
-    let mut pool = SitePool::make(alloc, &MOST)?;
-    play_most(&mut pool);
-    match closed_at_last(alloc, pool) {
-        Some((limits, closed, shares)) => Ok(ended(alloc, &limits, closed, shares)),
-        None => Ok(None),
+/// The statement of a pool that is closed and settled with the shares of all its workers, where
+/// nothing is refused.
+fn settled_at_once(alloc: Global, pool: SitePool) -> Result<Statement, Unsettled> {
+    let Some((limits, closed, shares)) = closed_at_last(alloc, pool, ONCE) else {
+        return Err(Unsettled::OutOfMemory);
+    };
+    match book_with(alloc, &limits, shares, ONCE) {
+        Some(book) => settled_at_last(alloc, closed, book, ONCE),
+        None => Err(Unsettled::OutOfMemory),
     }
 }
 
 #[test]
 fn sixty_four_workers_and_desks_settle(rt: HostRuntime) -> Result<(), Fail> {
     let text = written(rt.alloc(), MOST_TEXT)?;
-    match settle_most(rt.alloc())? {
-        Some(statement) => {
-            let printed = text_of(rt.alloc(), &statement)?;
-            same(
-                &rt,
-                &printed.as_str(),
-                &text.as_str(),
-                "the statement of the most workers",
-            );
-        }
-        None => assert!(rt; false, "the pool doesn't settle"),
-    }
+    let mut pool = SitePool::make(rt.alloc(), &MOST)?;
+    play_most(&mut pool);
+    let statement = settled_at_once(rt.alloc(), pool)?;
+    let printed = String::from_utf8(pool_text(rt.alloc(), &statement)?)?;
+    let what = "the statement of the most workers";
+    same(&rt, &printed.as_str(), &text.as_str(), what);
     Ok(())
 }

@@ -1,21 +1,18 @@
 //! Workers in threads of their own, on words and under a lock, and a book that threads put shares
 //! in.
 
-ghost use Rattle.std.specs.Prelude.{◌≤◌};
-
-use super::same;
-use super::settling::{FOUR, play_four};
-use commons::closed::Closed;
+use super::settling::{FOUR, ONCE, closed_at_last, lose_one, play_four, settled_at_last};
+use super::{same, text_of_end};
 use commons::refusal::Refusal;
-use commons::seq::Seq;
 use crossbeam_utils::Backoff;
 use pool_model::settled::Settled;
-use pool_model::statement::{Held, Statement};
+use pool_model::statement::Statement;
 use script::{Gate, Grounds, OpenGate, run_threads};
 use script_rows::parts::{Field, Part, written};
+use script_text::commands::Script;
 use script_text::parse;
 use share_book::site_pool::SitePool;
-use share_book::{Book, Share, deposit, lose_all, settle};
+use share_book::{Book, Share, deposit, lose_all};
 use std::alloc::{AllocError, Global};
 use std::process::Abort;
 use std::sync::atomic::{AtomicBool, AtomicU32, Ordering};
@@ -30,18 +27,39 @@ pub const GROUNDS: [Grounds; 2] = [Grounds::Words, Grounds::Locked];
 /// The most tries of a line, and the most looks of a gate that holds a worker.
 pub const TURNS: u32 = 1_000_000;
 
-/// Two workers want desk 0, and two want desk 1.
-const FOUR_WORKERS: &str = "pool 16 workers 4 desks 2\n\
-    alloc a\nclone a b\nfree a\noffer b 0\nfree b\n\
-    2: alloc a\n2: clone a b\n2: free a\n2: offer b 0\n2: free b\n\
-    3: alloc a\n3: clone a b\n3: free a\n3: offer b 1\n3: free b\n\
-    4: alloc a\n4: clone a b\n4: free a\n4: offer b 1\n4: free b\n";
+/// Whom a gate holds ahead of the first line.
+#[derive(Clone, Copy)]
+pub enum Hold {
+    /// Nobody.
+    Nobody,
+    /// Each of two workers, until the other has come there too.
+    Both,
+    /// Worker 2, until this many lines of worker 1 are done.
+    Second(u32),
+}
 
-/// Two workers who each make a packet.
-const TWO_WORKERS: &str = "pool 2 workers 2\nalloc a\n2: alloc a\n";
+/// What a run leaves.
+enum End {
+    /// The statement has this text.
+    Text(&'static str),
+    /// Each element is listed once, so many are available and in use, so many packets are on
+    /// desks, and these are in these slots of these workers.
+    Counts(u64, u64, usize, &'static [(u32, u32)]),
+    /// Each element is listed once.
+    EachOnce,
+}
 
-/// A packet goes from one worker to another, who frees it.
-const HANDED_OVER: &str = "pool 4 workers 2 desks 1\nalloc a\noffer a 0\n2: take 0 x\n2: free x\n";
+/// A script that is run in threads.
+struct Run {
+    name: &'static str,
+    script: &'static [Part],
+    hold: Hold,
+    /// The most tries of a line.
+    turns: &'static [u32],
+    /// How often it is run with each of them, on each ground.
+    times: u32,
+    end: End,
+}
 
 /// The number of each of 64 workers.
 const WORKER: Field = Field("", 1, 1);
@@ -70,6 +88,109 @@ const CIRCLE: &[Part] = &[
     Part::Each(64, &[WORKER], ": free b\n"),
 ];
 
+/// Two workers want desk 0, and two want desk 1. Whoever comes first at a desk has filled it, and
+/// all else is free.
+const FOUR_WORKERS: Run = Run {
+    name: "four workers",
+    script: &[
+        Part::Text("pool 16 workers 4 desks 2\n"),
+        Part::Text("alloc a\nclone a b\nfree a\noffer b 0\nfree b\n"),
+        Part::Text("2: alloc a\n2: clone a b\n2: free a\n2: offer b 0\n2: free b\n"),
+        Part::Text("3: alloc a\n3: clone a b\n3: free a\n3: offer b 1\n3: free b\n"),
+        Part::Text("4: alloc a\n4: clone a b\n4: free a\n4: offer b 1\n4: free b\n"),
+    ],
+    hold: Hold::Nobody,
+    turns: &[1],
+    times: 200,
+    end: End::Counts(12, 4, 2, &[]),
+};
+
+const CROWDED: Run = Run {
+    name: "a crowd of workers leaves each element once",
+    script: CROWD,
+    hold: Hold::Nobody,
+    turns: &[1],
+    times: 20,
+    end: End::EachOnce,
+};
+
+const ROWS: &[Run] = &[
+    // Two workers meet at a gate, and each makes a packet of its own.
+    Run {
+        name: "rendezvous",
+        script: &[Part::Text("pool 2 workers 2\nalloc a\n2: alloc a\n")],
+        hold: Hold::Both,
+        turns: &[1, TURNS],
+        times: 1,
+        end: End::Counts(0, 2, 0, &[(1, 0), (2, 0)]),
+    },
+    // A packet goes from one worker to another, who frees it: it is on the desk before its taker's
+    // first line.
+    Run {
+        name: "handed over in time",
+        script: &[Part::Text(
+            "pool 4 workers 2 desks 1\nalloc a\noffer a 0\n2: take 0 x\n2: free x\n",
+        )],
+        hold: Hold::Second(2),
+        turns: &[1, TURNS],
+        times: 1,
+        end: End::Text(
+            "population 4\navailable 4\nin use 0\ncommon 4: 0 1 2 3\ncache 1 0:\ncache 2 0:\n",
+        ),
+    },
+    // A packet of some length goes from one worker to another.
+    Run {
+        name: "lengths in transit",
+        script: &[Part::Text(
+            "pool 4 workers 2 desks 1\nalloc a\nappend a 7\noffer a 0\n2: take 0 x\n",
+        )],
+        hold: Hold::Second(3),
+        turns: &[1, TURNS],
+        times: 1,
+        end: End::Text(
+            "population 4\navailable 3\nin use 1\ncommon 3: 1 2 3\n\
+            cache 1 0:\ncache 2 0:\npacket 2 0 segs 1 len 7: 0@128+7/2048\nheld 0 count 1: 2\n",
+        ),
+    },
+    // A line of worker 1 is refused at each of its tries, since what it waits for is worker 2's to
+    // do: a refusal at the last turn stands.
+    Run {
+        name: "a take ends before the offer begins",
+        script: &[Part::Text("pool 2 workers 2 desks 1\ntake 0 x\n2: alloc a\n2: offer a 0\n")],
+        hold: Hold::Second(1),
+        turns: &[1, 2, 7],
+        times: 1,
+        end: End::Text(
+            "population 2\navailable 1\nin use 1\ncommon 1: 1\ncache 1 0:\ncache 2 0:\n\
+            desk 0 segs 1 len 0: 0@128+0/2048\nheld 0 count 1: d0\n",
+        ),
+    },
+    Run {
+        name: "a second offer ends before the take of the first begins",
+        script: &[
+            Part::Text("pool 2 workers 2 desks 1\nalloc a\noffer a 0\nalloc b\noffer b 0\n"),
+            Part::Text("2: take 0 x\n"),
+        ],
+        hold: Hold::Second(4),
+        turns: &[1, 2, 7],
+        times: 1,
+        end: End::Text(
+            "population 2\navailable 0\nin use 2\ncommon 0:\ncache 1 0:\ncache 2 0:\n\
+            packet 1 0 segs 1 len 0: 1@128+0/2048\npacket 2 0 segs 1 len 0: 0@128+0/2048\n\
+            held 0 count 1: 2\nheld 1 count 1: 1\n",
+        ),
+    },
+    // Each of 64 workers waits for a packet, and each gets one.
+    Run {
+        name: "a take is tried until the packet is there",
+        script: CIRCLE,
+        hold: Hold::Nobody,
+        turns: &[TURNS],
+        times: 1,
+        end: End::Counts(64, 0, 0, &[]),
+    },
+];
+
 /// Waits until as many as these have come. False where none comes for too long.
 fn wait_for(came: &AtomicU32, all: u32) -> bool {
     let backoff = Backoff::new();
@@ -82,390 +203,234 @@ fn wait_for(came: &AtomicU32, all: u32) -> bool {
     false
 }
 
-/// Holds each of two workers ahead of its first line until the other has come there too.
+/// A gate that counts the lines, and holds workers ahead of their first.
 #[derive(Drop)]
-struct Meeting {
-    came: AtomicU32,
-    failed: AtomicBool,
-}
-
-impl Gate for Meeting {
-    fn before(&self, _worker: u32, nth: u32) {
-        if nth == 1 {
-            self.came.fetch_add(1, Ordering::SeqCst);
-            if !wait_for(&self.came, 2) {
-                self.failed.store(true, Ordering::SeqCst);
-            }
-        }
-    }
-
-    fn after(&self, _worker: u32, _nth: u32) {}
-}
-
-/// Holds worker 2 ahead of its first line until worker 1's line of this number is done.
-#[derive(Drop)]
-pub struct Handover {
-    awaited: u32,
+pub struct Watch {
+    hold: Hold,
+    come: AtomicU32,
     done: AtomicU32,
     failed: AtomicBool,
 }
 
-impl Handover {
-    pub fn after(awaited: u32) -> Handover {
-        Handover {
-            awaited,
+impl Watch {
+    pub fn new(hold: Hold) -> Watch {
+        Watch {
+            hold,
+            come: AtomicU32::new(0),
             done: AtomicU32::new(0),
             failed: AtomicBool::new(false),
         }
     }
 
-    /// Whether worker 2 went on though that line wasn't done.
-    pub fn failed(&self) -> bool {
-        self.failed.load(Ordering::SeqCst)
+    /// How many lines are done.
+    pub fn lines_done(&self) -> u32 {
+        self.done.load(Ordering::SeqCst)
     }
 }
 
-impl Gate for Handover {
+impl Gate for Watch {
     fn before(&self, worker: u32, nth: u32) {
-        if worker == 2 && nth == 1 && !wait_for(&self.done, 1) {
-            self.failed.store(true, Ordering::SeqCst);
+        if nth == 1 {
+            self.come.fetch_add(1, Ordering::SeqCst);
+            let held = match self.hold {
+                Hold::Both => wait_for(&self.come, 2),
+                Hold::Second(lines) if worker == 2 => wait_for(&self.done, lines),
+                Hold::Second(_) | Hold::Nobody => true,
+            };
+            if !held {
+                self.failed.store(true, Ordering::SeqCst);
+            }
         }
     }
 
-    fn after(&self, worker: u32, nth: u32) {
-        if worker == 1 && nth == self.awaited {
-            self.done.store(1, Ordering::SeqCst);
-        }
+    fn after(&self, _worker: u32, _nth: u32) {
+        self.done.fetch_add(1, Ordering::SeqCst);
     }
-}
-
-/// Adds the elements in caches.
-fn add_cached(elems: &mut Vec<u32>, caches: &[Seq<u32>]) -> Result<(), AllocError> {
-    for cache in caches {
-        elems.extend_from_slice(cache.as_slice())?;
-    }
-    Ok(())
-}
-
-/// Adds the elements that packets hold.
-fn add_held(elems: &mut Vec<u32>, held: &[Held]) -> Result<(), AllocError> {
-    for held in held {
-        elems.push(held.elem)?;
-    }
-    Ok(())
 }
 
 /// The elements that a statement lists, ascending: those in the common list, in caches, and held.
 fn listed(alloc: Global, statement: &Statement) -> Result<Vec<u32>, AllocError> {
     let mut elems = statement.common.as_slice().to_vec(alloc)?;
-    add_cached(&mut elems, statement.caches.as_slice())?;
-    add_held(&mut elems, statement.held.as_slice())?;
+    for cache in statement.caches.as_slice() {
+        elems.extend_from_slice(cache.as_slice())?;
+    }
+    for held in statement.held.as_slice() {
+        elems.push(held.elem)?;
+    }
     elems.sort_unstable();
     Ok(elems)
 }
 
-/// This many elements, from 0.
-fn all_below(alloc: Global, population: u32) -> Result<Vec<u32>, AllocError> {
-    let mut all = Vec::new(alloc);
-    for elem in 0..population {
-        all.push(elem)?;
-    }
-    Ok(all)
-}
-
-/// A statement lists each of this many elements once, and no other.
-fn assert_each_once<R: Abort>(
+/// A statement lists each element of its pool once, and no other.
+fn assert_each_once<R: Abort + AllocGlobal>(
     rt: &R,
-    alloc: Global,
     statement: &Statement,
-    population: u32,
+    population: u64,
+    name: &str,
 ) -> Result<(), Fail> {
-    let all = all_below(alloc, population)?;
-    let elems = listed(alloc, statement)?;
-    let wanted = (u64::from(population), all.as_slice());
-    same(
-        rt,
-        &(statement.population, elems.as_slice()),
-        &wanted,
-        "each once",
-    );
+    let elems = listed(rt.alloc(), statement)?;
+    let given = (statement.population, elems.len() as u64);
+    same(rt, &given, &(population, population), name);
+    for (at, elem) in elems.iter().enumerate() {
+        same(rt, &(*elem as usize), &at, name);
+    }
     Ok(())
 }
 
-/// The worker and the slot of each packet.
-fn places_of(alloc: Global, statement: &Statement) -> Result<Vec<(u32, u32)>, AllocError> {
-    let mut places = Vec::new(alloc);
-    for packet in statement.packets.as_slice() {
-        places.push((packet.worker, packet.slot))?;
-    }
-    Ok(places)
-}
-
-/// Whoever came first at a desk has filled it, and all else is free.
-fn assert_four<R: Abort>(rt: &R, alloc: Global, statement: &Statement) -> Result<(), Fail> {
-    let totals = (statement.population, statement.available, statement.in_use);
-    let packets = (statement.desks.len(), statement.packets.len());
+/// So many elements are available and in use, so many packets are on desks, and these are in these
+/// slots of these workers.
+fn assert_counts<R: Abort + AllocGlobal>(
+    rt: &R,
+    statement: &Statement,
+    wanted: (u64, u64, usize),
+    places: &[(u32, u32)],
+    name: &str,
+) -> Result<(), Fail> {
+    let (available, in_use) = (statement.available, statement.in_use);
     same(
         rt,
-        &(totals, packets),
-        &((16, 12, 4), (2, 0)),
-        "the end of four workers",
+        &(available, in_use, statement.desks.len()),
+        &wanted,
+        name,
     );
-    assert_each_once(rt, alloc, statement, 16)
+    let mut found = Vec::new(rt.alloc());
+    for packet in statement.packets.as_slice() {
+        found.push((packet.worker, packet.slot))?;
+    }
+    same(rt, &found.as_slice(), &places, name);
+    Ok(())
 }
 
-/// What the pools of a text's script come to, with a thread for each worker.
-pub fn run_pools<G: Gate, R: Threads + Wait + Sync + AllocGlobal>(
+/// What a run of a script of this population leaves is this.
+fn assert_end<R: Abort + AllocGlobal>(
     rt: &R,
-    text: &str,
+    settled: &Settled,
+    population: u64,
+    row: &Run,
+) -> Result<(), Fail> {
+    assert_each_once(rt, &settled.first, population, row.name)?;
+    match row.end {
+        End::Text(text) => {
+            let printed = text_of_end(rt.alloc(), settled)?;
+            same(rt, &printed.as_str(), &text, row.name);
+            Ok(())
+        }
+        End::Counts(available, in_use, desks, places) => {
+            let wanted = (available, in_use, desks);
+            assert_counts(rt, &settled.first, wanted, places, row.name)
+        }
+        End::EachOnce => Ok(()),
+    }
+}
+
+/// Runs a row's script once.
+fn run_once<R: Threads + Wait + Sync + Abort + AllocGlobal>(
+    rt: &R,
+    row: &Run,
+    script: &Script,
     grounds: Grounds,
     turns: u32,
-    gate: &G,
-) -> Result<Settled, Fail>
-    requires turns { 1 ≤ turns }
-{
+) -> Result<(), Fail> {
+    let gate = Watch::new(row.hold);
+    let settled = match row.hold {
+        Hold::Nobody => run_threads(rt, rt.alloc(), script, grounds, turns.max(1), &OpenGate)?,
+        _ => run_threads(rt, rt.alloc(), script, grounds, turns.max(1), &gate)?,
+    };
+    let failed = gate.failed.load(Ordering::SeqCst);
+    same(
+        rt,
+        &(grounds, turns, failed),
+        &(grounds, turns, false),
+        row.name,
+    );
+    assert_end(rt, &settled, script.pools.first.population, row)
+}
+
+/// Runs a row's script on this ground as often as the row says.
+fn run_row<R: Threads + Wait + Sync + Abort + AllocGlobal>(
+    rt: &R,
+    row: &Run,
+    grounds: Grounds,
+) -> Result<(), Fail> {
+    let text = written(rt.alloc(), row.script)?;
     let script = parse(rt.alloc(), text.as_bytes())?;
-    Ok(run_threads(rt, rt.alloc(), &script, grounds, turns, gate)?)
-}
-
-/// The statement of a text's script of one pool, with a thread for each worker.
-pub fn run<G: Gate, R: Threads + Wait + Sync + AllocGlobal>(
-    rt: &R,
-    text: &str,
-    grounds: Grounds,
-    turns: u32,
-    gate: &G,
-) -> Result<Statement, Fail>
-    requires turns { 1 ≤ turns }
-{
-    let settled = run_pools(rt, text, grounds, turns, gate)?;
-    Ok(settled.first)
-}
-
-/// The row "four workers".
-#[test]
-fn of_four_workers_two_fill_the_desks(rt: HostRuntime) -> Result<(), Fail> {
-    for grounds in GROUNDS {
-        for _ in 0..200 {
-            let statement = run(&rt, FOUR_WORKERS, grounds, 1, &OpenGate)?;
-            assert_four(&rt, rt.alloc(), &statement)?;
+    for turns in row.turns {
+        for _ in 0..row.times {
+            run_once(rt, row, &script, grounds, *turns)?;
         }
     }
     Ok(())
 }
 
-/// Two workers meet at a gate, and each makes a packet of its own.
-fn meet<R: Threads + Wait + Sync + Abort + AllocGlobal>(
-    rt: &R,
-    grounds: Grounds,
-    turns: u32,
-) -> Result<(), Fail>
-    requires turns { 1 ≤ turns }
-{
-    let gate = Meeting {
-        came: AtomicU32::new(0),
-        failed: AtomicBool::new(false),
-    };
-    let statement = run(rt, TWO_WORKERS, grounds, turns, &gate)?;
-    let places = places_of(rt.alloc(), &statement)?;
-    let given = (gate.failed.load(Ordering::SeqCst), places.as_slice());
-    same(
-        rt,
-        &given,
-        &(false, [(1, 0), (2, 0)].as_slice()),
-        "a meeting",
-    );
-    assert_each_once(rt, rt.alloc(), &statement, 2)
-}
-
-/// The row "rendezvous".
 #[test]
-fn two_workers_meet_ahead_of_their_first_lines(rt: HostRuntime) -> Result<(), Fail> {
+fn each_run_in_threads_ends_as_its_row_says(rt: HostRuntime) -> Result<(), Fail> {
     for grounds in GROUNDS {
-        meet(&rt, grounds, 1)?;
-        meet(&rt, grounds, TURNS)?;
+        for row in ROWS {
+            run_row(&rt, row, grounds)?;
+        }
     }
     Ok(())
 }
 
-/// A packet is on the desk before its taker's first line.
-fn hand_over<R: Threads + Wait + Sync + Abort + AllocGlobal>(
-    rt: &R,
-    grounds: Grounds,
-    turns: u32,
-) -> Result<(), Fail>
-    requires turns { 1 ≤ turns }
-{
-    let gate = Handover::after(2);
-    let statement = run(rt, HANDED_OVER, grounds, turns, &gate)?;
-    let given = (
-        gate.failed(),
-        statement.available,
-        statement.common.as_slice(),
-    );
-    same(
-        rt,
-        &given,
-        &(false, 4, [0, 1, 2, 3].as_slice()),
-        "a handover",
-    );
-    Ok(())
-}
-
-/// The row "handed over in time".
 #[test]
-fn a_packet_is_handed_over_in_time(rt: HostRuntime) -> Result<(), Fail> {
+fn of_four_workers_two_fill_the_desks(rt: HostRuntime) -> Result<(), Fail> {
     for grounds in GROUNDS {
-        hand_over(&rt, grounds, 1)?;
-        hand_over(&rt, grounds, TURNS)?;
-    }
-    Ok(())
-}
-
-/// 64 workers and 64 desks, whoever comes first.
-fn crowd<R: Threads + Wait + Sync + Abort + AllocGlobal>(
-    rt: &R,
-    grounds: Grounds,
-) -> Result<(), Fail> {
-    let text = written(rt.alloc(), CROWD)?;
-    for _ in 0..20 {
-        let statement = run(rt, text.as_str(), grounds, 1, &OpenGate)?;
-        assert_each_once(rt, rt.alloc(), &statement, 100)?;
+        run_row(&rt, &FOUR_WORKERS, grounds)?;
     }
     Ok(())
 }
 
 #[test]
 fn a_crowd_of_workers_on_words_leaves_each_element_once(rt: HostRuntime) -> Result<(), Fail> {
-    crowd(&rt, Grounds::Words)
+    run_row(&rt, &CROWDED, Grounds::Words)
 }
 
 #[test]
 fn a_crowd_of_workers_under_a_lock_leaves_each_element_once(rt: HostRuntime) -> Result<(), Fail> {
-    crowd(&rt, Grounds::Locked)
+    run_row(&rt, &CROWDED, Grounds::Locked)
 }
 
-/// Each of 64 workers waits for a packet, and each gets one.
-#[test]
-fn a_take_is_tried_until_the_packet_is_there(rt: HostRuntime) -> Result<(), Fail> {
-    let text = written(rt.alloc(), CIRCLE)?;
-    for grounds in GROUNDS {
-        let statement = run(&rt, text.as_str(), grounds, TURNS, &OpenGate)?;
-        same(
-            &rt,
-            &(statement.available, statement.in_use),
-            &(64, 0),
-            "a circle",
-        );
-        assert_each_once(&rt, rt.alloc(), &statement, 64)?;
-    }
-    Ok(())
-}
-
-/// Puts a share in a book, and notes a failure where that is refused.
-fn deposit_noted<R: Wait>(rt: &R, book: &Mutex<Book>, failed: &AtomicBool, share: Share) {
-    if let Err((_, share)) = deposit(rt, book, share) {
-        share.lose();
-        failed.store(true, Ordering::SeqCst);
-    }
-}
-
-/// Puts the share of a slot in a book, where there is one, and notes a failure where that is
-/// refused.
-fn deposit_slot<R: Wait>(
-    rt: &R,
-    book: &Mutex<Book>,
-    failed: &AtomicBool,
-    slot: &mut Option<Share>,
-) {
+/// Puts the share of a slot in a book, and ends it where it is refused.
+fn deposit_slot<R: Wait>(rt: &R, book: &Mutex<Book>, slot: &mut Option<Share>) {
     if let Some(share) = slot.take() {
-        deposit_noted(rt, book, failed, share);
-    }
-}
-
-/// A thread for each share puts it in a book. False where one was refused or couldn't be started.
-fn deposit_each<R: Threads + Wait + Sync>(
-    rt: &R,
-    book: &Mutex<Book>,
-    slots: &mut [Option<Share>],
-) -> bool {
-    let failed = AtomicBool::new(false);
-    let noted = &failed;
-    thread::scope(thread::scope_env(), rt, |scope| {
-        for slot in slots.iter_mut() {
-            if let Err(_) = scope.spawn(move || deposit_slot(rt, book, noted, slot)) {
-                noted.store(true, Ordering::SeqCst);
-            }
-        }
-    });
-    !failed.load(Ordering::SeqCst)
-}
-
-/// A slot for each share, out of which a thread can take it.
-fn slots_of(alloc: Global, shares: Vec<Share>) -> Vec<Option<Share>> {
-    let mut shares = shares;
-    let mut slots = Vec::new(alloc);
-    while let Some(share) = shares.pop() {
-        if let Err(failed) = slots.push(Some(share)) {
-            if let Some(share) = failed.value {
-                share.lose();
-            }
-        }
-    }
-    shares.destroy_empty();
-    slots
-}
-
-/// Ends what no thread took.
-fn lose_slots(slots: Vec<Option<Share>>) {
-    let mut slots = slots;
-    while let Some(slot) = slots.pop() {
-        if let Some(share) = slot {
+        if let Err((_, share)) = deposit(rt, book, share) {
             share.lose();
         }
     }
-    slots.destroy_empty();
 }
 
-/// Settles what a pool left with the shares that threads put in a book.
-fn settled_by_threads<R: Threads + Wait + Sync>(
-    rt: &R,
-    alloc: Global,
-    closed: Closed,
-    book: Book,
-    shares: Vec<Share>,
-) -> Option<Statement> {
-    let book = Mutex::new(book);
-    let mut slots = slots_of(alloc, shares);
-    let all = deposit_each(rt, &book, slots.as_mut_slice());
-    lose_slots(slots);
-    match settle(alloc, closed, book.into_inner()) {
-        Ok(statement) if all => Some(statement),
-        Ok(_) => None,
-        Err((_, _, book)) => {
-            book.lose();
-            None
+/// A thread for each share puts it in a book. What no thread took is ended.
+fn deposit_each<R: Threads + Wait + Sync>(rt: &R, book: &Mutex<Book>, mut shares: Vec<Share>) {
+    let mut slots = [shares.pop(), shares.pop(), shares.pop(), shares.pop()];
+    lose_all(shares);
+    thread::scope(thread::scope_env(), rt, |scope| {
+        for slot in slots.iter_mut() {
+            let _ = scope.spawn(move || deposit_slot(rt, book, slot));
         }
-    }
+    });
+    let [fourth, third, second, first] = slots;
+    lose_one(first);
+    lose_one(second);
+    lose_one(third);
+    lose_one(fourth);
 }
 
 /// Plays the lines in one thread, closes the pool, and settles it with shares of four threads.
-fn settle_four<R: Threads + Wait + Sync + AllocGlobal>(
-    rt: &R,
-) -> Result<Option<Statement>, Refusal> {
+fn settle_four<R: Threads + Wait + Sync + AllocGlobal>(rt: &R) -> Result<Statement, Fail> {
     let mut pool = SitePool::make(rt.alloc(), &FOUR)?;
     play_four(&mut pool);
-    match pool.close(rt.alloc()) {
-        Ok((limits, closed, shares)) => match Book::make(rt.alloc(), &limits) {
-            Ok(book) => Ok(settled_by_threads(rt, rt.alloc(), closed, book, shares)),
-            Err(cause) => {
-                lose_all(shares);
-                Err(cause)
-            }
-        },
-        Err((cause, pool)) => {
-            pool.lose();
-            Err(cause)
+    let Some((limits, closed, shares)) = closed_at_last(rt.alloc(), pool, ONCE) else {
+        return Err(Fail::from(Refusal::OutOfMemory));
+    };
+    match Book::make(rt.alloc(), &limits) {
+        Ok(book) => {
+            let book = Mutex::new(book);
+            deposit_each(rt, &book, shares);
+            Ok(settled_at_last(rt.alloc(), closed, book.into_inner(), ONCE)?)
+        }
+        Err(cause) => {
+            lose_all(shares);
+            Err(Fail::from(cause))
         }
     }
 }
@@ -473,11 +438,11 @@ fn settle_four<R: Threads + Wait + Sync + AllocGlobal>(
 /// The row "four workers", worker by worker, with its shares deposited by four threads.
 #[test]
 fn shares_of_four_threads_settle(rt: HostRuntime) -> Result<(), Fail> {
+    let name = "the shares of four threads";
     for _ in 0..100 {
-        match settle_four(&rt)? {
-            Some(statement) => assert_four(&rt, rt.alloc(), &statement)?,
-            None => assert!(rt; false, "the shares of four threads don't settle"),
-        }
+        let statement = settle_four(&rt)?;
+        assert_each_once(&rt, &statement, 16, name)?;
+        assert_counts(&rt, &statement, (12, 4, 2), &[], name)?;
     }
     Ok(())
 }

@@ -1,6 +1,6 @@
 //! How two pools are settled with the shares of their workers, and what is refused.
 
-use super::settling::{closed_at_last, lose_one, play};
+use super::settling::{ONCE, TWICE, closed_at_last, lose_one, play};
 use super::{DEFAULTS, assert_given, same};
 use commons::closed::Closed;
 use commons::limits::Limits;
@@ -12,6 +12,7 @@ use share_book::site_pool::SitePool;
 use share_book::{Fault, Share, TwinBook, TwinShare, TwinUnsettled, lose_all, settle_twin};
 use std::alloc::Global;
 use std::process::Abort;
+use std::test::Fail;
 
 /// The first pool.
 const FIRST: Limits = Limits {
@@ -31,156 +32,116 @@ const SECOND: Limits = Limits {
 /// What a pool left, and its shares.
 type Left = (Closed, Vec<Share>);
 
-/// A worker's shares of both pools.
-type Pair = (Option<Share>, Option<Share>);
+/// What both pools left, and their book.
+type Both = (Closed, Closed, TwinBook);
+
+/// The tops of both pools as they are, or wrong ones.
+type Tops = (Option<u32>, Option<u32>);
 
 /// Why two pools weren't settled, one time after another, and what they came to.
 type Ended = (Vec<TwinUnsettled>, Option<Settled>);
 
-/// What a pool left in which worker 1 did this, or nothing where memory was refused.
-fn left<R: Abort + AllocGlobal>(rt: &R, limits: &Limits, acts: &[Act]) -> Option<Left> {
-    match SitePool::make(rt.alloc(), limits) {
-        Ok(mut pool) => {
-            play(&mut pool, 1, acts);
-            let (_, closed, shares) = closed_at_last(rt.alloc(), pool)?;
-            Some((closed, shares))
-        }
-        Err(cause) => {
-            same(rt, &cause, &Refusal::OutOfMemory, "no pool is made");
-            None
-        }
+/// What a pool left in which worker 1 did this, closed by so many tries.
+fn left(alloc: Global, limits: &Limits, acts: &[Act], tries: u32) -> Result<Left, Refusal> {
+    let mut pool = SitePool::make(alloc, limits)?;
+    play(&mut pool, 1, acts);
+    match closed_at_last(alloc, pool, tries) {
+        Some((_, closed, shares)) => Ok((closed, shares)),
+        None => Err(Refusal::OutOfMemory),
     }
 }
 
-/// Puts a worker's shares in a book, where there are both.
-fn deposit_pair(book: &mut TwinBook, pair: Pair) {
-    let (first, second) = pair;
+/// A worker's shares of both pools as one, where there are both.
+fn paired(first: Option<Share>, second: Option<Share>) -> Option<TwinShare> {
     let Some(first) = first else {
         lose_one(second);
-        return;
+        return None;
     };
     let Some(second) = second else {
         first.lose();
-        return;
+        return None;
     };
     if first.worker() != second.worker() {
         first.lose();
         second.lose();
-        return;
+        return None;
     }
-    if let Err((_, share)) = book.deposit(TwinShare::of(first, second)) {
+    Some(TwinShare::of(first, second))
+}
+
+/// Puts a worker's shares in a book, where there are some and their place is free.
+fn deposit_one(book: &mut TwinBook, share: Option<TwinShare>) {
+    if let Some(share) = share {
+        if let Err((_, share)) = book.deposit(share) {
+            share.lose();
+        }
+    }
+}
+
+/// Settles two pools, in turn with each of these tops, until they settle. The late shares are in
+/// the book from the second time on.
+fn settled_in_turn(alloc: Global, both: Both, late: Option<TwinShare>, tops: &[Tops]) -> Ended {
+    let mut causes = Vec::new(alloc);
+    let (mut first, mut second, mut book) = both;
+    let mut late = late;
+    let (right, second_right) = (first.top, second.top);
+    for (wrong, second_wrong) in tops {
+        first.top = wrong.unwrap_or(right);
+        second.top = second_wrong.unwrap_or(second_right);
+        match settle_twin(alloc, first, second, book) {
+            Ok((first, second)) => {
+                lose_pair(late);
+                let second = Some(second);
+                return (causes, Some(Settled { first, second }));
+            }
+            Err((cause, first_back, second_back, back)) => {
+                let _ = causes.push(cause);
+                first = first_back;
+                second = second_back;
+                book = back;
+                deposit_one(&mut book, late.take());
+            }
+        }
+    }
+    lose_pair(late);
+    book.lose();
+    (causes, None)
+}
+
+/// Ends a worker's shares, where there are some.
+fn lose_pair(share: Option<TwinShare>) {
+    if let Some(share) = share {
         share.lose();
     }
 }
 
-/// Ends a worker's shares.
-fn lose_pair(pair: Pair) {
-    let (first, second) = pair;
-    lose_one(first);
-    lose_one(second);
-}
-
-/// Settles two pools, and notes why not; what is handed back is settled later.
-fn tried(
-    alloc: Global,
-    first: Closed,
-    second: Closed,
-    book: TwinBook,
-    causes: &mut Vec<TwinUnsettled>,
-) -> Result<Settled, (Closed, Closed, TwinBook)> {
-    match settle_twin(alloc, first, second, book) {
-        Ok((first, second)) => Ok(Settled {
-            first,
-            second: Some(second),
-        }),
-        Err((cause, first, second, book)) => {
-            let _ = causes.push(cause);
-            Err((first, second, book))
+/// Ends two pools, in whose first worker 1 made a packet, by the shares of both workers: those of
+/// the first are late, or not. Each pool is closed by so many tries.
+fn ended(alloc: Global, tries: u32, is_late: bool, tops: &[Tops]) -> Result<Ended, Refusal> {
+    let (first, mut firsts) = left(alloc, &FIRST, &[Act::Alloc], tries)?;
+    let (second, mut seconds) = match left(alloc, &SECOND, &[], tries) {
+        Ok(left) => left,
+        Err(cause) => {
+            lose_all(firsts);
+            return Err(cause);
         }
-    }
-}
-
-/// Settles two pools once more with these tops.
-fn again(
-    alloc: Global,
-    before: Result<Settled, (Closed, Closed, TwinBook)>,
-    tops: (u32, u32),
-    causes: &mut Vec<TwinUnsettled>,
-) -> Result<Settled, (Closed, Closed, TwinBook)> {
-    let (first, second, book) = match before {
-        Ok(settled) => return Ok(settled),
-        Err(back) => back,
     };
-    let first = Closed {
-        top: tops.0,
-        ..first
-    };
-    let second = Closed {
-        top: tops.1,
-        ..second
-    };
-    tried(alloc, first, second, book, causes)
-}
-
-/// Settles two pools without the first worker's shares; then with them, but with a wrong top in
-/// both; then in the second alone; and then in none.
-fn settled_in_turn(
-    alloc: Global,
-    first: Closed,
-    second: Closed,
-    book: TwinBook,
-    pair: Pair,
-) -> Ended {
-    let mut causes = Vec::new(alloc);
-    let tops = (first.top, second.top);
-    let mut back = match tried(alloc, first, second, book, &mut causes) {
-        Ok(settled) => {
-            lose_pair(pair);
-            return (causes, Some(settled));
-        }
-        Err(back) => back,
-    };
-    deposit_pair(&mut back.2, pair);
-    let wrong = again(alloc, Err(back), (9, 9), &mut causes);
-    let second_wrong = again(alloc, wrong, (tops.0, 9), &mut causes);
-    match again(alloc, second_wrong, tops, &mut causes) {
-        Ok(settled) => (causes, Some(settled)),
-        Err((_, _, book)) => {
-            book.lose();
-            (causes, None)
-        }
-    }
-}
-
-/// Puts the second worker's shares in a book, and settles in turn.
-fn ended(alloc: Global, first: Left, second: Left) -> Option<Ended> {
-    let (one, mut firsts) = first;
-    let (two, mut seconds) = second;
-    let later = (firsts.pop(), seconds.pop());
-    let pair = (firsts.pop(), seconds.pop());
+    let pair = paired(firsts.pop(), seconds.pop());
+    let mut late = paired(firsts.pop(), seconds.pop());
     lose_all(firsts);
     lose_all(seconds);
     match TwinBook::make(alloc, &FIRST, &SECOND) {
         Ok(mut book) => {
-            deposit_pair(&mut book, later);
-            Some(settled_in_turn(alloc, one, two, book, pair))
+            deposit_one(&mut book, pair);
+            if !is_late {
+                deposit_one(&mut book, late.take());
+            }
+            Ok(settled_in_turn(alloc, (first, second, book), late, tops))
         }
-        Err(_) => {
-            lose_pair(later);
+        Err(cause) => {
             lose_pair(pair);
-            None
-        }
-    }
-}
-
-/// What two pools left, in whose first worker 1 made a packet.
-fn two_left<R: Abort + AllocGlobal>(rt: &R) -> Option<(Left, Left)> {
-    let first = left(rt, &FIRST, &[Act::Alloc])?;
-    match left(rt, &SECOND, &[]) {
-        Some(second) => Some((first, second)),
-        None => {
-            lose_all(first.1);
-            None
+            lose_pair(late);
+            Err(cause)
         }
     }
 }
@@ -212,84 +173,37 @@ fn assert_ended<R: Abort + AllocGlobal>(rt: &R, ended: Ended, wanted: &[TwinUnse
     }
 }
 
-/// Ends two pools without the shares of a worker, and then with wrong tops.
-fn two_pools<R: Abort + AllocGlobal>(rt: &R) -> Option<Ended> {
-    let (first, second) = two_left(rt)?;
-    ended(rt.alloc(), first, second)
-}
-
+/// The share of worker 1 is missing; then both tops are wrong, then that of the second pool, and
+/// then neither.
 #[test]
-fn two_pools_are_settled_once_nothing_is_wrong_with_either(rt: HostRuntime) {
+fn two_pools_are_settled_once_nothing_is_wrong_with_either(rt: HostRuntime) -> Result<(), Fail> {
+    let tops = [
+        (None, None),
+        (Some(9), Some(9)),
+        (None, Some(9)),
+        (None, None),
+    ];
     let wanted = [
         TwinUnsettled::MissingShare(1),
         TwinUnsettled::First(Fault::BadTop(9)),
         TwinUnsettled::Second(Fault::BadTop(9)),
     ];
-    match two_pools(&rt) {
-        Some(ended) => assert_ended(&rt, ended, &wanted),
-        None => {
-            assert!(&rt; false, "a book of two pools is made");
-        }
-    }
-}
-
-/// Settles two pools, and tries once more with what a refusal handed back.
-fn settled_at_last(alloc: Global, first: Closed, second: Closed, book: TwinBook) -> Ended {
-    let mut causes = Vec::new(alloc);
-    let tops = (first.top, second.top);
-    let before = tried(alloc, first, second, book, &mut causes);
-    match again(alloc, before, tops, &mut causes) {
-        Ok(settled) => (causes, Some(settled)),
-        Err((_, _, book)) => {
-            book.lose();
-            (causes, None)
-        }
-    }
-}
-
-/// An empty book of both pools, or none where memory was refused.
-fn book_of_both<R: Abort + AllocGlobal>(rt: &R) -> Option<TwinBook> {
-    match TwinBook::make(rt.alloc(), &FIRST, &SECOND) {
-        Ok(book) => Some(book),
-        Err(cause) => {
-            same(rt, &cause, &Refusal::OutOfMemory, "no book is made");
-            None
-        }
-    }
-}
-
-/// Ends two pools with the shares of all their workers.
-fn ended_with_all<R: Abort + AllocGlobal>(rt: &R, first: Left, second: Left) -> Option<Ended> {
-    let (one, mut firsts) = first;
-    let (two, mut seconds) = second;
-    let later = (firsts.pop(), seconds.pop());
-    let earlier = (firsts.pop(), seconds.pop());
-    lose_all(firsts);
-    lose_all(seconds);
-    match book_of_both(rt) {
-        Some(mut book) => {
-            deposit_pair(&mut book, later);
-            deposit_pair(&mut book, earlier);
-            Some(settled_at_last(rt.alloc(), one, two, book))
-        }
-        None => {
-            lose_pair(later);
-            lose_pair(earlier);
-            None
-        }
-    }
+    let ended = ended(rt.alloc(), ONCE, true, &tops)?;
+    assert_ended(&rt, ended, &wanted);
+    Ok(())
 }
 
 /// Whichever request for memory is refused, two pools aren't made, or they settle: what a refused
 /// settling hands back settles the next time.
 #[test]
 fn two_pools_whose_settling_was_refused_memory_settle_the_next_time(rt: HostRuntime) {
-    let Some((first, second)) = two_left(&rt) else {
-        return;
-    };
-    if let Some(ended) = ended_with_all(&rt, first, second) {
-        let wanted = [TwinUnsettled::OutOfMemory];
-        let refused = ended.0.len().min(1);
-        assert_ended(&rt, ended, &wanted[..refused]);
+    let tops = [(None, None), (None, None)];
+    match ended(rt.alloc(), TWICE, false, &tops) {
+        Ok(ended) => {
+            let wanted = [TwinUnsettled::OutOfMemory];
+            let refused = ended.0.len().min(1);
+            assert_ended(&rt, ended, &wanted[..refused]);
+        }
+        Err(cause) => same(&rt, &cause, &Refusal::OutOfMemory, "two pools aren't made"),
     }
 }
