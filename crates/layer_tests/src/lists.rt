@@ -127,9 +127,9 @@ fn each_refusal_has_its_number_and_displays_its_name(rt: HostRuntime) -> Result<
     Ok(())
 }
 
-// Gets two elements and puts them back, and tells of them, of how many were common in between, and
-// of what a get of four is told then.
-fn put_back<C: Commons>(c: &mut C) -> Result<([u32; 2], u32, Result<(), Refusal>), Refusal> {
+// Gets two elements and puts them back, and then asks for four. Tells of the two, of how many were
+// common without them, and of what the get of four is told.
+fn two_and_four<C: Commons>(c: &mut C) -> Result<([u32; 2], u32, Result<(), Refusal>), Refusal> {
     let mut two = [0; 2];
     c.get_list(&mut two)?;
     let left = c.common_count();
@@ -140,7 +140,7 @@ fn put_back<C: Commons>(c: &mut C) -> Result<([u32; 2], u32, Result<(), Refusal>
 #[test]
 fn a_list_goes_back_with_its_last_on_top(rt: HostRuntime) -> Result<(), Fail> {
     let mut site = PlainSite::make(rt.alloc(), &LIMITS)?;
-    let told = put_back(&mut PlainCommons::new(&mut site, 1));
+    let told = two_and_four(&mut PlainCommons::new(&mut site, 1));
     same(
         &rt,
         &told,
@@ -181,13 +181,13 @@ fn a_spent_head_is_told_of_behind_a_short_list(rt: HostRuntime) -> Result<(), Fa
     Ok(())
 }
 
-/// The count of an element before and after a raise, what a second raise is told, and the count
-/// after that.
+// The count of an element before and after a raise, what a second raise is told, and the count
+// after that.
 type Raised = (u32, u32, Result<(), Refusal>, u32);
 
 // Raises the count of an element twice and lowers it twice, and tells of the raises, and of both
 // lowers with the count in between.
-fn counted<C: Commons>(
+fn raised_and_lowered<C: Commons>(
     c: &mut C,
     element: u32,
 ) -> Result<(Raised, (Lowered, u32, Lowered)), Refusal>
@@ -212,7 +212,7 @@ fn a_count_is_raised_to_its_limit_and_lowered(rt: HostRuntime) -> Result<(), Fai
     let mut site = PlainSite::make(rt.alloc(), &limits)?;
     let mut c = PlainCommons::new(&mut site, 1);
     let element = claimed(&mut c)?;
-    let told = counted(&mut c, element)?;
+    let told = raised_and_lowered(&mut c, element)?;
     let raised = (1, 2, Err(Refusal::RefSpent), 2);
     let lowered = (Lowered::Still, 1, Lowered::Last);
     same(

@@ -24,23 +24,35 @@ const LIMITS: Limits = Limits {
     put_rule: PutRule::Keep,
 };
 
-// The number of a worker that is made, whether the first slot of a worker's packets is free, and the
-// number of a worker of two pools.
-fn workers_made(alloc: Global) -> Result<(u32, bool, u32), Refusal> {
+// The number of a worker that is made.
+fn worker_made(alloc: Global) -> Result<u32, Refusal> {
     let worker = Worker::make(alloc, &LIMITS, 1)?;
     let number = worker.number();
     worker.lose();
-    let packets = Packets::make(alloc, &LIMITS, 1)?;
-    let is_free = packets.place(0).is_none();
-    packets.lose();
-    let twin = Twin::make(alloc, &LIMITS, &LIMITS, 1)?;
-    let twins = twin.worker();
-    twin.lose();
-    Ok((number, is_free, twins))
+    Ok(number)
 }
 
-// Whichever request for memory is refused, there is a whole site or none, a worker or none, and a
-// worker with its table or none.
+// The number of a worker that is made with its table, or 0 where the table's first slot isn't free.
+fn table_made(alloc: Global) -> Result<u32, Refusal> {
+    let packets = Packets::make(alloc, &LIMITS, 1)?;
+    let number = match packets.place(0) {
+        Some(_) => 0,
+        None => packets.worker(),
+    };
+    packets.lose();
+    Ok(number)
+}
+
+// The number of a worker of two pools that is made.
+fn twin_made(alloc: Global) -> Result<u32, Refusal> {
+    let twin = Twin::make(alloc, &LIMITS, &LIMITS, 1)?;
+    let number = twin.worker();
+    twin.lose();
+    Ok(number)
+}
+
+// Whichever request for memory is refused, there is a whole site or none, a worker or none, a
+// worker with its table or none, and a worker of two pools or none.
 #[test]
 fn what_is_made_is_whole_or_memory_was_refused(rt: HostRuntime) {
     match PlainSite::make(rt.alloc(), &LIMITS) {
@@ -51,9 +63,15 @@ fn what_is_made_is_whole_or_memory_was_refused(rt: HostRuntime) {
         }
         Err(refusal) => same(&rt, &refusal, &Refusal::OutOfMemory, "no site"),
     }
-    match workers_made(rt.alloc()) {
-        Ok(made) => same(&rt, &made, &(1, true, 1), "the workers"),
-        Err(refusal) => same(&rt, &refusal, &Refusal::OutOfMemory, "no worker"),
+    for (made, what) in [
+        (worker_made(rt.alloc()), "a worker"),
+        (table_made(rt.alloc()), "a worker with its table"),
+        (twin_made(rt.alloc()), "a worker of two pools"),
+    ] {
+        match made {
+            Ok(number) => same(&rt, &number, &1, what),
+            Err(refusal) => same(&rt, &refusal, &Refusal::OutOfMemory, what),
+        }
     }
 }
 

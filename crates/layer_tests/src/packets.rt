@@ -18,7 +18,7 @@ use std::alloc::Global;
 use std::process::Abort;
 use std::test::Fail;
 
-/// Lets a worker do this.
+// Lets a worker do this.
 pub(crate) fn acted(packets: &mut Packets, c: &mut PlainCommons, act: Act) -> Reply
     requires own { OwnAtSite packets.old c.old }
     ensures own { OwnAtSite packets.new c.new }
@@ -164,6 +164,8 @@ fn played<R: Abort + AllocGlobal>(
 // These elements are held so often in turn, 0 for one in the common list, and all after them are in
 // the common list.
 fn assert_held<R: Abort>(rt: &R, site: &PlainSite, counts: &[u32], name: &str) {
+    let most = site.places().len().max(counts.len());
+    same(rt, &site.places().len(), &most, name);
     for (element, place) in site.places().iter().enumerate() {
         let wanted = match counts.get(element) {
             None | Some(0) => Place::Common,

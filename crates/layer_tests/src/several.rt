@@ -60,8 +60,8 @@ fn first_elem(packets: &Packets) -> Option<u32> {
 }
 
 // Makes worker 2 of a pool of three elements, who has nothing yet, lets worker 1 make a packet and
-// then worker 2, and tells of their elements and of the first one's byte. What the other does leaves
-// each one's packets its own.
+// then worker 2, and tells of their elements and of the first one's byte. What a worker does leaves
+// the other's packets the other's own.
 fn with_second(
     alloc: Global,
     site: &mut PlainSite,
