@@ -31,7 +31,7 @@ fn each_get_and_put_that_comes_to_the_stack_takes_one(rt: HostRuntime) -> Result
     };
     let (ground, mut workers) = pool::make(rt.alloc(), &limits)?;
     let Some(mut worker) = workers.pop() else {
-        return Ok(());
+        return Err(Fail::from(Refusal::BadPool));
     };
     let before = worker.changes_left(&ground);
     let got = act(&ground, &mut worker, Act::Alloc);

@@ -1,4 +1,5 @@
-//! What the workers of a pool do in threads of their own, act by act, and what is reported of it.
+//! What the workers of a pool do in threads of their own, act by act, what is reported of it, and
+//! how their pool ends.
 
 ghost use Rattle.ground.specs.Seats.{IsOf};
 ghost use Rattle.word_pool.specs.Workers.{AreWorkers, Stays};
@@ -179,7 +180,7 @@ fn work(ground: &Ground, worker: &mut WordWorker, tallies: &Tallies, number: usi
     tallies.add(&tally);
 }
 
-/// The work of all workers, 64 at most, each in a thread of its own.
+/// The work of all workers, in threads of their own, of which there are 64 at most.
 fn all_work<R: Threads + Sync>(
     rt: &R,
     ground: &Ground,
@@ -202,8 +203,8 @@ fn all_work<R: Threads + Sync>(
     );
 }
 
-/// What is reported of the workers of a new pool who have done this, and then, where there is more
-/// to do, that, and the statement of the pool.
+/// What is reported of the workers of a new pool once all have done the first task, and then the
+/// second where there is one, and the statement of the pool.
 pub(super) fn ended<R: Threads + Sync>(
     rt: &R,
     alloc: Global,

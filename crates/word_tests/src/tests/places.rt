@@ -20,8 +20,8 @@ const OWN: Counts = [0, 1, 0, 0];
 /// A segment's base.
 const BASE: Counts = [0, 0, 1, 0];
 
-/// Counts for each element of a pool of this many, and behind them for all that aren't in the pool:
-/// none of any.
+/// Counts for each element of a pool of this many, and behind them one more for all that aren't in
+/// the pool. All are 0.
 pub(super) fn none_of(alloc: Global, population: u64) -> Result<Vec<Counts>, AllocError> {
     let mut table = Vec::new(alloc);
     for _ in 0..=population {
@@ -31,10 +31,10 @@ pub(super) fn none_of(alloc: Global, population: u64) -> Result<Vec<Counts>, All
 }
 
 /// Adds these counts to those of an element.
-pub(super) fn note(table: &mut [Counts], element: u32, more: Counts) {
+pub(super) fn note(table: &mut [Counts], element: u32, added: Counts) {
     let last = table.len().saturating_sub(1);
     if let Some(counts) = table.get_mut(last.min(element as usize)) {
-        for (count, more) in counts.iter_mut().zip(more) {
+        for (count, more) in counts.iter_mut().zip(added) {
             *count = count.saturating_add(more);
         }
     }
@@ -69,7 +69,8 @@ fn counted(alloc: Global, statement: &Statement) -> Result<Vec<Counts>, AllocErr
         note_segs(&mut table, packet.segs.as_slice());
     }
     for held in statement.held.as_slice() {
-        note(&mut table, held.elem, [0, 0, 0, held.count]);
+        let told = [0, 0, 0, held.count];
+        note(&mut table, held.elem, told);
     }
     Ok(table)
 }

@@ -76,7 +76,8 @@ fn a_clone_is_refused_at_each_of_its_raises(rt: HostRuntime) -> Result<(), Fail>
     let chains = written(alloc, CHAINS)?;
     for spent in 0..32u32 {
         let text = format!(in alloc;
-            "pool 65 refs 2\n{packets}alloc x\nattach x p{spent}\n{chains}clone p0 c\nfree p0\nfree x\n"
+            "pool 65 refs 2\n{packets}alloc x\nattach x p{spent}\n{chains}clone p0 c\nfree p0\n\
+            free x\n"
         )?;
         assert_refused(&rt, alloc, text.as_str(), Refusal::RefSpent, spent)?;
     }

@@ -35,6 +35,9 @@ const SCRIPT: &str = "pool 256 workers 4 cache 8 desks 2\n\
     alloc a\nclone a b\noffer b 0\nalloc c\nclone c d\noffer d 1\ntake 0 e\ntake 1 f\n\
     free a\nfree b\nfree c\nfree d\nfree e\nfree f\n";
 
+/// The worker in front of the script's lines, which all workers play.
+const IN_FRONT: u32 = 1;
+
 /// Where a worker is stopped: after so many rounds, and so many lines of the next.
 type Gate = (u32, usize);
 
@@ -55,15 +58,10 @@ fn play_rounds(
     let mut names = Names::new(alloc);
     let (rounds, last) = gate;
     for _ in 0..rounds {
-        play_own(ground, &mut names, lines, player, 1)?;
+        play_own(ground, &mut names, lines, player, IN_FRONT)?;
     }
-    play_own(
-        ground,
-        &mut names,
-        lines.get(..last).unwrap_or(lines),
-        player,
-        1,
-    )
+    let lines = lines.get(..last).unwrap_or(lines);
+    play_own(ground, &mut names, lines, player, IN_FRONT)
 }
 
 /// All that a worker of this number does with its seat. What it has then is left as it is.
@@ -267,17 +265,19 @@ fn told_of<R: Threads + Sync>(
 
 /// What was told as lost is what the test counts itself: each element that is in no place of the
 /// closed pool or of a present worker, which is each that was in the stopped worker's cache or
-/// that its packets alone held.
+/// that its packets alone held. Nobody has an element that isn't the pool's.
 fn assert_told<R: Abort>(rt: &R, alloc: Global, told: &Told, name: &str) -> Result<(), Fail> {
     let (lost, present, stopped) = told;
     let mut others = Vec::new(alloc);
     let mut alone = Vec::new(alloc);
     let population = present.len().saturating_sub(1);
     for (element, (here, gone)) in (0u32..).zip(present.iter().zip(stopped)) {
-        let [_, own, bases, _] = *here;
-        if *here == [0; 4] && (element as usize) < population {
+        if element as usize == population {
+            same(rt, &(*here, *gone), &([0; 4], [0; 4]), name);
+        } else if *here == [0; 4] {
             others.push(element)?;
         }
+        let [_, own, bases, _] = *here;
         if (own, bases) == (0, 0) && *gone != [0; 4] {
             alone.push(element)?;
         }

@@ -73,8 +73,8 @@ pub(super) fn rounds(ground: &Ground, worker: &mut WordWorker, tally: &mut Tally
     }
 }
 
-/// Four workers of one pool, who free all that they made: no call was refused for another cause, and
-/// at least this many packets were made.
+/// Four workers of one pool, who free all that they made: no call was refused for another cause,
+/// and at least this many packets were made.
 fn four_of<R: Threads + Sync + Abort>(
     rt: &R,
     alloc: Global,
