@@ -25,8 +25,8 @@ fn same<R: Abort, T: PartialEq + Debug>(rt: &R, given: &T, wanted: &T, what: &st
     assert!(rt; *given == *wanted, "{what}: {given:?}, not {wanted:?}");
 }
 
-/// The words of a command line as it is typed, the program's name first. Each space parts two words,
-/// so that one at the end is followed by an empty word.
+/// The words of a command line as it is typed, the program's name first. Each space parts two
+/// words, so that one at the end is followed by an empty word.
 fn words_of(alloc: Global, line: &str) -> Result<Vec<String>, AllocError> {
     let mut words = Vec::new(alloc);
     for word in line.split(' ') {

@@ -65,11 +65,11 @@ fn ended<R: Threads + Wait + Sync + AllocGlobal>(
 fn a_print_and_a_failure_end_as_their_writers_do(rt: HostRuntime) -> Result<(), Fail> {
     for (line, room, errors_room, wanted) in ENDED {
         let (output, errors, _) = told(&rt, &TABLES, line, usize::MAX)?;
-        let (end, taken, told) = ended(&rt, line, (*room, *errors_room))?;
+        let (end, taken, said) = ended(&rt, line, (*room, *errors_room))?;
         same(&rt, &(end, end.status()), wanted, line);
         same(&rt, &taken.len(), &output.len().min(*room), line);
-        same(&rt, &told.len(), &errors.len().min(*errors_room), line);
-        let begins = output.starts_with(taken.as_str()) && errors.starts_with(told.as_str());
+        same(&rt, &said.len(), &errors.len().min(*errors_room), line);
+        let begins = output.starts_with(taken.as_str()) && errors.starts_with(said.as_str());
         assert!(rt; begins, "{line}: other bytes");
     }
     Ok(())

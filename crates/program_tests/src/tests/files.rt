@@ -1,4 +1,6 @@
 //! The files that the command lines of the tests name.
+use super::lines::STEPS;
+use commons::refusal::Refusal;
 use script::run_replay_snapshot;
 use script_io::{ReadFault, Tally, read_bytes};
 use snapshot_rows::{HEALTHY, IN_WORDS, LIMITS, Members, written};
@@ -32,7 +34,7 @@ static SCRIPTS: &[Named<'static>] = &[
     ("pull", "pull 3\n"),
     ("nothing", "pool 0\n"),
     ("eight", "pool 8 cache 4 workers 2\n2: alloc a\n"),
-    ("steps", "pool 1\nloadlength\ncut\n"),
+    ("steps", STEPS),
     ("cuts", "pool 1\ncuts\n"),
     ("allocs", "pool 1\nalloc a\n"),
     // Nobody else is there: at each try of the take the desk is empty, and at each of the second
@@ -111,14 +113,9 @@ impl Read for Breaks {
     }
 }
 
-/// The text under a name, of these files or of a table.
-fn text_in<'a>(files: &'a [Named<'a>], table: &'a [Named<'a>], name: &str) -> Option<&'a str> {
+/// The text under a name.
+fn text_in<'a>(files: &'a [Named<'a>], name: &str) -> Option<&'a str> {
     for (named, text) in files {
-        if *named == name {
-            return Some(*text);
-        }
-    }
-    for (named, text) in table {
         if *named == name {
             return Some(*text);
         }
@@ -138,7 +135,8 @@ fn bytes_of(alloc: Global, text: &str) -> Result<Vec<u8>, ReadFault> {
 fn left_by(alloc: Global, script: &str) -> Result<Vec<u8>, ReadFault> {
     match run_replay_snapshot(alloc, script.as_bytes()) {
         Ok(bytes) => Ok(bytes),
-        Err(_) => Err(ReadFault::Memory),
+        Err(Refusal::OutOfMemory) => Err(ReadFault::Memory),
+        Err(_) => Err(ReadFault::Device),
     }
 }
 
@@ -182,8 +180,8 @@ impl Scripts for Files<'_> {
         if let Some(error) = error_of(name) {
             return broken(alloc, kind, error);
         }
-        let script = text_in(self.scripts, SCRIPTS, name);
-        let snapshot = text_in(self.snapshots, TEXTS, name);
+        let script = text_in(self.scripts, name).or(text_in(SCRIPTS, name));
+        let snapshot = text_in(self.snapshots, name).or(text_in(TEXTS, name));
         match (kind, script, snapshot) {
             (Kind::Script, Some(script), _) => bytes_of(alloc, script),
             (Kind::Script, None, _) => Err(ReadFault::Device),

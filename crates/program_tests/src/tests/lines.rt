@@ -14,7 +14,8 @@ pub(super) const FIRST_RUN_STATEMENT: &str =
     packet 1 1 segs 1 len 0: 1@128+0/2048\nheld 1 count 1: 1\n";
 
 /// The first run's snapshot; all slots but one are free.
-const FIRST_RUN_LEFT: &str = "{\"counts\":[1,1,1],\"desks\":[],\"foreign\":false,\"guests\":[],\
+pub(super) const FIRST_RUN_LEFT: &str =
+    "{\"counts\":[1,1,1],\"desks\":[],\"foreign\":false,\"guests\":[],\
     \"length\":2,\"limits\":{\"buf\":2048,\"cache\":0,\"desks\":0,\"population\":3,\"putrule\":0,\
     \"refs\":65535,\"start\":0,\"tries\":64,\"workers\":1},\"links\":[3,0,0],\
     \"shares\":[{\"cache\":[],\"slots\":[null,\
@@ -35,6 +36,13 @@ const FIRST_RUN_LEFT: &str = "{\"counts\":[1,1,1],\"desks\":[],\"foreign\":false
     ,null,null,null,null,null,null,null,null,null,null,null,null,null,null,null,null,null,null\
     ,null,null\
     ],\"worker\":1}],\"top\":1}\n";
+
+/// A script of steps.
+pub(super) const STEPS: &str = "pool 1\nloadlength\ncut\n";
+
+/// What is printed of these steps.
+pub(super) const STEPS_TEXT: &str = "2: value 1\n3: refused 21 StepRefused\n\
+    head 0 0\nlength 1\ncommon 1: 0\nview 1 credit 0\nhand 1 0:\nholds 1 0:\n";
 
 /// Command lines, a line each, and what each of them prints.
 static PRINTED: &[(&str, &str)] = &[
@@ -119,11 +127,7 @@ static PRINTED: &[(&str, &str)] = &[
         mbufpool run crossed --turns 7 --lose 2 --ground locked",
         "lost 2: 0 1\n",
     ),
-    (
-        "mbufpool steps steps",
-        "2: value 1\n3: refused 21 StepRefused\n\
-        head 0 0\nlength 1\ncommon 1: 0\nview 1 credit 0\nhand 1 0:\nholds 1 0:\n",
-    ),
+    ("mbufpool steps steps", STEPS_TEXT),
     // A healthy snapshot.
     (
         "mbufpool audit healthy\n\
@@ -219,7 +223,8 @@ static FAILED: &[(&str, &str)] = &[
         mbufpool steps allocs",
         "fault 20 ScriptFault line 2\n",
     ),
-    // A device that fails is a file that can't be read, whatever the error, and memory is told as that.
+    // A device that fails is a file that can't be read, whatever the error, and memory is told as
+    // that.
     (
         "mbufpool replay a.script\n\
         mbufpool replay a.script --json\n\

@@ -1,6 +1,6 @@
 //! The files of a disk.
 use super::files::FIRST_RUN;
-use super::lines::FIRST_RUN_TEXT;
+use super::lines::{FIRST_RUN_LEFT, FIRST_RUN_STATEMENT, FIRST_RUN_TEXT, STEPS, STEPS_TEXT};
 use super::{assert_told, same};
 use std::test::Fail;
 use std::{env, fs, process};
@@ -14,9 +14,13 @@ fn path(rt: &HostRuntime, name: &str) -> Result<String, Fail> {
     Ok(format!(in rt.alloc(); "{}/mbufpool-{process}-{name}", folder.display())?)
 }
 
-/// What is done with a file, its text, its output, its errors and its status.
-static THERE: [(&str, &str, (&str, &str, u8)); 3] = [
+/// The words in front of a file, its text, and the output, the errors and the status.
+static THERE: [(&str, &str, (&str, &str, u8)); 7] = [
     ("replay", FIRST_RUN, (FIRST_RUN_TEXT, "", 0)),
+    ("replay --snapshot", FIRST_RUN, (FIRST_RUN_LEFT, "", 0)),
+    ("run", FIRST_RUN, (FIRST_RUN_STATEMENT, "", 0)),
+    ("steps", STEPS, (STEPS_TEXT, "", 0)),
+    ("audit", FIRST_RUN_LEFT, (FIRST_RUN_STATEMENT, "", 0)),
     (
         "replay",
         "pull 3\n",
@@ -28,9 +32,9 @@ static THERE: [(&str, &str, (&str, &str, u8)); 3] = [
 #[test]
 fn a_file_is_read_by_its_path(rt: HostRuntime) -> Result<(), Fail> {
     let path = path(&rt, "there")?;
-    for (task, text, wanted) in THERE {
+    for (words, text, wanted) in THERE {
         fs::write(&rt, path.as_str(), text)?;
-        let line = format!(in rt.alloc(); "mbufpool {task} {path}")?;
+        let line = format!(in rt.alloc(); "mbufpool {words} {path}")?;
         assert_told(&rt, &Disk(&rt), line.as_str(), wanted)?;
         fs::remove_file(&rt, path.as_str())?;
     }

@@ -1,5 +1,4 @@
-//! A writer that takes nothing, or little.
-ghost use Rattle.std.specs.Prelude.{◌≡◌};
+//! A writer that takes all, little or nothing.
 
 use std::alloc::Global;
 use std::io;

@@ -14,14 +14,17 @@ struct Printed {
 
 /// A script, what is printed at the end of its run, and what where a worker is lost then.
 struct Row {
+    name: &'static str,
     script: &'static [Part],
     end: Printed,
     lost: Printed,
 }
 
 static ROWS: &[Row] = &[
-    // An offer succeeds only once the packet before it is taken, and a take only once the next one is offered.
+    // An offer succeeds only once the packet before it is taken, and a take only once the next one
+    // is offered.
     Row {
+        name: "ten packets pass over one desk",
         script: &[
             Part::Text("pool 10 workers 2 desks 1\n"),
             Part::Each(10, &[Field("alloc a", 0, 1)], "\n"),
@@ -51,11 +54,13 @@ static ROWS: &[Row] = &[
             is_all: true,
         },
     },
-    // Workers 2 to 4 tell worker 1 over desks 0 to 2 that they are there, and it gives each a word to begin over desks 3 to
-    // 5. Then each of the four takes 200 elements, and one lost try is a refusal. A get may hold one element back that
-    // it gives back when it loses; since the pool has more, none of the others is refused NoEntries for that.
-    // Who comes first is chance, so each line is run three times.
+    // Workers 2 to 4 tell worker 1 over desks 0 to 2 that they are there, and it gives each a word
+    // to begin over desks 3 to 5. Then each of the four takes 200 elements, and one lost try is a
+    // refusal. A get may hold one element back that it gives back when it loses; since the pool has
+    // more, none of the others is refused NoEntries for that. Who comes first is chance, so each
+    // line is run three times.
     Row {
+        name: "four workers take 200 elements each",
         script: &[
             Part::Text("pool 810 workers 4 desks 6 tries 1\n"),
             Part::Text("2: alloc r\n2: offer r 0\n2: take 3 g\n"),
@@ -91,7 +96,7 @@ static ROWS: &[Row] = &[
 ];
 
 #[test]
-fn a_line_is_tried_in_as_many_turns_as_are_asked_for(rt: HostRuntime) -> Result<(), Fail> {
+fn with_a_million_turns_each_line_succeeds(rt: HostRuntime) -> Result<(), Fail> {
     for row in ROWS {
         let script = written(rt.alloc(), row.script)?;
         let files = Files {
@@ -105,7 +110,11 @@ fn a_line_is_tried_in_as_many_turns_as_are_asked_for(rt: HostRuntime) -> Result<
                 let begins = output.starts_with(front.as_str())
                     && (!printed.is_all || output.len() == front.len());
                 let is = begins && errors.is_empty() && status == 0;
-                assert!(rt; is, "{line}: {output}{errors} status {status}, not {front}");
+                let name = row.name;
+                assert!(rt;
+                    is,
+                    "{name}, {line}: {output}{errors} status {status}, not {front}"
+                );
             }
         }
     }

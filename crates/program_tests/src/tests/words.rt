@@ -4,7 +4,7 @@ use super::{same, told, words_of};
 use command_line::request_of;
 use std::test::Fail;
 
-/// Command lines, and what each asks for of a file or of two snapshots, as it is written for debugging.
+/// Command lines, and what each asks for of a file or of two snapshots, as its `Debug` shows it.
 static ASKED: &[(&str, &str)] = &[
     (
         "mbufpool replay a.script",
