@@ -46,8 +46,6 @@ use building::placed;
 
 /// A row of a table of texts.
 enum TextRow {
-    /// What the texts behind it are about.
-    About(&'static str),
     /// A script.
     Good(&'static str),
     /// A text that is none, and why.

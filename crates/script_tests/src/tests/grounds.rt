@@ -151,9 +151,9 @@ fn refused_memory_changes_no_run(rt: HostRuntime) {
             match run_script(&rt, rt.alloc(), script.as_bytes(), grounds, 1) {
                 Ok(settled) => {
                     let end = statement_text(rt.alloc(), &settled);
-                    assert_given(&rt, end, wanted, "the end of a run");
+                    assert_given(&rt, end, wanted, script);
                 }
-                Err(cause) => same(&rt, &cause, &Refusal::OutOfMemory, "a run"),
+                Err(cause) => same(&rt, &cause, &Refusal::OutOfMemory, script),
             }
         }
     }

@@ -34,7 +34,15 @@ fn a_packet_is_made_by_one_worker_and_freed_by_another(rt: HostRuntime) {
     let without = Limits { desks: 0, ..two };
     for (limits, free) in [(two, 4), (without, 3)] {
         match handed_over(rt.alloc(), &limits) {
-            Ok(available) => same(&rt, &available, &free, "how many elements are free"),
+            Ok(available) => {
+                let given = (limits.desks, available);
+                same(
+                    &rt,
+                    &given,
+                    &(limits.desks, free),
+                    "how many elements are free",
+                );
+            }
             Err(cause) => same(&rt, &cause, &Refusal::OutOfMemory, "the pool wasn't made"),
         }
     }

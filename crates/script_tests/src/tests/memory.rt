@@ -1,4 +1,4 @@
-//! What is read and replayed where memory is refused.
+//! What is read and replayed, also where memory is refused.
 
 use super::json::FIRST_RUN_JSON;
 use super::{assert_given, same};
@@ -8,6 +8,7 @@ use script_rows::pools::{FIRST_RUN, FIRST_RUN_TEXT};
 use script_rows::twins::{FOREIGN_CLONE, FOREIGN_CLONE_JSON, FOREIGN_CLONE_TEXT};
 use script_text::{parse, parse_steps};
 use std::alloc::Global;
+use std::fmt::InlineText;
 use std::process::Abort;
 use std::test::Fail;
 
@@ -111,14 +112,12 @@ const FIRST_RUN_SHOWN: &str = "[(2, Allocated(0, 0)), (3, Allocated(1, 1)), \
     }] }, desks: Seq { items: [] }, \
     held: Seq { items: [Held { elem: 1, count: 1, holders: Seq { items: [Worker(1)] } }] } }";
 
-/// What a replay of the first run gives, as its `Debug` shows it.
-fn first_run_shown(alloc: Global) -> Result<String, Refusal> {
+/// What a replay of the first run gives, as its `Debug` shows it, for which no memory is taken.
+fn first_run_shown(alloc: Global) -> Result<InlineText<1024>, Refusal> {
     let script = parse(alloc, FIRST_RUN.as_bytes())?;
     let (replies, settled) = replay(alloc, &script)?;
-    match format!(in alloc; "{replies:?} {:?}", settled.first) {
-        Ok(shown) => Ok(shown),
-        Err(_) => Err(Refusal::OutOfMemory),
-    }
+    let end = &settled.first;
+    Ok(InlineText::of(format_args!("{replies:?} {end:?}")))
 }
 
 #[test]

@@ -43,7 +43,6 @@ fn refuse_steps<R: Abort + AllocGlobal>(rt: &R, text: &str, refusal: Option<Refu
 fn refuse_texts<R: Abort + AllocGlobal>(rt: &R, rows: &[TextRow]) {
     for row in rows {
         match row {
-            TextRow::About(_) => {}
             TextRow::Good(text) => refuse_text(rt, text, None),
             TextRow::Bad(text, refusal) => refuse_text(rt, text, Some(*refusal)),
         }
@@ -60,7 +59,6 @@ fn each_text_is_a_script_or_refused(rt: HostRuntime) {
 fn each_text_is_a_script_of_steps_or_refused(rt: HostRuntime) {
     for row in step_texts::ROWS {
         match row {
-            TextRow::About(_) => {}
             TextRow::Good(text) => refuse_steps(&rt, text, None),
             TextRow::Bad(text, refusal) => refuse_steps(&rt, text, Some(*refusal)),
         }

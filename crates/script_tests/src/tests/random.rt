@@ -1,5 +1,5 @@
-//! Random scripts of two pools, of one worker: whichever ground they run on, they end as their replay
-//! does.
+//! Random scripts of two pools, of one worker: whichever ground they run on, they end as their
+//! replay does.
 
 use super::grounds::assert_ends_as_its_replay;
 use super::same;

@@ -42,9 +42,9 @@ const FOR_DESK_1: &[Act] = &[
     Act::Free(1),
 ];
 
-/// What four workers do, of whom two each want one desk, worker by worker, and a fifth, who is a
-/// stranger.
-const FOUR_WORKERS: [(u32, &[Act]); 5] = [
+/// What the pool's four workers do, of whom two each want one desk, worker by worker, and what a
+/// fifth does, who is a stranger there.
+const ACTS: [(u32, &[Act]); 5] = [
     (1, FOR_DESK_0),
     (2, FOR_DESK_0),
     (3, FOR_DESK_1),
@@ -71,16 +71,16 @@ pub(super) fn play(pool: &mut SitePool, worker: u32, acts: &[Act]) {
     }
 }
 
-/// Plays the lines of the four workers.
+/// Lets the four workers and the stranger act.
 pub(super) fn play_four(pool: &mut SitePool) {
-    for (worker, acts) in FOUR_WORKERS {
+    for (worker, acts) in ACTS {
         play(pool, worker, acts);
     }
 }
 
-/// Plays the lines of the four workers under a lock. Each reply is that of a pool without one.
+/// Lets them act under a lock. Each reply is that of a pool without one.
 fn play_four_locked<R: Wait + Abort>(rt: &R, site: &LockedSite, pool: &mut SitePool) {
-    for (worker, acts) in FOUR_WORKERS {
+    for (worker, acts) in ACTS {
         for act in acts {
             let given = (worker, *act, site.act(rt, worker, *act));
             let wanted = (worker, *act, pool.perform(worker, *act));
@@ -236,7 +236,7 @@ fn a_missing_share_is_named_and_what_is_handed_back_settles(rt: HostRuntime) {
     }
 }
 
-/// Plays the lines under a lock, and closes the pool.
+/// Lets the four workers and the stranger act under a lock, and closes the pool.
 fn closed_four_locked<R: Wait + Abort>(rt: &R, alloc: Global) -> Result<Option<Parts>, Refusal> {
     let site = LockedSite::make(alloc, &FOUR)?;
     match SitePool::make(alloc, &FOUR) {

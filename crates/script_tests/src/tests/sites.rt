@@ -98,8 +98,11 @@ fn follow<R: Abort + AllocGlobal>(rt: &R, site: &mut Site, steps: &[Step], name:
             Step::Bulk(worker, count) => {
                 let act = TwinAct::OnFirst(Act::AllocBulk(*count));
                 let reply = perform(site, *worker, act);
-                let is_made = matches!(&reply, Reply::Bulk(packets) if packets.len() == *count);
-                same(rt, &is_made, &true, name);
+                let made = match &reply {
+                    Reply::Bulk(packets) => Some(packets.len()),
+                    _ => None,
+                };
+                same(rt, &made, &Some(*count), name);
             }
             Step::Refused(workers, acts, cause) => {
                 assert_refused(rt, site, workers, acts, *cause, name);

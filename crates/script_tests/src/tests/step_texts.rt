@@ -1,14 +1,14 @@
 //! Texts that are scripts of steps, and texts close to them that are refused.
 
-use super::TextRow::{self, About, Bad, Good};
+use super::TextRow::{self, Bad, Good};
 use commons::refusal::Refusal::{BadPool, ScriptFault};
 
 pub(super) const ROWS: &[TextRow] = &[
-    About("steps are of one pool"),
+    // Steps are of one pool.
     Bad("pool 3 second 2\nloadlength\n", ScriptFault(1)),
     Bad("pool 3 secondcache 2\n", ScriptFault(1)),
     Bad("pool 0 second 2\n", ScriptFault(1)),
-    About("an element is a number below 2^64, or the end"),
+    // An element is a number below 2^64, or the end.
     Good("pool 3\nloadlink 18446744073709551615\n"),
     Good("pool 3\nloadlink -\n"),
     Bad("pool 3\nloadlink 18446744073709551616\n", ScriptFault(2)),
@@ -24,7 +24,7 @@ pub(super) const ROWS: &[TextRow] = &[
     Bad("pool 3\nloadlink -1\n", ScriptFault(2)),
     Bad("pool 3\nloadlink a\n", ScriptFault(2)),
     Bad("pool 3\nloadlink 000000000000000000000\n", ScriptFault(2)),
-    About("other numbers are below 2^64, and none is the end"),
+    // Other numbers are below 2^64, and none is the end.
     Bad("pool 3\nreserve 18446744073709551616 1\n", ScriptFault(2)),
     Bad("pool 3\nreserve 1 18446744073709551616\n", ScriptFault(2)),
     Bad("pool 3\nreserve - 1\n", ScriptFault(2)),
@@ -33,7 +33,7 @@ pub(super) const ROWS: &[TextRow] = &[
     Bad("pool 3\nadd -\n", ScriptFault(2)),
     Bad("pool 3\nraise 0 18446744073709551616\n", ScriptFault(2)),
     Bad("pool 3\nraise 0 -\n", ScriptFault(2)),
-    About("a desk is a number of at most 65535"),
+    // A desk is a number of at most 65535.
     Good("pool 3\nhold 65535\n"),
     Good("pool 3\ntakeout 0065535\n"),
     Bad("pool 3\nhold 65536\n", ScriptFault(2)),
@@ -45,7 +45,7 @@ pub(super) const ROWS: &[TextRow] = &[
     Bad("pool 3\nhold 18446744073709551616\n", ScriptFault(2)),
     Bad("pool 3\nhold -\n", ScriptFault(2)),
     Bad("pool 3\nputin - 0\n", ScriptFault(2)),
-    About("a segment is an element, or two with `>` between"),
+    // A segment is an element, or two with `>` between.
     Good("pool 3\nputin 0 18446744073709551615>18446744073709551615\n"),
     Bad("pool 3\nputin 0 -\n", ScriptFault(2)),
     Bad("pool 3\nputin 0 ->0\n", ScriptFault(2)),
@@ -58,16 +58,16 @@ pub(super) const ROWS: &[TextRow] = &[
     Bad("pool 3\nputin 0 0 > 1\n", ScriptFault(2)),
     Bad("pool 3\nputin 0 18446744073709551616\n", ScriptFault(2)),
     Bad("pool 3\nputin 0 0>18446744073709551616\n", ScriptFault(2)),
-    About("a packet has 1 to 32 segments"),
+    // A packet has 1 to 32 segments.
     Bad("pool 3\nputin 0\n", ScriptFault(2)),
     Good("pool 3\nputin 0 0\n"),
     Good("pool 3\nputin 0 0 0 0 0 0 0 0 0 0 0 0 0 0 0 0 0 0 0 0 0 0 0 0 0 0 0 0 0 0 0 0 0\n"),
     Bad(
         "pool 3\n\
-                putin 0 0 0 0 0 0 0 0 0 0 0 0 0 0 0 0 0 0 0 0 0 0 0 0 0 0 0 0 0 0 0 0 0 0\n",
+        putin 0 0 0 0 0 0 0 0 0 0 0 0 0 0 0 0 0 0 0 0 0 0 0 0 0 0 0 0 0 0 0 0 0 0\n",
         ScriptFault(2),
     ),
-    About("a kind that isn't there is a fault"),
+    // A kind that isn't there is a fault.
     Bad("pool 3\nalloc a\n", ScriptFault(2)),
     Bad("pool 3\nflush\n", ScriptFault(2)),
     Bad("pool 3\nloadLength\n", ScriptFault(2)),
@@ -76,7 +76,7 @@ pub(super) const ROWS: &[TextRow] = &[
     Bad("pool 3\nput 0 0\n", ScriptFault(2)),
     Bad("pool 3\n-\n", ScriptFault(2)),
     Bad("pool 3\n0\n", ScriptFault(2)),
-    About("each kind has its own number of words"),
+    // Each kind has its own number of words.
     Bad("pool 3\nloadlength 1\n", ScriptFault(2)),
     Bad("pool 3\nloadhead 0\n", ScriptFault(2)),
     Bad("pool 3\ncut 0\n", ScriptFault(2)),
@@ -102,7 +102,7 @@ pub(super) const ROWS: &[TextRow] = &[
     Bad("pool 3\nseize 0 0\n", ScriptFault(2)),
     Bad("pool 3\ntakeout\n", ScriptFault(2)),
     Bad("pool 3\nclear 0 0\n", ScriptFault(2)),
-    About("the form of lines is that of commands"),
+    // The form of lines is that of commands.
     Bad("", ScriptFault(1)),
     Bad("cut\n", ScriptFault(1)),
     Bad("pool 3\ncut", ScriptFault(2)),

@@ -1,10 +1,10 @@
 //! Texts that are scripts, and texts close to them that are refused.
 
-use super::TextRow::{self, About, Bad, Good};
+use super::TextRow::{self, Bad, Good};
 use commons::refusal::Refusal::{BadPool, ScriptFault};
 
 pub(super) const ROWS: &[TextRow] = &[
-    About("wrong words behind a command are a fault"),
+    // Wrong words behind a command are a fault.
     Bad("pool 3\nbulk\n", ScriptFault(2)),
     Bad("pool 3\nbulk a b a\n", ScriptFault(2)),
     Bad("pool 3\nbulk a B\n", ScriptFault(2)),
@@ -61,13 +61,13 @@ pub(super) const ROWS: &[TextRow] = &[
     Bad("pool 3\ntake 0 1\n", ScriptFault(2)),
     Bad("pool 3\ntake 0 abcdefghijklmnopq\n", ScriptFault(2)),
     Bad("pool 3\ntakes 0 a\n", ScriptFault(2)),
-    About("a bulk makes its names"),
+    // A bulk makes its names.
     Bad("pool 9\nalloc c\nbulk a b c\n", ScriptFault(3)),
     Bad("pool 9\nbulk a b c\nalloc b\n", ScriptFault(3)),
     Good("pool 9 workers 2\nbulk a b c\n2: bulk c b a\n"),
     // A clone makes the second of its names, which it may be given only where no other line of the
     // worker makes it.
-    About("a clone makes its second name"),
+    // A clone makes its second name.
     Bad("pool 9\nalloc b\nclone a b\n", ScriptFault(3)),
     Bad("pool 9\nclone a b\nalloc b\n", ScriptFault(3)),
     Bad("pool 9\nclone a b\nclone c b\n", ScriptFault(3)),
@@ -79,7 +79,7 @@ pub(super) const ROWS: &[TextRow] = &[
     Good("pool 9 workers 2\nclone a b\n2: clone a b\n"),
     Good("pool 9\nalloc a\nattach a a\nattach b a\ndetach a\ncount a\n"),
     // A take makes its name, and an offer, which has one too, makes none.
-    About("a take makes its name"),
+    // A take makes its name.
     Bad("pool 9\nalloc a\ntake 0 a\n", ScriptFault(3)),
     Bad("pool 9\ntake 0 a\nalloc a\n", ScriptFault(3)),
     Bad("pool 9\ntake 0 a\ntake 1 a\n", ScriptFault(3)),
@@ -94,37 +94,37 @@ pub(super) const ROWS: &[TextRow] = &[
     Good("pool 9 workers 2\n2: take 0 a\ntake 0 a\n"),
     Good("pool 9\noffer a 0\noffer a 0\nalloc a\n"),
     Good("pool 9\nalloc a\noffer a 0\n"),
-    About("an empty file is a fault of line one"),
+    // An empty file is a fault of line one.
     Bad("", ScriptFault(1)),
     Bad("\n", ScriptFault(1)),
     Bad("pool 3", ScriptFault(1)),
-    About("skipped lines alone are a fault of the last one"),
+    // Skipped lines alone are a fault of the last one.
     Bad("#\n\n  \n", ScriptFault(3)),
     Bad("#\n\n", ScriptFault(2)),
     Bad("#\n\n  \n#", ScriptFault(4)),
-    About("an unfinished last line is a fault of its number"),
+    // An unfinished last line is a fault of its number.
     Bad("pool 3\nalloc a", ScriptFault(2)),
     Bad("pool 3\n ", ScriptFault(2)),
     Bad("pool 0", ScriptFault(1)),
-    About("a line ends by a line feed alone, and may be empty"),
+    // A line ends by a line feed alone, and may be empty.
     Good("pool 3\n\n"),
     Bad("pool 3\x0d\n", ScriptFault(1)),
     Bad("pool 3\nflush\x0d\n", ScriptFault(2)),
-    About("a name has sixteen letters at most"),
+    // A name has sixteen letters at most.
     Good("pool 3\nalloc abcdefghijklmnop\n"),
     Bad("pool 3\nalloc abcdefghijklmnopq\n", ScriptFault(2)),
     Bad("pool 3\nalloc 1a\n", ScriptFault(2)),
     Bad("pool 3\nalloc aB\n", ScriptFault(2)),
     Bad("pool 3\nalloc A\n", ScriptFault(2)),
     Good("pool 3\nalloc a1\n"),
-    About("a name is made once"),
+    // A name is made once.
     Bad(
         "pool 3\nalloc a\nfree a\nalloc b\nalloc a\nalloc b\n",
         ScriptFault(5),
     ),
     Bad("pool 3\nalloc a\nalloc a\n", ScriptFault(3)),
     Good("pool 3\nalloc abcdefghijklmno\nalloc abcdefghijklmnop\n"),
-    About("the first faulty line is named"),
+    // The first faulty line is named.
     Bad("pool 3\nalloc a\nput a\nalloc\n", ScriptFault(3)),
     Bad("alloc a\npool 3\n", ScriptFault(1)),
     Bad("pool 3\npool 3\n", ScriptFault(2)),
@@ -133,7 +133,7 @@ pub(super) const ROWS: &[TextRow] = &[
     Bad("pool 3\n1:alloc a\n", ScriptFault(2)),
     Bad("pool 3\n2: alloc a\n", ScriptFault(2)),
     // In a pool of two workers, which words in front of a command name one.
-    About("a command is of the worker in front of it"),
+    // A command is of the worker in front of it.
     Good("pool 3 workers 2\n1: flush\n"),
     Good("pool 3 workers 2\n2: flush\n"),
     Good("pool 3 workers 2\n2:  alloc a\n"),
@@ -158,7 +158,7 @@ pub(super) const ROWS: &[TextRow] = &[
     Bad("pool 3 workers 2\nflush 2:\n", ScriptFault(2)),
     Bad("pool 3 workers 2\nflush flush\n", ScriptFault(2)),
     Bad("pool 3 workers 2\nflush: 2\n", ScriptFault(2)),
-    About("names are each workers own"),
+    // Names are each worker's own.
     Good("pool 3 workers 2\nalloc a\n2: alloc a\n"),
     Bad(
         "pool 3 workers 2\n2: alloc a\nalloc b\n2: alloc a\n",
@@ -169,7 +169,7 @@ pub(super) const ROWS: &[TextRow] = &[
 
 /// More of them: what a pool line says, and its limits.
 pub(super) const POOL_ROWS: &[TextRow] = &[
-    About("limits past their range are a bad pool"),
+    // Limits past their range are a bad pool.
     Bad("pool 16777215\n", BadPool),
     Good("pool 16777214\n"),
     Bad("pool 0\nbad\nworse", BadPool),
@@ -178,7 +178,7 @@ pub(super) const POOL_ROWS: &[TextRow] = &[
     Bad("pool 3 start 1099511627776\n", BadPool),
     Good("pool 3 start 1099511627775\n"),
     Bad("pool 3 start 281474976710654\n", BadPool),
-    About("reference counts have a limit from 1 to 65535"),
+    // Reference counts have a limit from 1 to 65535.
     Bad("pool 3 refs 0\n", BadPool),
     Good("pool 3 refs 1\n"),
     Good("pool 3 refs 65535\n"),
@@ -186,7 +186,7 @@ pub(super) const POOL_ROWS: &[TextRow] = &[
     Bad("pool 3 refs 1 buf 1 refs 1\n", ScriptFault(1)),
     Bad("pool 0 refs\n", ScriptFault(1)),
     Bad("pool 3 ref 1\n", ScriptFault(1)),
-    About("a second pool"),
+    // A second pool.
     Good("pool 4 second 1\n"),
     Good("pool 4 secondcache 2 second 4\n"),
     Bad("pool 4 second 0\n", BadPool),
@@ -202,7 +202,7 @@ pub(super) const POOL_ROWS: &[TextRow] = &[
     Bad("pool 4 second 2 second 2\n", ScriptFault(1)),
     Bad("pool 4 second 2 seconds 2\n", ScriptFault(1)),
     Bad("pool 4 second a\n", ScriptFault(1)),
-    About("a put rule is 0 or 1"),
+    // A put rule is 0 or 1.
     Good("pool 3 putrule 0\n"),
     Good("pool 3 putrule 1\n"),
     Bad("pool 3 putrule 2\n", BadPool),
@@ -213,12 +213,12 @@ pub(super) const POOL_ROWS: &[TextRow] = &[
     Bad("pool 3 putrules 1\n", ScriptFault(1)),
     Bad("pool 3 putrule 2\nbogus\n", BadPool),
     Bad("# 2\npool 3 putrule 1\nbogus\n", ScriptFault(3)),
-    About("a pool has 64 desks at most"),
+    // A pool has 64 desks at most.
     Good("pool 3 desks 0\n"),
     Bad("pool 3 desks 65\n", BadPool),
     Bad("pool 3 desks 1 desks 1\n", ScriptFault(1)),
     Bad("pool 0 desks\n", ScriptFault(1)),
-    About("a fault of the pool line comes before its limits"),
+    // A fault of the pool line comes before its limits.
     Bad("pool 0 cache\n", ScriptFault(1)),
     Bad("pool 0 desk 1\n", ScriptFault(1)),
     Bad("pool 0 buf\n", ScriptFault(1)),
@@ -229,10 +229,10 @@ pub(super) const POOL_ROWS: &[TextRow] = &[
     Bad("pool 3 pool 4\n", ScriptFault(1)),
     Bad("pool 3 cache\n", ScriptFault(1)),
     Bad("pools 3\n", ScriptFault(1)),
-    About("a tab in a comment is a fault"),
+    // A tab in a comment is a fault.
     Bad("#\t\npool 3\n", ScriptFault(1)),
     Bad("pool 3\n# \x7f\n", ScriptFault(2)),
-    About("a number has twenty digits at most and is below 2 to the 64"),
+    // A number has twenty digits at most and is below 2 to the 64.
     Good("pool 00000000000000000003\n"),
     Good("pool 0003\n"),
     Bad("pool 000000000000000000003\n", ScriptFault(1)),
@@ -240,10 +240,10 @@ pub(super) const POOL_ROWS: &[TextRow] = &[
     Bad("pool 18446744073709551616\n", ScriptFault(1)),
     Bad("pool 99999999999999999999\n", ScriptFault(1)),
     Bad("pool +3\n", ScriptFault(1)),
-    About("empty scripts"),
+    // Empty scripts.
     Bad("pool 3\nalloc a", ScriptFault(2)),
     Bad("", ScriptFault(1)),
-    About("limits"),
+    // Limits.
     Good("pool 65535\n"),
     Bad("pool 16777215\n", BadPool),
     Bad("pool 6 cache 5\n", BadPool),

@@ -34,7 +34,7 @@ pub enum Hold {
     Nobody,
     /// Each of two workers, until the other has come there too.
     Both,
-    /// Worker 2, until this many lines of worker 1 are done.
+    /// Worker 2, until worker 1's line of this number is done.
     Second(u32),
 }
 
@@ -191,11 +191,11 @@ const ROWS: &[Run] = &[
     },
 ];
 
-/// Waits until as many as these have come. False where none comes for too long.
-fn wait_for(came: &AtomicU32, all: u32) -> bool {
+/// Waits until a count is as high as this. False where it isn't for too long.
+fn wait_for(count: &AtomicU32, high: u32) -> bool {
     let backoff = Backoff::new();
     for _ in 0..TURNS {
-        if came.load(Ordering::SeqCst) >= all {
+        if count.load(Ordering::SeqCst) >= high {
             return true;
         }
         backoff.snooze();
@@ -207,8 +207,12 @@ fn wait_for(came: &AtomicU32, all: u32) -> bool {
 #[derive(Drop)]
 pub struct Watch {
     hold: Hold,
+    /// How many workers have come to their first lines.
     come: AtomicU32,
+    /// How many lines are done.
     done: AtomicU32,
+    /// The number of the last line of worker 1 that is done.
+    first: AtomicU32,
     failed: AtomicBool,
 }
 
@@ -218,6 +222,7 @@ impl Watch {
             hold,
             come: AtomicU32::new(0),
             done: AtomicU32::new(0),
+            first: AtomicU32::new(0),
             failed: AtomicBool::new(false),
         }
     }
@@ -234,7 +239,7 @@ impl Gate for Watch {
             self.come.fetch_add(1, Ordering::SeqCst);
             let held = match self.hold {
                 Hold::Both => wait_for(&self.come, 2),
-                Hold::Second(lines) if worker == 2 => wait_for(&self.done, lines),
+                Hold::Second(line) if worker == 2 => wait_for(&self.first, line),
                 Hold::Second(_) | Hold::Nobody => true,
             };
             if !held {
@@ -243,7 +248,10 @@ impl Gate for Watch {
         }
     }
 
-    fn after(&self, _worker: u32, _nth: u32) {
+    fn after(&self, worker: u32, nth: u32) {
+        if worker == 1 {
+            self.first.store(nth, Ordering::SeqCst);
+        }
         self.done.fetch_add(1, Ordering::SeqCst);
     }
 }

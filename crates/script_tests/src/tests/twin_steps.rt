@@ -1,4 +1,5 @@
-//! What two pools on the lists reply to their workers' acts, and where their elements are then.
+//! What two pools on the lists reply to their workers' acts, and where their elements are then; and
+//! limits of which no pool is made, and no two.
 
 use super::{DEFAULTS, PoolRow, Step};
 use commons::limits::Limits;
@@ -38,7 +39,8 @@ pub(super) const ROWS: &[PoolRow] = &[
             Step::Act(1, CountClone(0), "Count(1)"),
             Step::Refused(&[1], &[CloneInto(0)], Refusal::NoSuchPacket),
             Step::Statement(
-                "population 4\navailable 3\nin use 1\ncommon 3: 1 2 3\ncache 1 0:\nheld 0 count 1: 1\n\
+                "population 4\navailable 3\nin use 1\ncommon 3: 1 2 3\ncache 1 0:\n\
+                held 0 count 1: 1\n\
                 second\npopulation 2\navailable 1\nin use 1\ncommon 1: 1\ncache 1 0:\n\
                 packet 1 0 segs 1 len 100: 0>0@128+100/2048\nheld 0 count 1: 1\n",
             ),

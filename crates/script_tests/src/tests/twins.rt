@@ -9,9 +9,12 @@ use mbuf::acts::Act;
 use pool_model::settled::Settled;
 use script::{statement_json, statement_text};
 use share_book::site_pool::SitePool;
-use share_book::{Fault, Share, TwinBook, TwinShare, TwinUnsettled, lose_all, settle_twin};
+use share_book::{
+    Fault, Share, TwinBook, TwinShare, TwinUnsettled, deposit_twin, lose_all, settle_twin,
+};
 use std::alloc::Global;
 use std::process::Abort;
+use std::sync::{Mutex, Wait};
 use std::test::Fail;
 
 /// The first pool.
@@ -78,6 +81,15 @@ fn deposit_one(book: &mut TwinBook, share: Option<TwinShare>) {
     }
 }
 
+/// Puts a worker's shares in a book that threads share, as the call above does.
+fn deposit_shared<R: Wait>(rt: &R, book: &Mutex<TwinBook>, share: Option<TwinShare>) {
+    if let Some(share) = share {
+        if let Err((_, share)) = deposit_twin(rt, book, share) {
+            share.lose();
+        }
+    }
+}
+
 /// Settles two pools, in turn with each of these tops, until they settle. The late shares are in
 /// the book from the second time on.
 fn settled_in_turn(alloc: Global, both: Both, late: Option<TwinShare>, tops: &[Tops]) -> Ended {
@@ -117,7 +129,13 @@ fn lose_pair(share: Option<TwinShare>) {
 
 /// Ends two pools, in whose first worker 1 made a packet, by the shares of both workers: those of
 /// the first are late, or not. Each pool is closed by so many tries.
-fn ended(alloc: Global, tries: u32, is_late: bool, tops: &[Tops]) -> Result<Ended, Refusal> {
+fn ended<R: Wait>(
+    rt: &R,
+    alloc: Global,
+    tries: u32,
+    is_late: bool,
+    tops: &[Tops],
+) -> Result<Ended, Refusal> {
     let (first, mut firsts) = left(alloc, &FIRST, &[Act::Alloc], tries)?;
     let (second, mut seconds) = match left(alloc, &SECOND, &[], tries) {
         Ok(left) => left,
@@ -131,12 +149,14 @@ fn ended(alloc: Global, tries: u32, is_late: bool, tops: &[Tops]) -> Result<Ende
     lose_all(firsts);
     lose_all(seconds);
     match TwinBook::make(alloc, &FIRST, &SECOND) {
-        Ok(mut book) => {
-            deposit_one(&mut book, pair);
+        Ok(book) => {
+            let book = Mutex::new(book);
+            deposit_shared(rt, &book, pair);
             if !is_late {
-                deposit_one(&mut book, late.take());
+                deposit_shared(rt, &book, late.take());
             }
-            Ok(settled_in_turn(alloc, (first, second, book), late, tops))
+            let both = (first, second, book.into_inner());
+            Ok(settled_in_turn(alloc, both, late, tops))
         }
         Err(cause) => {
             lose_pair(pair);
@@ -188,7 +208,7 @@ fn two_pools_are_settled_once_nothing_is_wrong_with_either(rt: HostRuntime) -> R
         TwinUnsettled::First(Fault::BadTop(9)),
         TwinUnsettled::Second(Fault::BadTop(9)),
     ];
-    let ended = ended(rt.alloc(), ONCE, true, &tops)?;
+    let ended = ended(&rt, rt.alloc(), ONCE, true, &tops)?;
     assert_ended(&rt, ended, &wanted);
     Ok(())
 }
@@ -198,7 +218,7 @@ fn two_pools_are_settled_once_nothing_is_wrong_with_either(rt: HostRuntime) -> R
 #[test]
 fn two_pools_whose_settling_was_refused_memory_settle_the_next_time(rt: HostRuntime) {
     let tops = [(None, None), (None, None)];
-    match ended(rt.alloc(), TWICE, false, &tops) {
+    match ended(&rt, rt.alloc(), TWICE, false, &tops) {
         Ok(ended) => {
             let wanted = [TwinUnsettled::OutOfMemory];
             let refused = ended.0.len().min(1);
