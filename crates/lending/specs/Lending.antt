@@ -10,12 +10,14 @@ use Rattle.lending.specs.declared.cause.Cause.{Cause}
 use Rattle.lending.specs.declared.cause.Cause.TheVariants.{Refused, LentOut}
 use Rattle.lending.specs.declared.loans.Loans.{Loans}
 
--- it is the same seat, which has taken the same steps, and holds what it held
+-- it is the same seat, which has taken the same steps, as have those that were joined to it, and
+-- holds what it held
 pub record IsSame (s t : Seated) : Type 0 where
   pub table : t.table ≡ s.table
   pub id : t.id ≡ s.id
   pub limits : t.known.limits ≡ s.known.limits
   pub steps : t.known.steps ≡ s.known.steps
+  pub joined : t.known.joined ≡ s.known.joined
   pub slots : t.slots ≡ s.slots
   pub holds : t.known.view.holds ≡ s.known.view.holds
   pub headers : t.known.view.headers ≡ s.known.view.headers

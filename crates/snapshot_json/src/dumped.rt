@@ -26,8 +26,8 @@ use std::alloc::Global;
 /// The members of an object that are still to be read.
 type Members<'v, 'a> = &'v [(&'a str, Value<'a>)];
 
-/// A part of a snapshot, which is read of a value.
-trait Part: Drop {
+/// A part of a snapshot that can be read of a value which a dump wrote.
+trait Dumped: Drop {
     ghost use Rattle.serde_json.specs.Data.{Data};
 
     ghost data_of: { Self → Data };
@@ -48,7 +48,7 @@ fn members<'v, 'a>(value: &'v Value<'a>) -> Option<Members<'v, 'a>>
 }
 
 /// The part that the first member is, if it has this key, and the members behind it.
-fn at<'v, 'a, T: Part>(
+fn at<'v, 'a, T: Dumped>(
     alloc: Global,
     members: Members<'v, 'a>,
     key: &str,
@@ -90,7 +90,7 @@ fn is_written(number: u64, digits: &str) -> bool
 }
 
 /// A number.
-impl Part for u64 {
+impl Dumped for u64 {
     ghost use Rattle.statement_text.specs.StatementData.{count_data};
 
     ghost data_of = { count_data };
@@ -107,7 +107,7 @@ impl Part for u64 {
 }
 
 /// A number below 2^32.
-impl Part for u32 {
+impl Dumped for u32 {
     ghost use Rattle.statement_text.specs.StatementData.{count_data};
 
     ghost data_of = { count_data };
@@ -123,7 +123,7 @@ impl Part for u32 {
 }
 
 /// A number below 2^16.
-impl Part for u16 {
+impl Dumped for u16 {
     ghost use Rattle.statement_text.specs.StatementData.{count_data};
 
     ghost data_of = { count_data };
@@ -139,7 +139,7 @@ impl Part for u16 {
 }
 
 /// A base: a number below 2^32, or null.
-impl Part for Option<u32> {
+impl Dumped for Option<u32> {
     ghost use Rattle.statement_text.specs.StatementData.{base_data};
 
     ghost data_of = { base_data };
@@ -154,7 +154,7 @@ impl Part for Option<u32> {
 }
 
 /// A flag: true or false.
-impl Part for bool {
+impl Dumped for bool {
     ghost use Rattle.serde_json.specs.Data.{boolean};
 
     ghost data_of = { boolean };
@@ -165,7 +165,7 @@ impl Part for bool {
 }
 
 /// The rule of puts, by its number.
-impl Part for PutRule {
+impl Dumped for PutRule {
     ghost use Rattle.snapshot_json.specs.SnapshotData.{rule_data};
 
     ghost data_of = { rule_data };
@@ -180,7 +180,7 @@ impl Part for PutRule {
 }
 
 /// A list of parts of one kind.
-impl<T: Part> Part for Seq<T> {
+impl<T: Dumped> Dumped for Seq<T> {
     ghost use Rattle.std.specs.Prelude.{map};
     ghost use Rattle.serde_json.specs.Data.{array};
     ghost use Rattle.serde_json.specs.View.{items_of};
@@ -198,7 +198,7 @@ impl<T: Part> Part for Seq<T> {
 }
 
 /// A segment.
-impl Part for Seg {
+impl Dumped for Seg {
     ghost use Rattle.statement_text.specs.StatementData.{seg_data};
 
     ghost data_of = { seg_data };
@@ -222,7 +222,7 @@ impl Part for Seg {
 }
 
 /// A place: the segments of a packet, or null.
-impl Part for Option<Seq<Seg>> {
+impl Dumped for Option<Seq<Seg>> {
     ghost use Rattle.snapshot_json.specs.SnapshotData.{place_data};
 
     ghost data_of = { place_data };
@@ -237,7 +237,7 @@ impl Part for Option<Seq<Seg>> {
 }
 
 /// A share.
-impl Part for ShareData {
+impl Dumped for ShareData {
     ghost use Rattle.snapshot_json.specs.SnapshotData.{share_data};
 
     ghost data_of = { share_data };
@@ -257,7 +257,7 @@ impl Part for ShareData {
 }
 
 /// A guest.
-impl Part for Guest {
+impl Dumped for Guest {
     ghost use Rattle.snapshot_json.specs.SnapshotData.{guest_data};
 
     ghost data_of = { guest_data };
@@ -275,7 +275,7 @@ impl Part for Guest {
 }
 
 /// Limits.
-impl Part for Limits {
+impl Dumped for Limits {
     ghost use Rattle.snapshot_json.specs.SnapshotData.{limits_data};
 
     ghost data_of = { limits_data };

@@ -220,6 +220,20 @@ pub enum Cause {
     Other,
 }
 
+impl Clone for Cause {
+    ghost use Rattle.std.specs.Prelude.{◌≡◌, ⊤};
+
+    ghost is_clone = { λ x y. y ≡ x };
+
+    ghost is_infallible = { λ _. ⊤ };
+
+    fn clone(&self) -> Result<Cause, AllocError> {
+        Ok(*self)
+    }
+}
+
+impl Copy for Cause {}
+
 /// What is wrong, of which part, and where that stands in the text. Of a missing member the byte is
 /// that of its object.
 #[derive(Drop)]
@@ -231,6 +245,20 @@ pub struct Flaw {
     /// The byte at which it begins, from 0.
     pub byte: u64,
 }
+
+impl Clone for Flaw {
+    ghost use Rattle.std.specs.Prelude.{◌≡◌, ⊤};
+
+    ghost is_clone = { λ x y. y ≡ x };
+
+    ghost is_infallible = { λ _. ⊤ };
+
+    fn clone(&self) -> Result<Flaw, AllocError> {
+        Ok(*self)
+    }
+}
+
+impl Copy for Flaw {}
 
 impl fmt::Display for Cause {
     ghost output = { λ cause. Some (cause_text cause) };
@@ -280,6 +308,20 @@ pub enum SnapshotFault {
     /// stands, from 0.
     Doubled(u32, u64, u64),
 }
+
+impl Clone for SnapshotFault {
+    ghost use Rattle.std.specs.Prelude.{◌≡◌, ⊤};
+
+    ghost is_clone = { λ x y. y ≡ x };
+
+    ghost is_infallible = { λ _. ⊤ };
+
+    fn clone(&self) -> Result<SnapshotFault, AllocError> {
+        Ok(*self)
+    }
+}
+
+impl Copy for SnapshotFault {}
 
 /// Where an element stands twice in the common list.
 #[derive(Drop)]

@@ -113,22 +113,22 @@ struct Scope {
     population: Option<u64>,
 }
 
-/// What a value is, where it stands.
-struct Part {
+/// What a value has to be, and where it stands.
+struct Expected {
     kind: Kind,
     path: Path,
     byte: u64,
 }
 
-impl Clone for Part {
-    fn clone(&self) -> Result<Part, AllocError> {
+impl Clone for Expected {
+    fn clone(&self) -> Result<Expected, AllocError> {
         Ok(*self)
     }
 }
 
-impl Copy for Part {}
+impl Copy for Expected {}
 
-impl Part {
+impl Expected {
     /// What is wrong with it.
     fn flaw(self, cause: Cause) -> Flaw {
         Flaw {
@@ -145,7 +145,7 @@ pub(crate) fn first(alloc: Global, text: &str) -> Result<Flaw, AllocError> {
     let scope = scope_of(text, &mut scratch)?;
     let mut reader = Reader::new(text, &mut scratch)?;
     let kind = if scope.list { Kind::List } else { Kind::Words };
-    let whole = Part {
+    let whole = Expected {
         kind,
         path: Path::whole(),
         byte: begin(text.as_bytes(), 0),
@@ -252,30 +252,30 @@ fn value(
     reader: &mut Reader<'_>,
     text: &[u8],
     scope: Scope,
-    part: Part,
+    expected: Expected,
     depth: usize,
 ) -> Result<(), Flaw> {
     let Some(token) = reader.next() else {
-        return Err(part.flaw(Cause::Other));
+        return Err(expected.flaw(Cause::Other));
     };
-    if let Some(members) = members_of(part.kind) {
+    if let Some(members) = members_of(expected.kind) {
         return match token {
             Token::BeginObject if depth > 0 => {
-                object(reader, text, scope, part, members, depth - 1)
+                object(reader, text, scope, expected, members, depth - 1)
             }
-            _ => Err(part.flaw(Cause::NotObject)),
+            _ => Err(expected.flaw(Cause::NotObject)),
         };
     }
-    if let Some(kind) = items_of(part.kind) {
+    if let Some(kind) = items_of(expected.kind) {
         return match token {
-            Token::BeginArray if depth > 0 => list(reader, text, scope, part, kind, depth - 1),
-            Token::Null if matches!(part.kind, Kind::Place) => Ok(()),
-            _ if matches!(part.kind, Kind::Place) => Err(part.flaw(Cause::NotPlace)),
-            _ => Err(part.flaw(Cause::NotList)),
+            Token::BeginArray if depth > 0 => list(reader, text, scope, expected, kind, depth - 1),
+            Token::Null if matches!(expected.kind, Kind::Place) => Ok(()),
+            _ if matches!(expected.kind, Kind::Place) => Err(expected.flaw(Cause::NotPlace)),
+            _ => Err(expected.flaw(Cause::NotList)),
         };
     }
-    match leaf(scope, part.kind, token) {
-        Some(cause) => Err(part.flaw(cause)),
+    match leaf(scope, expected.kind, token) {
+        Some(cause) => Err(expected.flaw(cause)),
         None => Ok(()),
     }
 }
@@ -286,7 +286,7 @@ fn object(
     reader: &mut Reader<'_>,
     text: &[u8],
     scope: Scope,
-    part: Part,
+    expected: Expected,
     members: Members,
     depth: usize,
 ) -> Result<(), Flaw> {
@@ -298,7 +298,7 @@ fn object(
                 Some(found) => found,
                 None => {
                     return Err(Flaw {
-                        path: part.path,
+                        path: expected.path,
                         cause: Cause::Unknown(InlineText::of(key)),
                         byte,
                     });
@@ -306,7 +306,7 @@ fn object(
             },
             _ => break,
         };
-        let path = part.path.then(Step::Key(key));
+        let path = expected.path.then(Step::Key(key));
         match seen.get_mut(index) {
             Some(mark) if !*mark => *mark = true,
             _ => {
@@ -318,14 +318,14 @@ fn object(
             }
         }
         let byte = begin(text, reader.offset());
-        value(reader, text, scope, Part { kind, path, byte }, depth)?;
+        value(reader, text, scope, Expected { kind, path, byte }, depth)?;
     }
     for (mark, (key, _)) in seen.iter().zip(members.iter()) {
         if !*mark {
             return Err(Flaw {
-                path: part.path.then(Step::Key(*key)),
+                path: expected.path.then(Step::Key(*key)),
                 cause: Cause::Missing,
-                byte: part.byte,
+                byte: expected.byte,
             });
         }
     }
@@ -348,7 +348,7 @@ fn list(
     reader: &mut Reader<'_>,
     text: &[u8],
     scope: Scope,
-    part: Part,
+    expected: Expected,
     kind: Kind,
     depth: usize,
 ) -> Result<(), Flaw> {
@@ -356,9 +356,9 @@ fn list(
         if reader.take_end_array() {
             break;
         }
-        let path = part.path.then(Step::Item(index as u64));
+        let path = expected.path.then(Step::Item(index as u64));
         let byte = begin(text, reader.offset());
-        value(reader, text, scope, Part { kind, path, byte }, depth)?;
+        value(reader, text, scope, Expected { kind, path, byte }, depth)?;
     }
     Ok(())
 }

@@ -6,6 +6,7 @@ pub mod Reading
 pub mod Meeting
 pub mod Bounding
 pub mod Taking
+pub mod Changes
 pub mod Losing
 pub mod Tallying
 pub mod SoleSeat

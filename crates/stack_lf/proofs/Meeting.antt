@@ -4,11 +4,11 @@ use Rattle.std.specs.Prelude.{Result, Ok, Err, IfOk, if◌then◌else◌}
 use Rattle.std.proofs.lemmas.Bool.{cond_both, cond-false, ne_eqb, cases_eq, true≢false}
 use Rattle.commons.specs.Bag.{bag, one}
 use Rattle.commons.proofs.Bags.{bag-append, bag-reverse, bag-nil, bag-cons, bag-single, one-same}
-use Rattle.commons.specs.Calls.{Call, GetList, PutList, Claim, CountOf, Raise, Lower, CommonCount, HasEffect, Did, with_list, back}
+use Rattle.commons.specs.Calls.{Call, GetList, PutList, Claim, CountOf, Raise, Lower, CommonCount, HasEffect, Did, with_list, back, spent}
 use Rattle.commons.specs.declared.limits.Limits.{Limits}
 use Rattle.commons.specs.declared.refusal.Lowered.{Lowered as Answer}
 use Rattle.commons.specs.declared.refusal.Lowered.TheVariants.{Last, Still}
-use Rattle.commons.specs.declared.refusal.Refusal.TheVariants.{NoEntries, Contended, RefSpent}
+use Rattle.commons.specs.declared.refusal.Refusal.TheVariants.{NoEntries, Contended, HeadSpent, RefSpent}
 use Rattle.commons.specs.declared.refusal.Refusal.{Refusal}
 use Rattle.step_core.specs.declared.view.View.{View}
 use Rattle.step_core.specs.Bags.{has, without, still_held}
@@ -16,6 +16,7 @@ use Rattle.step_core.specs.Views.{claimed}
 use Rattle.step_core.proofs.Bags.{times-without}
 use Rattle.step_core.specs.declared.step.Step.TheVariants.{LoadLength, Sole, Claim as ClaimStep}
 use Rattle.step_core.specs.declared.step.Outcome.TheVariants.{Value}
+use Rattle.ground.specs.Changing.{KnowsChanges}
 use Rattle.ground.specs.Seats.{Seated, Note, after, Steps, KnowsLength, KnowsCount}
 use Rattle.stack_lf.specs.Sides.{side_of}
 use Rattle.stack_lf.specs.Tries.{Try, Short, Claimed, Counted, notes, readings_of, IsOfCall, IsContended}
@@ -45,6 +46,7 @@ doing s call t ts v made effect e part alone told order = record {
       tries = ts;
       made = made;
       steps = ap (λ (x : Seated). x.known.steps) e;
+      joined = ap (λ (x : Seated). x.known.joined) e;
       lying = ap (λ (x : Seated). x.known.lying) e;
       order =
           subst (λ (x : Seated). KeepsOrder call s.known.view.hand x.known.view.hand) (sym e) order;
@@ -86,12 +88,21 @@ get_contended : (n : ℕ) (e : Refusal) → IsContended (GetList n (Err e)) → 
 get_contended n Contended c = refl
 get_contended n _ c = absurd c
 
--- what a refused get and a refused raise tell
+-- what a refused get tells
 get_told : (s : Seated) (n : ℕ) (e : Refusal) →
     (◌≡◌ {A = Result (Unit {0}) Refusal} (Err e) (Err NoEntries) → KnowsShort n s) →
+    (◌≡◌ {A = Result (Unit {0}) Refusal} (Err e) (Err HeadSpent) → KnowsChanges s.known spent) →
     IsTold s (GetList n (Err e))
-get_told s n NoEntries told = told refl
-get_told s n _ told = tt
+get_told s n NoEntries short ended = short refl
+get_told s n HeadSpent short ended = ended refl
+get_told s n _ short ended = tt
+
+-- and a refused put
+put_told : (s : Seated) (xs : List ℕ) (e : Refusal) →
+    (◌≡◌ {A = Result (Unit {0}) Refusal} (Err e) (Err HeadSpent) → KnowsChanges s.known spent) →
+    IsTold s (PutList xs (Err e))
+put_told s xs HeadSpent ended = ended refl
+put_told s xs _ ended = tt
 
 -- and a refused raise of a count at the limit
 raise_told : (s : Seated) (i : ℕ) (e : Refusal) →
@@ -113,15 +124,15 @@ raise_contended i _ c = absurd c
 -- what a get did, from what it leaves of the seat
 pub get_did : (n : ℕ) (xs : List ℕ) (r : Result (Unit {0}) Refusal) (s t : Seated) →
     GetsOnWords s.known.limits.tries n xs r s t → (IsAlone s → r ≢ Err Contended) →
-    (r ≡ Err NoEntries → KnowsShort n s) → IfOk r (λ _. KnowsEnough n s) →
-    Did DidOnWords side_of s (GetList n (with_list r xs)) t
-get_did n xs (Ok m) s t g alone told enough =
+    (r ≡ Err NoEntries → KnowsShort n s) → (r ≡ Err HeadSpent → KnowsChanges s.known spent) →
+    IfOk r (λ _. KnowsEnough n s) → Did DidOnWords side_of s (GetList n (with_list r xs)) t
+get_did n xs (Ok m) s t g alone short ended enough =
     doing s (GetList n (Ok xs)) t g.0 _ g.3
     (get_effect s.known.limits.tries n xs (Ok m) s t g) g.4 refl (λ whole c. c) enough refl
-get_did n xs (Err e) s t g alone told enough =
+get_did n xs (Err e) s t g alone short ended enough =
     doing s (GetList n (Err e)) t g.0 _ g.3
     (get_effect s.known.limits.tries n xs (Err e) s t g) g.4 refl
-    (λ whole c. alone whole (ap Err (get_contended n e c))) (get_told s n e told) refl
+    (λ whole c. alone whole (ap Err (get_contended n e c))) (get_told s n e short ended) refl
 
 -- ---- a put
 
@@ -143,14 +154,15 @@ put_effect tries xs (Err e) s t h g = ap side_of g.4
 -- what a put did, from what it leaves of the seat
 pub put_did : (xs : List ℕ) (r : Result (Unit {0}) Refusal) (s t : Seated) →
     ((i : ℕ) → bag xs i ≤ bag s.known.view.hand i) → PutsOnWords s.known.limits.tries xs r s t →
-    (IsAlone s → r ≢ Err Contended) → Did DidOnWords side_of s (PutList xs r) t
-put_did xs (Ok m) s t h g alone =
+    (IsAlone s → r ≢ Err Contended) → (r ≡ Err HeadSpent → KnowsChanges s.known spent) →
+    Did DidOnWords side_of s (PutList xs r) t
+put_did xs (Ok m) s t h g alone ended =
     doing s (PutList xs (Ok m)) t g.0 _ g.3
     (put_effect s.known.limits.tries xs (Ok m) s t h g) g.4 refl (λ whole c. c) tt tt
-put_did xs (Err e) s t h g alone =
+put_did xs (Err e) s t h g alone ended =
     doing s (PutList xs (Err e)) t g.0 _ g.3
     (put_effect s.known.limits.tries xs (Err e) s t h g) g.4 refl
-    (λ whole c. alone whole (ap Err (put_contended xs e c))) tt refl
+    (λ whole c. alone whole (ap Err (put_contended xs e c))) (put_told s xs e ended) refl
 
 -- ---- a count
 

@@ -16,7 +16,7 @@ use Rattle.stack_lf.proofs.Composing.{notes_of-append}
 use Rattle.stack_lf.proofs.Reading.{all_tail}
 
 -- a kind of note that no load, no store and no lost exchange is
-abbrev IsChange : {A : Type 0} → (Step → Outcome → List A) → Type 0
+abbrev pub IsChange : {A : Type 0} → (Step → Outcome → List A) → Type 0
 IsChange {A} f =
     ((v : ℕ) → f LoadLength (Value v) ≡ []) × ((h : Head) → f LoadHead (HeadIs h) ≡ [])
     × ((i v : ℕ) → f (LoadLink i) (Value v) ≡ [])
@@ -25,7 +25,7 @@ IsChange {A} f =
     × ((h : Head) → f Push (LostTo h) ≡ [])
 
 -- those of a kind in the steps of tries
-abbrev in_tries : {A : Type 0} → (Step → Outcome → List A) → List Try → List A
+abbrev pub in_tries : {A : Type 0} → (Step → Outcome → List A) → List Try → List A
 in_tries f ts = in_notes f (notes_of ts)
 
 -- a step that isn't of the kind, before others
@@ -67,7 +67,7 @@ head_then f c h ns more e =
     past f LoadHead (HeadIs h) (ns ++ more) (c.1 h) ∙ past_all f ns more e
 
 -- a reservation that lost has none of the kind
-miss_none : {A : Type 0} (f : Step → Outcome → List A) → IsChange f → (n : ℕ) (x : Try) →
+pub miss_none : {A : Type 0} (f : Step → Outcome → List A) → IsChange f → (n : ℕ) (x : Try) →
     IsLostReserve n x → in_notes f (notes x) ≡ []
 miss_none f c n x h =
     by_eq f x (ReserveFailed n h.0 h.1) [] h.4
@@ -75,7 +75,7 @@ miss_none f c n x h =
     ∙ past f (Reserve h.0 n) (Lost h.1) [] (c.4 n h.0 h.1))
 
 -- nor has a cut that lost
-lost_cut_none : {A : Type 0} (f : Step → Outcome → List A) → IsChange f → (n : ℕ) (x : Try) →
+pub lost_cut_none : {A : Type 0} (f : Step → Outcome → List A) → IsChange f → (n : ℕ) (x : Try) →
     IsLostCut n x → in_notes f (notes x) ≡ []
 lost_cut_none f c n x h = ⊎_elim
     (λ (a : (k : Head) × (ps : Walk) × (length ps < n) × IsWalk k.top ps 0 × (x ≡ Ended k ps)).
@@ -97,7 +97,7 @@ won_cut f c xs x h =
     ∙ ap (λ (l : List ℕ). in_notes f ((Cut, Got l) ∷ [])) (sym h.3))
 
 -- a push that lost has none
-lost_push_none : {A : Type 0} (f : Step → Outcome → List A) → IsChange f → (xs : List ℕ)
+pub lost_push_none : {A : Type 0} (f : Step → Outcome → List A) → IsChange f → (xs : List ℕ)
     (x : Try) → IsLostPush xs x → in_notes f (notes x) ≡ []
 lost_push_none f c xs x h =
     by_eq f x (PushFailed h.0 xs h.1) [] h.3
@@ -119,7 +119,7 @@ spent_none f c x h =
     by_eq f x (Stopped h.0) [] h.2 (past f LoadHead (HeadIs h.0) [] (c.1 h.0))
 
 -- tries of which none has a step of the kind
-none_in : {A : Type 0} (f : Step → Outcome → List A) (P : Try → Type 0) (ts : List Try) →
+pub none_in : {A : Type 0} (f : Step → Outcome → List A) (P : Try → Type 0) (ts : List Try) →
     ((x : Try) → P x → in_notes f (notes x) ≡ []) → All P ts → in_tries f ts ≡ []
 none_in f P [] g h = refl
 none_in f P (x ∷ ts) g h =
@@ -127,7 +127,7 @@ none_in f P (x ∷ ts) g h =
     ∙ none_in f P ts g (all_tail P x ts h)
 
 -- and others behind them
-skip : {A : Type 0} (f : Step → Outcome → List A) (front back : List Try) →
+pub skip : {A : Type 0} (f : Step → Outcome → List A) (front back : List Try) →
     in_tries f front ≡ [] → in_tries f (front ++ back) ≡ in_tries f back
 skip f front back e =
     ap (λ (l : List Note). in_notes f l) (notes_of-append front back)

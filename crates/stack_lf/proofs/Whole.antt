@@ -23,7 +23,7 @@ abbrev pub Cuts : ℕ → ℕ → List ℕ → Result (Unit {0}) Refusal → Sea
 Cuts tries n xs r s t = Repeats tries (IsLostCut n) (EndsCut n xs) r s t
 
 -- what the seat of a reservation that won is
-reserved_seat : (tries n : ℕ) (s t : Seated) (r : Reserves tries n (Ok tt) s t) →
+pub reserved_seat : (tries n : ℕ) (s t : Seated) (r : Reserves tries n (Ok tt) s t) →
     t ≡ tried_to s (r.3.0 ++ Reserved n r.4.0 ∷ [])
     (record (seen_as s.known.view r.3.1 r.3.2) { credit = s.known.view.credit + n })
 reserved_seat tries n s t r =

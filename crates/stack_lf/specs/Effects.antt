@@ -1,5 +1,6 @@
 -- What one try, a loop of tries, and a whole call leave of a seat.
 use Rattle.std.specs.Prelude.{◌≡◌, ◌≢◌, false, ℕ, ◌+◌, ◌-◌, ◌<◌, ◌≤◌, List, [], ◌∷◌, ◌++◌, length, reverse, map, All, Option, Some, None, Result, Ok, Err}
+use Rattle.commons.specs.Calls.{spent}
 use Rattle.commons.specs.declared.refusal.Refusal.{Refusal}
 use Rattle.commons.specs.declared.limits.Limits.{Limits}
 use Rattle.commons.specs.declared.packet.Seg.{Seg}
@@ -12,6 +13,7 @@ use Rattle.step_core.specs.declared.view.Chain.{Chain}
 use Rattle.step_core.specs.declared.view.View.{View}
 use Rattle.step_core.specs.Bags.{minus}
 use Rattle.step_core.specs.Views.{raised, freed, hold_ended, working, opened, seized}
+use Rattle.ground.specs.Changing.{KnowsChanges}
 use Rattle.ground.specs.DeskSeats.{laid}
 use Rattle.ground.specs.Seats.{Seated, after, KnowsLength, KnowsCount, KnowsThere, KnowsEmpty, KnowsFull}
 use Rattle.stack_lf.specs.declared.tried.Tried.{Tried}
@@ -110,7 +112,7 @@ EndsCut n xs (Ok _) s t =
     × (t ≡ after s (notes x) (cut_as xs s.known.view look seen))
 EndsCut n xs (Err HeadSpent) s t =
     (x : Try) × (look : Option Look) × (seen : ℕ) × IsSpent x
-    × (t ≡ after s (notes x) (seen_as s.known.view look seen))
+    × (t ≡ after s (notes x) (seen_as s.known.view look seen)) × KnowsChanges s.known spent
 EndsCut n xs (Err _) s t = ⊥
 
 -- a try to push a list: it has left the hand, or the head was spent
@@ -126,7 +128,7 @@ EndsPush xs (Ok _) s t =
     × (t ≡ after s (notes x) (push_as xs s.known.view look seen))
 EndsPush xs (Err HeadSpent) s t =
     (x : Try) × (look : Option Look) × (seen : ℕ) × IsSpent x
-    × (t ≡ after s (notes x) (seen_as s.known.view look seen))
+    × (t ≡ after s (notes x) (seen_as s.known.view look seen)) × KnowsChanges s.known spent
 EndsPush xs (Err _) s t = ⊥
 
 -- a try to raise a count: one below the reference limit was read and is one more now, or it was at

@@ -10,6 +10,7 @@ use Rattle.commons.specs.declared.refusal.Lowered.TheVariants.{Last, Still}
 use Rattle.step_core.specs.declared.view.Head.{Head}
 use Rattle.step_core.specs.declared.step.Step.TheVariants.{LoadLength, Reserve, Add, LoadHead, LoadLink, Cut, StoreLink, Push, Claim as ClaimStep, Sole, Raise as RaiseStep, Lower as LowerStep, Reset, Hold, Open, Seize, Clear}
 use Rattle.step_core.specs.declared.step.Outcome.TheVariants.{Value, HeadIs, Won, Got, Lost, LostTo, Done, Found}
+use Rattle.ground.specs.Changing.{KnowsChanges}
 use Rattle.ground.specs.Seats.{Seated, Note, element_of, KnowsLength, KnowsCount, laid_on, KnowsThere, KnowsEmpty, KnowsFull}
 use Rattle.step_core.specs.World.{every_part}
 
@@ -278,13 +279,16 @@ abbrev pub KnowsLowered : ℕ → Answer → Seated → Type 0
 KnowsLowered i Last s = KnowsCount s.known i 1
 KnowsLowered i Still s = (count : ℕ) × (1 < count) × KnowsCount s.known i count
 
--- What a call's answer tells its seat of the length and of a count that were read, and of what lies
--- on a desk: what the only seat of a pool knows of each.
+-- What a call's answer tells its seat of the length and of a count that were read, of how often the
+-- stack was changed where it can't be again, and of what lies on a desk: what the only seat of a pool
+-- knows of each.
 abbrev pub IsTold : Seated → Call → Type 0
 IsTold s (GetList n (Ok xs)) = KnowsEnough n s
 IsTold s (GetList n (Err NoEntries)) = KnowsShort n s
+IsTold s (GetList n (Err HeadSpent)) = KnowsChanges s.known spent
 IsTold s (GetList n (Err _)) = Unit {0}
-IsTold s (PutList xs answer) = Unit {0}
+IsTold s (PutList xs (Err HeadSpent)) = KnowsChanges s.known spent
+IsTold s (PutList xs _) = Unit {0}
 IsTold s (Claim i) = Unit {0}
 IsTold s (CountOf i n) = KnowsCount s.known i n
 IsTold s (Raise i (Ok _)) = KnowsRaised i s
@@ -332,10 +336,12 @@ pub record DidOnWords (s : Seated) (call : Call) (rs : List Reading) (t : Seated
   pub tries : List Try
   pub made : IsOfCall s.known.limits call tries
   pub steps : t.known.steps ≡ s.known.steps ++ notes_of tries
+  pub joined : t.known.joined ≡ s.known.joined
   pub lying : t.known.lying ≡ lying_after call s.known.lying
   pub order : KeepsOrder call s.known.view.hand t.known.view.hand
   pub read : rs ≡ readings_of tries
   -- the only seat of a pool is in nobody's way
   pub alone : s.known.view.part ≡ every_part s.known.limits → IsContended call → ⊥
-  -- and knows what lies on the desks, and what a length and a count are
+  -- and knows what lies on the desks, what a length and a count are, and how often the stack was
+  -- changed
   pub told : IsTold s call

@@ -2,6 +2,8 @@
 
 ghost use Rattle.std.specs.Prelude.{◌≡◌, ◌≢◌, ◌<◌, ◌≤◌, Err, Some, None, length, IfOk, IfSome, IfNone};
 ghost use Rattle.commons.specs.Bounds.{max_population};
+ghost use Rattle.commons.specs.Calls.{spent};
+ghost use Rattle.ground.specs.Changing.{KnowsChanges};
 ghost use Rattle.ground.specs.Seats.{IsOf, KnowsEnd};
 ghost use Rattle.stack_lf.specs.Tries.{Walk, elements, IsLostReserve, IsLostCut, KnowsShort, KnowsEnough};
 ghost use Rattle.stack_lf.specs.Effects.{IsAlone, start, Walked, EndsReserve, EndsCut, GetsOnWords};
@@ -110,6 +112,7 @@ pub(crate) fn get(ground: &Ground, seat: &mut GroundSeat, out: &mut [u32]) -> Re
     requires some { 1 ≤ length out.old }
     ensures got { GetsOnWords ground.now.limits.tries (length out.old) out.new result seat.old seat.new }
     ensures told { result ≡ Err Refusal.NoEntries → KnowsShort (length out.old) seat.old }
+    ensures ended { result ≡ Err Refusal.HeadSpent → KnowsChanges seat.old.known spent }
     ensures enough { IfOk result (λ _. KnowsEnough (length out.old) seat.old) }
     ensures alone { IsAlone seat.old → result ≢ Err Refusal.Contended }
 {

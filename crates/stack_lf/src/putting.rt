@@ -3,6 +3,8 @@
 ghost use Rattle.std.specs.Prelude.{◌≡◌, ◌≢◌, ◌<◌, ◌≤◌, Err, None, length, ℕ};
 ghost use Rattle.commons.specs.Bag.{bag};
 ghost use Rattle.commons.specs.Bounds.{max_population};
+ghost use Rattle.commons.specs.Calls.{spent};
+ghost use Rattle.ground.specs.Changing.{KnowsChanges};
 ghost use Rattle.ground.specs.Seats.{IsOf};
 ghost use Rattle.stack_lf.specs.Effects.{IsAlone, Stored, EndsPush, PutsOnWords};
 ghost use Rattle.stack_lf.specs.Tries.{IsLostPush, last_of};
@@ -76,6 +78,7 @@ pub(crate) fn put(ground: &Ground, seat: &mut GroundSeat, list: &[u32]) -> Resul
     requires hand { (i : ℕ) → bag list.now i ≤ bag seat.old.known.view.hand i }
     requires chain { seat.old.known.view.chain ≡ None }
     ensures put { PutsOnWords ground.now.limits.tries list.now result seat.old seat.new }
+    ensures ended { result ≡ Err Refusal.HeadSpent → KnowsChanges seat.old.known spent }
     ensures alone { IsAlone seat.old → result ≢ Err Refusal.Contended }
 {
     match by_tries(ground, seat, Push { list }, &mut []) {

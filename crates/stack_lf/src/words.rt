@@ -74,7 +74,8 @@ impl<'a> WordCommons<'a> {
 
 /// Each call takes as many steps at most as is said here, each one atomic operation on one word; an
 /// offer and a take that succeed also exchange what is in the desk's slot. The length of a list is
-/// `n`. The only seat of a pool, which has every part of it, is never refused `Contended`.
+/// `n`. The only seat of a pool, which has every part of it, is never refused `Contended`, and
+/// `HeadSpent` only where the start and its own changes have come to the spent count.
 impl<'a> Commons for WordCommons<'a> {
     ghost side = { λ c. side_of c.seat };
 

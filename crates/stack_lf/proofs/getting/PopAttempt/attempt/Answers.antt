@@ -1,7 +1,9 @@
-use Rattle.std.proofs.Common.{◌≡◌, inl, inr, ◌+◌, refl, sym, ap, ◌∙◌, subst, arith, length}
+use Rattle.std.proofs.Common.{◌≡◌, ℕ, inl, inr, ◌+◌, refl, sym, ap, ◌∙◌, subst, arith, length}
 use Rattle.std.proofs.lemmas.List.{length-map}
 use Rattle.std.specs.Prelude.{None, Some}
 use Rattle.commons.specs.declared.limits.Limits.{Limits}
+use Rattle.commons.specs.Calls.{spent}
+use Rattle.ground.specs.Changing.{KnowsChanges}
 use Rattle.ground.specs.Seats.{Seated}
 use Rattle.step_core.specs.declared.step.Outcome.TheVariants.{LostTo}
 use Rattle.stack_lf.specs.Effects.{IsAlone, start}
@@ -14,9 +16,12 @@ use Rattle.step_core.specs.World.{every_part}
 -- the head was read, and is spent
 pub returns-then-head-ge-SPENT-clause-one : goal.returns-then-head-ge-SPENT-clause-one
 returns-then-head-ge-SPENT-clause-one c =
-    let h = c.load_head-head.result in (
+    let h = c.load_head-head.result in
+    let is : h.count ≡ spent = omega arith in
+    let changes : KnowsChanges c.args.seat.now.known spent =
+    subst (λ (m : ℕ). KnowsChanges c.args.seat.now.known m) is c.load_head-head.ensures.changes in (
       spent_other,
-      (Stopped h, Some (start h), h.count, (h, omega arith, refl), c.load_head-head.ensures.step),
+      (Stopped h, Some (start h), h.count, (h, is, refl), c.load_head-head.ensures.step, changes),
     )
 
 -- the walk ended before its last place

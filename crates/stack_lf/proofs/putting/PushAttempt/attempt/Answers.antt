@@ -1,6 +1,8 @@
-use Rattle.std.proofs.Common.{◌+◌, ◌∙◌, ap, refl, arith}
+use Rattle.std.proofs.Common.{◌≡◌, ℕ, ◌+◌, ◌∙◌, ap, refl, subst, arith}
 use Rattle.std.specs.Prelude.{None, Some}
+use Rattle.commons.specs.Calls.{spent}
 use Rattle.commons.specs.declared.limits.Limits.{Limits}
+use Rattle.ground.specs.Changing.{KnowsChanges}
 use Rattle.stack_lf.specs.Effects.{start}
 use Rattle.stack_lf.specs.Tries.{Stopped, Pushed, PushFailed, IsLostPush}
 use Rattle.stack_lf.proofs.Composing.{lost_once, spent_other}
@@ -11,9 +13,12 @@ use Rattle.step_core.specs.World.{every_part}
 -- the head was read, and is spent
 pub returns-then-head-ge-SPENT-clause-one : goal.returns-then-head-ge-SPENT-clause-one
 returns-then-head-ge-SPENT-clause-one c =
-    let h = c.load_head-head.result in (
+    let h = c.load_head-head.result in
+    let is : h.count ≡ spent = omega arith in
+    let changes : KnowsChanges c.args.seat.now.known spent =
+    subst (λ (m : ℕ). KnowsChanges c.args.seat.now.known m) is c.load_head-head.ensures.changes in (
       spent_other,
-      (Stopped h, Some (start h), h.count, (h, omega arith, refl), c.load_head-head.ensures.step),
+      (Stopped h, Some (start h), h.count, (h, is, refl), c.load_head-head.ensures.step, changes),
     )
 
 -- the list is linked to the top of a head that isn't spent

@@ -13,7 +13,7 @@ returns c =
     subst (λ (l : Limits). GetsOnWords l.tries n c.get-answer.new.out c.get-answer.result me.seat c.get-answer.new.seat)
     (sym me.of.limits) c.get-answer.ensures.got in
     let d = get_did n c.get-answer.new.out c.get-answer.result me.seat c.get-answer.new.seat got (search rules) c.get-answer.ensures.told
-    c.get-answer.ensures.enough in
+    c.get-answer.ensures.ended c.get-answer.ensures.enough in
     record {
       did = record {
         readings = d.readings;

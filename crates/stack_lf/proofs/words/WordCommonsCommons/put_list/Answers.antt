@@ -12,7 +12,7 @@ returns c =
     subst (λ (l : Limits). PutsOnWords l.tries c.args.list.now c.put-answer.result me.seat c.put-answer.new.seat)
     (sym me.of.limits) c.put-answer.ensures.put in
     let d = put_did c.args.list.now c.put-answer.result me.seat c.put-answer.new.seat c.requires.in_hand put
-    (search rules) in
+    (search rules) c.put-answer.ensures.ended in
     record {
       did = record {
         readings = d.readings;

@@ -1,7 +1,7 @@
 use Rattle.commons.specs.declared.limits.Limits.{Limits}
 use Rattle.json.specs.Value.{members_view}
 use Rattle.snapshot_json.proofs.Dumps.{limits_read}
-use Rattle.snapshot_json.proofs.dumped.LimitsPart.read.Goals as goal
+use Rattle.snapshot_json.proofs.dumped.LimitsDumped.read.Goals as goal
 
 pub returns : goal.returns
 returns c =

@@ -1,6 +1,6 @@
 use Rattle.std.proofs.Common.{Some, ap, sym, ◌∙◌}
 use Rattle.snapshot_json.proofs.Dumps.{count_read}
-use Rattle.snapshot_json.proofs.dumped.U64Part.read.Goals as goal
+use Rattle.snapshot_json.proofs.dumped.U64Dumped.read.Goals as goal
 
 -- the digits are the number's
 pub returns-then-is_written : goal.returns-then-is_written
