@@ -1,7 +1,9 @@
 /* bare.c - what stands below DPDK's own mempool handlers, without a mempool: rte_stack,
  * lock-free and with a lock, and rte_ring. Their elements are pointers to words, in which
  * checks mark them. */
+#ifndef ALLOW_EXPERIMENTAL_API
 #define ALLOW_EXPERIMENTAL_API /* the exchange of 128 bits, which the lock-free stack has in line */
+#endif
 #include <stdlib.h>
 #include <string.h>
 

@@ -4,7 +4,9 @@
  *     ./bench [OPTION ..] [-- WORD OF EAL ..]
  *
  * README.md has the options, the workloads and how to read what is printed. */
+#ifndef _GNU_SOURCE
 #define _GNU_SOURCE /* for the set of processors */
+#endif
 #include <ctype.h>
 #include <getopt.h>
 #include <inttypes.h>

@@ -5,15 +5,11 @@
 #include <stdlib.h>
 #include <string.h>
 
-#include <rte_version.h>
-
 #include "dump_view.h"
+#include "releases.h"
 
 #define MAX_WORKERS 64
 #define MAX_GUESTS 8192 /* for each worker */
-
-/* What a put does where a cache is full: since 22.11 it flushes the whole cache. */
-#define PUT_RULE (RTE_VERSION >= RTE_VERSION_NUM(22, 11, 0, 0))
 
 /* Marks of an element: it is free, a `next` leads to it, it is in a packet that was found. */
 #define IS_FREE 1

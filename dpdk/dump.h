@@ -41,6 +41,9 @@
  *   - -E2BIG: The pool has no objects, or more than 16,777,214; or more than 524,288 holds of them
  *     are for packets of other pools.
  *   - -ENOTSUP: What this handler's objects lie in isn't known.
+ *   - -EPROTO: DPDK was built with other options when it made the pool than when this was built, by
+ *     which the pool's caches lie elsewhere: another RTE_MAX_LCORE or RTE_MEMPOOL_CACHE_MAX_SIZE,
+ *     or a mempool's checks or statistics.
  *   - -EFAULT: The list of the pool's objects leads out of its memory: what is in front of one of them
  *     was overwritten.
  *   - -EACCES: This is a secondary process, and the primary doesn't share the pool's memory.

@@ -4,7 +4,9 @@
  * mempool's name. So a secondary process can, to which the primary's ops_index says nothing. What a
  * damaged or changing structure leads to isn't followed out of its memzone. */
 /* (functions that are in line in rte_stack.h call one that is experimental) */
+#ifndef ALLOW_EXPERIMENTAL_API
 #define ALLOW_EXPERIMENTAL_API
+#endif
 
 #include <inttypes.h>
 #include <stddef.h>
@@ -22,16 +24,15 @@
 
 /* ---- which one it is ---- */
 
-/* Where a memzone of this name begins with pool_data, how long it is; else 0. */
-static size_t
-bytes_of(const struct rte_mempool *mp, const char *prefix)
+size_t
+dump_common_bytes(const struct rte_mempool *mp, const char *prefix, const void *at)
 {
 	char name[2 * RTE_MEMZONE_NAMESIZE];
 	const struct rte_memzone *zone;
 
 	snprintf(name, sizeof(name), "%s" RTE_MEMPOOL_MZ_FORMAT, prefix, mp->name);
 	zone = rte_memzone_lookup(name);
-	return zone != NULL && zone->addr == mp->pool_data ? zone->len : 0;
+	return zone != NULL && zone->addr == at ? zone->len : 0;
 }
 
 static void
@@ -68,10 +69,12 @@ recognise_stack(struct view *v, size_t bytes)
 void
 dump_common_recognise(struct view *v)
 {
+	const struct rte_mempool *mp = v->mp;
+
 	v->kind = COMMON_UNKNOWN;
-	recognise_ring(v, bytes_of(v->mp, RTE_RING_MZ_PREFIX));
+	recognise_ring(v, dump_common_bytes(mp, RTE_RING_MZ_PREFIX, mp->pool_data));
 	if (v->kind == COMMON_UNKNOWN)
-		recognise_stack(v, bytes_of(v->mp, RTE_STACK_MZ_PREFIX));
+		recognise_stack(v, dump_common_bytes(mp, RTE_STACK_MZ_PREFIX, mp->pool_data));
 }
 
 int

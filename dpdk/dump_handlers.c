@@ -4,7 +4,9 @@
  * copy of the library's (as a program that names a library's variable most often has), else of
  * librte_mempool.so. Its address is that in the file's table of symbols, on from where the file is
  * mapped. */
+#ifndef _GNU_SOURCE
 #define _GNU_SOURCE
+#endif
 #include <ctype.h>
 #include <elf.h>
 #include <fcntl.h>

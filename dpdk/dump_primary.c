@@ -1,5 +1,7 @@
 /* dump_primary.c - see dump_primary.h. */
+#ifndef _GNU_SOURCE
 #define _GNU_SOURCE
+#endif
 #include <ctype.h>
 #include <dirent.h>
 #include <errno.h>

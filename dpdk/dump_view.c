@@ -1,5 +1,7 @@
 /* dump_view.c - a mempool of mbufs, copied as far as a dump needs it: see dump_view.h. */
+#ifndef _GNU_SOURCE
 #define _GNU_SOURCE
+#endif
 #include <dlfcn.h>
 #include <errno.h>
 #include <stdlib.h>
@@ -119,6 +121,18 @@ dump_lands_find(struct lands *lands, const void *at, size_t bytes)
 }
 
 /* ---- the objects of a pool ---- */
+
+/* Whether a mempool is as long as the DPDK makes one that this was built with. In one of another build
+ * the caches are of another size, or of another number of lcores, or stand elsewhere. */
+static int
+is_laid_out_alike(const struct rte_mempool *mp)
+{
+	size_t bytes = dump_common_bytes(mp, "", mp),
+	       own = RTE_MEMPOOL_HEADER_SIZE(mp, mp->cache_size) + mp->private_data_size;
+
+	/* (a memzone that isn't found, as the name was overwritten, says nothing) */
+	return bytes == 0 || bytes == RTE_ALIGN_CEIL(own, (size_t)RTE_MEMPOOL_ALIGN);
+}
 
 /* Whether objects are as large as mbufs, and there is what a pool of mbufs says of itself. */
 static int
@@ -308,6 +322,8 @@ dump_view_open(struct view *v, struct rte_mempool *mp)
 	int ret;
 
 	v->mp = mp;
+	if (!is_laid_out_alike(mp))
+		return -EPROTO;
 	if (!has_mbufs(mp))
 		return -EINVAL;
 	v->size = mp->populated_size;
@@ -370,6 +386,8 @@ void
 dump_view_glance(struct view *v, struct rte_mempool *mp)
 {
 	v->mp = mp;
+	if (!is_laid_out_alike(mp))
+		return;
 	dump_common_recognise(v);
 	dump_common_glance(v);
 	count_cached(v);

@@ -105,6 +105,10 @@ struct rte_mempool *dump_lands_find(struct lands *lands, const void *at, size_t 
 
 /* ---- dump_common.c: each of these reads, and calls nothing of the pool ---- */
 
+/* How long the memzone is that begins at this address, and is named after the mempool behind `prefix`;
+ * 0 where there is none. */
+size_t dump_common_bytes(const struct rte_mempool *mp, const char *prefix, const void *at);
+
 /* Says how the common part is read, and `capacity`. */
 void dump_common_recognise(struct view *v);
 

@@ -1,5 +1,7 @@
 /* guard_log.c - the lines that the handler "mbufpool_guard" logs. */
+#ifndef _GNU_SOURCE
 #define _GNU_SOURCE /* dladdr1 */
+#endif
 #include <dlfcn.h>
 #include <execinfo.h>
 #include <inttypes.h>

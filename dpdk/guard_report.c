@@ -10,6 +10,7 @@
 
 #include "guard_pool.h"
 #include "mempool_guard.h"
+#include "releases.h"
 
 #define PORTION 256	  /* elements that are looked at under one lock */
 #define TELEMETRY_LINES 64 /* so that an answer fits into what telemetry sends */
@@ -261,12 +262,12 @@ tell_pool(struct guard_pool *p, struct rte_tel_data *data)
 	tell_tallies(&t, lines, &rest);
 	rte_tel_data_start_dict(data);
 	rte_tel_data_add_dict_string(data, "pool", p->mp->name);
-	rte_tel_data_add_dict_u64(data, "objects", p->known);
-	rte_tel_data_add_dict_u64(data, "out", t.out);
-	rte_tel_data_add_dict_u64(
+	rte_tel_data_add_dict_uint(data, "objects", p->known);
+	rte_tel_data_add_dict_uint(data, "out", t.out);
+	rte_tel_data_add_dict_uint(
 		data, "refused", __atomic_load_n(&p->refused, __ATOMIC_RELAXED));
 	rte_tel_data_add_dict_container(data, "got_by", lines, 0);
-	rte_tel_data_add_dict_u64(data, "got_by_others", rest);
+	rte_tel_data_add_dict_uint(data, "got_by_others", rest);
 	free(t.all);
 	return 0;
 }

@@ -7,7 +7,9 @@
  *
  * First all is looked up and each file is opened; then the pools are copied, for which the primary may
  * be stopped, and nothing is called that takes a lock; then the copies are written. */
+#ifndef _GNU_SOURCE
 #define _GNU_SOURCE
+#endif
 #include <errno.h>
 #include <getopt.h>
 #include <inttypes.h>
@@ -111,6 +113,9 @@ reason(int err)
 	case -ENOTSUP:
 		return "its handler keeps what is free in memory of the program's own: the program itself "
 		       "has to dump it (libmbufpool_dump.so)";
+	case -EPROTO:
+		return "the program's DPDK was built with other options than this tool's: another "
+		       "RTE_MAX_LCORE or RTE_MEMPOOL_CACHE_MAX_SIZE, or a mempool's checks or statistics";
 	case -EACCES:
 		return "its objects are in memory that the program doesn't share";
 	case -EFAULT:

@@ -6,7 +6,9 @@
  * A line is `size STRUCTURE BYTES`, `field STRUCTURE.FIELD OFFSET BYTES`, `value NAME NUMBER` or
  * `version TEXT`. The handlers' own structures are read in place of their headers, as they have none;
  * nothing of a handler is called, or linked. */
+#ifndef ALLOW_EXPERIMENTAL_API
 #define ALLOW_EXPERIMENTAL_API /* what rte_stack.h has in line calls one */
+#endif
 #include <inttypes.h>
 #include <stddef.h>
 #include <stdint.h>
@@ -18,7 +20,6 @@
 #include <rte_ring.h>
 #include <rte_stack.h>
 #include <rte_tailq.h>
-#include <rte_version.h>
 
 /* The handlers, which aren't registered here. */
 #undef RTE_MEMPOOL_REGISTER_OPS
@@ -27,6 +28,7 @@
 #pragma GCC diagnostic ignored "-Wunused-variable"
 #include "mempool_mbufpool.c"
 #include "guard_pool.h"
+#include "releases.h"
 
 #define SIZE(type) printf("size " #type " %zu\n", sizeof(struct type))
 #define FIELD(type, field)                                                                         \
@@ -176,8 +178,7 @@ int
 main(void)
 {
 	printf("version %s\n", RTE_VER_PREFIX " " RTE_STR(RTE_VER_YEAR) "." RTE_STR(RTE_VER_MONTH));
-	/* What a put does where a cache is full, as in dump.c. */
-	print_value("PUT_RULE", RTE_VERSION >= RTE_VERSION_NUM(22, 11, 0, 0));
+	VALUE(PUT_RULE);
 	print_lists();
 	print_mempools();
 	print_handlers();

@@ -17,7 +17,9 @@
  *
  * Limits: at most 16,777,214 objects, 64 chunks of memory, one process, and 63 lcores with a worker
  * of their own. */
+#ifndef _GNU_SOURCE
 #define _GNU_SOURCE
+#endif
 #include <errno.h>
 #include <stdlib.h>
 

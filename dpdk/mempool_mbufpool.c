@@ -21,7 +21,9 @@
  *
  * Limits: at most 16,777,214 places (numbers.h), 64 chunks, one process, and 63 lcores that are users
  * of their own. */
+#ifndef _GNU_SOURCE
 #define _GNU_SOURCE
+#endif
 #include <errno.h>
 #include <pthread.h>
 #include <stdlib.h>
@@ -34,9 +36,11 @@
 #include <rte_mempool.h>
 #include <rte_pause.h>
 #include <rte_spinlock.h>
+#include <rte_thread.h>
 
 #include "checked.h"
 #include "numbers.h"
+#include "releases.h"
 
 /* (in one unit with this, so that a usual get and put of the pool are in line) */
 #include "../c/renewing.c"
@@ -125,6 +129,41 @@ log_told(void *context, enum mbufpool_renewing_told what, uint32_t cause)
 
 /* ---- the life of a pool ---- */
 
+#if HAS_THREAD_CREATE_CONTROL
+/* What a thread runs, in the form in which a pool names it. */
+struct work {
+	void *(*run)(void *);
+	void *arg;
+};
+
+static uint32_t
+run_work(void *given)
+{
+	const struct work work = *(struct work *)given;
+
+	free(given);
+	work.run(work.arg);
+	return 0;
+}
+
+static int
+start_control_thread(void *context, void *(*run)(void *), void *arg)
+{
+	struct work *work = malloc(sizeof(*work));
+	rte_thread_t thread;
+
+	RTE_SET_USED(context);
+	if (work == NULL)
+		return -1;
+	*work = (struct work){ run, arg };
+	if (rte_thread_create_control(&thread, "mbufpool-renew", run_work, work) != 0) {
+		free(work);
+		return -1;
+	}
+	rte_thread_detach(thread);
+	return 0;
+}
+#else
 static int
 start_control_thread(void *context, void *(*run)(void *), void *arg)
 {
@@ -136,6 +175,7 @@ start_control_thread(void *context, void *(*run)(void *), void *arg)
 	pthread_detach(thread);
 	return 0;
 }
+#endif
 
 /* Each enabled lcore is a user, as long as there are some. Returns how many users there are. */
 static uint32_t

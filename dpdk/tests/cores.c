@@ -10,7 +10,9 @@
  *   damage  overwrites something and stops, and puts it right again, for each of `damages`.
  *   crash   frees an mbuf twice without a cache, stops, frees one twice into the cache of its last lcore,
  *           and reads its second segment there, which is NULL by then. */
+#ifndef ALLOW_EXPERIMENTAL_API
 #define ALLOW_EXPERIMENTAL_API /* what rte_stack.h has in line calls one */
+#endif
 #include <limits.h>
 #include <signal.h>
 #include <stdio.h>
