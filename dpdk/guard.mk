@@ -2,8 +2,8 @@
 
 guard := librte_mempool_mbufpool_guard.so
 guard_sources := mempool_guard.c guard_log.c guard_report.c guard_way.c
-guard_headers := mempool_guard.h guard_pool.h object_numbers.h registering.h releases.h \
-	$(top)/include/mbufpool.h
+guard_headers := mempool_guard.h guard_pool.h object_numbers.h one_process.h registering.h \
+	releases.h $(top)/include/mbufpool.h
 
 all: $(guard) guard_faults
 

@@ -6,6 +6,7 @@
 #include <stdlib.h>
 #include <string.h>
 
+#include <rte_eal.h>
 #include <rte_telemetry.h>
 
 #include "guard_pool.h"
@@ -55,7 +56,8 @@ guard_list_remove(struct guard_pool *p)
 static struct guard_pool *
 pool_of(const struct rte_mempool *mp)
 {
-	if (strcmp(rte_mempool_get_ops(mp->ops_index)->name, MBUFPOOL_GUARD_OPS) != 0)
+	if (strcmp(rte_mempool_get_ops(mp->ops_index)->name, MBUFPOOL_GUARD_OPS) != 0 ||
+		rte_eal_process_type() != RTE_PROC_PRIMARY)
 		return NULL;
 	return mp->pool_data;
 }

@@ -15,8 +15,8 @@
  *
  * An element's number is its object's in rte_mempool_obj_iter().
  *
- * Limits: at most 16,777,214 objects, 64 chunks of memory, one process, and 63 lcores with a worker
- * of their own. */
+ * Limits: at most 16,777,214 objects, 64 chunks of memory, the primary process (one_process.h), and 63
+ * lcores with a worker of their own. */
 #ifndef _GNU_SOURCE
 #define _GNU_SOURCE
 #endif
@@ -30,6 +30,7 @@
 
 #include "guard_pool.h"
 #include "mempool_guard.h"
+#include "one_process.h"
 
 #define MAX_SIZE 16777214
 #define TRIES 1000000
@@ -133,10 +134,12 @@ end_pool(struct guard_pool *p)
 }
 
 static int
-handler_alloc(struct rte_mempool *mp)
+make_pool(struct rte_mempool *mp)
 {
 	struct guard_pool *p;
 
+	if (is_of_primary_alone(mp))
+		return -ENOTSUP;
 	if (mp->size > MAX_SIZE)
 		return -EINVAL;
 	guard_way_begin();
@@ -164,7 +167,7 @@ handler_free(struct rte_mempool *mp)
 {
 	struct guard_pool *p = mp->pool_data;
 
-	if (p == NULL)
+	if (p == NULL || is_of_primary_alone(mp))
 		return;
 	mp->pool_data = NULL;
 	guard_list_remove(p);
@@ -489,9 +492,12 @@ handler_populate(struct rte_mempool *mp, unsigned int max_objs, void *vaddr, rte
 	unsigned int lcore = rte_lcore_id();
 	caller by = caller_of(lcore, __builtin_return_address(0));
 	struct guard_pool *p = mp->pool_data;
-	uint32_t known = p->known;
+	uint32_t known;
 	int populated;
 
+	if (is_of_primary_alone(mp))
+		return -ENOTSUP;
+	known = p->known;
 	if (!object_chunk_begin(&p->places))
 		return -ENOSPC;
 	p->filling = (uintptr_t)vaddr;
@@ -546,13 +552,23 @@ handler_get_count(const struct rte_mempool *mp)
 	return p->size - out;
 }
 
+static int
+handler_alloc(struct rte_mempool *mp)
+{
+	int err = make_pool(mp);
+
+	if (err == 0)
+		set_calls(mp, handler_enqueue, handler_dequeue, handler_get_count);
+	return err;
+}
+
 static struct rte_mempool_ops guard_ops = {
 	.name = MBUFPOOL_GUARD_OPS,
 	.alloc = handler_alloc,
 	.free = handler_free,
-	.enqueue = handler_enqueue,
-	.dequeue = handler_dequeue,
-	.get_count = handler_get_count,
+	.enqueue = put_unmade,
+	.dequeue = get_unmade,
+	.get_count = count_unmade,
 	.populate = handler_populate,
 };
 

@@ -30,7 +30,7 @@ extern "C" {
  * Each object is looked at once, while others may get and put: what is out all the time is counted.
  * It may be called by any thread, and takes 8 bytes of memory for each object and 16 for each
  * place while it runs. Answers 0, or
- *   -EINVAL  the mempool isn't on this handler, or has no objects yet
+ *   -EINVAL  the mempool isn't on this handler, or has no objects yet, or this isn't the primary process
  *   -ENOMEM  there is no memory for it, which is written as one line
  *   -EIO     it can't be written */
 MBUFPOOL_GUARD_EXPORT int mbufpool_guard_report(FILE *out, const struct rte_mempool *mp);

@@ -19,8 +19,8 @@
  * MBUFPOOL_CHANGES=N in the environment is for tests: the stacks of a mempool that is made then begin N
  * changes before their end, or as many as its renewal takes.
  *
- * Limits: at most 16,777,214 places (numbers.h), 64 chunks, one process, and 63 lcores that are users
- * of their own. */
+ * Limits: at most 16,777,214 places (numbers.h), 64 chunks, the primary process (one_process.h), and 63
+ * lcores that are users of their own. */
 #ifndef _GNU_SOURCE
 #define _GNU_SOURCE
 #endif
@@ -40,6 +40,7 @@
 
 #include "checked.h"
 #include "numbers.h"
+#include "one_process.h"
 #include "releases.h"
 
 /* (in one unit with this, so that a usual get and put of the pool are in line) */
@@ -256,6 +257,8 @@ pool_alloc(struct rte_mempool *mp, int is_checked)
 	struct pool *p;
 	int err;
 
+	if (is_of_primary_alone(mp))
+		return -ENOTSUP;
 	p = rte_zmalloc_socket("mbufpool", sizeof(*p), RTE_CACHE_LINE_SIZE, mp->socket_id);
 	if (p == NULL)
 		return -ENOMEM;
@@ -276,23 +279,11 @@ pool_alloc(struct rte_mempool *mp, int is_checked)
 	return 0;
 }
 
-static int
-handler_alloc(struct rte_mempool *mp)
-{
-	return pool_alloc(mp, 0);
-}
-
-static int
-checked_alloc(struct rte_mempool *mp)
-{
-	return pool_alloc(mp, 1);
-}
-
 /* (a mempool that never had objects has no pool) */
 static void
 handler_free(struct rte_mempool *mp)
 {
-	if (mp->pool_data == NULL)
+	if (mp->pool_data == NULL || is_of_primary_alone(mp))
 		return;
 	free_pool(mp->pool_data);
 	mp->pool_data = NULL;
@@ -308,6 +299,8 @@ handler_populate(struct rte_mempool *mp, unsigned int max_objs, void *vaddr, rte
 	struct pool *p = mp->pool_data;
 	int populated;
 
+	if (is_of_primary_alone(mp))
+		return -ENOTSUP;
 	if (!object_chunk_begin(&p->numbers.places))
 		return -ENOSPC;
 	populated = rte_mempool_op_populate_default(
@@ -494,13 +487,35 @@ handler_get_count(const struct rte_mempool *mp)
 	return count;
 }
 
+/* ---- the handlers ---- */
+
+static int
+handler_alloc(struct rte_mempool *mp)
+{
+	int err = pool_alloc(mp, 0);
+
+	if (err == 0)
+		set_calls(mp, handler_enqueue, handler_dequeue, handler_get_count);
+	return err;
+}
+
+static int
+checked_alloc(struct rte_mempool *mp)
+{
+	int err = pool_alloc(mp, 1);
+
+	if (err == 0)
+		set_calls(mp, checked_enqueue, checked_dequeue, handler_get_count);
+	return err;
+}
+
 static struct rte_mempool_ops mbufpool_ops = {
 	.name = "mbufpool",
 	.alloc = handler_alloc,
 	.free = handler_free,
-	.enqueue = handler_enqueue,
-	.dequeue = handler_dequeue,
-	.get_count = handler_get_count,
+	.enqueue = put_unmade,
+	.dequeue = get_unmade,
+	.get_count = count_unmade,
 	.populate = handler_populate,
 };
 
@@ -508,9 +523,9 @@ static struct rte_mempool_ops checked_ops = {
 	.name = "mbufpool_checked",
 	.alloc = checked_alloc,
 	.free = handler_free,
-	.enqueue = checked_enqueue,
-	.dequeue = checked_dequeue,
-	.get_count = handler_get_count,
+	.enqueue = put_unmade,
+	.dequeue = get_unmade,
+	.get_count = count_unmade,
 	.populate = handler_populate,
 };
 
