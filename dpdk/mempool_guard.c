@@ -465,23 +465,26 @@ static void
 put_new(struct guard_pool *p, uint32_t from, unsigned int lcore, caller by)
 {
 	struct worker *own = own_worker(p, lcore);
-	uint32_t n = p->known - from, most = n, few[BURST], *list, i, k;
-	uint64_t few_words[BURST], *words;
+	uint32_t n = p->known - from, most = n, few[BURST], *all, *list, i, k;
+	uint64_t few_words[BURST], *all_words, *words;
 
 	if (n == 0)
 		return;
-	list = calloc(n, sizeof(*list));
-	words = calloc(n, sizeof(*words));
-	if (list == NULL || words == NULL)
+	list = all = calloc(n, sizeof(*all));
+	words = all_words = calloc(n, sizeof(*all_words));
+	if (all == NULL || all_words == NULL) {
+		list = few;
+		words = few_words;
 		most = BURST;
+	}
 	for (; from < p->known; from += k) {
 		k = RTE_MIN(p->known - from, most);
 		for (i = 0; i < k; i++)
-			(most == n ? list : few)[i] = from + i;
-		put(p, own, most == n ? list : few, most == n ? words : few_words, k, by);
+			list[i] = from + i;
+		put(p, own, list, words, k, by);
 	}
-	free(list);
-	free(words);
+	free(all);
+	free(all_words);
 }
 
 /* A memory chunk is to be filled with objects. */
