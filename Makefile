@@ -2,7 +2,8 @@
 #
 #   make                              builds it all below build/
 #   make install PREFIX=/usr/local    copies it below $(DESTDIR)$(PREFIX), and the plugins to where
-#                                     DPDK looks for them
+#                                     DPDK looks for them; below another PREFIX than /usr and
+#                                     /usr/local the plugins go there, too
 #   make uninstall PREFIX=/usr/local  removes what was installed there
 #   make dist                         build/mbufpool-VERSION-x86_64-linux.tar.xz, with all of it, for
 #                                     machines without the Rattle kit
@@ -38,7 +39,9 @@ WITH_DPDK ?= $(shell pkg-config --exists libdpdk 2>/dev/null && echo yes || echo
 ifeq ($(WITH_DPDK),yes)
 drivers := $(shell echo RTE_EAL_PMD_PATH | $(CC) -E -P -include rte_build_config.h \
 	$(shell pkg-config --cflags libdpdk) - | tail -n 1 | tr -d '"')
+ifneq ($(filter /usr /usr/local,$(or $(PREFIX:%/=%),/usr/local))$(filter $(PREFIX:%/=%)/%,$(drivers)),)
 DPDK_DRIVERS ?= $(drivers)
+endif
 plugins := dpdk/librte_mempool_mbufpool.so dpdk/librte_mempool_mbufpool_guard.so
 dump := dpdk/libmbufpool_dump.so
 dump_header := dpdk/dump.h=mbufpool_dump.h
