@@ -26,6 +26,12 @@
  *   before it, too; and where a comment says so, a get or a put of no elements by such a handle is
  *   answered 0.
  *
+ *   NULL for a handle is answered as a handle with zeros is, and a call that ends a handle does nothing
+ *   then: in each call but those of bare and of checked seats. Where it is the handle that the call would
+ *   give something, it is refused by MBUFPOOL_STRANGER before all else. The test for it is in line, in a
+ *   macro of the call's name: a call by the function's address, or written as
+ *   (mbufpool_worker_free)(worker, slot), goes without.
+ *
  *   Memory is taken, and MBUFPOOL_NO_MEMORY answered, by the calls that open, split or close a pool
  *   alone; the two that write a statement take some for a while, and answer 0 where there is none. A
  *   pool's memory is freed with its last seat or worker, or when it is closed.
@@ -35,7 +41,8 @@
  *   handles    A handle begins as zeros (MBUFPOOL_NONE), and is then changed by the calls below
  *              alone. It is not copied: two structs with one pointer are two owners of one seat.
  *              One thread at a time uses it; it passes to another thread by a lock, a thread's
- *              start or join, or a sequentially consistent atomic.
+ *              start or join, or a sequentially consistent atomic. It is NULL only where that is
+ *              answered, as is said above.
  *   closing    One thread at a time closes a pool: no two calls of mbufpool_worker_close that run
  *              at once are given workers of one pool.
  *   memory     `out` has room for n of its kind and `list` has n numbers; where n is 0 nothing is
@@ -99,8 +106,8 @@ enum mbufpool_refusal {
 	MBUFPOOL_DESK_TAKEN = 15,
 	MBUFPOOL_DESK_EMPTY = 16,
 	MBUFPOOL_NO_SUCH_DESK = 17,
-	MBUFPOOL_STRANGER = 19,		/**< the handle has no seat or worker, or the pool has no more of
-					 * them */
+	MBUFPOOL_STRANGER = 19,		/**< the handle is NULL or has no seat or worker, or the pool has
+					 * no more of them */
 	MBUFPOOL_SAME_PACKET = 23,
 	MBUFPOOL_NOT_IN_HAND = 24,	/**< (checked seats alone) the list names what the seat hasn't got, or
 					 * something twice */
@@ -467,6 +474,7 @@ struct mbufpool_guard { void *at; };
  *   mbufpool_guard_end. Where the call is refused, it stays.
  * @return
  *   - 0: the pool is made.
+ *   - MBUFPOOL_STRANGER: `out` is NULL.
  *   - MBUFPOOL_BAD_POOL: one of the four numbers is out of range.
  *   - MBUFPOOL_NO_MEMORY: there is none for the words, for the places of the elements that are out, or
  *     for the worker, whose cache has room for the whole population.
@@ -483,6 +491,7 @@ uint32_t mbufpool_guard_open(uint32_t population, uint32_t cache, uint32_t worke
  *   As mbufpool_seat_open_at has it.
  * @return
  *   - 0: the pool is made.
+ *   - MBUFPOOL_STRANGER: `out` is NULL.
  *   - MBUFPOOL_BAD_POOL: one of the five numbers is out of range.
  *   - MBUFPOOL_NO_MEMORY: as mbufpool_guard_open; some is asked for after the changes are taken.
  *   - MBUFPOOL_HEAD_SPENT: there aren't two changes left.
@@ -499,6 +508,7 @@ uint32_t mbufpool_guard_open_at(uint32_t population, uint32_t cache, uint32_t wo
  *   Gets the new worker, as mbufpool_guard_open's does.
  * @return
  *   - 0: `out` has a worker.
+ *   - MBUFPOOL_STRANGER: also where `out` is NULL.
  *   - MBUFPOOL_STRANGER, MBUFPOOL_LENT_OUT: as mbufpool_seat_split, of workers.
  *   - MBUFPOOL_NO_MEMORY: memory was refused. Where it is the last of what a split asks for, the pool can
  *     make one worker fewer from then on, as if one was made and ended.
@@ -656,6 +666,7 @@ struct mbufpool_segment { uint32_t element, buffer; uint16_t off, len, buf; };
  *   How many handles: limits->workers.
  * @return
  *   - 0: the pool is made.
+ *   - MBUFPOOL_STRANGER: `out` is NULL, and n isn't 0.
  *   - MBUFPOOL_BAD_POOL: n isn't limits->workers, or a limit is out of range.
  *   - MBUFPOOL_NO_MEMORY: memory was refused; each worker's cache has room for the whole population.
  */
@@ -1005,7 +1016,8 @@ struct mbufpool_statement { void *at; };
  * @return
  *   - 0: the pool is closed.
  *   Each handle keeps its worker where the answer is one of
- *   - MBUFPOOL_STRANGER: no handle has a worker, or one has a worker of another pool than the first's.
+ *   - MBUFPOOL_STRANGER: `workers` or `out` is NULL, no handle has a worker, or one has a worker of
+ *     another pool than the first's.
  *   - MBUFPOOL_IN_USE: a worker of the pool is in another handle.
  *   - MBUFPOOL_NO_MEMORY: there is no memory for what a closing takes.
  *   The pool is ended, each handle has zeros and nothing is told where it is one of
@@ -1077,6 +1089,328 @@ size_t mbufpool_statement_lost(struct mbufpool_statement *statement, uint32_t *o
  *   What the pool left; the handle has zeros then.
  */
 void mbufpool_statement_end(struct mbufpool_statement *statement);
+
+/* NULL for a handle: of each call of a guarded pool, of packets and of what a pool left, the test and the
+ * macro that makes it. The functions above, which the library exports, are owed a handle. */
+
+static inline uint32_t mbufpool_nullable_guard_open(uint32_t population, uint32_t cache,
+	uint32_t workers, uint32_t tries, struct mbufpool_guard *out)
+{
+	if (out == NULL)
+		return MBUFPOOL_STRANGER;
+	return mbufpool_guard_open(population, cache, workers, tries, out);
+}
+
+static inline uint32_t mbufpool_nullable_guard_open_at(uint32_t population, uint32_t cache,
+	uint32_t workers, uint32_t tries, uint64_t start, struct mbufpool_guard *out)
+{
+	if (out == NULL)
+		return MBUFPOOL_STRANGER;
+	return mbufpool_guard_open_at(population, cache, workers, tries, start, out);
+}
+
+static inline uint32_t mbufpool_nullable_guard_split(struct mbufpool_guard *worker,
+	struct mbufpool_guard *out)
+{
+	if (worker == NULL || out == NULL)
+		return MBUFPOOL_STRANGER;
+	return mbufpool_guard_split(worker, out);
+}
+
+static inline uint32_t mbufpool_nullable_guard_get(struct mbufpool_guard *worker, uint64_t who,
+	uint32_t *out, size_t n)
+{
+	if (worker == NULL) {
+		struct mbufpool_guard none = MBUFPOOL_NONE;
+
+		return mbufpool_guard_get(&none, who, out, n);
+	}
+	return mbufpool_guard_get(worker, who, out, n);
+}
+
+static inline uint32_t mbufpool_nullable_guard_put(struct mbufpool_guard *worker, uint32_t *list,
+	size_t n, uint64_t *words, size_t words_n, uint64_t *taken)
+{
+	if (worker == NULL) {
+		struct mbufpool_guard none = MBUFPOOL_NONE;
+
+		return mbufpool_guard_put(&none, list, n, words, words_n, taken);
+	}
+	return mbufpool_guard_put(worker, list, n, words, words_n, taken);
+}
+
+static inline uint64_t mbufpool_nullable_guard_changes_left(struct mbufpool_guard *worker)
+{
+	if (worker == NULL)
+		return 0;
+	return mbufpool_guard_changes_left(worker);
+}
+
+static inline uint64_t mbufpool_nullable_guard_who(struct mbufpool_guard *worker, uint32_t element)
+{
+	if (worker == NULL)
+		return 0;
+	return mbufpool_guard_who(worker, element);
+}
+
+static inline uint64_t mbufpool_nullable_guard_out(struct mbufpool_guard *worker)
+{
+	if (worker == NULL)
+		return 0;
+	return mbufpool_guard_out(worker);
+}
+
+static inline void mbufpool_nullable_guard_end(struct mbufpool_guard *worker)
+{
+	if (worker != NULL)
+		mbufpool_guard_end(worker);
+}
+
+static inline uint32_t mbufpool_nullable_worker_open(const struct mbufpool_limits *limits,
+	struct mbufpool_worker *out, size_t n)
+{
+	if (out == NULL && n != 0)
+		return MBUFPOOL_STRANGER;
+	return mbufpool_worker_open(limits, out, n);
+}
+
+static inline void mbufpool_nullable_worker_end(struct mbufpool_worker *worker)
+{
+	if (worker != NULL)
+		mbufpool_worker_end(worker);
+}
+
+static inline uint32_t mbufpool_nullable_worker_alloc(struct mbufpool_worker *worker,
+	struct mbufpool_packet *out)
+{
+	if (worker == NULL)
+		return MBUFPOOL_STRANGER;
+	return mbufpool_worker_alloc(worker, out);
+}
+
+static inline uint32_t mbufpool_nullable_worker_alloc_bulk(struct mbufpool_worker *worker,
+	struct mbufpool_packet *out, size_t n)
+{
+	if (worker == NULL)
+		return MBUFPOOL_STRANGER;
+	return mbufpool_worker_alloc_bulk(worker, out, n);
+}
+
+static inline uint32_t mbufpool_nullable_worker_free(struct mbufpool_worker *worker, uint32_t slot)
+{
+	if (worker == NULL)
+		return MBUFPOOL_STRANGER;
+	return mbufpool_worker_free(worker, slot);
+}
+
+static inline uint32_t mbufpool_nullable_worker_append(struct mbufpool_worker *worker,
+	uint32_t slot, uint16_t len, uint32_t *pkt_len)
+{
+	if (worker == NULL)
+		return MBUFPOOL_STRANGER;
+	return mbufpool_worker_append(worker, slot, len, pkt_len);
+}
+
+static inline uint32_t mbufpool_nullable_worker_prepend(struct mbufpool_worker *worker,
+	uint32_t slot, uint16_t len, uint32_t *pkt_len)
+{
+	if (worker == NULL)
+		return MBUFPOOL_STRANGER;
+	return mbufpool_worker_prepend(worker, slot, len, pkt_len);
+}
+
+static inline uint32_t mbufpool_nullable_worker_adj(struct mbufpool_worker *worker, uint32_t slot,
+	uint16_t len, uint32_t *pkt_len)
+{
+	if (worker == NULL)
+		return MBUFPOOL_STRANGER;
+	return mbufpool_worker_adj(worker, slot, len, pkt_len);
+}
+
+static inline uint32_t mbufpool_nullable_worker_trim(struct mbufpool_worker *worker, uint32_t slot,
+	uint16_t len, uint32_t *pkt_len)
+{
+	if (worker == NULL)
+		return MBUFPOOL_STRANGER;
+	return mbufpool_worker_trim(worker, slot, len, pkt_len);
+}
+
+static inline uint32_t mbufpool_nullable_worker_chain(struct mbufpool_worker *worker, uint32_t head,
+	uint32_t tail)
+{
+	if (worker == NULL)
+		return MBUFPOOL_STRANGER;
+	return mbufpool_worker_chain(worker, head, tail);
+}
+
+static inline uint32_t mbufpool_nullable_worker_attach(struct mbufpool_worker *worker,
+	uint32_t slot, uint32_t target)
+{
+	if (worker == NULL)
+		return MBUFPOOL_STRANGER;
+	return mbufpool_worker_attach(worker, slot, target);
+}
+
+static inline uint32_t mbufpool_nullable_worker_detach(struct mbufpool_worker *worker,
+	uint32_t slot)
+{
+	if (worker == NULL)
+		return MBUFPOOL_STRANGER;
+	return mbufpool_worker_detach(worker, slot);
+}
+
+static inline uint32_t mbufpool_nullable_worker_clone(struct mbufpool_worker *worker, uint32_t slot,
+	struct mbufpool_packet *out)
+{
+	if (worker == NULL)
+		return MBUFPOOL_STRANGER;
+	return mbufpool_worker_clone(worker, slot, out);
+}
+
+static inline uint32_t mbufpool_nullable_worker_offer(struct mbufpool_worker *worker, uint32_t slot,
+	uint32_t desk)
+{
+	if (worker == NULL)
+		return MBUFPOOL_STRANGER;
+	return mbufpool_worker_offer(worker, slot, desk);
+}
+
+static inline uint32_t mbufpool_nullable_worker_take(struct mbufpool_worker *worker, uint32_t desk,
+	uint32_t *slot)
+{
+	if (worker == NULL)
+		return MBUFPOOL_STRANGER;
+	return mbufpool_worker_take(worker, desk, slot);
+}
+
+static inline uint32_t mbufpool_nullable_worker_refcnt(struct mbufpool_worker *worker,
+	uint32_t slot, uint32_t *references)
+{
+	if (worker == NULL)
+		return MBUFPOOL_STRANGER;
+	return mbufpool_worker_refcnt(worker, slot, references);
+}
+
+static inline uint32_t mbufpool_nullable_worker_pkt_len(struct mbufpool_worker *worker,
+	uint32_t slot, uint32_t *pkt_len)
+{
+	if (worker == NULL)
+		return MBUFPOOL_STRANGER;
+	return mbufpool_worker_pkt_len(worker, slot, pkt_len);
+}
+
+static inline uint32_t mbufpool_nullable_worker_nb_segs(struct mbufpool_worker *worker,
+	uint32_t slot, uint32_t *segments)
+{
+	if (worker == NULL)
+		return MBUFPOOL_STRANGER;
+	return mbufpool_worker_nb_segs(worker, slot, segments);
+}
+
+static inline uint32_t mbufpool_nullable_worker_segment(struct mbufpool_worker *worker,
+	uint32_t slot, uint32_t index, struct mbufpool_segment *out)
+{
+	if (worker == NULL)
+		return MBUFPOOL_STRANGER;
+	return mbufpool_worker_segment(worker, slot, index, out);
+}
+
+static inline uint32_t mbufpool_nullable_worker_flush(struct mbufpool_worker *worker)
+{
+	if (worker == NULL)
+		return MBUFPOOL_STRANGER;
+	return mbufpool_worker_flush(worker);
+}
+
+static inline uint64_t mbufpool_nullable_worker_changes_left(struct mbufpool_worker *worker)
+{
+	if (worker == NULL)
+		return 0;
+	return mbufpool_worker_changes_left(worker);
+}
+
+static inline uint32_t mbufpool_nullable_worker_close(struct mbufpool_worker *workers, size_t n,
+	struct mbufpool_statement *out)
+{
+	if ((workers == NULL && n != 0) || out == NULL)
+		return MBUFPOOL_STRANGER;
+	return mbufpool_worker_close(workers, n, out);
+}
+
+static inline uint32_t mbufpool_nullable_statement_counts(struct mbufpool_statement *statement,
+	struct mbufpool_counts *out)
+{
+	if (statement == NULL)
+		return MBUFPOOL_STRANGER;
+	return mbufpool_statement_counts(statement, out);
+}
+
+static inline size_t mbufpool_nullable_statement_text(struct mbufpool_statement *statement,
+	char *buf, size_t len)
+{
+	if (statement == NULL)
+		return 0;
+	return mbufpool_statement_text(statement, buf, len);
+}
+
+static inline size_t mbufpool_nullable_statement_json(struct mbufpool_statement *statement,
+	char *buf, size_t len)
+{
+	if (statement == NULL)
+		return 0;
+	return mbufpool_statement_json(statement, buf, len);
+}
+
+static inline size_t mbufpool_nullable_statement_lost(struct mbufpool_statement *statement,
+	uint32_t *out, size_t n)
+{
+	if (statement == NULL)
+		return 0;
+	return mbufpool_statement_lost(statement, out, n);
+}
+
+static inline void mbufpool_nullable_statement_end(struct mbufpool_statement *statement)
+{
+	if (statement != NULL)
+		mbufpool_statement_end(statement);
+}
+
+#define mbufpool_guard_open(...) mbufpool_nullable_guard_open(__VA_ARGS__)
+#define mbufpool_guard_open_at(...) mbufpool_nullable_guard_open_at(__VA_ARGS__)
+#define mbufpool_guard_split(...) mbufpool_nullable_guard_split(__VA_ARGS__)
+#define mbufpool_guard_get(...) mbufpool_nullable_guard_get(__VA_ARGS__)
+#define mbufpool_guard_put(...) mbufpool_nullable_guard_put(__VA_ARGS__)
+#define mbufpool_guard_changes_left(...) mbufpool_nullable_guard_changes_left(__VA_ARGS__)
+#define mbufpool_guard_who(...) mbufpool_nullable_guard_who(__VA_ARGS__)
+#define mbufpool_guard_out(...) mbufpool_nullable_guard_out(__VA_ARGS__)
+#define mbufpool_guard_end(...) mbufpool_nullable_guard_end(__VA_ARGS__)
+#define mbufpool_worker_open(...) mbufpool_nullable_worker_open(__VA_ARGS__)
+#define mbufpool_worker_end(...) mbufpool_nullable_worker_end(__VA_ARGS__)
+#define mbufpool_worker_alloc(...) mbufpool_nullable_worker_alloc(__VA_ARGS__)
+#define mbufpool_worker_alloc_bulk(...) mbufpool_nullable_worker_alloc_bulk(__VA_ARGS__)
+#define mbufpool_worker_free(...) mbufpool_nullable_worker_free(__VA_ARGS__)
+#define mbufpool_worker_append(...) mbufpool_nullable_worker_append(__VA_ARGS__)
+#define mbufpool_worker_prepend(...) mbufpool_nullable_worker_prepend(__VA_ARGS__)
+#define mbufpool_worker_adj(...) mbufpool_nullable_worker_adj(__VA_ARGS__)
+#define mbufpool_worker_trim(...) mbufpool_nullable_worker_trim(__VA_ARGS__)
+#define mbufpool_worker_chain(...) mbufpool_nullable_worker_chain(__VA_ARGS__)
+#define mbufpool_worker_attach(...) mbufpool_nullable_worker_attach(__VA_ARGS__)
+#define mbufpool_worker_detach(...) mbufpool_nullable_worker_detach(__VA_ARGS__)
+#define mbufpool_worker_clone(...) mbufpool_nullable_worker_clone(__VA_ARGS__)
+#define mbufpool_worker_offer(...) mbufpool_nullable_worker_offer(__VA_ARGS__)
+#define mbufpool_worker_take(...) mbufpool_nullable_worker_take(__VA_ARGS__)
+#define mbufpool_worker_refcnt(...) mbufpool_nullable_worker_refcnt(__VA_ARGS__)
+#define mbufpool_worker_pkt_len(...) mbufpool_nullable_worker_pkt_len(__VA_ARGS__)
+#define mbufpool_worker_nb_segs(...) mbufpool_nullable_worker_nb_segs(__VA_ARGS__)
+#define mbufpool_worker_segment(...) mbufpool_nullable_worker_segment(__VA_ARGS__)
+#define mbufpool_worker_flush(...) mbufpool_nullable_worker_flush(__VA_ARGS__)
+#define mbufpool_worker_changes_left(...) mbufpool_nullable_worker_changes_left(__VA_ARGS__)
+#define mbufpool_worker_close(...) mbufpool_nullable_worker_close(__VA_ARGS__)
+#define mbufpool_statement_counts(...) mbufpool_nullable_statement_counts(__VA_ARGS__)
+#define mbufpool_statement_text(...) mbufpool_nullable_statement_text(__VA_ARGS__)
+#define mbufpool_statement_json(...) mbufpool_nullable_statement_json(__VA_ARGS__)
+#define mbufpool_statement_lost(...) mbufpool_nullable_statement_lost(__VA_ARGS__)
+#define mbufpool_statement_end(...) mbufpool_nullable_statement_end(__VA_ARGS__)
 
 #ifdef __cplusplus
 }

@@ -1,7 +1,7 @@
 /* any_numbers.c - every call of the library with any numbers: slots without a packet, desks that
- * there are not, lengths too great, elements that were never got, handles without a worker. What
- * is answered is held against what must be so, and at the end of a pool every element can be had
- * again. (A bare seat is put what was got and not put since, as its contract asks.)
+ * there are not, lengths too great, elements that were never got, handles without a worker, and NULL
+ * for a handle. What is answered is held against what must be so, and at the end of a pool every
+ * element can be had again. (A bare seat is put what was got and not put since, as its contract asks.)
  *
  *     make any_numbers && ./any_numbers [CALLS [THREADS [SEED]]]
  *
@@ -334,23 +334,94 @@ static void look_at_ending(struct thread *t, struct mbufpool_statement *e)
 
 /* ---- handles without an owner, and pools that there can't be ---- */
 
+/* Each call of a worker by a handle without one, which may be NULL: a stranger's, and what it would
+ * have written is as it was. */
+static void call_no_worker(struct thread *t, struct mbufpool_worker *w)
+{
+	struct mbufpool_segment s = { 7, 7, 7, 7, 7 };
+	struct mbufpool_packet p[4] = { { 7, 7 }, { 7, 7 }, { 7, 7 }, { 7, 7 } };
+	uint32_t a = any(t), b = any(t), n = 77, i;
+
+	MUST(mbufpool_worker_alloc(w, p) == MBUFPOOL_STRANGER);
+	MUST(mbufpool_worker_alloc_bulk(w, p, 4) == MBUFPOOL_STRANGER);
+	MUST(mbufpool_worker_clone(w, a, p) == MBUFPOOL_STRANGER);
+	for (i = 0; i < 4; i++)
+		MUST(p[i].slot == 7 && p[i].element == 7);
+	MUST(mbufpool_worker_free(w, a) == MBUFPOOL_STRANGER);
+	MUST(mbufpool_worker_append(w, a, 1, &n) == MBUFPOOL_STRANGER);
+	MUST(mbufpool_worker_prepend(w, a, 1, &n) == MBUFPOOL_STRANGER);
+	MUST(mbufpool_worker_adj(w, a, 1, &n) == MBUFPOOL_STRANGER);
+	MUST(mbufpool_worker_trim(w, a, 1, &n) == MBUFPOOL_STRANGER);
+	MUST(mbufpool_worker_chain(w, a, b) == MBUFPOOL_STRANGER);
+	MUST(mbufpool_worker_attach(w, a, b) == MBUFPOOL_STRANGER);
+	MUST(mbufpool_worker_detach(w, a) == MBUFPOOL_STRANGER);
+	MUST(mbufpool_worker_offer(w, a, b) == MBUFPOOL_STRANGER);
+	MUST(mbufpool_worker_take(w, a, &n) == MBUFPOOL_STRANGER);
+	MUST(mbufpool_worker_refcnt(w, a, &n) == MBUFPOOL_STRANGER);
+	MUST(mbufpool_worker_pkt_len(w, a, &n) == MBUFPOOL_STRANGER);
+	MUST(mbufpool_worker_nb_segs(w, a, &n) == MBUFPOOL_STRANGER && n == 77);
+	MUST(mbufpool_worker_segment(w, a, b, &s) == MBUFPOOL_STRANGER && s.element == 7 && s.buf == 7);
+	MUST(mbufpool_worker_flush(w) == MBUFPOOL_STRANGER);
+	MUST(mbufpool_worker_changes_left(w) == 0);
+	mbufpool_worker_end(w);
+	t->calls += 20;
+}
+
+/* The same of a worker of a guarded pool; what comes before a stranger comes before NULL, too. */
+static void call_no_guard(struct thread *t, struct mbufpool_guard *g)
+{
+	struct mbufpool_guard other = MBUFPOOL_NONE;
+	uint32_t list[2] = { 5, 6 };
+	uint64_t words[2] = { 8, 9 }, taken = 77;
+
+	MUST(mbufpool_guard_split(g, &other) == MBUFPOOL_STRANGER && other.at == NULL);
+	MUST(mbufpool_guard_split(&other, g) == MBUFPOOL_STRANGER && other.at == NULL);
+	MUST(mbufpool_guard_get(g, 1, list, 2) == MBUFPOOL_NOBODY);
+	MUST(mbufpool_guard_get(g, 2, list, 2) == MBUFPOOL_STRANGER);
+	MUST(mbufpool_guard_put(g, list, 2, words, 1, &taken) == MBUFPOOL_NO_ROOM && taken == 0);
+	MUST(mbufpool_guard_put(g, list, 2, words, 2, &taken) == MBUFPOOL_STRANGER && taken == 0);
+	MUST(list[0] == 5 && list[1] == 6 && words[0] == 8 && words[1] == 9);
+	MUST(mbufpool_guard_changes_left(g) == 0 && mbufpool_guard_who(g, list[0]) == 0);
+	MUST(mbufpool_guard_out(g) == 0);
+	mbufpool_guard_end(g);
+	t->calls += 10;
+}
+
+/* Nothing is given to a handle that is NULL, and nothing is done. */
+static void open_none(struct thread *t)
+{
+	struct mbufpool_limits l = { 9, 3, 1, 0, 64, 1, 10 };
+	struct mbufpool_worker one = MBUFPOOL_NONE;
+	struct mbufpool_statement e = MBUFPOOL_NONE;
+
+	MUST(mbufpool_guard_open(9, 3, 1, 10, NULL) == MBUFPOOL_STRANGER);
+	MUST(mbufpool_guard_open(0, 3, 1, 10, NULL) == MBUFPOOL_STRANGER);
+	MUST(mbufpool_guard_open_at(9, 3, 1, 10, 0, NULL) == MBUFPOOL_STRANGER);
+	MUST(mbufpool_worker_open(&l, NULL, 1) == MBUFPOOL_STRANGER);
+	MUST(mbufpool_worker_open(&l, NULL, 0) == MBUFPOOL_BAD_POOL);
+	MUST(mbufpool_worker_open(&l, &one, 1) == 0);
+	MUST(mbufpool_worker_close(&one, 1, NULL) == MBUFPOOL_STRANGER && one.at != NULL);
+	MUST(mbufpool_worker_close(NULL, 1, &e) == MBUFPOOL_STRANGER && e.at == NULL);
+	MUST(mbufpool_worker_close(NULL, 0, &e) == MBUFPOOL_STRANGER && e.at == NULL);
+	MUST(mbufpool_worker_close(&one, 1, &e) == 0 && e.at != NULL);
+	mbufpool_statement_end(NULL);
+	mbufpool_statement_end(&e);
+	t->calls += 10;
+}
+
 static void call_none(struct thread *t)
 {
 	struct mbufpool_worker none = MBUFPOOL_NONE;
+	struct mbufpool_guard no_guard = MBUFPOOL_NONE;
 	struct mbufpool_seat no_seat = MBUFPOOL_NONE, other = MBUFPOOL_NONE;
 	struct mbufpool_statement no_ending = MBUFPOOL_NONE;
-	struct mbufpool_packet p[4];
-	uint32_t a = any(t), b = any(t), n = 77;
+	uint32_t n = 77;
 
-	MUST(mbufpool_worker_alloc(&none, p) == MBUFPOOL_STRANGER);
-	MUST(mbufpool_worker_alloc_bulk(&none, p, 4) == MBUFPOOL_STRANGER);
-	MUST(mbufpool_worker_free(&none, a) == MBUFPOOL_STRANGER);
-	MUST(mbufpool_worker_append(&none, a, 1, &n) == MBUFPOOL_STRANGER && n == 77);
-	MUST(mbufpool_worker_chain(&none, a, b) == MBUFPOOL_STRANGER);
-	MUST(mbufpool_worker_offer(&none, a, b) == MBUFPOOL_STRANGER);
-	MUST(mbufpool_worker_take(&none, a, &n) == MBUFPOOL_STRANGER && n == 77);
-	MUST(mbufpool_worker_flush(&none) == MBUFPOOL_STRANGER);
-	mbufpool_worker_end(&none);
+	call_no_worker(t, &none);
+	call_no_worker(t, NULL);
+	call_no_guard(t, &no_guard);
+	call_no_guard(t, NULL);
+	open_none(t);
 	MUST(mbufpool_seat_split(&no_seat, &other) == MBUFPOOL_STRANGER && other.at == NULL);
 	MUST(mbufpool_seat_get(&no_seat, &n, 1) == MBUFPOOL_STRANGER && n == 77);
 	MUST(mbufpool_seat_put(&no_seat, &n, 1) == MBUFPOOL_STRANGER);
@@ -358,8 +429,9 @@ static void call_none(struct thread *t)
 	MUST(mbufpool_worker_close(&none, 1, &no_ending) == MBUFPOOL_STRANGER && no_ending.at == NULL);
 	MUST(mbufpool_worker_close(&none, 0, &no_ending) == MBUFPOOL_STRANGER);
 	look_at_ending(t, &no_ending);
+	look_at_ending(t, NULL);
 	mbufpool_statement_end(&no_ending);
-	t->calls += 14;
+	t->calls += 6;
 }
 
 /* Whether there can be a pool of these limits, by the header. */
