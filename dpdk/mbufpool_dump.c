@@ -29,6 +29,7 @@
 #include <rte_service_component.h>
 #include <rte_version.h>
 
+#include "dump_alike.h"
 #include "dump_findings.h"
 #include "dump_handlers.h"
 #include "dump_primary.h"
@@ -46,14 +47,16 @@
 struct options {
 	const char *prefix, *pool, *file, *folder, *audit;
 	unsigned int times, every; /* how often, and how many milliseconds apart */
-	int is_stop;
+	int is_stop, is_each;
 	char **eal;
 	int nb_eal;
 };
 
-/* A pool that is dumped, and the files for it: FILE, and in FILE.workers whose caches there are. */
+/* A pool that is dumped, and the files for it: FILE, and in FILE.workers whose caches there are. The
+ * looks are of its last snapshot. */
 struct job {
 	struct view view;
+	struct looks looks;
 	char name[RTE_MEMPOOL_NAMESIZE];
 	char file[FILE_NAME];
 	FILE *out, *workers;
@@ -79,13 +82,15 @@ static const char help[] =
 	"\n"
 	"  --file-prefix PREFIX  that of the program: rte where it has none\n"
 	"  --stop                stops the program while its memory is copied\n"
-	"  --times N             N snapshots, FILE.1 to FILE.N, and what stands in all of them\n"
+	"  --times N             N snapshots, FILE.1 to FILE.N: how many of them have a fault, which\n"
+	"                        faults are in all of them, and which packets stay, grouped\n"
 	"  --every MS            milliseconds between two of them: 1000\n"
+	"  --each                a line for each packet that stays\n"
 	"  --audit PROGRAM       what audits them: mbufpool, where it is on the PATH\n"
 	"  --help, --version\n"
 	"\n"
 	"Nothing is got from a mempool or put, and none is written to. `mbufpool audit FILE` says where\n"
-	"each mbuf is. Status: 0; 1 failed; 2 wrong use; 3 a fault is in all of N snapshots.\n";
+	"each mbuf is. Status: 0; 1 failed; 2 wrong use; 3 each of N snapshots has a fault.\n";
 
 /* ---- what is said ---- */
 
@@ -152,9 +157,10 @@ number(const char *word, unsigned int least, unsigned int most, unsigned int *ou
 static const struct option words[] = {
 	{"file-prefix", required_argument, NULL, 'p'}, {"all", required_argument, NULL, 'a'},
 	{"stop", no_argument, NULL, 's'},	       {"times", required_argument, NULL, 't'},
-	{"every", required_argument, NULL, 'e'},       {"audit", required_argument, NULL, 'u'},
-	{"proc-type", required_argument, NULL, 'y'},   {"help", no_argument, NULL, 'h'},
-	{"version", no_argument, NULL, 'v'},	       {NULL, 0, NULL, 0},
+	{"every", required_argument, NULL, 'e'},       {"each", no_argument, NULL, 'c'},
+	{"audit", required_argument, NULL, 'u'},       {"proc-type", required_argument, NULL, 'y'},
+	{"help", no_argument, NULL, 'h'},	       {"version", no_argument, NULL, 'v'},
+	{NULL, 0, NULL, 0},
 };
 
 static int
@@ -176,6 +182,9 @@ read_option(int option)
 	case 'e':
 		return number(optarg, 0, 3600000, &o.every) == 0 ? 0
 				: wrong("--every is 0 to 3600000 milliseconds, not ", optarg);
+	case 'c':
+		o.is_each = 1;
+		return 0;
 	case 'u':
 		o.audit = optarg;
 		return 0;
@@ -562,6 +571,20 @@ rest(void)
 	nanosleep(&moment, NULL);
 }
 
+/* Looks at the packets of the last snapshot, while their data are at hand. */
+static int
+look_at_packets(struct jobs *jobs)
+{
+	struct job *job;
+
+	for (job = jobs->all; job < jobs->all + jobs->count; job++)
+		if (looks_take(&job->looks, &job->view) != 0) {
+			say("there is too little memory");
+			return FAILED;
+		}
+	return 0;
+}
+
 static int
 dump_times(struct jobs *jobs)
 {
@@ -574,10 +597,42 @@ dump_times(struct jobs *jobs)
 		if (ended_by == 0)
 			ret = dump_once(jobs, round);
 	}
-	return ret;
+	return ret != 0 || o.times == 1 || ended_by != 0 ? ret : look_at_packets(jobs);
 }
 
 /* ---- what stands in all of them ---- */
+
+/* Writes what was found of a pool. */
+static int
+write_findings(const struct findings *found, const struct job *job)
+{
+	const struct lines packets = findings_packets(found);
+	char file[FILE_NAME + 16];
+	size_t k;
+
+	findings_write_faults(stdout, found, job->name);
+	if (findings_are_faulty(found) && found->faults.count == 0) {
+		name_file(file, sizeof(file), job, o.times);
+		printf("another one each time: mbufpool audit %s --all\n", file);
+	}
+	if (!o.is_each)
+		return looks_write(stdout, &packets, &job->looks, &job->view);
+	for (k = 0; k < packets.count; k++)
+		printf("stays: %s\n", packets.all[k].text);
+	return 0;
+}
+
+/* Why the snapshots of a pool weren't audited. */
+static void
+say_not_audited(const struct job *job, const char *program, const char *said, int err)
+{
+	if (err == -ENOTSUP)
+		say("the snapshots of %s aren't audited: this %s doesn't know `audit FILE --all`, take a "
+		    "newer one (--audit PROGRAM)", job->name, program);
+	else
+		say("the snapshots of %s aren't audited by %s: %s", job->name, program,
+		    err != -EPROTO ? strerror(-err) : said != NULL ? said : "it says nothing of them");
+}
 
 /* Audits the snapshots of a pool, and writes what is in all of them. */
 static int
@@ -593,7 +648,11 @@ find_in_job(const struct job *job, const char *program)
 		ret = findings_add(&found, program, file);
 	}
 	if (ret == 0)
-		ret = findings_write(stdout, &found, job->name) > 0 ? FOUND : 0;
+		ret = write_findings(&found, job);
+	if (ret == 0)
+		ret = findings_are_faulty(&found) ? FOUND : 0;
+	else if (ret != -ENOENT || o.audit != NULL)
+		say_not_audited(job, program, found.said, ret);
 	findings_end(&found);
 	return ret;
 }
@@ -611,11 +670,8 @@ find_in_all(const struct jobs *jobs)
 			say("there is no mbufpool on the PATH: the snapshots are written, and not audited");
 			return 0;
 		}
-		if (ret < 0) {
-			say("the snapshots of %s aren't audited by %s: %s", job->name, program,
-			    ret == -EPROTO ? "it says nothing of them" : strerror(-ret));
+		if (ret < 0)
 			return FAILED;
-		}
 		found = RTE_MAX(found, ret);
 	}
 	return fflush(stdout) == 0 ? found : FAILED;
@@ -673,8 +729,10 @@ serve(pid_t primary)
 	rte_eal_cleanup();
 	if (o.times > 1 && ended_by == 0)
 		found = find_in_all(&jobs);
-	for (i = 0, count = jobs.count; i < count; i++)
+	for (i = 0, count = jobs.count; i < count; i++) {
 		dump_view_close(&jobs.all[i].view);
+		looks_end(&jobs.all[i].looks);
+	}
 	free(jobs.all);
 	return ret != 0 ? ret : found;
 }

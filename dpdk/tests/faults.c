@@ -4,8 +4,8 @@
  *     make faults
  *     ./faults PLAY OPS FILE --no-huge -m 64 --no-pci -l 0-3
  *
- * Plays: healthy, busy, pair, double-free, free-under-clone, count-lowered, lost-chain, overwritten. OPS
- * is a mempool handler. The snapshot with what the application says it holds goes to FILE, and that without to
+ * Plays: healthy, busy, pair, double-free, free-under-clone, count-lowered, lost-chain, leaks,
+ * overwritten. OPS is a mempool handler. The snapshot with what the application says it holds goes to FILE, and that without to
  * FILE.all; those of a pair, without, to FILE and FILE.second.
  *
  * On DPDK's own handlers the memory of the mempools can't be written while they are dumped, and is
@@ -30,6 +30,7 @@
 
 #define MANY 4095
 #define FEW 31
+#define LEAKED 143 /* mbufs */
 #define ROUNDS 50000
 #define DUMPS 20 /* while lcores work */
 #define TABLE 128 /* packets that an lcore has at most */
@@ -355,6 +356,44 @@ lost_chain(FILE *out, FILE *out_all)
 	return dump_fault(out, out_all, tail);
 }
 
+/* Tells each mbuf of a packet that nobody has, and answers how many they are. */
+static unsigned int
+leak(struct rte_mbuf *m)
+{
+	unsigned int n;
+
+	for (n = 0; m != NULL; m = m->next) {
+		printf("element %u\n", mbufpool_elem_of(pool, m));
+		n++;
+		if (RTE_MBUF_CLONED(m)) {
+			printf("element %u\n", mbufpool_elem_of(pool, rte_mbuf_from_indirect(m)));
+			n++;
+		}
+	}
+	return n;
+}
+
+/* Packets of one mbuf, of two, and clones whose originals were freed: nobody has them. */
+static int
+leaks(FILE *out, FILE *out_all)
+{
+	unsigned int n = 0, k;
+	struct rte_mbuf *m, *other;
+
+	for (k = 0; n < LEAKED; k++) {
+		m = get_packet(60);
+		other = k % 3 == 0 ? m : k % 3 == 1 ? get_packet(98) : rte_pktmbuf_clone(m, pool);
+		if (m == NULL || other == NULL)
+			return -ENOMEM;
+		if (k % 3 == 1)
+			rte_pktmbuf_chain(m, other);
+		if (k % 3 == 2)
+			rte_pktmbuf_free(m);
+		n += leak(k % 3 == 2 ? other : m);
+	}
+	return dump_both(out, out_all);
+}
+
 /* An mbuf's `next` is overwritten, and so is what DPDK has in front of another one: neither is
  * followed. */
 static int
@@ -387,6 +426,7 @@ static const struct {
 	{"free-under-clone", free_under_clone, FEW},
 	{"count-lowered", count_lowered, FEW},
 	{"lost-chain", lost_chain, FEW},
+	{"leaks", leaks, MANY},
 	{"overwritten", overwritten, FEW},
 };
 

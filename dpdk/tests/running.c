@@ -7,9 +7,15 @@
  * OPS is the handler of its mempool, "packets". One lcore gets packets, of one mbuf or of two, each
  * of another length and offset; one passes them from a ring to the next, and keeps a clone of each
  * eighth until the next one comes; one frees them. Some four times a second the second one loses a
- * packet, of which the program writes `lost ELEM`, with its first segment; and as often `passed N`, the
- * packets that were freed, and `taken N`, the bytes of its heap that are taken. At SIGTERM the lcores
- * stop, and the program says whether each mbuf but the lost ones is in the mempool once. */
+ * packet, of which the program writes `lost ELEM`, with its first segment: cut to 60 bytes, it begins
+ * with "lost on the way,", and is of port 0 or 1. As often it writes `passed N`, the packets that were
+ * freed, and `taken N`, the bytes of its heap that are taken. At SIGTERM the lcores stop, and the program
+ * says whether each mbuf but the lost ones is in the mempool once.
+ *
+ * With FREES=twice in the environment it loses none, and frees one twice as often, one call behind the
+ * other. With FREES=late it frees one once more as the second lcore has it again, in a packet that was got
+ * since. Either is a line `freed twice ELEM`. CACHE=N is the size of the mempool's caches, in place of
+ * 128. */
 #include <errno.h>
 #include <signal.h>
 #include <stdio.h>
@@ -30,13 +36,18 @@
 #define SIZE 4095
 #define BURST 32
 #define RING 256
+#define CACHE 128
+#define LENGTH 60
+#define LOST "lost on the way,"
 #define MOST_LOST 1000
 #define LONGEST 120 /* seconds, whoever forgets it */
 
 static struct rte_mempool *pool;
 static struct rte_ring *to_pass, *to_free;
 static volatile sig_atomic_t is_ended;
-static int is_over, is_to_lose; /* written by the one, read by the others */
+static int is_over, is_to_err; /* written by the one, read by the others */
+static int frees_twice, frees_late;
+static struct rte_mbuf *freed; /* that will be freed once more when it is met again */
 static uint64_t passed;		/* packets that were freed */
 static struct rte_mbuf *lost[MOST_LOST];
 static unsigned int nb_lost;
@@ -62,8 +73,9 @@ get_packet(uint32_t serial)
 
 	if (m == NULL)
 		return NULL;
+	m->port = serial % 2;
 	m->data_off = serial / 1400 % 700;
-	rte_pktmbuf_append(m, 60 + serial % 1400);
+	rte_pktmbuf_append(m, LENGTH + serial % 1400);
 	tail = serial % 5 == 0 ? rte_pktmbuf_alloc(pool) : NULL;
 	if (tail != NULL && rte_pktmbuf_chain(m, tail) != 0)
 		rte_pktmbuf_free(tail);
@@ -87,14 +99,44 @@ get(void *arg)
 	return 0;
 }
 
-/* Says which packet it was that nobody has any more. */
-static void
-lose(struct rte_mbuf *m)
+/* Whether it is time for what is wrong, once. */
+static int
+is_to_do_wrong(void)
 {
-	__atomic_store_n(&is_to_lose, 0, __ATOMIC_RELAXED);
-	lost[nb_lost++] = m;
-	printf("lost %u\n", mbufpool_elem_of(pool, m));
+	return __atomic_load_n(&is_to_err, __ATOMIC_RELAXED) &&
+	       __atomic_exchange_n(&is_to_err, 0, __ATOMIC_RELAXED);
+}
+
+static void
+tell_wrong(const char *what, const struct rte_mbuf *m)
+{
+	printf("%s %u\n", what, mbufpool_elem_of(pool, m));
 	fflush(stdout);
+}
+
+/* Says which packet it was that nobody has any more. They are of one length, and begin alike. */
+static int
+is_lost(struct rte_mbuf *m)
+{
+	if (frees_twice || frees_late || nb_lost == MOST_LOST || !is_to_do_wrong())
+		return 0;
+	memcpy(rte_pktmbuf_mtod(m, char *), LOST, strlen(LOST));
+	m->data_len = LENGTH;
+	m->pkt_len = LENGTH;
+	lost[nb_lost++] = m;
+	tell_wrong("lost", m);
+	return 1;
+}
+
+/* Frees a packet that was freed before, and that is another one's by now. */
+static void
+free_late(struct rte_mbuf *m)
+{
+	if (m != __atomic_load_n(&freed, __ATOMIC_ACQUIRE))
+		return;
+	__atomic_store_n(&freed, NULL, __ATOMIC_RELEASE);
+	tell_wrong("freed twice", m);
+	rte_pktmbuf_free(m);
 }
 
 static int
@@ -107,10 +149,9 @@ pass(void *arg)
 	for (; goes_on(); wait_a_moment()) {
 		n = rte_ring_dequeue_burst(to_pass, (void **)packets, BURST, NULL);
 		for (k = 0; k < n; k++) {
-			if (__atomic_load_n(&is_to_lose, __ATOMIC_RELAXED) && nb_lost < MOST_LOST) {
-				lose(packets[k]);
+			if (is_lost(packets[k]))
 				continue;
-			}
+			free_late(packets[k]);
 			if (k % 8 == 0) {
 				rte_pktmbuf_free(clone);
 				clone = rte_pktmbuf_clone(packets[k], pool);
@@ -123,6 +164,19 @@ pass(void *arg)
 	return 0;
 }
 
+/* Frees a packet of its own, once or, as it is to, twice. */
+static void
+free_one(struct rte_mbuf *m)
+{
+	if (frees_late && is_to_do_wrong())
+		__atomic_store_n(&freed, m, __ATOMIC_RELEASE);
+	if (frees_twice && is_to_do_wrong()) {
+		tell_wrong("freed twice", m);
+		rte_pktmbuf_free(m);
+	}
+	rte_pktmbuf_free(m);
+}
+
 static int
 free_all(void *arg)
 {
@@ -132,7 +186,10 @@ free_all(void *arg)
 	RTE_SET_USED(arg);
 	for (; goes_on(); wait_a_moment()) {
 		n = rte_ring_dequeue_burst(to_free, (void **)packets, BURST, NULL);
-		rte_pktmbuf_free_bulk(packets, n);
+		if (n > 0)
+			free_one(packets[0]);
+		if (n > 1)
+			rte_pktmbuf_free_bulk(&packets[1], n - 1);
 		__atomic_fetch_add(&passed, n, __ATOMIC_RELAXED);
 	}
 	return 0;
@@ -232,7 +289,7 @@ run(void)
 		fprintf(stderr, "running: three lcores besides the main one are needed\n");
 	while (ret == 0 && !is_ended) {
 		usleep(250000);
-		__atomic_store_n(&is_to_lose, 1, __ATOMIC_RELAXED);
+		__atomic_store_n(&is_to_err, 1, __ATOMIC_RELAXED);
 		tell();
 	}
 	__atomic_store_n(&is_over, 1, __ATOMIC_RELEASE);
@@ -242,10 +299,22 @@ run(void)
 	return ret != 0 || !is_as_it_should_be();
 }
 
+/* The size of the mempool's caches; and what it is to do wrong. */
+static unsigned int
+read_environment(void)
+{
+	const char *frees = getenv("FREES"), *cache = getenv("CACHE");
+
+	frees_twice = frees != NULL && strcmp(frees, "twice") == 0;
+	frees_late = frees != NULL && strcmp(frees, "late") == 0;
+	return cache == NULL ? CACHE : strtoul(cache, NULL, 10);
+}
+
 int
 main(int argc, char **argv)
 {
 	const char *ops = argc > 1 ? argv[1] : "";
+	unsigned int cache = read_environment();
 	int ret;
 
 	if (argc < 2) {
@@ -257,7 +326,7 @@ main(int argc, char **argv)
 	alarm(LONGEST);
 	if (rte_eal_init(argc - 1, argv + 1) < 0)
 		return 2;
-	pool = rte_pktmbuf_pool_create_by_ops("packets", SIZE, 128, 0, RTE_MBUF_DEFAULT_BUF_SIZE,
+	pool = rte_pktmbuf_pool_create_by_ops("packets", SIZE, cache, 0, RTE_MBUF_DEFAULT_BUF_SIZE,
 					      SOCKET_ID_ANY, ops);
 	to_pass = rte_ring_create("to_pass", RING, SOCKET_ID_ANY, RING_F_SP_ENQ | RING_F_SC_DEQ);
 	to_free = rte_ring_create("to_free", RING, SOCKET_ID_ANY, RING_F_SP_ENQ | RING_F_SC_DEQ);
