@@ -6,8 +6,11 @@
 #     (gdb) mbufpool list
 #     (gdb) mbufpool dump NAME FILE
 #     (gdb) mbufpool mbuf NAME N
+#     (gdb) mbufpool packets NAME OLD
 #
 # The program mbufpool-core runs them by one command. Nothing is run in the program that is looked at.
+import collections
+import json
 import os
 import re
 import signal
@@ -31,6 +34,8 @@ USAGE = """mbufpool list                         the mempools
 mbufpool dump NAME FILE [NAME FILE]   a snapshot of one, or of two that have clones of each other's mbufs
 mbufpool all DIR                      a snapshot of each
 mbufpool mbuf NAME N                  an mbuf, by its number or address
+mbufpool packets NAME [OLD ..]        the packets in use, grouped by what they have alike; of these the ones that
+                                      are in each of the snapshots OLD too
 NAME may be a mempool's address, 0x..; FILE may be -; behind --handler OPS the handler is that"""
 
 
@@ -255,6 +260,77 @@ def show_data(session, mbuf):
         session.say("%04x: %s" % (k, " ".join("%02x" % byte for byte in data[k:k + 16])))
 
 
+# ---- packets, grouped ----
+
+MOST_DATA = 16  # bytes of the first segment that are looked at
+MOST_GROUPS = 20
+NO_PORT = 0xFFFF
+
+Kind = collections.namedtuple("Kind", "segs len port data")
+
+
+def packets_of(path, view):
+    """The packets of a snapshot, by their segments; it has to be of this mempool."""
+    try:
+        with open(path) as file:
+            snapshot = json.load(file)
+        if snapshot["limits"]["population"] != view.size:
+            raise Fault("%s is of another mempool, of %d mbufs" % (path, snapshot["limits"]["population"]))
+        return {tuple((segment["elem"], segment["base"]) for segment in slot)
+                for share in snapshot["shares"] for slot in share["slots"] if slot is not None}
+    except OSError as error:
+        raise Fault("%s can't be read: %s" % (path, error.strerror))
+    except (ValueError, KeyError, TypeError):
+        raise Fault("%s is no snapshot" % path)
+
+
+def kind_of(session, segments):
+    """What a packet has alike with others."""
+    first = segments[0].mbuf
+    n = min(first.data_len, MOST_DATA)
+    try:
+        data = session.memory.read(first.buf_addr + first.data_off, n) if n > 0 else b""
+    except Fault:
+        data = None
+    return Kind(len(segments), sum(step.mbuf.data_len for step in segments), first.port, data)
+
+
+def kind_text(kind):
+    text = "segs %d len %d, %s" % (
+        kind.segs, kind.len, "no port" if kind.port == NO_PORT else "port %d" % kind.port)
+    if not kind.data:
+        return text + (", data unknown" if kind.data is None else ", no data")
+    return "%s, data %s%s" % (text, kind.data.hex(), ".." if kind.len > len(kind.data) else "")
+
+
+def show_packets(session, name, paths):
+    """Groups the packets in use, or those of them that are in older snapshots too."""
+    view = look(session, session.pool(name))
+    note_clones(session, [view])
+    pair = Dump([view], session.others([view]))
+    known = [packets_of(path, view) for path in paths]
+    groups = collections.defaultdict(list)
+    for head, segments in pair.packets(view):
+        same = tuple((step.elem, pair.base_shown(view, step)) for step in segments)
+        if all(same in packets for packets in known):
+            groups[kind_of(session, segments)].append(head)
+    ordered = sorted(groups.items(), key=lambda group: (-len(group[1]), group[1][0]))
+    front = "stays: " if paths else "in use: "
+    for kind, heads in ordered[:MOST_GROUPS]:
+        session.say("%s%s: %s: %s" % (front, counted(len(heads), "packet"), kind_text(kind),
+                                      ", ".join("0x%x" % head for head in heads[:3])))
+    rest = ordered[MOST_GROUPS:]
+    if rest:
+        session.say("%s%s of %s" % (front, counted(sum(len(heads) for _, heads in rest), "packet"),
+                                    counted(len(rest), "more kind")))
+    if not ordered:
+        session.say("no packet %s" % ("stays" if paths else "is in use"))
+
+
+def counted(n, what):
+    return "%d %s%s" % (n, what, "" if n == 1 else "s")
+
+
 def play(session, words):
     """Does what the words of a command say. Says whether all of it was done."""
     if words == ["list"]:
@@ -265,6 +341,8 @@ def play(session, words):
         return dump_all(session, words[1])
     elif words[0] == "mbuf" and len(words) == 3:
         show_mbuf(session, words[1], words[2])
+    elif words[0] == "packets" and len(words) >= 2:
+        show_packets(session, words[1], words[2:])
     else:
         raise Fault("these are the commands:\n" + USAGE)
     return True
@@ -278,7 +356,8 @@ def open_memory(core):
     if found:
         return Core(layout, found.group(1))
     if gdb.selected_inferior().pid == 0:
-        raise Fault("there is neither a core nor a process")
+        raise Fault("there is neither a core nor a process, or gdb may not attach to it (root may, where no "
+                    "other debugger has it)")
     return Live(layout, gdb.selected_inferior())
 
 
@@ -338,14 +417,16 @@ def how_it_stood():
 
 
 def main():
-    """For mbufpool-core, which has the words in the environment, and reads lines from 3 and 4."""
+    """For mbufpool-core, which has the words in the environment, and reads lines from 3 and 4. Where it
+    names no core gdb holds a process, and where that stands says nothing."""
     words = [os.environ["MBUFPOOL_CORE_WORD%d" % (k + 1)]
              for k in range(int(os.environ["MBUFPOOL_CORE_WORDS"]))]
+    core = os.environ["MBUFPOOL_CORE"] or None
     with os.fdopen(3, "w") as out, os.fdopen(4, "w") as err:
-        line = how_it_stood()
+        line = how_it_stood() if core is not None else ""
         if line:
             (err if "-" in words else out).write(line + "\n")
-        is_well = run(words, os.environ["MBUFPOOL_CORE"], out, err)
+        is_well = run(words, core, out, err)
     gdb.execute("quit %d" % (0 if is_well else 1))
 
 

@@ -13,6 +13,7 @@
 import bisect
 import collections
 import mmap
+import os
 import re
 import struct
 from array import array
@@ -186,17 +187,26 @@ class Core(Memory):
 
 
 class Live(Memory):
-    """A process that gdb holds."""
+    """A process that gdb holds. It is read as a file where that may be, which is faster."""
 
     def __init__(self, layout, inferior):
         super().__init__(layout)
         self.inferior = inferior
+        try:
+            self.file = open("/proc/%d/mem" % inferior.pid, "rb", buffering=0)
+        except OSError:
+            self.file = None
 
     def read(self, at, n):
         try:
-            return bytes(self.inferior.read_memory(at, n))
-        except (gdb.error, OverflowError):
+            if self.file is None:
+                return bytes(self.inferior.read_memory(at, n))
+            found = os.pread(self.file.fileno(), n, at)
+        except (gdb.error, OSError, OverflowError):
+            found = b""
+        if len(found) < n:
             raise Fault("%d bytes at 0x%x can't be read" % (n, at))
+        return found
 
     def find(self, pattern):
         try:

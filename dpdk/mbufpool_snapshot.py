@@ -185,11 +185,21 @@ class Dump:
                 raise Fault("mempool %s: more than %d packets of another have clones of it"
                             % (view.pool.name, MAX_GUESTS * MAX_WORKERS))
 
-    def segment_text(self, view, step):
+    def base_shown(self, view, step):
+        """The number of the mbuf whose buffer a clone uses, as a snapshot has it, or None."""
         base, elem = self.locate_base(step.mbuf)
-        is_shown = base is not None and (base is view) != view.is_foreign()
+        return elem if base is not None and (base is view) != view.is_foreign() else None
+
+    def packets(self, view):
+        """Each packet that begins in this pool: its first mbuf, and its segments in the pool."""
+        for head in self.heads:
+            if view.find(head) != NO_ELEM:
+                yield head, [step for step in self.walk(head) if step.view is view]
+
+    def segment_text(self, view, step):
+        base = self.base_shown(view, step)
         return '{"elem":%d,"base":%s,"off":%d,"len":%d,"buf":%d}' % (
-            step.elem, elem if is_shown else "null", step.mbuf.data_off, step.mbuf.data_len,
+            step.elem, "null" if base is None else base, step.mbuf.data_off, step.mbuf.data_len,
             step.mbuf.buf_len)
 
     def packet_text(self, view, head):
