@@ -4,7 +4,9 @@
  *     make misuses
  *     ./misuses PLAY FILE OPS [CACHE] --no-huge -m 64 --no-pci -l 0 [-d PLUGIN]
  *
- *   double-free     an mbuf is freed twice
+ *   double-free     an mbuf is freed twice, at once
+ *   late-free       an mbuf is freed, got by another owner, and freed once more by the first one; then the
+ *                   other one writes to it, and frees it
  *   leak            an mbuf is got, and its last pointer is lost
  *   use-after-free  64 bytes are written to the data of an mbuf that was freed
  *   beyond          8 bytes are written just beyond an mbuf's buffer
@@ -26,7 +28,7 @@
 
 #include "dump.h"
 
-#define SIZE 60
+#define SIZE 1000
 #define ROUNDS 3
 #define LENGTH 64
 
@@ -61,6 +63,22 @@ free_twice(void)
 
 	rte_pktmbuf_free(m);
 	rte_pktmbuf_free(m);
+}
+
+static void
+free_late(void)
+{
+	struct rte_mbuf *m = get(), *others[SIZE], *again;
+	unsigned int n = 0;
+
+	rte_pktmbuf_free(m);
+	for (again = get(); again != m; again = get())
+		others[n++] = again;
+	rte_pktmbuf_free_bulk(others, n);
+	rte_pktmbuf_free(m);
+	say("freed late");
+	memset(rte_pktmbuf_mtod(again, char *), 5, LENGTH);
+	rte_pktmbuf_free(again);
 }
 
 static void
@@ -128,8 +146,9 @@ static const struct {
 	const char *name;
 	void (*play)(void);
 } plays[] = {
-	{"double-free", free_twice}, {"leak", leak},		 {"use-after-free", use_after_free},
-	{"beyond", beyond},	     {"far-beyond", far_beyond}, {"nothing", nothing},
+	{"double-free", free_twice}, {"late-free", free_late},	{"leak", leak},
+	{"beyond", beyond},	     {"far-beyond", far_beyond}, {"use-after-free", use_after_free},
+	{"nothing", nothing},
 };
 
 /* ---- all ---- */
