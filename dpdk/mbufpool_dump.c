@@ -116,8 +116,8 @@ reason(int err)
 	case -E2BIG:
 		return "it has no objects, or more than a snapshot can have";
 	case -ENOTSUP:
-		return "its handler keeps what is free in memory of the program's own: the program itself "
-		       "has to dump it (libmbufpool_dump.so)";
+		return "its handler keeps what is free in memory of the program's own: mbufpool-core --pid "
+		       "dumps it, or the program itself (libmbufpool_dump.so)";
 	case -EPROTO:
 		return "the program's DPDK was built with other options than this tool's: another "
 		       "RTE_MAX_LCORE or RTE_MEMPOOL_CACHE_MAX_SIZE, or a mempool's checks or statistics";
@@ -762,8 +762,8 @@ main(int argc, char **argv)
 		return no_primary();
 	why = primary_why_not(primary, o.prefix);
 	if (why != NULL) {
-		say("the program with --file-prefix %s shares no memory: %s; it has to dump itself "
-		    "(libmbufpool_dump.so)", o.prefix, why);
+		say("the program with --file-prefix %s shares no memory: %s; mbufpool-core --pid %ld dumps it, "
+		    "or the program itself (libmbufpool_dump.so)", o.prefix, why, (long)primary);
 		return FAILED;
 	}
 	if (o.is_stop && !may_stop(primary))
