@@ -264,6 +264,8 @@ begin_eal(int nb_words, char **words)
 		eal[n++] = words[i];
 	if (rte_eal_init(n, eal) < 0)
 		refuse("EAL doesn't begin");
+	/* (nothing is shared, so that the folder for it is empty) */
+	rmdir(rte_eal_get_runtime_dir());
 }
 
 /* ---- subjects ---- */

@@ -585,7 +585,7 @@ register_guard(void *arg)
 	register_handler(&guard_ops, 0);
 }
 
-REGISTERED_BY(register_guard)
+REGISTERED_BY(register_guard, MBUFPOOL_GUARD_OPS)
 #else
 RTE_MEMPOOL_REGISTER_OPS(guard_ops)
 #endif

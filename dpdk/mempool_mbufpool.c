@@ -553,7 +553,7 @@ register_both(void *arg)
 	register_handler(&checked_ops, is_guard_to_come());
 }
 
-REGISTERED_BY(register_both)
+REGISTERED_BY(register_both, "mbufpool")
 #else
 RTE_MEMPOOL_REGISTER_OPS(mbufpool_ops);
 RTE_MEMPOOL_REGISTER_OPS(checked_ops);

@@ -1,10 +1,11 @@
 /* registering.h - when a plugin's mempool handlers are registered.
  *
  * DPDK's table has room for RTE_MEMPOOL_MAX_OPS_IDX handlers, 16, and its own drivers take most of it:
- * 14 where all of them are installed. A plugin that EAL finds in its folder of drivers, as every program
- * does, mustn't leave one of DPDK's own without a place there, ring_mp_mc say. So its handlers are
- * registered once all drivers are loaded, when the buses are scanned; and one for which there is no room
- * is logged. What -d names is registered at once, as what is linked into a program is. */
+ * where all of them are installed 14 in 22.11, and 15 in 24.11 and 25.11. A plugin that EAL finds in its
+ * folder of drivers, as every program does, mustn't leave one of DPDK's own without a place there,
+ * ring_mp_mc say. So its handlers are registered once all drivers are loaded, when the buses are scanned;
+ * and one for which there is no room is logged. What -d names is registered at once, as what is linked into
+ * a program is; then one of DPDK's own may lack a place, of which DPDK doesn't say which it is. */
 #ifndef MBUFPOOL_REGISTERING_H
 #define MBUFPOOL_REGISTERING_H
 
@@ -29,6 +30,23 @@ is_registered(const char *name)
 	return 0;
 }
 
+/* Logs once that a handler lacks a place. (a scan may come again) */
+static inline void
+log_missing(const char *name)
+{
+	static const char *told[RTE_MEMPOOL_MAX_OPS_IDX];
+	static unsigned int nb_told;
+	unsigned int i;
+
+	for (i = 0; i < nb_told; i++)
+		if (told[i] == name)
+			return;
+	if (nb_told < RTE_DIM(told))
+		told[nb_told++] = name;
+	RTE_LOG(INFO, MEMPOOL, "%s isn't there: DPDK has no room for more than %u handlers\n", name,
+		RTE_MEMPOOL_MAX_OPS_IDX);
+}
+
 /* Registers a handler once, where there is room for it and for `others` that come behind it. */
 static inline void
 register_handler(const struct rte_mempool_ops *ops, unsigned int others)
@@ -38,8 +56,24 @@ register_handler(const struct rte_mempool_ops *ops, unsigned int others)
 	if (rte_mempool_ops_table.num_ops + others < RTE_MEMPOOL_MAX_OPS_IDX)
 		rte_mempool_register_ops(ops);
 	else
-		RTE_LOG(INFO, MEMPOOL, "%s isn't there: DPDK has no room for more than %u handlers\n",
-			ops->name, RTE_MEMPOOL_MAX_OPS_IDX);
+		log_missing(ops->name);
+}
+
+/* Once all drivers are loaded: which of DPDK's own handlers for any machine lack a place, as ours, named by
+ * -d, came before them. Of two plugins one says it: that of mbufpool. */
+static inline void
+log_displaced(void *own)
+{
+	static const char *const all[] = { "ring_mp_mc", "ring_sp_sc", "ring_mp_sc", "ring_sp_mc",
+		"ring_mt_rts", "ring_mt_hts", "stack", "lf_stack", "bucket" };
+	size_t i;
+
+	if (rte_mempool_ops_table.num_ops < RTE_MEMPOOL_MAX_OPS_IDX ||
+		(strcmp(own, "mbufpool") != 0 && is_registered("mbufpool")))
+		return;
+	for (i = 0; i < RTE_DIM(all); i++)
+		if (!is_registered(all[i]))
+			log_missing(all[i]);
 }
 
 /* Whether the plugin that has this code stands in a folder of drivers, by the folder's name. */
@@ -57,14 +91,18 @@ is_among_drivers(void (*code)(void *))
 	       strncmp(name - length, drivers, length) == 0;
 }
 
-/* Lets this function register the plugin's handlers. (A scan may come again.) */
-#define REGISTERED_BY(function) \
+/* Lets this function register the plugin's handlers, of which `name` is the first. */
+#define REGISTERED_BY(function, name) \
 	RTE_INIT(function##_when_loaded) \
 	{ \
-		if (is_among_drivers(function)) \
+		static char own[] = name; \
+\
+		if (is_among_drivers(function)) { \
 			rte_vdev_add_custom_scan(function, NULL); \
-		else \
+		} else { \
 			function(NULL); \
+			rte_vdev_add_custom_scan(log_displaced, own); \
+		} \
 	}
 
 #endif

@@ -520,10 +520,8 @@ static void refuses_limits(void)
 /* Without hooks a pool is renewed as well. */
 static void renews_by_itself(void)
 {
-	unsigned k;
-
 	MUST(mbufpool_renewing_open(&limits, NULL, &pool) == 0);
-	for (k = 0; mbufpool_renewing_times(pool) < 3; k++)
+	while (mbufpool_renewing_times(pool) < 3)
 		get_everything();
 	mbufpool_renewing_end(pool);
 }
