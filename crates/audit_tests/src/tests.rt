@@ -1,17 +1,25 @@
 //! The functions that walk the tables. A row that fails is named.
 
+use audit_text::json::{faults_json, two_faults_json};
+use audit_text::lines::fault_lines;
+use audit_text::stack_of;
 use commons::packet::Seg;
+use commons::refusal::Refusal;
 use commons::seq::Seq;
 use pool_model::statement::{DeskPacket, Held, Holder, PlacedPacket, Statement};
+use snapshot::all_faults::{all_faults, all_faults_on};
 use snapshot::audit::audit;
 use snapshot::fault::Fault;
+use snapshot::snapshot::Snapshot;
 use std::alloc::Global;
 use std::fmt::Debug;
 use std::process::Abort;
 use std::test::Fail;
 
+mod all_faults_rows;
 mod building;
 mod calling;
+mod fault_texts;
 mod faults;
 mod guests;
 mod places;
@@ -266,6 +274,102 @@ fn a_caller_learns_how_many_elements_are_held(rt: HostRuntime) {
     );
 }
 
+/// All faults of a row's snapshot, or of its list; `None` where memory was refused.
+fn all_of(
+    alloc: Global,
+    shown: &Shown,
+    stack: Option<&[u32]>,
+) -> Result<Option<Vec<Fault>>, Fault> {
+    if shown.limits.check().is_err() {
+        return Err(Fault::BadShape);
+    }
+    match (built(alloc, shown, None), stack) {
+        (Err(_), _) => Ok(None),
+        (Ok(snapshot), None) => Ok(all_faults(alloc, &snapshot).ok()),
+        (Ok(snapshot), Some(stack)) => Ok(all_faults_on(alloc, &snapshot, stack).ok()),
+    }
+}
+
+/// Whether exactly these are told of a row's snapshot, in order. It may be refused where memory may.
+fn told_rows<R: Abort + AllocGlobal>(rt: &R, refused: bool) {
+    for (name, shown, stack, wanted) in all_faults_rows::ROWS {
+        match all_of(rt.alloc(), shown, *stack) {
+            Ok(None) => assert!(rt; refused, "{name}: out of memory"),
+            Ok(Some(told)) => same(rt, &told.as_slice(), wanted, name),
+            Err(fault) => assert!(rt; false, "{name}: {fault:?}"),
+        }
+    }
+}
+
+#[test]
+fn all_faults_of_a_snapshot_are_told_in_order(rt: HostRuntime) {
+    told_rows(&rt, false);
+}
+
+/// The stack of a row's snapshot: its list, or the walk.
+fn stack(
+    alloc: Global,
+    snapshot: &Snapshot,
+    list: Option<&'static [u32]>,
+) -> Result<Vec<u32>, Refusal> {
+    match list {
+        None => stack_of(alloc, snapshot),
+        Some(list) => {
+            let mut elems = Vec::new(alloc);
+            match elems.extend_from_slice(list) {
+                Ok(()) => Ok(elems),
+                Err(_) => Err(Refusal::OutOfMemory),
+            }
+        }
+    }
+}
+
+/// The lines of all faults of a row's snapshot, their JSON, and that of two of it.
+fn texts_of(alloc: Global, row: &fault_texts::Row) -> Result<(Vec<u8>, Vec<u8>, Vec<u8>), Refusal> {
+    let (_, shown, list, front, _, _) = row;
+    let snapshot = match built(alloc, shown, None) {
+        Ok(snapshot) => snapshot,
+        Err(_) => return Err(Refusal::OutOfMemory),
+    };
+    let faults = match all_of(alloc, shown, *list) {
+        Ok(Some(faults)) => faults,
+        _ => return Err(Refusal::OutOfMemory),
+    };
+    let elems = stack(alloc, &snapshot, *list)?;
+    let (stack, faults) = (elems.as_slice(), faults.as_slice());
+    let lines = fault_lines(alloc, &snapshot, stack, faults, front.as_bytes())?;
+    let json = faults_json(alloc, &snapshot, stack, faults)?;
+    let both = two_faults_json(alloc, &snapshot, stack, &[], &snapshot, stack, faults)?;
+    Ok((lines, json, both))
+}
+
+/// Whether a row's texts are these. They may be refused where memory may.
+fn text_rows<R: Abort + AllocGlobal>(rt: &R, refused: bool) -> Result<(), Fail> {
+    for row in fault_texts::ROWS {
+        let (name, _, _, _, lines, json) = row;
+        let both = format!(in rt.alloc(); "{{\"first\":[],\"second\":{}}}\n", json.trim_end());
+        match (texts_of(rt.alloc(), row), both) {
+            (Ok(given), Ok(both)) => {
+                same(rt, &given.0.as_slice(), &lines.as_bytes(), name);
+                same(rt, &given.1.as_slice(), &json.as_bytes(), name);
+                same(rt, &given.2.as_slice(), &both.as_bytes(), name);
+            }
+            _ => assert!(rt; refused, "{name}: out of memory"),
+        }
+    }
+    Ok(())
+}
+
+#[test]
+fn all_faults_have_their_lines_and_their_json(rt: HostRuntime) -> Result<(), Fail> {
+    text_rows(&rt, false)
+}
+
+#[test]
+fn refused_memory_changes_no_line_of_many(rt: HostRuntime) -> Result<(), Fail> {
+    text_rows(&rt, true)
+}
+
 /// Whichever request for memory is refused, the answer is the same or `OutOfMemory`.
 fn rows_for_memory<R: Abort + AllocGlobal>(rt: &R, rows: &[Row]) {
     for (name, shown, wanted) in rows {
@@ -280,4 +384,5 @@ fn rows_for_memory<R: Abort + AllocGlobal>(rt: &R, rows: &[Row]) {
 fn refused_memory_changes_no_answer(rt: HostRuntime) {
     rows_for_memory(&rt, faults::FOR_MEMORY);
     rows_for_memory(&rt, guests::ROWS);
+    told_rows(&rt, true);
 }

@@ -1,6 +1,6 @@
--- The line that tells of a fault of a snapshot, without its end.
-use Rattle.std.specs.Prelude.{ℕ, ◌+◌, ◌==◌, Bool, true, false, if◌then◌else◌, nat_le, List, [], ◌∷◌, ◌++◌, codes, decimal, length}
-use Rattle.audit_text.specs.Places.{others_of, owners_of, places_of}
+-- The line that tells of a fault of a snapshot, without its end, and the lines of many.
+use Rattle.std.specs.Prelude.{ℕ, ◌+◌, ◌==◌, Bool, true, false, if◌then◌else◌, nat_le, List, [], ◌∷◌, ◌++◌, codes, decimal, flat_map, length}
+use Rattle.audit_text.specs.Places.{others_of, owners_of, places_on}
 use Rattle.audit_text.specs.declared.place.FreeList.TheVariants.{Stack, Cache}
 use Rattle.audit_text.specs.declared.place.Place.{Place}
 use Rattle.audit_text.specs.declared.place.Place.TheVariants.{Free, Packet, Own, Base, Hosted}
@@ -10,7 +10,7 @@ use Rattle.snapshot.specs.declared.fault.Fault.{Fault}
 use Rattle.snapshot.specs.declared.fault.Fault.TheVariants.{BadShape, BadTop, Loop, BadLength, BadElem, BadPacket, DoubleHeader, Doubled, Lost, BadCount, OutOfMemory}
 use Rattle.snapshot.specs.declared.snapshot.ShareData.{ShareData}
 use Rattle.snapshot.specs.declared.snapshot.Snapshot.{Snapshot}
-use Rattle.snapshot.specs.Snapshots.{most_places}
+use Rattle.snapshot.specs.Snapshots.{most_places, walk}
 
 -- a packet of a table: its worker and slot, or its desk
 unfoldable pub packet_text : Table → ℕ → List ℕ
@@ -108,16 +108,24 @@ unfoldable pub count_text : ℕ → ℕ → ℕ → List ℕ
 count_text e word holds =
     element_text 110 (codes "BadCount") e ++ codes ": count " ++ decimal word ++ codes ", held " ++ decimal holds
 
--- the line of a fault
+-- the line of a fault, where these elements are the stack of the snapshot, from the top down
+abbrev pub fault_text_on : List ℕ → Snapshot → Fault → List ℕ
+fault_text_on stack s BadShape = codes "fault 101 BadShape: " ++ shape_text s
+fault_text_on stack s (BadTop word) = codes "fault 102 BadTop " ++ decimal word
+fault_text_on stack s Loop = codes "fault 103 Loop"
+fault_text_on stack s (BadLength word found) = length_text word found
+fault_text_on stack s (BadElem e) = stranger_text e (places_on stack s e)
+fault_text_on stack s BadPacket = other_text (others_of s)
+fault_text_on stack s (DoubleHeader e) = header_text e (owners_of s e)
+fault_text_on stack s (Doubled e) = doubled_text e (places_on stack s e)
+fault_text_on stack s (Lost e) = codes "fault 109 Lost element " ++ decimal e
+fault_text_on stack s (BadCount e word holds) = count_text e word holds
+fault_text_on stack s OutOfMemory = codes "fault 2 OutOfMemory"
+
+-- the line of a fault, where the stack is the walk along the links
 abbrev pub fault_text : Snapshot → Fault → List ℕ
-fault_text s BadShape = codes "fault 101 BadShape: " ++ shape_text s
-fault_text s (BadTop word) = codes "fault 102 BadTop " ++ decimal word
-fault_text s Loop = codes "fault 103 Loop"
-fault_text s (BadLength word found) = length_text word found
-fault_text s (BadElem e) = stranger_text e (places_of s e)
-fault_text s BadPacket = other_text (others_of s)
-fault_text s (DoubleHeader e) = header_text e (owners_of s e)
-fault_text s (Doubled e) = doubled_text e (places_of s e)
-fault_text s (Lost e) = codes "fault 109 Lost element " ++ decimal e
-fault_text s (BadCount e word holds) = count_text e word holds
-fault_text s OutOfMemory = codes "fault 2 OutOfMemory"
+fault_text s = fault_text_on (walk s) s
+
+-- a line for each of these faults, with this text in front
+abbrev pub lines_text : List ℕ → List ℕ → Snapshot → List Fault → List ℕ
+lines_text front stack s faults = flat_map (λ fault. front ++ fault_text_on stack s fault ++ codes "\n") faults

@@ -1,2 +1,3 @@
+pub mod FaultData
 pub mod FaultText
 pub mod Places

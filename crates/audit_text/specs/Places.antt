@@ -11,7 +11,6 @@ use Rattle.audit_text.specs.declared.place.Table.TheVariants.{Slots, Desks}
 use Rattle.pool_model.specs.declared.guest.Guest.{Guest}
 use Rattle.snapshot.specs.declared.snapshot.ShareData.{ShareData}
 use Rattle.snapshot.specs.declared.snapshot.Snapshot.{Snapshot}
-use Rattle.snapshot.specs.Snapshots.{walk}
 
 -- the place, where it is one of those that are looked for
 abbrev pub found : Bool → Place → List Place
@@ -65,11 +64,11 @@ hosted e guests = flat_map (λ guest. found (guest.elem == e) (Hosted guest.work
 abbrev pub owners_of : Snapshot → ℕ → List Place
 owners_of s e = slotted false e s.shares ++ table_from false e Desks 0 s.desks
 
--- Where an element stands: on the stack, in caches by worker, in packets in slots by worker and on
+-- Where an element stands: on this stack, in caches by worker, in packets in slots by worker and on
 -- desks, as element or as base of this pool, and among guests.
-abbrev pub places_of : Snapshot → ℕ → List Place
-places_of s e =
-    free_from Stack e 0 (walk s) ++ cached e s.shares ++ slotted (not s.foreign) e s.shares
+abbrev pub places_on : List ℕ → Snapshot → ℕ → List Place
+places_on stack s e =
+    free_from Stack e 0 stack ++ cached e s.shares ++ slotted (not s.foreign) e s.shares
     ++ table_from (not s.foreign) e Desks 0 s.desks ++ hosted e s.guests
 
 -- the data of a segment is within its buffer; that of all these is

@@ -1,11 +1,10 @@
 //! Where an element stands in a snapshot.
 
 ghost use Rattle.std.specs.Prelude.{◌≡◌, ◌++◌, IfOk};
-ghost use Rattle.audit_text.specs.Places.{base_places, hosted, owners_of, packet_places, places_of, seg_places, segs_from, slotted, table_from};
+ghost use Rattle.audit_text.specs.Places.{base_places, hosted, owners_of, packet_places, places_on, seg_places, segs_from, slotted, table_from};
 
 use crate::lists::{in_caches, in_list, note};
 use crate::place::{FreeList, Place, Table};
-use crate::walking::walk;
 use commons::packet::Seg;
 use commons::seq::Seq;
 use pool_model::guest::Guest;
@@ -32,23 +31,19 @@ pub(crate) fn owners(
     Ok(out)
 }
 
-/// Where an element stands: free, in packets, and among guests.
+/// Where an element stands: on this stack, in caches, in packets, and among guests.
 pub(crate) fn everywhere(
     alloc: Global,
     snapshot: &Snapshot,
+    stack: &[u32],
     elem: u32,
 ) -> Result<Vec<Place>, AllocError>
-    ensures { IfOk result (λ v. v.items ≡ places_of snapshot.now elem) }
+    ensures { IfOk result (λ v. v.items ≡ places_on stack.now snapshot.now elem) }
 {
     let bases = !snapshot.foreign;
     let shares = snapshot.shares.as_slice();
     let mut out = Vec::new(alloc);
-    in_list(
-        &mut out,
-        FreeList::Stack,
-        walk(alloc, snapshot)?.as_slice(),
-        elem,
-    )?;
+    in_list(&mut out, FreeList::Stack, stack, elem)?;
     in_caches(&mut out, shares, elem)?;
     in_slots(&mut out, shares, elem, bases)?;
     in_table(

@@ -1,24 +1,23 @@
 //! Places in words.
 
-ghost use Rattle.std.specs.Prelude.{◌≡◌, ◌++◌, OnOk};
+ghost use Rattle.std.specs.Prelude.{◌≡◌, ◌++◌, OnOk, string_bytes};
 ghost use Rattle.audit_text.specs.FaultText.{base_text, cache_text, first_text, own_text, packet_text, place_text, second_text, two_text};
 ghost use Rattle.audit_text.specs.declared.place.Place.TheVariants.{Free};
 
 use crate::place::{FreeList, Place, Table};
-use std::io;
-use std::io::Write;
+use std::alloc::AllocError;
 
 /// The first two of these places.
-pub(crate) fn write_two(out: &mut Vec<u8>, places: &[Place]) -> io::Result<()>
-    ensures { OnOk result (out.new.items ≡ out.old.items ++ two_text places.now) }
+pub(crate) fn write_two(out: &mut String, places: &[Place]) -> Result<(), AllocError>
+    ensures { OnOk result (string_bytes out.new ≡ string_bytes out.old ++ two_text places.now) }
 {
     write_first(out, places)?;
     write_second(out, places)
 }
 
 /// The first of them.
-pub(crate) fn write_first(out: &mut Vec<u8>, places: &[Place]) -> io::Result<()>
-    ensures { OnOk result (out.new.items ≡ out.old.items ++ first_text places.now) }
+pub(crate) fn write_first(out: &mut String, places: &[Place]) -> Result<(), AllocError>
+    ensures { OnOk result (string_bytes out.new ≡ string_bytes out.old ++ first_text places.now) }
 {
     match places.first() {
         Some(place) => {
@@ -30,8 +29,8 @@ pub(crate) fn write_first(out: &mut Vec<u8>, places: &[Place]) -> io::Result<()>
 }
 
 /// The second.
-fn write_second(out: &mut Vec<u8>, places: &[Place]) -> io::Result<()>
-    ensures { OnOk result (out.new.items ≡ out.old.items ++ second_text places.now) }
+fn write_second(out: &mut String, places: &[Place]) -> Result<(), AllocError>
+    ensures { OnOk result (string_bytes out.new ≡ string_bytes out.old ++ second_text places.now) }
 {
     match places.get(1) {
         Some(place) => {
@@ -42,8 +41,8 @@ fn write_second(out: &mut Vec<u8>, places: &[Place]) -> io::Result<()>
     }
 }
 
-fn write_place(out: &mut Vec<u8>, place: Place) -> io::Result<()>
-    ensures { OnOk result (out.new.items ≡ out.old.items ++ place_text place) }
+fn write_place(out: &mut String, place: Place) -> Result<(), AllocError>
+    ensures { OnOk result (string_bytes out.new ≡ string_bytes out.old ++ place_text place) }
 {
     match place {
         Place::Free(list, k) => write_free(out, list, k),
@@ -55,8 +54,8 @@ fn write_place(out: &mut Vec<u8>, place: Place) -> io::Result<()>
 }
 
 /// An element of a free list.
-fn write_free(out: &mut Vec<u8>, list: FreeList, k: u64) -> io::Result<()>
-    ensures { OnOk result (out.new.items ≡ out.old.items ++ place_text (Free list k)) }
+fn write_free(out: &mut String, list: FreeList, k: u64) -> Result<(), AllocError>
+    ensures { OnOk result (string_bytes out.new ≡ string_bytes out.old ++ place_text (Free list k)) }
 {
     match list {
         FreeList::Stack => write!(out, "at {k} on the stack"),
@@ -66,16 +65,16 @@ fn write_free(out: &mut Vec<u8>, list: FreeList, k: u64) -> io::Result<()>
 
 /// An element of a cache.
 #[tactic(auto, unfolding(crate::specs::FaultText::cache_text))]
-fn write_cached(out: &mut Vec<u8>, worker: u32, k: u64) -> io::Result<()>
-    ensures { OnOk result (out.new.items ≡ out.old.items ++ cache_text worker k) }
+fn write_cached(out: &mut String, worker: u32, k: u64) -> Result<(), AllocError>
+    ensures { OnOk result (string_bytes out.new ≡ string_bytes out.old ++ cache_text worker k) }
 {
     write!(out, "at {k} in the cache of worker {worker}")
 }
 
 /// A segment.
 #[tactic(auto, unfolding(crate::specs::FaultText::own_text))]
-fn write_own(out: &mut Vec<u8>, table: Table, i: u64, k: u64) -> io::Result<()>
-    ensures { OnOk result (out.new.items ≡ out.old.items ++ own_text table i k) }
+fn write_own(out: &mut String, table: Table, i: u64, k: u64) -> Result<(), AllocError>
+    ensures { OnOk result (string_bytes out.new ≡ string_bytes out.old ++ own_text table i k) }
 {
     write!(out, "segment {k} of ")?;
     write_packet(out, table, i)
@@ -83,8 +82,8 @@ fn write_own(out: &mut Vec<u8>, table: Table, i: u64, k: u64) -> io::Result<()>
 
 /// A segment with a base.
 #[tactic(auto, unfolding(crate::specs::FaultText::base_text))]
-fn write_base(out: &mut Vec<u8>, table: Table, i: u64, k: u64) -> io::Result<()>
-    ensures { OnOk result (out.new.items ≡ out.old.items ++ base_text table i k) }
+fn write_base(out: &mut String, table: Table, i: u64, k: u64) -> Result<(), AllocError>
+    ensures { OnOk result (string_bytes out.new ≡ string_bytes out.old ++ base_text table i k) }
 {
     write!(out, "base of ")?;
     write_own(out, table, i, k)
@@ -92,8 +91,8 @@ fn write_base(out: &mut Vec<u8>, table: Table, i: u64, k: u64) -> io::Result<()>
 
 /// Which packet of which table.
 #[tactic(auto, unfolding(crate::specs::FaultText::packet_text))]
-fn write_packet(out: &mut Vec<u8>, table: Table, i: u64) -> io::Result<()>
-    ensures { OnOk result (out.new.items ≡ out.old.items ++ packet_text table i) }
+fn write_packet(out: &mut String, table: Table, i: u64) -> Result<(), AllocError>
+    ensures { OnOk result (string_bytes out.new ≡ string_bytes out.old ++ packet_text table i) }
 {
     match table {
         Table::Slots(worker) => write!(out, "packet {worker} {i}"),

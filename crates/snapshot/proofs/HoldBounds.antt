@@ -1,9 +1,10 @@
 -- How often an element is held at most, where each is the own one of one segment at most.
-use Rattle.std.proofs.Common.{ℕ, ◌≡◌, ◌+◌, ◌*◌, ◌≤◌, Bool, List, [], ◌∷◌, ◌++◌, length, get_or, Option, Some, None, arith}
+use Rattle.std.proofs.Common.{ℕ, ◌≡◌, ◌+◌, ◌*◌, ◌<◌, ◌≤◌, inl, inr, Bool, List, [], ◌∷◌, ◌++◌, length, get_or, Option, Some, None, arith}
 use Rattle.std.specs.Prelude.{flat_map, sum_by}
 use Rattle.std.proofs.lemmas.List.{length-append, length-map}
 use Rattle.std.proofs.lemmas.List.Concat.{length-flat_map}
 use Rattle.std.proofs.lemmas.List.Sums.{sum_by-cons, sum_by-le, sum_by-le-sum_by}
+use Rattle.std.proofs.lemmas.Bool.{cases_lt}
 use Rattle.std.proofs.lemmas.Bool.Decides.{nat_tests}
 use Rattle.commons.specs.Bag.{bag, one}
 use Rattle.commons.specs.Bounds.{IsPool}
@@ -18,6 +19,8 @@ use Rattle.pool_model.proofs.LocalPools.{held-local, own_in-local}
 use Rattle.snapshot.specs.declared.snapshot.ShareData.{ShareData}
 use Rattle.snapshot.specs.declared.snapshot.Snapshot.{Snapshot}
 use Rattle.snapshot.specs.Snapshots.{HasShape, times_held, times_named, times_own}
+use Rattle.snapshot.specs.inside.Tallies.{IsRow}
+use Rattle.snapshot.proofs.Meetings.{row-once}
 use Rattle.snapshot.proofs.Times.{held-is}
 
 one-le : (x i : ℕ) → one x i ≤ 1
@@ -110,7 +113,7 @@ own-held : (foreign : Bool) (table : List (Option (List Seg))) (i : ℕ) →
     own_in table i ≤ held_in (local_table foreign table) i
 own-held foreign table i = omega (arith, own_in-local foreign table i, own_in-held (local_table foreign table) i)
 
-own-le : (s : Snapshot) (i : ℕ) → times_own s i ≤ times_held s i
+pub own-le : (s : Snapshot) (i : ℕ) → times_own s i ≤ times_held s i
 own-le s i =
     let shares = sum_by-le-sum_by (λ (share : ShareData). own_in share.slots i)
     (λ share. held_in (local_table s.foreign share.slots) i) s.shares
@@ -130,10 +133,10 @@ guests-le guests i =
     sum_by-le (λ (guest : Guest). one guest.elem i) 1 guests (λ k d l. one-le (get_or guests k d).elem i)
 
 -- so an element is held less often than a row can count, by however many packets
-pub held-le : (s : Snapshot) (i : ℕ) → IsPool s.limits → HasShape s →
+pub held-few : (s : Snapshot) (i : ℕ) → IsPool s.limits → HasShape s →
     ((e : ℕ) → s.limits.population ≤ e → times_named s e ≡ 0) → ((e : ℕ) → times_own s e ≤ 1) →
-    times_held s i ≤ 4294967295
-held-le s i pool shape known once =
+    times_held s i < 4294967295
+held-few s i pool shape known once =
     omega (
       arith,
       held-is s i,
@@ -144,3 +147,17 @@ held-le s i pool shape known once =
       pool.workers,
       pool.population,
     )
+
+pub held-le : (s : Snapshot) (i : ℕ) → IsPool s.limits → HasShape s →
+    ((e : ℕ) → s.limits.population ≤ e → times_named s e ≡ 0) → ((e : ℕ) → times_own s e ≤ 1) →
+    times_held s i ≤ 4294967295
+held-le s i pool shape known once = omega (arith, held-few s i pool shape known once)
+
+-- where no number of the row of own elements is above 1, none is the own one of two segments
+pub own-once : (s : Snapshot) (row : List ℕ) → ((e : ℕ) → s.limits.population ≤ e → times_named s e ≡ 0) →
+    IsRow s.limits.population (times_own s) row → ((i : ℕ) → i < length row → get_or row i 0 ≤ 1) →
+    (e : ℕ) → times_own s e ≤ 1
+own-once s row known is once e = elim (cases_lt e s.limits.population) [
+  | inl within ↦ row-once s.limits.population (times_own s) row is once e within
+  | inr past ↦ omega (arith, own-le s e, known e past)
+]

@@ -46,7 +46,7 @@ le_stable : (a b : ℕ) → ((a ≤ b → ⊥) → ⊥) → a ≤ b
 le_stable a b h = elim (cases_lt b a) [ inl l ↦ absurd (h (λ k. omega arith)) | inr l ↦ l ]
 
 -- so a snapshot has its shape or not
-shape_stable : (s : Snapshot) → ((HasShape s → ⊥) → ⊥) → HasShape s
+pub shape_stable : (s : Snapshot) → ((HasShape s → ⊥) → ⊥) → HasShape s
 shape_stable s h = record {
   links = eq_stable (length s.links) s.limits.population (λ no. h (λ is. no is.links));
   counts = eq_stable (length s.counts) s.limits.population (λ no. h (λ is. no is.counts));

@@ -1,21 +1,14 @@
 -- What packets hold of their own pool, segment by segment and place by place.
-use Rattle.std.proofs.Common.{ℕ, ◌≡◌, ◌+◌, ◌<◌, ◌≤◌, Bool, true, false, List, length, get_or, take, Option, arith}
+use Rattle.std.proofs.Common.{ℕ, ◌≡◌, ◌+◌, ◌<◌, ◌≤◌, Bool, List, length, get_or, take, Option, arith}
 use Rattle.std.specs.Prelude.{sum_by}
 use Rattle.std.proofs.lemmas.List.Sums.{get_or-le-sum_by, sum_by-take-le, sum_by_more}
-use Rattle.commons.specs.Bag.{bag, one}
-use Rattle.commons.specs.Packets.{held_in, hold_of, holds_in_slot, holds_of_packet, holds_of_seg}
+use Rattle.commons.specs.Bag.{bag}
+use Rattle.commons.specs.Packets.{held_in, holds_in_slot, holds_of_packet, holds_of_seg}
 use Rattle.commons.specs.declared.packet.Seg.{Seg}
-use Rattle.commons.proofs.PacketBags.{bag-seg}
 use Rattle.pool_model.specs.Guests.{local_packet, local_place, local_seg, local_table}
 use Rattle.pool_model.proofs.LocalPools.{held-local}
 use Rattle.snapshot.proofs.MappedSums.{sum_by-map}
 use Rattle.snapshot.proofs.NamedSums.{packet-sum}
-
--- a segment's own element is the pool's, whatever its base is
-pub seg-local : (foreign : Bool) (seg : Seg) (i : ℕ) →
-    bag (holds_of_seg (local_seg foreign seg)) i ≡ bag (hold_of (local_seg foreign seg).base) i + one seg.elem i
-seg-local true seg i = bag-seg (local_seg true seg) i
-seg-local false seg i = bag-seg seg i
 
 -- ---- a packet
 

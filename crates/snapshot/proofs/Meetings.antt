@@ -1,9 +1,7 @@
 -- What rows of numbers count.
-use Rattle.std.proofs.Common.{ℕ, ◌≡◌, ◌+◌, ◌<◌, ◌≤◌, List, [], ◌∷◌, take, get_or, length, inl, inr, refl, ◌∙◌, arith}
+use Rattle.std.proofs.Common.{ℕ, ◌≡◌, ◌+◌, ◌<◌, ◌≤◌, List, [], ◌∷◌, take, get_or, length, refl, ◌∙◌, arith}
 use Rattle.std.specs.Prelude.{sum_by}
 use Rattle.std.proofs.lemmas.List.Sums.{sum_by-cons, sum_by_more}
-use Rattle.std.proofs.lemmas.Bool.{cases_lt}
-use Rattle.std.proofs.lemmas.List.{get_or_past}
 use Rattle.commons.specs.Bag.{bag, one}
 use Rattle.commons.specs.Packets.{own_of_packet}
 use Rattle.commons.specs.declared.packet.Seg.{Seg}
@@ -13,25 +11,20 @@ use Rattle.snapshot.specs.inside.Tallies.{HasMet, IsRow}
 -- nothing was met
 pub met-none : (times : ℕ → ℕ) (row : List ℕ) → ((i : ℕ) → i < length row → get_or row i 0 ≤ 4294967295) →
     ((i : ℕ) → times i ≡ 0) → HasMet times row row
-met-none times row fits none = record {
-  len = refl;
-  counts = λ i. elim (cases_lt i (length row)) [
-    | inl h ↦ omega (arith, fits i h, none i)
-    | inr h ↦ omega (arith, get_or_past row i 0 h, none i)
-  ];
-}
+met-none times row fits none = record { len = refl; counts = λ i l. omega (arith, fits i l, none i) }
 
 -- the same elements in other words
 pub met-as : (these those : ℕ → ℕ) (old new : List ℕ) → HasMet these old new →
     ((i : ℕ) → those i ≡ these i) → HasMet those old new
-met-as these those old new met same = record { len = met.len; counts = λ i. omega (arith, met.counts i, same i) }
+met-as these those old new met same = record { len = met.len; counts = λ i l. omega (arith, met.counts i l, same i) }
 
 -- these were met, and then those
 pub met-then : (first then all : ℕ → ℕ) (old mid new : List ℕ) → HasMet first old mid → HasMet then mid new →
     ((i : ℕ) → all i ≡ first i + then i) → HasMet all old new
 met-then first then all old mid new f t same = record {
   len = t.len ∙ f.len;
-  counts = λ i. omega (arith, t.counts i, f.counts i, same i);
+  counts = λ i l. let within : i < length mid = omega (arith, f.len) in
+      omega (arith, t.counts i within, f.counts i l, same i);
 }
 
 -- a list with one element more
@@ -68,10 +61,7 @@ own-suc segs k i d l =
       sum_by_more (λ (s : Seg). one s.elem i) segs k d l,
     )
 
--- where no number of a row is above 1, nothing was met twice
+-- where no number of a row is above 1, no element of it was met twice
 pub row-once : (size : ℕ) (times : ℕ → ℕ) (row : List ℕ) → IsRow size times row →
-    ((i : ℕ) → i < length row → get_or row i 0 ≤ 1) → (e : ℕ) → times e ≤ 1
-row-once size times row is once e = elim (cases_lt e (length row)) [
-  | inl h ↦ omega (arith, once e h, is.counts e)
-  | inr h ↦ omega (arith, get_or_past row e 0 h, is.counts e)
-]
+    ((i : ℕ) → i < length row → get_or row i 0 ≤ 1) → (e : ℕ) → e < size → times e ≤ 1
+row-once size times row is once e l = omega (arith, once e (omega (arith, is.len)), is.counts e l)

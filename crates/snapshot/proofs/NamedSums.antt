@@ -1,8 +1,8 @@
 -- How often elements are named, as sums over what names them.
-use Rattle.std.proofs.Common.{ℕ, ◌≡◌, ◌+◌, Bool, List, [], ◌∷◌, Option, refl, arith}
+use Rattle.std.proofs.Common.{ℕ, ◌≡◌, ◌+◌, Bool, List, [], ◌∷◌, refl, arith}
 use Rattle.std.specs.Prelude.{sum_by}
 use Rattle.std.proofs.lemmas.List.Sums.{sum_by-cons}
-use Rattle.commons.specs.Bag.{bag, one}
+use Rattle.commons.specs.Bag.{bag}
 use Rattle.commons.specs.declared.packet.Seg.{Seg}
 use Rattle.commons.specs.Packets.{held_in, holds_of_packet, holds_of_seg}
 use Rattle.commons.proofs.Bags.{bag-nil, bag-append}
@@ -10,14 +10,7 @@ use Rattle.pool_model.specs.Guests.{guest_holds, local_table}
 use Rattle.snapshot.specs.declared.snapshot.ShareData.{ShareData}
 use Rattle.snapshot.specs.declared.snapshot.Snapshot.{Snapshot}
 use Rattle.snapshot.specs.Snapshots.{times_named}
-use Rattle.snapshot.specs.inside.Least.{IsLeast, lesser_of}
-use Rattle.snapshot.proofs.Least.{least-joined, least-same}
 use Rattle.snapshot.proofs.Times.{held-is}
-
--- a list, by its elements
-pub bag-sum : (xs : List ℕ) (e : ℕ) → sum_by (λ x. one x e) xs ≡ bag xs e
-unfolding bag
-bag-sum xs e = refl
 
 -- a packet, by its segments
 pub packet-sum : (segs : List Seg) (e : ℕ) →
@@ -50,19 +43,3 @@ pub named-sum : (s : Snapshot) (e : ℕ) →
     + held_in (local_table s.foreign s.desks) e)
     ≡ times_named s e
 named-sum s e = omega (arith, shares-sum s.foreign s.shares e, held-is s e)
-
--- the least that a snapshot names, from what its guests, its shares and its desks name
-pub least-named : (s : Snapshot) (a b c : Option ℕ) → IsLeast s.limits.population (guest_holds s.guests) a →
-    IsLeast s.limits.population
-    (λ e. sum_by (λ share. bag share.cache e + held_in (local_table s.foreign share.slots) e) s.shares) b →
-    IsLeast s.limits.population (held_in (local_table s.foreign s.desks)) c →
-    IsLeast s.limits.population (times_named s) (lesser_of a (lesser_of b c))
-least-named s a b c guests shares desks =
-    let limit = s.limits.population in
-    let by_guest = guest_holds s.guests in
-    let by_share = λ (e : ℕ). sum_by (λ share. bag share.cache e + held_in (local_table s.foreign share.slots) e) s.shares in
-    let by_desk = held_in (local_table s.foreign s.desks) in
-    least-same limit (λ e. by_guest e + (by_share e + by_desk e)) (times_named s) (lesser_of a (lesser_of b c))
-    (named-sum s)
-    (least-joined limit by_guest (λ e. by_share e + by_desk e) a (lesser_of b c) guests
-    (least-joined limit by_share by_desk b c shares desks))

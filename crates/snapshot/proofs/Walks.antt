@@ -112,7 +112,7 @@ pub walked_ends : (s : Snapshot) (elems : List ℕ) → Walked s elems 0 → len
 walked_ends s elems w = omega (arith, ap length (walked_walk s elems w), w.few)
 
 -- a list has its element
-has_one : (word : ℕ) → Contains (word ∷ []) word
+pub has_one : (word : ℕ) → Contains (word ∷ []) word
 has_one word = All-head (Contains (word ∷ [])) word [] (All-contains_itself (word ∷ []))
 
 -- and no other
@@ -121,7 +121,7 @@ one_only word v h = All-contains (λ (v : ℕ). v ≡ word) (word ∷ []) v
     (All-cons (λ (v : ℕ). v ≡ word) word [] refl (All-nil (λ (v : ℕ). v ≡ word))) h
 
 -- the only word above the population
-over_only : (population : ℕ) (elems : List ℕ) (word v : ℕ) → All (IsBelow population) elems → population < v →
+pub over_only : (population : ℕ) (elems : List ℕ) (word v : ℕ) → All (IsBelow population) elems → population < v →
     Contains (words_of elems ++ word ∷ []) v → v ≡ word
 over_only population elems word v below over h =
     elim (Contains-append_cases (words_of elems) (word ∷ []) v h) as (λ _. v ≡ word) [
@@ -134,7 +134,7 @@ over_only population elems word v below over h =
     ]
 
 -- what is met where the word is above the population
-met_over : (s : Snapshot) (elems : List ℕ) (word : ℕ) → Walked s elems word → s.limits.population < word →
+pub met_over : (s : Snapshot) (elems : List ℕ) (word : ℕ) → Walked s elems word → s.limits.population < word →
     words_met s ≡ words_of elems ++ word ∷ []
 met_over s elems zero w over = absurd (omega arith)
 met_over s elems (suc e) w over =
@@ -159,7 +159,7 @@ walked_over s elems word shape w over =
     (same_top s word (λ v more there. over_only s.limits.population elems word v w.below more (rw met at there)))
 
 -- what is met where there are as many elements as the pool has, and the word names one more
-met_full : (s : Snapshot) (elems : List ℕ) (e : ℕ) → Walked s elems (suc e) → length elems ≡ s.limits.population →
+pub met_full : (s : Snapshot) (elems : List ℕ) (e : ℕ) → Walked s elems (suc e) → length elems ≡ s.limits.population →
     words_met s ≡ words_of elems ++ suc e ∷ []
 met_full s elems e w full =
     let none : s.limits.population - length elems ≡ 0 = omega arith in

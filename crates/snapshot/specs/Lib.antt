@@ -1,3 +1,4 @@
+pub mod AllFaults
 pub mod Closing
 pub mod Faults
 pub mod Lost

@@ -32,7 +32,7 @@ pub fn audit(alloc: Global, snapshot: &Snapshot) -> Result<Statement, Fault>
     shape::check(snapshot)?;
     let walk = walking::walk(alloc, snapshot)?;
     walking::check_length(snapshot, walk.as_slice())?;
-    elements::check(snapshot)?;
+    elements::check(alloc, snapshot)?;
     packets::check(snapshot)?;
     tally::check(alloc, snapshot, walk.as_slice())?;
     match placing::statement(alloc, snapshot, walk) {

@@ -1,13 +1,13 @@
-//! Whether the pool has the elements that caches, packets and guests name: it has those below its
-//! population.
+//! Elements that the pool doesn't have and that the stack, caches, packets and guests name: the
+//! pool has those below its population.
 
-ghost use Rattle.std.specs.Prelude.{◌≡◌, ◌+◌, ◌≤◌, ℕ, IfErr, IfOk, sum_by};
+ghost use Rattle.std.specs.Prelude.{◌≡◌, ◌⊎◌, ◌+◌, ◌≤◌, ℕ, [], IfErr, IfOk, sum_by};
 ghost use Rattle.commons.specs.Bag.{bag, one};
 ghost use Rattle.commons.specs.Packets.{hold_of, held_in, holds_in_slot, holds_of_packet, holds_of_seg};
 ghost use Rattle.pool_model.specs.Guests.{guest_holds, local_packet, local_place, local_table};
 ghost use Rattle.snapshot.specs.Faults.{IsCleanBelow, IsFirstFault};
 ghost use Rattle.snapshot.specs.Snapshots.{times_named};
-ghost use Rattle.snapshot.specs.inside.Least.{IsLeast, lesser_of};
+ghost use Rattle.snapshot.specs.inside.Gathered.{AreStrangers, HasGathered, IsSetOf};
 
 use crate::fault::Fault;
 use crate::local::local;
@@ -15,134 +15,169 @@ use crate::snapshot::{ShareData, Snapshot};
 use commons::packet::Seg;
 use commons::seq::Seq;
 use pool_model::guest::Guest;
+use std::alloc::{AllocError, Global};
 
 /// Finds the least element that a cache, a packet or a guest names and that the pool doesn't have.
-pub(crate) fn check(snapshot: &Snapshot) -> Result<(), Fault>
+pub(crate) fn check(alloc: Global, snapshot: &Snapshot) -> Result<(), Fault>
     requires clean { IsCleanBelow 4 snapshot.now }
+    ensures ok { IfOk result (λ _. (e : ℕ) → snapshot.now.limits.population ≤ e → times_named snapshot.now e ≡ 0) }
+    ensures first { IfErr result (λ f. (f ≡ Fault.OutOfMemory) ⊎ IsFirstFault snapshot.now f) }
+{
+    match strangers(alloc, snapshot, &[]) {
+        Ok(elems) => no_stranger(snapshot, elems.as_slice()),
+        Err(_) => Err(Fault::OutOfMemory),
+    }
+}
+
+/// Tests that there is none, else answers the first.
+fn no_stranger(snapshot: &Snapshot, elems: &[u32]) -> Result<(), Fault>
+    requires clean { IsCleanBelow 4 snapshot.now }
+    requires strangers { AreStrangers [] snapshot.now elems.now }
     ensures ok { IfOk result (λ _. (e : ℕ) → snapshot.now.limits.population ≤ e → times_named snapshot.now e ≡ 0) }
     ensures first { IfErr result (λ f. IsFirstFault snapshot.now f) }
 {
+    if elems.is_empty() {
+        return Ok(());
+    }
+    Err(Fault::BadElem(elems[0]))
+}
+
+/// The elements that the pool doesn't have and that this stack, a cache, a packet or a guest names:
+/// each once, ascending.
+pub(crate) fn strangers(
+    alloc: Global,
+    snapshot: &Snapshot,
+    stack: &[u32],
+) -> Result<Vec<u32>, AllocError>
+    ensures { IfOk result (λ elems. AreStrangers stack.now snapshot.now elems.items) }
+{
     let population = snapshot.limits.population;
     let foreign = snapshot.foreign;
-    let guests = in_guests(snapshot.guests.as_slice(), population);
-    let shares = in_shares(snapshot.shares.as_slice(), population, foreign);
-    let desks = in_table(snapshot.desks.as_slice(), population, foreign);
-    match lesser(guests, lesser(shares, desks)) {
-        Some(elem) => Err(Fault::BadElem(elem)),
+    let mut named = Vec::new(alloc);
+    in_list(&mut named, stack, population)?;
+    in_shares(&mut named, snapshot.shares.as_slice(), population, foreign)?;
+    in_table(&mut named, snapshot.desks.as_slice(), population, foreign)?;
+    in_guests(&mut named, snapshot.guests.as_slice(), population)?;
+    leave_each_once(&mut named)?;
+    Ok(named)
+}
+
+/// Leaves each element once, ascending.
+fn leave_each_once(elems: &mut Vec<u32>) -> Result<(), AllocError>
+    ensures { IfOk result (λ _. IsSetOf elems.old.items elems.new.items) }
+{
+    elems.sort()?;
+    elems.dedup();
+    Ok(())
+}
+
+/// Gathers those that are guests.
+fn in_guests(named: &mut Vec<u32>, guests: &[Guest], population: u64) -> Result<(), AllocError>
+    ensures { IfOk result (λ _. HasGathered population (guest_holds guests.now) named.old.items named.new.items) }
+{
+    for guest in guests {
+        gather(named, guest.elem, population)?;
+    }
+    Ok(())
+}
+
+/// Gathers those in shares.
+fn in_shares(
+    named: &mut Vec<u32>,
+    shares: &[ShareData],
+    population: u64,
+    foreign: bool,
+) -> Result<(), AllocError>
+    ensures { IfOk result (λ _. HasGathered population
+        (λ e. sum_by (λ share. bag share.cache e + held_in (local_table foreign share.slots) e) shares.now)
+        named.old.items named.new.items) }
+{
+    for share in shares {
+        in_list(named, share.cache.as_slice(), population)?;
+        in_table(named, share.slots.as_slice(), population, foreign)?;
+    }
+    Ok(())
+}
+
+/// Gathers those in the packets of a table, of slots or of desks.
+fn in_table(
+    named: &mut Vec<u32>,
+    table: &[Option<Seq<Seg>>],
+    population: u64,
+    foreign: bool,
+) -> Result<(), AllocError>
+    ensures { IfOk result (λ _. HasGathered population (held_in (local_table foreign table.now)) named.old.items named.new.items) }
+{
+    for place in table {
+        in_place(named, place, population, foreign)?;
+    }
+    Ok(())
+}
+
+/// Gathers those in the packet at a place, where one is there.
+fn in_place(
+    named: &mut Vec<u32>,
+    place: &Option<Seq<Seg>>,
+    population: u64,
+    foreign: bool,
+) -> Result<(), AllocError>
+    ensures { IfOk result (λ _. HasGathered population (bag (holds_in_slot (local_place foreign place.now))) named.old.items named.new.items) }
+{
+    match place {
+        Some(segs) => in_packet(named, segs.as_slice(), population, foreign),
         None => Ok(()),
     }
 }
 
-/// The least such element that is a guest.
-fn in_guests(guests: &[Guest], population: u64) -> Option<u32>
-    ensures { IsLeast population (guest_holds guests.now) result }
+/// Gathers those in a packet.
+fn in_packet(
+    named: &mut Vec<u32>,
+    segs: &[Seg],
+    population: u64,
+    foreign: bool,
+) -> Result<(), AllocError>
+    ensures { IfOk result (λ _. HasGathered population (bag (holds_of_packet (local_packet foreign segs.now))) named.old.items named.new.items) }
 {
-    let mut least = None;
-    for guest in guests {
-        least = lesser(least, above(guest.elem, population));
-    }
-    least
-}
-
-/// The least such element in shares.
-fn in_shares(shares: &[ShareData], population: u64, foreign: bool) -> Option<u32>
-    ensures { IsLeast population (λ e. sum_by (λ share. bag share.cache e + held_in (local_table foreign share.slots) e)
-        shares.now) result }
-{
-    let mut least = None;
-    for share in shares {
-        least = lesser(least, in_share(share, population, foreign));
-    }
-    least
-}
-
-/// The least such element in a share.
-fn in_share(share: &ShareData, population: u64, foreign: bool) -> Option<u32>
-    ensures { IsLeast population (λ e. bag share.now.cache e + held_in (local_table foreign share.now.slots) e) result }
-{
-    let cache = in_list(share.cache.as_slice(), population);
-    let slots = in_table(share.slots.as_slice(), population, foreign);
-    lesser(cache, slots)
-}
-
-/// The least such element in the packets of a table, of slots or of desks.
-fn in_table(table: &[Option<Seq<Seg>>], population: u64, foreign: bool) -> Option<u32>
-    ensures { IsLeast population (held_in (local_table foreign table.now)) result }
-{
-    let mut least = None;
-    for place in table {
-        least = lesser(least, in_place(place, population, foreign));
-    }
-    least
-}
-
-/// The least such element in the packet at a place, where one is there.
-fn in_place(place: &Option<Seq<Seg>>, population: u64, foreign: bool) -> Option<u32>
-    ensures { IsLeast population (bag (holds_in_slot (local_place foreign place.now))) result }
-{
-    match place {
-        Some(segs) => in_packet(segs.as_slice(), population, foreign),
-        None => None,
-    }
-}
-
-/// The least such element in a packet.
-fn in_packet(segs: &[Seg], population: u64, foreign: bool) -> Option<u32>
-    ensures { IsLeast population (bag (holds_of_packet (local_packet foreign segs.now))) result }
-{
-    let mut least = None;
     for seg in segs {
-        least = lesser(least, in_seg(local(*seg, foreign), population));
+        in_seg(named, local(*seg, foreign), population)?;
     }
-    least
+    Ok(())
 }
 
-/// The least such element of a segment: its base or its own.
-fn in_seg(seg: Seg, population: u64) -> Option<u32>
-    ensures { IsLeast population (bag (holds_of_seg seg)) result }
+/// Gathers those of a segment: its base and its own.
+fn in_seg(named: &mut Vec<u32>, seg: Seg, population: u64) -> Result<(), AllocError>
+    ensures { IfOk result (λ _. HasGathered population (bag (holds_of_seg seg)) named.old.items named.new.items) }
 {
-    lesser(in_base(seg.base, population), above(seg.elem, population))
+    in_base(named, seg.base, population)?;
+    gather(named, seg.elem, population)
 }
 
-/// The base, where it is such an element.
-fn in_base(base: Option<u32>, population: u64) -> Option<u32>
-    ensures { IsLeast population (bag (hold_of base)) result }
+/// Gathers the base, where it is such an element.
+fn in_base(named: &mut Vec<u32>, base: Option<u32>, population: u64) -> Result<(), AllocError>
+    ensures { IfOk result (λ _. HasGathered population (bag (hold_of base)) named.old.items named.new.items) }
 {
     match base {
-        Some(elem) => above(elem, population),
-        None => None,
+        Some(elem) => gather(named, elem, population),
+        None => Ok(()),
     }
 }
 
-/// The least such element in a list.
-fn in_list(elems: &[u32], population: u64) -> Option<u32>
-    ensures { IsLeast population (bag elems.now) result }
+/// Gathers those in a list.
+fn in_list(named: &mut Vec<u32>, elems: &[u32], population: u64) -> Result<(), AllocError>
+    ensures { IfOk result (λ _. HasGathered population (bag elems.now) named.old.items named.new.items) }
 {
-    let mut least = None;
     for elem in elems {
-        least = lesser(least, above(*elem, population));
+        gather(named, *elem, population)?;
     }
-    least
+    Ok(())
 }
 
-/// The element, where it is such a one: not below the population.
-fn above(elem: u32, population: u64) -> Option<u32>
-    ensures { IsLeast population (one elem) result }
+/// Gathers an element, where it is such a one: not below the population.
+fn gather(named: &mut Vec<u32>, elem: u32, population: u64) -> Result<(), AllocError>
+    ensures { IfOk result (λ _. HasGathered population (one elem) named.old.items named.new.items) }
 {
     if population <= u64::from(elem) {
-        Some(elem)
-    } else {
-        None
+        named.push(elem)?;
     }
-}
-
-/// The lesser of two elements, where there are two.
-fn lesser(a: Option<u32>, b: Option<u32>) -> Option<u32>
-    ensures { result ≡ lesser_of a b }
-{
-    match (a, b) {
-        (Some(a), Some(b)) => Some(a.min(b)),
-        (Some(a), None) => Some(a),
-        (None, b) => b,
-    }
+    Ok(())
 }

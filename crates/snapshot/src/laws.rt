@@ -1,9 +1,11 @@
 //! Laws of lawful snapshots, and of faults.
 
-ghost use Rattle.std.specs.Prelude.{◌≡◌, ◌+◌, ◌↔◌, ℕ, [], false};
+ghost use Rattle.std.specs.Prelude.{◌≡◌, ◌+◌, ◌↔◌, ◌∷◌, ℕ, List, [], false};
+ghost use Rattle.commons.specs.Bounds.{IsPool};
 ghost use Rattle.snapshot.specs.declared.fault.Fault.{Fault};
 ghost use Rattle.snapshot.specs.declared.snapshot.Snapshot.{Snapshot};
-ghost use Rattle.snapshot.specs.Faults.{IsFault};
+ghost use Rattle.snapshot.specs.AllFaults.{AreAllFaults, IsTold};
+ghost use Rattle.snapshot.specs.Faults.{IsFault, IsFirstFault};
 ghost use Rattle.snapshot.specs.Places.{PlacesItsPackets};
 ghost use Rattle.snapshot.specs.Snapshots.{HasSlots, IsLawful, ListsItsElements, pool_of, statement_in, times_held};
 ghost use Rattle.pool_model.specs.Sound.{ListsOnlyPackets};
@@ -37,4 +39,16 @@ pub fn a_pool_alone_has_no_guests()
     ensures statement { (s : Snapshot) → s.guests ≡ [] → s.foreign ≡ false → statement_in s ≡ statement_of (pool_of s) }
     ensures once { (s : Snapshot) (statement : Statement) → s.guests ≡ [] → s.foreign ≡ false →
         ListsItsElements s statement ↔ ListsEachOnce statement }
+{}
+
+/// A snapshot of a pool's limits of which no fault is told is lawful, and of a lawful one none is.
+pub fn a_snapshot_without_told_faults_is_lawful()
+    ensures lawful { (s : Snapshot) → IsPool s.limits → AreAllFaults (IsTold s) [] → IsLawful s }
+    ensures none { (s : Snapshot) → IsLawful s → AreAllFaults (IsTold s) [] }
+{}
+
+/// The first of all faults of a snapshot that are told is the one that the audit answers.
+pub fn the_first_told_fault_is_the_audits()
+    ensures first { (s : Snapshot) (f : Fault) (more : List Fault) → IsPool s.limits → AreAllFaults (IsTold s) (f ∷ more) →
+        IsFirstFault s f }
 {}

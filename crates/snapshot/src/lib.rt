@@ -1,6 +1,7 @@
 //! A closed pool as plain data, and its audit.
 #![tactic(auto)]
 
+pub mod all_faults;
 pub mod audit;
 pub mod closing;
 mod elements;

@@ -3,7 +3,7 @@
 ghost use Rattle.std.specs.Prelude.{◌≡◌, ◌↔◌, List, IfErr, IfOk, IsTrue, MatchBool};
 ghost use Rattle.commons.specs.Packets.{HasItsData, IsPacket};
 ghost use Rattle.commons.specs.declared.packet.Seg.{Seg};
-ghost use Rattle.snapshot.specs.Faults.{IsCleanBelow, IsFirstFault};
+ghost use Rattle.snapshot.specs.Faults.{IsCleanBelow, IsFault, IsFirstFault};
 ghost use Rattle.snapshot.specs.Snapshots.{HasPacket};
 ghost use Rattle.snapshot.specs.inside.Checked.{HasOther, HasPackets, HaveOther, HavePackets, IsOtherIn, IsPacketIn};
 
@@ -18,13 +18,21 @@ pub(crate) fn check(snapshot: &Snapshot) -> Result<(), Fault>
     ensures ok { IfOk result (λ _. (segs : List Seg) → HasPacket snapshot.now segs → IsPacket segs) }
     ensures first { IfErr result (λ f. IsFirstFault snapshot.now f) }
 {
-    let desks = are_packets(snapshot.desks.as_slice());
-    let shares = have_packets(snapshot.shares.as_slice());
-    if desks && shares {
+    if has_packets(snapshot) {
         Ok(())
     } else {
         Err(Fault::BadPacket)
     }
+}
+
+/// Whether what stands in slots and on desks is packets.
+pub(crate) fn has_packets(snapshot: &Snapshot) -> bool
+    ensures { MatchBool result ((segs : List Seg) → HasPacket snapshot.now segs → IsPacket segs)
+        (IsFault snapshot.now Fault.BadPacket) }
+{
+    let desks = are_packets(snapshot.desks.as_slice());
+    let shares = have_packets(snapshot.shares.as_slice());
+    desks && shares
 }
 
 /// Whether what stands in the slots of shares is packets.

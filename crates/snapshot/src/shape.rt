@@ -17,13 +17,25 @@ const MOST_GUESTS: u64 = 8192;
 /// The most places of a share: a slot's number has 32 bits.
 const MOST_PLACES: u64 = 1 << 32;
 
-/// Tests whether there are one link and one count for each element, a place for each desk, and a
-/// share for each worker in order, with a number for each of its places, and whether guests are of
-/// these workers and no more than they may have, else answers `BadShape`.
+/// Tests whether a snapshot has the shape of its pool, else answers `BadShape`.
 pub(crate) fn check(snapshot: &Snapshot) -> Result<(), Fault>
     requires pool { IsPool snapshot.now.limits }
     ensures ok { IfOk result (λ _. HasShape snapshot.now) }
     ensures first { IfErr result (λ f. IsFirstFault snapshot.now f) }
+{
+    if has_shape(snapshot) {
+        Ok(())
+    } else {
+        Err(Fault::BadShape)
+    }
+}
+
+/// Whether there are one link and one count for each element, a place for each desk, and a share
+/// for each worker in order, with a number for each of its places, and whether guests are of these
+/// workers and no more than they may have.
+pub(crate) fn has_shape(snapshot: &Snapshot) -> bool
+    requires pool { IsPool snapshot.now.limits }
+    ensures { IsTrue result ↔ HasShape snapshot.now }
 {
     let limits = &snapshot.limits;
     let links = snapshot.links.len() as u64 == limits.population;
@@ -33,11 +45,7 @@ pub(crate) fn check(snapshot: &Snapshot) -> Result<(), Fault>
     let places = have_numbers(snapshot.shares.as_slice());
     let few = snapshot.guests.len() as u64 <= limits.workers * MOST_GUESTS;
     let guests = few && are_of_workers(snapshot.guests.as_slice(), limits.workers);
-    if links && counts && desks && shares && places && guests {
-        Ok(())
-    } else {
-        Err(Fault::BadShape)
-    }
+    links && counts && desks && shares && places && guests
 }
 
 /// Tests whether there is one share for each worker in order.

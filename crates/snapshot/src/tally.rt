@@ -9,7 +9,7 @@ ghost use Rattle.snapshot.specs.inside.Tallies.{IsTally};
 
 mod rows;
 mod searches;
-mod tables;
+pub(crate) mod tables;
 
 use crate::fault::Fault;
 use crate::snapshot::Snapshot;
@@ -44,7 +44,7 @@ pub(crate) fn check(alloc: Global, snapshot: &Snapshot, walked: &[u32]) -> Resul
 fn judge(snapshot: &Snapshot, tally: &Tally) -> Result<(), Fault>
     requires pool { IsPool snapshot.now.limits }
     requires shape { HasShape snapshot.now }
-    requires tally { IsTally snapshot.now tally.now }
+    requires tally { IsTally (walk snapshot.now) snapshot.now tally.now }
     requires known { (e : ℕ) → snapshot.now.limits.population ≤ e → times_named snapshot.now e ≡ 0 }
     requires clean { IsCleanBelow 6 snapshot.now }
     ensures own { IfOk result (λ _. (e : ℕ) → times_own snapshot.now e ≤ 1) }
@@ -67,7 +67,7 @@ fn judge(snapshot: &Snapshot, tally: &Tally) -> Result<(), Fault>
 fn judge_holds(snapshot: &Snapshot, tally: &Tally) -> Result<(), Fault>
     requires pool { IsPool snapshot.now.limits }
     requires counts { length snapshot.now.counts ≡ snapshot.now.limits.population }
-    requires tally { IsTally snapshot.now tally.now }
+    requires tally { IsTally (walk snapshot.now) snapshot.now tally.now }
     requires few { (e : ℕ) → times_held snapshot.now e ≤ 4_294_967_295 }
     requires known { (e : ℕ) → snapshot.now.limits.population ≤ e → times_named snapshot.now e ≡ 0 }
     requires clean { IsCleanBelow 7 snapshot.now }

@@ -4,6 +4,7 @@ ghost use Rattle.std.specs.Prelude.{◌≡◌, ◌≤◌, ◌⊎◌, All, IfErr,
 ghost use Rattle.commons.specs.Bounds.{IsPool};
 ghost use Rattle.snapshot.specs.Faults.{IsCleanBelow, IsFirstFault};
 ghost use Rattle.snapshot.specs.Snapshots.{HasShape, walk, words_met};
+ghost use Rattle.snapshot.specs.inside.Breaks.{IsBreak};
 
 use crate::fault::Fault;
 use crate::snapshot::Snapshot;
@@ -17,6 +18,7 @@ pub(crate) fn walk(alloc: Global, snapshot: &Snapshot) -> Result<Vec<u32>, Fault
     ensures words { IfOk result (λ _. All (λ word. word ≤ snapshot.now.limits.population) (words_met snapshot.now)) }
     ensures ends { IfOk result (λ _. length (walk snapshot.now) ≤ snapshot.now.limits.population) }
     ensures first { IfErr result (λ f. (f ≡ Fault.OutOfMemory) ⊎ IsFirstFault snapshot.now f) }
+    ensures broken { IfErr result (λ f. (f ≡ Fault.OutOfMemory) ⊎ IsBreak snapshot.now f) }
 {
     let population = snapshot.limits.population;
     let links = snapshot.links.as_slice();

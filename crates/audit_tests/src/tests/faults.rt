@@ -9,56 +9,56 @@ use pool_model::statement::Holder;
 use snapshot::fault::Fault;
 
 // A chain of two, its clone, and three packets that use the buffer of element 6.
-const E0: Seg = Seg {
+pub(super) const E0: Seg = Seg {
     data_len: 60,
     ..FRESH
 };
 
-const E1: Seg = Seg {
+pub(super) const E1: Seg = Seg {
     elem: 1,
     data_len: 40,
     ..FRESH
 };
 
-const C8: Seg = Seg {
+pub(super) const C8: Seg = Seg {
     elem: 8,
     base: Some(0),
     data_len: 60,
     ..FRESH
 };
 
-const C10: Seg = Seg {
+pub(super) const C10: Seg = Seg {
     elem: 10,
     base: Some(1),
     data_len: 40,
     ..FRESH
 };
 
-const E6: Seg = Seg {
+pub(super) const E6: Seg = Seg {
     elem: 6,
     data_len: 7,
     ..FRESH
 };
 
-const C4: Seg = Seg {
+pub(super) const C4: Seg = Seg {
     elem: 4,
     base: Some(6),
     data_len: 7,
     ..FRESH
 };
 
-const C12: Seg = Seg {
+pub(super) const C12: Seg = Seg {
     elem: 12,
     base: Some(6),
     data_len: 7,
     ..FRESH
 };
 
-const FIRST: Handed = (1, &[5], &[(0, &[E0, E1]), (3, &[C4])]);
+pub(super) const FIRST: Handed = (1, &[5], &[(0, &[E0, E1]), (3, &[C4])]);
 
-const SECOND: Handed = (2, &[], &[(255, &[C8, C10])]);
+pub(super) const SECOND: Handed = (2, &[], &[(255, &[C8, C10])]);
 
-const THIRD: Handed = (3, &[9, 2], &[]);
+pub(super) const THIRD: Handed = (3, &[9, 2], &[]);
 
 /// Elements 7, 3 and 11 are common, and 5, 9 and 2 in caches; desk 0 is empty.
 pub(super) const LARGE: Shown = Shown {

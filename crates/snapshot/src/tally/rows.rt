@@ -1,7 +1,7 @@
-//! Rows that count, for each element, how often it was met. Each number stops at the greatest
-//! `u32`.
+//! Rows that count, for each element of a pool, how often it was met. Each number stops at the
+//! greatest `u32`. An element that the pool doesn't have is passed over.
 
-ghost use Rattle.std.specs.Prelude.{◌≡◌, ◌<◌, ◌≤◌, ℕ, IfOk, length};
+ghost use Rattle.std.specs.Prelude.{IfOk};
 ghost use Rattle.commons.specs.Bag.{bag, one};
 ghost use Rattle.commons.specs.Packets.{hold_of, holds_of_packet, holds_of_seg, own_of_packet};
 ghost use Rattle.pool_model.specs.Guests.{guest_holds, local_packet};
@@ -21,16 +21,16 @@ pub(crate) fn zeros(alloc: Global, size: usize) -> Result<Vec<u32>, AllocError>
 
 /// Counts an element.
 fn count(row: &mut Vec<u32>, elem: u32)
-    requires { elem < length row.old.items }
     ensures { HasMet (one elem) row.old.items row.new.items }
 {
     let index = elem as usize;
-    row[index] = row[index].saturating_add(1);
+    if index < row.len() {
+        row[index] = row[index].saturating_add(1);
+    }
 }
 
 /// Counts each of these elements.
 pub(crate) fn count_all(row: &mut Vec<u32>, elems: &[u32])
-    requires { (e : ℕ) → 0 < bag elems.now e → e < length row.old.items }
     ensures { HasMet (bag elems.now) row.old.items row.new.items }
 {
     for elem in elems {
@@ -40,7 +40,6 @@ pub(crate) fn count_all(row: &mut Vec<u32>, elems: &[u32])
 
 /// Counts the element of each guest.
 pub(crate) fn count_guests(row: &mut Vec<u32>, guests: &[Guest])
-    requires { (e : ℕ) → 0 < guest_holds guests.now e → e < length row.old.items }
     ensures { HasMet (guest_holds guests.now) row.old.items row.new.items }
 {
     for guest in guests {
@@ -50,7 +49,6 @@ pub(crate) fn count_guests(row: &mut Vec<u32>, guests: &[Guest])
 
 /// Counts the base, where there is one.
 fn count_base(row: &mut Vec<u32>, base: Option<u32>)
-    requires { (e : ℕ) → 0 < bag (hold_of base) e → e < length row.old.items }
     ensures { HasMet (bag (hold_of base)) row.old.items row.new.items }
 {
     match base {
@@ -61,7 +59,6 @@ fn count_base(row: &mut Vec<u32>, base: Option<u32>)
 
 /// Counts what a segment holds.
 fn count_seg(row: &mut Vec<u32>, seg: Seg)
-    requires { (e : ℕ) → 0 < bag (holds_of_seg seg) e → e < length row.old.items }
     ensures { HasMet (bag (holds_of_seg seg)) row.old.items row.new.items }
 {
     count_base(row, seg.base);
@@ -70,8 +67,6 @@ fn count_seg(row: &mut Vec<u32>, seg: Seg)
 
 /// Counts the own elements of segments in the one row, and what they hold in the other.
 pub(crate) fn count_packet(own: &mut Vec<u32>, held: &mut Vec<u32>, segs: &[Seg], foreign: bool)
-    requires below { (e : ℕ) → 0 < bag (holds_of_packet (local_packet foreign segs.now)) e → e < length held.old.items }
-    requires same { length own.old.items ≡ length held.old.items }
     ensures own { HasMet (bag (own_of_packet segs.now)) own.old.items own.new.items }
     ensures held { HasMet (bag (holds_of_packet (local_packet foreign segs.now))) held.old.items held.new.items }
 {

@@ -1,10 +1,9 @@
 //! How often each element of a snapshot is an own element, held and free.
 
-ghost use Rattle.std.specs.Prelude.{◌≡◌, ◌<◌, ◌≤◌, ℕ, IfOk, length, sum_by};
+ghost use Rattle.std.specs.Prelude.{IfOk, sum_by};
 ghost use Rattle.commons.specs.Bag.{bag};
 ghost use Rattle.commons.specs.Packets.{held_in, holds_in_slot, own_in, own_in_slot};
 ghost use Rattle.pool_model.specs.Guests.{local_place, local_table};
-ghost use Rattle.snapshot.specs.Snapshots.{times_named, walk};
 ghost use Rattle.snapshot.specs.inside.Tallies.{HasMet, IsTally};
 
 use crate::snapshot::{ShareData, Snapshot};
@@ -20,19 +19,18 @@ pub(crate) struct Tally {
     pub own: Vec<u32>,
     /// How often packets hold it, and guests are it.
     pub held: Vec<u32>,
-    /// How often it is on the walk and in caches.
+    /// How often it is on the stack and in caches.
     pub free: Vec<u32>,
 }
 
-/// The tally of a snapshot, in time linear in its elements, its segments and its guests.
+/// The tally of a snapshot whose stack has these elements, in time linear in its elements, its
+/// segments and its guests.
 pub(crate) fn tallied(
     alloc: Global,
     snapshot: &Snapshot,
-    walked: &[u32],
+    stack: &[u32],
 ) -> Result<Tally, AllocError>
-    requires walk { walked.now ≡ walk snapshot.now }
-    requires known { (e : ℕ) → snapshot.now.limits.population ≤ e → times_named snapshot.now e ≡ 0 }
-    ensures { IfOk result (λ tally. IsTally snapshot.now tally) }
+    ensures { IfOk result (λ tally. IsTally stack.now snapshot.now tally) }
 {
     let size = snapshot.limits.population as usize;
     let mut own = zeros(alloc, size)?;
@@ -42,14 +40,13 @@ pub(crate) fn tallied(
     count_shares(&mut own, &mut held, snapshot.shares.as_slice(), foreign);
     count_table(&mut own, &mut held, snapshot.desks.as_slice(), foreign);
     count_guests(&mut held, snapshot.guests.as_slice());
-    count_all(&mut free, walked);
+    count_all(&mut free, stack);
     count_caches(&mut free, snapshot.shares.as_slice());
     Ok(Tally { own, held, free })
 }
 
 /// Counts what is in caches.
 fn count_caches(free: &mut Vec<u32>, shares: &[ShareData])
-    requires { (e : ℕ) → 0 < sum_by (λ share. bag share.cache e) shares.now → e < length free.old.items }
     ensures { HasMet (λ e. sum_by (λ share. bag share.cache e) shares.now) free.old.items free.new.items }
 {
     for share in shares {
@@ -59,8 +56,6 @@ fn count_caches(free: &mut Vec<u32>, shares: &[ShareData])
 
 /// Counts the own elements of the packets of shares, and what these hold.
 fn count_shares(own: &mut Vec<u32>, held: &mut Vec<u32>, shares: &[ShareData], foreign: bool)
-    requires below { (e : ℕ) → 0 < sum_by (λ share. held_in (local_table foreign share.slots) e) shares.now → e < length held.old.items }
-    requires same { length own.old.items ≡ length held.old.items }
     ensures own { HasMet (λ e. sum_by (λ share. own_in share.slots e) shares.now) own.old.items own.new.items }
     ensures held { HasMet (λ e. sum_by (λ share. held_in (local_table foreign share.slots) e) shares.now) held.old.items held.new.items }
 {
@@ -71,8 +66,6 @@ fn count_shares(own: &mut Vec<u32>, held: &mut Vec<u32>, shares: &[ShareData], f
 
 /// Counts the own elements of the packets of a table, and what these hold.
 fn count_table(own: &mut Vec<u32>, held: &mut Vec<u32>, table: &[Option<Seq<Seg>>], foreign: bool)
-    requires below { (e : ℕ) → 0 < held_in (local_table foreign table.now) e → e < length held.old.items }
-    requires same { length own.old.items ≡ length held.old.items }
     ensures own { HasMet (own_in table.now) own.old.items own.new.items }
     ensures held { HasMet (held_in (local_table foreign table.now)) held.old.items held.new.items }
 {
@@ -83,8 +76,6 @@ fn count_table(own: &mut Vec<u32>, held: &mut Vec<u32>, table: &[Option<Seq<Seg>
 
 /// Counts the own elements of the packet in a place, and what it holds, where there is one.
 fn count_place(own: &mut Vec<u32>, held: &mut Vec<u32>, place: &Option<Seq<Seg>>, foreign: bool)
-    requires below { (e : ℕ) → 0 < bag (holds_in_slot (local_place foreign place.now)) e → e < length held.old.items }
-    requires same { length own.old.items ≡ length held.old.items }
     ensures own { HasMet (bag (own_in_slot place.now)) own.old.items own.new.items }
     ensures held { HasMet (bag (holds_in_slot (local_place foreign place.now))) held.old.items held.new.items }
 {

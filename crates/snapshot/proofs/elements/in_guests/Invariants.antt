@@ -1,9 +1,9 @@
-use Rattle.std.proofs.Common.{take, sum_by}
-use Rattle.commons.specs.Bag.{one}
-use Rattle.snapshot.specs.inside.Least.{IsLeast}
+use Rattle.std.proofs.Common.{take}
+use Rattle.pool_model.specs.Guests.{guest_holds}
+use Rattle.snapshot.specs.inside.Gathered.{HasGathered}
 use Rattle.snapshot.proofs.elements.in_guests.Given as goal
 
--- the least so far
+-- of the guests so far
 abbrev pub invariant-loop-guest : goal.invariant-loop-guest
 invariant-loop-guest l =
-    IsLeast l.population (λ e. sum_by (λ guest. one guest.elem e) (take l.guest-index l.guests)) l.least
+    HasGathered l.population (guest_holds (take l.guest-index l.guests)) l.fn.named.items l.named.items

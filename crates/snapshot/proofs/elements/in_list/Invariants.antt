@@ -1,8 +1,8 @@
-use Rattle.std.proofs.Common.{take, sum_by}
-use Rattle.commons.specs.Bag.{one}
-use Rattle.snapshot.specs.inside.Least.{IsLeast}
+use Rattle.std.proofs.Common.{take}
+use Rattle.commons.specs.Bag.{bag}
+use Rattle.snapshot.specs.inside.Gathered.{HasGathered}
 use Rattle.snapshot.proofs.elements.in_list.Given as goal
 
--- the least so far
+-- of the elements so far
 abbrev pub invariant-loop-elem : goal.invariant-loop-elem
-invariant-loop-elem l = IsLeast l.population (λ e. sum_by (λ x. one x e) (take l.elem-index l.elems)) l.least
+invariant-loop-elem l = HasGathered l.population (bag (take l.elem-index l.elems)) l.fn.named.items l.named.items

@@ -1,12 +1,10 @@
-use Rattle.std.proofs.Common.{take, sum_by}
-use Rattle.commons.specs.Bag.{bag}
-use Rattle.commons.specs.Packets.{holds_in_slot}
-use Rattle.pool_model.specs.Guests.{local_place}
-use Rattle.snapshot.specs.inside.Least.{IsLeast}
+use Rattle.std.proofs.Common.{take}
+use Rattle.commons.specs.Packets.{held_in}
+use Rattle.pool_model.specs.Guests.{local_table}
+use Rattle.snapshot.specs.inside.Gathered.{HasGathered}
 use Rattle.snapshot.proofs.elements.in_table.Given as goal
 
--- the least so far
+-- of the packets in the places so far
 abbrev pub invariant-loop-place : goal.invariant-loop-place
 invariant-loop-place l =
-    IsLeast l.population
-    (λ e. sum_by (λ place. bag (holds_in_slot (local_place l.foreign place)) e) (take l.place-index l.table)) l.least
+    HasGathered l.population (held_in (local_table l.foreign (take l.place-index l.table))) l.fn.named.items l.named.items

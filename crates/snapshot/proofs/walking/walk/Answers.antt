@@ -1,5 +1,6 @@
 use Rattle.std.proofs.Common.{◌≡◌, ◌-◌, ◌++◌, ◌∷◌, [], inr, arith, rules}
 use Rattle.snapshot.proofs.Walks.{walked_more, walked_walk, walked_words, walked_ends, walked_over, walked_full}
+use Rattle.snapshot.proofs.BrokenWalks.{broken-full, broken-over}
 use Rattle.snapshot.proofs.walking.walk.Goals as goal
 
 -- a word above the population is the only one, since the walk ends at it
@@ -9,11 +10,23 @@ returns-then-from-population-clause-first c =
     c.loop-word.invariant.walked
     (omega arith))
 
+-- and says why the walk has no end
+pub returns-then-from-population-clause-broken : goal.returns-then-from-population-clause-broken
+returns-then-from-population-clause-broken c =
+    inr (broken-over c.args.snapshot.now c.loop-word.elems.items c.loop-word.word c.loop-word.invariant.walked
+    (omega arith))
+
 -- one element more than there are makes a loop
 pub returns-then-len-population-clause-first : goal.returns-then-len-population-clause-first
 returns-then-len-population-clause-first c =
     inr (walked_full c.args.snapshot.now c.loop-word.elems.items c.loop-word.word c.requires.shape
     c.loop-word.invariant.walked
+    (omega arith) (omega arith) (omega arith))
+
+-- which says why too
+pub returns-then-len-population-clause-broken : goal.returns-then-len-population-clause-broken
+returns-then-len-population-clause-broken c =
+    inr (broken-full c.args.snapshot.now c.loop-word.elems.items c.loop-word.word c.loop-word.invariant.walked
     (omega arith) (omega arith) (omega arith))
 
 -- one element more was passed

@@ -1,21 +1,12 @@
 use Rattle.std.proofs.Common.{◌+◌, [], take, get_or, arith}
 use Rattle.commons.specs.Bag.{bag, one}
 use Rattle.commons.proofs.Bags.{bag-nil}
-use Rattle.snapshot.proofs.Meetings.{met-none, met-then, bag-suc, element-below}
+use Rattle.snapshot.proofs.Meetings.{met-none, met-then, bag-suc}
 use Rattle.snapshot.proofs.tally.rows.count_all.Goals as goal
 
 -- no element was counted yet
 pub loop-elem-init : goal.loop-elem-init
 loop-elem-init c = met-none (bag []) c.args.row.now.items (λ i l. omega (arith, c.type_inv.row i 0 l)) bag-nil
-
--- each element stands in the list
-pub count-requires : goal.count-requires
-count-requires c =
-    omega (
-      arith,
-      c.loop-elem.invariant.len,
-      element-below c.args.elems.now c.loop-elem.elem-index _ c.loop-elem-test.true c.requires,
-    )
 
 -- one element more was counted
 pub loop-elem-preserved : goal.loop-elem-preserved

@@ -1,15 +1,8 @@
 use Rattle.std.proofs.Common.{◌∷◌, [], arith}
 use Rattle.commons.specs.Bag.{bag, one}
-use Rattle.commons.proofs.Bags.{bag-nil, bag-single, one-same}
+use Rattle.commons.proofs.Bags.{bag-nil, bag-single}
 use Rattle.snapshot.proofs.Meetings.{met-as, met-none}
 use Rattle.snapshot.proofs.tally.rows.count_base.Goals as goal
-
--- a base is held once
-pub count-requires : goal.count-requires
-count-requires c =
-    let e = c.in-Some.elem in
-    let below = rw c.in-Some.is at (c.requires e) in
-    below (omega (arith, bag-single e e, one-same e))
 
 -- and is counted once
 pub returns-in-Some : goal.returns-in-Some

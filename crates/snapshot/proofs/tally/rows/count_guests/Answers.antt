@@ -1,7 +1,6 @@
 use Rattle.std.proofs.Common.{◌+◌, [], get_or, refl, take, arith}
-use Rattle.std.proofs.lemmas.List.Sums.{get_or-le-sum_by, sum_by_more}
+use Rattle.std.proofs.lemmas.List.Sums.{sum_by_more}
 use Rattle.commons.specs.Bag.{one}
-use Rattle.commons.proofs.Bags.{one-same}
 use Rattle.pool_model.specs.declared.guest.Guest.{Guest}
 use Rattle.pool_model.specs.Guests.{guest_holds}
 use Rattle.snapshot.proofs.Meetings.{met-none, met-then}
@@ -11,16 +10,6 @@ use Rattle.snapshot.proofs.tally.rows.count_guests.Goals as goal
 pub loop-guest-init : goal.loop-guest-init
 loop-guest-init c =
     met-none (guest_holds []) c.args.row.now.items (λ i l. omega (arith, c.type_inv.row i 0 l)) (λ i. refl)
-
--- each is one of the guests
-pub count-requires : goal.count-requires
-count-requires c =
-    let guests = c.args.guests.now in
-    let k = c.loop-guest.guest-index in
-    let nobody : Guest = record { worker = 0; elem = 0 } in
-    let e = (get_or guests k nobody).elem in
-    let here = get_or-le-sum_by (λ (guest : Guest). one guest.elem e) guests k nobody c.loop-guest-test.true in
-    omega (arith, c.requires e (omega (arith, here, one-same e)), c.loop-guest.invariant.len)
 
 -- one guest more was counted
 pub loop-guest-preserved : goal.loop-guest-preserved

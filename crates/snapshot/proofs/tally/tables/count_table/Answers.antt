@@ -1,20 +1,12 @@
-use Rattle.std.proofs.Common.{ℕ, ◌+◌, List, Option, take, sym, ap, ◌∙◌, arith}
+use Rattle.std.proofs.Common.{ℕ, ◌+◌, List, Option, take, sym, ap, ◌∙◌}
 use Rattle.std.proofs.lemmas.List.Sums.{sum_by_more}
 use Rattle.commons.specs.Bag.{bag}
 use Rattle.commons.specs.declared.packet.Seg.{Seg}
 use Rattle.commons.specs.Packets.{held_in, holds_in_slot, own_in, own_in_slot}
 use Rattle.pool_model.specs.Guests.{local_place, local_table}
-use Rattle.snapshot.proofs.LocalHolds.{table-more, table-part}
+use Rattle.snapshot.proofs.LocalHolds.{table-more}
 use Rattle.snapshot.proofs.Meetings.{met-then}
 use Rattle.snapshot.proofs.tally.tables.count_table.Goals as goal
-
--- what the packet in one place holds, the table holds
-pub count_place-requires-clause-below : goal.count_place-requires-clause-below
-count_place-requires-clause-below c = λ e h.
-    let place = c.place-item.result in
-    let within = rw (← c.place-item.is) at (table-part c.args.foreign c.args.table.now
-    c.loop-place.place-index e place c.loop-place-test.true) in
-    omega (arith, c.requires.below e (omega (arith, h, within)), c.loop-place.invariant.held.len)
 
 -- one place more was counted
 pub loop-place-preserved : goal.loop-place-preserved

@@ -1,0 +1,7 @@
+use Rattle.snapshot.specs.declared.fault.Fault.TheVariants.{Lost}
+use Rattle.snapshot.specs.inside.Notes.{AddsBelow, IsNowhere}
+use Rattle.snapshot.proofs.all_faults.notes.note_lost.Given as goal
+
+-- the faults of the elements so far were added
+abbrev pub invariant-loop-elem : goal.invariant-loop-elem
+invariant-loop-elem l = AddsBelow l.elem Lost (IsNowhere l.ends l.free l.held) l.fn.faults.items l.faults.items
