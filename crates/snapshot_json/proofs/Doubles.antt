@@ -9,7 +9,7 @@ use Rattle.commons.specs.Bag.{bag, one}
 use Rattle.commons.proofs.Bags.{bag-nil, bag-take-le, one-same}
 use Rattle.snapshot_json.specs.Doubles.{AreFirst, IsLeastOf, lesser_of}
 use Rattle.snapshot_json.specs.Reading.{IsLeastDouble}
-use Rattle.snapshot_json.specs.declared.stack.Double.{Double}
+use Rattle.snapshot_json.specs.declared.text.Double.{Double}
 
 -- a list with one element more
 bag-suc : (xs : List ℕ) (k i : ℕ) → k < length xs →

@@ -5,6 +5,7 @@ mod Items
 mod NoFloats
 mod Own
 mod Refused
+mod Repeats
 mod Stacks
 mod Texts
 mod Unique

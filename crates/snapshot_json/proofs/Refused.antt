@@ -4,8 +4,7 @@ use Rattle.commons.specs.Bag.{bag}
 use Rattle.commons.specs.declared.limits.Limits.{Limits}
 use Rattle.snapshot.specs.declared.snapshot.Snapshot.{Snapshot}
 use Rattle.snapshot_json.specs.Reading.{IsLeastDouble, IsNoListData, IsOfPool}
-use Rattle.snapshot_json.specs.Readings.{IsNoCommon}
-use Rattle.snapshot_json.specs.SnapshotData.{common_data}
+use Rattle.snapshot_json.specs.SnapshotData.{HasCommon, HasWords, common_data}
 use Rattle.snapshot_json.proofs.Doubles.{double-twice}
 use Rattle.snapshot_json.proofs.Own.{limits_same, list_same}
 
@@ -21,7 +20,8 @@ refused-elements shown list not s common fits is of_pool = not (
 
 -- where an element stands twice in it
 pub refused-twice : (shown : Snapshot) (list : List ℕ) (e first second : ℕ) → IsLeastDouble list e first second →
-    IsNoCommon (common_data shown list)
+    (s : Snapshot) (common : List ℕ) → HasWords s → common_data shown list ≡ common_data s common →
+    ¬ (HasCommon common s)
 refused-twice shown list e first second d s common fits is has =
     let same : list ≡ common = list_same shown s list common is in
     let once : bag list e ≤ 1 = subst (λ (xs : List ℕ). bag xs e ≤ 1) (sym same) (has.once e) in

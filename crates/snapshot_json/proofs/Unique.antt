@@ -13,7 +13,7 @@ use Rattle.snapshot_json.specs.SnapshotData.{HasCommon, HasWords, IsSnapshotData
 use Rattle.snapshot_json.proofs.Own.{common_own, limits_same, list_same, snapshot_own}
 
 -- only one of the two forms has a common list
-apart : (s t : Snapshot) (common : List ℕ) → snapshot_data s ≡ common_data t common → ⊥
+pub apart : (s t : Snapshot) (common : List ℕ) → snapshot_data s ≡ common_data t common → ⊥
 apart s t common e =
     let found : ◌≡◌ {A = Option Data} None (Some (counts_data common)) = ap (get (codes "common")) e in
     absurd cc

@@ -2,7 +2,7 @@
 use Rattle.std.specs.Prelude.{ℕ, suc, ◌≡◌, ◌<◌, ◌≤◌, List, Option, None, Some, nat_le, if◌then◌else◌, length, slice_index, take}
 use Rattle.commons.specs.Bag.{bag}
 use Rattle.snapshot_json.specs.Reading.{IsLeastDouble}
-use Rattle.snapshot_json.specs.declared.stack.Double.{Double}
+use Rattle.snapshot_json.specs.declared.text.Double.{Double}
 
 -- of the first elements of a list, the least one that stands twice, if one does
 abbrev pub IsLeastOf : List ℕ → ℕ → Option Double → Type 0

@@ -1,11 +1,12 @@
 -- What a value is read as. For private clauses.
-use Rattle.std.specs.Prelude.{ℕ, ◌≡◌, List, None, IsSomeAnd, ⊤}
+use Rattle.std.specs.Prelude.{ℕ, ◌≡◌, List, None, IsSomeAnd, ⊤, length}
 use Rattle.json.specs.Json.{document}
 use Rattle.json.specs.Strict.{HasUniqueKeys}
 use Rattle.serde_json.specs.Data.{Data}
 use Rattle.snapshot.specs.declared.snapshot.Snapshot.{Snapshot}
-use Rattle.snapshot_json.specs.Reading.{HasLeastDouble, IsNoListData, IsNoSnapshotData}
-use Rattle.snapshot_json.specs.SnapshotData.{HasCommon, HasWords, IsSnapshotData, common_data, snapshot_data}
+use Rattle.snapshot_json.specs.Reading.{IsNoListData, IsNoSnapshotData}
+use Rattle.snapshot_json.specs.Repeats.{IsRepeatingData}
+use Rattle.snapshot_json.specs.SnapshotData.{HasCommon, HasWords, IsSnapshotData, common_data, links_of, snapshot_data, top_of}
 use Rattle.snapshot_json.specs.declared.fault.SnapshotFault.{SnapshotFault}
 use Rattle.snapshot_json.specs.declared.fault.SnapshotFault.TheVariants.{OutOfMemory, TooLong, NotJson, Wrong, Doubled}
 use Rattle.snapshot_json.specs.declared.reading.Reading.{Reading}
@@ -15,20 +16,21 @@ use Rattle.snapshot_json.specs.declared.reading.Reading.TheVariants.{Whole, Twic
 abbrev pub IsNoWords : Data → Type 0
 IsNoWords d = (s : Snapshot) → HasWords s → ¬ (d ≡ snapshot_data s)
 
--- nor of one with its stack as a list
-abbrev pub IsNoCommon : Data → Type 0
-IsNoCommon d = (s : Snapshot) (common : List ℕ) → HasWords s → d ≡ common_data s common → ¬ (HasCommon common s)
+-- the snapshot with the words of this list as its stack
+abbrev pub with_list : Snapshot → List ℕ → Snapshot
+with_list s common =
+    record s { top = top_of common; length = length common; links = links_of s.limits.population common }
 
 -- what a value is, as one with its stack as a list
 abbrev pub ReadsCommon : Data → Reading → Type 0
 ReadsCommon d (Whole s) = (common : List ℕ) × (d ≡ common_data s common) × HasCommon common s
-ReadsCommon d (Twice x) = HasLeastDouble d x.elem x.first x.second × IsNoCommon d
+ReadsCommon d (Twice r) = IsRepeatingData d r
 ReadsCommon d Other = IsNoListData d
 
 -- what a value is
 abbrev pub Reads : Data → Reading → Type 0
 Reads d (Whole s) = IsSnapshotData d s
-Reads d (Twice x) = HasLeastDouble d x.elem x.first x.second × IsNoSnapshotData d
+Reads d (Twice r) = IsRepeatingData d r
 Reads d Other = IsNoSnapshotData d × IsNoListData d
 
 -- a fault names a flaw, or says that memory was refused

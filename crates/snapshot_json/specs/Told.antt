@@ -77,16 +77,17 @@ flaw_text flaw =
     codes "snapshot" ++ place_text flaw.path.steps ++ codes ": " ++ cause_text flaw.cause
     ++ codes ", at byte " ++ decimal flaw.byte
 
--- where an element stands twice in the common list
+-- where an element stands twice on the stack
 abbrev pub places_text : ℕ → ℕ → List ℕ
 places_text first second =
-    codes " stands at common[" ++ decimal first ++ codes "] and common[" ++ decimal second ++ codes "]"
+    codes ": at " ++ decimal first ++ codes " on the stack, at " ++ decimal second ++ codes " on the stack"
 
--- what is said of a text
+-- What is said of a text. Of an element that stands twice in its list the audit's own line of a double
+-- is told.
 abbrev pub told_of : SnapshotFault → List ℕ
 told_of OutOfMemory = codes "out of memory"
 told_of TooLong = codes "snapshot: more than " ++ decimal max_bytes ++ codes " bytes"
 told_of (NotJson byte) = codes "snapshot: not JSON, at byte " ++ decimal byte
 told_of (Wrong flaw) = flaw_text flaw
 told_of (Doubled elem first second) =
-    codes "snapshot common: element " ++ decimal elem ++ places_text first second
+    codes "fault 108 Doubled element " ++ decimal elem ++ places_text first second

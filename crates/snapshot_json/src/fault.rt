@@ -323,7 +323,7 @@ impl Clone for SnapshotFault {
 
 impl Copy for SnapshotFault {}
 
-/// Where an element stands twice in the common list.
+/// Where an element stands twice on the stack.
 #[derive(Drop)]
 struct Places {
     first: u64,
@@ -335,7 +335,7 @@ impl fmt::Display for Places {
 
     fn fmt<W: fmt::Write>(&self, f: &mut fmt::Formatter<W>) -> fmt::Result {
         let Places { first, second } = self;
-        write!(f, " stands at common[{first}] and common[{second}]")
+        write!(f, ": at {first} on the stack, at {second} on the stack")
     }
 }
 
@@ -353,7 +353,7 @@ impl fmt::Display for SnapshotFault {
                     first: *first,
                     second: *second,
                 };
-                write!(f, "snapshot common: element {elem}{places}")
+                write!(f, "fault 108 Doubled element {elem}{places}")
             }
         }
     }

@@ -8,6 +8,7 @@ pub mod laws;
 mod parts;
 mod reading;
 mod stack;
+pub mod text;
 mod values;
 
 ghost use Rattle.std.specs.Prelude.{◌≡◌, ◌≢◌, ◌++◌, codes, IfErr, IfOk, IfSome, IsSomeAnd, OnOk, Some};
@@ -15,6 +16,7 @@ ghost use Rattle.json.specs.Json.{document};
 ghost use Rattle.json.specs.Strict.{HasUniqueKeys};
 ghost use Rattle.serde_json.specs.Read.{read};
 ghost use Rattle.snapshot_json.specs.Reading.{IsFaultOf, IsNoSnapshotText, IsSnapshotText, IsWrongText};
+ghost use Rattle.snapshot_json.specs.Repeats.{IsDataOf, IsNoRepeatingText, IsTextFaultOf, IsTextOf, doubled_by};
 ghost use Rattle.snapshot_json.specs.Readings.{IsBroken, IsFlaw, IsKeyFault};
 ghost use Rattle.snapshot_json.specs.SnapshotData.{IsSnapshotData, json_of, snapshot_data};
 
@@ -25,6 +27,7 @@ use reading::Reading;
 use serde_json::{Error, Value};
 use snapshot::snapshot::Snapshot;
 use std::alloc::{AllocError, Global};
+use text::{Double, Repeats, Text};
 
 /// The most bytes of a snapshot's text: 128 for each of the 16,777,214 elements that a pool can have,
 /// and 255 more.
@@ -37,10 +40,40 @@ pub const MAX_BYTES: usize = 2_147_483_647;
 
 /// The snapshot whose text these bytes are, else what is wrong with them, or `OutOfMemory` where
 /// memory was refused.
+#[tactic(auto, using(crate::proofs::Repeats::repeats_text, crate::proofs::Repeats::repeats_told, crate::proofs::Repeats::told_fault))]
 pub fn read_snapshot(alloc: Global, bytes: &[u8]) -> Result<Snapshot, SnapshotFault>
     ensures ok { IfOk result (λ s. IsSnapshotText bytes.now s) }
     ensures none { IfErr result (λ f. f ≢ SnapshotFault.OutOfMemory → IsNoSnapshotText bytes.now) }
     ensures tells { IfErr result (λ f. IsFaultOf bytes.now f) }
+{
+    match read_text(alloc, bytes) {
+        Ok(Text::One(snapshot)) => Ok(snapshot),
+        Ok(Text::Repeating(repeats)) => Err(doubled(&repeats)),
+        Err(fault) => Err(fault),
+    }
+}
+
+/// What is told of a list in which an element stands twice.
+fn doubled(repeats: &Repeats) -> SnapshotFault
+    ensures { result ≡ doubled_by repeats.now }
+{
+    let Double {
+        elem,
+        first,
+        second,
+    } = repeats.double;
+    SnapshotFault::Doubled(elem, first as u64, second as u64)
+}
+
+/// The snapshot whose text these bytes are, or the one that they show beside a list in which elements
+/// stand twice; else what is wrong with them, or `OutOfMemory` where memory was refused. It doesn't
+/// answer `Doubled`.
+#[tactic(auto, using(crate::proofs::Repeats::told_no_repeats))]
+pub fn read_text(alloc: Global, bytes: &[u8]) -> Result<Text, SnapshotFault>
+    ensures ok { IfOk result (λ text. IsTextOf bytes.now text) }
+    ensures none { IfErr result (λ f. f ≢ SnapshotFault.OutOfMemory → IsNoSnapshotText bytes.now) }
+    ensures unlisted { IfErr result (λ f. f ≢ SnapshotFault.OutOfMemory → IsNoRepeatingText bytes.now) }
+    ensures tells { IfErr result (λ f. IsTextFaultOf bytes.now f) }
 {
     if bytes.len() > MAX_BYTES {
         return Err(SnapshotFault::TooLong);
@@ -49,8 +82,8 @@ pub fn read_snapshot(alloc: Global, bytes: &[u8]) -> Result<Snapshot, SnapshotFa
         Ok(text) => text,
         Err(fault) => return Err(SnapshotFault::NotJson(fault.valid_up_to() as u64)),
     };
-    if let Some(snapshot) = of_dump(alloc, text) {
-        return Ok(snapshot);
+    if let Some(read) = of_dump(alloc, text) {
+        return Ok(read);
     }
     check_keys(alloc, text)?;
     let value = match Value::from_str(alloc, text) {
@@ -63,26 +96,23 @@ pub fn read_snapshot(alloc: Global, bytes: &[u8]) -> Result<Snapshot, SnapshotFa
         }
     };
     match reading::read(alloc, &value) {
-        Ok(Reading::Whole(snapshot)) => Ok(snapshot),
-        Ok(Reading::Twice(double)) => Err(SnapshotFault::Doubled(
-            double.elem,
-            double.first as u64,
-            double.second as u64,
-        )),
+        Ok(Reading::Whole(snapshot)) => Ok(Text::One(snapshot)),
+        Ok(Reading::Twice(repeats)) => Ok(Text::Repeating(repeats)),
         Ok(Reading::Other) => Err(wrong(alloc, text)),
         Err(_) => Err(SnapshotFault::OutOfMemory),
     }
 }
 
-/// The snapshot whose text this is, as a dump writes it. Nothing where it is written otherwise, or
-/// where memory was refused.
-fn of_dump(alloc: Global, text: &str) -> Option<Snapshot>
-    ensures data { IfSome result (λ s. IsSomeAnd (read text.now) (λ d. IsSnapshotData d s)) }
+/// What this text says, as a dump writes it. Nothing where it is written otherwise, or where memory
+/// was refused.
+fn of_dump(alloc: Global, text: &str) -> Option<Text>
+    ensures data { IfSome result (λ t. IsSomeAnd (read text.now) (λ d. IsDataOf d t)) }
     ensures once { IfSome result (λ _. IsSomeAnd (document text.now) HasUniqueKeys) }
 {
     let listed = dumped::read_listed(alloc, text)?;
     match reading::with_words(alloc, listed) {
-        Ok(Reading::Whole(snapshot)) => Some(snapshot),
+        Ok(Reading::Whole(snapshot)) => Some(Text::One(snapshot)),
+        Ok(Reading::Twice(repeats)) => Some(Text::Repeating(repeats)),
         _ => None,
     }
 }

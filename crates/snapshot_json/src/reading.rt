@@ -6,13 +6,13 @@ ghost use Rattle.serde_json.specs.Data.{depth};
 ghost use Rattle.serde_json.specs.Read.{max_depth};
 ghost use Rattle.serde_json.specs.View.{view};
 ghost use Rattle.serde_json.specs.Written.{has_float};
-ghost use Rattle.snapshot_json.specs.Reading.{IsNoListData};
-ghost use Rattle.snapshot_json.specs.Readings.{IsNoWords, Reads, ReadsCommon};
+ghost use Rattle.snapshot_json.specs.Reading.{IsNoListData, IsOfPool};
+ghost use Rattle.snapshot_json.specs.Readings.{IsNoWords, Reads, ReadsCommon, with_list};
 ghost use Rattle.snapshot_json.specs.SnapshotData.{common_data, snapshot_data};
 
 use crate::parts::{self, Stack};
-use crate::stack::{self, Double};
-use crate::values;
+use crate::text::Repeats;
+use crate::{stack, values};
 use commons::seq::Seq;
 use serde_json::Value;
 use snapshot::snapshot::Snapshot;
@@ -23,8 +23,8 @@ use std::alloc::{AllocError, Global};
 pub(crate) enum Reading {
     /// The data of this snapshot.
     Whole(Snapshot),
-    /// The data of none: this element stands twice in its common list.
-    Twice(Double),
+    /// That of this one but for its list, in which an element stands twice: the data of none.
+    Twice(Repeats),
     /// The data of none.
     Other,
 }
@@ -126,20 +126,37 @@ pub(crate) fn with_words(alloc: Global, listed: Listed) -> Result<Reading, Alloc
         return Ok(Reading::Other);
     }
     match stack::doubled(alloc, common.as_slice(), population as usize)? {
-        Some(double) => Ok(Reading::Twice(double)),
-        None => {
-            let links = stack::links(alloc, common.as_slice(), population as usize)?;
-            Ok(Reading::Whole(Snapshot {
-                limits: shown.limits,
-                top: stack::top(common.as_slice()),
-                length: common.len() as u64,
-                links: Seq::new(links),
-                counts: shown.counts,
-                desks: shown.desks,
-                shares: shown.shares,
-                guests: shown.guests,
-                foreign: shown.foreign,
+        Some(double) => {
+            let snapshot = with_stack(alloc, shown, &[])?;
+            Ok(Reading::Twice(Repeats {
+                snapshot,
+                common,
+                double,
             }))
         }
+        None => {
+            let snapshot = with_stack(alloc, shown, common.as_slice())?;
+            Ok(Reading::Whole(snapshot))
+        }
     }
+}
+
+/// The snapshot with the words of a list of its pool's elements, each of which stands there once.
+fn with_stack(alloc: Global, shown: Snapshot, common: &[u32]) -> Result<Snapshot, AllocError>
+    requires elements { IsOfPool shown.limits.population common.now }
+    ensures { IfOk result (λ s. s ≡ with_list shown common.now) }
+{
+    let population = shown.limits.population;
+    let links = stack::links(alloc, common, population as usize)?;
+    Ok(Snapshot {
+        limits: shown.limits,
+        top: stack::top(common),
+        length: common.len() as u64,
+        links: Seq::new(links),
+        counts: shown.counts,
+        desks: shown.desks,
+        shares: shown.shares,
+        guests: shown.guests,
+        foreign: shown.foreign,
+    })
 }

@@ -7,16 +7,9 @@ ghost use Rattle.snapshot_json.specs.Doubles.{IsLeastOf, lesser_of};
 ghost use Rattle.snapshot_json.specs.Reading.{IsOfPool};
 ghost use Rattle.snapshot_json.specs.SnapshotData.{links_of, top_of};
 
+use crate::text::Double;
 use commons::limits::MAX_POPULATION;
 use std::alloc::{AllocError, Global};
-
-/// An element that stands twice in a list, with the first two places where it stands.
-#[derive(Clone, Copy)]
-pub(crate) struct Double {
-    pub(crate) elem: u32,
-    pub(crate) first: usize,
-    pub(crate) second: usize,
-}
 
 /// Whether each of these is an element of the population, which is one that a pool can have.
 pub(crate) fn has_words(common: &[u32], population: u64) -> bool

@@ -6,7 +6,8 @@ use snapshot::audit::audit;
 use snapshot::fault::Fault;
 use snapshot::snapshot::Snapshot;
 use snapshot_json::fault::SnapshotFault;
-use snapshot_json::{read_snapshot, snapshot_json};
+use snapshot_json::text::{Repeats, Text};
+use snapshot_json::{read_snapshot, read_text, snapshot_json};
 use snapshot_rows::{FAULTS, LIMITS, Members, written};
 use std::alloc::{AllocError, Global};
 use std::process::Abort;
@@ -203,6 +204,44 @@ fn a_dump_is_read_as_its_members_in_another_order(rt: HostRuntime) {
             assert!(&rt; list == dumped, "{dumped}, not {list}");
         }
     }
+}
+
+/// A list with elements twice, in place of that of a text: what is replaced.
+const REPEATS: &[(&str, Row)] = &[
+    (LIST, ("a list", "[2 , 3]", "[3,1,4,3,1]", "")),
+    (DUMPED, ("a dump", "[2,3]", "[3,1,4,3,1]", "")),
+];
+
+/// What such a text shows: the list, the least element that stands twice, and the words of no element.
+const REPEATED: &str = "Seq { items: [3, 1, 4, 3, 1] } Double { elem: 1, first: 1, second: 4 } 0 0 \
+    Seq { items: [0, 0, 0, 0, 0] }";
+
+/// A text whose list has elements twice is read with that list.
+#[test]
+fn the_list_of_a_text_with_repeats_is_read(rt: HostRuntime) -> Result<(), Fail> {
+    for (text, row) in REPEATS {
+        let Some(made) = made_of(rt.alloc(), text, row)? else {
+            return Err(Fail::from("nothing to replace"));
+        };
+        match read_text(rt.alloc(), made.text.as_slice()) {
+            Ok(Text::Repeating(repeats)) => {
+                let Repeats {
+                    snapshot,
+                    common,
+                    double,
+                } = &repeats;
+                let (top, length, links) = (snapshot.top, snapshot.length, &snapshot.links);
+                let shown = format!(in rt.alloc();
+                    "{common:?} {double:?} {top} {length} {links:?}"
+                )?;
+                let shown = shown.as_str();
+                assert!(&rt; shown == REPEATED, "{shown}");
+            }
+            Ok(Text::One(_)) => return Err(Fail::from("its list has no element twice")),
+            Err(_) => return Err(Fail::from("it isn't read")),
+        }
+    }
+    Ok(())
 }
 
 /// A text that is too long says so.

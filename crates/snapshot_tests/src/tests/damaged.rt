@@ -70,7 +70,7 @@ pub(super) const OF_DUMPED: &[Row] = &[
         "an element twice",
         "[2,3]",
         "[2,2]",
-        "snapshot common: element 2 stands at common[0] and common[1]",
+        "fault 108 Doubled element 2: at 0 on the stack, at 1 on the stack",
     ),
     (
         "an element of no pool",
@@ -363,19 +363,19 @@ pub(super) const OF_LIST: &[Row] = &[
         "an element twice",
         "[2 , 3]",
         "[2 , 3,2]",
-        "snapshot common: element 2 stands at common[0] and common[2]",
+        "fault 108 Doubled element 2: at 0 on the stack, at 2 on the stack",
     ),
     (
         "two elements twice, the lesser last",
         "[2 , 3]",
         "[3,1,4,3,1]",
-        "snapshot common: element 1 stands at common[1] and common[4]",
+        "fault 108 Doubled element 1: at 1 on the stack, at 4 on the stack",
     ),
     (
         "two elements twice, the lesser first",
         "[2 , 3]",
         "[0,0,4,3,4,0]",
-        "snapshot common: element 0 stands at common[0] and common[1]",
+        "fault 108 Doubled element 0: at 0 on the stack, at 1 on the stack",
     ),
 ];
 

@@ -1,5 +1,5 @@
 use Rattle.std.proofs.Common.{arith}
-use Rattle.snapshot_json.proofs.read_snapshot.Goals as goal
+use Rattle.snapshot_json.proofs.read_text.Goals as goal
 
 -- a text of a snapshot isn't too long
 pub returns-then-bytes-gt-MAX_BYTES-clause-none : goal.returns-then-bytes-gt-MAX_BYTES-clause-none
