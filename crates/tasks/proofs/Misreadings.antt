@@ -5,7 +5,7 @@ use Rattle.snapshot_json.specs.declared.fault.SnapshotFault.{SnapshotFault}
 use Rattle.snapshot_json.specs.declared.fault.SnapshotFault.TheVariants as reads
 use Rattle.tasks.specs.Audits.{FailsBytes, IsMisread}
 use Rattle.tasks.specs.declared.failures.Failure.{Failure}
-use Rattle.tasks.specs.declared.failures.Failure.TheVariants.{Unreadable, Fault, Misread, Audited}
+use Rattle.tasks.specs.declared.failures.Failure.TheVariants.{Unreadable, Fault, Misread, Audited, OfTwo}
 
 -- what is reported of a fault of their reading is the failure that came of them
 pub told_of_bytes : (bytes : List ℕ) (fault : SnapshotFault) (failure : Failure) → (fault ≢ reads.OutOfMemory → IsNoSnapshotText bytes)
@@ -14,3 +14,4 @@ told_of_bytes bytes fault (Misread told) none tells so = (none so.1, subst (IsFa
 told_of_bytes bytes fault (Unreadable file) none tells so = so.0
 told_of_bytes bytes fault (Fault refusal) none tells so = so.0
 told_of_bytes bytes fault (Audited line) none tells so = so.0
+told_of_bytes bytes fault (OfTwo which cause) none tells so = so.0

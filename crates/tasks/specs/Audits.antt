@@ -5,7 +5,8 @@ use Rattle.commons.specs.Bounds.{IsPool}
 use Rattle.commons.specs.declared.refusal.Refusal.{Refusal}
 use Rattle.commons.specs.declared.refusal.Refusal.TheVariants.{BadPool}
 use Rattle.commons.specs.declared.refusal.Refusal.TheVariants as refusals
-use Rattle.statement_text.specs.StatementData.{json_of}
+use Rattle.statement_text.specs.StatementData.{json_of, json_of_settled}
+use Rattle.pool_model.specs.declared.settled.Settled.{Settled}
 use Rattle.pool_model.specs.declared.statement.Statement.{Statement}
 use Rattle.pool_picture.specs.Picture.{dot_of}
 use Rattle.snapshot.specs.declared.snapshot.Snapshot.{Snapshot}
@@ -15,7 +16,7 @@ use Rattle.snapshot.specs.declared.fault.Fault as faults
 use Rattle.snapshot_json.specs.Reading.{IsFaultOf, IsNoSnapshotText, IsSnapshotText}
 use Rattle.snapshot_json.specs.declared.fault.SnapshotFault.{SnapshotFault}
 use Rattle.snapshot_json.specs.declared.fault.SnapshotFault.TheVariants as reads
-use Rattle.statement_text.specs.StatementText.{text_of}
+use Rattle.statement_text.specs.StatementText.{text_of, text_of_settled}
 use Rattle.tasks.specs.declared.auditing.Placed.{Placed}
 use Rattle.tasks.specs.declared.failures.Failure.{Failure}
 use Rattle.tasks.specs.declared.failures.Failure.TheVariants.{Fault, Misread, Audited}
@@ -26,6 +27,11 @@ use Rattle.tasks.specs.declared.task.Form.TheVariants.{Text, Json}
 abbrev pub IsStatementAs : Form → Statement → List ℕ → Type 0
 IsStatementAs Text s out = out ≡ text_of s
 IsStatementAs Json s out = out ≡ json_of s ++ codes "\n"
+
+-- this is what two pools, or one, come to in this form
+abbrev pub IsSettledAs : Form → Settled → List ℕ → Type 0
+IsSettledAs Text s out = out ≡ text_of_settled s
+IsSettledAs Json s out = out ≡ json_of_settled s ++ codes "\n"
 
 -- the snapshot is lawful, and this is its statement in this form
 pub record IsPlacedAs (form : Form) (s : Snapshot) (out : List ℕ) : Type 0 where

@@ -1,18 +1,18 @@
 -- What is printed in each form, and for each task.
 use Rattle.std.specs.Prelude.{ℕ, suc, ◌≡◌, List, ◌++◌, codes}
-use Rattle.statement_text.specs.StatementData.{json_of_settled, numbers_of}
+use Rattle.statement_text.specs.StatementData.{numbers_of}
 use Rattle.pool_model.specs.declared.settled.Settled.{Settled}
 use Rattle.script.specs.Losing.{IsCauseWithout, LosesFrom, lost_text}
 use Rattle.script.specs.Printed.{IsJsonFor, IsPrintedFor}
 use Rattle.script.specs.Running.{RunsTo}
 use Rattle.script.specs.Snapshots.{IsRunSnapshotFor, IsSnapshotFor}
 use Rattle.script.specs.declared.threaded.Grounds.{Grounds}
-use Rattle.statement_text.specs.StatementText.{text_of_settled}
 use Rattle.script_text.specs.Grammar.{IsCause}
 use Rattle.script_text.specs.StepGrammar.{IsStepCause}
 use Rattle.snapshot_json.specs.Reading.{max_bytes}
 use Rattle.step_text.specs.Printed.{IsStepsPrint}
-use Rattle.tasks.specs.Audits.{IsAuditCause, IsAuditPrintedAs, IsPictureOf}
+use Rattle.tasks.specs.Audits.{IsAuditCause, IsPictureOf, IsSettledAs}
+use Rattle.tasks.specs.Both.{IsAuditDoneAs, IsAuditDoneCause}
 use Rattle.tasks.specs.Failures.{IsFaultOf}
 use Rattle.tasks.specs.declared.failures.Failure.{Failure}
 use Rattle.tasks.specs.declared.kind.Kind.{Kind}
@@ -26,11 +26,6 @@ use Rattle.tasks.specs.declared.task.Task.TheVariants.{Replay, ReplaySnapshot, R
 abbrev pub IsPrintedAs : Form → List ℕ → List ℕ → Type 0
 IsPrintedAs Text = IsPrintedFor
 IsPrintedAs Json = IsJsonFor
-
--- this is what a script's pools come to in this form
-abbrev pub IsSettledAs : Form → Settled → List ℕ → Type 0
-IsSettledAs Text s out = out ≡ text_of_settled s
-IsSettledAs Json s out = out ≡ json_of_settled s ++ codes "\n"
 
 -- the bytes are a script, and this is printed for its run in threads on such a ground in this form
 pub record IsRunPrintedAs (grounds : Grounds) (form : Form) (bytes out : List ℕ) : Type 0 where
@@ -58,7 +53,7 @@ IsDoneAs (Run grounds turns form) = IsRunPrintedAs grounds form
 IsDoneAs (RunSnapshot grounds turns) = IsRunSnapshotFor grounds
 IsDoneAs (RunLost grounds turns lose form) = IsLostPrintedAs grounds lose form
 IsDoneAs Steps = IsStepsPrint
-IsDoneAs (Audit form) = IsAuditPrintedAs form
+IsDoneAs (Audit form) = IsAuditDoneAs form
 IsDoneAs Picture = IsPictureOf
 
 -- the failure that comes of what is to be done with these bytes
@@ -69,7 +64,7 @@ IsCauseFor (Run grounds turns form) bytes = IsFaultOf (IsCause bytes)
 IsCauseFor (RunSnapshot grounds turns) bytes = IsFaultOf (IsCause bytes)
 IsCauseFor (RunLost grounds turns lose form) bytes = IsFaultOf (IsCauseWithout lose bytes)
 IsCauseFor Steps bytes = IsFaultOf (IsStepCause bytes)
-IsCauseFor (Audit form) bytes = IsAuditCause bytes
+IsCauseFor (Audit form) bytes = IsAuditDoneCause bytes
 IsCauseFor Picture bytes = IsAuditCause bytes
 
 -- the most bytes of such a file that are read: one more than it may have

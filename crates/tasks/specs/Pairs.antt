@@ -17,7 +17,7 @@ use Rattle.tasks.specs.declared.comparing.Difference.{Difference}
 use Rattle.tasks.specs.declared.comparing.Limit.{Limit}
 use Rattle.tasks.specs.declared.comparing.Limit.TheVariants.{Population, Cache, Desks, Buf, Refs, Tries, Start, Rule}
 use Rattle.tasks.specs.declared.failures.Failure.{Failure}
-use Rattle.tasks.specs.declared.failures.Failure.TheVariants.{Unreadable, Fault, Misread, Audited}
+use Rattle.tasks.specs.declared.failures.Failure.TheVariants.{Unreadable, Fault, Misread, Audited, OfTwo}
 use Rattle.tasks.specs.declared.failures.PairFailure.{PairFailure}
 use Rattle.tasks.specs.declared.failures.PairFailure.TheVariants.{Newer, Older, Differ}
 use Rattle.tasks.specs.declared.printing.End.{End}
@@ -132,6 +132,7 @@ older_prefix (Unreadable file) = []
 older_prefix (Fault refusal) = refusal_prefix refusal
 older_prefix (Misread fault) = codes "since: "
 older_prefix (Audited line) = codes "since: "
+older_prefix (OfTwo which cause) = codes "since: "
 
 -- a limit, and what it is in both
 abbrev pub difference_text : Difference → List ℕ

@@ -4,8 +4,11 @@ ghost use Rattle.std.specs.Prelude.{◌≡◌, ◌≢◌, IfErr, IfOk};
 ghost use Rattle.snapshot.specs.Faults.{IsFirstFault};
 ghost use Rattle.snapshot_json.specs.Reading.{IsFaultOf, IsNoSnapshotText};
 ghost use Rattle.tasks.specs.Audits.{IsAuditCause, IsAuditOf, IsAuditPrintedAs, IsFailureIn, IsFaultIn, IsMisread, IsPictureOf, IsPlacedIn, IsStatementAs};
+ghost use Rattle.tasks.specs.Both.{IsAuditDoneAs, IsAuditDoneCause};
 
+use crate::both::both;
 use crate::failures::Failure;
+use crate::halves::halves;
 use crate::task::Form;
 use audit_text::fault_line;
 use commons::limits::Limits;
@@ -20,12 +23,24 @@ use snapshot_json::read_snapshot;
 use statement_text::{pool_json, pool_text};
 use std::alloc::Global;
 
-/// What the audit of the snapshot that these bytes are prints in a form.
+/// What the audit of these bytes prints in a form: of the snapshot that they are, or of two that stand
+/// one behind the other, as the two pools of a script leave them.
 ///
 /// `Misread` where they are no snapshot's, `Fault` with `BadPool` where its limits are those of no
 /// pool, `Audited` with the line of the first fault that it has, and `Fault` with `OutOfMemory`
-/// where memory was refused.
+/// where memory was refused. Of two, the first one's failure and else the second's, which says so.
 pub fn text<'a>(alloc: Global, bytes: &[u8], form: Form) -> Result<Vec<u8>, Failure<'a>>
+    ensures printed { IfOk result (λ out. IsAuditDoneAs form bytes.now out.items) }
+    ensures cause { IfErr result (IsAuditDoneCause bytes.now) }
+{
+    match halves(bytes) {
+        Some((first, second)) => both(alloc, first, second, form),
+        None => one(alloc, bytes, form),
+    }
+}
+
+/// What the audit of the snapshot that these bytes are prints in a form.
+fn one<'a>(alloc: Global, bytes: &[u8], form: Form) -> Result<Vec<u8>, Failure<'a>>
     ensures printed { IfOk result (λ out. IsAuditPrintedAs form bytes.now out.items) }
     ensures cause { IfErr result (IsAuditCause bytes.now) }
 {

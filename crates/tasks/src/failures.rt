@@ -1,7 +1,7 @@
 //! Why nothing was printed of a script or a snapshot, or of two, and the line that tells of it.
 ghost use Rattle.std.specs.Prelude.{◌≡◌, ◌++◌, OnOk, Some};
 ghost use Rattle.std.specs.Io.KnownBytes.{Appends};
-ghost use Rattle.tasks.specs.Failures.{fault_text, line_of};
+ghost use Rattle.tasks.specs.Failures.{cause_line, fault_text, front_of, line_of};
 ghost use Rattle.tasks.specs.Pairs.{line_of_pair, older_prefix, refusal_prefix};
 
 use crate::comparing::Difference;
@@ -17,6 +17,26 @@ pub enum Failure<'a> {
     Unreadable(&'a str),
     /// The script has a fault, a snapshot isn't one of a pool, or memory was refused.
     Fault(Refusal),
+    /// The bytes are no snapshot's, and this is why.
+    Misread(SnapshotFault),
+    /// The snapshot has a fault, and this is its line.
+    Audited(Vec<u8>),
+    /// Of two snapshots that stand in one text, this one has a failure.
+    OfTwo(Which, Cause),
+}
+
+/// Which of two snapshots that stand in one text.
+#[derive(Clone, Copy, PartialEq, Eq, Debug)]
+pub enum Which {
+    First,
+    Second,
+}
+
+/// Why nothing was printed of a snapshot.
+#[derive(Drop)]
+pub enum Cause {
+    /// It isn't one of a pool.
+    Refused(Refusal),
     /// The bytes are no snapshot's, and this is why.
     Misread(SnapshotFault),
     /// The snapshot has a fault, and this is its line.
@@ -62,6 +82,40 @@ pub fn tell<E: Write>(errors: &mut E, failure: &Failure<'_>) -> io::Result<()>
         Failure::Fault(refusal) => writeln!(errors, "{}", FaultLine(*refusal)),
         Failure::Misread(fault) => writeln!(errors, "{fault}"),
         Failure::Audited(line) => {
+            errors.write_all(line.as_slice())?;
+            writeln!(errors)
+        }
+        Failure::OfTwo(which, cause) => tell_of_two(errors, *which, cause),
+    }
+}
+
+/// Writes the line of one of two snapshots, which says which.
+fn tell_of_two<E: Write>(errors: &mut E, which: Which, cause: &Cause) -> io::Result<()>
+    ensures { OnOk result (Appends (E.contents errors.old) (E.contents errors.new)
+        (front_of which ++ cause_line cause.now)) }
+{
+    errors.write_all(front(which))?;
+    tell_cause(errors, cause)
+}
+
+/// What stands in front of that line.
+pub(crate) fn front(which: Which) -> &'static [u8]
+    ensures { result.now ≡ front_of which }
+{
+    match which {
+        Which::First => b"first: ",
+        Which::Second => b"second: ",
+    }
+}
+
+/// Writes the line behind that.
+fn tell_cause<E: Write>(errors: &mut E, cause: &Cause) -> io::Result<()>
+    ensures { OnOk result (Appends (E.contents errors.old) (E.contents errors.new) (cause_line cause.now)) }
+{
+    match cause {
+        Cause::Refused(refusal) => writeln!(errors, "{}", FaultLine(*refusal)),
+        Cause::Misread(fault) => writeln!(errors, "{fault}"),
+        Cause::Audited(line) => {
             errors.write_all(line.as_slice())?;
             writeln!(errors)
         }
@@ -117,6 +171,7 @@ fn before(failure: &Failure<'_>) -> &'static [u8]
         Failure::Fault(refusal) => before_refusal(*refusal),
         Failure::Misread(_) => b"since: ",
         Failure::Audited(_) => b"since: ",
+        Failure::OfTwo(_, _) => b"since: ",
     }
 }
 

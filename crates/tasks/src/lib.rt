@@ -4,8 +4,10 @@
 #![tactic(auto)]
 
 mod auditing;
+mod both;
 pub mod comparing;
 pub mod failures;
+mod halves;
 pub mod kind;
 mod losing;
 pub mod printing;

@@ -1,7 +1,8 @@
 //! The run of a script in threads, in the form that is asked for.
 ghost use Rattle.std.specs.Prelude.{◌≡◌, IfErr, IfOk};
 ghost use Rattle.script_text.specs.Grammar.{IsCause};
-ghost use Rattle.tasks.specs.Forms.{IsRunPrintedAs, IsSettledAs};
+ghost use Rattle.tasks.specs.Audits.{IsSettledAs};
+ghost use Rattle.tasks.specs.Forms.{IsRunPrintedAs};
 
 use crate::task::{Form, Turns};
 use commons::refusal::Refusal;
@@ -31,7 +32,7 @@ pub fn text<R: Threads + Wait + Sync>(
 }
 
 /// What a script's pools come to, in a form.
-fn written(alloc: Global, settled: &Settled, form: Form) -> Result<Vec<u8>, Refusal>
+pub(crate) fn written(alloc: Global, settled: &Settled, form: Form) -> Result<Vec<u8>, Refusal>
     ensures text { IfOk result (λ out. IsSettledAs form settled.now out.items) }
     ensures memory { IfErr result (λ refusal. refusal ≡ Refusal.OutOfMemory) }
 {

@@ -3,8 +3,9 @@ use super::lines::STEPS;
 use commons::refusal::Refusal;
 use script::run_replay_snapshot;
 use script_io::{ReadFault, Tally, read_bytes};
+use script_rows::twins::FOREIGN_CLONE;
 use snapshot_rows::{HEALTHY, IN_WORDS, LIMITS, Members, written};
-use std::alloc::Global;
+use std::alloc::{AllocError, Global};
 use std::io;
 use std::io::Read;
 use tasks::kind::Kind;
@@ -16,7 +17,8 @@ pub(super) const FIRST_RUN: &str = "pool 3\nalloc a\nalloc b\nfree a\n";
 pub(super) type Named<'a> = (&'a str, &'a str);
 
 /// Files in memory: these, and those of the tables below. A script stands for the snapshot that its
-/// replay leaves where a snapshot is read, and the file `memory` lacks memory.
+/// replay leaves where a snapshot is read, two names with a `+` between them for one text behind the
+/// other, and the file `memory` lacks memory.
 #[derive(Drop)]
 pub(super) struct Files<'a> {
     pub(super) scripts: &'a [Named<'a>],
@@ -65,6 +67,7 @@ static SCRIPTS: &[Named<'static>] = &[
     ("putrule-1", "pool 32 putrule 1\n"),
     ("cache-2-refs-5", "pool 32 cache 2 refs 5\n"),
     ("refs-4", "pool 32 refs 4\n"),
+    ("twins", FOREIGN_CLONE),
 ];
 
 /// What is no snapshot.
@@ -85,6 +88,7 @@ static BUILT: &[(&str, &str, Members)] = &[
     ("healthy", LIMITS, HEALTHY),
     ("in-words", LIMITS, IN_WORDS),
     ("no-pool", NO_POOL, HEALTHY),
+    ("lost", LIMITS, LOST),
 ];
 
 /// Files that break in mid-file, with this error.
@@ -140,6 +144,12 @@ fn left_by(alloc: Global, script: &str) -> Result<Vec<u8>, ReadFault> {
     }
 }
 
+/// A snapshot in which an element is lost.
+const LOST: Members = Members {
+    desks: "[null]",
+    ..HEALTHY
+};
+
 /// The snapshot under a name that is built.
 fn built(alloc: Global, name: &str) -> Result<Vec<u8>, ReadFault> {
     for (named, limits, members) in BUILT {
@@ -172,8 +182,32 @@ fn broken(alloc: Global, kind: Kind, error: io::ErrorKind) -> Result<Vec<u8>, Re
     read_bytes(alloc, &mut Tally::new(source), kind.most_read())
 }
 
+/// One text behind the other, with a line feed between them where the first doesn't end with one.
+fn joined(first: Vec<u8>, second: Vec<u8>) -> Result<Vec<u8>, AllocError> {
+    let mut both = first;
+    if !both.ends_with(b"\n") {
+        both.push(b'\n')?;
+    }
+    both.extend_from_slice(second.as_slice())?;
+    Ok(both)
+}
+
 impl Scripts for Files<'_> {
     fn read(&self, alloc: Global, kind: Kind, name: &str) -> Result<Vec<u8>, ReadFault> {
+        match name.split_once('+') {
+            Some((first, second)) => {
+                let first = self.read_one(alloc, kind, first)?;
+                let second = self.read_one(alloc, kind, second)?;
+                joined(first, second).map_err(|_| ReadFault::Memory)
+            }
+            None => self.read_one(alloc, kind, name),
+        }
+    }
+}
+
+impl Files<'_> {
+    /// The file of a name without a `+`.
+    fn read_one(&self, alloc: Global, kind: Kind, name: &str) -> Result<Vec<u8>, ReadFault> {
         if name == "memory" {
             return Err(ReadFault::Memory);
         }

@@ -1,6 +1,7 @@
 //! Command lines, and what each comes to: what it prints, or the line of its failure.
 use super::files::TABLES;
 use super::{assert_told, same, told};
+use script_rows::twins::FOREIGN_CLONE_END;
 use std::test::Fail;
 
 /// What is printed of the first run's replay.
@@ -165,6 +166,21 @@ static PRINTED: &[(&str, &str)] = &[
         \x20 e7 [shape=ellipse, label=\"7\\ncount 1\"];\n\
         }\n",
     ),
+    // Two snapshots, as the pools of a script leave them.
+    ("mbufpool audit twins", FOREIGN_CLONE_END),
+    (
+        "mbufpool audit one+two --json",
+        "{\"first\":{\"available\":2,\"caches\":[[]],\"common\":[1,2],\"desks\":[],\
+        \"held\":[{\"count\":1,\"elem\":0,\"holders\":[\"1\"]}],\"in_use\":1,\
+        \"packets\":[{\"segs\":[{\"base\":null,\"buf\":2048,\"elem\":0,\"len\":0,\"off\":128}],\
+        \"slot\":0,\"worker\":1}],\"population\":3},\
+        \"second\":{\"available\":1,\"caches\":[[]],\"common\":[2],\"desks\":[],\
+        \"held\":[{\"count\":1,\"elem\":0,\"holders\":[\"1\"]},{\"count\":1,\"elem\":1,\"holders\":[\"1\"]}],\
+        \"in_use\":2,\
+        \"packets\":[{\"segs\":[{\"base\":null,\"buf\":2048,\"elem\":0,\"len\":0,\"off\":128}],\"slot\":0,\"worker\":1},\
+        {\"segs\":[{\"base\":null,\"buf\":2048,\"elem\":1,\"len\":0,\"off\":128}],\"slot\":1,\"worker\":1}],\
+        \"population\":3}}\n",
+    ),
     // The statement and what stays.
     (
         "mbufpool audit two --since one",
@@ -293,6 +309,36 @@ static FAILED: &[(&str, &str)] = &[
     (
         "mbufpool audit healthy --since no-pool --json",
         "since: fault 1 BadPool\n",
+    ),
+    // Of two snapshots in one file, the failure of the first and else that of the second.
+    (
+        "mbufpool audit lost+healthy\n\
+        mbufpool audit lost+no-pool --json\n\
+        mbufpool audit lost+lost",
+        "first: fault 109 Lost element 7\n",
+    ),
+    (
+        "mbufpool audit healthy+lost\n\
+        mbufpool audit healthy+lost --json",
+        "second: fault 109 Lost element 7\n",
+    ),
+    ("mbufpool audit no-pool+lost", "first: fault 1 BadPool\n"),
+    (
+        "mbufpool audit healthy+no-pool",
+        "second: fault 1 BadPool\n",
+    ),
+    (
+        "mbufpool audit healthy+object",
+        "second: snapshot counts: missing, at byte 0\n",
+    ),
+    (
+        "mbufpool audit object+lost",
+        "first: snapshot counts: missing, at byte 0\n",
+    ),
+    // A second one begins with `{`.
+    (
+        "mbufpool audit object+open",
+        "snapshot: not JSON, at byte 3\n",
     ),
     // The first limit that differs.
     (

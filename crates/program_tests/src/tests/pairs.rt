@@ -194,6 +194,8 @@ fn an_audit_of_what_a_script_leaves_prints_what_it_comes_to(rt: HostRuntime) -> 
                 text.push_str(audit.as_str())?;
             }
             same(&rt, &text.as_str(), &statement, script);
+            let whole = output_of(&rt, "", left.as_str(), "mbufpool audit left")?;
+            same(&rt, &whole.as_str(), &statement, script);
         }
     }
     Ok(())
