@@ -15,11 +15,11 @@ use commons::seq::Seq;
 use std::alloc::{AllocError, Global};
 
 /// The most names that a bulk has.
-const MAX_NAMES: usize = 256;
+pub const MAX_NAMES: usize = 256;
 
 /// The first word of a command.
 #[derive(Clone, Copy, PartialEq, Eq, Debug)]
-enum Verb {
+pub enum Verb {
     Alloc,
     Bulk,
     Free,
@@ -39,7 +39,7 @@ enum Verb {
 }
 
 /// The verb that a word spells.
-fn verb_of(word: &[u8]) -> Option<Verb>
+pub fn verb_of(word: &[u8]) -> Option<Verb>
     ensures { result ≡ verb_at word.now }
 {
     match buffer_verb_of(word) {

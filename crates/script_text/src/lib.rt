@@ -5,21 +5,22 @@
 //! `laws` says of both grammars that a text is one script, or has one fault.
 #![tactic(auto)]
 
-mod command_line;
+pub mod command_line;
 pub mod commands;
 mod from_words;
 pub mod laws;
-mod line;
+pub mod line;
 pub mod lines;
 mod made_names;
-mod name;
-mod number;
-mod pool_line;
-mod put_in;
+pub mod name;
+pub mod number;
+pub mod pool_line;
+pub mod put_in;
 mod reader;
 pub mod reading;
-mod step_line;
+pub mod step_line;
 pub mod steps;
-mod worker_command;
+pub mod worker_command;
 
+pub use reader::MAX_COMMANDS;
 pub use reading::{MAX_BYTES, parse, parse_steps};

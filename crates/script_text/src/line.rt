@@ -2,7 +2,7 @@
 
 ghost use Rattle.std.specs.Prelude.{◌≡◌, ◌==◌, not, position, ◌+◌, ◌<◌, [], ◌∷◌, length, MatchOption, ⊤, Some, None};
 ghost use Rattle.std.specs.List.{list_all};
-ghost use Rattle.script_text.specs.inside.Reading.{parts, is_printed, is_plain as is_plain_line, is_skipped as is_skipped_line, words_of, only_of, both_of};
+ghost use Rattle.script_text.specs.inside.Reading.{parts, is_printed as is_printed_byte, is_plain as is_plain_line, is_skipped as is_skipped_line, words_of, only_of, both_of};
 
 /// The most bytes that a line has before its end.
 pub const MAX_LINE: usize = 8_192;
@@ -28,15 +28,22 @@ fn first_space(line: &[u8]) -> Option<usize>
     line.iter().position(|byte| *byte == b' ')
 }
 
+/// Whether a byte is a space or a character that is printed.
+pub fn is_printed(byte: u8) -> bool
+    ensures { result ≡ is_printed_byte byte }
+{
+    b' ' <= byte && byte <= b'~'
+}
+
 /// Whether each byte is a space or a character that is printed.
 fn is_printed_text(line: &[u8]) -> bool
-    ensures { result ≡ list_all is_printed line.now }
+    ensures { result ≡ list_all is_printed_byte line.now }
 {
-    line.iter().all(|byte| b' ' <= *byte && *byte <= b'~')
+    line.iter().all(|byte| is_printed(*byte))
 }
 
 /// The first line of a text, without its line end, and what follows it.
-pub(crate) fn next_line(text: &[u8]) -> Option<(&[u8], &[u8])>
+pub fn next_line(text: &[u8]) -> Option<(&[u8], &[u8])>
     ensures lines { MatchOption result
         (parts text.now ≡ record { lines = []; rest = text.now })
         (λ found. parts text.now ≡ record {
@@ -58,7 +65,7 @@ pub(crate) fn is_plain(line: &[u8]) -> bool
 }
 
 /// The first word of a line, and what follows it.
-pub(crate) fn next_word(line: &[u8]) -> Option<(&[u8], &[u8])>
+pub fn next_word(line: &[u8]) -> Option<(&[u8], &[u8])>
     ensures words { MatchOption result
         (words_of line.now ≡ [])
         (λ found. words_of line.now ≡ found.0.now ∷ words_of found.1.now) }
@@ -71,7 +78,7 @@ pub(crate) fn next_word(line: &[u8]) -> Option<(&[u8], &[u8])>
 }
 
 /// Whether a line has no word, or its first word begins with `#`.
-pub(crate) fn is_skipped(line: &[u8]) -> bool
+pub fn is_skipped(line: &[u8]) -> bool
     ensures { result ≡ is_skipped_line (words_of line.now) }
 {
     match next_word(line) {

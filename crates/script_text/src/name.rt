@@ -65,7 +65,7 @@ fn is_name_text(word: &[u8]) -> bool
 
 #[tactic(auto, unfolding(crate::specs::inside::Reading::is_name_word))]
 /// Whether a word is a name: 1 to 16 of `a` to `z` and `0` to `9`, beginning with a letter.
-pub(crate) fn is_name(word: &[u8]) -> bool
+pub fn is_name(word: &[u8]) -> bool
     ensures name { result ≡ is_name_word word.now }
     ensures few { result ≡ true → length word.now ≤ 16 }
 {

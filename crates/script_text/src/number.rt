@@ -7,7 +7,7 @@ ghost use Rattle.script_text.specs.inside.Reading.{is_digit, number_at, short_nu
 pub const MAX_DIGITS: usize = 20;
 
 /// The value of a digit.
-fn digit_of(byte: u8) -> Option<u64>
+pub fn digit_of(byte: u8) -> Option<u64>
     ensures digit { is_some result ≡ is_digit byte }
     ensures value { IfSome result (λ value. value ≡ byte - 48) }
 {
@@ -19,7 +19,7 @@ fn digit_of(byte: u8) -> Option<u64>
 }
 
 /// The number that a word spells: 1 to 20 decimal digits, with a value below 2^64.
-pub(crate) fn number_of(word: &[u8]) -> Option<u64>
+pub fn number_of(word: &[u8]) -> Option<u64>
     ensures { result ≡ number_at word.now }
 {
     if word.is_empty() || word.len() > MAX_DIGITS {
@@ -34,7 +34,7 @@ pub(crate) fn number_of(word: &[u8]) -> Option<u64>
 }
 
 /// The number that a word spells, at most 65,535, as of a length in bytes or of a desk.
-pub(crate) fn short_number_of(word: &[u8]) -> Option<u16>
+pub fn short_number_of(word: &[u8]) -> Option<u16>
     ensures { result ≡ short_number_at word.now }
 {
     let number = number_of(word)?;

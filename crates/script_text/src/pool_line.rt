@@ -44,7 +44,7 @@ fn word_of(key: Key) -> &'static [u8]
 }
 
 /// The key that a word spells.
-fn key_of(word: &[u8]) -> Option<Key>
+pub fn key_of(word: &[u8]) -> Option<Key>
     ensures { result ≡ key_at word.now }
 {
     KEYS.iter().copied().find(|key| word == word_of(*key))
@@ -52,7 +52,7 @@ fn key_of(word: &[u8]) -> Option<Key>
 
 /// The values that the keys of a pool line were given so far.
 #[derive(Clone, Copy, PartialEq, Eq, Debug)]
-pub(crate) struct Settings {
+pub struct Settings {
     cache: Option<u64>,
     workers: Option<u64>,
     desks: Option<u64>,
@@ -66,7 +66,7 @@ pub(crate) struct Settings {
 }
 
 /// No key was given a value.
-const NONE_GIVEN: Settings = Settings {
+pub const NONE_GIVEN: Settings = Settings {
     cache: None,
     workers: None,
     desks: None,
@@ -99,7 +99,7 @@ impl Settings {
     }
 
     /// The same settings, with this value of this key, or `None` where the key has a value.
-    fn with(self, key: Key, value: u64) -> Option<Settings>
+    pub fn with(self, key: Key, value: u64) -> Option<Settings>
         ensures { result ≡ add_value self key value }
     {
         if self.value(key).is_some() {
@@ -267,7 +267,7 @@ fn settings_of(rest: &[u8]) -> Option<Settings>
 }
 
 /// Whether a word is `pool`.
-fn is_pool_word(word: &[u8]) -> bool
+pub fn is_pool_word(word: &[u8]) -> bool
     ensures { result ≡ bytes_eq word.now (codes "pool") }
 {
     word == b"pool".as_slice()

@@ -11,7 +11,7 @@ use commons::seq::Seq;
 use std::alloc::{AllocError, Global};
 
 /// The most segments that a packet has.
-const MAX_SEGMENTS: usize = 32;
+pub const MAX_SEGMENTS: usize = 32;
 
 /// Where a `>` stands in a word.
 fn mark_of(word: &[u8]) -> Option<usize>
@@ -21,7 +21,7 @@ fn mark_of(word: &[u8]) -> Option<usize>
 }
 
 /// The segment that a word spells.
-fn segment_of(word: &[u8]) -> Option<StepSegment>
+pub fn segment_of(word: &[u8]) -> Option<StepSegment>
     ensures { result ≡ segment_at word.now }
 {
     match mark_of(word) {

@@ -15,7 +15,7 @@ use std::alloc::{AllocError, Global};
 
 /// The first word of a step, unless it is `putin`.
 #[derive(Clone, Copy, PartialEq, Eq, Debug)]
-enum StepVerb {
+pub enum StepVerb {
     LoadLength,
     Reserve,
     Add,
@@ -90,14 +90,14 @@ impl StepVerb {
 }
 
 /// The verb that a word spells.
-fn step_verb_of(word: &[u8]) -> Option<StepVerb>
+pub fn step_verb_of(word: &[u8]) -> Option<StepVerb>
     ensures { result ≡ step_verb_at word.now }
 {
     STEP_VERBS.iter().copied().find(|verb| word == verb.word())
 }
 
 /// The element that a word spells, or the end.
-fn element_of(word: &[u8]) -> Option<ElementOrEnd>
+pub fn element_of(word: &[u8]) -> Option<ElementOrEnd>
     ensures { result ≡ element_at word.now }
 {
     if word == b"-".as_slice() {
@@ -259,7 +259,7 @@ fn step_with(verb: StepVerb, rest: &[u8]) -> Option<Step>
 }
 
 /// Whether a word is `putin`.
-fn is_put_in(word: &[u8]) -> bool
+pub fn is_put_in(word: &[u8]) -> bool
     ensures { result ≡ bytes_eq word.now (codes "putin") }
 {
     word == b"putin".as_slice()

@@ -15,7 +15,7 @@ use crate::number::number_of;
 use std::alloc::{AllocError, Global};
 
 /// The part of a word before a colon at its end.
-fn prefix_of(word: &[u8]) -> Option<&[u8]>
+pub fn prefix_of(word: &[u8]) -> Option<&[u8]>
     ensures { option_copied result ≡ before_colon word.now }
 {
     word.strip_suffix(b":".as_slice())

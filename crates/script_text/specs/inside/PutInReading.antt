@@ -1,5 +1,5 @@
 -- How the words of a step that puts a packet into a slot are read, as functions on lists,
--- for the crate's own functions. No public clause cites this module.
+-- for the crate's own functions. Of public clauses those alone cite this module that look at single words.
 use Rattle.std.specs.Prelude.{ℕ, ◌+◌, if◌then◌else◌, ◌==◌, nat_le, List, [], ◌∷◌, ◌++◌, length, Option, Some, None, option_and_then, take, drop, position}
 use Rattle.script_text.specs.declared.steps.Step.{Step}
 use Rattle.script_text.specs.declared.steps.Step.TheVariants.{PutIn}

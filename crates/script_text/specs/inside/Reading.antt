@@ -1,5 +1,5 @@
 -- How lines, words, numbers, names and the pool line are read, as functions on lists,
--- for the crate's own functions. No public clause cites this module.
+-- for the crate's own functions. Of public clauses those alone cite this module that look at single words.
 use Rattle.std.specs.Prelude.{ℕ, ◌*◌, ◌/◌, ◌^◌, Bool, true, false, ◌&&◌, ◌||◌, if◌then◌else◌, ◌==◌, nat_le, nat_lt, List, [], ◌∷◌, length, Option, Some, None, is_some, option_and_then, unwrap_or, codes}
 use Rattle.std.specs.List.{find, list_all}
 use Rattle.std.specs.Str.{bytes_eq}

@@ -1,5 +1,5 @@
 -- How a script is read, as functions on lists, for the crate's own functions.
--- No public clause cites this module.
+-- Of public clauses those alone cite this module that look at single words.
 use Rattle.std.specs.Prelude.{ℕ, ◌+◌, ◌-◌, max, Bool, true, false, ◌&&◌, ◌||◌, if◌then◌else◌, ◌==◌, nat_le, nat_lt, List, [], ◌∷◌, length, Option, Some, None, is_none, option_and_then, Result, Ok, Err, take, drop, codes}
 use Rattle.std.specs.Str.{bytes_eq}
 use Rattle.commons.specs.declared.refusal.Refusal.{Refusal}

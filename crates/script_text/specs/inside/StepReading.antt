@@ -1,5 +1,5 @@
 -- How the words of a step are read, as functions on lists, for the crate's own functions.
--- No public clause cites this module.
+-- Of public clauses those alone cite this module that look at single words.
 use Rattle.std.specs.Prelude.{ℕ, true, false, if◌then◌else◌, List, [], ◌∷◌, Option, Some, None, option_and_then, codes}
 use Rattle.std.specs.List.{find}
 use Rattle.std.specs.Str.{bytes_eq}
