@@ -30,6 +30,7 @@ mod memory;
 mod parsing;
 mod random;
 mod readings;
+mod reasons;
 mod replies;
 mod settling;
 mod shown;

@@ -1,0 +1,4 @@
+pub mod Lines
+pub mod Seconds
+pub mod Texts
+pub mod Walks
