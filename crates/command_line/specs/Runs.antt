@@ -4,6 +4,7 @@ use Rattle.command_line.specs.Statuses.{IsToldWith, OtherStays, status_of}
 use Rattle.command_line.specs.declared.unasked.Unasked.{Unasked}
 use Rattle.script_io.specs.declared.reading.ReadFault.{ReadFault}
 use Rattle.tasks.specs.Ends.{status_of_end}
+use Rattle.tasks.specs.Explained.{EndsExplained}
 use Rattle.tasks.specs.Forms.{kind_of}
 use Rattle.tasks.specs.Pairs.{EndsAsPair}
 use Rattle.tasks.specs.Replays.{EndsAs}
@@ -11,13 +12,17 @@ use Rattle.tasks.specs.declared.kind.Kind.{Kind}
 use Rattle.tasks.specs.declared.kind.Kind.TheVariants.{Snapshot}
 use Rattle.tasks.specs.declared.printing.End.{End}
 use Rattle.tasks.specs.declared.task.Asked.{Asked}
-use Rattle.tasks.specs.declared.task.Asked.TheVariants.{One, Two}
+use Rattle.tasks.specs.declared.task.Asked.TheVariants.{One, Explained, Two}
 
--- how the print of what was asked for ended: of a task with a file, or of two snapshots
+-- how the print of what was asked for ended: of a task with a file, explained or not, or of two
+-- snapshots
 abbrev pub EndsAsked : (Kind → List ℕ → List ℕ → Type 0) → (Kind → List ℕ → ReadFault → Type 0) → Asked
     → Option (List ℕ) → Option (List ℕ) → Option (List ℕ) → Option (List ℕ) → End → Type 0
 EndsAsked Gives Fails (One request) =
     EndsAs (Gives (kind_of request.task) request.file.now) (Fails (kind_of request.task) request.file.now)
+    request.file.now request.task
+EndsAsked Gives Fails (Explained request) =
+    EndsExplained (Gives (kind_of request.task) request.file.now) (Fails (kind_of request.task) request.file.now)
     request.file.now request.task
 EndsAsked Gives Fails (Two pair) = EndsAsPair (Gives Snapshot) (Fails Snapshot) pair.newer.now pair.older.now pair.form
 

@@ -54,16 +54,16 @@ fn requested<'a>(alloc: Global, words: &'a [String]) -> Result<Option<Asked<'a>>
 /// The request that the matches of a parse are.
 fn request_in<'a>(matches: &ArgMatches<'a>) -> Option<Asked<'a>> {
     if let Some(replay) = matches.subcommand_matches("replay") {
-        return of_file(replay, replay_in(replay));
+        return of_script(replay, replay_in(replay));
     }
     if let Some(steps) = matches.subcommand_matches("steps") {
-        return of_file(steps, Task::Steps);
+        return of_script(steps, Task::Steps);
     }
     if let Some(audit) = matches.subcommand_matches("audit") {
         return audit_in(audit);
     }
     let run = matches.subcommand_matches("run")?;
-    of_file(run, run_in(run)?)
+    of_script(run, run_in(run)?)
 }
 
 /// What is to be done with the file that is named.
@@ -71,6 +71,17 @@ fn of_file<'a>(matches: &ArgMatches<'a>, task: Task) -> Option<Asked<'a>> {
     matches
         .get_str("FILE")
         .map(|file| Asked::One(Request { file, task }))
+}
+
+/// What is to be done with the script that is named, explained where that is asked for.
+fn of_script<'a>(matches: &ArgMatches<'a>, task: Task) -> Option<Asked<'a>> {
+    let file = matches.get_str("FILE")?;
+    let request = Request { file, task };
+    Some(if matches.get_flag("explain") {
+        Asked::Explained(request)
+    } else {
+        Asked::One(request)
+    })
 }
 
 /// The audit that is asked for, of one snapshot or of two.
@@ -156,7 +167,7 @@ fn command<'a>(alloc: Global) -> Result<Command<'a>, Error> {
     )
 }
 
-/// `mbufpool replay FILE [--json | --snapshot]`.
+/// `mbufpool replay FILE [--explain] [--json | --snapshot]`.
 fn replay<'a>(alloc: Global) -> Result<Command<'a>, Error> {
     let json = json(alloc).help(
         "Print where each element is at the end as one line of JSON, and no replies",
@@ -168,12 +179,13 @@ fn replay<'a>(alloc: Global) -> Result<Command<'a>, Error> {
         Command::new(alloc, "replay")
             .about("Replays a script, and prints each reply and where each element is at the end")
             .arg(script_file(alloc))?
+            .arg(explain(alloc))?
             .arg(json)?
             .arg(snapshot)?,
     )
 }
 
-/// `mbufpool run FILE [--ground words|locked] [--turns T] [--lose W] [--json | --snapshot]`, where
+/// `mbufpool run FILE [--explain] [--ground words|locked] [--turns T] [--lose W] [--json | --snapshot]`, where
 /// `--lose` and `--snapshot` don't go together either.
 fn run<'a>(alloc: Global) -> Result<Command<'a>, Error> {
     let snapshot = snapshot(alloc)?
@@ -185,6 +197,7 @@ fn run<'a>(alloc: Global) -> Result<Command<'a>, Error> {
                 "Runs a script with a thread for each worker, and prints where each element is at the end",
             )
             .arg(script_file(alloc))?
+            .arg(explain(alloc))?
             .arg(ground(alloc))?
             .arg(turns(alloc))?
             .arg(lose(alloc))?
@@ -193,14 +206,15 @@ fn run<'a>(alloc: Global) -> Result<Command<'a>, Error> {
     )
 }
 
-/// `mbufpool steps FILE`.
+/// `mbufpool steps FILE [--explain]`.
 fn steps<'a>(alloc: Global) -> Result<Command<'a>, Error> {
     Ok(
         Command::new(alloc, "steps")
             .about(
                 "Plays a script of steps on the words of the stack, and prints what each saw and the words",
             )
-            .arg(script_file(alloc))?,
+            .arg(script_file(alloc))?
+            .arg(explain(alloc))?,
     )
 }
 
@@ -272,7 +286,17 @@ fn lose<'a>(alloc: Global) -> Arg<'a> {
 
 /// The file that is named.
 fn script_file<'a>(alloc: Global) -> Arg<'a> {
-    Arg::new(alloc, "FILE").required(true).help("The script")
+    Arg::new(alloc, "FILE")
+        .required(true)
+        .help("The script; - is the standard input")
+}
+
+/// Whether a fault is to be explained.
+fn explain<'a>(alloc: Global) -> Arg<'a> {
+    Arg::new(alloc, "explain")
+        .long("explain")
+        .action(ArgAction::SetTrue)
+        .help("Tell of a fault in a second line where it is, and what is wrong there")
 }
 
 /// The flag that asks for snapshots, which isn't given with that for JSON.

@@ -11,7 +11,7 @@ use std::sync::Wait;
 use std::thread::Threads;
 use tasks::scripts::Scripts;
 use tasks::task::Asked;
-use tasks::{print, print_pair};
+use tasks::{print, print_explained, print_pair};
 
 /// Does what the command line asks for, and gives the status that the program ends with: 0 where
 /// the whole print was written, or help or the version; 1 where a failure was told or a writer
@@ -78,6 +78,9 @@ pub fn serve<R: AllocGlobal + Threads + Wait + Sync, S: Scripts, O: Write, E: Wr
     match asked {
         Ok(Asked::One(request)) => {
             print(rt, rt.alloc(), scripts, &request, screen, errors).status()
+        }
+        Ok(Asked::Explained(request)) => {
+            print_explained(rt, rt.alloc(), scripts, &request, screen, errors).status()
         }
         Ok(Asked::Two(pair)) => print_pair(rt.alloc(), scripts, &pair, screen, errors).status(),
         Err(unasked) => tell(screen, errors, &unasked),

@@ -1,6 +1,7 @@
 pub mod Audits
 pub mod Both
 pub mod Ends
+pub mod Explained
 pub mod Failures
 pub mod Forms
 pub mod Halves

@@ -6,6 +6,7 @@
 mod auditing;
 mod both;
 pub mod comparing;
+pub mod explaining;
 pub mod failures;
 mod halves;
 pub mod kind;
@@ -17,6 +18,7 @@ pub mod scripts;
 mod since;
 pub mod task;
 
+pub use explaining::print_explained;
 pub use failures::{tell, tell_pair};
 pub use printing::{End, print, printed};
 pub use since::{print_pair, printed_pair};

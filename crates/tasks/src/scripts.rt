@@ -28,7 +28,7 @@ pub trait Scripts {
         ensures fails { IfErr result (λ fault. fails self.now kind name.entry.now fault) };
 }
 
-/// The files of a runtime, named by their paths. The snapshot `-` is the standard input.
+/// The files of a runtime, named by their paths. `-` is the standard input.
 #[derive(Clone, Copy)]
 pub struct Disk<'a, R>(pub &'a R);
 
@@ -38,7 +38,7 @@ impl<R: Files + Input> Scripts for Disk<'_, R> {
 
     /// Opening takes no memory of the program's, so that each error of it is the device's.
     fn read(&self, alloc: Global, kind: Kind, name: &str) -> Result<Vec<u8>, ReadFault> {
-        if kind == Kind::Snapshot && name == "-" {
+        if name == "-" {
             return whole(alloc, kind, self.0.reader());
         }
         match File::open(self.0, name) {

@@ -78,9 +78,11 @@ pub struct Pair<'a> {
     pub form: Form,
 }
 
-/// What is asked for: something of one file, or of two snapshots.
+/// What is asked for: something of one file, explained or not, or of two snapshots.
 #[derive(Clone, Copy, PartialEq, Eq, Debug)]
 pub enum Asked<'a> {
     One(Request<'a>),
+    /// The same, and of a script that isn't one why.
+    Explained(Request<'a>),
     Two(Pair<'a>),
 }

@@ -8,7 +8,7 @@ use std::sync::Wait;
 use std::test::Fail;
 use std::thread::Threads;
 use tasks::task::Asked;
-use tasks::{End, print, print_pair};
+use tasks::{End, print, print_explained, print_pair};
 
 /// A command line, how many bytes its output and its errors have room for, and how its print ends
 /// there, with the status.
@@ -27,6 +27,10 @@ static ENDED: &[(&str, usize, usize, (End, u8))] = &[
     ),
     ("mbufpool replay first", 154, 1_000, (End::Printed, 0)),
     ("mbufpool replay pull", 0, 1_000, (End::Told, 1)),
+    // The line of the fault has 28 bytes.
+    ("mbufpool replay pull --explain", 0, 27, (End::Untold, 1)),
+    ("mbufpool replay pull --explain", 0, 28, (End::Untold, 1)),
+    ("mbufpool replay pull --explain", 0, 1_000, (End::Told, 1)),
     (
         "mbufpool audit healthy --since healthy",
         1_000,
@@ -53,6 +57,9 @@ fn ended<R: Threads + Wait + Sync + AllocGlobal>(
     let end = match request_of(rt.alloc(), words.as_slice()) {
         Ok(Asked::One(request)) => {
             print(rt, rt.alloc(), &TABLES, &request, &mut screen, &mut errors)
+        }
+        Ok(Asked::Explained(request)) => {
+            print_explained(rt, rt.alloc(), &TABLES, &request, &mut screen, &mut errors)
         }
         Ok(Asked::Two(pair)) => print_pair(rt.alloc(), &TABLES, &pair, &mut screen, &mut errors),
         Err(_) => return Err(Fail::from("nothing is asked for")),

@@ -47,7 +47,11 @@ pub(super) const STEPS_TEXT: &str = "2: value 1\n3: refused 21 StepRefused\n\
 
 /// Command lines, a line each, and what each of them prints.
 static PRINTED: &[(&str, &str)] = &[
-    ("mbufpool replay first", FIRST_RUN_TEXT),
+    (
+        "mbufpool replay first\n\
+        mbufpool replay first --explain",
+        FIRST_RUN_TEXT,
+    ),
     // A run of one worker is its replay without the replies, whatever its pool rests on.
     (
         "mbufpool run first --turns 1\n\
@@ -239,6 +243,37 @@ static FAILED: &[(&str, &str)] = &[
         mbufpool steps allocs",
         "fault 20 ScriptFault line 2\n",
     ),
+    // A fault that is to be explained has a second line; what is no fault of the script has none.
+    (
+        "mbufpool replay pull --explain\n\
+        mbufpool replay --explain pull --json\n\
+        mbufpool replay pull --snapshot --explain\n\
+        mbufpool run pull --turns 1 --explain\n\
+        mbufpool run pull --turns 1 --lose 3 --explain --ground locked\n\
+        mbufpool steps pull --explain",
+        "fault 20 ScriptFault line 1\n\
+        line 1, column 1: 'pull' stands before the pool line: write 'pool N' first\n",
+    ),
+    (
+        "mbufpool replay cuts --explain\n\
+        mbufpool run cuts --turns 1 --json --explain",
+        "fault 20 ScriptFault line 2\nline 2, column 1: unknown command 'cuts'\n",
+    ),
+    (
+        "mbufpool steps allocs --explain",
+        "fault 20 ScriptFault line 2\nline 2, column 1: unknown step 'alloc'\n",
+    ),
+    (
+        "mbufpool replay nothing --explain\n\
+        mbufpool run nothing --turns 1 --snapshot --explain\n\
+        mbufpool steps nothing --explain",
+        "fault 1 BadPool\nline 1, column 6: pool 0 is below 1\n",
+    ),
+    (
+        "mbufpool run eight --turns 1 --lose 3 --explain",
+        "fault 19 StrangerShare\n",
+    ),
+    ("mbufpool replay none --explain", "cannot read none\n"),
     // A device that fails is a file that can't be read, whatever the error, and memory is told as
     // that.
     (

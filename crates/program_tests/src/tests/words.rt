@@ -75,6 +75,18 @@ static ASKED: &[(&str, &str)] = &[
         r#"One(Request { file: "-", task: Steps })"#,
     ),
     (
+        "mbufpool replay - --explain",
+        r#"Explained(Request { file: "-", task: Replay(Text) })"#,
+    ),
+    (
+        "mbufpool run --explain a --lose 2",
+        r#"Explained(Request { file: "a", task: RunLost(Words, Turns { count: 1000 }, 2, Text) })"#,
+    ),
+    (
+        "mbufpool steps a --explain",
+        r#"Explained(Request { file: "a", task: Steps })"#,
+    ),
+    (
         "mbufpool audit a.json",
         r#"One(Request { file: "a.json", task: Audit(Text) })"#,
     ),
@@ -159,6 +171,8 @@ static WRONG: &[&str] = &[
     "mbufpool run a --snapshot --json",
     "mbufpool run a --snapshot --lose 1",
     "mbufpool audit a --snapshot",
+    "mbufpool audit a --explain",
+    "mbufpool replay a --explain --explain",
     "mbufpool audit a --dot --json",
     "mbufpool audit b --dot --since a",
     "mbufpool replay a --dot",
@@ -202,6 +216,10 @@ static HELP: &[(&str, &str)] = &[
         "Usage: mbufpool replay [OPTIONS] <FILE>",
     ),
     ("mbufpool replay --help", "--json"),
+    ("mbufpool replay --help", "--explain"),
+    ("mbufpool replay --help", "- is the standard input"),
+    ("mbufpool run --help", "- is the standard input"),
+    ("mbufpool steps --help", "- is the standard input"),
     ("mbufpool run --help", "--snapshot"),
     (
         "mbufpool audit --help",
