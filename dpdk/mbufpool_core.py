@@ -1,5 +1,5 @@
-# mbufpool_core.py - commands of gdb which write snapshots of DPDK's mempools of mbufs from a core file,
-# for `mbufpool audit FILE`.
+# mbufpool_core.py - commands of gdb which write snapshots of DPDK's mempools of mbufs, from a core file or a
+# process, for `mbufpool audit FILE`.
 #
 #     gdb PROGRAM CORE
 #     (gdb) source mbufpool_core.py
@@ -25,8 +25,8 @@ writes_none, sys.dont_write_bytecode = sys.dont_write_bytecode, True  # no __pyc
 
 from mbufpool_handlers import HANDLERS, handler_names  # noqa: E402 (it stands beside this file)
 from mbufpool_memory import (  # noqa: E402
-    Core, Fault, Layout, Live, Notes, Pool, find_mempools, is_mempool)
-from mbufpool_snapshot import NO_ELEM, Dump, View  # noqa: E402
+    Core, Fault, Layout, Live, Notes, Pool, Running, find_mempools, is_mempool)
+from mbufpool_snapshot import NO_ELEM, Dump, View, fill_all  # noqa: E402
 
 sys.dont_write_bytecode = writes_none
 
@@ -34,8 +34,8 @@ USAGE = """mbufpool list                         the mempools
 mbufpool dump NAME FILE [NAME FILE]   a snapshot of one, or of two that have clones of each other's mbufs
 mbufpool all DIR                      a snapshot of each
 mbufpool mbuf NAME N                  an mbuf, by its number or address
-mbufpool packets NAME [OLD ..]        the packets in use, grouped by what they have alike; of these the ones that
-                                      are in each of the snapshots OLD too
+mbufpool packets NAME [OLD ..]        the packets in use, grouped by what they have alike; of these
+                                      the ones that are in each of the snapshots OLD too
 NAME may be a mempool's address, 0x..; FILE may be -; behind --handler OPS the handler is that"""
 
 
@@ -119,8 +119,7 @@ def dump(session, names, paths):
     for pool in pools:
         if session.handler(pool) not in HANDLERS and pool.has_mbufs():
             tell_what_is_known(session, pool)
-    views = [look(session, pool) for pool in pools]
-    note_clones(session, views)
+    views = look(session, pools)
     pair = Dump(views, session.others(views))
     texts = ["".join(pair.text(view)) for view in views]
     for view, path, text in zip(views, paths, texts):
@@ -130,12 +129,18 @@ def dump(session, names, paths):
             session.say(line)
 
 
-def look(session, pool):
+def look(session, pools):
+    """Views of one mempool or two, filled."""
+    views = []
     try:
-        return View(pool, session.handler(pool))
+        for pool in pools:
+            views.append(View(pool, session.handler(pool)))
+        fill_all(views)
     except Fault as fault:
         line = str(fault)
         raise Fault(line if line.startswith("mempool ") else "mempool %s: %s" % (pool.name, line))
+    note_clones(session, views)
+    return views
 
 
 def note_clones(session, views):
@@ -168,6 +173,7 @@ def bases_of(pool):
 def tell_what_is_known(session, pool):
     """What a core says of a pool whose handler isn't supported."""
     view = View(pool, None)
+    fill_all([view])
     session.say("mempool %s: of the handler %s a core doesn't say which objects its common part has. "
                 "This is known:" % (pool.name, session.handler(pool) or "(unknown)"))
     places = {}
@@ -234,6 +240,7 @@ def show_mbuf(session, name, what):
     pool = session.pool(name)
     handler = session.handler(pool)
     view = View(pool, handler if handler in HANDLERS else None)
+    fill_all([view])
     if not re.match(r"(0x[0-9a-fA-F]+|[0-9]+)$", what):
         raise Fault("an mbuf is a number or an address, and not %s" % what)
     elem = find_elem(view, what)
@@ -305,8 +312,7 @@ def kind_text(kind):
 
 def show_packets(session, name, paths):
     """Groups the packets in use, or those of them that are in older snapshots too."""
-    view = look(session, session.pool(name))
-    note_clones(session, [view])
+    view = look(session, [session.pool(name)])[0]
     pair = Dump([view], session.others([view]))
     known = [packets_of(path, view) for path in paths]
     groups = collections.defaultdict(list)
@@ -348,20 +354,21 @@ def play(session, words):
     return True
 
 
-def open_memory(core):
+def open_memory(core, pid):
     layout = Layout(os.environ.get("MBUFPOOL_LAYOUT") or os.path.join(HERE, "mbufpool_layout.txt"))
     if core is not None:
         return Core(layout, core)
+    if pid is not None:
+        return Running(layout, pid)
     found = re.search(r"core dump file:\s*`(.*)', file type", gdb.execute("info files", False, True))
     if found:
         return Core(layout, found.group(1))
     if gdb.selected_inferior().pid == 0:
-        raise Fault("there is neither a core nor a process, or gdb may not attach to it (root may, where no "
-                    "other debugger has it)")
-    return Live(layout, gdb.selected_inferior())
+        raise Fault("there is neither a core nor a process")
+    return Live(layout, gdb.selected_inferior().pid)
 
 
-def run(words, core, out, err):
+def run(words, core, pid, out, err):
     """Runs a command, and says whether all of it was done. What goes wrong is one line."""
     session, is_well = None, False
     try:
@@ -370,7 +377,7 @@ def run(words, core, out, err):
             k = words.index("--handler")
             handler = words[k + 1]
             words = words[:k] + words[k + 2:]
-        session = Session(open_memory(core), out, err if "-" in words else out, handler)
+        session = Session(open_memory(core, pid), out, err if "-" in words else out, handler)
         is_well = play(session, words or ["help"])
     except Fault as fault:
         err.write("mbufpool: %s\n" % fault)
@@ -388,7 +395,7 @@ class Command(gdb.Command):
         super().__init__("mbufpool", gdb.COMMAND_DATA)
 
     def invoke(self, argument, from_tty):
-        run(gdb.string_to_argv(argument), None, sys.stdout, sys.stderr)
+        run(gdb.string_to_argv(argument), None, None, sys.stdout, sys.stderr)
 
 
 Command.__doc__ += "\n\n" + USAGE
@@ -418,15 +425,17 @@ def how_it_stood():
 
 def main():
     """For mbufpool-core, which has the words in the environment, and reads lines from 3 and 4. Where it
-    names no core gdb holds a process, and where that stands says nothing."""
+    names no core it has a process."""
     words = [os.environ["MBUFPOOL_CORE_WORD%d" % (k + 1)]
              for k in range(int(os.environ["MBUFPOOL_CORE_WORDS"]))]
-    core = os.environ["MBUFPOOL_CORE"] or None
+    core, pid = os.environ["MBUFPOOL_CORE"] or None, None
+    if core is None:
+        pid = int(os.environ["MBUFPOOL_PID"])
     with os.fdopen(3, "w") as out, os.fdopen(4, "w") as err:
         line = how_it_stood() if core is not None else ""
         if line:
             (err if "-" in words else out).write(line + "\n")
-        is_well = run(words, core, out, err)
+        is_well = run(words, core, pid, out, err)
     gdb.execute("quit %d" % (0 if is_well else 1))
 
 

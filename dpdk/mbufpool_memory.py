@@ -1,4 +1,4 @@
-# mbufpool_memory.py - what a core file, or a process that gdb holds, says of DPDK's mempools: see
+# mbufpool_memory.py - what a core file, or a process, says of DPDK's mempools: see
 # mbufpool_core.py.
 #
 # No symbol of DPDK is needed: a module's data have the name of the list of mempools, and a reference to
@@ -22,6 +22,7 @@ import gdb
 
 MAX_MEMPOOLS = 65536
 MAX_SEARCH = 1 << 20  # bytes in which a lost header is looked for
+PIECE = 1 << 24  # bytes that are searched at once
 MAX_NOTES = 20
 INT_FORMATS = {1: "B", 2: "H", 4: "I", 8: "Q"}
 
@@ -99,6 +100,13 @@ class Memory:
     """What was in memory: subclasses say how it is read."""
 
     is_short = False  # it is a core that has been cut off
+    goes_on = False  # what is read may be another the next time
+
+    def hold(self):
+        """Lets a process stand that goes on by itself."""
+
+    def let_go(self):
+        """Lets it go on."""
 
     def __init__(self, layout):
         self.layout = layout
@@ -187,44 +195,73 @@ class Core(Memory):
 
 
 class Live(Memory):
-    """A process that gdb holds. It is read as a file where that may be, which is faster."""
+    """A process that gdb holds."""
 
-    def __init__(self, layout, inferior):
+    def __init__(self, layout, pid):
         super().__init__(layout)
-        self.inferior = inferior
-        try:
-            self.file = open("/proc/%d/mem" % inferior.pid, "rb", buffering=0)
-        except OSError:
-            self.file = None
+        self.pid = pid
 
     def read(self, at, n):
         try:
-            if self.file is None:
-                return bytes(self.inferior.read_memory(at, n))
-            found = os.pread(self.file.fileno(), n, at)
-        except (gdb.error, OSError, OverflowError):
-            found = b""
-        if len(found) < n:
+            return bytes(gdb.selected_inferior().read_memory(at, n))
+        except (gdb.error, OverflowError):
             raise Fault("%d bytes at 0x%x can't be read" % (n, at))
-        return found
 
     def find(self, pattern):
+        """Where this stands in what could be written to, in small mappings first."""
         try:
-            with open("/proc/%d/maps" % self.inferior.pid) as lines:
+            with open("/proc/%d/maps" % self.pid) as lines:
                 maps = re.findall(r"^([0-9a-f]+)-([0-9a-f]+) .w", lines.read(), re.M)
         except OSError as error:
             raise Fault("the maps of the process can't be read: %s" % error)
         sizes = sorted((int(end, 16) - int(begin, 16), int(begin, 16)) for begin, end in maps)
         for size, begin in sizes:
-            at, end = begin, begin + size
-            while at is not None and at < end:
-                try:
-                    at = self.inferior.search_memory(at, end - at, pattern)
-                except gdb.error:
-                    break
-                if at is not None:
-                    yield at
-                    at += 1
+            for at in range(begin, begin + size, PIECE):
+                yield from self.find_in(at, min(PIECE + len(pattern) - 1, begin + size - at), pattern)
+
+    def find_in(self, begin, size, pattern):
+        try:
+            piece = self.read(begin, size)
+        except Fault:
+            return
+        at = piece.find(pattern)
+        while at >= 0:
+            yield begin + at
+            at = piece.find(pattern, at + 1)
+
+
+class Running(Live):
+    """A process that goes on, and that gdb holds for a while."""
+
+    goes_on = True
+
+    def __init__(self, layout, pid):
+        super().__init__(layout, pid)
+        try:
+            self.file = open("/proc/%d/mem" % pid, "rb", buffering=0)
+            gdb.execute("file /proc/%d/exe" % pid, False, True)  # (or it is read while the process stands)
+        except OSError as error:
+            raise Fault("the process %d can't be read: %s" % (pid, error.strerror))
+        except gdb.error:
+            pass
+
+    def read(self, at, n):
+        try:
+            found = os.pread(self.file.fileno(), n, at)
+        except (OSError, OverflowError):
+            found = b""
+        if len(found) < n:
+            raise Fault("%d bytes at 0x%x can't be read" % (n, at))
+        return found
+
+    def hold(self):
+        try:
+            gdb.execute("attach %d" % self.pid, False, True)
+        except gdb.error as error:
+            raise Fault("gdb can't hold the process: %s" % "; ".join(str(error).splitlines()))
+
+    def let_go(self):
+        gdb.execute("detach", False, True)
 
 
 # ---- the mempools ----

@@ -21,7 +21,8 @@ Step = collections.namedtuple("Step", "at mbuf view elem last is_wild")
 
 
 class View:
-    """A pool of mbufs, and what is known of its elements."""
+    """A pool of mbufs, and what is known of its elements: first what doesn't change as the pool is used,
+    and once it is filled where they are and what they say."""
 
     def __init__(self, pool, handler):
         self.pool, self.size = pool, pool.populated_size
@@ -33,11 +34,20 @@ class View:
         self.mbufs = pool.objects()
         self.by_address = array("I", sorted(range(self.size), key=self.mbufs.__getitem__))
         self.addresses = array("Q", (self.mbufs[e] for e in self.by_address))
-        self.caches = pool.caches()
         self.marks = bytearray(self.size)
         self.clones = collections.Counter()  # how many in use have its buffer
         self.based = self.foreign = self.guests = 0
-        self.common = common_of(pool, handler) if handler is not None else array("Q")
+        self.handler, self.headers = handler, None
+
+    def fill(self):
+        """Reads where the elements are; and what each says, of a process that goes on."""
+        memory, size = self.pool.memory, self.pool.memory.layout.sizes["rte_mbuf"]
+        self.common = common_of(self.pool, self.handler) if self.handler is not None else array("Q")
+        self.caches = self.pool.caches()
+        if memory.goes_on:
+            self.headers = [memory.read(at, size) for at in self.mbufs]
+
+    def mark_all_free(self):
         for at in self.common:
             self.mark_free(at)
         for _, objects in self.caches:
@@ -55,7 +65,10 @@ class View:
         return self.by_address[k] if k < self.size and self.addresses[k] == at else NO_ELEM
 
     def mbuf(self, elem):
-        return self.pool.memory.mbuf(self.mbufs[elem])
+        if self.headers is None:
+            return self.pool.memory.mbuf(self.mbufs[elem])
+        layout = self.pool.memory.layout
+        return layout.Mbuf._make(layout.unpack_mbuf(self.headers[elem]))
 
     def is_foreign(self):
         """Whether the bases of its packets are elements of the other pool."""
@@ -69,6 +82,19 @@ class View:
         yield "worker 1: the application"
         for k, (lcore, objects) in enumerate(self.caches):
             yield "worker %d: lcore %d, cache of %d" % (min(k + 2, MAX_WORKERS), lcore, len(objects))
+
+
+def fill_all(views):
+    """Fills views of pools, while a process stands, for no longer than that takes."""
+    memory = views[0].pool.memory
+    memory.hold()
+    try:
+        for view in views:
+            view.fill()
+    finally:
+        memory.let_go()
+    for view in views:
+        view.mark_all_free()
 
 
 class Dump:
