@@ -185,8 +185,8 @@ fn replay<'a>(alloc: Global) -> Result<Command<'a>, Error> {
     )
 }
 
-/// `mbufpool run FILE [--explain] [--ground words|locked] [--turns T] [--lose W] [--json | --snapshot]`, where
-/// `--lose` and `--snapshot` don't go together either.
+/// `mbufpool run FILE [--explain] [--ground words|locked] [--turns T] [--lose W]
+/// [--json | --snapshot]`, where `--lose` and `--snapshot` don't go together either.
 fn run<'a>(alloc: Global) -> Result<Command<'a>, Error> {
     let snapshot = snapshot(alloc)?
         .help("Print what the pool leaves at the end as a snapshot, for audit")

@@ -1,10 +1,10 @@
 -- The first line that isn't skipped: where it stands, and that a bad pool line is one.
-use Rattle.std.proofs.Common.{◌≡◌, ℕ, ◌+◌, true, false, cond, List, [], ◌∷◌, ◌++◌, length, Option, Some, None, refl, sym, ap, subst, ◌∙◌, inl, inr, arith}
+use Rattle.std.proofs.Common.{◌≡◌, ℕ, ◌+◌, true, false, List, [], ◌∷◌, ◌++◌, length, Option, Some, None, refl, sym, ap, subst, ◌∙◌, inl, inr, arith}
 use Rattle.std.specs.List.{AllByRecursion}
 use Rattle.std.specs.Prelude.{unwrap_or}
 use Rattle.std.proofs.lemmas.Bool.{cond-true, cond-false, cases_Bool, false≢true}
 use Rattle.script_text.specs.Text.{AreLines, IsSkipped}
-use Rattle.script_text.specs.Scripts.{Language, State, start, Takes, skips, gives_pool, commands, Reads, AreRead, HasBadPool}
+use Rattle.script_text.specs.Scripts.{Language, State, start, Takes, skips, gives_pool, commands, AreRead, HasBadPool}
 use Rattle.script_text.specs.inside.Reading.{is_skipped, parts, words_of}
 use Rattle.script_text.proofs.LineLemmas.{lines_once, parts_are}
 use Rattle.script_text.proofs.WordLemmas.{skipped_from, skipped_is, spelled_once}

@@ -105,7 +105,7 @@ fn more<'a>(
     pair: &Pair<'a>,
 ) -> Result<Settings, Wrong<'a>> {
     let word = pair.key_word;
-    if pair.key == Key::Second && !knows_second {
+    if !knows_second && matches!(pair.key, Key::Second | Key::SecondCache) {
         return Err(word.is(Reason::Word(WordFault::SecondOfSteps, word.text)));
     }
     match settings.with(pair.key, pair.value) {

@@ -242,6 +242,10 @@ const STEPS: &[ReasonRow] = &[
         "line 1, column 8: 'second' is for scripts of commands: steps have one pool",
     ),
     (
+        "pool 3 secondcache 1\n",
+        "line 1, column 8: 'secondcache' is for scripts of commands: steps have one pool",
+    ),
+    (
         "pool 3\nalloc a\n",
         "line 2, column 1: unknown step 'alloc'",
     ),

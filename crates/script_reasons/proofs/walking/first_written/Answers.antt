@@ -1,4 +1,4 @@
-use Rattle.std.proofs.Common.{◌≡◌, ℕ, List, length, sym, ap, ◌∙◌, arith}
+use Rattle.std.proofs.Common.{sym, ap, ◌∙◌, arith}
 use Rattle.script_text.specs.inside.Reading.{Parts, parts}
 use Rattle.script_reasons.specs.Walks.{first_from}
 use Rattle.script_reasons.proofs.WrittenLemmas as lemmas
