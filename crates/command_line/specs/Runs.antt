@@ -6,16 +6,17 @@ use Rattle.script_io.specs.declared.reading.ReadFault.{ReadFault}
 use Rattle.tasks.specs.Ends.{status_of_end}
 use Rattle.tasks.specs.Explained.{EndsExplained}
 use Rattle.tasks.specs.Forms.{kind_of}
+use Rattle.tasks.specs.Listings.{EndsAsListing}
 use Rattle.tasks.specs.Pairs.{EndsAsPair}
 use Rattle.tasks.specs.Replays.{EndsAs}
 use Rattle.tasks.specs.declared.kind.Kind.{Kind}
 use Rattle.tasks.specs.declared.kind.Kind.TheVariants.{Snapshot}
 use Rattle.tasks.specs.declared.printing.End.{End}
 use Rattle.tasks.specs.declared.task.Asked.{Asked}
-use Rattle.tasks.specs.declared.task.Asked.TheVariants.{One, Explained, Two}
+use Rattle.tasks.specs.declared.task.Asked.TheVariants.{One, Explained, Two, All}
 
--- how the print of what was asked for ended: of a task with a file, explained or not, or of two
--- snapshots
+-- how the print of what was asked for ended: of a task with a file, explained or not, of two
+-- snapshots, or of all faults
 abbrev pub EndsAsked : (Kind → List ℕ → List ℕ → Type 0) → (Kind → List ℕ → ReadFault → Type 0) → Asked
     → Option (List ℕ) → Option (List ℕ) → Option (List ℕ) → Option (List ℕ) → End → Type 0
 EndsAsked Gives Fails (One request) =
@@ -25,9 +26,11 @@ EndsAsked Gives Fails (Explained request) =
     EndsExplained (Gives (kind_of request.task) request.file.now) (Fails (kind_of request.task) request.file.now)
     request.file.now request.task
 EndsAsked Gives Fails (Two pair) = EndsAsPair (Gives Snapshot) (Fails Snapshot) pair.newer.now pair.older.now pair.form
+EndsAsked Gives Fails (All listing) =
+    EndsAsListing (Gives Snapshot listing.file.now) (Fails Snapshot listing.file.now) listing.file.now listing.form
 
 -- The print of what was asked for ended so, on the output and on the errors, and the status is that of
--- this end: 0 where the whole print was written, else 1.
+-- this end: 0 where the whole print was written and it tells of no faults, else 1.
 pub record Ends (Gives : Kind → List ℕ → List ℕ → Type 0) (Fails : Kind → List ℕ → ReadFault → Type 0)
     (asked : Asked) (output output' errors errors' : Option (List ℕ)) (status : ℕ) : Type 0 where
   pub end : End

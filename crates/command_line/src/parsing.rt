@@ -7,7 +7,7 @@ use script::Grounds;
 use std::alloc::Global;
 use std::env::Env;
 use std::{env, io};
-use tasks::task::{Asked, Form, Pair, Request, Task, Turns};
+use tasks::task::{Asked, Form, Listing, Pair, Request, Task, Turns};
 
 /// What `--version` tells after the program's name.
 const VERSION: &str = "0.1.0";
@@ -84,9 +84,14 @@ fn of_script<'a>(matches: &ArgMatches<'a>, task: Task) -> Option<Asked<'a>> {
     })
 }
 
-/// The audit that is asked for, of one snapshot or of two.
+/// The audit that is asked for, of one file or of two snapshots of one pool.
 fn audit_in<'a>(matches: &ArgMatches<'a>) -> Option<Asked<'a>> {
     let form = form_in(matches);
+    if matches.get_flag("all") {
+        return matches
+            .get_str("FILE")
+            .map(|file| Asked::All(Listing { file, form }));
+    }
     match matches.get_str("since") {
         Some(older) => matches
             .get_str("FILE")
@@ -218,7 +223,7 @@ fn steps<'a>(alloc: Global) -> Result<Command<'a>, Error> {
     )
 }
 
-/// `mbufpool audit FILE [--since OLD] [--json]`, or `mbufpool audit FILE --dot`.
+/// `mbufpool audit FILE [--since OLD | --all] [--json]`, or `mbufpool audit FILE --dot`.
 fn audit<'a>(alloc: Global) -> Result<Command<'a>, Error> {
     let file = Arg::new(alloc, "FILE")
         .required(true)
@@ -230,8 +235,23 @@ fn audit<'a>(alloc: Global) -> Result<Command<'a>, Error> {
             )
             .arg(file)?
             .arg(since(alloc))?
+            .arg(all(alloc)?)?
             .arg(json(alloc).help("Print it as one line of JSON"))?
             .arg(dot(alloc)?)?,
+    )
+}
+
+/// Whether all faults are asked for.
+fn all<'a>(alloc: Global) -> Result<Arg<'a>, Error> {
+    Ok(
+        Arg::new(alloc, "all")
+            .long("all")
+            .action(ArgAction::SetTrue)
+            .conflicts_with("since")?
+            .conflicts_with("dot")?
+            .help(
+                "Print all faults, a line each, and how many they are; status 1 where there is one",
+            ),
     )
 }
 

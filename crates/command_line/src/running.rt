@@ -11,11 +11,11 @@ use std::sync::Wait;
 use std::thread::Threads;
 use tasks::scripts::Scripts;
 use tasks::task::Asked;
-use tasks::{print, print_explained, print_pair};
+use tasks::{print, print_all, print_explained, print_pair};
 
 /// Does what the command line asks for, and gives the status that the program ends with: 0 where
-/// the whole print was written, or help or the version; 1 where a failure was told or a writer
-/// failed; 2 where the words are wrong.
+/// the whole print was written, or help or the version; 1 where a fault or a failure was told or a
+/// writer failed; 2 where the words are wrong.
 pub fn run<R: Env + AllocGlobal + Threads + Wait + Sync, S: Scripts, O: Write, E: Write>(
     rt: &R,
     scripts: &S,
@@ -53,7 +53,7 @@ pub fn serve<R: AllocGlobal + Threads + Wait + Sync, S: Scripts, O: Write, E: Wr
     errors: &mut E,
 ) -> u8
     requires { screen.old.failed ≡ false }
-    // It is the status of the print of this task and file, or of these two snapshots,
+    // It is the status of the print of this task and file, of these two snapshots, or of all faults,
     ensures done { IfOk asked.entry (λ asked. Ends
         (S.gives scripts.now)
         (S.fails scripts.now)
@@ -83,6 +83,9 @@ pub fn serve<R: AllocGlobal + Threads + Wait + Sync, S: Scripts, O: Write, E: Wr
             print_explained(rt, rt.alloc(), scripts, &request, screen, errors).status()
         }
         Ok(Asked::Two(pair)) => print_pair(rt.alloc(), scripts, &pair, screen, errors).status(),
+        Ok(Asked::All(listing)) => {
+            print_all(rt.alloc(), scripts, &listing, screen, errors).status()
+        }
         Err(unasked) => tell(screen, errors, &unasked),
     }
 }

@@ -51,10 +51,12 @@ pub record FailsOne (IsCause : List ℕ → Failure → Type 0) (which : Which) 
   pub cause : IsCause bytes alone
   pub told : failure ≡ failure_of which alone
 
--- the failure that came of two: the first one's; or the first one is fine, and it is the second's
+-- The failure that came of two: memory was refused; or it is the first one's; or the first one is fine,
+-- and it is the second's.
 abbrev pub FailsEither : (List ℕ → Type 0) → (List ℕ → Failure → Type 0) → List ℕ → List ℕ → Failure → Type 0
 FailsEither IsFine IsCause first second failure =
-    FailsOne IsCause First first failure ⊎ (IsFine first × FailsOne IsCause Second second failure)
+    (failure ≡ Fault OutOfMemory)
+    ⊎ (FailsOne IsCause First first failure ⊎ (IsFine first × FailsOne IsCause Second second failure))
 
 -- the bytes are a lawful snapshot's
 pub record HasAudit (bytes : List ℕ) : Type 0 where

@@ -5,5 +5,6 @@ pub mod Explained
 pub mod Failures
 pub mod Forms
 pub mod Halves
+pub mod Listings
 pub mod Pairs
 pub mod Replays

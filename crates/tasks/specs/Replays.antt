@@ -4,7 +4,7 @@ use Rattle.std.specs.Io.KnownBytes.{Appends}
 use Rattle.script_io.specs.declared.reading.ReadFault.{ReadFault}
 use Rattle.tasks.specs.declared.failures.Failure.{Failure}
 use Rattle.tasks.specs.declared.printing.End.{End}
-use Rattle.tasks.specs.declared.printing.End.TheVariants.{BrokenOff, Printed, Told, Untold}
+use Rattle.tasks.specs.declared.printing.End.TheVariants.{BrokenOff, Listed, Printed, Told, Untold}
 use Rattle.tasks.specs.declared.task.Task.{Task}
 use Rattle.tasks.specs.Failures.{IsUnread, line_of}
 use Rattle.tasks.specs.Forms.{IsCauseFor, IsDoneAs}
@@ -56,10 +56,12 @@ pub record FailsSo {F : Type 0} (Came : F → Type 0) : Type 0 where
   pub came : Came failure
 
 -- How a print ended, with what may be printed, the failures that may come and their lines: what stood
--- on the output and on the errors before, and stands there afterwards. One of the two is as it was.
+-- on the output and on the errors before, and stands there afterwards. One of the two is as it was. Such
+-- a print doesn't list faults.
 abbrev pub EndsWith : {F : Type 0} → (List ℕ → Type 0) → (F → Type 0) → (F → List ℕ)
     → Option (List ℕ) → Option (List ℕ) → Option (List ℕ) → Option (List ℕ) → End → Type 0
 EndsWith Prints Came line output output' errors errors' Printed = PrintsFile Prints output output' × (errors' ≡ errors)
+EndsWith Prints Came line output output' errors errors' (Listed count) = ⊥
 EndsWith Prints Came line output output' errors errors' (BrokenOff count) = PrintsPart Prints output output' count × (errors' ≡ errors)
 EndsWith Prints Came line output output' errors errors' Told = TellsFailure Came line errors errors' × (output' ≡ output)
 EndsWith Prints Came line output output' errors errors' Untold = FailsSo Came × (output' ≡ output)

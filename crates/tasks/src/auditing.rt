@@ -83,7 +83,7 @@ pub(crate) fn audited<'a>(alloc: Global, bytes: &[u8]) -> Result<Placed, Failure
 }
 
 /// What is reported of bytes that are no snapshot's.
-fn misread<'a>(fault: SnapshotFault) -> Failure<'a>
+pub(crate) fn misread<'a>(fault: SnapshotFault) -> Failure<'a>
     ensures { IsMisread fault result }
 {
     if let SnapshotFault::OutOfMemory = fault {

@@ -24,27 +24,27 @@ pub(crate) fn both<'a>(
     ensures printed { IfOk result (λ out. IsBothAs form first.now second.now out.items) }
     ensures cause { IfErr result (FailsEither HasAudit IsAuditCause first.now second.now) }
 {
-    match audited(alloc, first) {
-        Ok(one) => match audited(alloc, second) {
-            Ok(other) => {
-                let settled = Settled {
-                    first: one.statement,
-                    second: Some(other.statement),
-                };
-                match written(alloc, &settled, form) {
-                    Ok(text) => Ok(text),
-                    Err(refusal) => Err(Failure::Fault(refusal)),
-                }
-            }
-            Err(failure) => Err(of_two(Which::Second, failure)),
-        },
-        Err(failure) => Err(of_two(Which::First, failure)),
+    let one = match audited(alloc, first) {
+        Ok(placed) => placed,
+        Err(failure) => return Err(of_two(Which::First, failure)),
+    };
+    let other = match audited(alloc, second) {
+        Ok(placed) => placed,
+        Err(failure) => return Err(of_two(Which::Second, failure)),
+    };
+    let settled = Settled {
+        first: one.statement,
+        second: Some(other.statement),
+    };
+    match written(alloc, &settled, form) {
+        Ok(text) => Ok(text),
+        Err(refusal) => Err(Failure::Fault(refusal)),
     }
 }
 
 /// What is reported of a failure of one of two snapshots.
 pub(crate) fn of_two<'a>(which: Which, failure: Failure<'a>) -> Failure<'a>
-    ensures { result ≡ failure_of which failure }
+    ensures { result ≡ failure_of which failure.entry }
 {
     match failure {
         Failure::Fault(refusal) => refused(which, refusal),

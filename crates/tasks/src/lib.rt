@@ -10,6 +10,8 @@ pub mod explaining;
 pub mod failures;
 mod halves;
 pub mod kind;
+pub mod listed;
+mod listing;
 mod losing;
 pub mod printing;
 mod replay;
@@ -20,5 +22,6 @@ pub mod task;
 
 pub use explaining::print_explained;
 pub use failures::{tell, tell_pair};
+pub use listing::{print_all, printed_all};
 pub use printing::{End, print, printed};
 pub use since::{print_pair, printed_pair};

@@ -21,6 +21,8 @@ use std::thread::Threads;
 pub enum End {
     /// The whole print was written.
     Printed,
+    /// The whole print of all faults was written, and it tells of so many.
+    Listed(u64),
     /// The output failed once so many of the print's first bytes were written.
     BrokenOff(usize),
     /// There was nothing to print, and the line of the failure was written on the errors.
@@ -30,12 +32,14 @@ pub enum End {
 }
 
 impl End {
-    /// The status that the program ends with: 0 where the whole print was written, else 1.
+    /// The status that the program ends with: 0 where the whole print was written, and tells of no
+    /// faults where they are asked for; else 1.
     pub fn status(self) -> u8
         ensures { result ≡ status_of_end self }
     {
         match self {
             End::Printed => 0,
+            End::Listed(count) => u8::from(count > 0),
             End::BrokenOff(_) | End::Told | End::Untold => 1,
         }
     }

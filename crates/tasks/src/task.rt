@@ -78,11 +78,19 @@ pub struct Pair<'a> {
     pub form: Form,
 }
 
-/// What is asked for: something of one file, explained or not, or of two snapshots.
+/// A file with a snapshot, or with two: asked for are all their faults.
+#[derive(Clone, Copy, PartialEq, Eq, Debug)]
+pub struct Listing<'a> {
+    pub file: &'a str,
+    pub form: Form,
+}
+
+/// What is asked for: something of one file, explained or not, or of two snapshots, or all faults.
 #[derive(Clone, Copy, PartialEq, Eq, Debug)]
 pub enum Asked<'a> {
     One(Request<'a>),
     /// The same, and of a script that isn't one why.
     Explained(Request<'a>),
     Two(Pair<'a>),
+    All(Listing<'a>),
 }

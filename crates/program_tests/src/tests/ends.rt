@@ -8,7 +8,7 @@ use std::sync::Wait;
 use std::test::Fail;
 use std::thread::Threads;
 use tasks::task::Asked;
-use tasks::{End, print, print_explained, print_pair};
+use tasks::{End, print, print_all, print_explained, print_pair};
 
 /// A command line, how many bytes its output and its errors have room for, and how its print ends
 /// there, with the status.
@@ -38,6 +38,19 @@ static ENDED: &[(&str, usize, usize, (End, u8))] = &[
         (End::Printed, 0),
     ),
     (
+        "mbufpool audit healthy --all",
+        1_000,
+        0,
+        (End::Listed(0), 0),
+    ),
+    ("mbufpool audit lost --all", 1_000, 0, (End::Listed(1), 1)),
+    (
+        "mbufpool audit lost --all",
+        32,
+        1_000,
+        (End::BrokenOff(32), 1),
+    ),
+    (
         "mbufpool audit healthy --since none",
         0,
         1_000,
@@ -62,6 +75,9 @@ fn ended<R: Threads + Wait + Sync + AllocGlobal>(
             print_explained(rt, rt.alloc(), &TABLES, &request, &mut screen, &mut errors)
         }
         Ok(Asked::Two(pair)) => print_pair(rt.alloc(), &TABLES, &pair, &mut screen, &mut errors),
+        Ok(Asked::All(listing)) => {
+            print_all(rt.alloc(), &TABLES, &listing, &mut screen, &mut errors)
+        }
         Err(_) => return Err(Fail::from("nothing is asked for")),
     };
     Ok((end, screen.inner.text()?, errors.text()?))

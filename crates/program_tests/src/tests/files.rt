@@ -89,6 +89,8 @@ static BUILT: &[(&str, &str, Members)] = &[
     ("in-words", LIMITS, IN_WORDS),
     ("no-pool", NO_POOL, HEALTHY),
     ("lost", LIMITS, LOST),
+    ("three", LIMITS, THREE),
+    ("repeats", LIMITS, REPEATS),
 ];
 
 /// Files that break in mid-file, with this error.
@@ -147,6 +149,20 @@ fn left_by(alloc: Global, script: &str) -> Result<Vec<u8>, ReadFault> {
 /// A snapshot in which an element is lost.
 const LOST: Members = Members {
     desks: "[null]",
+    ..HEALTHY
+};
+
+/// One with three faults of two kinds.
+const THREE: Members = Members {
+    shares: "[{\"worker\":1,\"cache\":[4,1],\"slots\":[]},{\"worker\":2,\"cache\":[3],\
+        \"slots\":[[{\"elem\":5,\"base\":null,\"off\":128,\"len\":0,\"buf\":2048},\
+        {\"elem\":6,\"base\":null,\"off\":128,\"len\":0,\"buf\":2048}]]}]",
+    ..LOST
+};
+
+/// One whose list has two elements twice, and one of them thrice.
+const REPEATS: Members = Members {
+    stack: "\"common\":[3,2,1,2,0,3,2]",
     ..HEALTHY
 };
 

@@ -212,6 +212,70 @@ fn a_command_line_has_its_print_on_the_output(rt: HostRuntime) -> Result<(), Fai
     Ok(())
 }
 
+/// Command lines, a line each, and what each of them prints of all faults; some are told.
+static LISTED: &[(&str, &str)] = &[
+    (
+        "mbufpool audit healthy --all\n\
+        mbufpool audit in-words --all\n\
+        mbufpool audit healthy+in-words --all\n\
+        mbufpool audit twins --all",
+        "0 faults\n",
+    ),
+    ("mbufpool audit healthy --all --json", "[]\n"),
+    (
+        "mbufpool audit healthy+healthy --all --json",
+        "{\"first\":[],\"second\":[]}\n",
+    ),
+    (
+        "mbufpool audit lost --all",
+        "fault 109 Lost element 7\n1 fault\n",
+    ),
+    (
+        "mbufpool audit three --all",
+        "fault 108 Doubled element 1: at 2 on the stack, at 1 in the cache of worker 1\n\
+        fault 108 Doubled element 3: at 0 on the stack, at 0 in the cache of worker 2\n\
+        fault 109 Lost element 7\n3 faults\n",
+    ),
+    (
+        "mbufpool audit three --all --json",
+        "[{\"elem\":1,\"line\":\"fault 108 Doubled element 1: at 2 on the stack, \
+        at 1 in the cache of worker 1\",\"name\":\"Doubled\",\"number\":108},\
+        {\"elem\":3,\"line\":\"fault 108 Doubled element 3: at 0 on the stack, \
+        at 0 in the cache of worker 2\",\"name\":\"Doubled\",\"number\":108},\
+        {\"elem\":7,\"line\":\"fault 109 Lost element 7\",\"name\":\"Lost\",\"number\":109}]\n",
+    ),
+    // A list that has elements twice is the stack as it stands.
+    (
+        "mbufpool audit repeats --all",
+        "fault 108 Doubled element 2: at 1 on the stack, at 3 on the stack\n\
+        fault 108 Doubled element 3: at 0 on the stack, at 5 on the stack\n2 faults\n",
+    ),
+    // Of two snapshots in one file, those of the first come first.
+    (
+        "mbufpool audit repeats+three --all",
+        "first: fault 108 Doubled element 2: at 1 on the stack, at 3 on the stack\n\
+        first: fault 108 Doubled element 3: at 0 on the stack, at 5 on the stack\n\
+        second: fault 108 Doubled element 1: at 2 on the stack, at 1 in the cache of worker 1\n\
+        second: fault 108 Doubled element 3: at 0 on the stack, at 0 in the cache of worker 2\n\
+        second: fault 109 Lost element 7\n5 faults\n",
+    ),
+    (
+        "mbufpool audit lost+healthy --all --json",
+        "{\"first\":[{\"elem\":7,\"line\":\"fault 109 Lost element 7\",\"name\":\"Lost\",\
+        \"number\":109}],\"second\":[]}\n",
+    ),
+];
+
+/// Where a fault is told the status is 1, though all is printed.
+#[test]
+fn all_faults_are_printed_and_counted(rt: HostRuntime) -> Result<(), Fail> {
+    for (lines, print) in LISTED {
+        let status = u8::from(print.contains("fault 1"));
+        assert_told(&rt, &TABLES, lines, (print, "", status))?;
+    }
+    Ok(())
+}
+
 /// Command lines, a line each, and the line that tells of the failure of each of them.
 static FAILED: &[(&str, &str)] = &[
     // A fault of the script comes before a worker that isn't there.
@@ -316,6 +380,7 @@ static FAILED: &[(&str, &str)] = &[
         mbufpool replay memory --json\n\
         mbufpool steps memory\n\
         mbufpool audit memory\n\
+        mbufpool audit memory --all\n\
         mbufpool audit memory --since healthy\n\
         mbufpool audit healthy --since memory",
         "fault 2 OutOfMemory\n",
@@ -369,6 +434,27 @@ static FAILED: &[(&str, &str)] = &[
     (
         "mbufpool audit object+lost",
         "first: snapshot counts: missing, at byte 0\n",
+    ),
+    (
+        "mbufpool audit repeats\n\
+        mbufpool audit repeats --dot\n\
+        mbufpool audit repeats --since healthy",
+        "fault 108 Doubled element 2: at 1 on the stack, at 3 on the stack\n",
+    ),
+    // What has no faults to be told of.
+    (
+        "mbufpool audit open --all\n\
+        mbufpool audit open --all --json",
+        "snapshot: not JSON, at byte 1\n",
+    ),
+    ("mbufpool audit no-pool --all --json", "fault 1 BadPool\n"),
+    (
+        "mbufpool audit object+no-pool --all",
+        "first: snapshot counts: missing, at byte 0\n",
+    ),
+    (
+        "mbufpool audit lost+no-pool --all",
+        "second: fault 1 BadPool\n",
     ),
     // A second one begins with `{`.
     (

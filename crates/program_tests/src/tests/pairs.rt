@@ -26,6 +26,9 @@ fn a_snapshot_has_the_line_of_its_first_fault(rt: HostRuntime) -> Result<(), Fai
             mbufpool audit faulty --since healthy\n\
             mbufpool audit faulty --since object";
         assert_told(&rt, &files, of_newer, ("", line.as_str(), 1))?;
+        let (all, errors, status) = told(&rt, &files, "mbufpool audit faulty --all", usize::MAX)?;
+        let given = (all.starts_with(line.as_str()), errors.as_str(), status);
+        same(&rt, &given, &(true, "", 1), row.line);
         let since = format!(in rt.alloc(); "since: {line}")?;
         let of_older = "mbufpool audit healthy --since faulty";
         assert_told(&rt, &files, of_older, ("", since.as_str(), 1))?;

@@ -103,6 +103,14 @@ static ASKED: &[(&str, &str)] = &[
         r#"One(Request { file: "a", task: Picture })"#,
     ),
     (
+        "mbufpool audit a --all",
+        r#"All(Listing { file: "a", form: Text })"#,
+    ),
+    (
+        "mbufpool audit --json - --all",
+        r#"All(Listing { file: "-", form: Json })"#,
+    ),
+    (
         "mbufpool audit b --since a",
         r#"Two(Pair { newer: "b", older: "a", form: Text })"#,
     ),
@@ -175,6 +183,10 @@ static WRONG: &[&str] = &[
     "mbufpool replay a --explain --explain",
     "mbufpool audit a --dot --json",
     "mbufpool audit b --dot --since a",
+    "mbufpool audit b --all --since a",
+    "mbufpool audit a --all --dot",
+    "mbufpool audit a --all --all",
+    "mbufpool replay a --all",
     "mbufpool replay a --dot",
     "mbufpool steps a --snapshot",
     "mbufpool run a --ground lists",
@@ -227,6 +239,7 @@ static HELP: &[(&str, &str)] = &[
     ),
     ("mbufpool audit --help", "- is the standard input"),
     ("mbufpool audit --help", "--since <OLD>"),
+    ("mbufpool audit --help", "--all"),
     ("mbufpool --help", "Usage: mbufpool"),
     ("mbufpool --version", "mbufpool 0.1.0\n"),
 ];
