@@ -1,5 +1,7 @@
 /* dump_findings.c - see dump_findings.h. */
+#ifndef _GNU_SOURCE
 #define _GNU_SOURCE
+#endif
 #include <errno.h>
 #include <fcntl.h>
 #include <spawn.h>
