@@ -132,7 +132,8 @@ const struct subject seat_subject = {
 struct worker_user {
 	struct mbufpool_worker worker;
 	uint32_t *marks;
-	unsigned int segments; /* of the packet in slot 0, which is cloned or handed over */
+	unsigned int segments; /* of the packet that is cloned or handed over */
+	uint32_t slot;         /* of that packet */
 } __rte_cache_aligned;
 
 struct worker_pool {
@@ -170,7 +171,7 @@ clone_packet(void *user, union refs *refs)
 {
 	struct worker_user *u = user;
 
-	return mbufpool_worker_clone(&u->worker, 0, &refs->packet[0]) == 0;
+	return mbufpool_worker_clone(&u->worker, u->slot, &refs->packet[0]) == 0;
 }
 
 static __rte_always_inline bool
@@ -178,19 +179,18 @@ offer(void *user, unsigned int desk)
 {
 	struct worker_user *u = user;
 
-	return mbufpool_worker_offer(&u->worker, 0, desk) == 0;
+	return mbufpool_worker_offer(&u->worker, u->slot, desk) == 0;
 }
 
 static __rte_always_inline bool
 take(void *user, unsigned int desk)
 {
 	struct worker_user *u = user;
-	uint32_t slot;
 
-	return mbufpool_worker_take(&u->worker, desk, &slot) == 0 && slot == 0;
+	return mbufpool_worker_take(&u->worker, desk, &u->slot) == 0;
 }
 
-/* Makes the packet in slot 0, with as many segments as it is to have. */
+/* Makes the packet that is cloned or handed over, with as many segments as it is to have. */
 static bool
 make_first(void *user)
 {
@@ -201,7 +201,9 @@ make_first(void *user)
 	for (i = 0; i < u->segments; i++) {
 		if (mbufpool_worker_alloc(&u->worker, &packet) != 0)
 			return false;
-		if (i > 0 && mbufpool_worker_chain(&u->worker, 0, packet.slot) != 0)
+		if (i == 0)
+			u->slot = packet.slot;
+		else if (mbufpool_worker_chain(&u->worker, u->slot, packet.slot) != 0)
 			return false;
 	}
 	return true;
@@ -212,7 +214,7 @@ rest(void *user)
 {
 	struct worker_user *u = user;
 
-	mbufpool_worker_free(&u->worker, 0);
+	mbufpool_worker_free(&u->worker, u->slot);
 	mbufpool_worker_flush(&u->worker);
 }
 
@@ -220,7 +222,7 @@ static uint32_t *
 mark_packet(void *user, const union refs *refs, unsigned int i, unsigned int segment)
 {
 	struct worker_user *u = user;
-	const uint32_t slot = refs != NULL ? refs->packet[i].slot : 0;
+	const uint32_t slot = refs != NULL ? refs->packet[i].slot : u->slot;
 	struct mbufpool_segment of;
 
 	return mbufpool_worker_segment(&u->worker, slot, segment, &of) == 0 ? &u->marks[of.element]
@@ -233,7 +235,7 @@ holds(void *user)
 	struct worker_user *u = user;
 	uint32_t references = 0;
 
-	mbufpool_worker_refcnt(&u->worker, 0, &references);
+	mbufpool_worker_refcnt(&u->worker, u->slot, &references);
 	return references;
 }
 
@@ -244,9 +246,9 @@ write_serial(void *user, uint32_t serial)
 	struct worker_user *u = user;
 	uint32_t length = 0;
 
-	mbufpool_worker_pkt_len(&u->worker, 0, &length);
-	mbufpool_worker_trim(&u->worker, 0, length, &length);
-	mbufpool_worker_append(&u->worker, 0, serial % BUFFER, &length);
+	mbufpool_worker_pkt_len(&u->worker, u->slot, &length);
+	mbufpool_worker_trim(&u->worker, u->slot, length, &length);
+	mbufpool_worker_append(&u->worker, u->slot, serial % BUFFER, &length);
 }
 
 static uint32_t
@@ -255,7 +257,7 @@ read_serial(void *user)
 	struct worker_user *u = user;
 	uint32_t length = 0;
 
-	mbufpool_worker_pkt_len(&u->worker, 0, &length);
+	mbufpool_worker_pkt_len(&u->worker, u->slot, &length);
 	return length;
 }
 

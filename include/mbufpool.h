@@ -100,7 +100,7 @@ enum mbufpool_refusal {
 	MBUFPOOL_NOT_DIRECT = 10,
 	MBUFPOOL_NOT_INDIRECT = 11,
 	MBUFPOOL_IN_USE = 12,
-	MBUFPOOL_NO_SUCH_PACKET = 13,	/**< no packet stands in that slot: it was freed, say */
+	MBUFPOOL_NO_SUCH_PACKET = 13,	/**< that is no packet's slot: the packet was freed, say */
 	MBUFPOOL_PACKETS_FULL = 14,	/**< too few of the worker's 256 slots are free: none, or of a bulk
 					 * fewer than it asks for */
 	MBUFPOOL_DESK_TAKEN = 15,
@@ -508,7 +508,7 @@ uint32_t mbufpool_guard_open_at(uint32_t population, uint32_t cache, uint32_t wo
  *   Gets the new worker, as mbufpool_guard_open's does.
  * @return
  *   - 0: `out` has a worker.
- *   - MBUFPOOL_STRANGER: also where `out` is NULL.
+ *   - MBUFPOOL_STRANGER: `out` is NULL.
  *   - MBUFPOOL_STRANGER, MBUFPOOL_LENT_OUT: as mbufpool_seat_split, of workers.
  *   - MBUFPOOL_NO_MEMORY: memory was refused. Where it is the last of what a split asks for, the pool can
  *     make one worker fewer from then on, as if one was made and ended.
@@ -617,11 +617,15 @@ void mbufpool_guard_end(struct mbufpool_guard *worker);
  * the length of its buffer. It is direct where it uses its own element's buffer, and indirect where it
  * uses another's, as a clone's does. The library keeps these numbers; the buffers are the caller's.
  *
- * Each call from mbufpool_worker_alloc to mbufpool_worker_flush is one act of its worker. A worker names
- * its packets by their slots, 0 to 255: a number that stands for none of its packets, since that was
- * freed, chained or offered, or is above 255, is refused by MBUFPOOL_NO_SUCH_PACKET. What is put back,
- * when the last hold of an element ends, goes through the cache, as an element that is got: both as a
- * guarded worker's, above. `out` is written where the answer is 0.
+ * Each call from mbufpool_worker_alloc to mbufpool_worker_flush is one act of its worker. What is put
+ * back, when the last hold of an element ends, goes through the cache, as an element that is got: both as
+ * a guarded worker's, above. `out` is written where the answer is 0.
+ *
+ * A worker has its packets in 256 places, and a packet is named by its slot: its place in the low 8 bits,
+ * and above them how many packets went from that place before, modulo 2^24. A packet goes from its place
+ * where it is freed, chained behind another or offered, and its slot stands for nothing then: it is
+ * refused by MBUFPOOL_NO_SUCH_PACKET, also where the next packet stands in that place, until 2^24 packets
+ * went from there and the slots begin again. So is every other number that is no packet's slot.
  *
  * mbufpool_worker_alloc, alloc_bulk, free, clone, chain, attach, detach, append, prepend, trim and adj
  * are after the calls of DPDK 21.11 that have these words behind rte_pktmbuf_; refcnt is after
@@ -644,8 +648,11 @@ struct mbufpool_limits {
 	uint32_t tries;		/**< lost tries before MBUFPOOL_CONTENDED, 1 to 1,000,000 */
 };
 
-/** A new packet: its slot in its worker's table, 0 to 255, and its first segment's element. */
+/** A new packet: its slot, and its first segment's element. */
 struct mbufpool_packet { uint32_t slot, element; };
+
+/** The place of a slot among its worker's, 0 to 255: of the packets that a worker has no two share one. */
+#define MBUFPOOL_PLACE(slot) ((slot) & 255u)
 
 /**
  * A segment of a packet: its own element, the one whose buffer has its data (another one where the
@@ -683,8 +690,8 @@ uint32_t mbufpool_worker_open(const struct mbufpool_limits *limits, struct mbufp
 void mbufpool_worker_end(struct mbufpool_worker *worker);
 
 /**
- * Makes a packet of one element, without data, in the lowest free slot. Its data begins at byte 128 of the
- * buffer, or at the end of a shorter one.
+ * Makes a packet of one element, without data, in the lowest free place. Its data begins at byte 128 of
+ * the buffer, or at the end of a shorter one.
  *
  * @param worker
  *   The worker whose packet it is.
@@ -693,7 +700,7 @@ void mbufpool_worker_end(struct mbufpool_worker *worker);
  * @return
  *   - 0: the packet stands.
  *   - MBUFPOOL_STRANGER
- *   - MBUFPOOL_PACKETS_FULL: no slot is free.
+ *   - MBUFPOOL_PACKETS_FULL: no place is free.
  *   - MBUFPOOL_NO_ENTRIES, MBUFPOOL_CONTENDED, MBUFPOOL_HEAD_SPENT: by the stack, as a get of one, where
  *     the cache can't serve it.
  */
@@ -711,7 +718,7 @@ uint32_t mbufpool_worker_alloc(struct mbufpool_worker *worker, struct mbufpool_p
  * @return
  *   - 0: the packets stand.
  *   - MBUFPOOL_STRANGER
- *   - MBUFPOOL_PACKETS_FULL: fewer than n slots are free.
+ *   - MBUFPOOL_PACKETS_FULL: fewer than n places are free.
  *   - MBUFPOOL_NO_ENTRIES, MBUFPOOL_CONTENDED, MBUFPOOL_HEAD_SPENT: as mbufpool_worker_alloc, of n.
  */
 uint32_t mbufpool_worker_alloc_bulk(struct mbufpool_worker *worker, struct mbufpool_packet *out,
@@ -719,7 +726,7 @@ uint32_t mbufpool_worker_alloc_bulk(struct mbufpool_worker *worker, struct mbufp
 
 /**
  * Frees a packet: each of its holds ends, of a segment the one of another's buffer first, and an element of
- * which that was the last is put back. Its slot is free then.
+ * which that was the last is put back. It goes from its place.
  *
  * @param worker
  *   The worker whose packet it is.
@@ -800,7 +807,7 @@ uint32_t mbufpool_worker_trim(struct mbufpool_worker *worker, uint32_t slot, uin
  * @param head
  *   The packet that gets longer.
  * @param tail
- *   The packet whose segments it gets; its slot is free then.
+ *   The packet whose segments it gets; it goes from its place.
  * @return
  *   - 0: they are one packet.
  *   - MBUFPOOL_STRANGER
@@ -850,7 +857,7 @@ uint32_t mbufpool_worker_attach(struct mbufpool_worker *worker, uint32_t slot, u
 uint32_t mbufpool_worker_detach(struct mbufpool_worker *worker, uint32_t slot);
 
 /**
- * Makes a clone of a packet, in the lowest free slot: a new element for each of its segments, which is
+ * Makes a clone of a packet, in the lowest free place: a new element for each of its segments, which is
  * attached to the segment's buffer.
  *
  * @param worker
@@ -863,7 +870,7 @@ uint32_t mbufpool_worker_detach(struct mbufpool_worker *worker, uint32_t slot);
  *   - 0: the clone stands.
  *   - MBUFPOOL_STRANGER
  *   - MBUFPOOL_NO_SUCH_PACKET
- *   - MBUFPOOL_PACKETS_FULL: no slot is free.
+ *   - MBUFPOOL_PACKETS_FULL: no place is free.
  *   And then, of one segment after another:
  *   - MBUFPOOL_NO_ENTRIES, MBUFPOOL_CONTENDED, MBUFPOOL_HEAD_SPENT: as mbufpool_worker_alloc.
  *   - MBUFPOOL_REF_SPENT, MBUFPOOL_CONTENDED: as mbufpool_worker_attach.
@@ -879,7 +886,7 @@ uint32_t mbufpool_worker_clone(struct mbufpool_worker *worker, uint32_t slot,
  * @param worker
  *   The worker whose packet it is.
  * @param slot
- *   The packet; the slot is free then.
+ *   The packet; it goes from its place.
  * @param desk
  *   The desk: 0 to the pool's number of desks less 1.
  * @return
@@ -892,7 +899,7 @@ uint32_t mbufpool_worker_clone(struct mbufpool_worker *worker, uint32_t slot,
 uint32_t mbufpool_worker_offer(struct mbufpool_worker *worker, uint32_t slot, uint32_t desk);
 
 /**
- * Takes the packet off a desk, into the lowest free slot.
+ * Takes the packet off a desk, into the lowest free place.
  *
  * @param worker
  *   The worker whose packet it is then.
@@ -904,7 +911,7 @@ uint32_t mbufpool_worker_offer(struct mbufpool_worker *worker, uint32_t slot, ui
  *   - 0: the packet stands.
  *   - MBUFPOOL_STRANGER
  *   - MBUFPOOL_NO_SUCH_DESK: as mbufpool_worker_offer.
- *   - MBUFPOOL_PACKETS_FULL: no slot is free.
+ *   - MBUFPOOL_PACKETS_FULL: no place is free.
  *   - MBUFPOOL_DESK_EMPTY: there is no packet on it, or another worker is just putting one there or
  *     taking it.
  */

@@ -1,4 +1,4 @@
-/* any_numbers.c - every call of the library with any numbers: slots without a packet, desks that
+/* any_numbers.c - every call of the library with any numbers: slots of packets that went, desks that
  * there are not, lengths too great, elements that were never got, handles without a worker, and NULL
  * for a handle. What is answered is held against what must be so, and at the end of a pool every
  * element can be had again. (A bare seat is put what was got and not put since, as its contract asks.)
@@ -28,7 +28,8 @@ struct thread {
 	struct mbufpool_worker worker;
 	struct mbufpool_seat seat;
 	uint32_t hand[MOST], in_hand; /* what its seat has got */
-	unsigned char full[SLOTS];    /* which of its worker's slots have a packet */
+	unsigned char full[SLOTS];    /* which of its worker's places have a packet */
+	uint32_t slot[SLOTS];         /* the slot of each, or of the next packet there */
 };
 
 static struct mbufpool_limits limits;
@@ -85,14 +86,49 @@ static uint32_t told(struct thread *t, uint32_t status)
 
 static int is_full(const struct thread *t, uint32_t slot)
 {
-	return slot < SLOTS && t->full[slot];
+	return t->full[MBUFPOOL_PLACE(slot)] && t->slot[MBUFPOOL_PLACE(slot)] == slot;
+}
+
+static void has_slot(struct thread *t, uint32_t slot)
+{
+	MUST(!t->full[MBUFPOOL_PLACE(slot)] && t->slot[MBUFPOOL_PLACE(slot)] == slot);
+	t->full[MBUFPOOL_PLACE(slot)] = 1;
 }
 
 static void has_new(struct thread *t, const struct mbufpool_packet *p)
 {
-	MUST(p->slot < SLOTS && !t->full[p->slot]);
+	has_slot(t, p->slot);
 	MUST(p->element < limits.population);
-	t->full[p->slot] = 1;
+}
+
+/* The packet went, and its slot stands for nothing: the next one there has another. */
+static void has_gone(struct thread *t, uint32_t slot)
+{
+	t->full[MBUFPOOL_PLACE(slot)] = 0;
+	t->slot[MBUFPOOL_PLACE(slot)] += SLOTS;
+}
+
+/* Mostly a slot as it is now, at times one of a packet that went, or any number. */
+static uint32_t any_slot(struct thread *t)
+{
+	uint32_t place = below(t, below(t, 4) ? 24 : SLOTS);
+
+	switch (below(t, 8)) {
+	case 0: return any(t);
+	case 1: return t->slot[place] - SLOTS * (1 + below(t, 3));
+	case 2: return t->slot[place] + SLOTS;
+	default: return t->slot[place];
+	}
+}
+
+/* No packet has any slot yet. */
+static void begin_slots(struct thread *t)
+{
+	uint32_t place;
+
+	memset(t->full, 0, sizeof(t->full));
+	for (place = 0; place < SLOTS; place++)
+		t->slot[place] = place;
 }
 
 /* A packet's segments add up to it, and lie in their buffers. */
@@ -119,8 +155,8 @@ static void look_at(struct thread *t, uint32_t slot)
 static void call_worker(struct thread *t)
 {
 	struct mbufpool_worker *w = &t->worker;
-	uint32_t a = any(t), b = any(t), status, n = 0, i, had = 0, now = 0;
-	uint16_t length = (uint16_t)(b % 7 ? b % 200 : b);
+	uint32_t a = any_slot(t), b = any_slot(t), desk = any(t), status, n = 0, i, had = 0, now = 0;
+	uint16_t length = (uint16_t)(desk % 7 ? desk % 200 : desk);
 	struct mbufpool_packet p[SLOTS + 2];
 	struct mbufpool_segment s;
 
@@ -132,7 +168,7 @@ static void call_worker(struct thread *t)
 			has_new(t, p);
 		return;
 	case 2:
-		n = a % (below(t, 4) ? 12 : SLOTS + 3);
+		n = desk % (below(t, 4) ? 12 : SLOTS + 3);
 		status = told(t, mbufpool_worker_alloc_bulk(w, p, n));
 		for (i = 0; status == 0 && i < n; i++)
 			has_new(t, &p[i]);
@@ -141,7 +177,7 @@ static void call_worker(struct thread *t)
 		status = told(t, mbufpool_worker_chain(w, a, b));
 		MUST(status != 0 || (is_full(t, a) && is_full(t, b) && a != b));
 		if (status == 0)
-			t->full[b] = 0;
+			has_gone(t, b);
 		return;
 	case 4:
 		status = told(t, mbufpool_worker_attach(w, a, b));
@@ -154,18 +190,17 @@ static void call_worker(struct thread *t)
 			has_new(t, p);
 		return;
 	case 6:
-		status = told(t, mbufpool_worker_offer(w, a, b));
-		MUST(status != 0 || (is_full(t, a) && b < limits.desks));
+		status = told(t, mbufpool_worker_offer(w, a, desk));
+		MUST(status != 0 || (is_full(t, a) && desk < limits.desks));
 		if (status == 0)
-			t->full[a] = 0;
+			has_gone(t, a);
 		return;
 	case 7:
-		status = told(t, mbufpool_worker_take(w, a, &n));
-		MUST((status == MBUFPOOL_NO_SUCH_DESK) == (a >= limits.desks));
+		status = told(t, mbufpool_worker_take(w, desk, &n));
+		MUST((status == MBUFPOOL_NO_SUCH_DESK) == (desk >= limits.desks));
 		if (status != 0)
 			return;
-		MUST(n < SLOTS && !t->full[n]);
-		t->full[n] = 1;
+		has_slot(t, n);
 		look_at(t, n);
 		return;
 	case 8:
@@ -173,7 +208,7 @@ static void call_worker(struct thread *t)
 		MUST(status == 0 || status == MBUFPOOL_CONTENDED);
 		return;
 	case 9:
-		status = told(t, mbufpool_worker_segment(w, a, b, &s));
+		status = told(t, mbufpool_worker_segment(w, a, desk, &s));
 		MUST((status == MBUFPOOL_NO_SUCH_PACKET) == !is_full(t, a));
 		return;
 	case 10: status = mbufpool_worker_detach(w, a); break;
@@ -196,8 +231,10 @@ static void call_worker(struct thread *t)
 	default:
 		status = mbufpool_worker_free(w, a);
 		MUST((status == MBUFPOOL_NO_SUCH_PACKET) == !is_full(t, a));
-		if (status == 0)
-			t->full[a] = 0;
+		if (status == 0) {
+			has_gone(t, a);
+			MUST(mbufpool_worker_free(w, a) == MBUFPOOL_NO_SUCH_PACKET);
+		}
 		told(t, status);
 		return;
 	}
@@ -210,17 +247,16 @@ static void call_worker(struct thread *t)
 /* Takes what lies on desks, frees all packets, and flushes. */
 static void clear_worker(struct thread *t)
 {
-	uint32_t desk, slot, status;
+	uint32_t desk, place, slot, status;
 
-	for (slot = 0; slot < SLOTS; slot++)
-		MUST((mbufpool_worker_free(&t->worker, slot) == 0) == t->full[slot]);
+	for (place = 0; place < SLOTS; place++)
+		MUST((mbufpool_worker_free(&t->worker, t->slot[place]) == 0) == t->full[place]);
 	for (desk = 0; desk < limits.desks; desk++) {
 		while ((status = mbufpool_worker_take(&t->worker, desk, &slot)) == 0)
 			MUST(mbufpool_worker_free(&t->worker, slot) == 0);
 		MUST(status == MBUFPOOL_DESK_EMPTY || status == MBUFPOOL_CONTENDED);
 	}
 	MUST(mbufpool_worker_flush(&t->worker) == 0);
-	memset(t->full, 0, sizeof(t->full));
 }
 
 /* ---- seats ---- */
@@ -387,6 +423,33 @@ static void call_no_guard(struct thread *t, struct mbufpool_guard *g)
 	t->calls += 10;
 }
 
+/* A slot is stale once its packet is freed, whatever stands in that place: until 2^24 packets went from
+ * there. (Where a slot begins again isn't tried, but for a place's first ones.) */
+static void free_stale(struct thread *t)
+{
+	struct mbufpool_limits l = { 9, 3, 1, 0, 64, 1, 10 };
+	struct mbufpool_worker one = MBUFPOOL_NONE;
+	struct mbufpool_packet p = { 0, 0 }, q;
+	struct mbufpool_statement e = MBUFPOOL_NONE;
+	uint32_t first, n, i;
+
+	MUST(mbufpool_worker_open(&l, &one, 1) == 0);
+	MUST(mbufpool_worker_alloc(&one, &p) == 0 && p.slot == 0);
+	for (first = p.slot, i = 1; i < 300; i++) {
+		MUST(mbufpool_worker_free(&one, p.slot) == 0);
+		MUST(mbufpool_worker_alloc(&one, &q) == 0 && q.slot == p.slot + SLOTS);
+		MUST(mbufpool_worker_free(&one, p.slot) == MBUFPOOL_NO_SUCH_PACKET);
+		MUST(mbufpool_worker_free(&one, first) == MBUFPOOL_NO_SUCH_PACKET);
+		MUST(mbufpool_worker_pkt_len(&one, p.slot, &n) == MBUFPOOL_NO_SUCH_PACKET);
+		MUST(mbufpool_worker_chain(&one, q.slot, p.slot) == MBUFPOOL_NO_SUCH_PACKET);
+		MUST(mbufpool_worker_pkt_len(&one, q.slot, &n) == 0 && n == 0);
+		p = q;
+	}
+	MUST(mbufpool_worker_close(&one, 1, &e) == 0);
+	mbufpool_statement_end(&e);
+	t->calls += 1800;
+}
+
 /* Nothing is given to a handle that is NULL, and nothing is done. */
 static void open_none(struct thread *t)
 {
@@ -422,6 +485,7 @@ static void call_none(struct thread *t)
 	call_no_guard(t, &no_guard);
 	call_no_guard(t, NULL);
 	open_none(t);
+	free_stale(t);
 	MUST(mbufpool_seat_split(&no_seat, &other) == MBUFPOOL_STRANGER && other.at == NULL);
 	MUST(mbufpool_seat_get(&no_seat, &n, 1) == MBUFPOOL_STRANGER && n == 77);
 	MUST(mbufpool_seat_put(&no_seat, &n, 1) == MBUFPOOL_STRANGER);
@@ -547,7 +611,7 @@ static void one_pool(struct thread *t, uint32_t threads)
 {
 	struct mbufpool_worker w[MOST_THREADS] = { MBUFPOOL_NONE };
 	struct mbufpool_packet p;
-	uint32_t i, found = 0, slot;
+	uint32_t i, found = 0, slot[SLOTS];
 
 	limits.population = 1 + below(t, below(t, 4) ? 60 : MOST / 2);
 	limits.cache = below(t, limits.population * 2 / 3 + 1);
@@ -561,6 +625,7 @@ static void one_pool(struct thread *t, uint32_t threads)
 	MUST(mbufpool_seat_open(limits.population, threads, limits.tries, &t[0].seat) == 0);
 	for (i = 0; i < threads; i++) {
 		t[i].worker = w[i];
+		begin_slots(&t[i]);
 		MUST(i == 0 || mbufpool_seat_split(&t[0].seat, &t[i].seat) == 0);
 		MUST(i == 0 || pthread_create(&t[i].id, NULL, call_all, &t[i]) == 0);
 	}
@@ -582,10 +647,10 @@ static void one_pool(struct thread *t, uint32_t threads)
 	memset(taken, 0, sizeof(taken));
 	t[0].in_hand = 0;
 	for (found = 0; mbufpool_worker_alloc(&t[0].worker, &p) == 0; found++)
-		;
+		slot[found] = p.slot;
 	MUST(found == limits.population);
-	for (slot = 0; below(t, 2) && slot < SLOTS; slot++)
-		mbufpool_worker_free(&t[0].worker, slot);
+	for (i = 0; below(t, 2) && i < found; i++)
+		MUST(mbufpool_worker_free(&t[0].worker, slot[i]) == 0);
 	for (i = 0; i < threads; i++) {
 		w[threads - 1 - i] = t[i].worker;
 		t[i].worker.at = NULL;

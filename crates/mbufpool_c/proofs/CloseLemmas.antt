@@ -8,7 +8,8 @@ use Rattle.std.proofs.Math.Seq.{map-set_same}
 use Rattle.std.specs.Prelude.{Some, flat_map, slice_index_or}
 use Rattle.ground.specs.Seats.{Grounded}
 use Rattle.word_pool.specs.Lost.{AreLeft, AreLostOf}
-use Rattle.word_pool.specs.Workers.{IsWorker, WorkerState}
+use Rattle.word_pool.specs.Workers.{WorkerState}
+use Rattle.mbufpool_c.specs.Labelled.{Labelled}
 use Rattle.mbufpool_c.specs.Closes.{AreApart, AreEmpty, Closes, HasClosed, HasOneOf, HaveSame, IsSettled, worker_number, numbers_in, values_of}
 use Rattle.mbufpool_c.specs.inside.Shared.{AreAbove}
 use Rattle.mbufpool_c.specs.declared.ending.Ending.{Ending}
@@ -32,8 +33,8 @@ pub empty_at : (old new : List WorkerHandle) (k : ℕ) (d : WorkerHandle) → Ha
 empty_at old new k d same low empty =
     let more : k < length (values_of new) = omega (arith, low, length-map new (λ (x : WorkerHandle). x.value)) in
     sym (get_or-map (λ (x : WorkerHandle). x.value) new k d None low)
-    ∙ All-get_or (λ (v : Option WorkerState). v ≡ None) (values_of new) k None more
-    (subst (All (λ (v : Option WorkerState). v ≡ None)) (sym same) empty)
+    ∙ All-get_or (λ (v : Option Labelled). v ≡ None) (values_of new) k None more
+    (subst (All (λ (v : Option Labelled). v ≡ None)) (sym same) empty)
 
 -- the handles before place k are empty, and so is the one there
 pub emptied_more : (hs : List WorkerHandle) (k : ℕ) (h : WorkerHandle) → k < length hs → h.value ≡ None →
@@ -61,16 +62,16 @@ others_stay old hs k h stay j d past =
 pub all_empty : (hs : List WorkerHandle) → ((j : ℕ) (d : WorkerHandle) → j < length hs → (get_or hs j d).value ≡ None) → AreEmpty hs
 all_empty [] each = λ k d low. absurd (omega (arith, low))
 all_empty (h ∷ hs) each =
-    All-from_get_or (λ (v : Option WorkerState). v ≡ None) (values_of (h ∷ hs)) None (λ j low.
+    All-from_get_or (λ (v : Option Labelled). v ≡ None) (values_of (h ∷ hs)) None (λ j low.
     let there : j < length (h ∷ hs) = omega (arith, low, length-map (h ∷ hs) (λ (x : WorkerHandle). x.value)) in
     get_or-map (λ (x : WorkerHandle). x.value) (h ∷ hs) j h None there ∙ each j h there)
 
 -- the number of one more worker is noted
-pub noted_more : (old : List WorkerHandle) (k : ℕ) (d : WorkerHandle) (v : Option WorkerState) (xs : List ℕ) → k < length old →
+pub noted_more : (old : List WorkerHandle) (k : ℕ) (d : WorkerHandle) (v : Option Labelled) (xs : List ℕ) → k < length old →
     v ≡ (get_or old k d).value → xs ≡ numbers_in (take k old) → xs ++ worker_number v ≡ numbers_in (take (k + 1) old)
 noted_more old k d v xs low is noted =
     ap (λ (ys : List ℕ). ys ++ worker_number v) noted
-    ∙ ap (λ (w : Option WorkerState). numbers_in (take k old) ++ worker_number w) is
+    ∙ ap (λ (w : Option Labelled). numbers_in (take k old) ++ worker_number w) is
     ∙ sym (ap numbers_in (take_more old k d low)
     ∙ joined (take k old) (get_or old k d))
 
@@ -122,7 +123,7 @@ closed_some numbers g ms missing e are some as_many apart none left lost = recor
 -- a worker that is in handles is in those that have the same
 pub one_same : (g : Grounded) (old new : List WorkerHandle) → HaveSame old new → HasOneOf g old → HasOneOf g new
 one_same g old new same (m, k, there, is) =
-    (m, k, subst (λ (vs : List (Option WorkerState)). slice_index_or vs k None ≡ Some m) (sym same) there, is)
+    (m, k, subst (λ (vs : List (Option Labelled)). slice_index_or vs k None ≡ Some m) (sym same) there, is)
 
 -- handles that were looked at first are closed as well
 pub closes_same : (old looked new : List WorkerHandle) (ending : Option Ending) → HaveSame old looked →
@@ -133,5 +134,5 @@ closes_same old looked new ending same closes = record {
   there = closes.there;
   ground = closes.ground;
   of = one_same closes.ground looked old (sym same) closes.of;
-  closed = subst (λ (vs : List (Option WorkerState)). HasClosed closes.ground (flat_map worker_number vs) closes.found) same closes.closed;
+  closed = subst (λ (vs : List (Option Labelled)). HasClosed closes.ground (flat_map worker_number vs) closes.found) same closes.closed;
 }

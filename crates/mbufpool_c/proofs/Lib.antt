@@ -5,6 +5,7 @@ mod FillLemmas
 mod GuardHandles
 mod SharedLemmas
 mod Handles
+mod LabelLemmas
 mod LooseSend
 mod MarkLemmas
 mod OpenLemmas

@@ -10,7 +10,8 @@ use Rattle.mbuf.specs.Members.{Member}
 use Rattle.word_pool.specs.Workers.{WorkerState, AreNew, AreWorkers, members_of}
 use Rattle.mbufpool_c.proofs.SharedLemmas.{numbers_are}
 use Rattle.mbufpool_c.specs.inside.Shared.{numbers_of}
-use Rattle.mbufpool_c.specs.Opens.{IsNewCrew}
+use Rattle.mbufpool_c.specs.Labelled.{Labelled, newly}
+use Rattle.mbufpool_c.specs.Opens.{HaveWorkers, IsNewCrew, Opens}
 use Rattle.mbufpool_c.specs.declared.worker_handle.WorkerHandle.{WorkerHandle}
 
 -- all workers are as many as the pool has
@@ -38,54 +39,63 @@ crew_of l g ms ns limits workers new same = record {
       ∙ ap (λ (m : Limits). m.workers) limits;
 }
 
-module _ {X : Type 0} (f : X → WorkerState) where
+module _ {X A : Type 0} (f : X → A) where
   -- a list that has one more at its end, turned round
   turned : (xs : List X) (x : X) → reverse (map f (xs ++ x ∷ [])) ≡ f x ∷ reverse (map f xs)
   turned xs x = ap reverse (map-append f xs (x ∷ [])) ∙ reverse-append (map f xs) (f x ∷ [])
 
   -- the last of those who are left goes over to the others, before them
-  pub goes_over : (all left rest : List WorkerState) (m : WorkerState) (xs : List X) (x : X) →
+  pub goes_over : (all left rest : List A) (m : A) (xs : List X) (x : X) →
       all ≡ left ++ reverse (map f xs) → left ≡ rest ++ m ∷ [] → f x ≡ m →
       all ≡ rest ++ reverse (map f (xs ++ x ∷ []))
   goes_over all left rest m xs x split last same =
-      split ∙ ap (λ (ms : List WorkerState). ms ++ reverse (map f xs)) last
+      split ∙ ap (λ (ms : List A). ms ++ reverse (map f xs)) last
       ∙ append_assoc rest (m ∷ []) (reverse (map f xs))
-      ∙ ap (λ (n : WorkerState). rest ++ n ∷ reverse (map f xs)) (sym same)
-      ∙ ap (λ (ms : List WorkerState). rest ++ ms) (sym (turned xs x))
+      ∙ ap (λ (n : A). rest ++ n ∷ reverse (map f xs)) (sym same)
+      ∙ ap (λ (ms : List A). rest ++ ms) (sym (turned xs x))
 
   -- what is left of all, from place k on, begins with the last one
-  begins : (all : List WorkerState) (k : ℕ) (xs rest : List X) (x : X) →
+  begins : (all : List A) (k : ℕ) (xs rest : List X) (x : X) →
       reverse (map f xs) ≡ drop k all → xs ≡ rest ++ x ∷ [] → f x ∷ reverse (map f rest) ≡ drop k all
   begins all k xs rest x left last =
       sym (turned rest x) ∙ sym (ap (λ (ys : List X). reverse (map f ys)) last) ∙ left
 
   -- who is the worker at place k
-  pub at_place : (all : List WorkerState) (k : ℕ) (xs rest : List X) (x : X) →
-      reverse (map f xs) ≡ drop k all → xs ≡ rest ++ x ∷ [] → (d : WorkerState) → get_or all k d ≡ f x
+  pub at_place : (all : List A) (k : ℕ) (xs rest : List X) (x : X) →
+      reverse (map f xs) ≡ drop k all → xs ≡ rest ++ x ∷ [] → (d : A) → get_or all k d ≡ f x
   at_place all k xs rest x left last d =
       let here : k + 0 ≡ k = omega arith in
       sym (ap (λ (n : ℕ). get_or all n d) here)
       ∙ sym (get_or-drop k all 0 d)
-      ∙ sym (ap (λ (ms : List WorkerState). get_or ms 0 d) (begins all k xs rest x left last))
+      ∙ sym (ap (λ (ms : List A). get_or ms 0 d) (begins all k xs rest x left last))
 
   -- and the others are left, from the next place on
-  pub next_left : (all : List WorkerState) (k : ℕ) (xs rest : List X) (x : X) →
+  pub next_left : (all : List A) (k : ℕ) (xs rest : List X) (x : X) →
       reverse (map f xs) ≡ drop k all → xs ≡ rest ++ x ∷ [] → reverse (map f rest) ≡ drop (k + 1) all
   next_left all k xs rest x left last =
-      ap (λ (ms : List WorkerState). drop 1 ms) (begins all k xs rest x left last) ∙ drop-drop 1 k all
+      ap (λ (ms : List A). drop 1 ms) (begins all k xs rest x left last) ∙ drop-drop 1 k all
 
 -- the handles before place k have their workers, and so has the one that is put there
-pub one_more : (out : List WorkerHandle) (k : ℕ) (w : WorkerHandle) (all : List WorkerState) (v : WorkerState) →
-    k < length out → w.value ≡ Some v → ((d : WorkerState) → get_or all k d ≡ v) →
-    ((j : ℕ) (h : WorkerHandle) (m : WorkerState) → j < k → (get_or out j h).value ≡ Some (get_or all j m)) →
-    (j : ℕ) (h : WorkerHandle) (m : WorkerState) → j < k + 1 → (get_or (set out k w) j h).value ≡ Some (get_or all j m)
+pub one_more : (out : List WorkerHandle) (k : ℕ) (w : WorkerHandle) (all : List Labelled) (v : Labelled) →
+    k < length out → w.value ≡ Some v → ((d : Labelled) → get_or all k d ≡ v) →
+    ((j : ℕ) (h : WorkerHandle) (m : Labelled) → j < k → (get_or out j h).value ≡ Some (get_or all j m)) →
+    (j : ℕ) (h : WorkerHandle) (m : Labelled) → j < k + 1 → (get_or (set out k w) j h).value ≡ Some (get_or all j m)
 one_more out k w all v more new here have j h m low = elim (cases_eq j k) [
   | inl same ↦
       ap (λ (n : ℕ). (get_or (set out k w) n h).value) same
       ∙ ap (λ (x : WorkerHandle). x.value) (get_or-set_same out k w h more)
-      ∙ new ∙ sym (ap (λ (x : WorkerState). Some x) (here m))
+      ∙ new ∙ sym (ap (λ (x : Labelled). Some x) (here m))
       ∙ sym (ap (λ (n : ℕ). Some (get_or all n m)) same)
   | inr other ↦
       let before : j < k = omega (arith, low, other) in
       ap (λ (x : WorkerHandle). x.value) (get_or-set_other out k j w h other) ∙ have j h m before
 ]
+
+-- the handles have the workers of a new crew
+pub opens_with : (l : Limits) (all : List Labelled) (handles : List WorkerHandle) →
+    ((ms : List WorkerState) × IsNewCrew l ms × (all ≡ map newly ms)) → HaveWorkers all handles → Opens l handles
+opens_with l all handles (ms, crew, same) have = record {
+  workers = ms;
+  crew = crew;
+  have = subst (λ (ns : List Labelled). HaveWorkers ns handles) same have;
+}

@@ -8,11 +8,12 @@ use Rattle.pool_model.specs.Statements.{ListsEachOnce, PlacesEachOnce}
 use Rattle.book.specs.Listing.{ListsPackets}
 use Rattle.word_pool.specs.Lost.{AreLeft, AreLostOf}
 use Rattle.word_pool.specs.Workers.{WorkerState, AreWorkers, IsStatementOfWorkers, IsWorker}
+use Rattle.mbufpool_c.specs.Labelled.{Labelled}
 use Rattle.mbufpool_c.specs.declared.ending.Ending.{Ending}
 use Rattle.mbufpool_c.specs.declared.worker_handle.WorkerHandle.{WorkerHandle}
 
 -- what handles have
-abbrev pub values_of : List WorkerHandle → List (Option WorkerState)
+abbrev pub values_of : List WorkerHandle → List (Option Labelled)
 values_of handles = map (λ h. h.value) handles
 
 -- no handle has a worker
@@ -24,9 +25,9 @@ abbrev pub HaveSame : List WorkerHandle → List WorkerHandle → Type 0
 HaveSame old new = values_of new ≡ values_of old
 
 -- the number of the worker in a handle, where there is one
-abbrev pub worker_number : Option WorkerState → List ℕ
+abbrev pub worker_number : Option Labelled → List ℕ
 worker_number None = []
-worker_number (Some m) = m.member.number ∷ []
+worker_number (Some m) = m.worker.member.number ∷ []
 
 -- the numbers of the workers in handles
 abbrev pub numbers_in : List WorkerHandle → List ℕ
@@ -54,7 +55,7 @@ IsSettled g (w ∷ missing) ms e = (e.statement ≡ None) × AreLeft g (w ∷ mi
 -- one of these handles has a worker of this ground: the ground's words and limits are that worker's
 abbrev pub HasOneOf : Grounded → List WorkerHandle → Type 0
 HasOneOf g handles =
-    (m : WorkerState) × (k : ℕ) × (slice_index_or (values_of handles) k None ≡ Some m) × IsWorker g m
+    (m : Labelled) × (k : ℕ) × (slice_index_or (values_of handles) k None ≡ Some m) × IsWorker g m.worker
 
 -- Workers of this ground are settled, as many as there were in handles. Each worker whose number
 -- one of these had is among them: none of those who are missing has it.

@@ -1,5 +1,8 @@
 pub mod Guarded
 pub mod Kept
+pub mod KeptWorker
+pub mod Labelled
+pub mod Labels
 pub mod Owned
 pub mod OwnSeated
 pub mod Stacks

@@ -1,5 +1,5 @@
 -- What C is answered where it makes a pool of packets.
-use Rattle.std.specs.Prelude.{◌≡◌, ◌<◌, ℕ, List, Some, length, slice_index_or}
+use Rattle.std.specs.Prelude.{◌≡◌, ◌<◌, ℕ, List, Some, length, map, slice_index_or}
 use Rattle.commons.specs.Bounds.{IsPool}
 use Rattle.commons.specs.declared.limits.Limits.{Limits}
 use Rattle.commons.specs.declared.limits.PutRule.TheVariants.{Keep}
@@ -8,6 +8,7 @@ use Rattle.commons.specs.declared.refusal.Refusal.TheVariants.{BadPool, OutOfMem
 use Rattle.commons.specs.Refusals.{number_of}
 use Rattle.ground.specs.Seats.{Grounded}
 use Rattle.word_pool.specs.Workers.{WorkerState, AreNew, AreWorkers}
+use Rattle.mbufpool_c.specs.Labelled.{Labelled, newly}
 use Rattle.mbufpool_c.specs.declared.opening.PoolLimits.{PoolLimits}
 use Rattle.mbufpool_c.specs.declared.worker_handle.WorkerHandle.{WorkerHandle}
 
@@ -35,16 +36,17 @@ pub record IsNewCrew (l : Limits) (ms : List WorkerState) : Type 0 where
   pub as_many : length ms ≡ l.workers
 
 -- each handle has the worker at its place
-pub record HaveWorkers (ms : List WorkerState) (handles : List WorkerHandle) : Type 0 where
+pub record HaveWorkers (ms : List Labelled) (handles : List WorkerHandle) : Type 0 where
   pub as_many : length handles ≡ length ms
-  pub each : (k : ℕ) (h : WorkerHandle) (m : WorkerState) → k < length ms →
+  pub each : (k : ℕ) (h : WorkerHandle) (m : Labelled) → k < length ms →
       (slice_index_or handles k h).value ≡ Some (slice_index_or ms k m)
 
--- The handles have the workers of one new pool of these limits, one for each, in their order.
+-- The handles have the workers of one new pool of these limits, one for each, in their order, and the
+-- label of each slot is the slot.
 pub record Opens (l : Limits) (handles : List WorkerHandle) : Type 0 where
   pub workers : List WorkerState
   pub crew : IsNewCrew l workers
-  pub have : HaveWorkers workers handles
+  pub have : HaveWorkers (map newly workers) handles
 
 -- why a pool isn't opened for n handles: there is no such pool, or n isn't the number of its
 -- workers; or memory was refused

@@ -5,7 +5,8 @@ use Rattle.commons.specs.declared.refusal.Refusal.{Refusal}
 use Rattle.commons.specs.declared.refusal.Refusal.TheVariants.{NoSuchPacket, StrangerShare, TooShort}
 use Rattle.commons.specs.Packets.{no_seg}
 use Rattle.commons.specs.Refusals.{number_of}
-use Rattle.word_pool.specs.Workers.{WorkerState}
+use Rattle.mbufpool_c.specs.Labelled.{Labelled}
+use Rattle.mbufpool_c.specs.Labels.{slot_in}
 use Rattle.mbufpool_c.specs.declared.packets.Segment.{Segment}
 
 -- the segment at this place of what is in a slot
@@ -32,7 +33,8 @@ abbrev pub GivesSegment : Result Seg Refusal → ℕ → Segment → Segment →
 GivesSegment (Ok seg) status was out = (status ≡ 0) × (out ≡ segment_of seg)
 GivesSegment (Err cause) status was out = (status ≡ number_of cause) × (out ≡ was)
 
-abbrev pub ShowsSegment : Option WorkerState → ℕ → ℕ → ℕ → Segment → Segment → Type 0
-ShowsSegment None slot index status was out = (status ≡ number_of StrangerShare) × (out ≡ was)
-ShowsSegment (Some m) slot index status was out =
-    GivesSegment (seg_at (slice_index_or m.member.table slot None) index) status was out
+-- and so of the worker of a handle, in the slot that the number stands for
+abbrev pub ShowsSegment : Option Labelled → ℕ → ℕ → ℕ → Segment → Segment → Type 0
+ShowsSegment None number index status was out = (status ≡ number_of StrangerShare) × (out ≡ was)
+ShowsSegment (Some m) number index status was out =
+    GivesSegment (seg_at (slice_index_or m.worker.member.table (slot_in m.labels number) None) index) status was out

@@ -2,9 +2,10 @@
 
 ghost use Rattle.std.specs.Prelude.{◌≡◌, ◌≢◌, ◌<◌, ◌≤◌, ◌+◌, ◌++◌, ◌∷◌, [], All, None, Some, IfOk, IfErr, IfSome, IsTrue, length, vec_capacity, vec_len};
 ghost use Rattle.commons.specs.Refusals.{number_of};
-ghost use Rattle.word_pool.specs.Workers.{AreWorkers, IsWorker, WorkerState};
+ghost use Rattle.word_pool.specs.Workers.{AreWorkers, IsWorker};
 ghost use Rattle.word_pool.specs.Lost.{AreLeft, AreLostOf};
 ghost use Rattle.mbufpool_c.specs.Closes.{AreApart, AreEmpty, Closes, HasClosed, HasOneOf, HaveSame, IsEnded, IsRefused, IsSettled, RefusesClose, worker_number, numbers_in};
+ghost use Rattle.mbufpool_c.specs.Labelled.{Labelled};
 ghost use Rattle.mbufpool_c.specs.inside.Shared.{AreAbove, IsGathered};
 ghost use Rattle.mbufpool_c.specs.inside.Rooms.{IsRoom};
 
@@ -84,7 +85,7 @@ fn shared_of(
     ensures same { handle.new.value ≡ handle.old.value }
     ensures none { handle.old.value ≡ None → result ≡ None }
     ensures of { IfSome result (λ found. IfOk found (λ shared.
-        (m : WorkerState) × (handle.old.value ≡ Some m) × IsWorker shared.value m)) }
+        (m : Labelled) × (handle.old.value ≡ Some m) × IsWorker shared.value m.worker)) }
 {
     match handle.take(alloc) {
         None => None,

@@ -10,6 +10,7 @@ pub mod ending;
 pub mod ending_handle;
 pub mod guard_handle;
 pub mod guarded;
+pub mod labels;
 mod loose;
 mod marks;
 pub mod opening;

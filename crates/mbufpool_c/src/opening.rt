@@ -1,9 +1,10 @@
 //! How a pool of packets is made for C.
 
-ghost use Rattle.std.specs.Prelude.{◌≡◌, ◌≢◌, ◌≤◌, All, IfOk, IfErr, length, map, reverse};
+ghost use Rattle.std.specs.Prelude.{◌≡◌, ◌≢◌, ◌≤◌, All, IfOk, IfErr, List, length, map, reverse};
 ghost use Rattle.std.specs.List.{range_with_len};
 ghost use Rattle.ground.specs.Opening.{IsGroundCause};
-ghost use Rattle.word_pool.specs.Workers.{AreWorkers, IsWorker};
+ghost use Rattle.word_pool.specs.Workers.{AreWorkers, IsWorker, WorkerState};
+ghost use Rattle.mbufpool_c.specs.Labelled.{newly};
 ghost use Rattle.mbufpool_c.specs.inside.Shared.{numbers_of};
 ghost use Rattle.mbufpool_c.specs.Opens.{HaveWorkers, IsNewCrew, Opens, RefusesOpen, pool_limits};
 
@@ -57,7 +58,7 @@ fn owned(
 ) -> Result<Box<OwnWorker>, AllocError>
     requires of { IsWorker shared.now.value worker }
     requires number { number ≡ worker.member.number }
-    ensures { IfOk result (λ own. own.value ≡ worker) }
+    ensures { IfOk result (λ own. own.value ≡ newly worker) }
 {
     let shared = Arc::try_clone(shared)?;
     match Box::new(alloc, OwnWorker::new(shared, worker, number)) {
@@ -76,7 +77,7 @@ fn boxed(
     requires each { All (IsWorker shared.now.value) workers.items }
     requires numbers { numbers_of workers.items ≡ range_with_len 1 (length workers.items) }
     requires few { length workers.items ≤ 64 }
-    ensures { IfOk result (λ boxes. reverse (map (λ own. own.value) boxes.items) ≡ workers.items) }
+    ensures { IfOk result (λ boxes. reverse (map (λ own. own.value) boxes.items) ≡ map newly workers.items) }
 {
     let mut boxes = Vec::with_capacity(alloc, workers.len())?;
     while let Some(worker) = workers.pop() {
@@ -87,7 +88,8 @@ fn boxed(
 
 /// Makes a pool, and answers its workers, the last one first.
 fn opened(alloc: Global, limits: &Limits) -> Result<Vec<Box<OwnWorker>>, Refusal>
-    ensures crew { IfOk result (λ boxes. IsNewCrew limits.now (reverse (map (λ own. own.value) boxes.items))) }
+    ensures crew { IfOk result (λ boxes. (ms : List WorkerState) × IsNewCrew limits.now ms
+        × (reverse (map (λ own. own.value) boxes.items) ≡ map newly ms)) }
     ensures cause { IfErr result (IsGroundCause limits.now) }
 {
     let (ground, workers) = pool::make(alloc, limits)?;
@@ -104,7 +106,7 @@ fn shared(
     workers: Vec<WordWorker>,
 ) -> Result<Vec<Box<OwnWorker>>, AllocError>
     requires { AreWorkers ground workers.items }
-    ensures { IfOk result (λ boxes. reverse (map (λ own. own.value) boxes.items) ≡ workers.items) }
+    ensures { IfOk result (λ boxes. reverse (map (λ own. own.value) boxes.items) ≡ map newly workers.items) }
 {
     let _ = ground.limits();
     let shared = SharedPool::new(alloc, ground)?;

@@ -1,9 +1,11 @@
 //! Packets for C: each export is one act of a worker.
 
 ghost use Rattle.std.specs.Prelude.{◌≡◌, ◌≤◌, None, length, map};
-ghost use Rattle.mbuf.specs.Acts.{HasRoom, new_packet};
+ghost use Rattle.commons.specs.Refusals.{number_of};
+ghost use Rattle.commons.specs.declared.refusal.Refusal.TheVariants.{StrangerShare};
+ghost use Rattle.mbuf.specs.Acts.{HasRoom, as_reply, new_packet};
 ghost use Rattle.mbufpool_c.specs.Segments.{ShowsSegment, segment_of as segment_in};
-ghost use Rattle.mbufpool_c.specs.Statuses.{ActsIn, ActsAs, AreTold, DoesAs, MakesBulk, MakesNew, TellsBulk, TellsNumber, TellsNew, WorkerRemains, new_at, status_of_answer as status_in, status_of_result, replied};
+ghost use Rattle.mbufpool_c.specs.Statuses.{ActsAs, AreTold, DoesAs, GivesNumber, MakesBulk, MakesNew, TellsBulk, TellsNumber, TellsNew, WorkerRemains, new_at, status_of_reply as status_of_act, status_of_result};
 
 use crate::worker_handle::WorkerHandle;
 use crate::workers::OwnWorker;
@@ -17,7 +19,7 @@ use std::alloc::Global;
 /// How many packets a usual bulk has at most: for one of these few places are filled with zeros.
 const BURST: usize = 32;
 
-/// A new packet: its slot, and the element of its first segment.
+/// A new packet: the label of its slot, by which C has it, and the element of its first segment.
 #[repr(C)]
 #[derive(Clone, Copy)]
 pub struct NewPacket {
@@ -38,33 +40,66 @@ pub struct Segment {
     pub buf: u16,
 }
 
-/// The status of an answer: 0, or the number of a refusal, which where there is no worker is that
-/// of `StrangerShare`.
+/// The status of an answer: 0, or the number of a refusal.
 #[inline(always)]
-fn status_of(answer: &Option<Answer<0>>) -> u32
-    ensures { result ≡ status_in (replied answer.now) }
+fn status_of<const ROOM: usize>(answer: &Answer<ROOM>) -> u32
+    ensures { result ≡ status_of_act (as_reply answer.now) }
 {
     match answer {
-        None => Refusal::StrangerShare.number(),
-        Some(Answer::Refused(cause)) => cause.number(),
-        Some(_) => 0,
+        Answer::Refused(cause) => cause.number(),
+        _ => 0,
     }
 }
 
-/// Lets the worker of a handle do this. Answers nothing where there is none.
+/// The status where a handle has no worker.
 #[inline(always)]
-fn act(alloc: Global, worker: &mut WorkerHandle, act: Act) -> Option<Answer<0>>
+fn stranger() -> u32
+    ensures { result ≡ number_of StrangerShare }
+{
+    Refusal::StrangerShare.number()
+}
+
+/// Lets a worker do this.
+#[inline(always)]
+fn deed(own: &mut OwnWorker, act: Act) -> u32
     requires { HasRoom 0 act }
-    ensures { ActsIn act worker.old.value (replied result) worker.new.value }
+    ensures { DoesAs act own.old result own.new }
+{
+    let answer = own.act::<0>(act);
+    status_of(&answer)
+}
+
+/// Lets the worker of a handle do this.
+#[inline(always)]
+fn act(alloc: Global, worker: &mut WorkerHandle, act: Act) -> u32
+    requires { HasRoom 0 act }
+    ensures { ActsAs act worker.old.value result worker.new.value }
 {
     match worker.take(alloc) {
-        None => None,
+        None => stranger(),
         Some(mut own) => {
-            let answer = own.act(act);
+            let status = deed(&mut own, act);
             worker.put_back(own);
-            Some(answer)
+            status
         }
     }
+}
+
+/// Lets a worker do this, and gives C the number that is answered, where it is a slot by its label.
+#[inline(always)]
+fn give(own: &mut OwnWorker, act: Act, out: &mut u32) -> u32
+    requires { HasRoom 0 act }
+    ensures { GivesNumber act own.old result out.old out.new own.new }
+{
+    let answer = own.act::<0>(act);
+    match answer {
+        Answer::Len(number) => *out = number,
+        Answer::Segs(number) => *out = number,
+        Answer::Count(number) => *out = number,
+        Answer::Taken(slot, _, _) => *out = own.label(slot),
+        _ => {}
+    }
+    status_of(&answer)
 }
 
 /// Lets the worker of a handle do this, and gives C the number that is answered.
@@ -73,27 +108,26 @@ fn tell(alloc: Global, worker: &mut WorkerHandle, what: Act, out: &mut u32) -> u
     requires { HasRoom 0 what }
     ensures { TellsNumber what worker.old.value result out.old out.new worker.new.value }
 {
-    let answer = act(alloc, worker, what);
-    match answer {
-        Some(Answer::Len(number)) => *out = number,
-        Some(Answer::Segs(number)) => *out = number,
-        Some(Answer::Count(number)) => *out = number,
-        Some(Answer::Taken(slot, _, _)) => *out = slot,
-        _ => {}
+    match worker.take(alloc) {
+        None => stranger(),
+        Some(mut own) => {
+            let status = give(&mut own, what, out);
+            worker.put_back(own);
+            status
+        }
     }
-    status_of(&answer)
 }
 
 /// Gives C the new packet in the slot that is answered, and the status.
 #[inline(always)]
 fn tell_new(own: &OwnWorker, answer: Result<Pid, Refusal>, out: &mut NewPacket) -> u32
     ensures status { result ≡ status_of_result answer }
-    ensures told { out.new ≡ new_at answer own.now.member.table out.old }
+    ensures told { out.new ≡ new_at answer own.now.labels own.now.worker.member.table out.old }
 {
     match answer {
         Ok(slot) => {
             *out = NewPacket {
-                slot,
+                slot: own.label(slot),
                 element: own.first_element(slot),
             };
             0
@@ -113,19 +147,19 @@ fn make(own: &mut OwnWorker, out: &mut NewPacket) -> u32
 
 /// Lets a worker make a clone, and gives it to C.
 #[inline(always)]
-fn make_clone(own: &mut OwnWorker, slot: Pid, out: &mut NewPacket) -> u32
-    ensures { MakesNew (Act.ClonePacket slot) own.old result out.old out.new own.new }
+fn make_clone(own: &mut OwnWorker, number: u32, out: &mut NewPacket) -> u32
+    ensures { MakesNew (Act.ClonePacket number) own.old result out.old out.new own.new }
 {
-    let answer = own.clone_packet(slot);
+    let answer = own.clone_packet(number);
     tell_new(own, answer, out)
 }
 
 /// Lets a worker free a packet.
 #[inline(always)]
-fn free(own: &mut OwnWorker, slot: Pid) -> u32
-    ensures { DoesAs (Act.Free slot) own.old result own.new }
+fn free(own: &mut OwnWorker, number: u32) -> u32
+    ensures { DoesAs (Act.Free number) own.old result own.new }
 {
-    match own.free(slot) {
+    match own.free(number) {
         Ok(_) => 0,
         Err(cause) => cause.number(),
     }
@@ -141,7 +175,7 @@ pub extern "C" fn mbufpool_worker_alloc(
     ensures { TellsNew Act.Alloc worker.old.value result out.old out.new worker.new.value }
 {
     match worker.take(alloc) {
-        None => Refusal::StrangerShare.number(),
+        None => stranger(),
         Some(mut own) => {
             let status = make(&mut own, out);
             worker.put_back(own);
@@ -150,62 +184,61 @@ pub extern "C" fn mbufpool_worker_alloc(
     }
 }
 
-/// Lets the worker of a handle make this many packets, all or none. Answers nothing where there is
-/// none.
-#[inline(never)]
-fn act_bulk(alloc: Global, worker: &mut WorkerHandle, count: usize) -> Option<Reply>
-    ensures { ActsIn (Act.AllocBulk count) worker.old.value (replied result) worker.new.value }
-{
-    match worker.take(alloc) {
-        None => None,
-        Some(mut own) => {
-            let answer = own.act(Act::AllocBulk(count));
-            worker.put_back(own);
-            Some(answer)
-        }
-    }
-}
-
 /// Tells of the packets of a bulk, each in its place.
-fn tell_each(made: &[acts::NewPacket], out: &mut [NewPacket])
-    ensures { AreTold made.now out.new }
+fn tell_each(own: &OwnWorker, made: &[acts::NewPacket], out: &mut [NewPacket])
+    ensures { AreTold made.now own.now.labels out.new }
 {
     for k in 0..out.len() {
         if k < made.len() {
             out[k] = NewPacket {
-                slot: made[k].slot,
+                slot: own.label(made[k].slot),
                 element: made[k].elem,
             };
         }
     }
 }
 
-/// Makes as many packets as `out` has places, by the act, which has a place for each.
+/// Lets a worker make as many packets as `out` has places by the act, which has a place for each,
+/// and gives each to C.
+#[inline(never)]
+fn make_by_act(own: &mut OwnWorker, out: &mut [NewPacket]) -> u32
+    ensures { MakesBulk (Act.AllocBulk (length out.old)) own.old result out.old out.new own.new }
+{
+    let answer: Reply = own.act(Act::AllocBulk(out.len()));
+    match &answer {
+        Answer::Refused(cause) => cause.number(),
+        Answer::Bulk(made) => {
+            tell_each(own, made.as_slice(), out);
+            0
+        }
+        _ => 0,
+    }
+}
+
+/// Makes as many packets as `out` has places, by the act.
 #[inline(never)]
 fn bulk_by_act(alloc: Global, worker: &mut WorkerHandle, out: &mut [NewPacket]) -> u32
     ensures { TellsBulk (Act.AllocBulk (length out.old)) worker.old.value result out.old out.new worker.new.value }
 {
-    let answer = act_bulk(alloc, worker, out.len());
-    match &answer {
-        None => Refusal::StrangerShare.number(),
-        Some(Answer::Refused(cause)) => cause.number(),
-        Some(Answer::Bulk(made)) => {
-            tell_each(made.as_slice(), out);
-            0
+    match worker.take(alloc) {
+        None => stranger(),
+        Some(mut own) => {
+            let status = make_by_act(&mut own, out);
+            worker.put_back(own);
+            status
         }
-        Some(_) => 0,
     }
 }
 
 /// Tells of the packets in these slots, each in its place.
 #[inline(always)]
 fn tell_slots(own: &OwnWorker, slots: &[Pid], out: &mut [NewPacket])
-    ensures { AreTold (map (new_packet own.now.member.table) slots.now) out.new }
+    ensures { AreTold (map (new_packet own.now.worker.member.table) slots.now) own.now.labels out.new }
 {
     for k in 0..out.len() {
         if k < slots.len() {
             out[k] = NewPacket {
-                slot: slots[k],
+                slot: own.label(slots[k]),
                 element: own.first_element(slots[k]),
             };
         }
@@ -245,7 +278,7 @@ fn bulk_in<const N: usize>(alloc: Global, worker: &mut WorkerHandle, out: &mut [
     ensures { TellsBulk (Act.AllocBulk (length out.old)) worker.old.value result out.old out.new worker.new.value }
 {
     match worker.take(alloc) {
-        None => Refusal::StrangerShare.number(),
+        None => stranger(),
         Some(mut own) => {
             let status = make_in::<N>(&mut own, out);
             worker.put_back(own);
@@ -278,7 +311,7 @@ pub extern "C" fn mbufpool_worker_free(alloc: Global, worker: &mut WorkerHandle,
     ensures { ActsAs (Act.Free slot) worker.old.value result worker.new.value }
 {
     match worker.take(alloc) {
-        None => Refusal::StrangerShare.number(),
+        None => stranger(),
         Some(mut own) => {
             let status = free(&mut own, slot);
             worker.put_back(own);
@@ -353,7 +386,7 @@ pub extern "C" fn mbufpool_worker_chain(
 ) -> u32
     ensures { ActsAs (Act.Chain head tail) worker.old.value result worker.new.value }
 {
-    status_of(&act(alloc, worker, Act::Chain(head, tail)))
+    act(alloc, worker, Act::Chain(head, tail))
 }
 
 /// Lets a packet use the buffer of another.
@@ -366,7 +399,7 @@ pub extern "C" fn mbufpool_worker_attach(
 ) -> u32
     ensures { ActsAs (Act.Attach slot target) worker.old.value result worker.new.value }
 {
-    status_of(&act(alloc, worker, Act::Attach(slot, target)))
+    act(alloc, worker, Act::Attach(slot, target))
 }
 
 /// Gives a packet its own buffer back.
@@ -374,7 +407,7 @@ pub extern "C" fn mbufpool_worker_attach(
 pub extern "C" fn mbufpool_worker_detach(alloc: Global, worker: &mut WorkerHandle, slot: u32) -> u32
     ensures { ActsAs (Act.Detach slot) worker.old.value result worker.new.value }
 {
-    status_of(&act(alloc, worker, Act::Detach(slot)))
+    act(alloc, worker, Act::Detach(slot))
 }
 
 /// Makes a clone of a packet.
@@ -388,7 +421,7 @@ pub extern "C" fn mbufpool_worker_clone(
     ensures { TellsNew (Act.ClonePacket slot) worker.old.value result out.old out.new worker.new.value }
 {
     match worker.take(alloc) {
-        None => Refusal::StrangerShare.number(),
+        None => stranger(),
         Some(mut own) => {
             let status = make_clone(&mut own, slot, out);
             worker.put_back(own);
@@ -407,7 +440,7 @@ pub extern "C" fn mbufpool_worker_offer(
 ) -> u32
     ensures { ActsAs (Act.Offer slot desk) worker.old.value result worker.new.value }
 {
-    status_of(&act(alloc, worker, Act::Offer(slot, desk)))
+    act(alloc, worker, Act::Offer(slot, desk))
 }
 
 /// Takes the packet off a desk, and gives its slot.
@@ -467,7 +500,7 @@ pub extern "C" fn mbufpool_worker_nb_segs(
 pub extern "C" fn mbufpool_worker_flush(alloc: Global, worker: &mut WorkerHandle) -> u32
     ensures { ActsAs Act.Flush worker.old.value result worker.new.value }
 {
-    status_of(&act(alloc, worker, Act::Flush))
+    act(alloc, worker, Act::Flush)
 }
 
 /// How many changes of the pool's stack are left until an act that needs one is refused `HeadSpent`:
@@ -525,7 +558,7 @@ pub extern "C" fn mbufpool_worker_segment(
     ensures told { ShowsSegment worker.old.value slot index result out.old out.new }
 {
     match worker.take(alloc) {
-        None => Refusal::StrangerShare.number(),
+        None => stranger(),
         Some(own) => {
             let answer = own.seg(slot, index);
             worker.put_back(own);

@@ -2,7 +2,7 @@
 
 ghost use Rattle.std.specs.Prelude.{Option};
 ghost use Rattle.std.specs.Coded.{coded_option};
-ghost use Rattle.word_pool.specs.Workers.{WorkerState};
+ghost use Rattle.mbufpool_c.specs.Labelled.{Labelled};
 ghost use Rattle.mbufpool_c.specs.contracts.workers.OwnWorker.{the_row};
 
 use crate::loose::Loose;
@@ -17,7 +17,7 @@ use std::ptr::null_mut;
 pub struct WorkerHandle {
     at: *mut u8,
     alloc: Global,
-    pub ghost value: { Option WorkerState } by { coded_option the_row.coded },
+    pub ghost value: { Option Labelled } by { coded_option the_row.coded },
 }
 
 impl Model for WorkerHandle {

@@ -3,10 +3,13 @@
 ghost use Rattle.std.specs.Prelude.{◌≡◌, IfOk, None, Some, length, slice_index_or};
 ghost use Rattle.commons.specs.Calls.{with_list};
 ghost use Rattle.mbuf.specs.Acts.{HasRoom, allocated, allocated_bulk, as_reply, cloned, first_elem, freed};
+ghost use Rattle.mbufpool_c.specs.Labelled.{ActsBy, if_done as labels_if_done, in_slots as act_in_slots, labels_after, newly};
+ghost use Rattle.mbufpool_c.specs.Labels.{label_in, slot_in};
 ghost use Rattle.mbufpool_c.specs.Segments.{seg_at};
 ghost use Rattle.mbufpool_c.specs.Statuses.{WorkerReads};
-ghost use Rattle.word_pool.specs.Workers.{Acts, IsWorker};
+ghost use Rattle.word_pool.specs.Workers.{IsWorker};
 
+use crate::labels::Labels;
 use crate::shared::{Returned, SharedPool};
 use commons::packet::Seg;
 use commons::refusal::Refusal;
@@ -18,43 +21,97 @@ use std::marker::Model;
 use std::sync::Arc;
 use word_pool::worker::WordWorker;
 
-/// A worker, with what its pool's workers share, which is freed with the last of its workers. It can be sent
-/// to a thread. One that is dropped has died: what it has is lost to the pool.
+/// A worker, with what its pool's workers share, which is freed with the last of its workers, and
+/// with the labels by which C has its packets. It can be sent to a thread. One that is dropped has
+/// died: what it has is lost to the pool.
 #[derive(Drop)]
 pub struct OwnWorker {
     shared: Arc<SharedPool>,
     worker: WordWorker,
     number: u32,
+    labels: Labels,
 }
 
 impl Model for OwnWorker {
-    ghost use Rattle.std.specs.Prelude.{◌≡◌};
-    ghost use Rattle.word_pool.specs.Workers.{WorkerState, IsWorker};
+    ghost use Rattle.mbufpool_c.specs.Labelled.{Labelled};
 
-    ghost Value = { WorkerState };
+    ghost Value = { Labelled };
 
-    ghost view = { λ w. w.worker };
+    ghost use Rattle.mbufpool_c.specs.KeptWorker.{labelled_of, IsKept};
 
-    ghost invariant = { λ w. IsWorker w.shared.value w.worker × (w.number ≡ w.worker.member.number) };
+    ghost view = { labelled_of };
+
+    ghost invariant = { IsKept };
+}
+
+/// What C asks for, with the slots that its numbers stand for.
+#[inline(always)]
+fn in_slots(labels: &Labels, asked: Act) -> Act
+    ensures { result ≡ act_in_slots labels.now asked }
+{
+    match asked {
+        Act::Free(p) => Act::Free(labels.slot(p)),
+        Act::Append(p, len) => Act::Append(labels.slot(p), len),
+        Act::Prepend(p, len) => Act::Prepend(labels.slot(p), len),
+        Act::Adj(p, len) => Act::Adj(labels.slot(p), len),
+        Act::Trim(p, len) => Act::Trim(labels.slot(p), len),
+        Act::Chain(head, tail) => Act::Chain(labels.slot(head), labels.slot(tail)),
+        Act::Attach(p, target) => Act::Attach(labels.slot(p), labels.slot(target)),
+        Act::Detach(p) => Act::Detach(labels.slot(p)),
+        Act::ClonePacket(p) => Act::ClonePacket(labels.slot(p)),
+        Act::Offer(p, desk) => Act::Offer(labels.slot(p), desk),
+        Act::CountOf(p) => Act::CountOf(labels.slot(p)),
+        Act::PktLen(p) => Act::PktLen(labels.slot(p)),
+        Act::NbSegs(p) => Act::NbSegs(labels.slot(p)),
+        Act::Alloc => Act::Alloc,
+        Act::AllocBulk(count) => Act::AllocBulk(count),
+        Act::Take(desk) => Act::Take(desk),
+        Act::Flush => Act::Flush,
+    }
+}
+
+/// Gives a slot its next label, unless this was refused.
+#[inline(always)]
+fn go_unless_refused<const ROOM: usize>(labels: &mut Labels, slot: Pid, answer: &Answer<ROOM>)
+    ensures { labels.new ≡ labels_if_done (as_reply answer.now) slot labels.old }
+{
+    match answer {
+        Answer::Refused(_) => {}
+        _ => labels.go(slot),
+    }
+}
+
+/// Gives the slot from which a packet went by this act its next label.
+#[inline(always)]
+fn go_by<const ROOM: usize>(labels: &mut Labels, act: Act, answer: &Answer<ROOM>)
+    ensures { labels.new ≡ labels_after act (as_reply answer.now) labels.old }
+{
+    match act {
+        Act::Free(p) => go_unless_refused(labels, p, answer),
+        Act::Chain(_, tail) => go_unless_refused(labels, tail, answer),
+        Act::Offer(p, _) => go_unless_refused(labels, p, answer),
+        _ => {}
+    }
 }
 
 impl OwnWorker {
-    /// The worker of this number, of this pool.
+    /// The worker of this number, of this pool. The label of each slot is the slot.
     pub(crate) fn new(shared: Arc<SharedPool>, worker: WordWorker, number: u32) -> OwnWorker
         requires of { IsWorker shared.value worker }
         requires number { number ≡ worker.member.number }
-        ensures { result ≡ worker }
+        ensures { result ≡ newly worker }
     {
         OwnWorker {
             shared,
             worker,
             number,
+            labels: Labels::new(),
         }
     }
 
     /// What it shares, once more, unless there are too many owners.
     pub(crate) fn shared(&self) -> Result<Arc<SharedPool>, AllocError>
-        ensures { IfOk result (λ shared. IsWorker shared.value self.now) }
+        ensures { IfOk result (λ shared. IsWorker shared.value self.now.worker) }
     {
         Arc::try_clone(&self.shared)
     }
@@ -67,25 +124,26 @@ impl OwnWorker {
 
     /// Leaves the worker in its entry, in this place, and answers its number.
     pub(crate) fn leave(self, place: Box<Option<WordWorker>>) -> u32
-        ensures { result ≡ self.member.number }
+        ensures { result ≡ self.worker.member.number }
     {
         let OwnWorker {
             shared,
             worker,
             number,
+            labels: _,
         } = self;
         shared.leave(Returned::new(place, worker, number));
         number
     }
 
-    /// The segment at this place of the packet in a slot.
+    /// The segment at this place of the packet of this number.
     ///
-    /// Refused `NoSuchPacket` where no packet stands there, and `TooShort` where it has fewer
+    /// Refused `NoSuchPacket` where no packet has it, and `TooShort` where the packet has fewer
     /// segments.
-    pub fn seg(&self, slot: u32, index: u32) -> Result<Seg, Refusal>
-        ensures { result ≡ seg_at (slice_index_or self.now.member.table slot None) index }
+    pub fn seg(&self, number: u32, index: u32) -> Result<Seg, Refusal>
+        ensures { result ≡ seg_at (slice_index_or self.now.worker.member.table (slot_in self.now.labels number) None) index }
     {
-        match self.worker.place(slot) {
+        match self.worker.place(self.labels.slot(number)) {
             None => Err(Refusal::NoSuchPacket),
             Some(packet) => seg_in(packet.segs(), index),
         }
@@ -98,19 +156,23 @@ impl OwnWorker {
         self.worker.changes_left(self.shared.ground())
     }
 
-    /// Does this, beside the others, and answers with room for a bulk of `ROOM` packets.
+    /// Does what C asks for, beside the others, and answers of slots, with room for a bulk of `ROOM`
+    /// packets.
     #[inline(always)]
-    pub fn act<const ROOM: usize>(&mut self, act: Act) -> Answer<ROOM>
-        requires { HasRoom ROOM act }
-        ensures { Acts act self.old (as_reply result) self.new }
+    pub fn act<const ROOM: usize>(&mut self, asked: Act) -> Answer<ROOM>
+        requires { HasRoom ROOM asked }
+        ensures { ActsBy asked self.old (as_reply result) self.new }
     {
-        self.worker.act_in(self.shared.ground(), act)
+        let act = in_slots(&self.labels, asked);
+        let answer = self.worker.act_in(self.shared.ground(), act);
+        go_by(&mut self.labels, act, &answer);
+        answer
     }
 
     /// Makes a packet, beside the others, and answers its slot.
     #[inline(always)]
     pub fn alloc(&mut self) -> Result<Pid, Refusal>
-        ensures { Acts Act.Alloc self.old (allocated result self.new.member.table) self.new }
+        ensures { ActsBy Act.Alloc self.old (allocated result self.new.worker.member.table) self.new }
     {
         self.worker.alloc(self.shared.ground())
     }
@@ -118,32 +180,49 @@ impl OwnWorker {
     /// Makes as many packets as `slots` has places, all or none, and gives their slots.
     #[inline(always)]
     pub fn alloc_bulk(&mut self, slots: &mut [Pid]) -> Result<(), Refusal>
-        ensures { Acts (Act.AllocBulk (length slots.old)) self.old
-            (allocated_bulk (with_list result slots.new) self.new.member.table) self.new }
+        ensures { ActsBy (Act.AllocBulk (length slots.old)) self.old
+            (allocated_bulk (with_list result slots.new) self.new.worker.member.table) self.new }
     {
         self.worker.alloc_bulk(self.shared.ground(), slots)
     }
 
-    /// Frees a packet, and answers what was freed.
+    /// Frees the packet of this number, and answers what was freed.
     #[inline(always)]
-    pub fn free(&mut self, slot: Pid) -> Result<Freed, Refusal>
-        ensures { Acts (Act.Free slot) self.old (freed result) self.new }
+    pub fn free(&mut self, number: u32) -> Result<Freed, Refusal>
+        ensures { ActsBy (Act.Free number) self.old (freed result) self.new }
     {
-        self.worker.free(self.shared.ground(), slot)
+        let slot = self.labels.slot(number);
+        match self.worker.free(self.shared.ground(), slot) {
+            Ok(done) => {
+                self.labels.go(slot);
+                Ok(done)
+            }
+            Err(cause) => Err(cause),
+        }
     }
 
-    /// Clones a packet, and answers the clone's slot.
+    /// Clones the packet of this number, and answers the clone's slot.
     #[inline(always)]
-    pub fn clone_packet(&mut self, slot: Pid) -> Result<Pid, Refusal>
-        ensures { Acts (Act.ClonePacket slot) self.old (cloned result self.new.member.table) self.new }
+    pub fn clone_packet(&mut self, number: u32) -> Result<Pid, Refusal>
+        ensures { ActsBy (Act.ClonePacket number) self.old
+            (cloned result self.new.worker.member.table) self.new }
     {
+        let slot = self.labels.slot(number);
         self.worker.clone_packet(self.shared.ground(), slot)
+    }
+
+    /// The number by which C has the packet in a slot.
+    #[inline(always)]
+    pub fn label(&self, slot: Pid) -> u32
+        ensures { result ≡ label_in self.now.labels slot }
+    {
+        self.labels.label(slot)
     }
 
     /// The element of the first segment of the packet in a slot, or 0 where none stands there.
     #[inline(always)]
     pub fn first_element(&self, slot: Pid) -> u32
-        ensures { result ≡ first_elem (slice_index_or self.now.member.table slot None) }
+        ensures { result ≡ first_elem (slice_index_or self.now.worker.member.table slot None) }
     {
         match self.worker.place(slot) {
             None => 0,

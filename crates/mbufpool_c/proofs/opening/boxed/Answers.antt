@@ -1,6 +1,8 @@
 use Rattle.std.proofs.Common.{◌++◌, ◌∷◌, [], Box, Global, List, Some, length, length-append, map, reverse, arith, ap, ◌∙◌, sym}
+use Rattle.std.proofs.lemmas.List.{map-append}
 use Rattle.std.proofs.lemmas.List.Elements.{All-pop}
 use Rattle.word_pool.specs.Workers.{WorkerState, IsWorker}
+use Rattle.mbufpool_c.specs.Labelled.{Labelled, newly}
 use Rattle.mbufpool_c.specs.declared.workers.OwnWorker.{OwnWorker}
 use Rattle.mbufpool_c.proofs.SharedLemmas.{last_number}
 use Rattle.mbufpool_c.proofs.OpenLemmas.{goes_over}
@@ -17,7 +19,7 @@ owned-requires-clause-number c =
 -- it goes over to those on the heap
 pub loop-worker-preserved : goal.loop-worker-preserved
 loop-worker-preserved c =
-    let worker_in : Box OwnWorker Global → WorkerState = λ own. own.value in
+    let worker_in : Box OwnWorker Global → Labelled = λ own. own.value in
     let left = c.loop-worker.workers.items in
     let rest = c.pop.new.self.items in
     let last = last_number left rest c.in-Some.worker c.in-Some.ensures.items c.loop-worker.invariant.numbers in
@@ -29,7 +31,9 @@ loop-worker-preserved c =
       numbers = last.1;
       few = omega (arith, c.loop-worker.invariant.few, more, length-append rest (c.in-Some.worker ∷ []));
       split =
-          goes_over worker_in c.args.workers.items left rest c.in-Some.worker c.loop-worker.boxes.items c.in_ok-owned.field-0
-          c.loop-worker.invariant.split c.in-Some.ensures.items c.in_ok-owned.ensures
-          ∙ ap (λ (own : List (Box OwnWorker Global)). rest ++ reverse (map worker_in own)) (sym c.in_ok-push.ensures.items);
+          goes_over worker_in (map newly c.args.workers.items) (map newly left) (map newly rest) (newly c.in-Some.worker)
+          c.loop-worker.boxes.items c.in_ok-owned.field-0 c.loop-worker.invariant.split
+          (ap (λ (ms : List WorkerState). map newly ms) c.in-Some.ensures.items ∙ map-append newly rest (c.in-Some.worker ∷ []))
+          c.in_ok-owned.ensures
+          ∙ ap (λ (own : List (Box OwnWorker Global)). map newly rest ++ reverse (map worker_in own)) (sym c.in_ok-push.ensures.items);
     }

@@ -1,5 +1,5 @@
 use Rattle.std.proofs.Common.{◌<◌, Box, Global, map, length, reverse, arith, length-set, ◌∙◌}
-use Rattle.word_pool.specs.Workers.{WorkerState}
+use Rattle.mbufpool_c.specs.Labelled.{Labelled}
 use Rattle.mbufpool_c.specs.declared.workers.OwnWorker.{OwnWorker}
 use Rattle.mbufpool_c.proofs.OpenLemmas.{at_place, next_left, one_more}
 use Rattle.mbufpool_c.proofs.opening.fill.Goals as goal
@@ -7,7 +7,7 @@ use Rattle.mbufpool_c.proofs.opening.fill.Goals as goal
 -- the last of those who are left is the next worker, and comes into the next handle
 pub loop-k-preserved : goal.loop-k-preserved
 loop-k-preserved c =
-    let worker_in : Box OwnWorker Global → WorkerState = λ own. own.value in
+    let worker_in : Box OwnWorker Global → Labelled = λ own. own.value in
     let all = reverse (map worker_in c.args.boxes.items) in
     let k = c.loop-k.k in
     let more : k < length c.loop-k.out =
