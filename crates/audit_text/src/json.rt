@@ -25,9 +25,11 @@ pub fn faults_json(
     stack: &[u32],
     faults: &[Fault],
 ) -> Result<Vec<u8>, Refusal>
-    ensures text { IfOk result (λ out. out.items ≡ json_of (faults_data stack.now snapshot.now faults.now) ++ codes "\n") }
+    ensures text { IfOk result (λ out. out.items
+        ≡ json_of (faults_data stack.now snapshot.now faults.now) ++ codes "\n") }
     // A reader of JSON finds the faults in it.
-    ensures reads_back { IfOk result (λ _. read (json_of (faults_data stack.now snapshot.now faults.now))
+    ensures reads_back { IfOk result (λ _.
+        read (json_of (faults_data stack.now snapshot.now faults.now))
         ≡ Some (faults_data stack.now snapshot.now faults.now)) }
     ensures memory { IfErr result (λ e. e ≡ Refusal.OutOfMemory) }
 {
@@ -37,8 +39,8 @@ pub fn faults_json(
     }
 }
 
-/// The compact text of the faults of two pools, with a line feed at its end: an object with the list
-/// of the first one's as `first`, and that of the second's as `second`.
+/// The compact text of the faults of two pools, with a line feed at its end: an object with the
+/// list of the first one's as `first`, and that of the second's as `second`.
 ///
 /// Refused `OutOfMemory` where memory was refused.
 pub fn two_faults_json(
@@ -116,7 +118,8 @@ fn two_values(
     second_stack: &[u32],
     second_faults: &[Fault],
 ) -> Result<Value, AllocError>
-    ensures { IfOk result (λ v. view v ≡ two_data (faults_data first_stack.now first.now first_faults.now)
+    ensures { IfOk result (λ v. view v ≡ two_data
+        (faults_data first_stack.now first.now first_faults.now)
         (faults_data second_stack.now second.now second_faults.now)) }
 {
     json!(in alloc; {
@@ -132,8 +135,10 @@ fn one_line(
     stack: &[u32],
     faults: &[Fault],
 ) -> Result<Vec<u8>, AllocError>
-    ensures text { IfOk result (λ out. out.items ≡ json_of (faults_data stack.now snapshot.now faults.now) ++ codes "\n") }
-    ensures reads_back { IfOk result (λ _. read (json_of (faults_data stack.now snapshot.now faults.now))
+    ensures text { IfOk result (λ out. out.items
+        ≡ json_of (faults_data stack.now snapshot.now faults.now) ++ codes "\n") }
+    ensures reads_back { IfOk result (λ _.
+        read (json_of (faults_data stack.now snapshot.now faults.now))
         ≡ Some (faults_data stack.now snapshot.now faults.now)) }
 {
     let value = values(alloc, snapshot, stack, faults)?;
@@ -146,7 +151,8 @@ fn compact(alloc: Global, value: &Value) -> Result<Vec<u8>, AllocError>
     requires whole { has_float (view value.now) ≡ false }
     requires low { depth (view value.now) ≤ max_depth }
     ensures text { IfOk result (λ out. out.items ≡ json_of (view value.now) ++ codes "\n") }
-    ensures reads_back { IfOk result (λ _. read (json_of (view value.now)) ≡ Some (view value.now)) }
+    ensures reads_back { IfOk result (λ _.
+        read (json_of (view value.now)) ≡ Some (view value.now)) }
 {
     let mut out = value.to_vec(alloc)?;
     out.push(b'\n')?;

@@ -95,7 +95,8 @@ fn write_fault(
     stack: &[u32],
     fault: Fault,
 ) -> Result<(), AllocError>
-    ensures { OnOk result (string_bytes out.new ≡ string_bytes out.old ++ fault_text_on stack.now snapshot.now fault) }
+    ensures { OnOk result (string_bytes out.new ≡ string_bytes out.old
+        ++ fault_text_on stack.now snapshot.now fault) }
 {
     match fault {
         Fault::BadShape => write_shape(out, shape_words(snapshot)),

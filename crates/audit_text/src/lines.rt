@@ -9,9 +9,9 @@ use snapshot::fault::Fault;
 use snapshot::snapshot::Snapshot;
 use std::alloc::{AllocError, Global};
 
-/// A line for each of these faults, in order, each with a line feed at its end and with this text in
-/// front, as of which of two pools it is. The stack of the snapshot has these elements, from the top
-/// down.
+/// A line for each of these faults, in order, each with a line feed at its end and with this text
+/// in front, as of which of two pools it is. The stack of the snapshot has these elements, from the
+/// top down.
 ///
 /// Refused `OutOfMemory` where memory was refused. It takes time linear in the snapshot and the
 /// stack for each fault whose line names places.
@@ -22,7 +22,8 @@ pub fn fault_lines(
     faults: &[Fault],
     front: &[u8],
 ) -> Result<Vec<u8>, Refusal>
-    ensures text { IfOk result (λ v. v.items ≡ lines_text front.now stack.now snapshot.now faults.now) }
+    ensures text { IfOk result (λ v. v.items
+        ≡ lines_text front.now stack.now snapshot.now faults.now) }
     ensures memory { IfErr result (λ e. e ≡ Refusal.OutOfMemory) }
 {
     let mut out = Vec::new(alloc);
@@ -41,7 +42,8 @@ fn write_lines(
     faults: &[Fault],
     front: &[u8],
 ) -> Result<(), AllocError>
-    ensures { OnOk result (out.new.items ≡ out.old.items ++ lines_text front.now stack.now snapshot.now faults.now) }
+    ensures { OnOk result (out.new.items ≡ out.old.items
+        ++ lines_text front.now stack.now snapshot.now faults.now) }
 {
     for fault in faults {
         write_line(alloc, out, snapshot, stack, *fault, front)?;
@@ -58,7 +60,8 @@ fn write_line(
     fault: Fault,
     front: &[u8],
 ) -> Result<(), AllocError>
-    ensures { OnOk result (out.new.items ≡ out.old.items ++ (front.now ++ fault_text_on stack.now snapshot.now fault ++ codes "\n")) }
+    ensures { OnOk result (out.new.items ≡ out.old.items
+        ++ (front.now ++ fault_text_on stack.now snapshot.now fault ++ codes "\n")) }
 {
     let line = fault_string(alloc, snapshot, stack, fault)?;
     out.extend_from_slice(front)?;

@@ -55,7 +55,8 @@ fn write_place(out: &mut String, place: Place) -> Result<(), AllocError>
 
 /// An element of a free list.
 fn write_free(out: &mut String, list: FreeList, k: u64) -> Result<(), AllocError>
-    ensures { OnOk result (string_bytes out.new ≡ string_bytes out.old ++ place_text (Free list k)) }
+    ensures { OnOk result (string_bytes out.new ≡ string_bytes out.old
+        ++ place_text (Free list k)) }
 {
     match list {
         FreeList::Stack => write!(out, "at {k} on the stack"),

@@ -10,7 +10,8 @@ use std::alloc::AllocError;
 /// How a fault's line begins: with its number and name.
 #[tactic(auto, unfolding(crate::specs::FaultText::front_text))]
 fn write_front(out: &mut String, number: u32, name: &str) -> Result<(), AllocError>
-    ensures { OnOk result (string_bytes out.new ≡ string_bytes out.old ++ front_text number name.now) }
+    ensures { OnOk result (string_bytes out.new ≡ string_bytes out.old
+        ++ front_text number name.now) }
 {
     write!(out, "fault {number} {name}")
 }
@@ -18,7 +19,8 @@ fn write_front(out: &mut String, number: u32, name: &str) -> Result<(), AllocErr
 /// How it begins where it names an element.
 #[tactic(auto, unfolding(crate::specs::FaultText::element_text))]
 fn write_element(out: &mut String, number: u32, name: &str, elem: u32) -> Result<(), AllocError>
-    ensures { OnOk result (string_bytes out.new ≡ string_bytes out.old ++ element_text number name.now elem) }
+    ensures { OnOk result (string_bytes out.new ≡ string_bytes out.old
+        ++ element_text number name.now elem) }
 {
     write_front(out, number, name)?;
     write!(out, " element {elem}")
@@ -26,21 +28,24 @@ fn write_element(out: &mut String, number: u32, name: &str, elem: u32) -> Result
 
 /// What of the shape is wrong.
 pub(crate) fn write_shape(out: &mut String, words: &str) -> Result<(), AllocError>
-    ensures { OnOk result (string_bytes out.new ≡ string_bytes out.old ++ (codes "fault 101 BadShape: " ++ words.now)) }
+    ensures { OnOk result (string_bytes out.new ≡ string_bytes out.old
+        ++ (codes "fault 101 BadShape: " ++ words.now)) }
 {
     write!(out, "fault 101 BadShape: {words}")
 }
 
 /// A word above the population.
 pub(crate) fn write_top(out: &mut String, word: u32) -> Result<(), AllocError>
-    ensures { OnOk result (string_bytes out.new ≡ string_bytes out.old ++ (codes "fault 102 BadTop " ++ decimal word)) }
+    ensures { OnOk result (string_bytes out.new ≡ string_bytes out.old
+        ++ (codes "fault 102 BadTop " ++ decimal word)) }
 {
     write!(out, "fault 102 BadTop {word}")
 }
 
 /// An element that is nowhere.
 pub(crate) fn write_lost(out: &mut String, elem: u32) -> Result<(), AllocError>
-    ensures { OnOk result (string_bytes out.new ≡ string_bytes out.old ++ (codes "fault 109 Lost element " ++ decimal elem)) }
+    ensures { OnOk result (string_bytes out.new ≡ string_bytes out.old
+        ++ (codes "fault 109 Lost element " ++ decimal elem)) }
 {
     write!(out, "fault 109 Lost element {elem}")
 }
@@ -61,7 +66,8 @@ pub(crate) fn write_stranger(
     elem: u32,
     places: &[Place],
 ) -> Result<(), AllocError>
-    ensures { OnOk result (string_bytes out.new ≡ string_bytes out.old ++ stranger_text elem places.now) }
+    ensures { OnOk result (string_bytes out.new ≡ string_bytes out.old
+        ++ stranger_text elem places.now) }
 {
     write_front(out, 105, "BadElem")?;
     write!(out, " {elem}")?;
@@ -80,7 +86,8 @@ pub(crate) fn write_other(out: &mut String, places: &[Place]) -> Result<(), Allo
 /// An element, and the first two segments whose own one it is.
 #[tactic(auto, unfolding(crate::specs::FaultText::header_text))]
 pub(crate) fn write_header(out: &mut String, elem: u32, places: &[Place]) -> Result<(), AllocError>
-    ensures { OnOk result (string_bytes out.new ≡ string_bytes out.old ++ header_text elem places.now) }
+    ensures { OnOk result (string_bytes out.new ≡ string_bytes out.old
+        ++ header_text elem places.now) }
 {
     write_element(out, 107, "DoubleHeader", elem)?;
     write_two(out, places)
@@ -89,7 +96,8 @@ pub(crate) fn write_header(out: &mut String, elem: u32, places: &[Place]) -> Res
 /// An element, and the first two places where it stands.
 #[tactic(auto, unfolding(crate::specs::FaultText::doubled_text))]
 pub(crate) fn write_doubled(out: &mut String, elem: u32, places: &[Place]) -> Result<(), AllocError>
-    ensures { OnOk result (string_bytes out.new ≡ string_bytes out.old ++ doubled_text elem places.now) }
+    ensures { OnOk result (string_bytes out.new ≡ string_bytes out.old
+        ++ doubled_text elem places.now) }
 {
     write_element(out, 108, "Doubled", elem)?;
     write_two(out, places)
@@ -103,7 +111,8 @@ pub(crate) fn write_count(
     word: u32,
     holds: u64,
 ) -> Result<(), AllocError>
-    ensures { OnOk result (string_bytes out.new ≡ string_bytes out.old ++ count_text elem word holds) }
+    ensures { OnOk result (string_bytes out.new ≡ string_bytes out.old
+        ++ count_text elem word holds) }
 {
     write_element(out, 110, "BadCount", elem)?;
     write!(out, ": count {word}, held {holds}")

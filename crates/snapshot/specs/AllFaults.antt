@@ -23,7 +23,8 @@ IsFaultOn stack s (BadElem v) = (0 < bag stack v + times_named s v) × (s.limits
 IsFaultOn stack s BadPacket = IsFault s BadPacket
 IsFaultOn stack s (DoubleHeader e) = IsFault s (DoubleHeader e)
 IsFaultOn stack s (Doubled e) = 1 < times_free_on stack s e + min 1 (times_held s e)
-IsFaultOn stack s (Lost e) = (e < s.limits.population) × (times_free_on stack s e + times_held s e ≡ 0)
+IsFaultOn stack s (Lost e) =
+    (e < s.limits.population) × (times_free_on stack s e + times_held s e ≡ 0)
 IsFaultOn stack s (BadCount e word holds) = IsFault s (BadCount e word holds)
 IsFaultOn stack s OutOfMemory = ⊥
 

@@ -116,7 +116,8 @@ fn note_others(
 ) -> Result<(), AllocError>
     requires pool { IsPool snapshot.now.limits }
     requires shape { HasShape snapshot.now }
-    ensures { IfOk result (λ _. Adds (IsLate (IsTrue ends) stack.now snapshot.now) faults.old.items faults.new.items) }
+    ensures { IfOk result (λ _. Adds (IsLate (IsTrue ends) stack.now snapshot.now)
+        faults.old.items faults.new.items) }
 {
     note_strangers(alloc, faults, snapshot, stack)?;
     note_packets(faults, snapshot)?;

@@ -20,7 +20,8 @@ use std::alloc::{AllocError, Global};
 /// Finds the least element that a cache, a packet or a guest names and that the pool doesn't have.
 pub(crate) fn check(alloc: Global, snapshot: &Snapshot) -> Result<(), Fault>
     requires clean { IsCleanBelow 4 snapshot.now }
-    ensures ok { IfOk result (λ _. (e : ℕ) → snapshot.now.limits.population ≤ e → times_named snapshot.now e ≡ 0) }
+    ensures ok { IfOk result (λ _. (e : ℕ) → snapshot.now.limits.population ≤ e
+        → times_named snapshot.now e ≡ 0) }
     ensures first { IfErr result (λ f. (f ≡ Fault.OutOfMemory) ⊎ IsFirstFault snapshot.now f) }
 {
     match strangers(alloc, snapshot, &[]) {
@@ -33,7 +34,8 @@ pub(crate) fn check(alloc: Global, snapshot: &Snapshot) -> Result<(), Fault>
 fn no_stranger(snapshot: &Snapshot, elems: &[u32]) -> Result<(), Fault>
     requires clean { IsCleanBelow 4 snapshot.now }
     requires strangers { AreStrangers [] snapshot.now elems.now }
-    ensures ok { IfOk result (λ _. (e : ℕ) → snapshot.now.limits.population ≤ e → times_named snapshot.now e ≡ 0) }
+    ensures ok { IfOk result (λ _. (e : ℕ) → snapshot.now.limits.population ≤ e
+        → times_named snapshot.now e ≡ 0) }
     ensures first { IfErr result (λ f. IsFirstFault snapshot.now f) }
 {
     if elems.is_empty() {
@@ -73,7 +75,8 @@ fn leave_each_once(elems: &mut Vec<u32>) -> Result<(), AllocError>
 
 /// Gathers those that are guests.
 fn in_guests(named: &mut Vec<u32>, guests: &[Guest], population: u64) -> Result<(), AllocError>
-    ensures { IfOk result (λ _. HasGathered population (guest_holds guests.now) named.old.items named.new.items) }
+    ensures { IfOk result (λ _. HasGathered population (guest_holds guests.now)
+        named.old.items named.new.items) }
 {
     for guest in guests {
         gather(named, guest.elem, population)?;
@@ -89,7 +92,8 @@ fn in_shares(
     foreign: bool,
 ) -> Result<(), AllocError>
     ensures { IfOk result (λ _. HasGathered population
-        (λ e. sum_by (λ share. bag share.cache e + held_in (local_table foreign share.slots) e) shares.now)
+        (λ e. sum_by (λ share. bag share.cache e
+        + held_in (local_table foreign share.slots) e) shares.now)
         named.old.items named.new.items) }
 {
     for share in shares {
@@ -106,7 +110,8 @@ fn in_table(
     population: u64,
     foreign: bool,
 ) -> Result<(), AllocError>
-    ensures { IfOk result (λ _. HasGathered population (held_in (local_table foreign table.now)) named.old.items named.new.items) }
+    ensures { IfOk result (λ _. HasGathered population (held_in (local_table foreign table.now))
+        named.old.items named.new.items) }
 {
     for place in table {
         in_place(named, place, population, foreign)?;
@@ -121,7 +126,8 @@ fn in_place(
     population: u64,
     foreign: bool,
 ) -> Result<(), AllocError>
-    ensures { IfOk result (λ _. HasGathered population (bag (holds_in_slot (local_place foreign place.now))) named.old.items named.new.items) }
+    ensures { IfOk result (λ _. HasGathered population (bag (holds_in_slot
+        (local_place foreign place.now))) named.old.items named.new.items) }
 {
     match place {
         Some(segs) => in_packet(named, segs.as_slice(), population, foreign),
@@ -136,7 +142,8 @@ fn in_packet(
     population: u64,
     foreign: bool,
 ) -> Result<(), AllocError>
-    ensures { IfOk result (λ _. HasGathered population (bag (holds_of_packet (local_packet foreign segs.now))) named.old.items named.new.items) }
+    ensures { IfOk result (λ _. HasGathered population (bag (holds_of_packet
+        (local_packet foreign segs.now))) named.old.items named.new.items) }
 {
     for seg in segs {
         in_seg(named, local(*seg, foreign), population)?;
@@ -146,7 +153,8 @@ fn in_packet(
 
 /// Gathers those of a segment: its base and its own.
 fn in_seg(named: &mut Vec<u32>, seg: Seg, population: u64) -> Result<(), AllocError>
-    ensures { IfOk result (λ _. HasGathered population (bag (holds_of_seg seg)) named.old.items named.new.items) }
+    ensures { IfOk result (λ _. HasGathered population (bag (holds_of_seg seg))
+        named.old.items named.new.items) }
 {
     in_base(named, seg.base, population)?;
     gather(named, seg.elem, population)
@@ -154,7 +162,8 @@ fn in_seg(named: &mut Vec<u32>, seg: Seg, population: u64) -> Result<(), AllocEr
 
 /// Gathers the base, where it is such an element.
 fn in_base(named: &mut Vec<u32>, base: Option<u32>, population: u64) -> Result<(), AllocError>
-    ensures { IfOk result (λ _. HasGathered population (bag (hold_of base)) named.old.items named.new.items) }
+    ensures { IfOk result (λ _. HasGathered population (bag (hold_of base))
+        named.old.items named.new.items) }
 {
     match base {
         Some(elem) => gather(named, elem, population),
@@ -164,7 +173,8 @@ fn in_base(named: &mut Vec<u32>, base: Option<u32>, population: u64) -> Result<(
 
 /// Gathers those in a list.
 fn in_list(named: &mut Vec<u32>, elems: &[u32], population: u64) -> Result<(), AllocError>
-    ensures { IfOk result (λ _. HasGathered population (bag elems.now) named.old.items named.new.items) }
+    ensures { IfOk result (λ _. HasGathered population (bag elems.now)
+        named.old.items named.new.items) }
 {
     for elem in elems {
         gather(named, *elem, population)?;

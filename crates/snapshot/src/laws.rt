@@ -49,6 +49,6 @@ pub fn a_snapshot_without_told_faults_is_lawful()
 
 /// The first of all faults of a snapshot that are told is the one that the audit answers.
 pub fn the_first_told_fault_is_the_audits()
-    ensures first { (s : Snapshot) (f : Fault) (more : List Fault) → IsPool s.limits → AreAllFaults (IsTold s) (f ∷ more) →
-        IsFirstFault s f }
+    ensures first { (s : Snapshot) (f : Fault) (more : List Fault) → IsPool s.limits →
+        AreAllFaults (IsTold s) (f ∷ more) → IsFirstFault s f }
 {}

@@ -1,5 +1,5 @@
-//! Snapshots with several faults of several kinds, and all that is told of them, by the rules: of the
-//! walk along the links, and of a list in its place.
+//! Snapshots with several faults of several kinds, and all that is told of them, by the rules: of
+//! the walk along the links, and of a list in its place.
 
 use super::faults::{C4, C8, C10, C12, E0, E1, E6, LARGE, SECOND, THIRD};
 use super::shown::{FRESH, Handed, Shown};

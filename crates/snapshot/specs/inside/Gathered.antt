@@ -20,4 +20,5 @@ pub record IsSetOf (old new : List ℕ) : Type 0 where
 -- once, ascending.
 pub record AreStrangers (stack : List ℕ) (s : Snapshot) (elems : List ℕ) : Type 0 where
   pub ascending : IsAscending elems
-  pub exactly : (e : ℕ) → Contains elems e ↔ ((0 < bag stack e + times_named s e) × (s.limits.population ≤ e))
+  pub exactly : (e : ℕ) →
+      Contains elems e ↔ ((0 < bag stack e + times_named s e) × (s.limits.population ≤ e))

@@ -21,7 +21,8 @@ pub(crate) fn note_length(
     elems: &[u32],
 ) -> Result<(), AllocError>
     requires walk { elems.now ≡ walk snapshot.now }
-    ensures { IfOk result (λ _. Adds (λ f. (rank f ≡ 3) × IsFault snapshot.now f) faults.old.items faults.new.items) }
+    ensures { IfOk result (λ _. Adds (λ f. (rank f ≡ 3) × IsFault snapshot.now f)
+        faults.old.items faults.new.items) }
 {
     let found = elems.len() as u64;
     if snapshot.length == found {
@@ -34,8 +35,8 @@ pub(crate) fn note_length(
     Ok(())
 }
 
-/// Adds `BadElem` for each element that the pool doesn't have and that this stack, a cache, a packet
-/// or a guest names.
+/// Adds `BadElem` for each element that the pool doesn't have and that this stack, a cache, a
+/// packet or a guest names.
 pub(crate) fn note_strangers(
     alloc: Global,
     faults: &mut Vec<Fault>,
@@ -43,7 +44,8 @@ pub(crate) fn note_strangers(
     stack: &[u32],
 ) -> Result<(), AllocError>
     ensures { IfOk result (λ _. AddsEach BadElem
-        (λ e. (0 < bag stack.now e + times_named snapshot.now e) × (snapshot.now.limits.population ≤ e))
+        (λ e. (0 < bag stack.now e + times_named snapshot.now e)
+        × (snapshot.now.limits.population ≤ e))
         faults.old.items faults.new.items) }
 {
     let elems = strangers(alloc, snapshot, stack)?;
@@ -55,7 +57,8 @@ pub(crate) fn note_strangers(
 
 /// Adds `BadPacket`, where something in a slot or on a desk isn't a packet.
 pub(crate) fn note_packets(faults: &mut Vec<Fault>, snapshot: &Snapshot) -> Result<(), AllocError>
-    ensures { IfOk result (λ _. Adds (λ f. (rank f ≡ 5) × IsFault snapshot.now f) faults.old.items faults.new.items) }
+    ensures { IfOk result (λ _. Adds (λ f. (rank f ≡ 5) × IsFault snapshot.now f)
+        faults.old.items faults.new.items) }
 {
     if has_packets(snapshot) {
         return Ok(());
@@ -64,10 +67,12 @@ pub(crate) fn note_packets(faults: &mut Vec<Fault>, snapshot: &Snapshot) -> Resu
     Ok(())
 }
 
-/// Adds `DoubleHeader` for each element that is the own one of two segments, by this row of a tally.
+/// Adds `DoubleHeader` for each element that is the own one of two segments, by this row of a
+/// tally.
 pub(crate) fn note_headers(faults: &mut Vec<Fault>, own: &[u32]) -> Result<(), AllocError>
     requires { length own.now ≤ 4_294_967_296 }
-    ensures { IfOk result (λ _. AddsBelow (length own.now) DoubleHeader (IsRepeated own.now) faults.old.items faults.new.items) }
+    ensures { IfOk result (λ _. AddsBelow (length own.now) DoubleHeader (IsRepeated own.now)
+        faults.old.items faults.new.items) }
 {
     for (elem, times) in own.iter().enumerate() {
         if *times > 1 {
@@ -87,7 +92,8 @@ pub(crate) fn note_doubled(
 ) -> Result<(), AllocError>
     requires same { length free.now ≡ length held.now }
     requires few { length held.now ≤ 4_294_967_296 }
-    ensures { IfOk result (λ _. AddsBelow (length held.now) Doubled (IsDouble ends free.now held.now) faults.old.items faults.new.items) }
+    ensures { IfOk result (λ _. AddsBelow (length held.now) Doubled
+        (IsDouble ends free.now held.now) faults.old.items faults.new.items) }
 {
     for (elem, holds) in held.iter().enumerate() {
         if is_double(ends, free[elem], *holds) {
@@ -97,8 +103,8 @@ pub(crate) fn note_doubled(
     Ok(())
 }
 
-/// Whether an element that is so often free and so often held is free twice, or free and held, where
-/// the stack ends.
+/// Whether an element that is so often free and so often held is free twice, or free and held,
+/// where the stack ends.
 fn is_double(ends: bool, free: u32, holds: u32) -> bool
     ensures { IsTrue result ↔ (IsTrue ends × (1 < free + min 1 holds)) }
 {
@@ -114,7 +120,8 @@ pub(crate) fn note_lost(
 ) -> Result<(), AllocError>
     requires same { length free.now ≡ length held.now }
     requires few { length held.now ≤ 4_294_967_296 }
-    ensures { IfOk result (λ _. AddsBelow (length held.now) Lost (IsNowhere ends free.now held.now) faults.old.items faults.new.items) }
+    ensures { IfOk result (λ _. AddsBelow (length held.now) Lost (IsNowhere ends free.now held.now)
+        faults.old.items faults.new.items) }
 {
     for (elem, holds) in held.iter().enumerate() {
         if is_nowhere(ends, free[elem], *holds) {
@@ -141,7 +148,8 @@ pub(crate) fn note_counts(
     requires same { length counts.now ≡ length held.now }
     requires few { length held.now ≤ 4_294_967_296 }
     ensures { IfOk result (λ _. AddsBelow (length held.now)
-        (λ e. BadCount e (slice_index counts.now e) (slice_index held.now e)) (IsMiscounted counts.now held.now)
+        (λ e. BadCount e (slice_index counts.now e) (slice_index held.now e))
+        (IsMiscounted counts.now held.now)
         faults.old.items faults.new.items) }
 {
     for (elem, holds) in held.iter().enumerate() {
@@ -156,8 +164,8 @@ pub(crate) fn note_counts(
     Ok(())
 }
 
-/// Whether a count isn't the number of holds, or isn't 1 where there are none. Of an element that is
-/// held too often for the row it isn't known.
+/// Whether a count isn't the number of holds, or isn't 1 where there are none. Of an element that
+/// is held too often for the row it isn't known.
 fn is_miscounted(count: u32, holds: u32) -> bool
     ensures { IsTrue result ↔ ((holds < uncounted) × (count ≢ max 1 holds)) }
 {
