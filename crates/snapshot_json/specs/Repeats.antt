@@ -1,5 +1,5 @@
 -- A text whose list has elements twice.
-use Rattle.std.specs.Prelude.{ℕ, ◌≡◌, ◌≤◌, List, [], IsSomeAnd, IsUtf8, ⊤, length}
+use Rattle.std.specs.Prelude.{ℕ, ◌≡◌, ◌≤◌, List, [], IsSomeAnd, IsUtf8, length}
 use Rattle.json.specs.Json.{document}
 use Rattle.json.specs.Strict.{HasUniqueKeys}
 use Rattle.serde_json.specs.Data.{Data}
@@ -7,7 +7,7 @@ use Rattle.serde_json.specs.Read.{read}
 use Rattle.snapshot_json.specs.Reading.{IsFaultOf, IsLeastDouble, IsOfPool, IsSnapshotText, max_bytes}
 use Rattle.snapshot_json.specs.SnapshotData.{HasCommon, HasWords, IsSnapshotData, common_data}
 use Rattle.snapshot_json.specs.declared.fault.SnapshotFault.{SnapshotFault}
-use Rattle.snapshot_json.specs.declared.fault.SnapshotFault.TheVariants.{OutOfMemory, TooLong, NotJson, Wrong, Doubled}
+use Rattle.snapshot_json.specs.declared.fault.SnapshotFault.TheVariants.{Doubled}
 use Rattle.snapshot_json.specs.declared.text.Repeats.{Repeats}
 use Rattle.snapshot_json.specs.declared.text.Text.{Text}
 use Rattle.snapshot_json.specs.declared.text.Text.TheVariants.{One, Repeating}

@@ -7,7 +7,7 @@ use Rattle.tasks.specs.Halves.{AreTwoTexts, IsOneText}
 use Rattle.tasks.specs.declared.auditing.Placed.{Placed}
 use Rattle.tasks.specs.declared.failures.Cause.TheVariants as causes
 use Rattle.tasks.specs.declared.failures.Failure.{Failure}
-use Rattle.tasks.specs.declared.failures.Failure.TheVariants.{Unreadable, Fault, Misread, Audited, OfTwo}
+use Rattle.tasks.specs.declared.failures.Failure.TheVariants.{Fault, Misread, Audited, OfTwo}
 use Rattle.tasks.specs.declared.failures.Which.{Which}
 use Rattle.tasks.specs.declared.failures.Which.TheVariants.{First, Second}
 use Rattle.tasks.specs.declared.task.Form.{Form}

@@ -1,5 +1,5 @@
 -- What comes of the listing of all faults of a text that is one snapshot's or two.
-use Rattle.std.specs.Prelude.{ℕ, ◌≡◌, ◌⊎◌, ◌==◌, ◌<◌, ◌+◌, List, [], ◌++◌, Option, ⊤, codes, decimal, if◌then◌else◌, length}
+use Rattle.std.specs.Prelude.{ℕ, ◌≡◌, ◌⊎◌, ◌==◌, ◌+◌, List, [], ◌++◌, Option, codes, decimal, if◌then◌else◌, length}
 use Rattle.audit_text.specs.FaultData.{faults_data, json_of, two_data}
 use Rattle.audit_text.specs.FaultText.{lines_text}
 use Rattle.commons.specs.Bounds.{IsPool}
