@@ -1,0 +1,20 @@
+pub mod Bags
+pub mod Totals
+pub mod Links
+pub mod Stepping
+pub mod Stacks
+pub mod Exchanges
+mod Gathering
+pub mod Calls
+pub mod Logging
+pub mod Reading
+pub mod Parts
+pub mod Turns
+pub mod Racking
+pub mod Swapping
+pub mod Listing
+pub mod Taking
+pub mod Opens
+pub mod Vacant
+pub mod Tokens
+pub mod Crossing

@@ -1,0 +1,10 @@
+pub mod Heads
+pub mod Layout
+pub mod Bags
+pub mod Rule
+pub mod Answers
+pub mod Seats
+pub mod Opening
+pub mod Racks
+pub mod Lent
+pub mod Lending

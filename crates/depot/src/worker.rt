@@ -1,0 +1,210 @@
+//! A worker at a depot, with its magazines.
+
+ghost use Rattle.std.specs.Prelude.{◌≡◌, ℕ, ◌≤◌, [], ◌∷◌, length, IfOk, IfErr};
+ghost use Rattle.commons.specs.Bag.{bag};
+ghost use Rattle.depot.specs.Lending.{AreOf, AreOnce, IsWorker, GetsLoans, PutsLoans, GetsCount, PutsCount, cached, count_of, elements, lent_list, lent_one, log_of};
+ghost use Rattle.depot.specs.Seats.{IsCause};
+
+use crate::cause::Cause;
+use crate::depot::Depot;
+use crate::loans::Loans;
+use crate::rack::Rack;
+
+/// A worker at a depot: a seat, and two magazines between calls, more where the depot took none
+/// back. What it gets it lends, and what it puts it takes in, so that any worker may put what
+/// another got.
+///
+/// It can't be dropped, since what is in its magazines would be lost unseen: it ends by `end`, or
+/// by `lose` where it has died.
+pub struct Worker {
+    pub(crate) rack: Rack,
+    /// What its calls have put less what they got, modulo 2^64.
+    count: u64,
+}
+
+impl Worker {
+    #[inline(always)]
+    pub(crate) fn of(rack: Rack) -> Worker
+        ensures rack { result.rack ≡ rack }
+        ensures count { result.count ≡ 0 }
+    {
+        Worker { rack, count: 0 }
+    }
+
+    /// What this worker's calls have put less what they got, modulo 2^64: the counts of all workers
+    /// add up to what is in the pool.
+    pub fn count(&self) -> u64
+        ensures { result ≡ count_of self.now }
+    {
+        self.count
+    }
+
+    /// Where the magazine in front of this worker lies, for readers of memory: all magazines lie
+    /// side by side, by their numbers, and this one has that of `front_number`.
+    pub fn front_address(&mut self, depot: &Depot) -> *mut u8
+        requires of { IsWorker depot.now self.old }
+        ensures of { IsWorker depot.now self.new }
+        ensures cached { cached self.new ≡ cached self.old }
+        ensures log { log_of self.new ≡ log_of self.old }
+        ensures count { count_of self.new ≡ count_of self.old }
+    {
+        self.rack.front_address(depot)
+    }
+
+    /// The number of the magazine in front, from 0.
+    pub fn front_number(&self) -> u64 {
+        self.rack.front as u64
+    }
+
+    /// Gets as many elements as `out` has places, and adds their loans: all of them, or none.
+    ///
+    /// Refused, where its magazines have fewer, `NoEntries` where no magazine with elements was at
+    /// the depot, `HeadSpent` where the count of a stack there was read spent, and `Contended`
+    /// after as many lost exchanges as the depot allows. Nothing is said of `out` then, and the
+    /// loans are as before. What came from the depot meanwhile stays with the worker; but where the
+    /// depot leaves nothing with workers it goes back, if it is taken.
+    #[inline(always)]
+    pub fn get(&mut self, depot: &Depot, out: &mut [u64], loans: &mut Loans) -> Result<(), Cause>
+        requires of { IsWorker depot.now self.old }
+        requires loans { AreOf depot.now loans.old }
+        ensures of { IsWorker depot.now self.new }
+        ensures loans { AreOf depot.now loans.new }
+        ensures once { AreOnce depot.now loans.new }
+        ensures got { GetsLoans depot.now.tries (lent_list result out.new) self.old loans.old
+            self.new loans.new }
+        ensures count { GetsCount (lent_list result out.new) self.old self.new }
+    {
+        self.rack.take_in(depot, loans);
+        match self.rack.get(depot, out) {
+            Ok(()) => {
+                self.rack.let_out(depot, loans);
+                self.count = self.count.wrapping_sub(out.len() as u64);
+                Ok(())
+            }
+            Err(cause) => {
+                self.rack.let_out(depot, loans);
+                Err(cause)
+            }
+        }
+    }
+
+    /// Puts a list of elements of which there are loans, whichever workers got them: all of them,
+    /// or none. No two loans are of one element, so the list names each once.
+    ///
+    /// Refused, where its magazines have no room for it, `NoMagazine` where no empty magazine was
+    /// at the depot, and `HeadSpent` and `Contended` as a get is. The elements are lent as before
+    /// then.
+    #[inline(always)]
+    pub fn put(&mut self, depot: &Depot, list: &[u64], loans: &mut Loans) -> Result<(), Cause>
+        requires of { IsWorker depot.now self.old }
+        requires loans { AreOf depot.now loans.old }
+        requires lent { (i : ℕ) → bag list.now i ≤ bag (elements loans.old) i }
+        ensures of { IsWorker depot.now self.new }
+        ensures loans { AreOf depot.now loans.new }
+        ensures once { AreOnce depot.now loans.new }
+        ensures put { PutsLoans depot.now.tries list.now result self.old loans.old self.new
+            loans.new }
+        ensures count { PutsCount list.now result self.old self.new }
+    {
+        self.rack.take_in(depot, loans);
+        match self.rack.put(depot, list) {
+            Ok(()) => {
+                self.rack.let_out(depot, loans);
+                self.count = self.count.wrapping_add(list.len() as u64);
+                Ok(())
+            }
+            Err(cause) => {
+                self.rack.let_out(depot, loans);
+                Err(cause)
+            }
+        }
+    }
+
+    /// Gets one element, and adds its loan.
+    ///
+    /// Refused as `get` is.
+    #[inline(always)]
+    pub fn get_one(&mut self, depot: &Depot, loans: &mut Loans) -> Result<u64, Cause>
+        requires of { IsWorker depot.now self.old }
+        requires loans { AreOf depot.now loans.old }
+        ensures of { IsWorker depot.now self.new }
+        ensures loans { AreOf depot.now loans.new }
+        ensures once { AreOnce depot.now loans.new }
+        ensures got { GetsLoans depot.now.tries (lent_one result) self.old loans.old self.new
+            loans.new }
+        ensures count { GetsCount (lent_one result) self.old self.new }
+    {
+        self.rack.take_in(depot, loans);
+        match self.rack.get_one(depot) {
+            Ok(value) => {
+                self.rack.let_out(depot, loans);
+                self.count = self.count.wrapping_sub(1);
+                Ok(value)
+            }
+            Err(cause) => {
+                self.rack.let_out(depot, loans);
+                Err(cause)
+            }
+        }
+    }
+
+    /// Puts one element of which there is a loan, whichever worker got it.
+    ///
+    /// Refused as `put` is.
+    #[inline(always)]
+    pub fn put_one(&mut self, depot: &Depot, value: u64, loans: &mut Loans) -> Result<(), Cause>
+        requires of { IsWorker depot.now self.old }
+        requires loans { AreOf depot.now loans.old }
+        requires lent { (i : ℕ) → bag (value ∷ []) i ≤ bag (elements loans.old) i }
+        ensures of { IsWorker depot.now self.new }
+        ensures loans { AreOf depot.now loans.new }
+        ensures once { AreOnce depot.now loans.new }
+        ensures put { PutsLoans depot.now.tries (value ∷ []) result self.old loans.old self.new
+            loans.new }
+        ensures count { PutsCount (value ∷ []) result self.old self.new }
+    {
+        self.rack.take_in(depot, loans);
+        match self.rack.put_one(depot, value) {
+            Ok(()) => {
+                self.rack.let_out(depot, loans);
+                self.count = self.count.wrapping_add(1);
+                Ok(())
+            }
+            Err(cause) => {
+                self.rack.let_out(depot, loans);
+                Err(cause)
+            }
+        }
+    }
+
+    /// Gives all elements in its magazines to the depot, where any worker gets them. It keeps two
+    /// magazines, or more where the depot took none back.
+    ///
+    /// Refused `NoMagazine`, `HeadSpent` and `Contended` as a put is, and `Contended` also where
+    /// other flushes came in between again and again. What has gone to the depot by then is there.
+    pub fn flush(&mut self, depot: &Depot) -> Result<(), Cause>
+        requires of { IsWorker depot.now self.old }
+        ensures of { IsWorker depot.now self.new }
+        ensures empty { IfOk result (λ _. length (cached self.new) ≡ 0) }
+        ensures cause { IfErr result (λ cause. IsCause depot.now.tries cause (log_of self.old)
+            (log_of self.new)) }
+        ensures count { count_of self.new ≡ count_of self.old }
+    {
+        self.rack.flush(depot)
+    }
+
+    /// Ends a worker. Its elements and its magazines go to the depot, as far as it takes them; what
+    /// is left stays where it is.
+    pub fn end(self, depot: &Depot)
+        requires of { IsWorker depot.now self }
+    {
+        let Worker { rack, count: _ } = self;
+        rack.end(depot);
+    }
+
+    /// Ends a worker that has died. What it has stays where it is.
+    pub fn lose(self) {
+        let Worker { rack, count: _ } = self;
+        rack.lose();
+    }
+}
