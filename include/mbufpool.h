@@ -1,13 +1,13 @@
 /* mbufpool.h - the packet-buffer pool as a C library (libmbufpool).
  *
- * Four faces, each behind handles that the caller keeps:
+ * Three faces, each behind handles that the caller keeps:
  *
- *   struct mbufpool_seat     the bare stack of elements, 0 to population - 1, which up to 64
- *                            threads use at once without a lock, each by a seat of its own: what
- *                            stands below a mempool
- *   struct mbufpool_checked  the same by one seat, which takes back only what it gave
- *   struct mbufpool_guard    the same by up to 64 threads at once, each with a cache: what isn't out
- *                            is refused, whoever puts it, and each element that is out says who got it
+ *   struct mbufpool_pool     values of 64 bits, the addresses of objects, say: a worker has two
+ *                            magazines of them, and exchanges one at the pool's depot, without a
+ *                            lock, where both are empty or full
+ *   struct mbufpool_guard    elements, 0 to population - 1, on a stack that up to 64 threads use at
+ *                            once without a lock, each by a worker with a cache: what isn't out is
+ *                            refused, whoever puts it, and each element that is out says who got it
  *   struct mbufpool_worker   packets over such a pool: a worker has a cache and a table of 256
  *                            packets, with lengths, chains, reference counts, clones, and desks
  *                            over which a packet passes to another worker; a pool of packets that
@@ -27,19 +27,20 @@
  *   answered 0.
  *
  *   NULL for a handle is answered as a handle with zeros is, and a call that ends a handle does nothing
- *   then: in each call but those of bare and of checked seats. Where it is the handle that the call would
- *   give something, it is refused by MBUFPOOL_STRANGER before all else. The test for it is in line, in a
+ *   then. Where it is the handle that the call would give something, it is refused by MBUFPOOL_STRANGER
+ *   before all else. The test for it is in line, in a
  *   macro of the call's name: a call by the function's address, or written as
  *   (mbufpool_worker_free)(worker, slot), goes without.
  *
  *   Memory is taken, and MBUFPOOL_NO_MEMORY answered, by the calls that open, split or close a pool
  *   alone; the two that write a statement take some for a while, and answer 0 where there is none. A
- *   pool's memory is freed with its last seat or worker, or when it is closed.
+ *   pool's memory is freed with its last worker, or when it is closed.
  *
  * What the caller owes, and nothing checks:
  *
  *   handles    A handle begins as zeros (MBUFPOOL_NONE), and is then changed by the calls below
- *              alone. It is not copied: two structs with one pointer are two owners of one seat.
+ *              alone. It is not copied: two structs with one pointer are two owners of one
+ *              worker.
  *              One thread at a time uses it; it passes to another thread by a lock, a thread's
  *              start or join, or a sequentially consistent atomic. It is NULL only where that is
  *              answered, as is said above.
@@ -48,10 +49,11 @@
  *   memory     `out` has room for n of its kind and `list` has n numbers; where n is 0 nothing is
  *              read or written there. What the pointers of one call lead to doesn't overlap (two
  *              handles are two structs), and is the call's alone while it runs.
- *   elements   (seats alone) Each number that is put was got by a seat of this pool, by whichever
- *              thread, and not put since: so a list has it once. It doesn't matter whether that seat
- *              is ended by now. An element passes from thread to thread as a handle does, or by any
- *              exchange of theirs that orders memory.
+ *   values     (pools of values alone) Each value that is put was got from this pool, by whichever
+ *              worker, and not put since, or never put; a list has none of them twice; and each is below
+ *              UINT64_MAX. It doesn't matter whether the worker that got it is ended by now. A value
+ *              passes from thread to thread as a handle does, or by any exchange of theirs that orders
+ *              memory. Else one value may be given to two callers.
  *   process    malloc, realloc and free are of one allocator and give blocks aligned as C asks; no
  *              call is made from a signal handler, or in a forked child of a process with threads.
  *
@@ -88,11 +90,12 @@ uint32_t mbufpool_version(void);
 enum mbufpool_refusal {
 	MBUFPOOL_BAD_POOL = 1,		/**< limits out of range */
 	MBUFPOOL_NO_MEMORY = 2,
-	MBUFPOOL_NO_ENTRIES = 3,	/**< fewer elements than were asked for were counted */
+	MBUFPOOL_NO_ENTRIES = 3,	/**< fewer elements than were asked for were counted, or fewer values were
+					 * with the worker and none at the depot */
 	MBUFPOOL_CONTENDED = 4,		/**< as many tries were lost to other threads as the pool allows: try
 					 * again */
-	MBUFPOOL_HEAD_SPENT = 5,	/**< 2^40 - 1 changes of the stack were made: the pool is at its
-					 * end */
+	MBUFPOOL_HEAD_SPENT = 5,	/**< as many changes of the stack were made as it counts: the pool is at
+					 * its end */
 	MBUFPOOL_REF_SPENT = 6,		/**< the reference count is at its limit */
 	MBUFPOOL_TOO_MANY_SEGS = 7,
 	MBUFPOOL_NO_ROOM = 8,
@@ -106,20 +109,19 @@ enum mbufpool_refusal {
 	MBUFPOOL_DESK_TAKEN = 15,
 	MBUFPOOL_DESK_EMPTY = 16,
 	MBUFPOOL_NO_SUCH_DESK = 17,
-	MBUFPOOL_STRANGER = 19,		/**< the handle is NULL or has no seat or worker, or the pool has
-					 * no more of them */
+	MBUFPOOL_STRANGER = 19,		/**< the handle is NULL or has no worker, or the pool has no more of
+					 * them */
 	MBUFPOOL_SAME_PACKET = 23,
-	MBUFPOOL_NOT_IN_HAND = 24,	/**< (checked seats alone) the list names what the seat hasn't got, or
-					 * something twice */
 	MBUFPOOL_MISUSED = 25,		/**< (mbufpool_worker_close alone) a handle was used by another thread
 					 * meanwhile: the workers are ended */
 	MBUFPOOL_NOT_OUT = 26,		/**< (guarded pools alone) of what was to be put not each was out */
 	MBUFPOOL_NOBODY = 27,		/**< (guarded pools alone) a get with a number below 2 */
 	MBUFPOOL_UNRESTED = 28,		/**< (guarded pools alone) a word that must be 0 wasn't: no run has
 					 * met it */
-	MBUFPOOL_LENT_OUT = 29,		/**< (seats, guarded pools) this seat has lent its part of the pool,
+	MBUFPOOL_LENT_OUT = 29,		/**< (guarded pools alone) this worker has lent its part of the pool,
 					 * 2^56 elements more than it put: at 10^8 a second that takes 22
-					 * years; get by another seat, or put by this one */
+					 * years; get by another worker, or put by this one */
+	MBUFPOOL_NO_MAGAZINE = 30,	/**< (pools of values alone) no empty magazine was at the depot */
 };
 
 /**
@@ -141,11 +143,11 @@ static inline const char *mbufpool_strerror(uint32_t status)
 	case MBUFPOOL_NO_MEMORY:
 		return "no memory: memory was refused";
 	case MBUFPOOL_NO_ENTRIES:
-		return "no entries: fewer elements than were asked for were counted";
+		return "no entries: there are fewer than were asked for";
 	case MBUFPOOL_CONTENDED:
 		return "contended: as many tries were lost to other threads as the pool allows, try again";
 	case MBUFPOOL_HEAD_SPENT:
-		return "head spent: 2^40 - 1 changes of the stack were made, the pool is at its end";
+		return "head spent: no change of the stack is left, the pool is at its end";
 	case MBUFPOOL_REF_SPENT:
 		return "ref spent: the reference count is at its limit";
 	case MBUFPOOL_TOO_MANY_SEGS:
@@ -174,8 +176,6 @@ static inline const char *mbufpool_strerror(uint32_t status)
 		return "stranger: the handle has nothing of this pool, or the pool has no more to make";
 	case MBUFPOOL_SAME_PACKET:
 		return "same packet: both slots are one";
-	case MBUFPOOL_NOT_IN_HAND:
-		return "not in hand: the list names what the seat hasn't got, or something twice";
 	case MBUFPOOL_MISUSED:
 		return "misused: another thread used a worker while its pool was closed";
 	case MBUFPOOL_NOT_OUT:
@@ -185,7 +185,9 @@ static inline const char *mbufpool_strerror(uint32_t status)
 	case MBUFPOOL_UNRESTED:
 		return "unrested: the word of an element that isn't out wasn't 0";
 	case MBUFPOOL_LENT_OUT:
-		return "lent out: the seat has lent its part of the pool, get by another or put by this one";
+		return "lent out: the worker has lent its part of the pool, get by another or put by this one";
+	case MBUFPOOL_NO_MAGAZINE:
+		return "no magazine: no empty magazine was at the depot";
 	default:
 		return "unknown status";
 	}
@@ -194,9 +196,194 @@ static inline const char *mbufpool_strerror(uint32_t status)
 /** What each handle begins as. */
 #define MBUFPOOL_NONE { 0 }
 
-/* ---- the bare stack ----
+/* ---- pools of values ----
  *
- * What the stack refuses, by a seat here and by whatever is over a stack below:
+ * After Bonwick and Adams, "Magazines and Vmem" (USENIX 2001). A magazine is an array of values, as many as
+ * the pool's magazines have room for: 8 to 128. A worker has two of them, and gets and puts as plain memory
+ * while these serve. Where they don't, it exchanges a magazine at the pool's depot, which has three stacks:
+ * of full ones, of empty ones, and of one at most that is partly full. A list of whatever length is got and
+ * put whole, or not at all.
+ *
+ * A pool begins without values: a program puts what its pool is to have, and gets and puts after that. What
+ * it owes of values stands at the head of this file, under "values".
+ *
+ * What lies in a worker's magazines no other worker gets, until it is flushed: so a get may be refused
+ * MBUFPOOL_NO_ENTRIES while others have some. How many these can be depends on the pool's size: with 32
+ * values or more for each worker, all workers keep at most half of the pool's values; of a smaller pool none
+ * keeps any, since each of its gets and puts ends with a flush.
+ *
+ * What an exchange is refused for, here and below:
+ *   MBUFPOOL_HEAD_SPENT  a stack was changed 2^48 - 1 times: 57 years at 10 million packets a second
+ *   MBUFPOOL_CONTENDED   `tries` exchanges were lost to other threads */
+
+/** A worker of a pool of values, or none where the pointer is null. The pointer is the library's. */
+struct mbufpool_pool { void *worker; };
+
+/**
+ * Makes a pool without values, and its first worker.
+ *
+ * @param values
+ *   How many values it is to have at most. It isn't refused more, but may lack magazines then.
+ * @param workers
+ *   How many workers can be made of the pool in all, this one and those that are ended by then among
+ *   them: 1 at least.
+ * @param tries
+ *   How many lost exchanges a call makes before it is refused MBUFPOOL_CONTENDED: 1 at least.
+ * @param out
+ *   Gets the worker. One that was in it is ended; where the call is refused, it stays.
+ * @return
+ *   - 0: the pool is made.
+ *   - MBUFPOOL_STRANGER: `out` is NULL.
+ *   - MBUFPOOL_BAD_POOL: `workers` or `tries` is 0, or it would have more than 65,534 magazines: two, three
+ *     for each worker, and one for as many values as one has room for. Those are the values for each worker
+ *     divided by four: 8 at least, and 128 at most.
+ *   - MBUFPOOL_NO_MEMORY: memory was refused for the depot, or for the worker.
+ */
+uint32_t mbufpool_pool_open(uint64_t values, uint32_t workers, uint32_t tries, struct mbufpool_pool *out);
+
+/**
+ * Makes one more worker of the pool, by its first worker.
+ *
+ * @param pool
+ *   The pool's first worker.
+ * @param out
+ *   Gets the new worker, without values, as mbufpool_pool_open's does.
+ * @return
+ *   - 0: `out` has a worker.
+ *   - MBUFPOOL_STRANGER: `out` is NULL.
+ *   - MBUFPOOL_STRANGER: the handle has no worker, or one that isn't the pool's first, or the pool has no
+ *     more of them.
+ *   - MBUFPOOL_NO_MEMORY: memory was refused for the worker.
+ *   - MBUFPOOL_NO_MAGAZINE, MBUFPOOL_HEAD_SPENT, MBUFPOOL_CONTENDED: it gets no two empty magazines.
+ */
+uint32_t mbufpool_pool_split(struct mbufpool_pool *pool, struct mbufpool_pool *out);
+
+/**
+ * Gets n values: all of them, or none.
+ *
+ * @param pool
+ *   Any worker of the pool.
+ * @param out
+ *   Gets the values. A refused get may have written to it.
+ * @param n
+ *   How many, 0 too.
+ * @return
+ *   - 0: the n values are the caller's.
+ *   - MBUFPOOL_STRANGER
+ *   - MBUFPOOL_NO_ENTRIES: fewer are with this worker, and the depot has no magazine with values.
+ *   - MBUFPOOL_HEAD_SPENT, MBUFPOOL_CONTENDED: by an exchange.
+ *   What came from the depot meanwhile may be with this worker then.
+ */
+uint32_t mbufpool_pool_get(struct mbufpool_pool *pool, uint64_t *out, size_t n);
+
+/**
+ * Gets one value, as mbufpool_pool_get does, in fewer instructions.
+ *
+ * @param pool
+ *   Any worker of the pool.
+ * @param out
+ *   Gets the value; where the call is refused, it is as it was.
+ * @return
+ *   What mbufpool_pool_get answers.
+ */
+uint32_t mbufpool_pool_get_one(struct mbufpool_pool *pool, uint64_t *out);
+
+/**
+ * Puts n values: all of them, or none.
+ *
+ * @param pool
+ *   Any worker of the pool.
+ * @param list
+ *   The values, of which is owed what stands at the head of this file.
+ * @param n
+ *   How many, 0 too.
+ * @return
+ *   - 0: they are with this worker, or at the depot.
+ *   - MBUFPOOL_STRANGER
+ *   - MBUFPOOL_NO_MAGAZINE: the worker has no room for them, and the depot no empty magazine. That isn't
+ *     met while the pool has no more values than it was opened for.
+ *   - MBUFPOOL_HEAD_SPENT, MBUFPOOL_CONTENDED: by an exchange.
+ *   The caller has them still where they are refused.
+ */
+uint32_t mbufpool_pool_put(struct mbufpool_pool *pool, const uint64_t *list, size_t n);
+
+/**
+ * Puts one value, as mbufpool_pool_put does, in fewer instructions.
+ *
+ * @param pool
+ *   Any worker of the pool.
+ * @param value
+ *   The value.
+ * @return
+ *   What mbufpool_pool_put answers.
+ */
+uint32_t mbufpool_pool_put_one(struct mbufpool_pool *pool, uint64_t value);
+
+/**
+ * Gives all values in a worker's magazines to the depot, where the pool's other workers can get them.
+ *
+ * @param pool
+ *   Any worker of the pool.
+ * @return
+ *   - 0: the worker's magazines are empty.
+ *   - MBUFPOOL_STRANGER
+ *   - MBUFPOOL_NO_MAGAZINE, MBUFPOOL_HEAD_SPENT, MBUFPOOL_CONTENDED: what hasn't gone is with the worker
+ *     still.
+ */
+uint32_t mbufpool_pool_flush(struct mbufpool_pool *pool);
+
+/**
+ * Says what the calls of a worker have put less what they got, modulo 2^64.
+ *
+ * The counts of all workers of a pool, those that are ended by then too, add up to the values that are in
+ * it: in their magazines, and at the depot.
+ *
+ * @param pool
+ *   Any worker of the pool.
+ * @param out
+ *   Gets the count; where the call is refused, it is as it was.
+ * @return
+ *   - 0: it is said.
+ *   - MBUFPOOL_STRANGER
+ */
+uint32_t mbufpool_pool_count(struct mbufpool_pool *pool, uint64_t *out);
+
+/** A magazine in memory: how many values it has, and these. */
+struct mbufpool_magazine { uint64_t unused[7], count, values[128]; };
+
+/**
+ * Says where a magazine of the pool lies: the one in front of this worker. mbufpool_pool_magazines says
+ * where all are.
+ *
+ * @param pool
+ *   Any worker of the pool.
+ * @param front
+ *   Gets where it lies: a struct mbufpool_magazine.
+ * @param number
+ *   Gets its number, from 0.
+ * @param count
+ *   Gets how many there are, side by side, by their numbers. Where the call is refused, all three are as
+ *   they were.
+ * @return
+ *   - 0: it is said.
+ *   - MBUFPOOL_STRANGER
+ */
+uint32_t mbufpool_pool_front(struct mbufpool_pool *pool, void **front, uint64_t *number, uint64_t *count);
+
+/**
+ * Ends a worker, once what is in its magazines is at the depot. What the depot refuses is lost.
+ *
+ * What the worker has got and not put may still be put, by any other worker. Once the first worker is ended
+ * no more are made.
+ *
+ * @param pool
+ *   The worker; the handle has zeros then.
+ */
+void mbufpool_pool_end(struct mbufpool_pool *pool);
+
+/* ---- guarded pools ----
+ *
+ * What the stack refuses, by a worker here and by a worker of packets below:
  *
  *   a get   reserves n elements by the stack's length word, and then takes them off its head:
  *             MBUFPOOL_NO_ENTRIES  the length word counts fewer than n
@@ -211,231 +398,8 @@ static inline const char *mbufpool_strerror(uint32_t status)
  *
  * Each get and each put that succeeds, of whatever length but 0, takes one of 2^40 - 1 changes.
  *
- * A seat's part of the pool is 2^56 elements that it can have lent: got, and not put by itself. The
- * first seat has besides 2^56 for each seat that hasn't been split off it yet. */
-
-/** A seat, or none where the pointer is null. The pointer is the library's. */
-struct mbufpool_seat { void *at; };
-
-/**
- * Makes a pool of elements, all on the stack, and its first seat.
- *
- * @param population
- *   How many elements: 1 to 16,777,214.
- * @param seats
- *   How many seats can be made of the pool in all, this one and those that are ended by then among
- *   them: 1 to 64.
- * @param tries
- *   How many lost tries a call makes before it is refused MBUFPOOL_CONTENDED: 1 to 1,000,000.
- * @param out
- *   Gets the seat. A seat that was in it is ended; where the call is refused, it stays.
- * @return
- *   - 0: the pool is made.
- *   - MBUFPOOL_BAD_POOL: one of the three numbers is out of range.
- *   - MBUFPOOL_NO_MEMORY: memory was refused for the words of the pool, or for the seat.
- */
-uint32_t mbufpool_seat_open(uint32_t population, uint32_t seats, uint32_t tries,
-	struct mbufpool_seat *out);
-
-/**
- * Makes a pool whose stack counts its changes from `start` on, as if so many had been made before: so
- * the end of a pool can be met in a test.
- *
- * @param population,seats,tries,out
- *   As mbufpool_seat_open has them.
- * @param start
- *   How many changes count as made: 0 to 2^40 - 1.
- * @return
- *   What mbufpool_seat_open answers; MBUFPOOL_BAD_POOL also where `start` is out of range.
- */
-uint32_t mbufpool_seat_open_at(uint32_t population, uint32_t seats, uint32_t tries, uint64_t start,
-	struct mbufpool_seat *out);
-
-/**
- * Makes one more seat of the pool, by its first seat.
- *
- * @param seat
- *   The pool's first seat.
- * @param out
- *   Gets the new seat, as mbufpool_seat_open's does.
- * @return
- *   - 0: `out` has a seat, with 2^56 elements of the first seat's part of the pool.
- *   - MBUFPOOL_STRANGER: the handle has no seat, or one that isn't the pool's first, or the pool has no
- *     more of them.
- *   - MBUFPOOL_LENT_OUT: so much of the first seat's part of the pool is lent that no seat's is left.
- *   - MBUFPOOL_NO_MEMORY: memory was refused; the first seat has its part of the pool back.
- */
-uint32_t mbufpool_seat_split(struct mbufpool_seat *seat, struct mbufpool_seat *out);
-
-/**
- * Gets n elements: all of them, or none.
- *
- * @param seat
- *   The seat that lends them to the caller.
- * @param out
- *   Gets their numbers, 0 to population - 1, the top of the stack first. A refused get may have written
- *   to it.
- * @param n
- *   How many. Where it is 0 the answer is 0, whatever the handle has.
- * @return
- *   - 0: the n elements are the caller's.
- *   - MBUFPOOL_STRANGER
- *   - MBUFPOOL_LENT_OUT: the seat has lent its part of the pool, or would have by this list.
- *   - MBUFPOOL_NO_ENTRIES, MBUFPOOL_CONTENDED, MBUFPOOL_HEAD_SPENT: by the stack, as a get.
- */
-uint32_t mbufpool_seat_get(struct mbufpool_seat *seat, uint32_t *out, size_t n);
-
-/**
- * Puts n elements back: all of them, or none.
- *
- * What is owed of them stands at the head of this file, under "elements".
- *
- * @param seat
- *   Any seat of the pool.
- * @param list
- *   Their numbers. The last is on top of the stack then.
- * @param n
- *   How many, 0 as of a get.
- * @return
- *   - 0: they are on the stack.
- *   - MBUFPOOL_STRANGER
- *   - MBUFPOOL_HEAD_SPENT, MBUFPOOL_CONTENDED: by the stack, as a put; the caller has them still.
- */
-uint32_t mbufpool_seat_put(struct mbufpool_seat *seat, const uint32_t *list, size_t n);
-
-/**
- * Says how many elements are on the stack.
- *
- * To see at the end whether all elements are back: let each seat put what it has got, wait for all
- * threads, and call this by any seat before the seats are ended. What is missing from the population
- * then was not put.
- *
- * @param seat
- *   Any seat of the pool.
- * @return
- *   How many the stack's length word counts, 0 to population; 0 where the handle has no seat. While
- *   other threads are within calls it may lag behind.
- */
-uint32_t mbufpool_seat_count(struct mbufpool_seat *seat);
-
-/**
- * Says how many changes of the stack are left, by one read; other threads may take some meanwhile.
- *
- * Once none is left each get and each put is refused by MBUFPOOL_HEAD_SPENT, but a get of more than
- * there is, which is refused before. mbufpool_renewing.h has a pool that goes over to a new stack in time.
- *
- * @param seat
- *   Any seat of the pool.
- * @return
- *   0 to 2^40 - 1; 0 also where the handle has no seat.
- */
-uint64_t mbufpool_seat_changes_left(struct mbufpool_seat *seat);
-
-/**
- * Ends a seat.
- *
- * What the seat has got and not put may still be put, by any other seat; it is lost to the pool where
- * nobody does. Once the first seat is ended no more are made.
- *
- * @param seat
- *   The seat; the handle has zeros then.
- */
-void mbufpool_seat_end(struct mbufpool_seat *seat);
-
-/* ---- the bare stack, checked ----
- *
- * One seat of a pool, which keeps a mark for each element that it has got. A list that isn't all in
- * its hand is refused by MBUFPOOL_NOT_IN_HAND, and nothing changes: a double free, an element that
- * was never got, a number out of range. So the caller owes nothing of elements, whoever puts what
- * was got; several threads use it in turn, under a lock of theirs.
- *
- * It loses no try, as nobody else is at its stack, and lends nothing: so it is never refused by
- * MBUFPOOL_CONTENDED or MBUFPOOL_LENT_OUT. */
-
-/** A checked seat, or none where the pointer is null. The pointer is the library's. */
-struct mbufpool_checked { void *at; };
-
-/**
- * Makes a pool of elements, all on the stack, with one checked seat.
- *
- * @param population,tries,out
- *   As mbufpool_seat_open has them.
- * @return
- *   What mbufpool_seat_open answers; MBUFPOOL_NO_MEMORY also where there is none for the marks.
- */
-uint32_t mbufpool_checked_open(uint32_t population, uint32_t tries, struct mbufpool_checked *out);
-
-/**
- * Makes such a pool of a stack that counts its changes from `start` on.
- *
- * @param population,tries,start,out
- *   As mbufpool_seat_open_at has them.
- * @return
- *   What mbufpool_checked_open answers; MBUFPOOL_BAD_POOL also for `start`.
- */
-uint32_t mbufpool_checked_open_at(uint32_t population, uint32_t tries, uint64_t start,
-	struct mbufpool_checked *out);
-
-/**
- * Gets n elements into the seat's hand: all of them, or none.
- *
- * @param seat
- *   The pool's seat.
- * @param out,n
- *   As mbufpool_seat_get has them.
- * @return
- *   - 0: the n elements are the caller's.
- *   - MBUFPOOL_STRANGER
- *   - MBUFPOOL_NO_ENTRIES, MBUFPOOL_HEAD_SPENT: by the stack, as a get.
- */
-uint32_t mbufpool_checked_get(struct mbufpool_checked *seat, uint32_t *out, size_t n);
-
-/**
- * Puts n elements back, whatever they are: all of them, or none.
- *
- * @param seat
- *   The seat that got them.
- * @param list
- *   Any numbers.
- * @param n
- *   How many, 0 as of a get.
- * @return
- *   - 0: they are on the stack, the last on top.
- *   - MBUFPOOL_STRANGER
- *   - MBUFPOOL_NOT_IN_HAND: a number isn't in the seat's hand, or stands in the list before.
- *   - MBUFPOOL_HEAD_SPENT: by the stack, as a put; they are in the seat's hand still.
- */
-uint32_t mbufpool_checked_put(struct mbufpool_checked *seat, const uint32_t *list, size_t n);
-
-/**
- * Says how many elements aren't in the seat's hand: they are on its stack.
- *
- * @param seat
- *   The pool's seat.
- * @return
- *   0 to population; 0 also where the handle has no seat.
- */
-uint32_t mbufpool_checked_count(struct mbufpool_checked *seat);
-
-/**
- * Says how many changes of a checked seat's stack are left.
- *
- * @param seat
- *   The pool's seat.
- * @return
- *   What mbufpool_seat_changes_left answers.
- */
-uint64_t mbufpool_checked_changes_left(struct mbufpool_checked *seat);
-
-/**
- * Ends a checked seat, and with it its pool and the pool's memory.
- *
- * @param seat
- *   The seat; the handle has zeros then. What is in its hand is lost.
- */
-void mbufpool_checked_end(struct mbufpool_checked *seat);
-
-/* ---- the bare stack, guarded ----
+ * A worker's part of a guarded pool is 2^56 elements that it can have lent: got, and not put by itself.
+ * The first worker has besides 2^56 for each worker that hasn't been split off it yet.
  *
  * A worker of a guarded pool: a cache of elements, over the stack that all workers of the pool share.
  * An element is in one place: on the stack, in a worker's cache, or out. While it is out, a word of its
@@ -466,9 +430,10 @@ struct mbufpool_guard { void *at; };
  * @param cache
  *   How many a worker's cache keeps: 0 to 512, three halves of it, rounded down, at most the population.
  * @param workers
- *   How many workers can be made of the pool, counted as the seats of mbufpool_seat_open: 1 to 64.
+ *   How many workers can be made of the pool in all, this one and those that are ended by then among
+ *   them: 1 to 64.
  * @param tries
- *   As mbufpool_seat_open has it.
+ *   How many lost tries a call makes before it is refused MBUFPOOL_CONTENDED: 1 to 1,000,000.
  * @param out
  *   Gets the worker. One that was in it is lost with what is in its cache: end it before, by
  *   mbufpool_guard_end. Where the call is refused, it stays.
@@ -483,12 +448,13 @@ uint32_t mbufpool_guard_open(uint32_t population, uint32_t cache, uint32_t worke
 	struct mbufpool_guard *out);
 
 /**
- * Makes a guarded pool of a stack that counts its changes from `start` on. To open it takes two of them.
+ * Makes a guarded pool of a stack that counts its changes from `start` on, as if so many had been made
+ * before: so the end of a pool can be met in a test. To open it takes two of them.
  *
  * @param population,cache,workers,tries,out
  *   As mbufpool_guard_open has them.
  * @param start
- *   As mbufpool_seat_open_at has it.
+ *   How many changes count as made: 0 to 2^40 - 1.
  * @return
  *   - 0: the pool is made.
  *   - MBUFPOOL_STRANGER: `out` is NULL.
@@ -509,7 +475,9 @@ uint32_t mbufpool_guard_open_at(uint32_t population, uint32_t cache, uint32_t wo
  * @return
  *   - 0: `out` has a worker.
  *   - MBUFPOOL_STRANGER: `out` is NULL.
- *   - MBUFPOOL_STRANGER, MBUFPOOL_LENT_OUT: as mbufpool_seat_split, of workers.
+ *   - MBUFPOOL_STRANGER: the handle has no worker, or one that isn't the pool's first, or the pool has no
+ *     more of them.
+ *   - MBUFPOOL_LENT_OUT: so much of the first worker's part of the pool is lent that no worker's is left.
  *   - MBUFPOOL_NO_MEMORY: memory was refused. Where it is the last of what a split asks for, the pool can
  *     make one worker fewer from then on, as if one was made and ended.
  */
@@ -530,7 +498,7 @@ uint32_t mbufpool_guard_split(struct mbufpool_guard *worker, struct mbufpool_gua
  *   - 0: the n elements are the caller's.
  *   - MBUFPOOL_NOBODY: `who` is below 2.
  *   - MBUFPOOL_STRANGER
- *   - MBUFPOOL_LENT_OUT: as mbufpool_seat_get.
+ *   - MBUFPOOL_LENT_OUT: the worker has lent its part of the pool, or would have by this list.
  *   - MBUFPOOL_NO_ENTRIES, MBUFPOOL_CONTENDED, MBUFPOOL_HEAD_SPENT: by the stack, as a get, where the
  *     cache can't serve it.
  *   - MBUFPOOL_UNRESTED: the word of an element that was got wasn't 0, which is overwritten memory. The
@@ -572,7 +540,7 @@ uint32_t mbufpool_guard_put(struct mbufpool_guard *worker, uint32_t *list, size_
  * @param worker
  *   Any worker of the pool.
  * @return
- *   What mbufpool_seat_changes_left answers, of a worker.
+ *   0 to 2^40 - 1, by one read; 0 also where the handle has no worker. Others may take some meanwhile.
  */
 uint64_t mbufpool_guard_changes_left(struct mbufpool_guard *worker);
 
@@ -1097,8 +1065,82 @@ size_t mbufpool_statement_lost(struct mbufpool_statement *statement, uint32_t *o
  */
 void mbufpool_statement_end(struct mbufpool_statement *statement);
 
-/* NULL for a handle: of each call of a guarded pool, of packets and of what a pool left, the test and the
- * macro that makes it. The functions above, which the library exports, are owed a handle. */
+/* NULL for a handle: of each call the test and the macro that makes it. The functions above, which the
+ * library exports, are owed a handle. */
+
+static inline uint32_t mbufpool_nullable_pool_open(uint64_t values, uint32_t workers,
+	uint32_t tries, struct mbufpool_pool *out)
+{
+	if (out == NULL)
+		return MBUFPOOL_STRANGER;
+	return mbufpool_pool_open(values, workers, tries, out);
+}
+
+static inline uint32_t mbufpool_nullable_pool_split(struct mbufpool_pool *pool,
+	struct mbufpool_pool *out)
+{
+	if (pool == NULL || out == NULL)
+		return MBUFPOOL_STRANGER;
+	return mbufpool_pool_split(pool, out);
+}
+
+static inline uint32_t mbufpool_nullable_pool_get(struct mbufpool_pool *pool, uint64_t *out,
+	size_t n)
+{
+	if (pool == NULL)
+		return MBUFPOOL_STRANGER;
+	return mbufpool_pool_get(pool, out, n);
+}
+
+static inline uint32_t mbufpool_nullable_pool_get_one(struct mbufpool_pool *pool, uint64_t *out)
+{
+	if (pool == NULL)
+		return MBUFPOOL_STRANGER;
+	return mbufpool_pool_get_one(pool, out);
+}
+
+static inline uint32_t mbufpool_nullable_pool_put(struct mbufpool_pool *pool, const uint64_t *list,
+	size_t n)
+{
+	if (pool == NULL)
+		return MBUFPOOL_STRANGER;
+	return mbufpool_pool_put(pool, list, n);
+}
+
+static inline uint32_t mbufpool_nullable_pool_put_one(struct mbufpool_pool *pool, uint64_t value)
+{
+	if (pool == NULL)
+		return MBUFPOOL_STRANGER;
+	return mbufpool_pool_put_one(pool, value);
+}
+
+static inline uint32_t mbufpool_nullable_pool_flush(struct mbufpool_pool *pool)
+{
+	if (pool == NULL)
+		return MBUFPOOL_STRANGER;
+	return mbufpool_pool_flush(pool);
+}
+
+static inline uint32_t mbufpool_nullable_pool_count(struct mbufpool_pool *pool, uint64_t *out)
+{
+	if (pool == NULL)
+		return MBUFPOOL_STRANGER;
+	return mbufpool_pool_count(pool, out);
+}
+
+static inline uint32_t mbufpool_nullable_pool_front(struct mbufpool_pool *pool, void **front,
+	uint64_t *number, uint64_t *count)
+{
+	if (pool == NULL)
+		return MBUFPOOL_STRANGER;
+	return mbufpool_pool_front(pool, front, number, count);
+}
+
+static inline void mbufpool_nullable_pool_end(struct mbufpool_pool *pool)
+{
+	if (pool != NULL)
+		mbufpool_pool_end(pool);
+}
 
 static inline uint32_t mbufpool_nullable_guard_open(uint32_t population, uint32_t cache,
 	uint32_t workers, uint32_t tries, struct mbufpool_guard *out)
@@ -1382,6 +1424,16 @@ static inline void mbufpool_nullable_statement_end(struct mbufpool_statement *st
 		mbufpool_statement_end(statement);
 }
 
+#define mbufpool_pool_open(...) mbufpool_nullable_pool_open(__VA_ARGS__)
+#define mbufpool_pool_split(...) mbufpool_nullable_pool_split(__VA_ARGS__)
+#define mbufpool_pool_get(...) mbufpool_nullable_pool_get(__VA_ARGS__)
+#define mbufpool_pool_get_one(...) mbufpool_nullable_pool_get_one(__VA_ARGS__)
+#define mbufpool_pool_put(...) mbufpool_nullable_pool_put(__VA_ARGS__)
+#define mbufpool_pool_put_one(...) mbufpool_nullable_pool_put_one(__VA_ARGS__)
+#define mbufpool_pool_flush(...) mbufpool_nullable_pool_flush(__VA_ARGS__)
+#define mbufpool_pool_count(...) mbufpool_nullable_pool_count(__VA_ARGS__)
+#define mbufpool_pool_front(...) mbufpool_nullable_pool_front(__VA_ARGS__)
+#define mbufpool_pool_end(...) mbufpool_nullable_pool_end(__VA_ARGS__)
 #define mbufpool_guard_open(...) mbufpool_nullable_guard_open(__VA_ARGS__)
 #define mbufpool_guard_open_at(...) mbufpool_nullable_guard_open_at(__VA_ARGS__)
 #define mbufpool_guard_split(...) mbufpool_nullable_guard_split(__VA_ARGS__)
@@ -1418,6 +1470,38 @@ static inline void mbufpool_nullable_statement_end(struct mbufpool_statement *st
 #define mbufpool_statement_json(...) mbufpool_nullable_statement_json(__VA_ARGS__)
 #define mbufpool_statement_lost(...) mbufpool_nullable_statement_lost(__VA_ARGS__)
 #define mbufpool_statement_end(...) mbufpool_nullable_statement_end(__VA_ARGS__)
+
+/**
+ * Says where the magazines of a pool of values lie, for readers of a core or of a running program: what
+ * stands in any of them is in the pool, and nothing else is. They are one array of struct
+ * mbufpool_magazine, of the pool's workers and of its depot, which stays where it is until the pool is
+ * freed. While threads are within calls, what is read may be old or half written.
+ *
+ * @param pool
+ *   Any worker of the pool, or NULL.
+ * @param address
+ *   Gets the address of the first.
+ * @param count
+ *   Gets how many there are.
+ * @param bytes
+ *   Gets how many bytes each has. Where the call is refused, all three are as they were.
+ * @return
+ *   - 0: it is said.
+ *   - MBUFPOOL_STRANGER
+ */
+static inline uint32_t mbufpool_pool_magazines(struct mbufpool_pool *pool, uint64_t *address,
+	uint64_t *count, uint64_t *bytes)
+{
+	void *front = NULL;
+	uint64_t number = 0;
+	uint32_t status = mbufpool_pool_front(pool, &front, &number, count);
+
+	if (status != 0)
+		return status;
+	*bytes = sizeof(struct mbufpool_magazine);
+	*address = (uint64_t)(uintptr_t)front - number * *bytes;
+	return 0;
+}
 
 #ifdef __cplusplus
 }

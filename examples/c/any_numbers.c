@@ -1,7 +1,7 @@
 /* any_numbers.c - every call of the library with any numbers: slots of packets that went, desks that
  * there are not, lengths too great, elements that were never got, handles without a worker, and NULL
  * for a handle. What is answered is held against what must be so, and at the end of a pool every
- * element can be had again. (A bare seat is put what was got and not put since, as its contract asks.)
+ * element can be had again. (A pool of values is put what was got and not put since, as is owed.)
  *
  *     make any_numbers && ./any_numbers [CALLS [THREADS [SEED]]]
  *
@@ -26,14 +26,15 @@ struct thread {
 	uint64_t state;
 	unsigned long calls, answers[STATUSES];
 	struct mbufpool_worker worker;
-	struct mbufpool_seat seat;
-	uint32_t hand[MOST], in_hand; /* what its seat has got */
+	struct mbufpool_pool pool;
+	uint64_t hand[MOST];          /* which values it has got */
+	uint32_t in_hand;
 	unsigned char full[SLOTS];    /* which of its worker's places have a packet */
 	uint32_t slot[SLOTS];         /* the slot of each, or of the next packet there */
 };
 
 static struct mbufpool_limits limits;
-static int taken[MOST]; /* which elements the threads' seats have */
+static int taken[MOST]; /* which values the threads have */
 static unsigned long seed = 1;
 
 /* Ends the program unless this holds. */
@@ -259,88 +260,179 @@ static void clear_worker(struct thread *t)
 	MUST(mbufpool_worker_flush(&t->worker) == 0);
 }
 
-/* ---- seats ---- */
+/* ---- pools of values ---- */
 
-static void got(struct thread *t, const uint32_t *list, uint32_t n)
+/* The value of this number, and the number of a value: any values below UINT64_MAX will do. */
+static uint64_t value_of(uint32_t number)
+{
+	return 0xfedc000000000000u + (uint64_t)number * 7919;
+}
+
+static uint32_t number_of(uint64_t value)
+{
+	MUST(value >= value_of(0) && (value - value_of(0)) % 7919 == 0);
+	return (uint32_t)((value - value_of(0)) / 7919);
+}
+
+static void got(struct thread *t, const uint64_t *list, uint32_t n)
 {
 	uint32_t i;
 
 	for (i = 0; i < n; i++) {
-		MUST(list[i] < limits.population);
-		MUST(__atomic_exchange_n(&taken[list[i]], 1, __ATOMIC_SEQ_CST) == 0);
+		MUST(number_of(list[i]) < limits.population);
+		MUST(__atomic_exchange_n(&taken[number_of(list[i])], 1, __ATOMIC_SEQ_CST) == 0);
 		t->hand[t->in_hand++] = list[i];
 	}
 }
 
-/* One call of a bare seat: it is put elements of its hand, in any order. */
-static void call_seat(struct thread *t)
+static void get_some(struct thread *t, uint32_t n)
 {
-	uint32_t list[MOST], n = any(t) % (below(t, 4) ? 9 : MOST - t->in_hand + 1), i, k, status;
+	uint64_t list[MOST];
+	uint32_t status;
 
-	if (below(t, 2)) {
-		n = n < MOST - t->in_hand ? n : MOST - t->in_hand;
-		status = told(t, mbufpool_seat_get(&t->seat, list, n));
-		MUST(status == 0 || status == MBUFPOOL_NO_ENTRIES || status == MBUFPOOL_CONTENDED);
-		if (status == 0)
-			got(t, list, n);
-		return;
-	}
+	n = n < MOST - t->in_hand ? n : MOST - t->in_hand;
+	list[0] = 77;
+	if (n == 1 && below(t, 2)) {
+		status = told(t, mbufpool_pool_get_one(&t->pool, list));
+		MUST(status == 0 || list[0] == 77);
+	} else
+		status = told(t, mbufpool_pool_get(&t->pool, list, n));
+	MUST(status == 0 || status == MBUFPOOL_NO_ENTRIES || status == MBUFPOOL_CONTENDED);
+	if (status == 0)
+		got(t, list, n);
+}
+
+/* Puts values of its hand, in any order. */
+static void put_some(struct thread *t, uint32_t n)
+{
+	uint64_t list[MOST];
+	uint32_t i, k, status;
+
 	n = n < t->in_hand ? n : t->in_hand;
 	for (i = 0; i < n; i++) {
 		k = below(t, t->in_hand);
 		list[i] = t->hand[k];
 		t->hand[k] = t->hand[--t->in_hand];
-		MUST(__atomic_exchange_n(&taken[list[i]], 0, __ATOMIC_SEQ_CST) == 1);
+		MUST(__atomic_exchange_n(&taken[number_of(list[i])], 0, __ATOMIC_SEQ_CST) == 1);
 	}
-	status = told(t, mbufpool_seat_put(&t->seat, list, n));
+	if (n == 1 && below(t, 2))
+		status = told(t, mbufpool_pool_put_one(&t->pool, list[0]));
+	else
+		status = told(t, mbufpool_pool_put(&t->pool, list, n));
 	MUST(status == 0 || status == MBUFPOOL_CONTENDED);
 	if (status != 0)
 		got(t, list, n);
-	MUST(mbufpool_seat_count(&t->seat) <= limits.population);
 }
 
-/* ---- a checked seat ---- */
-
-/* Some calls of a checked seat of a pool of its own: a put is done where it must be. */
-static void call_checked(struct thread *t)
+static void call_pool(struct thread *t)
 {
-	struct mbufpool_checked seat = MBUFPOOL_NONE;
-	uint32_t population = 1 + below(t, 40), list[MOST], n, i, left = population, status;
-	unsigned char has[64] = { 0 }, named[64];
-	int calls, is_right;
+	uint32_t n = any(t) % (below(t, 4) ? 9 : MOST + 1), status;
 
-	MUST(mbufpool_checked_open(population, 1 + any(t) % 1000000, &seat) == 0);
-	for (calls = 0; calls < 50; calls++) {
-		n = below(t, 6);
-		if (below(t, 2)) {
-			status = told(t, mbufpool_checked_get(&seat, list, n));
-			MUST(status == (n <= left ? 0 : MBUFPOOL_NO_ENTRIES));
-			for (i = 0; status == 0 && i < n; i++) {
-				MUST(list[i] < population && !has[list[i]]);
-				has[list[i]] = 1;
-				left--;
-			}
-			continue;
-		}
-		memset(named, 0, sizeof(named));
-		for (i = 0, is_right = 1; i < n; i++) {
-			list[i] = below(t, 10) ? below(t, population) : any(t);
-			is_right = is_right && list[i] < population && has[list[i]] &&
-				!named[list[i]];
-			named[list[i] < population ? list[i] : 63] = 1;
-		}
-		status = told(t, mbufpool_checked_put(&seat, list, n));
-		MUST(status == (is_right ? 0 : MBUFPOOL_NOT_IN_HAND));
-		for (i = 0; status == 0 && i < n; i++) {
-			has[list[i]] = 0;
-			left++;
-		}
-		MUST(mbufpool_checked_count(&seat) == left);
+	switch (below(t, 40)) {
+	case 0:
+		status = told(t, mbufpool_pool_flush(&t->pool));
+		MUST(status == 0 || status == MBUFPOOL_CONTENDED);
+		break;
+	default:
+		if (below(t, 2))
+			get_some(t, n);
+		else
+			put_some(t, n);
+		break;
 	}
-	mbufpool_checked_end(&seat);
-	MUST(seat.at == NULL);
-	MUST(mbufpool_checked_get(&seat, list, 1) == MBUFPOOL_STRANGER);
-	MUST(mbufpool_checked_put(&seat, list, 1) == MBUFPOOL_STRANGER);
+}
+
+/* Makes the threads' pool, and puts all its values. */
+static void begin_values(struct thread *t, uint32_t threads)
+{
+	uint64_t list[MOST];
+	uint32_t i;
+
+	MUST(mbufpool_pool_open(limits.population, threads, limits.tries, &t[0].pool) == 0);
+	for (i = 0; i < limits.population; i++)
+		list[i] = value_of(i);
+	MUST(mbufpool_pool_put(&t[0].pool, list, limits.population) == 0);
+	for (i = 1; i < threads; i++)
+		MUST(mbufpool_pool_split(&t[0].pool, &t[i].pool) == 0);
+}
+
+/* Each value is in the pool or in a hand, and once they are put and flushed one worker gets them all. */
+static void end_values(struct thread *t, uint32_t threads)
+{
+	uint64_t count, in_pool = 0;
+	uint32_t i, found = 0;
+
+	for (i = 0; i < threads; i++) {
+		MUST(mbufpool_pool_count(&t[i].pool, &count) == 0);
+		in_pool += count;
+		found += t[i].in_hand;
+	}
+	MUST(in_pool + found == limits.population);
+	for (i = 0; i < threads; i++) {
+		MUST(mbufpool_pool_put(&t[i].pool, t[i].hand, t[i].in_hand) == 0);
+		MUST(mbufpool_pool_flush(&t[i].pool) == 0);
+		t[i].in_hand = 0;
+	}
+	memset(taken, 0, sizeof(taken));
+	MUST(mbufpool_pool_get(&t[0].pool, t[0].hand, limits.population) == 0);
+	got(&t[0], t[0].hand, limits.population);
+	memset(taken, 0, sizeof(taken));
+	t[0].in_hand = 0;
+	for (i = 0; i < threads; i++) {
+		mbufpool_pool_end(&t[i].pool);
+		MUST(t[i].pool.worker == NULL);
+	}
+}
+
+/* Whether there can be a pool of values of this size, by the header. */
+static int is_pool_of_values(uint64_t values, uint32_t workers, uint32_t tries)
+{
+	uint64_t rounds;
+
+	if (workers == 0 || tries == 0)
+		return 0;
+	rounds = values / (4 * (uint64_t)workers);
+	rounds = rounds < 8 ? 8 : rounds > 128 ? 128 : rounds;
+	return values / rounds + 2 + 3 * (uint64_t)workers < 65535;
+}
+
+static void open_values(struct thread *t)
+{
+	struct mbufpool_pool pool = MBUFPOOL_NONE, other = MBUFPOOL_NONE;
+	uint64_t values = below(t, 16) ? any(t) : next_number(t), count = 77;
+	uint32_t workers = any(t), tries = any(t), status, i;
+
+	status = told(t, mbufpool_pool_open(values, workers, tries, &pool));
+	MUST(status == (is_pool_of_values(values, workers, tries) ? 0 : MBUFPOOL_BAD_POOL));
+	MUST((pool.worker != NULL) == (status == 0));
+	if (status == 0) {
+		for (i = 1; (status = mbufpool_pool_split(&pool, &other)) == 0; i++)
+			;
+		MUST(status == MBUFPOOL_STRANGER && i == workers);
+		MUST(mbufpool_pool_count(&pool, &count) == 0 && count == 0);
+		MUST(mbufpool_pool_get_one(&pool, &count) == MBUFPOOL_NO_ENTRIES && count == 0);
+		MUST(mbufpool_pool_open(values, 0, tries, &pool) == MBUFPOOL_BAD_POOL && pool.worker != NULL);
+	}
+	mbufpool_pool_end(&pool);
+	mbufpool_pool_end(&other);
+}
+
+/* Each call of a worker that there is not: a handle with zeros, or NULL. */
+static void call_no_pool(struct thread *t, struct mbufpool_pool *none)
+{
+	struct mbufpool_pool other = MBUFPOOL_NONE;
+	uint64_t value = 77;
+
+	MUST(mbufpool_pool_split(none, &other) == MBUFPOOL_STRANGER && other.worker == NULL);
+	MUST(mbufpool_pool_get(none, &value, 1) == MBUFPOOL_STRANGER && value == 77);
+	MUST(mbufpool_pool_get_one(none, &value) == MBUFPOOL_STRANGER && value == 77);
+	MUST(mbufpool_pool_put(none, &value, 1) == MBUFPOOL_STRANGER);
+	MUST(mbufpool_pool_put_one(none, value) == MBUFPOOL_STRANGER);
+	MUST(mbufpool_pool_flush(none) == MBUFPOOL_STRANGER);
+	MUST(mbufpool_pool_count(none, &value) == MBUFPOOL_STRANGER && value == 77);
+	mbufpool_pool_end(none);
+	MUST(mbufpool_pool_open(8, 1, 1, NULL) == MBUFPOOL_STRANGER);
+	t->calls += 9;
 }
 
 /* ---- the end of a pool of packets ---- */
@@ -476,9 +568,8 @@ static void call_none(struct thread *t)
 {
 	struct mbufpool_worker none = MBUFPOOL_NONE;
 	struct mbufpool_guard no_guard = MBUFPOOL_NONE;
-	struct mbufpool_seat no_seat = MBUFPOOL_NONE, other = MBUFPOOL_NONE;
+	struct mbufpool_pool no_pool = MBUFPOOL_NONE;
 	struct mbufpool_statement no_ending = MBUFPOOL_NONE;
-	uint32_t n = 77;
 
 	call_no_worker(t, &none);
 	call_no_worker(t, NULL);
@@ -486,16 +577,14 @@ static void call_none(struct thread *t)
 	call_no_guard(t, NULL);
 	open_none(t);
 	free_stale(t);
-	MUST(mbufpool_seat_split(&no_seat, &other) == MBUFPOOL_STRANGER && other.at == NULL);
-	MUST(mbufpool_seat_get(&no_seat, &n, 1) == MBUFPOOL_STRANGER && n == 77);
-	MUST(mbufpool_seat_put(&no_seat, &n, 1) == MBUFPOOL_STRANGER);
-	mbufpool_seat_end(&no_seat);
+	call_no_pool(t, &no_pool);
+	call_no_pool(t, NULL);
 	MUST(mbufpool_worker_close(&none, 1, &no_ending) == MBUFPOOL_STRANGER && no_ending.at == NULL);
 	MUST(mbufpool_worker_close(&none, 0, &no_ending) == MBUFPOOL_STRANGER);
 	look_at_ending(t, &no_ending);
 	look_at_ending(t, NULL);
 	mbufpool_statement_end(&no_ending);
-	t->calls += 6;
+	t->calls += 2;
 }
 
 /* Whether there can be a pool of these limits, by the header. */
@@ -545,7 +634,6 @@ static void call_open(struct thread *t)
 	struct mbufpool_limits l = { 1 + below(t, MOST), below(t, 64), 1 + below(t, 4), below(t, 4),
 		2048, 10, 10 };
 	struct mbufpool_worker w[4] = { MBUFPOOL_NONE };
-	struct mbufpool_seat seat = MBUFPOOL_NONE, other = MBUFPOOL_NONE;
 	uint32_t n, status, i, there = 0;
 
 	/* (a pool of millions takes its time) */
@@ -573,18 +661,6 @@ static void call_open(struct thread *t)
 		there += w[i].at != NULL;
 	MUST(mbufpool_worker_open(&l, w, 4) == MBUFPOOL_BAD_POOL);
 	close_some(t, w, 4, there);
-	status = told(t, mbufpool_seat_open(l.population, l.desks, l.tries, &seat));
-	MUST((status == 0) ==
-		(l.population >= 1 && l.population <= 16777214 && l.desks >= 1 && l.desks <= 64 &&
-			l.tries >= 1 && l.tries <= 1000000));
-	if (status == 0) {
-		for (i = 1; (status = mbufpool_seat_split(&seat, &other)) == 0; i++)
-			;
-		MUST(status == MBUFPOOL_STRANGER && i == l.desks);
-		MUST(mbufpool_seat_count(&seat) == l.population);
-	}
-	mbufpool_seat_end(&seat);
-	mbufpool_seat_end(&other);
 }
 
 /* ---- a pool, and its end ---- */
@@ -596,16 +672,16 @@ static void *call_all(void *arg)
 
 	while (t->calls < until) {
 		switch (below(t, 1000)) {
-		case 0: call_checked(t); break;
+		case 0: open_values(t); break;
 		case 1: call_open(t); break;
 		case 2: call_none(t); break;
-		default: below(t, 4) ? call_worker(t) : call_seat(t); break;
+		default: below(t, 4) ? call_worker(t) : call_pool(t); break;
 		}
 	}
 	return NULL;
 }
 
-/* One pool of packets and one of bare seats, which all threads call, and after which nothing is
+/* One pool of packets and one of values, which all threads call, and after which nothing is
  * missing. */
 static void one_pool(struct thread *t, uint32_t threads)
 {
@@ -622,11 +698,10 @@ static void one_pool(struct thread *t, uint32_t threads)
 	limits.tries = threads == 1 ? 1 + below(t, 10) : 1000000;
 	MUST(is_pool(&limits));
 	MUST(mbufpool_worker_open(&limits, w, threads) == 0);
-	MUST(mbufpool_seat_open(limits.population, threads, limits.tries, &t[0].seat) == 0);
+	begin_values(t, threads);
 	for (i = 0; i < threads; i++) {
 		t[i].worker = w[i];
 		begin_slots(&t[i]);
-		MUST(i == 0 || mbufpool_seat_split(&t[0].seat, &t[i].seat) == 0);
 		MUST(i == 0 || pthread_create(&t[i].id, NULL, call_all, &t[i]) == 0);
 	}
 	call_all(&t[0]);
@@ -634,18 +709,7 @@ static void one_pool(struct thread *t, uint32_t threads)
 		pthread_join(t[i].id, NULL);
 	for (i = 0; i < threads; i++)
 		clear_worker(&t[i]);
-	for (i = 0; i < threads; i++)
-		found += t[i].in_hand;
-	MUST(mbufpool_seat_count(&t[0].seat) + found == limits.population);
-	for (i = 0; i < threads; i++) {
-		MUST(mbufpool_seat_put(&t[i].seat, t[i].hand, t[i].in_hand) == 0);
-		t[i].in_hand = 0;
-	}
-	memset(taken, 0, sizeof(taken));
-	MUST(mbufpool_seat_get(&t[0].seat, t[0].hand, limits.population) == 0);
-	got(&t[0], t[0].hand, limits.population);
-	memset(taken, 0, sizeof(taken));
-	t[0].in_hand = 0;
+	end_values(t, threads);
 	for (found = 0; mbufpool_worker_alloc(&t[0].worker, &p) == 0; found++)
 		slot[found] = p.slot;
 	MUST(found == limits.population);
@@ -654,8 +718,6 @@ static void one_pool(struct thread *t, uint32_t threads)
 	for (i = 0; i < threads; i++) {
 		w[threads - 1 - i] = t[i].worker;
 		t[i].worker.at = NULL;
-		mbufpool_seat_end(&t[i].seat);
-		MUST(t[i].seat.at == NULL);
 	}
 	close_some(&t[0], w, threads, threads);
 }

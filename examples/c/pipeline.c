@@ -1,8 +1,8 @@
-/* pipeline.c - one thread gets elements, another does something with them, and a third puts them
- * back, each by a seat of its own, without a lock: what a pipeline over several lcores does. The
- * thread that gets ends its seat while the others still have what it got.
+/* pipeline.c - one thread gets objects from a pool, another does something with them, and a third puts
+ * them back, each by a worker of its own, without a lock: what a pipeline over several lcores does. The
+ * thread that gets ends its worker while the others still have what it got.
  *
- *     make pipeline && ./pipeline [LISTS] */
+ *     make pipeline && ./pipeline [OBJECTS] */
 #include <pthread.h>
 #include <sched.h>
 #include <stdio.h>
@@ -10,26 +10,42 @@
 
 #include "mbufpool.h"
 
-#define POPULATION 256
-#define BULK 8
+#define POPULATION 4096
+#define BULK 32
 #define SLOTS 16 /* lists that lie between two threads */
+
+/* What the pool has is the address of each object. */
+struct object {
+	int stage; /* which stage has it, or 0 */
+	unsigned long load; /* in plain accesses */
+};
 
 /* A ring between two threads: a list in each slot, which one thread fills and the other empties. */
 struct ring {
-	uint32_t list[SLOTS][BULK];
+	uint64_t list[SLOTS][BULK];
 	unsigned long sent, taken;
 };
 
 struct stage {
-	struct mbufpool_seat seat;
+	struct mbufpool_pool pool;
 	struct ring *from, *to;
 	unsigned long lists, wrong;
+	uint64_t count; /* what its worker has put less what it got */
 };
 
-static int holder[POPULATION]; /* which stage has the element, or 0 */
-static unsigned char buffer[POPULATION]; /* an element's memory, in plain accesses */
+static struct object objects[POPULATION];
 
-static void send_list(struct ring *r, const uint32_t *list)
+static uint64_t value_of(struct object *it)
+{
+	return (uint64_t)(uintptr_t)it;
+}
+
+static struct object *object_of(uint64_t value)
+{
+	return (struct object *)(uintptr_t)value;
+}
+
+static void send_list(struct ring *r, const uint64_t *list)
 {
 	unsigned long at = __atomic_load_n(&r->sent, __ATOMIC_RELAXED);
 	int k;
@@ -41,7 +57,7 @@ static void send_list(struct ring *r, const uint32_t *list)
 	__atomic_store_n(&r->sent, at + 1, __ATOMIC_SEQ_CST);
 }
 
-static void take_list(struct ring *r, uint32_t *list)
+static void take_list(struct ring *r, uint64_t *list)
 {
 	unsigned long at = __atomic_load_n(&r->taken, __ATOMIC_RELAXED);
 	int k;
@@ -53,12 +69,12 @@ static void take_list(struct ring *r, uint32_t *list)
 	__atomic_store_n(&r->taken, at + 1, __ATOMIC_SEQ_CST);
 }
 
-static void passes(struct stage *s, const uint32_t *list, int from, int to)
+static void passes(struct stage *s, const uint64_t *list, int from, int to)
 {
 	int k, was;
 
 	for (k = 0; k < BULK; k++) {
-		was = __atomic_exchange_n(&holder[list[k]], to, __ATOMIC_SEQ_CST);
+		was = __atomic_exchange_n(&object_of(list[k])->stage, to, __ATOMIC_SEQ_CST);
 		s->wrong += was != from;
 	}
 }
@@ -66,28 +82,30 @@ static void passes(struct stage *s, const uint32_t *list, int from, int to)
 static void *get_stage(void *arg)
 {
 	struct stage *s = (struct stage *)arg;
-	uint32_t list[BULK], cause;
+	uint64_t list[BULK];
+	uint32_t cause;
 	unsigned long n;
 	int k;
 
 	for (n = 0; n < s->lists; n++) {
-		while ((cause = mbufpool_seat_get(&s->seat, list, BULK)) != 0) {
+		while ((cause = mbufpool_pool_get(&s->pool, list, BULK)) != 0) {
 			s->wrong += cause != MBUFPOOL_NO_ENTRIES && cause != MBUFPOOL_CONTENDED;
 			sched_yield();
 		}
 		passes(s, list, 0, 1);
 		for (k = 0; k < BULK; k++)
-			buffer[list[k]] = (unsigned char)n;
+			object_of(list[k])->load = n;
 		send_list(s->to, list);
 	}
-	mbufpool_seat_end(&s->seat); /* what it got is still with the others */
+	s->wrong += mbufpool_pool_count(&s->pool, &s->count) != 0;
+	mbufpool_pool_end(&s->pool); /* what it got is still with the others */
 	return NULL;
 }
 
 static void *work_stage(void *arg)
 {
 	struct stage *s = (struct stage *)arg;
-	uint32_t list[BULK];
+	uint64_t list[BULK];
 	unsigned long n;
 	int k;
 
@@ -95,7 +113,7 @@ static void *work_stage(void *arg)
 		take_list(s->from, list);
 		passes(s, list, 1, 2);
 		for (k = 0; k < BULK; k++)
-			s->wrong += buffer[list[k]] != (unsigned char)n;
+			s->wrong += object_of(list[k])->load != n;
 		send_list(s->to, list);
 	}
 	return NULL;
@@ -104,40 +122,60 @@ static void *work_stage(void *arg)
 static void *put_stage(void *arg)
 {
 	struct stage *s = (struct stage *)arg;
-	uint32_t list[BULK], cause;
+	uint64_t list[BULK];
+	uint32_t cause;
 	unsigned long n;
 
 	for (n = 0; n < s->lists; n++) {
 		take_list(s->from, list);
 		passes(s, list, 2, 0);
-		while ((cause = mbufpool_seat_put(&s->seat, list, BULK)) != 0)
+		while ((cause = mbufpool_pool_put(&s->pool, list, BULK)) != 0)
 			s->wrong += cause != MBUFPOOL_CONTENDED;
 	}
+	s->wrong += mbufpool_pool_count(&s->pool, &s->count) != 0;
 	return NULL;
+}
+
+/* Whether all objects can be had at once by this worker, each of them once. */
+static int are_there(struct mbufpool_pool *pool)
+{
+	static uint64_t all[POPULATION];
+	int k, once = 0;
+
+	if (mbufpool_pool_get(pool, all, POPULATION) != 0)
+		return 0;
+	for (k = 0; k < POPULATION; k++)
+		once += object_of(all[k])->stage++ == 0;
+	return once == POPULATION;
 }
 
 int main(int argc, char **argv)
 {
 	static struct ring first, second;
-	struct stage one = { MBUFPOOL_NONE, NULL, &first, 0, 0 }, two = { MBUFPOOL_NONE, &first, &second, 0, 0 },
-		     three = { MBUFPOOL_NONE, &second, NULL, 0, 0 };
+	struct stage one = { MBUFPOOL_NONE, NULL, &first, 0, 0, 0 }, two = { MBUFPOOL_NONE, &first, &second, 0, 0, 0 },
+		     three = { MBUFPOOL_NONE, &second, NULL, 0, 0, 0 };
 	unsigned long wrong;
-	uint32_t left;
 	pthread_t threads[2];
+	int k, all;
 
-	one.lists = two.lists = three.lists = argc > 1 ? strtoul(argv[1], NULL, 10) : 200000;
-	if (mbufpool_seat_open(POPULATION, 2, 64, &one.seat) != 0 ||
-		mbufpool_seat_split(&one.seat, &three.seat) != 0 ||
-		pthread_create(&threads[0], NULL, get_stage, &one) != 0 ||
+	one.lists = (argc > 1 ? strtoul(argv[1], NULL, 10) : 4000000) / BULK;
+	two.lists = three.lists = one.lists;
+	if (mbufpool_pool_open(POPULATION, 2, 1000, &one.pool) != 0 ||
+		mbufpool_pool_split(&one.pool, &three.pool) != 0)
+		return 1;
+	for (k = 0; k < POPULATION; k++)
+		if (mbufpool_pool_put_one(&one.pool, value_of(&objects[k])) != 0)
+			return 1;
+	if (pthread_create(&threads[0], NULL, get_stage, &one) != 0 ||
 		pthread_create(&threads[1], NULL, work_stage, &two) != 0)
 		return 1;
 	put_stage(&three);
 	pthread_join(threads[0], NULL);
 	pthread_join(threads[1], NULL);
-	left = mbufpool_seat_count(&three.seat);
 	wrong = one.wrong + two.wrong + three.wrong;
-	printf("%lu lists of %d went through, wrong %lu, on the stack %u of %u\n", three.lists, BULK, wrong,
-		(unsigned)left, POPULATION);
-	mbufpool_seat_end(&three.seat);
-	return wrong != 0 || left != POPULATION;
+	printf("%lu lists of %d went through, wrong %lu, by the counts %lu of %d are in the pool\n", three.lists,
+		BULK, wrong, (unsigned long)(one.count + three.count), POPULATION);
+	all = are_there(&three.pool);
+	mbufpool_pool_end(&three.pool);
+	return wrong != 0 || one.count + three.count != POPULATION || !all;
 }

@@ -34,12 +34,12 @@ static int is_refusal(uint32_t status)
 	case MBUFPOOL_NO_SUCH_DESK:
 	case MBUFPOOL_STRANGER:
 	case MBUFPOOL_SAME_PACKET:
-	case MBUFPOOL_NOT_IN_HAND:
 	case MBUFPOOL_MISUSED:
 	case MBUFPOOL_NOT_OUT:
 	case MBUFPOOL_NOBODY:
 	case MBUFPOOL_UNRESTED:
 	case MBUFPOOL_LENT_OUT:
+	case MBUFPOOL_NO_MAGAZINE:
 		return 1;
 	}
 	return 0;
@@ -71,8 +71,9 @@ static int is_right(uint32_t status)
 
 int main(void)
 {
-	struct mbufpool_seat seat = MBUFPOOL_NONE;
-	uint32_t status, element, wrong = 0;
+	struct mbufpool_pool pool = MBUFPOOL_NONE;
+	uint32_t status, wrong = 0;
+	uint64_t value;
 	char version[32];
 
 	for (status = 0; status < MOST; status++) {
@@ -84,7 +85,7 @@ int main(void)
 	snprintf(version, sizeof(version), "%d.%d", MBUFPOOL_VERSION_MAJOR, MBUFPOOL_VERSION_MINOR);
 	wrong += strcmp(version, MBUFPOOL_VERSION) != 0;
 	wrong += mbufpool_version() != MBUFPOOL_VERSION_NUMBER(MBUFPOOL_VERSION_MAJOR, MBUFPOOL_VERSION_MINOR);
-	status = mbufpool_seat_get(&seat, &element, 1);
+	status = mbufpool_pool_get_one(&pool, &value);
 	printf("version %s; a get by a handle with zeros: %s\n", MBUFPOOL_VERSION, mbufpool_strerror(status));
 	return wrong != 0 || status != MBUFPOOL_STRANGER;
 }

@@ -1,4 +1,3 @@
-mod CheckedHandles
 mod CloseLemmas
 mod EndingHandles
 mod FillLemmas
@@ -7,9 +6,9 @@ mod SharedLemmas
 mod Handles
 mod LabelLemmas
 mod LooseSend
-mod MarkLemmas
 mod OpenLemmas
-mod SeatHandles
+mod PoolHandles
+mod PoolLemmas
 mod ToldLemmas
 mod Values
 mod WorkerHandles

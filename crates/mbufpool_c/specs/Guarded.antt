@@ -14,7 +14,6 @@ use Rattle.guard.specs.declared.cause.Cause.TheVariants.{Refused, LentOut, Unres
 use Rattle.mempool.specs.declared.put.Put.{Put}
 use Rattle.stack_lf.specs.Remaining.{ReadsRemaining}
 use Rattle.step_core.specs.World.{every_part}
-use Rattle.mbufpool_c.specs.Stacks.{lent_out}
 
 -- the limits of a guarded pool
 abbrev pub guard_limits : ℕ → ℕ → ℕ → ℕ → Limits
@@ -35,8 +34,9 @@ abbrev pub guard_limits_at : ℕ → ℕ → ℕ → ℕ → ℕ → Limits
 guard_limits_at population cache workers tries start =
     record (guard_limits population cache workers tries) { start_count = start }
 
--- what no refusal has: of a put of which not each number was out, of a get for nobody, and of a get
--- whose elements couldn't rest
+-- what no refusal has: of a put of which not each number was out, of a get for nobody, of a get
+-- whose elements couldn't rest, and of a get or a split by a worker that has lent as much of its part
+-- as it can
 abbrev pub not_out : ℕ
 not_out = 26
 
@@ -45,6 +45,9 @@ nobody = 27
 
 abbrev pub unrested : ℕ
 unrested = 28
+
+abbrev pub lent_out : ℕ
+lent_out = 29
 
 -- the number of a cause
 abbrev pub guard_number : Cause → ℕ

@@ -1,14 +1,13 @@
 pub mod Guarded
-pub mod Kept
+pub mod KeptPool
 pub mod KeptWorker
 pub mod Labelled
 pub mod Labels
+pub mod Lends
 pub mod Owned
-pub mod OwnSeated
-pub mod Stacks
+pub mod Pools
 pub mod Statuses
 pub mod Segments
-pub mod Marks
 pub mod Opens
 pub mod Closes
 pub mod Told

@@ -9,7 +9,6 @@ ghost use Rattle.guard.specs.Guarding.{IsMakeCause};
 ghost use Rattle.mbufpool_c.specs.Guarded.{GetsGuard, GuardRemains, IsFirst, KeepsWorker, PutsGuard, RefusesGuard, RefusesSplit, SplitsGuard, guard_limits, guard_limits_at, nobody, guard_number, guard_status as status_in, status_of_put as status_in_put};
 
 use crate::guard_handle::GuardHandle;
-use crate::stack::LENT_OUT;
 use commons::limits::{Limits, PutRule};
 use commons::refusal::Refusal;
 use guard::cause::Cause;
@@ -24,6 +23,9 @@ pub const NOBODY: u32 = 27;
 
 /// The status of a get whose elements couldn't rest.
 pub const UNRESTED: u32 = 28;
+
+/// The status of a get, or of a split, by a worker that has lent as much of its part as it can.
+pub const LENT_OUT: u32 = 29;
 
 /// The number of a cause.
 #[inline(always)]

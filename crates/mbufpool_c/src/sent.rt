@@ -1,7 +1,6 @@
 //! What handles lead to may go to another thread.
 
-use crate::checked::CheckedSeat;
-use crate::seats::OwnSeat;
+use crate::pool_workers::PoolWorker;
 use crate::workers::OwnWorker;
 use guard::lcore::GuardWorker;
 
@@ -10,8 +9,7 @@ fn may_be_sent<T: Send>() {}
 
 /// So may all that handles own. It does nothing.
 pub fn handles_may_be_sent() {
-    may_be_sent::<OwnSeat>();
-    may_be_sent::<CheckedSeat>();
+    may_be_sent::<PoolWorker>();
     may_be_sent::<GuardWorker>();
     may_be_sent::<OwnWorker>();
 }

@@ -1,0 +1,17 @@
+use Rattle.std.proofs.Common.{◌∙◌, Option, Some, ap, sym, refl, subst}
+use Rattle.mbufpool_c.specs.declared.pool_handle.PoolHandle.{PoolHandle}
+use Rattle.mbufpool_c.specs.Pools.{PutsIn, Pooled}
+use Rattle.mbufpool_c.proofs.pool.mbufpool_pool_put.Goals as goal
+
+-- the handle lent its worker, which put or was refused
+pub returns : goal.returns
+returns c =
+    let own = c.lend.ensures in
+    let did = c.put-answer.ensures in
+    let same = ap (λ (h : PoolHandle). h.value) c.is_empty.ensures.1 in
+    record {
+      called = subst
+          (λ (v : Option Pooled). PutsIn c.args.list.now v c.args.pool.now.loans c.status_of.result
+          (Some c.put-answer.new.self) c.put-answer.new.loans) (sym (sym same ∙ own.value))
+          (c.put-answer.result, c.put-answer.new.self, refl, c.status_of.ensures, did.same, did.once, did.put, did.count);
+    }

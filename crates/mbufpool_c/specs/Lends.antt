@@ -1,0 +1,14 @@
+-- A handle that lends its worker: once the borrow ends, it has the worker as that was left.
+use Rattle.std.specs.Prelude.{Some}
+use Rattle.std.specs.Borrow.{Lends, MutBor, Fml}
+use Rattle.mbufpool_c.specs.declared.pool_handle.PoolHandle.{PoolHandle}
+use Rattle.mbufpool_c.specs.contracts.pool_handle.PoolHandle.{the_row as handle}
+use Rattle.mbufpool_c.specs.contracts.pool_workers.PoolWorker.{the_row as worker}
+use Rattle.mbufpool_c.specs.Pools.{Pooled}
+
+-- the handle with another worker behind its pointer
+abbrev pub with_worker : PoolHandle → Pooled → PoolHandle
+with_worker h w = record h { value = Some w }
+
+abbrev pub LendsWorker : MutBor PoolHandle → MutBor Pooled → Fml
+LendsWorker s r = Lends handle worker s r (with_worker s.now)
