@@ -16,7 +16,7 @@
 # DPDK_DRIVERS are folders that `make install` copies to (package/place).
 
 top := $(patsubst %/,%,$(dir $(abspath $(lastword $(MAKEFILE_LIST)))))
-headers := include/mbufpool.h include/mbufpool_renewing.h
+headers := include/mbufpool.h
 version_of = $(shell sed -n 's/^.define MBUFPOOL_VERSION$(1) "*\([0-9.]*\)"*$$/\1/p' include/mbufpool.h)
 VERSION := $(call version_of,)
 major := $(call version_of,_MAJOR)
@@ -65,19 +65,14 @@ build/of: always
 
 # ---- the library ----
 
-# One object, with what it needs of the kit and with the pool that doesn't end. What the headers
-# declare is global in it, and nothing else.
+# One object, with what it needs of the kit. What the header declares is global in it, and nothing else.
 build/names: $(headers) Makefile
 	@mkdir -p build
 	sed -n '/^static/d; s/^[a-z].*[ *]\(mbufpool_[a-z_]*\)(.*/\1/p' $(headers) | sort >$@
 
-build/renewing.o: c/renewing.c $(headers) Makefile
+build/mbufpool.o: build/names build/of $(LIB) $(HEAP)
 	@mkdir -p build
-	$(CC) $(CPPFLAGS) $(CFLAGS) -Wall -Wextra -Iinclude -std=gnu11 -pthread -fPIC -fno-lto \
-		-ffile-prefix-map=$(top)=. -c $< -o $@
-
-build/mbufpool.o: build/renewing.o build/names build/of $(LIB) $(HEAP)
-	$(LD) -r -z noexecstack -o $@ $< --whole-archive $(LIB) --no-whole-archive $(HEAP)
+	$(LD) -r -z noexecstack -o $@ --whole-archive $(LIB) --no-whole-archive $(HEAP)
 	$(OBJCOPY) --keep-global-symbols=build/names $@
 
 build/libmbufpool.a: build/mbufpool.o
@@ -105,7 +100,7 @@ $(HEAP):
 
 made_there := $(plugins) $(dump) $(filter dpdk/mbufpool-dump,$(tools)) $(layout)
 
-$(made_there) &: $(wildcard dpdk/*.[ch] dpdk/Makefile dpdk/*.mk) $(headers) c/renewing.c $(LIB)
+$(made_there) &: $(wildcard dpdk/*.[ch] dpdk/Makefile dpdk/*.mk) $(headers) $(LIB)
 	@$(MAKE) -s -C dpdk LIB=$(abspath $(LIB)) KIT=$(KIT) HEAP=$(abspath $(HEAP)) $(notdir $(made_there))
 
 # ---- all of it, in one folder ----

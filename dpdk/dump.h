@@ -15,25 +15,25 @@
  * lcore whose cache isn't empty, see mbufpool_dump_workers(). The reference count of an external
  * buffer isn't looked at: to a snapshot, a segment with such a buffer is one with its own buffer.
  *
- * What is in DPDK's rings and stacks is read where it lies: of a ring the slots from the consumer's
- * tail to the producer's, of `stack` its array, of `lf_stack` its list from the head. No object is got
- * or put, no lock of the pool is taken, and nothing is written to it; EAL's lists of memzones and
+ * What is in DPDK's rings and stacks, and on mbufpool, is read where it lies: of a ring the slots from
+ * the consumer's tail to the producer's, of `stack` its array, of `lf_stack` its list from the head, of
+ * mbufpool each magazine, at the depot or an lcore's own. No object is got or put, no lock of the pool is taken, and nothing is written to it; EAL's lists of memzones and
  * mempools are looked at under EAL's locks. So a debugger may call these wherever the threads of a
  * program stand, unless one is just making or freeing a memzone or a mempool. Of mbufpool_guard what
- * isn't out is listed, by its own call. On mbufpool and mbufpool_checked where the objects lie is known
- * to the library alone: all that are available are got at once, and put back in their order.
+ * isn't out is listed, by its own call.
  *
  * If no thread gets or puts objects of the pool meanwhile, or changes its packets, the snapshot says
  * where each mbuf is. If some do, it is made all the same: first all is copied, and what is then
  * written is of the copy, so that a change can neither lead astray nor keep from ending. Then an mbuf
  * that is just passing from one place to another may stand in both or in none, and a fault that the
- * audit names may be none: it is one if it stands in snapshots some moments apart. Of mbufpool and
- * mbufpool_checked the pool has to stand still. Whether a get or a put was going on is a line of
- * mbufpool_dump_workers().
+ * audit names may be none: it is one if it stands in snapshots some moments apart. Whether a get or a
+ * put was going on is a line of mbufpool_dump_workers(), but for mbufpool and mbufpool_guard.
  *
  * Handlers: ring_mp_mc, ring_sp_sc, ring_mp_sc, ring_sp_mc, ring_mt_rts, ring_mt_hts, stack, lf_stack;
- * and mbufpool, mbufpool_checked, mbufpool_guard, whose own caches are in the common part. A ring or a
- * stack is known by the memzone that it is in, under whatever name its handler was registered.
+ * and mbufpool, mbufpool_guard, whose own magazines and caches are in the common part. A ring or a stack
+ * is known by the memzone that it is in, under whatever name its handler was registered. In a secondary
+ * process a mempool on mbufpool is read out of the primary, which takes what a debugger needs: the same
+ * user, or root.
  *
  * A snapshot is made in memory before its first byte is written. All calls that write return:
  *   - 0: Success.
@@ -45,11 +45,11 @@
  *     which the pool's caches lie elsewhere: another RTE_MAX_LCORE or RTE_MEMPOOL_CACHE_MAX_SIZE,
  *     or a mempool's checks or statistics.
  *   - -EFAULT: The list of the pool's objects leads out of its memory: what is in front of one of them
- *     was overwritten.
+ *     was overwritten. Or mbufpool's magazines aren't where its pool says.
  *   - -EACCES: This is a secondary process, and the primary doesn't share the pool's memory.
+ *   - -EPERM: This is a secondary process, and may not read the primary's own memory (mbufpool alone).
  *   - -ENOMEM: There is too little memory.
- *   - -EIO: The file couldn't be written. This is the only error after which some of it may be.
- *   - what mbufpool or mbufpool_checked returned, if it refused to give what it has. */
+ *   - -EIO: The file couldn't be written. This is the only error after which some of it may be. */
 
 #include <stdint.h>
 #include <stdio.h>

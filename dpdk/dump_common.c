@@ -1,4 +1,5 @@
-/* dump_common.c - what lies in DPDK's rings and stacks, read where it lies: see dump_view.h.
+/* dump_common.c - what lies in DPDK's rings and stacks, read where it lies, and for mbufpool's magazines
+ * the way to dump_magazines.c: see dump_view.h.
  *
  * A handler is recognised by what its pool_data is: a ring or a stack in a memzone that has the
  * mempool's name. So a secondary process can, to which the primary's ops_index says nothing. What a
@@ -75,12 +76,15 @@ dump_common_recognise(struct view *v)
 	recognise_ring(v, dump_common_bytes(mp, RTE_RING_MZ_PREFIX, mp->pool_data));
 	if (v->kind == COMMON_UNKNOWN)
 		recognise_stack(v, dump_common_bytes(mp, RTE_STACK_MZ_PREFIX, mp->pool_data));
+	if (v->kind == COMMON_UNKNOWN)
+		dump_magazines_recognise(v);
 }
 
 int
 dump_common_in_place(const struct view *v)
 {
-	return v->kind == COMMON_RING || v->kind == COMMON_STACK || v->kind == COMMON_LF_STACK;
+	return v->kind == COMMON_RING || v->kind == COMMON_STACK || v->kind == COMMON_LF_STACK ||
+	       v->kind == COMMON_MAGAZINES;
 }
 
 static const char *
@@ -109,6 +113,8 @@ dump_common_handler(const struct view *v)
 		return "stack";
 	case COMMON_LF_STACK:
 		return "lf_stack";
+	case COMMON_MAGAZINES:
+		return "mbufpool";
 	default:
 		return NULL;
 	}
@@ -249,19 +255,22 @@ dump_common_glance(struct view *v)
 		lf_look(v, NULL);
 }
 
-void
+int
 dump_common_copy(struct view *v)
 {
+	if (v->kind == COMMON_MAGAZINES)
+		return dump_magazines_copy(v);
 	if (v->kind == COMMON_LF_STACK) {
 		v->unrest[0] = 0;
 		lf_look(v, v->common);
-		return;
+		return 0;
 	}
 	dump_common_glance(v);
 	if (v->kind == COMMON_RING)
 		ring_copy(v);
 	else if (v->kind == COMMON_STACK)
 		stack_copy(v);
+	return 0;
 }
 
 uint32_t
@@ -271,6 +280,8 @@ dump_common_count(const struct view *v)
 	const struct rte_stack *s = v->mp->pool_data;
 	uint64_t n = 0;
 
+	if (v->kind == COMMON_MAGAZINES)
+		return dump_magazines_count(v);
 	if (v->kind == COMMON_RING) {
 		n = read_now(&r->cons.tail);
 		n = (uint32_t)(read_now(&r->prod.tail) - n);

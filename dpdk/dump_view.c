@@ -37,9 +37,8 @@ add_land(struct lands *lands, const struct land *land)
 	return 0;
 }
 
-/* Whether an address is in memory that EAL shares with secondary processes. */
-static int
-is_shared_at(uintptr_t at)
+int
+dump_is_shared_at(uintptr_t at)
 {
 	const struct rte_memseg_list *list = rte_mem_virt2memseg_list((void *)at);
 
@@ -51,7 +50,7 @@ static int
 is_shared(const struct land *land)
 {
 	return rte_eal_process_type() == RTE_PROC_PRIMARY ||
-	       (is_shared_at(land->from) && is_shared_at(land->to - 1));
+	       (dump_is_shared_at(land->from) && dump_is_shared_at(land->to - 1));
 }
 
 static int
@@ -210,37 +209,29 @@ dump_shot_of(const struct rte_mbuf *m)
 	return s;
 }
 
-/* ---- handlers of this project ---- */
+/* ---- the guard ---- */
 
 /* mbufpool_guard_in_pool() of mempool_guard.h, by the program or by the plugin that EAL loaded. */
 typedef int list_in_pool(const struct rte_mempool *mp, void **objects, unsigned int n);
 extern list_in_pool mbufpool_guard_in_pool;
 #pragma weak mbufpool_guard_in_pool
 
-/* The handlers that aren't recognised by what they are made of. A secondary process has other indices,
- * and not what they point to. */
-static enum common_kind
-kind_by_name(const struct rte_mempool *mp)
+/* Whether it is on the guard, which isn't recognised by what it is made of. A secondary process has other
+ * indices, and not what they point to. */
+static int
+is_guard(const struct rte_mempool *mp)
 {
-	const char *name;
-
-	if (rte_eal_process_type() != RTE_PROC_PRIMARY || mp->ops_index < 0 ||
-	    mp->ops_index >= RTE_MEMPOOL_MAX_OPS_IDX)
-		return COMMON_UNKNOWN;
-	name = rte_mempool_get_ops(mp->ops_index)->name;
-	if (strcmp(name, "mbufpool_guard") == 0)
-		return COMMON_GUARD;
-	if (strcmp(name, "mbufpool") == 0 || strcmp(name, "mbufpool_checked") == 0)
-		return COMMON_BY_CALLS;
-	return COMMON_UNKNOWN;
+	return rte_eal_process_type() == RTE_PROC_PRIMARY && mp->ops_index >= 0 &&
+	       mp->ops_index < RTE_MEMPOOL_MAX_OPS_IDX &&
+	       strcmp(rte_mempool_get_ops(mp->ops_index)->name, "mbufpool_guard") == 0;
 }
 
 static void
 recognise(struct view *v)
 {
 	dump_common_recognise(v);
-	if (v->kind == COMMON_UNKNOWN) {
-		v->kind = kind_by_name(v->mp);
+	if (v->kind == COMMON_UNKNOWN && is_guard(v->mp)) {
+		v->kind = COMMON_GUARD;
 		v->capacity = v->size;
 	}
 }
@@ -270,32 +261,6 @@ list_guard(struct view *v)
 	return 0;
 }
 
-/* Gets what is in the common part, and puts it back in its order, the top last: where it lies is known
- * to the proved library alone, which says so by a get. */
-static int
-get_and_put(struct view *v)
-{
-	void **back;
-	uint32_t i;
-	int ret;
-
-	v->nb_common = rte_mempool_get_ops(v->mp->ops_index)->get_count(v->mp);
-	v->nb_common = RTE_MIN(v->nb_common, v->capacity);
-	if (v->nb_common == 0)
-		return 0;
-	back = calloc(v->nb_common, sizeof(*back));
-	if (back == NULL)
-		return -ENOMEM;
-	ret = rte_mempool_ops_dequeue_bulk(v->mp, v->common, v->nb_common);
-	if (ret == 0) {
-		for (i = 0; i < v->nb_common; i++)
-			back[i] = v->common[v->nb_common - 1 - i];
-		ret = rte_mempool_ops_enqueue_bulk(v->mp, back, v->nb_common);
-	}
-	free(back);
-	return ret;
-}
-
 /* ---- views ---- */
 
 static int
@@ -313,7 +278,7 @@ take_memory(struct view *v)
 			       v->cached == NULL || v->marks == NULL || v->clones == NULL ||
 			       v->walked == NULL
 		       ? -ENOMEM
-		       : 0;
+		       : dump_magazines_take_memory(v);
 }
 
 int
@@ -368,14 +333,9 @@ int
 dump_view_fill(struct view *v)
 {
 	uint32_t e;
-	int ret = 0;
+	int ret;
 
-	if (v->kind == COMMON_GUARD)
-		ret = list_guard(v);
-	else if (v->kind == COMMON_BY_CALLS)
-		ret = get_and_put(v);
-	else
-		dump_common_copy(v);
+	ret = v->kind == COMMON_GUARD ? list_guard(v) : dump_common_copy(v);
 	copy_cached(v);
 	for (e = 0; e < v->size; e++)
 		v->shots[e] = dump_shot_of(v->mbufs[e]);
@@ -401,6 +361,7 @@ dump_view_close(struct view *v)
 	free(v->lands.all);
 	free(v->shots);
 	free(v->common);
+	free(v->copied);
 	free(v->cached);
 	free(v->marks);
 	free(v->clones);

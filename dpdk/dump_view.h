@@ -5,18 +5,20 @@
  * dump is made of the copy alone. So a pool may change meanwhile: no walk along what was copied can
  * lead anywhere else by that.
  *
- * Of DPDK's rings and stacks filling calls nothing, takes no lock and no memory, and writes nothing to
- * the pool. It may be done while every other thread stands still. */
+ * Of DPDK's rings and stacks, and of mbufpool's magazines, filling calls nothing, takes no lock and no
+ * memory, and writes nothing to the pool. It may be done while every other thread stands still. */
 #ifndef DUMP_VIEW_H
 #define DUMP_VIEW_H
 #include <stdint.h>
 #include <stdio.h>
+#include <sys/types.h>
 
 #include <rte_lcore.h>
 #include <rte_mbuf.h>
 #include <rte_mempool.h>
 
 #include "dump.h"
+#include "pool_magazines.h"
 
 #define NO_ELEM MBUFPOOL_NO_ELEM
 #define UNREST_TEXT 96
@@ -27,8 +29,8 @@ enum common_kind {
 	COMMON_RING,
 	COMMON_STACK,
 	COMMON_LF_STACK,
-	COMMON_GUARD,	/* by what the handler's plugin lists */
-	COMMON_BY_CALLS /* by a get, and a put of the same */
+	COMMON_MAGAZINES, /* of the handler mbufpool */
+	COMMON_GUARD	  /* by what the handler's plugin lists */
 };
 
 struct place {
@@ -63,7 +65,10 @@ struct view {
 	struct place *places;	       /* by address */
 	struct lands lands;	       /* of the pool */
 	enum common_kind kind;
-	uint32_t capacity; /* of the ring or the stack */
+	uint32_t capacity; /* of the ring, the stack or the magazines */
+	struct pool_magazines magazines; /* where they are, */
+	pid_t owner;			 /* in which process, or 0 for this one, */
+	struct magazine *copied;	 /* and room for a copy of them */
 
 	struct shot *shots; /* by number */
 	void **common;	    /* from the top */
@@ -103,6 +108,9 @@ struct shot dump_shot_of(const struct rte_mbuf *m);
 int dump_lands_of_all(struct lands *lands);
 struct rte_mempool *dump_lands_find(struct lands *lands, const void *at, size_t bytes);
 
+/* Whether an address is in memory that EAL shares with secondary processes. */
+int dump_is_shared_at(uintptr_t at);
+
 /* ---- dump_common.c: each of these reads, and calls nothing of the pool ---- */
 
 /* How long the memzone is that begins at this address, and is named after the mempool behind `prefix`;
@@ -112,13 +120,14 @@ size_t dump_common_bytes(const struct rte_mempool *mp, const char *prefix, const
 /* Says how the common part is read, and `capacity`. */
 void dump_common_recognise(struct view *v);
 
-/* Whether it is a ring or a stack, of which this is done. */
+/* Whether it is a ring, a stack or magazines, of which this is done. */
 int dump_common_in_place(const struct view *v);
 
-/* Copies the common part, with `unrest`. There is room for `capacity` objects. */
-void dump_common_copy(struct view *v);
+/* Copies the common part, with `unrest`. There is room for `capacity` objects. Answers 0, or what
+ * mbufpool_dump() does where the memory of another process can't be read. */
+int dump_common_copy(struct view *v);
 
-/* How many objects are in it, by its words. */
+/* How many objects are in it, by its words; UINT32_MAX where that can't be read. */
 uint32_t dump_common_count(const struct view *v);
 
 /* Reads `unrest` alone. */
@@ -126,6 +135,13 @@ void dump_common_glance(struct view *v);
 
 /* The name that DPDK has for the handler, or NULL. */
 const char *dump_common_handler(const struct view *v);
+
+/* ---- dump_magazines.c: the same for the handler mbufpool ---- */
+
+void dump_magazines_recognise(struct view *v);
+int dump_magazines_take_memory(struct view *v);
+int dump_magazines_copy(struct view *v);
+uint32_t dump_magazines_count(const struct view *v);
 
 /* ---- dump.c ---- */
 

@@ -56,6 +56,7 @@ struct options {
  * looks are of its last snapshot. */
 struct job {
 	struct view view;
+	int copied; /* 0, or why it couldn't be */
 	struct looks looks;
 	char name[RTE_MEMPOOL_NAMESIZE];
 	char file[FILE_NAME];
@@ -123,6 +124,8 @@ reason(int err)
 		       "RTE_MAX_LCORE or RTE_MEMPOOL_CACHE_MAX_SIZE, or a mempool's checks or statistics";
 	case -EACCES:
 		return "its objects are in memory that the program doesn't share";
+	case -EPERM:
+		return "what is free is in memory of the program's own, which this user may not read";
 	case -EFAULT:
 		return "the list of its objects leads out of its memory: what is in front of one was "
 		       "overwritten";
@@ -346,6 +349,10 @@ list_pool(struct rte_mempool *mp)
 		return;
 	}
 	inside = dump_common_count(&v);
+	if (inside == UINT32_MAX) {
+		printf("%10s\n", "?");
+		return;
+	}
 	for (k = 0; k < RTE_MAX_LCORE; k++)
 		inside += v.nb_cached[k];
 	printf("%10" PRIu32 "\n", mp->populated_size - RTE_MIN(inside, mp->populated_size));
@@ -502,7 +509,7 @@ copy_pools(struct jobs *jobs)
 	struct job *job;
 
 	for (job = jobs->all; job < jobs->all + jobs->count; job++)
-		dump_view_fill(&job->view);
+		job->copied = dump_view_fill(&job->view);
 }
 
 /* Copies each pool while the program stands. It is done once before, so that the memory for it is there
@@ -537,7 +544,7 @@ write_files(struct jobs *jobs)
 	int ret, failed = 0;
 
 	for (job = jobs->all; job < jobs->all + jobs->count; job++) {
-		ret = dump_view_write(job->out, &job->view);
+		ret = job->copied != 0 ? job->copied : dump_view_write(job->out, &job->view);
 		dump_view_write_workers(job->workers, &job->view);
 		if (close_file(&job->out) != 0 && ret == 0)
 			ret = -EIO;

@@ -168,49 +168,34 @@ def own_stack(pool, handle, population):
     return found, block
 
 
-def own_common(pool):
-    """Of the handlers mbufpool and mbufpool_checked: what is kept, an old stack's objects, the stack's."""
+def magazines_common(pool):
+    """Of the handler mbufpool: what is in any of its magazines, each from its top, and what it keeps."""
     memory, own, layout = pool.memory, pool.pool_data, pool.memory.layout
-    if "pool.renewing" not in layout.fields:
+    if "pool_magazines.magic" not in layout.fields:
         raise Fault("mempool %s: the layout was made without this handler" % pool.name)
-    population, objects = (memory.get(own, "pool.numbers." + field) for field in ("places.all", "objects"))
-    renewing = memory.get(own, "pool.renewing")
-    if renewing == 0:
-        at, kept_in, handles = own, "pool.checked.", [memory.get(own, "pool.checked.on.at")]
-    else:
-        at, kept_in = renewing, "mbufpool_renewing."
-        handles = own_handles(memory, renewing)
-    if population > MAX_ELEMENTS:
-        raise Fault("mempool %s: it says that it has %d elements" % (pool.name, population))
-    if len(handles) > 1:
-        pool.note("it was going over to a new stack")
-    found = own_kept(pool, at, kept_in, population)
-    for handle in handles:
-        found.extend(own_stack(pool, handle, population)[0])
-    return array("Q", (memory.number(objects + 8 * elem) for elem in found))
+    magic, at, count, size, kept, nb_kept = (memory.get(own, "pool_magazines." + field) for field in (
+        "magic", "address", "count", "bytes", "kept", "nb_kept"))
+    if magic != layout.values["MAGAZINES_MAGIC"] or size != layout.sizes["magazine"] or (
+            count > layout.values["MOST_MAGAZINES"]):
+        raise Fault("mempool %s: there are no magazines at 0x%x" % (pool.name, own))
+    objects, words = array("Q"), memory.pointers(at, count * size // 8)
+    for k in range(count):
+        objects.extend(in_magazine(pool, words, k))
+    if nb_kept > pool.populated_size:
+        pool.note("it says that it keeps %d objects: %d are read" % (nb_kept, pool.populated_size))
+    objects.extend(memory.pointers(kept, min(nb_kept, pool.populated_size)))
+    return objects
 
 
-def own_handles(memory, renewing):
-    """A seat of the old stack, where there are two, and one of the stack to which puts go."""
-    layout = memory.layout
-    state = memory.get(renewing, "mbufpool_renewing.state")
-    at = renewing + layout.at("mbufpool_renewing.stacks")
-    second = 1 if state & layout.values["IS_SECOND"] else 0
-    order = [1 - second, second] if state & layout.values["IS_BESIDE"] else [second]
-    return [memory.get(at + k * layout.sizes["stack"], "stack.places[0].seat.at") for k in order]
-
-
-def own_kept(pool, at, kept_in, population):
-    """The elements that a pool keeps since its stack refused them."""
-    memory, found = pool.memory, array("I")
-    left, elem = memory.get(at, kept_in + "nb_kept"), memory.get(at, kept_in + "kept")
-    following = memory.get(at, kept_in + "next")
-    while left > 0 and elem < population and len(found) < population:
-        found.append(elem)
-        elem, left = memory.number(following + 4 * elem, 4), left - 1
-    if left > 0:
-        pool.note("the list of what it keeps is damaged behind %d objects" % len(found))
-    return found
+def in_magazine(pool, words, k):
+    """What is in a magazine, by the words of all magazines, from its top."""
+    layout = pool.memory.layout
+    most, begin = layout.values["MOST_ROUNDS"], k * layout.sizes["magazine"] // 8
+    n = words[begin + layout.at("magazine.count") // 8]
+    if n > most:
+        pool.note("its magazine %d says that it has %d objects: %d are read" % (k, n, most))
+    first = begin + layout.at("magazine.objects") // 8
+    return reversed(words[first:first + min(n, most)])
 
 
 def guard_common(pool):
@@ -245,7 +230,6 @@ HANDLERS = {
     "ring_mt_hts": ring_common,
     "stack": stack_common,
     "lf_stack": lf_stack_common,
-    "mbufpool": own_common,
-    "mbufpool_checked": own_common,
+    "mbufpool": magazines_common,
     "mbufpool_guard": guard_common,
 }

@@ -4,8 +4,7 @@
  *     make mbufpool_layout.txt
  *
  * A line is `size STRUCTURE BYTES`, `field STRUCTURE.FIELD OFFSET BYTES`, `value NAME NUMBER` or
- * `version TEXT`. The handlers' own structures are read in place of their headers, as they have none;
- * nothing of a handler is called, or linked. */
+ * `version TEXT`. */
 #ifndef ALLOW_EXPERIMENTAL_API
 #define ALLOW_EXPERIMENTAL_API /* what rte_stack.h has in line calls one */
 #endif
@@ -21,13 +20,8 @@
 #include <rte_stack.h>
 #include <rte_tailq.h>
 
-/* The handlers, which aren't registered here. */
-#undef RTE_MEMPOOL_REGISTER_OPS
-#define RTE_MEMPOOL_REGISTER_OPS(ops) extern struct rte_mempool_ops ops##_isn_t_registered
-#pragma GCC diagnostic ignored "-Wunused-function"
-#pragma GCC diagnostic ignored "-Wunused-variable"
-#include "mempool_mbufpool.c"
 #include "guard_pool.h"
+#include "pool_magazines.h"
 #include "releases.h"
 
 #define SIZE(type) printf("size " #type " %zu\n", sizeof(struct type))
@@ -133,22 +127,18 @@ print_own_handlers(void)
 	FIELD(guard_pool, known);
 	FIELD(guard_pool, objects);
 	FIELD(guard_pool, shared.guard.at);
-	FIELD(pool, renewing);
-	FIELD(pool, numbers.places.all);
-	FIELD(pool, numbers.objects);
-	FIELD(pool, checked.on.at);
-	FIELD(pool, checked.kept);
-	FIELD(pool, checked.nb_kept);
-	FIELD(pool, checked.next);
-	FIELD(mbufpool_renewing, state);
-	FIELD(mbufpool_renewing, stacks);
-	FIELD(mbufpool_renewing, kept);
-	FIELD(mbufpool_renewing, nb_kept);
-	FIELD(mbufpool_renewing, next);
-	SIZE(stack);
-	FIELD(stack, places[0].seat.at);
-	VALUE(IS_SECOND);
-	VALUE(IS_BESIDE);
+	FIELD(pool_magazines, magic);
+	FIELD(pool_magazines, address);
+	FIELD(pool_magazines, count);
+	FIELD(pool_magazines, bytes);
+	FIELD(pool_magazines, kept);
+	FIELD(pool_magazines, nb_kept);
+	SIZE(magazine);
+	FIELD(magazine, count);
+	FIELD(magazine, objects);
+	VALUE(MAGAZINES_MAGIC);
+	VALUE(MOST_MAGAZINES);
+	VALUE(MOST_ROUNDS);
 }
 
 static void

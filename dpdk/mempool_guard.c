@@ -582,7 +582,7 @@ static void
 register_guard(void *arg)
 {
 	RTE_SET_USED(arg);
-	register_handler(&guard_ops, 0);
+	register_handler(&guard_ops);
 }
 
 REGISTERED_BY(register_guard, MBUFPOOL_GUARD_OPS)

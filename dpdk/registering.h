@@ -1,9 +1,9 @@
-/* registering.h - when a plugin's mempool handlers are registered.
+/* registering.h - when a plugin's mempool handler is registered.
  *
  * DPDK's table has room for RTE_MEMPOOL_MAX_OPS_IDX handlers, 16, and its own drivers take most of it:
  * where all of them are installed 14 in 22.11, and 15 in 24.11 and 25.11. A plugin that EAL finds in its
  * folder of drivers, as every program does, mustn't leave one of DPDK's own without a place there,
- * ring_mp_mc say. So its handlers are registered once all drivers are loaded, when the buses are scanned;
+ * ring_mp_mc say. So its handler is registered once all drivers are loaded, when the buses are scanned;
  * and one for which there is no room is logged. What -d names is registered at once, as what is linked into
  * a program is; then one of DPDK's own may lack a place, of which DPDK doesn't say which it is. */
 #ifndef MBUFPOOL_REGISTERING_H
@@ -47,13 +47,13 @@ log_missing(const char *name)
 		RTE_MEMPOOL_MAX_OPS_IDX);
 }
 
-/* Registers a handler once, where there is room for it and for `others` that come behind it. */
+/* Registers a handler once, where there is room for it. */
 static inline void
-register_handler(const struct rte_mempool_ops *ops, unsigned int others)
+register_handler(const struct rte_mempool_ops *ops)
 {
 	if (is_registered(ops->name))
 		return;
-	if (rte_mempool_ops_table.num_ops + others < RTE_MEMPOOL_MAX_OPS_IDX)
+	if (rte_mempool_ops_table.num_ops < RTE_MEMPOOL_MAX_OPS_IDX)
 		rte_mempool_register_ops(ops);
 	else
 		log_missing(ops->name);
@@ -91,7 +91,7 @@ is_among_drivers(void (*code)(void *))
 	       strncmp(name - length, drivers, length) == 0;
 }
 
-/* Lets this function register the plugin's handlers, of which `name` is the first. */
+/* Lets this function register the plugin's handler, which has this name. */
 #define REGISTERED_BY(function, name) \
 	RTE_INIT(function##_when_loaded) \
 	{ \

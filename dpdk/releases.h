@@ -9,9 +9,6 @@
 /* What a put does where a cache is full: since 22.11 it flushes the whole cache. */
 #define PUT_RULE IS_SINCE(22, 11)
 
-/* Since 23.11 a control thread is started by rte_thread_create_control(), and by no other call. */
-#define HAS_THREAD_CREATE_CONTROL IS_SINCE(23, 11)
-
 /* Since 23.03 telemetry's numbers are called `uint`. */
 #if !IS_SINCE(23, 3)
 #define rte_tel_data_add_dict_uint rte_tel_data_add_dict_u64

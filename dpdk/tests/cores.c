@@ -5,11 +5,12 @@
  *
  * It stops by SIGTRAP where gdb is to make a core. Plays:
  *
- *   stand   has packets, chains and clones of a pool on each handler, and of two pairs of pools. Dumps
- *           them to DIR/NAME.json, and which worker is which lcore to DIR/workers. Stops once.
- *   damage  overwrites something and stops, and puts it right again, for each of `damages`.
- *   crash   frees an mbuf twice without a cache, stops, frees one twice into the cache of its last lcore,
- *           and reads its second segment there, which is NULL by then. */
+ *   stand      has packets, chains and clones of a pool on each handler, and of two pairs of pools. Dumps
+ *              them to DIR/NAME.json, and which worker is which lcore to DIR/workers. Stops once.
+ *   damage     overwrites something and stops, and puts it right again, for each of `damages`.
+ *   magazines  does so with a pool on the handler mbufpool, for each of `damages_of_magazines`.
+ *   crash      frees an mbuf twice without a cache, stops, frees one twice into the cache of its last
+ *              lcore, and reads its second segment there, which is NULL by then. */
 #ifndef ALLOW_EXPERIMENTAL_API
 #define ALLOW_EXPERIMENTAL_API /* what rte_stack.h has in line calls one */
 #endif
@@ -27,6 +28,7 @@
 #include <rte_stack.h>
 
 #include "dump.h"
+#include "pool_magazines.h"
 
 #define POPULATION 511
 #define CACHE 32
@@ -172,7 +174,7 @@ stand(void)
 		{"ring_mp_mc", CACHE},	{"ring_sp_sc", CACHE},	{"ring_mp_sc", CACHE},
 		{"ring_sp_mc", CACHE},	{"ring_mt_rts", CACHE}, {"ring_mt_hts", CACHE},
 		{"stack", CACHE},	{"lf_stack", CACHE},	{"mbufpool", CACHE},
-		{"mbufpool_checked", CACHE}, {"mbufpool_guard", 0},
+		{"mbufpool_guard", 0},
 	};
 	FILE *workers = open_file("workers", ""), *out;
 	struct rte_mempool *mp;
@@ -316,20 +318,86 @@ static void (*const damages[])(void) = {
 };
 
 static void
+play_damages(void (*const *all)(void), size_t n)
+{
+	size_t k;
+
+	for (k = 0; k < n; k++) {
+		all[k]();
+		raise(SIGTRAP);
+		memcpy(damaged.at, damaged.was, damaged.n);
+	}
+}
+
+static void
 damage(void)
 {
-	unsigned int k;
-
 	on_ring = open_pool("on_ring", "ring_mp_mc", CACHE);
 	on_stack = open_pool("on_stack", "stack", CACHE);
 	on_lf_stack = open_pool("on_lf_stack", "lf_stack", CACHE);
 	first = get_packet(on_ring, 60);
 	second = get_packet(on_ring, 1514);
-	for (k = 0; k < RTE_DIM(damages); k++) {
-		damages[k]();
-		raise(SIGTRAP);
-		memcpy(damaged.at, damaged.was, damaged.n);
-	}
+	play_damages(damages, RTE_DIM(damages));
+}
+
+/* ---- damage of magazines ---- */
+
+static struct rte_mempool *on_mbufpool;
+
+static struct pool_magazines *
+magazines(void)
+{
+	return on_mbufpool->pool_data;
+}
+
+/* The first one that has something. */
+static struct magazine *
+some_magazine(void)
+{
+	struct magazine *m = (struct magazine *)(uintptr_t)magazines()->address;
+
+	while (m->count == 0)
+		m++;
+	return m;
+}
+
+static const uint64_t many = 1000000;
+
+static void
+magazine_too_long(void)
+{
+	overwrite(&some_magazine()->count, &many, sizeof(many));
+}
+
+static void
+value_is_no_object(void)
+{
+	overwrite(&some_magazine()->objects[0], "AAAAAAAA", 8);
+}
+
+static void
+magazines_aren_t_any(void)
+{
+	overwrite(&magazines()->magic, "AAAAAAAA", 8);
+}
+
+/* (there is room for as many as the mempool has, of which each is 0) */
+static void
+kept_too_many(void)
+{
+	overwrite(&magazines()->nb_kept, &many, sizeof(many));
+}
+
+static void (*const damages_of_magazines[])(void) = {
+	magazine_too_long, value_is_no_object, magazines_aren_t_any, kept_too_many,
+};
+
+static void
+damage_magazines(void)
+{
+	on_mbufpool = open_pool("on_mbufpool", "mbufpool", CACHE);
+	get_packet(on_mbufpool, 60);
+	play_damages(damages_of_magazines, RTE_DIM(damages_of_magazines));
 }
 
 /* ---- crash ---- */
@@ -385,24 +453,32 @@ crash(void)
 	rte_eal_mp_wait_lcore();
 }
 
+static const struct {
+	const char *name;
+	void (*play)(void);
+} plays[] = {
+	{"stand", stand},
+	{"damage", damage},
+	{"magazines", damage_magazines},
+	{"crash", crash},
+};
+
 int
 main(int argc, char **argv)
 {
-	const char *play = argc < 3 ? "" : argv[1];
+	const char *name = argc < 3 ? "" : argv[1];
+	unsigned int k = 0;
 
-	if (strcmp(play, "stand") != 0 && strcmp(play, "damage") != 0 && strcmp(play, "crash") != 0) {
-		fprintf(stderr, "usage: cores stand|damage|crash DIR [EAL options]\n");
+	while (k < RTE_DIM(plays) && strcmp(plays[k].name, name) != 0)
+		k++;
+	if (k == RTE_DIM(plays)) {
+		fprintf(stderr, "usage: cores stand|damage|magazines|crash DIR [EAL options]\n");
 		return 2;
 	}
 	folder = argv[2];
 	argv[2] = argv[0];
 	if (rte_eal_init(argc - 2, argv + 2) < 0)
 		return 2;
-	if (play[0] == 's')
-		stand();
-	else if (play[0] == 'd')
-		damage();
-	else
-		crash();
+	plays[k].play();
 	return 0;
 }

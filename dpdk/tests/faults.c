@@ -211,12 +211,11 @@ end_still(void)
 	return ret;
 }
 
-/* Handlers whose common part is read where it lies. The others of this project give it, and take it
- * back. */
+/* Handlers whose common part is read where it lies. The guard lists its own by calls. */
 static int
 is_read_in_place(void)
 {
-	return strncmp(rte_mempool_get_ops(pool->ops_index)->name, "mbufpool", 8) != 0;
+	return strcmp(rte_mempool_get_ops(pool->ops_index)->name, "mbufpool_guard") != 0;
 }
 
 /* ---- the plays ---- */

@@ -214,23 +214,41 @@ compare(const void *a, const void *b)
 	return (p > q) - (p < q);
 }
 
-/* How many different mbufs the caches and the common part of the mempool have together: each is got. */
+/* What is got in the end. */
+static uintptr_t all[2 * SIZE];
+static unsigned int nb_all;
+
+/* Gets what the mempool gives this lcore. */
+static int
+get_all(void *arg)
+{
+	void *m;
+
+	RTE_SET_USED(arg);
+	while (nb_all < RTE_DIM(all) && rte_mempool_get_bulk(pool, &m, 1) == 0)
+		all[nb_all++] = (uintptr_t)m;
+	return 0;
+}
+
+/* How many different mbufs the caches and the common part of the mempool have together: each is got, by
+ * one lcore after another, as no other can get what an lcore has for itself. */
 static unsigned int
 count_all(void)
 {
-	static uintptr_t all[2 * SIZE];
-	unsigned int lcore, n = 0, i, differ = 0;
-	void *m;
+	unsigned int lcore, i, differ = 0;
 
 	RTE_LCORE_FOREACH (lcore)
 		rte_mempool_cache_flush(rte_mempool_default_cache(pool, lcore), pool);
-	while (n < RTE_DIM(all) && rte_mempool_get_bulk(pool, &m, 1) == 0)
-		all[n++] = (uintptr_t)m;
-	qsort(all, n, sizeof(*all), compare);
-	for (i = 0; i < n; i++)
+	get_all(NULL);
+	RTE_LCORE_FOREACH_WORKER (lcore) {
+		rte_eal_remote_launch(get_all, NULL, lcore);
+		rte_eal_wait_lcore(lcore);
+	}
+	qsort(all, nb_all, sizeof(*all), compare);
+	for (i = 0; i < nb_all; i++)
 		differ += i == 0 || all[i] != all[i - 1];
-	printf("got %u, of which %u are different\n", n, differ);
-	return n == differ ? n : 0;
+	printf("got %u, of which %u are different\n", nb_all, differ);
+	return nb_all == differ ? nb_all : 0;
 }
 
 /* Whether each mbuf that isn't lost is in the pool once. */

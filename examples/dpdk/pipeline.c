@@ -11,7 +11,8 @@
  *
  *   - an object that is got while a flag in it says that it is out, or put while it isn't;
  *   - a serial number that didn't come through the rings, or came twice;
- *   - in the end, when no lcore runs, an object that can't be got, or that can be got twice.
+ *   - in the end, an object that no lcore can get, of which one after another gets what it can, or
+ *     that can be got twice.
  *
  * An lcore that finds nothing to do yields its processor, so that lcores may share one. */
 #include <inttypes.h>
@@ -189,28 +190,49 @@ run_lcores(void)
 	rte_eal_mp_wait_lcore();
 }
 
-/* Gets what the mempool gives. Tells how many objects that are, and how often one came again. */
-static unsigned int
-get_all(unsigned int *again)
+/* What came back, how often some of it came again, and how many lcores have had their turn. */
+static atomic_uint back, again, turns;
+
+/* Gets what the mempool gives this lcore. */
+static int
+get_all(void *arg)
 {
-	unsigned int n = 0;
 	void *object;
 
-	*again = 0;
-	while (n + *again <= POPULATION && rte_mempool_get(pool, &object) == 0)
+	RTE_SET_USED(arg);
+	while (back + again <= POPULATION && rte_mempool_get(pool, &object) == 0)
 		if (atomic_exchange(&((struct object *)object)->is_out, 1))
-			++*again;
+			again++;
 		else
-			n++;
-	return n;
+			back++;
+	turns++;
+	return 0;
+}
+
+/* What an lcore keeps for itself, in a handler's own cache say, no other can get. (the turns are
+ * atomic, as a thread sanitizer doesn't see how EAL waits) */
+static void
+get_all_in_turn(void)
+{
+	unsigned int lcore, before;
+
+	get_all(NULL);
+	RTE_LCORE_FOREACH_WORKER (lcore) {
+		before = turns;
+		rte_eal_remote_launch(get_all, NULL, lcore);
+		while (turns == before)
+			sched_yield();
+		rte_eal_wait_lcore(lcore);
+	}
 }
 
 /* Prints what was found, and tells whether there is a fault in it. */
 static int
 tell(const char *ops)
 {
-	unsigned int counted = rte_mempool_avail_count(pool), again, back = get_all(&again);
+	unsigned int counted = rte_mempool_avail_count(pool);
 
+	get_all_in_turn();
 	printf("pipeline %s: %llu objects, %u of %u back\n", ops, got, back, POPULATION);
 	if (got == nb_objects && got_twice == 0 && put_twice == 0 && seen == got &&
 	    seen_twice == 0 && back == POPULATION && again == 0 && counted == POPULATION)
