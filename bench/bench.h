@@ -81,6 +81,7 @@ size_of(enum workload w)
 union refs {
 	void *object[MOST_REFS];
 	struct rte_mbuf *mbuf[MOST_REFS];
+	uint64_t value[MOST_REFS];
 	uint32_t number[MOST_REFS];
 	struct mbufpool_packet packet[MOST_REFS];
 };
@@ -161,7 +162,7 @@ extern const struct subject mempool_subject; /* on a handler, whose name is to b
 extern const struct subject lf_stack_subject, stack_subject, ring_mp_mc_subject;
 extern const struct subject ring_sp_sc_subject, ring_copy_subject;
 extern const struct subject plain_subject;
-extern const struct subject seat_subject, worker_subject;
+extern const struct subject pool_subject, worker_subject;
 extern const struct subject twice_subject, loses_subject;
 
 /* bare.c, rings.c: the forms of DPDK's own subjects that aren't a mempool */

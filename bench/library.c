@@ -1,4 +1,4 @@
-/* library.c - mbufpool.h from C: its seats, and its workers' packets. */
+/* library.c - mbufpool.h from C: its pools of values, and its workers' packets. */
 #include <stdlib.h>
 #include <string.h>
 
@@ -11,95 +11,118 @@
 #define REF_LIMIT 65535
 #define DESKS 2
 
-/* ---- seats ---- */
+/* ---- pools of values ---- */
 
-struct seat_user {
-	struct mbufpool_seat seat;
-	uint32_t *marks; /* of a check: for each element whether it is out */
+struct pool_user {
+	struct mbufpool_pool pool;
+	uint32_t *marks; /* of a check: for each value whether it is out */
 } __rte_cache_aligned;
 
-struct seat_pool {
-	struct seat_user user[MOST_THREADS];
+/* Its values are the numbers below its population. */
+struct value_pool {
+	struct pool_user user[MOST_THREADS];
+	unsigned int threads;
 	uint32_t population;
 };
 
 static __rte_always_inline bool
 get(void *user, union refs *refs, unsigned int n)
 {
-	struct seat_user *u = user;
+	struct pool_user *u = user;
 
-	return mbufpool_seat_get(&u->seat, refs->number, n) == 0;
+	return n == 1 ? mbufpool_pool_get_one(&u->pool, refs->value) == 0
+		      : mbufpool_pool_get(&u->pool, refs->value, n) == 0;
 }
 
 static __rte_always_inline bool
 put(void *user, const union refs *refs, unsigned int n)
 {
-	struct seat_user *u = user;
+	struct pool_user *u = user;
 
-	return mbufpool_seat_put(&u->seat, refs->number, n) == 0;
+	return n == 1 ? mbufpool_pool_put_one(&u->pool, refs->value[0]) == 0
+		      : mbufpool_pool_put(&u->pool, refs->value, n) == 0;
 }
 
 static uint32_t *
-mark_element(void *user, const union refs *refs, unsigned int i, unsigned int segment)
+mark_value(void *user, const union refs *refs, unsigned int i, unsigned int segment)
 {
-	const struct seat_user *u = user;
+	const struct pool_user *u = user;
 
-	return segment == 0 ? &u->marks[refs->number[i]] : NULL;
+	return segment == 0 ? &u->marks[refs->value[i]] : NULL;
 }
 
 static int64_t
-missing_from_seats(struct pool *pool)
+missing_from_values(struct pool *pool)
 {
-	struct seat_pool *p = pool->at;
+	struct value_pool *p = pool->at;
+	uint64_t in_pool = 0, by_one;
+	unsigned int i;
 
-	return (int64_t)p->population - mbufpool_seat_count(&p->user[0].seat);
+	for (i = 0; i < p->threads; i++)
+		if (mbufpool_pool_count(&p->user[i].pool, &by_one) == 0)
+			in_pool += by_one;
+	return (int64_t)(p->population - in_pool);
 }
 
 static void
-end_seats(struct pool *pool)
+end_values(struct pool *pool)
 {
-	struct seat_pool *p = pool->at;
+	struct value_pool *p = pool->at;
 	unsigned int i;
 
 	for (i = 0; i < MOST_THREADS; i++)
-		mbufpool_seat_end(&p->user[i].seat);
+		mbufpool_pool_end(&p->user[i].pool);
 	free(p->user[0].marks);
 	free(p);
 }
 
-static const struct calls seats = {
-	.ref_size = sizeof(uint32_t),
+static const struct calls values = {
+	.ref_size = sizeof(uint64_t),
 	.get = get,
 	.put = put,
-	.mark = mark_element,
-	.missing = missing_from_seats,
-	.close = end_seats,
+	.mark = mark_value,
+	.missing = missing_from_values,
+	.close = end_values,
 };
-ELEMENT_PLAYS(seats)
-PASS_PLAYS(seats)
+ELEMENT_PLAYS(values)
+PASS_PLAYS(values)
+
+/* Puts all values, and leaves them where each thread can get them. */
+static bool
+fill_values(struct value_pool *p)
+{
+	struct mbufpool_pool *first = &p->user[0].pool;
+	uint64_t value;
+
+	for (value = 0; value < p->population; value++)
+		if (mbufpool_pool_put_one(first, value) != 0)
+			return false;
+	return mbufpool_pool_flush(first) == 0;
+}
 
 static bool
-make_seats(struct seat_pool *p, const struct cell *cell)
+make_values(struct value_pool *p, const struct cell *cell)
 {
 	unsigned int i;
 
 	p->population = cell->population;
+	p->threads = cell->threads;
 	p->user[0].marks = calloc(cell->population, sizeof(p->user[0].marks[0]));
 	if (p->user[0].marks == NULL ||
-		mbufpool_seat_open(cell->population, cell->threads, TRIES, &p->user[0].seat) != 0)
+		mbufpool_pool_open(cell->population, cell->threads, TRIES, &p->user[0].pool) != 0)
 		return false;
 	for (i = 1; i < cell->threads; i++) {
-		if (mbufpool_seat_split(&p->user[0].seat, &p->user[i].seat) != 0)
+		if (mbufpool_pool_split(&p->user[0].pool, &p->user[i].pool) != 0)
 			return false;
 		p->user[i].marks = p->user[0].marks;
 	}
-	return true;
+	return fill_values(p);
 }
 
 static bool
-open_seats(const struct subject *subject, const struct cell *cell, struct pool *pool)
+open_values(const struct subject *subject, const struct cell *cell, struct pool *pool)
 {
-	struct seat_pool *p = aligned_alloc(RTE_CACHE_LINE_SIZE, sizeof(*p));
+	struct value_pool *p = aligned_alloc(RTE_CACHE_LINE_SIZE, sizeof(*p));
 	unsigned int i;
 
 	(void)subject;
@@ -107,24 +130,24 @@ open_seats(const struct subject *subject, const struct cell *cell, struct pool *
 		return false;
 	memset(p, 0, sizeof(*p));
 	pool->at = p;
-	if (!make_seats(p, cell)) {
-		end_seats(pool);
+	if (!make_values(p, cell)) {
+		end_values(pool);
 		return false;
 	}
 	for (i = 0; i < cell->threads; i++)
 		pool->user[i] = &p->user[i];
-	pool->calls = &seats;
+	pool->calls = &values;
 	if (workloads[cell->workload].form == PASSED)
-		seats_pass(cell->workload, pool);
+		values_pass(cell->workload, pool);
 	else
-		pool->play = seats_plays[cell->workload];
+		pool->play = values_plays[cell->workload];
 	return true;
 }
 
-const struct subject seat_subject = {
-	.name = "seat",
+const struct subject pool_subject = {
+	.name = "pool",
 	.has_no_cache = true,
-	.open = { [BARE] = open_seats, [ELEMENTS] = open_seats, [PASSED] = open_seats },
+	.open = { [BARE] = open_values, [ELEMENTS] = open_values, [PASSED] = open_values },
 };
 
 /* ---- workers ---- */

@@ -52,13 +52,13 @@ const struct workload_facts workloads[WORKLOADS] = {
 static const struct subject *const known[] = {
 	&ring_mp_mc_subject, &lf_stack_subject, &stack_subject, &plain_subject,
 #ifdef WITH_LIBRARY
-	&seat_subject, &worker_subject,
+	&pool_subject, &worker_subject,
 #endif
 	&ring_sp_sc_subject, &ring_copy_subject, &twice_subject, &loses_subject,
 };
 #define FAULTY 2
 
-static const char *const handlers[] = { "mbufpool", "mbufpool_checked", "mbufpool_guard" };
+static const char *const handlers[] = { "mbufpool", "mbufpool_guard" };
 
 /* What is asked for. */
 static struct {
@@ -160,7 +160,7 @@ static const char usage[] =
 	"bench [OPTION ..] [-- WORD OF EAL ..]\n"
 	"  --workload NAMES  stk1,stk8,stk32,get1,get32,pkt1,pkt32,pkt240,clone1,clone4,\n"
 	"                    pass1,pass32,handover\n"
-	"  --subject NAMES   ring_mp_mc,lf_stack,stack,plain,seat,worker,mbufpool,..,\n"
+	"  --subject NAMES   ring_mp_mc,lf_stack,stack,plain,pool,worker,mbufpool,..,\n"
 	"                    or another mempool handler\n"
 	"  --threads LIST    1,2,4\n"
 	"  --cache LIST      0,256\n"

@@ -68,8 +68,8 @@ function ratio(key, to,    p, n) {
 # ---- who there is ----
 
 function needs(who) {
-    if (who == "seat" || who == "worker" || who ~ /^mbufpool/)
-        return is_there["seat"] || is_there["worker"]
+    if (who == "pool" || who == "worker" || who ~ /^mbufpool/)
+        return is_there["pool"] || is_there["worker"]
     if (who ~ /^rattle/)
         return is_there["rattle"]
     return 1
@@ -99,15 +99,13 @@ function readme(    objects, mbufs) {
     readme_row("`ring_mp_mc`, the default", "get1", "get32", "ring_mp_mc", 1)
     readme_row("`lf_stack`", "get1", "get32", "lf_stack", 1)
     readme_row("`mbufpool`", "get1", "get32", "mbufpool", 1)
-    readme_row("`mbufpool_checked`", "get1", "get32", "mbufpool_checked", 1)
     readme_row("`mbufpool_guard`, its own caches inside", "get1", "get32", "mbufpool_guard", 1)
-    readme_row("from C: a seat", "get1", "get32", "seat", 0)
+    readme_row("from C: a pool of values", "get1", "get32", "pool", 0)
     readme_row("from Rattle: a worker's elements", "get1", "get32", "rattle", 1)
     print "| **packets, allocated and freed** | | | | |"
     readme_row("mbufs on `ring_mp_mc`", "pkt1", "pkt32", "ring_mp_mc", 1)
     readme_row("mbufs on `lf_stack`", "pkt1", "pkt32", "lf_stack", 1)
     readme_row("mbufs on `mbufpool`", "pkt1", "pkt32", "mbufpool", 1)
-    readme_row("mbufs on `mbufpool_checked`", "pkt1", "pkt32", "mbufpool_checked", 1)
     readme_row("mbufs on `mbufpool_guard`", "pkt1", "pkt32", "mbufpool_guard", 1)
     readme_row("from C: a worker's packets", "pkt1", "pkt32", "worker", 1)
     readme_row("from Rattle: a worker's packets", "pkt1", "pkt32", "rattle", 1)
@@ -170,17 +168,39 @@ function handlers(    c, cache, i, n, who) {
     for (i = 1; i <= 2 * nb_threads; i++)
         printf "---|"
     print ""
-    n = split("ring_mp_mc lf_stack stack mbufpool mbufpool_checked mbufpool_guard", who, " ")
+    n = split("ring_mp_mc lf_stack stack mbufpool mbufpool_guard", who, " ")
     for (c = 0; c < 2; c++) {
         cache = c * 256
         for (i = 1; i <= n; i++)
             handlers_row("`" who[i] "`", "get1", "get32", cache, who[i])
         if (cache == 0)
-            handlers_row("a seat of mbufpool.h", "get1", "get32", cache, "seat")
+            handlers_row("a pool of mbufpool.h", "get1", "get32", cache, "pool")
         for (i = 1; i <= n; i++)
             handlers_row("`" who[i] "`, mbufs", "pkt1", "pkt32", cache, who[i])
         handlers_row("a worker of mbufpool.h", "pkt1", "pkt32", cache, "worker")
     }
+}
+
+# ---- README: beside the default ----
+
+function ratios_row(label, one, many, count, cache,    key) {
+    key = " " count " " cache " "
+    printf "| %s | %s | %s |\n", label, ratio(one key "mbufpool", one key "ring_mp_mc"),
+        ratio(many key "mbufpool", many key "ring_mp_mc")
+}
+
+function ratios(    i, c) {
+    print "| `mbufpool`, of `ring_mp_mc` | single | lists of 32 |"
+    print "|---|---|---|"
+    if (!needs("mbufpool"))
+        return
+    for (i = 1; i <= nb_threads; i++)
+        ratios_row(thread[i] (thread[i] == 1 ? " lcore" : " lcores") ", no cache", "get1", "get32",
+            thread[i], 0)
+    ratios_row("1 lcore, a cache of 256", "get1", "get32", 1, 256)
+    for (c = 0; c < 2; c++)
+        ratios_row("passed to another lcore, " (c ? "a cache of 256" : "no cache"), "pass1", "pass32",
+            2, c * 256)
 }
 
 # ---- SPEED: got by one lcore and put by another; a hand-over ----
@@ -188,16 +208,16 @@ function handlers(    c, cache, i, n, who) {
 function passed(    c, i, n, who) {
     print "| | cache | lists of 1 | lists of 32 |"
     print "|---|---|---|---|"
-    n = split("ring_mp_mc lf_stack stack mbufpool mbufpool_checked mbufpool_guard", who, " ")
+    n = split("ring_mp_mc lf_stack stack mbufpool mbufpool_guard", who, " ")
     for (c = 0; c < 2; c++)
         for (i = 1; i <= n; i++)
             if (is_there[who[i]])
                 printf "| `%s` | %d | %s | %s |\n", who[i], c * 256,
                     with_least("pass1 2 " c * 256 " " who[i]),
                     with_least("pass32 2 " c * 256 " " who[i])
-    if (is_there["seat"])
-        printf "| a seat of mbufpool.h | 0 | %s | %s |\n", with_least("pass1 2 0 seat"),
-            with_least("pass32 2 0 seat")
+    if (is_there["pool"])
+        printf "| a pool of mbufpool.h | 0 | %s | %s |\n", with_least("pass1 2 0 pool"),
+            with_least("pass32 2 0 pool")
 }
 
 function handovers_row(label, who) {
@@ -228,6 +248,8 @@ END {
         handlers()
     else if (table == "passed")
         passed()
+    else if (table == "ratios")
+        ratios()
     else
         handovers()
     exit is_missing
