@@ -217,7 +217,7 @@ static inline const char *mbufpool_strerror(uint32_t status)
  *   MBUFPOOL_CONTENDED   `tries` exchanges were lost to other threads */
 
 /** A worker of a pool of values, or none where the pointer is null. The pointer is the library's. */
-struct mbufpool_pool { void *worker; };
+struct mbufpool_pool { void *at; };
 
 /**
  * Makes a pool without values, and its first worker.
@@ -369,6 +369,40 @@ struct mbufpool_magazine { uint64_t unused[7], count, values[128]; };
  *   - MBUFPOOL_STRANGER
  */
 uint32_t mbufpool_pool_front(struct mbufpool_pool *pool, void **front, uint64_t *number, uint64_t *count);
+
+/**
+ * Says where the magazines of a pool of values lie, for readers of a core or of a running program: what
+ * stands in any of them is in the pool, and nothing else is. They are one array of struct
+ * mbufpool_magazine, of the pool's workers and of its depot, which stays where it is until the pool is
+ * freed. While threads are within calls, what is read may be old or half written.
+ *
+ * @param pool
+ *   Any worker of the pool, or NULL.
+ * @param address
+ *   Gets the address of the first.
+ * @param count
+ *   Gets how many there are.
+ * @param bytes
+ *   Gets how many bytes each has. Where the call is refused, all three are as they were.
+ * @return
+ *   - 0: it is said.
+ *   - MBUFPOOL_STRANGER
+ */
+static inline uint32_t mbufpool_pool_magazines(struct mbufpool_pool *pool, uint64_t *address,
+	uint64_t *count, uint64_t *bytes)
+{
+	void *front = NULL;
+	uint64_t number = 0;
+	uint32_t status = MBUFPOOL_STRANGER;
+
+	if (pool != NULL)
+		status = mbufpool_pool_front(pool, &front, &number, count);
+	if (status != 0)
+		return status;
+	*bytes = sizeof(struct mbufpool_magazine);
+	*address = (uint64_t)(uintptr_t)front - number * *bytes;
+	return 0;
+}
 
 /**
  * Ends a worker, once what is in its magazines is at the depot. What the depot refuses is lost.
@@ -1470,38 +1504,6 @@ static inline void mbufpool_nullable_statement_end(struct mbufpool_statement *st
 #define mbufpool_statement_json(...) mbufpool_nullable_statement_json(__VA_ARGS__)
 #define mbufpool_statement_lost(...) mbufpool_nullable_statement_lost(__VA_ARGS__)
 #define mbufpool_statement_end(...) mbufpool_nullable_statement_end(__VA_ARGS__)
-
-/**
- * Says where the magazines of a pool of values lie, for readers of a core or of a running program: what
- * stands in any of them is in the pool, and nothing else is. They are one array of struct
- * mbufpool_magazine, of the pool's workers and of its depot, which stays where it is until the pool is
- * freed. While threads are within calls, what is read may be old or half written.
- *
- * @param pool
- *   Any worker of the pool, or NULL.
- * @param address
- *   Gets the address of the first.
- * @param count
- *   Gets how many there are.
- * @param bytes
- *   Gets how many bytes each has. Where the call is refused, all three are as they were.
- * @return
- *   - 0: it is said.
- *   - MBUFPOOL_STRANGER
- */
-static inline uint32_t mbufpool_pool_magazines(struct mbufpool_pool *pool, uint64_t *address,
-	uint64_t *count, uint64_t *bytes)
-{
-	void *front = NULL;
-	uint64_t number = 0;
-	uint32_t status = mbufpool_pool_front(pool, &front, &number, count);
-
-	if (status != 0)
-		return status;
-	*bytes = sizeof(struct mbufpool_magazine);
-	*address = (uint64_t)(uintptr_t)front - number * *bytes;
-	return 0;
-}
 
 #ifdef __cplusplus
 }

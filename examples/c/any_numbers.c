@@ -380,7 +380,7 @@ static void end_values(struct thread *t, uint32_t threads)
 	t[0].in_hand = 0;
 	for (i = 0; i < threads; i++) {
 		mbufpool_pool_end(&t[i].pool);
-		MUST(t[i].pool.worker == NULL);
+		MUST(t[i].pool.at == NULL);
 	}
 }
 
@@ -404,14 +404,14 @@ static void open_values(struct thread *t)
 
 	status = told(t, mbufpool_pool_open(values, workers, tries, &pool));
 	MUST(status == (is_pool_of_values(values, workers, tries) ? 0 : MBUFPOOL_BAD_POOL));
-	MUST((pool.worker != NULL) == (status == 0));
+	MUST((pool.at != NULL) == (status == 0));
 	if (status == 0) {
 		for (i = 1; (status = mbufpool_pool_split(&pool, &other)) == 0; i++)
 			;
 		MUST(status == MBUFPOOL_STRANGER && i == workers);
 		MUST(mbufpool_pool_count(&pool, &count) == 0 && count == 0);
 		MUST(mbufpool_pool_get_one(&pool, &count) == MBUFPOOL_NO_ENTRIES && count == 0);
-		MUST(mbufpool_pool_open(values, 0, tries, &pool) == MBUFPOOL_BAD_POOL && pool.worker != NULL);
+		MUST(mbufpool_pool_open(values, 0, tries, &pool) == MBUFPOOL_BAD_POOL && pool.at != NULL);
 	}
 	mbufpool_pool_end(&pool);
 	mbufpool_pool_end(&other);
@@ -423,7 +423,7 @@ static void call_no_pool(struct thread *t, struct mbufpool_pool *none)
 	struct mbufpool_pool other = MBUFPOOL_NONE;
 	uint64_t value = 77;
 
-	MUST(mbufpool_pool_split(none, &other) == MBUFPOOL_STRANGER && other.worker == NULL);
+	MUST(mbufpool_pool_split(none, &other) == MBUFPOOL_STRANGER && other.at == NULL);
 	MUST(mbufpool_pool_get(none, &value, 1) == MBUFPOOL_STRANGER && value == 77);
 	MUST(mbufpool_pool_get_one(none, &value) == MBUFPOOL_STRANGER && value == 77);
 	MUST(mbufpool_pool_put(none, &value, 1) == MBUFPOOL_STRANGER);
