@@ -17,40 +17,33 @@
 
 #define LINES_A_SECOND 10
 #define LINE_BITS 8
+#define LAST_TEXT (CALL_TEXT + PLACE_TEXT + 32) /* bytes of who and where as text */
 
 #define LOG(level, p, format, ...) \
 	rte_log(RTE_LOG_##level, RTE_LOGTYPE_MEMPOOL, "mbufpool_guard: pool %s: " format "\n", \
 		(p)->mp->name, __VA_ARGS__)
 
-/* The refusals that end a pool, and what is left to do then. */
+/* The refusals of the library that no mempool should meet, and what to do then. */
 static const struct {
 	uint32_t cause;
 	const char *name, *advice;
 } faults[] = {
 	{ MBUFPOOL_HEAD_SPENT, "MBUFPOOL_HEAD_SPENT",
-		"2^40 - 1 changes were made of its stack, and another mempool is needed" },
-	{ MBUFPOOL_LENT_OUT, "MBUFPOOL_LENT_OUT",
-		"this lcore got 2^56 objects more than it put: let it put some, or others get" },
+		"its magazines were exchanged as often as they can be: a new mempool is needed" },
+	{ MBUFPOOL_NO_MAGAZINE, "MBUFPOOL_NO_MAGAZINE",
+		"memory of the library was overwritten: see what writes beyond its own" },
 	{ MBUFPOOL_STRANGER, "MBUFPOOL_STRANGER", "the handle of its worker was overwritten" },
-	{ MBUFPOOL_UNRESTED, "MBUFPOOL_UNRESTED",
-		"an element's word was overwritten: see what writes beyond its memory" },
 };
-
-static uintptr_t
-address_of(caller by)
-{
-	return by & ((UINT64_C(1) << ADDRESS_BITS) - 1);
-}
 
 const char *
 guard_lcore_text(caller by, char *text)
 {
-	uint64_t who = by >> ADDRESS_BITS;
+	uint32_t who = by >> WAY_BITS;
 
 	if (who < 2)
 		snprintf(text, CALL_TEXT, "no lcore");
 	else
-		snprintf(text, CALL_TEXT, "lcore %" PRIu64, who - 2);
+		snprintf(text, CALL_TEXT, "lcore %" PRIu32, who - 2);
 	return text;
 }
 
@@ -72,18 +65,27 @@ call_text(uintptr_t address, char *text)
 	return text;
 }
 
+static const uintptr_t *
+calls_of(caller by)
+{
+	return guard_way_calls(by % MAX_WAYS);
+}
+
 /* (the longest of it fits into PLACE_TEXT) */
 const char *
 guard_place_text(caller by, char *text)
 {
-	const uintptr_t *calls = guard_way_calls(address_of(by));
+	const uintptr_t *calls = calls_of(by);
 	char call[CALL_TEXT];
 	size_t length;
 	unsigned int i;
 
-	length = snprintf(text, PLACE_TEXT, "%s",
-		call_text(calls != NULL ? calls[0] : address_of(by), call));
-	for (i = 1; calls != NULL && i <= MAX_CALLS && calls[i] != 0; i++)
+	if (calls == NULL) {
+		snprintf(text, PLACE_TEXT, "a place without a number");
+		return text;
+	}
+	length = snprintf(text, PLACE_TEXT, "%s", call_text(calls[0], call));
+	for (i = 1; i <= MAX_CALLS && calls[i] != 0; i++)
 		length += snprintf(text + length, PLACE_TEXT - length, "%s%s", i == 1 ? " (" : ", ",
 			call_text(calls[i], call));
 	if (i > 1)
@@ -97,14 +99,15 @@ guard_place_text(caller by, char *text)
 static const char *
 way_text(caller by, char *text)
 {
+	const uintptr_t *calls = calls_of(by);
 	void *frames[MAX_CALLS + 16];
-	int n = guard_calls == 0 ? backtrace(frames, RTE_DIM(frames)) : 0, i, k;
+	int n = guard_calls == 0 && calls != NULL ? backtrace(frames, RTE_DIM(frames)) : 0, i, k;
 	char call[CALL_TEXT];
 	size_t length = 0;
 
 	text[0] = 0;
 	for (i = 0; i < n; i++)
-		if ((uintptr_t)frames[i] - 1 == address_of(by))
+		if ((uintptr_t)frames[i] - 1 == calls[0])
 			break;
 	for (k = i + 1; k < n && k <= i + MAX_CALLS; k++)
 		length += snprintf(text + length, PLACE_TEXT - length, "%s %s",
@@ -124,14 +127,22 @@ take_line(struct guard_pool *p)
 	now = (uint64_t)time.tv_sec << LINE_BITS;
 	do {
 		next = seen >> LINE_BITS == now >> LINE_BITS ? seen + 1 : now + 1;
-		if (next - now > LINES_A_SECOND) {
-			__atomic_fetch_add(&p->limit.left_out, 1, __ATOMIC_RELAXED);
+		if (next - now > LINES_A_SECOND)
 			return 0;
-		}
 	} while (!__atomic_compare_exchange_n(
 		&p->limit.window, &seen, next, 0, __ATOMIC_RELAXED, __ATOMIC_RELAXED));
 	guard_log_left_out(p);
 	return 1;
+}
+
+/* The same for a refused put, which is counted where it has no line. */
+static int
+take_line_of_put(struct guard_pool *p)
+{
+	if (take_line(p))
+		return 1;
+	__atomic_fetch_add(&p->limit.left_out, 1, __ATOMIC_RELAXED);
+	return 0;
 }
 
 void
@@ -160,29 +171,73 @@ kind_of(const struct rte_mempool *mp)
 		: "object";
 }
 
-/* An element that is in the pool: who put it there, and who had got it. */
-void
-guard_log_not_out(struct guard_pool *p, uint32_t element, caller by)
+/* Writes "got by lcore 3 at app+0x804a", or that nobody got it. */
+static const char *
+got_text(caller got, char *text)
 {
-	caller put = __atomic_load_n(&p->pasts[element].put, __ATOMIC_RELAXED),
-	       got = __atomic_load_n(&p->pasts[element].got, __ATOMIC_RELAXED);
-	char by_lcore[CALL_TEXT], by_place[PLACE_TEXT], put_lcore[CALL_TEXT],
-		put_place[PLACE_TEXT], got_lcore[CALL_TEXT], got_place[PLACE_TEXT],
-		got_text[CALL_TEXT + PLACE_TEXT + 16], way[PLACE_TEXT];
+	char lcore[CALL_TEXT], place[PLACE_TEXT];
+
+	if (got == 0)
+		snprintf(text, LAST_TEXT, "never got");
+	else
+		snprintf(text, LAST_TEXT, "got by %s at %s", guard_lcore_text(got, lcore),
+			guard_place_text(got, place));
+	return text;
+}
+
+/* Writes "put before by lcore 3 at app+0x8398", or that another put it within some nanoseconds, who isn't
+ * noted. */
+static const char *
+put_text(caller put, char *text)
+{
+	char lcore[CALL_TEXT], place[PLACE_TEXT];
+
+	if (put == 0)
+		snprintf(text, LAST_TEXT, "another put it meanwhile");
+	else
+		snprintf(text, LAST_TEXT, "put before by %s at %s", guard_lcore_text(put, lcore),
+			guard_place_text(put, place));
+	return text;
+}
+
+/* An element that is in the pool: who put it there, and who had got it. It may have been put early, and
+ * given to another, who put it now or before: then that one isn't to blame. */
+void
+guard_log_not_out(struct guard_pool *p, uint32_t element, caller put, caller by)
+{
+	caller got = __atomic_load_n(&p->pasts[element].got, __ATOMIC_RELAXED);
+	char lcore[CALL_TEXT], place[PLACE_TEXT], put_before[LAST_TEXT], got_before[LAST_TEXT],
+		way[PLACE_TEXT];
+
+	if (!take_line_of_put(p))
+		return;
+	LOG(ERR, p,
+		"%s %p (element %" PRIu32 ") is put by %s at %s and isn't out: %s, %s%s%s",
+		kind_of(p->mp), p->objects[element], p->numbers[element], guard_lcore_text(by, lcore),
+		guard_place_text(by, place), put_text(put, put_before), got_text(got, got_before),
+		got != 0 ? ", or its old owner freed it late" : "", way_text(by, way));
+}
+
+/* An element that a worker kept and another put. */
+void
+guard_log_late(struct guard_pool *p, uint32_t element)
+{
+	struct past past = { .both = __atomic_load_n(&p->pasts[element].both, __ATOMIC_RELAXED) };
+	char lcore[CALL_TEXT], place[PLACE_TEXT], got[LAST_TEXT];
 
 	if (!take_line(p))
 		return;
-	if (got == NEVER_PUT)
-		snprintf(got_text, sizeof(got_text), "never got");
+	if (past.put == 0)
+		LOG(ERR, p,
+			"%s %p (element %" PRIu32 ") was put while it was in the pool, and given again "
+			"since: %s",
+			kind_of(p->mp), p->objects[element], p->numbers[element], got_text(past.got, got));
 	else
-		snprintf(got_text, sizeof(got_text), "got by %s at %s",
-			guard_lcore_text(got, got_lcore), guard_place_text(got, got_place));
-	LOG(ERR, p,
-		"%s %p (element %" PRIu32 ") is put by %s at %s and isn't out: put before by %s at %s, "
-		"%s%s",
-		kind_of(p->mp), p->objects[element], element, guard_lcore_text(by, by_lcore),
-		guard_place_text(by, by_place), guard_lcore_text(put, put_lcore),
-		guard_place_text(put, put_place), got_text, way_text(by, way));
+		LOG(ERR, p,
+			"%s %p (element %" PRIu32 ") was put by %s at %s while it was in the pool, or by "
+			"another if it was given again since: %s",
+			kind_of(p->mp), p->objects[element], p->numbers[element], guard_lcore_text(past.put, lcore),
+			guard_place_text(past.put, place), got_text(past.got, got));
 }
 
 void
@@ -190,7 +245,7 @@ guard_log_stranger(struct guard_pool *p, const void *object, caller by)
 {
 	char lcore[CALL_TEXT], place[PLACE_TEXT], way[PLACE_TEXT];
 
-	if (take_line(p))
+	if (take_line_of_put(p))
 		LOG(ERR, p, "object %p is none of this pool: put by %s at %s%s", object,
 			guard_lcore_text(by, lcore), guard_place_text(by, place),
 			way_text(by, way));
@@ -213,16 +268,6 @@ guard_log_fault(struct guard_pool *p, const char *call, uint32_t cause)
 }
 
 void
-guard_log_end(struct guard_pool *p, uint64_t changes_left)
-{
-	if (!__atomic_exchange_n(&p->is_end_told, 1, __ATOMIC_RELAXED))
-		LOG(WARNING, p,
-			"%" PRIu64 " of 2^40 - 1 changes of its stack are left; then its gets are "
-			"refused, %s, and another mempool is needed",
-			changes_left, faults[0].name);
-}
-
-void
 guard_log_cache(const struct rte_mempool *mp)
 {
 	rte_log(RTE_LOG_WARNING, RTE_LOGTYPE_MEMPOOL,
@@ -237,4 +282,33 @@ guard_log_wish(const char *name, const char *wish, unsigned int most)
 {
 	rte_log(RTE_LOG_WARNING, RTE_LOGTYPE_MEMPOOL,
 		"mbufpool_guard: %s=%s is no number of 0 to %u, and isn't used\n", name, wish, most);
+}
+
+void
+guard_log_size(const struct rte_mempool *mp)
+{
+	rte_log(RTE_LOG_ERR, RTE_LOGTYPE_MEMPOOL,
+		"mbufpool_guard: pool %s: %" PRIu32 " objects are more than a pool can have\n", mp->name,
+		mp->size);
+}
+
+void
+guard_log_waiting(const struct rte_mempool *mp, unsigned long wish, uint32_t waiting)
+{
+	rte_log(RTE_LOG_WARNING, RTE_LOGTYPE_MEMPOOL,
+		"mbufpool_guard: pool %s: a quarantine of %" PRIu32 " objects for each lcore and not %lu, "
+		"as all lcores' together may have half of %" PRIu32 "\n",
+		mp->name, waiting, wish, mp->size);
+}
+
+void
+guard_log_ways(void)
+{
+	static int is_told;
+
+	if (!__atomic_exchange_n(&is_told, 1, __ATOMIC_RELAXED))
+		rte_log(RTE_LOG_WARNING, RTE_LOGTYPE_MEMPOOL,
+			"mbufpool_guard: more than %" PRIu32 " places in the code get and put, or near it: "
+			"of some only the lcore is told\n",
+			MAX_WAYS - 1);
 }

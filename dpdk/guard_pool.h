@@ -12,45 +12,47 @@
 #include "mbufpool.h"
 #include "object_numbers.h"
 
-#define MAX_WORKERS 64
 #define MAX_CALLS 4	/* on the way to a get or a put */
-#define MAX_WAYS 65536	/* below the first address that code can have */
 #define CALL_TEXT 96	/* bytes of an address as text */
 #define PLACE_TEXT 512	/* of a place in the code, with the calls on the way to it */
 
-/* Who calls, and where, as one number of 2 at least: the lcore and 2, or 1 for a thread without one,
- * above 48 bits of the address of the call, or of the number of the way to it (guard_way.c). It is
- * what comes with a get. */
-typedef uint64_t caller;
+/* Who calls, and where, as one number that isn't 0: the lcore and 2, or 1 for a thread without one,
+ * above 16 bits of the number that the place in the code has (guard_way.c). */
+typedef uint32_t caller;
 
-/* How many calls on the way are noted, as the environment asks. */
-extern unsigned int guard_calls;
-uintptr_t guard_way_to(const void *return_address);
-
-#define ADDRESS_BITS 48
-#define NEVER_PUT 2 /* what the elements are got by before they have an object */
+#define WAY_BITS 16
+#define MAX_WAYS (UINT32_C(1) << WAY_BITS)
 
 static __rte_always_inline caller
-caller_of(unsigned int lcore, const void *return_address)
+caller_of(unsigned int lcore, uint32_t way)
 {
-	uint64_t who = lcore == LCORE_ID_ANY ? 1 : (uint64_t)lcore + 2;
-	/* (a byte before where it goes on is still of the call, as addr2line wants it) */
-	uintptr_t at = likely(guard_calls == 0) ? (uintptr_t)return_address - 1
-						: guard_way_to(return_address);
-
-	return who << ADDRESS_BITS | (at & ((UINT64_C(1) << ADDRESS_BITS) - 1));
+	return (caller)(lcore == LCORE_ID_ANY ? 1 : lcore + 2) << WAY_BITS | way;
 }
 
-/* Of an element that is in the pool, who put it there, and who had got it before. The one is 0 where
- * it was never put, the other NEVER_PUT where it was never got. */
+/* Who put an element last, or 0 while it is out; and who got it last, or 0 where nobody has. What was
+ * put last is in the pool: a put notes itself before it asks the library, and a get behind that. */
 struct past {
-	caller put, got;
+	union {
+		struct {
+			caller put, got;
+		};
+		uint64_t both;
+	};
 };
 
-struct worker {
+/* Where a worker was called from last, and the caller that this is, as it is noted of what he gets or puts. */
+struct last_call {
+	const void *at;
+	struct past noted;
+};
+
+/* The worker of an lcore, or of all threads without one. (two cache lines, as the processor fetches
+ * pairs of them) */
+struct guard_user {
 	struct mbufpool_guard guard;
-	uint32_t calls; /* so that the changes that are left are looked at now and then */
-} __rte_cache_aligned;
+	uint64_t puts, gets; /* modulo 2^64: written by the user alone */
+	struct last_call get, put;
+} __rte_aligned(2 * RTE_CACHE_LINE_SIZE);
 
 /* What limits the lines that a pool logs of refused puts. */
 struct line_limit {
@@ -58,28 +60,86 @@ struct line_limit {
 	uint64_t left_out; /* since the last line that told it */
 };
 
+/* An element of the library is a place in the mempool's memory (object_numbers.h). Where objects keep off the
+ * ends of pages some places have no object: such an element stays out. */
 struct guard_pool {
-	const struct rte_mempool *mp;
-	struct worker *own[RTE_MAX_LCORE]; /* each lcore's, or NULL */
+	void **objects;	    /* for each element its object, or NULL; and one more NULL */
+	struct past *pasts; /* for each element */
 	struct object_places places;
-	uint32_t *elements; /* for each place its object's element, or `size` */
-	void **objects;	    /* for each element its object; NULL for `size` */
-	struct past *pasts;
+	uint32_t *numbers; /* of the objects, as rte_mempool_obj_iter() comes to them, for each element */
+	const struct rte_mempool *mp;
 	uint32_t size, known; /* how many objects there are to be, and how many there are */
 	uintptr_t filling, filling_end; /* the memory that is filled with objects now */
-	rte_spinlock_t lock;		/* of the shared worker */
-	struct worker shared;		/* for threads without one of their own */
-	struct worker workers[MAX_WORKERS - 1];
 	struct line_limit limit __rte_cache_aligned;
-	uint64_t refused; /* puts, since the pool was made */
-	int is_fault_told, is_end_told;
+	uint64_t refused, late; /* puts, since the pool was made: refused, and found to have been too many */
+	int is_fault_told;
 	struct guard_pool *next; /* in the list of all pools */
+	rte_spinlock_t lock;	 /* of the shared user */
+	struct guard_user shared; /* of all threads that aren't enabled lcores */
+	struct guard_user lcores[RTE_MAX_LCORE]; /* those of lcores that aren't enabled have no worker */
+	struct guard_user *own[RTE_MAX_LCORE];	 /* those that have one, or NULL */
 };
+
+/* ---- guard_open.c ---- */
+
+int guard_make(struct rte_mempool *mp);
+void guard_free(struct rte_mempool *mp);
+int guard_populate(struct rte_mempool *mp, unsigned int max_objs, void *vaddr, rte_iova_t iova, size_t len,
+	rte_mempool_populate_obj_cb_t *obj_cb, void *obj_cb_arg);
+
+/* ---- guard_apart.c ---- (none is of the usual way) */
+
+#define GUARD_APART __rte_cold __rte_noinline
+
+/* Looks up who calls, by where the call returns to, and keeps him as the last. */
+GUARD_APART void guard_look_up_getter(struct last_call *last, const void *at);
+GUARD_APART void guard_look_up_putter(struct last_call *last, const void *at);
+
+/* The user by whose worker a thread gets and puts: its own, or the shared one, locked. */
+struct guard_user *guard_lock(struct guard_pool *p);
+void guard_unlock(struct guard_pool *p, struct guard_user *u);
+
+/* Tells what a user's worker found late, and counts its puts anew by what the library counts. */
+GUARD_APART void guard_tell_late(struct guard_pool *p, struct guard_user *u);
+
+/* The same of the shared worker, where nobody has its lock. (a thread that a debugger stopped may) */
+void guard_tell_shared(struct guard_pool *p);
+
+/* Gets and puts of a thread without an lcore, or of a mempool without a pool. */
+GUARD_APART int guard_enqueue(struct guard_pool *p, void *const *objects, unsigned int n, const void *at);
+GUARD_APART int guard_dequeue(struct guard_pool *p, void **objects, unsigned int n, const void *at);
+
+/* Gets objects of any number, in lists. */
+GUARD_APART int guard_get(struct guard_pool *p, void **objects, unsigned int n, caller by);
+
+/* The element of an object, or NO_PLACE where none begins at this address. */
+__rte_noinline uint32_t guard_element(const struct guard_pool *p, const void *object);
+
+/* Puts an object from the first step on, for the last caller of this lcore. */
+GUARD_APART int guard_put_own(struct guard_pool *p, void *object);
+
+/* What this lcore counted and noted wasn't put, or not all of it: the first for this cause. */
+GUARD_APART int guard_put_counted(struct guard_pool *p, const uint32_t *list, unsigned int n, uint32_t cause);
+GUARD_APART int guard_put_counted_one(struct guard_pool *p, void *object, uint32_t cause);
+
+/* What this lcore counted wasn't got, for this cause. */
+GUARD_APART int guard_get_counted(struct guard_pool *p, void **objects, unsigned int n, uint32_t cause);
 
 /* ---- guard_way.c ---- */
 
-void guard_way_begin(void);			      /* reads what the environment asks, once */
-const uintptr_t *guard_way_calls(uintptr_t number); /* those of a way, or NULL for an address */
+/* Reads what the environment asks, once, and says whether there is memory for the ways. */
+int guard_way_begin(void);
+
+/* The number of the place in the code that a call returns to, with the calls on the way to it where the
+ * environment asks for them; or 0 where there is no number left. */
+uint32_t guard_way_to(const void *return_address);
+
+/* How many calls on the way are noted, as the environment asks. */
+extern unsigned int guard_calls;
+
+/* The addresses of a way, 0 behind the last: of the place itself, and of the calls on the way to it. NULL
+ * for 0, and for one that this thread doesn't see yet. */
+const uintptr_t *guard_way_calls(uint32_t way);
 
 /* ---- guard_log.c ---- */
 
@@ -91,14 +151,17 @@ const char *guard_place_text(caller by, char *text);
 /* Writes "lcore 3" or "no lcore" into CALL_TEXT bytes, and answers them. */
 const char *guard_lcore_text(caller by, char *text);
 
-/* Each of these is one line at most. No lock is held by whoever calls. */
-void guard_log_not_out(struct guard_pool *p, uint32_t element, caller by);
+/* Each of these is one line at most. */
+void guard_log_not_out(struct guard_pool *p, uint32_t element, caller put, caller by);
 void guard_log_stranger(struct guard_pool *p, const void *object, caller by);
+void guard_log_late(struct guard_pool *p, uint32_t element);
 void guard_log_left_out(struct guard_pool *p); /* where lines were left out, how many */
 void guard_log_fault(struct guard_pool *p, const char *call, uint32_t cause);
-void guard_log_end(struct guard_pool *p, uint64_t changes_left);
+void guard_log_size(const struct rte_mempool *mp);
 void guard_log_cache(const struct rte_mempool *mp);
+void guard_log_waiting(const struct rte_mempool *mp, unsigned long wish, uint32_t waiting);
 void guard_log_wish(const char *name, const char *wish, unsigned int most);
+void guard_log_ways(void); /* (once) */
 
 /* ---- guard_report.c ---- */
 

@@ -13,7 +13,6 @@
 #include "mempool_guard.h"
 #include "releases.h"
 
-#define PORTION 256	  /* elements that are looked at under one lock */
 #define TELEMETRY_LINES 64 /* so that an answer fits into what telemetry sends */
 
 /* Objects that were got by one lcore at one place. */
@@ -64,31 +63,26 @@ pool_of(const struct rte_mempool *mp)
 
 /* ---- what is out ---- */
 
-/* Who got each of the elements from `from` on, `n` at most; 0 for what isn't out. */
-static void
-look(struct guard_pool *p, uint32_t from, uint32_t n, caller *by)
+/* Who got an element that has an object and is out, or 0. */
+static caller
+who_has(const struct guard_pool *p, uint32_t element)
 {
-	uint32_t i;
+	struct past past = { .both = __atomic_load_n(&p->pasts[element].both, __ATOMIC_RELAXED) };
 
-	rte_spinlock_lock(&p->lock);
-	for (i = 0; i < n; i++)
-		by[i] = mbufpool_guard_who(&p->shared.guard, from + i);
-	rte_spinlock_unlock(&p->lock);
+	return past.put == 0 && p->objects[element] != NULL ? past.got : 0;
 }
 
 /* Writes who got what is out, one behind the other, and answers how many these are. */
 static uint32_t
 callers_of(struct guard_pool *p, caller *by)
 {
-	uint32_t from, i, n, out = 0;
-	caller some[PORTION];
+	uint32_t element, out = 0;
+	caller has;
 
-	for (from = 0; from < p->known; from += n) {
-		n = RTE_MIN(p->known - from, (uint32_t)PORTION);
-		look(p, from, n, some);
-		for (i = 0; i < n; i++)
-			if (some[i] > NEVER_PUT)
-				by[out++] = some[i];
+	for (element = 0; element < p->places.next; element++) {
+		has = who_has(p, element);
+		if (has != 0)
+			by[out++] = has;
 	}
 	return out;
 }
@@ -146,16 +140,29 @@ written(FILE *out)
 	return fflush(out) == 0 && !ferror(out) ? 0 : -EIO;
 }
 
+/* Writes how many puts were found late to have been too many, where there are any. */
+static const char *
+late_text(const struct guard_pool *p, char *text)
+{
+	uint64_t late = __atomic_load_n(&p->late, __ATOMIC_RELAXED);
+
+	text[0] = 0;
+	if (late != 0)
+		snprintf(text, CALL_TEXT, ", %" PRIu64 " were found late", late);
+	return text;
+}
+
 int
 mbufpool_guard_report(FILE *out, const struct rte_mempool *mp)
 {
 	struct guard_pool *p = pool_of(mp);
-	char lcore[CALL_TEXT], place[PLACE_TEXT];
+	char lcore[CALL_TEXT], place[PLACE_TEXT], late[CALL_TEXT];
 	struct tallies t;
 	uint32_t i;
 
 	if (p == NULL)
 		return -EINVAL;
+	guard_tell_shared(p);
 	if (count_out(p, &t) != 0) {
 		fprintf(out, "mbufpool_guard: pool %s: no memory for a report of %" PRIu32 " objects\n",
 			mp->name, p->known);
@@ -163,8 +170,9 @@ mbufpool_guard_report(FILE *out, const struct rte_mempool *mp)
 	}
 	fprintf(out,
 		"mbufpool_guard: pool %s: %" PRIu32 " of %" PRIu32 " objects are out, %" PRIu64
-		" puts were refused\n",
-		mp->name, t.out, p->known, __atomic_load_n(&p->refused, __ATOMIC_RELAXED));
+		" puts were refused%s\n",
+		mp->name, t.out, p->known, __atomic_load_n(&p->refused, __ATOMIC_RELAXED),
+		late_text(p, late));
 	for (i = 0; i < t.count; i++)
 		fprintf(out, "%7" PRIu32 "  %s  %s\n", t.all[i].objects,
 			guard_lcore_text(t.all[i].by, lcore), guard_place_text(t.all[i].by, place));
@@ -182,11 +190,11 @@ mbufpool_guard_list(FILE *out, const struct rte_mempool *mp, unsigned int most)
 
 	if (p == NULL)
 		return -EINVAL;
-	for (element = 0; element < p->known && most > 0; element++) {
-		look(p, element, 1, &by);
-		if (by <= NEVER_PUT)
+	for (element = 0; element < p->places.next && most > 0; element++) {
+		by = who_has(p, element);
+		if (by == 0)
 			continue;
-		fprintf(out, "element %" PRIu32 "  %p  %s  %s\n", element, p->objects[element],
+		fprintf(out, "element %" PRIu32 "  %p  %s  %s\n", p->numbers[element], p->objects[element],
 			guard_lcore_text(by, lcore), guard_place_text(by, place));
 		most--;
 	}
@@ -197,21 +205,16 @@ int
 mbufpool_guard_in_pool(const struct rte_mempool *mp, void **objects, unsigned int n)
 {
 	struct guard_pool *p = pool_of(mp);
-	uint32_t from, i, k, found = 0;
-	caller some[PORTION];
+	uint32_t element, found = 0;
 
 	if (p == NULL)
 		return -EINVAL;
-	for (from = 0; from < p->known; from += k) {
-		k = RTE_MIN(p->known - from, (uint32_t)PORTION);
-		look(p, from, k, some);
-		for (i = 0; i < k; i++) {
-			if (some[i] != 0)
-				continue;
-			if (found < n)
-				objects[found] = p->objects[from + i];
-			found++;
-		}
+	for (element = 0; element < p->places.next; element++) {
+		if (p->objects[element] == NULL || who_has(p, element) != 0)
+			continue;
+		if (found < n)
+			objects[found] = p->objects[element];
+		found++;
 	}
 	return found;
 }
@@ -257,6 +260,7 @@ tell_pool(struct guard_pool *p, struct rte_tel_data *data)
 
 	if (lines == NULL)
 		return -ENOMEM;
+	guard_tell_shared(p);
 	if (count_out(p, &t) != 0) {
 		rte_tel_data_free(lines);
 		return -ENOMEM;
@@ -268,6 +272,7 @@ tell_pool(struct guard_pool *p, struct rte_tel_data *data)
 	rte_tel_data_add_dict_uint(data, "out", t.out);
 	rte_tel_data_add_dict_uint(
 		data, "refused", __atomic_load_n(&p->refused, __ATOMIC_RELAXED));
+	rte_tel_data_add_dict_uint(data, "late", __atomic_load_n(&p->late, __ATOMIC_RELAXED));
 	rte_tel_data_add_dict_container(data, "got_by", lines, 0);
 	rte_tel_data_add_dict_uint(data, "got_by_others", rest);
 	free(t.all);

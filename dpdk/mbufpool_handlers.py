@@ -109,65 +109,6 @@ def lf_stack_common(pool):
 
 # ---- handlers of this project ----
 
-# Where the words of a stack of the library stand: crates/ground, specs/Layout.antt. A link, and the low
-# bits of the head, are 0 for none and else an element + 1.
-HEAD, LENGTH, LINKS = 8, 16, 24
-TOP_BITS = 24
-
-
-def is_line(words, k):
-    """A cache line with one word, at most."""
-    return not any(words[k + 1:k + 8])
-
-
-def own_words(memory, handle, population):
-    """Where a stack's words are, by a seat of it, and the block that refers to them; or 0 and no block. How
-    the library's memory leads there is no part of its header. So it is looked for: a block that the handle
-    refers to says how many elements and words there are, and refers to these, which begin with three cache
-    lines that have a word each."""
-    for block in memory.pointers(handle, 8) if handle != 0 else ():
-        try:
-            words = memory.pointers(block, 24)
-        except Fault:
-            continue
-        if population in words and LINKS + 2 * population in words:
-            for at in words:
-                if are_words(memory, at, population):
-                    return at, words
-    return 0, ()
-
-
-def are_words(memory, at, population):
-    try:
-        lines = memory.pointers(at, LINKS)
-    except Fault:
-        return False
-    return lines[0] == 0 and lines[HEAD] != 0 and lines[LENGTH] <= population and all(
-        is_line(lines, k) for k in (0, HEAD, LENGTH))
-
-
-def own_stack(pool, handle, population):
-    """The elements on a stack of the library, from its top, by a seat of it."""
-    memory = pool.memory
-    words, block = own_words(memory, handle, population) if population <= MAX_ELEMENTS else (0, ())
-    if words == 0:
-        raise Fault("mempool %s: the words of its stack weren't found" % pool.name)
-    link, n = memory.number(words + 8 * HEAD) % (1 << TOP_BITS), memory.number(words + 8 * LENGTH)
-    found, seen = array("I"), set()
-    while link != 0:
-        if link in seen or link > population:
-            pool.note("its stack is damaged behind %d objects: a link leads to element %d"
-                      % (len(found), link - 1))
-            return found, block
-        seen.add(link)
-        found.append(link - 1)
-        link = memory.number(words + 8 * (LINKS + link - 1))
-    if len(found) != n:
-        pool.note("its stack says that it has %d objects, and has %d: threads stood in a put or a get"
-                  % (n, len(found)))
-    return found, block
-
-
 def magazines_common(pool):
     """Of the handler mbufpool: what is in any of its magazines, each from its top, and what it keeps."""
     memory, own, layout = pool.memory, pool.pool_data, pool.memory.layout
@@ -199,26 +140,17 @@ def in_magazine(pool, words, k):
 
 
 def guard_common(pool):
-    """Of mbufpool_guard: what isn't out, by number. What is out rests at a word of its own, 2 at least."""
+    """Of mbufpool_guard: what was put last and not got since, by number."""
     memory, own, layout = pool.memory, pool.pool_data, pool.memory.layout
-    if "guard_pool.size" not in layout.fields:
+    if "guard_pool.pasts" not in layout.fields:
         raise Fault("mempool %s: the layout was made without this handler" % pool.name)
-    size, known, objects, handle = (memory.get(own, "guard_pool." + field) for field in (
-        "size", "known", "objects", "shared.guard.at"))
-    on_stack, block = own_stack(pool, handle, size)
-    for at, count in zip(block, block[1:]):
-        rests = guard_rests(memory, at, size) if count == size else ()
-        if rests and all(rests[elem] < 2 for elem in on_stack):
-            of = memory.pointers(objects, min(known, size))
-            return array("Q", (of[elem] for elem in range(len(of)) if rests[elem] < 2))
-    raise Fault("mempool %s: the words of what is out weren't found" % pool.name)
-
-
-def guard_rests(memory, at, size):
-    try:
-        return memory.pointers(at, size)
-    except Fault:
-        return ()
+    known, places, objects, pasts = (memory.get(own, "guard_pool." + field) for field in (
+        "known", "places.next", "objects", "pasts"))
+    if known != pool.populated_size or not known <= places <= MAX_ELEMENTS:
+        raise Fault("mempool %s: there is no guarded pool at 0x%x" % (pool.name, own))
+    step, of = layout.sizes["past"] // 4, memory.pointers(objects, places)
+    puts = array("I", memory.read(pasts, 4 * step * places))[layout.at("past.put") // 4::step]
+    return array("Q", (of[k] for k in range(places) if of[k] != 0 and puts[k] != 0))
 
 
 HANDLERS = {

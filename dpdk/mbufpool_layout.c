@@ -125,8 +125,11 @@ print_own_handlers(void)
 {
 	FIELD(guard_pool, size);
 	FIELD(guard_pool, known);
+	FIELD(guard_pool, places.next);
 	FIELD(guard_pool, objects);
-	FIELD(guard_pool, shared.guard.at);
+	FIELD(guard_pool, pasts);
+	SIZE(past);
+	FIELD(past, put);
 	FIELD(pool_magazines, magic);
 	FIELD(pool_magazines, address);
 	FIELD(pool_magazines, count);

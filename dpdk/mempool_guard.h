@@ -28,8 +28,9 @@ extern "C" {
  *          15  lcore 2  app+0x1180
  *
  * Each object is looked at once, while others may get and put: what is out all the time is counted.
- * It may be called by any thread, and takes 8 bytes of memory for each object and 16 for each
- * place while it runs. Answers 0, or
+ * Where puts were found late to have been too many, the first line ends in ", 3 were found late".
+ * It may be called by any thread, and takes 4 bytes of memory for each object and 8 for each place while it
+ * runs. Answers 0, or
  *   -EINVAL  the mempool isn't on this handler, or has no objects yet, or this isn't the primary process
  *   -ENOMEM  there is no memory for it, which is written as one line
  *   -EIO     it can't be written */

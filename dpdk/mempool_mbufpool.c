@@ -45,6 +45,10 @@
 struct user {
 	struct mbufpool_pool pool;
 	uint64_t in; /* what it put less what it got, modulo 2^64: written by the user alone */
+	/* where its last call was refused: its list, how many objects that has, and the pool */
+	uintptr_t list;
+	unsigned int n;
+	struct pool *of;
 } __rte_aligned(2 * RTE_CACHE_LINE_SIZE);
 
 struct pool {
@@ -259,17 +263,10 @@ own_user(struct pool *p)
 }
 
 static __rte_cold __rte_noinline int
-get_apart(struct rte_mempool *mp, void **objects, unsigned int n)
+get_apart(struct pool *p, struct user *own, uint64_t *out, unsigned int n)
 {
-	uint64_t *out = (uint64_t *)(uintptr_t)objects;
-	struct pool *p = mp->pool_data;
-	struct user *own;
-	uint32_t cause;
+	const uint32_t cause = get_any(p, own, out, n);
 
-	if (p == NULL)
-		return -ENOBUFS;
-	own = own_user(p);
-	cause = get_any(p, own, out, n);
 	if (cause == 0) {
 		count_for(p, own, -(uint64_t)n);
 		return 0;
@@ -280,17 +277,10 @@ get_apart(struct rte_mempool *mp, void **objects, unsigned int n)
 
 /* (DPDK's callers don't look at what a put answers) */
 static __rte_cold __rte_noinline int
-put_apart(struct rte_mempool *mp, void *const *objects, unsigned int n)
+put_apart(struct pool *p, struct user *own, const uint64_t *list, unsigned int n)
 {
-	const uint64_t *list = (const uint64_t *)(uintptr_t)objects;
-	struct pool *p = mp->pool_data;
-	struct user *own;
-	uint32_t cause;
+	const uint32_t cause = put_by_either(p, own, list, n);
 
-	if (p == NULL)
-		return -ENOBUFS;
-	own = own_user(p);
-	cause = put_by_either(p, own, list, n);
 	if (cause != 0) {
 		log_kept(p, cause);
 		if (!keep(p, list, n)) {
@@ -302,26 +292,43 @@ put_apart(struct rte_mempool *mp, void *const *objects, unsigned int n)
 	return 0;
 }
 
-/* The same for a thread with an lcore that has counted the call, of which nothing came. */
+/* A call of a thread without an lcore, or by a mempool that has no pool yet. */
 static __rte_cold __rte_noinline int
-get_counted(struct rte_mempool *mp, void **objects, unsigned int n)
+get_without_user(struct rte_mempool *mp, void **objects, unsigned int n)
 {
-	count(own_user(mp->pool_data), n);
-	return get_apart(mp, objects, n);
+	struct pool *p = mp->pool_data;
+
+	return p == NULL ? -ENOBUFS : get_apart(p, NULL, (uint64_t *)(uintptr_t)objects, n);
 }
 
 static __rte_cold __rte_noinline int
-put_counted(struct rte_mempool *mp, void *const *objects, unsigned int n)
+put_without_user(struct rte_mempool *mp, void *const *objects, unsigned int n)
 {
-	count(own_user(mp->pool_data), -(uint64_t)n);
-	return put_apart(mp, objects, n);
+	struct pool *p = mp->pool_data;
+
+	return p == NULL ? -ENOBUFS : put_apart(p, NULL, (const uint64_t *)(uintptr_t)objects, n);
+}
+
+/* A call of a user that has counted it, and of which nothing came. */
+static __rte_cold __rte_noinline int
+get_refused(struct user *own, unsigned int n)
+{
+	count(own, n);
+	return get_apart(own->of, own, (uint64_t *)own->list, n);
+}
+
+static __rte_cold __rte_noinline int
+put_refused(struct user *own, unsigned int n)
+{
+	count(own, -(uint64_t)n);
+	return put_apart(own->of, own, (const uint64_t *)own->list, n);
 }
 
 /* ---- the usual way ----
  *
- * What is put or got is counted before the call. Little is kept over it, so that few registers are saved:
- * what is left to do when it is refused looks all up again. Lists are apart from single objects for the
- * same reason. */
+ * What is put or got is counted before the call. The user alone is kept over it, so that few registers are
+ * saved: what is left to do where it is refused finds its list there. Lists and single objects are apart
+ * from the beginning, before any register is saved. */
 
 /* The user that a call counts for, or NULL where there is none, or no pool yet. */
 static __rte_always_inline struct user *
@@ -330,17 +337,29 @@ usual_user(const struct rte_mempool *mp)
 	return likely(mp->pool_data != NULL) ? own_user(mp->pool_data) : NULL;
 }
 
+/* Begins a call: what it puts is counted, and where its list is. The user is told, whose address the
+ * compiler computes once so. */
+static __rte_always_inline struct user *
+begun(struct user *own, const void *list, uint64_t n)
+{
+	__asm__("" : "+r"(own));
+	own->list = (uintptr_t)list;
+	count(own, n);
+	return own;
+}
+
 static __rte_noinline int
 enqueue_list(struct rte_mempool *mp, void *const *objects, unsigned int n)
 {
 	struct user *own = usual_user(mp);
 
 	if (unlikely(own == NULL))
-		return put_apart(mp, objects, n);
-	count(own, n);
+		return put_without_user(mp, objects, n);
+	own = begun(own, objects, n);
+	own->n = n;
 	if (likely(mbufpool_pool_put(&own->pool, (const uint64_t *)(uintptr_t)objects, n) == 0))
 		return 0;
-	return put_counted(mp, objects, n);
+	return put_refused(own, own->n);
 }
 
 static __rte_noinline int
@@ -349,11 +368,12 @@ dequeue_list(struct rte_mempool *mp, void **objects, unsigned int n)
 	struct user *own = usual_user(mp);
 
 	if (unlikely(own == NULL))
-		return get_apart(mp, objects, n);
-	count(own, -(uint64_t)n);
+		return get_without_user(mp, objects, n);
+	own = begun(own, objects, -(uint64_t)n);
+	own->n = n;
 	if (likely(mbufpool_pool_get(&own->pool, (uint64_t *)(uintptr_t)objects, n) == 0))
 		return 0;
-	return get_counted(mp, objects, n);
+	return get_refused(own, own->n);
 }
 
 static int
@@ -365,11 +385,11 @@ handler_enqueue(struct rte_mempool *mp, void *const *objects, unsigned int n)
 		return enqueue_list(mp, objects, n);
 	own = usual_user(mp);
 	if (unlikely(own == NULL))
-		return put_apart(mp, objects, 1);
-	count(own, 1);
+		return put_without_user(mp, objects, 1);
+	own = begun(own, objects, 1);
 	if (likely(mbufpool_pool_put_one(&own->pool, (uintptr_t)objects[0]) == 0))
 		return 0;
-	return put_counted(mp, objects, 1);
+	return put_refused(own, 1);
 }
 
 static int
@@ -381,11 +401,11 @@ handler_dequeue(struct rte_mempool *mp, void **objects, unsigned int n)
 		return dequeue_list(mp, objects, n);
 	own = usual_user(mp);
 	if (unlikely(own == NULL))
-		return get_apart(mp, objects, 1);
-	count(own, -UINT64_C(1));
+		return get_without_user(mp, objects, 1);
+	own = begun(own, objects, -UINT64_C(1));
 	if (likely(mbufpool_pool_get_one(&own->pool, (uint64_t *)(uintptr_t)objects) == 0))
 		return 0;
-	return get_counted(mp, objects, 1);
+	return get_refused(own, 1);
 }
 
 /* What all users have put less what they got. (where others get and put meanwhile, the sum may be of no
@@ -426,6 +446,8 @@ open_workers(struct pool *p)
 	unsigned int workers = 1, lcore;
 	uint32_t cause;
 
+	for (lcore = 0; lcore < RTE_MAX_LCORE; lcore++)
+		p->lcores[lcore].of = p;
 	RTE_LCORE_FOREACH (lcore)
 		workers++;
 	cause = mbufpool_pool_open(p->size, workers, TRIES, &p->shared.pool);

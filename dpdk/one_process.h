@@ -3,7 +3,9 @@
  *
  * A mempool's calls go by a table of handlers, which each process has for itself. A handler stands there
  * with the calls of this file, which refuse, until a mempool is made in the process. So a secondary that
- * looks up a mempool of the primary's is refused, and no get or put of the primary asks for it. */
+ * looks up a mempool of the primary's is refused, and no get or put of the primary asks for it.
+ *
+ * One file of a plugin includes it: a refusal is told once for each file that does. */
 #ifndef MBUFPOOL_ONE_PROCESS_H
 #define MBUFPOOL_ONE_PROCESS_H
 #include <errno.h>

@@ -5,13 +5,13 @@
  *   struct mbufpool_pool     values of 64 bits, the addresses of objects, say: a worker has two
  *                            magazines of them, and exchanges one at the pool's depot, without a
  *                            lock, where both are empty or full
- *   struct mbufpool_guard    elements, 0 to population - 1, on a stack that up to 64 threads use at
- *                            once without a lock, each by a worker with a cache: what isn't out is
- *                            refused, whoever puts it, and each element that is out says who got it
- *   struct mbufpool_worker   packets over such a pool: a worker has a cache and a table of 256
- *                            packets, with lengths, chains, reference counts, clones, and desks
- *                            over which a packet passes to another worker; a pool of packets that
- *                            is closed leaves a statement (struct mbufpool_statement)
+ *   struct mbufpool_guard    elements, 0 to population - 1, at such a depot, each with a word that says
+ *                            by which worker it is out: what isn't out is refused, whoever puts it
+ *   struct mbufpool_worker   packets, on a stack of elements that up to 64 threads use at once without
+ *                            a lock: a worker has a cache and a table of 256 packets, with lengths,
+ *                            chains, reference counts, clones, and desks over which a packet passes
+ *                            to another worker; a pool of packets that is closed leaves a statement
+ *                            (struct mbufpool_statement)
  *
  * What a call answers:
  *
@@ -90,8 +90,8 @@ uint32_t mbufpool_version(void);
 enum mbufpool_refusal {
 	MBUFPOOL_BAD_POOL = 1,		/**< limits out of range */
 	MBUFPOOL_NO_MEMORY = 2,
-	MBUFPOOL_NO_ENTRIES = 3,	/**< fewer elements than were asked for were counted, or fewer values were
-					 * with the worker and none at the depot */
+	MBUFPOOL_NO_ENTRIES = 3,	/**< fewer elements than were asked for were counted, or fewer were with
+					 * the worker and none at the depot; or nothing is left to tell */
 	MBUFPOOL_CONTENDED = 4,		/**< as many tries were lost to other threads as the pool allows: try
 					 * again */
 	MBUFPOOL_HEAD_SPENT = 5,	/**< as many changes of the stack were made as it counts: the pool is at
@@ -114,14 +114,9 @@ enum mbufpool_refusal {
 	MBUFPOOL_SAME_PACKET = 23,
 	MBUFPOOL_MISUSED = 25,		/**< (mbufpool_worker_close alone) a handle was used by another thread
 					 * meanwhile: the workers are ended */
-	MBUFPOOL_NOT_OUT = 26,		/**< (guarded pools alone) of what was to be put not each was out */
-	MBUFPOOL_NOBODY = 27,		/**< (guarded pools alone) a get with a number below 2 */
-	MBUFPOOL_UNRESTED = 28,		/**< (guarded pools alone) a word that must be 0 wasn't: no run has
-					 * met it */
-	MBUFPOOL_LENT_OUT = 29,		/**< (guarded pools alone) this worker has lent its part of the pool,
-					 * 2^56 elements more than it put: at 10^8 a second that takes 22
-					 * years; get by another worker, or put by this one */
-	MBUFPOOL_NO_MAGAZINE = 30,	/**< (pools of values alone) no empty magazine was at the depot */
+	MBUFPOOL_NOT_OUT = 26,		/**< (guarded pools alone) what was to be put isn't out: it was put before,
+					 * or is none of the pool */
+	MBUFPOOL_NO_MAGAZINE = 30,	/**< (all pools but those of packets) no empty magazine was at the depot */
 };
 
 /**
@@ -153,7 +148,7 @@ static inline const char *mbufpool_strerror(uint32_t status)
 	case MBUFPOOL_TOO_MANY_SEGS:
 		return "too many segs: a packet has, or would have, more segments than the call allows";
 	case MBUFPOOL_NO_ROOM:
-		return "no room: too little room in the buffer, or another number of words than of elements";
+		return "no room: too little room in the buffer";
 	case MBUFPOOL_TOO_SHORT:
 		return "too short: the segment has fewer bytes, or the packet fewer segments";
 	case MBUFPOOL_NOT_DIRECT:
@@ -179,13 +174,7 @@ static inline const char *mbufpool_strerror(uint32_t status)
 	case MBUFPOOL_MISUSED:
 		return "misused: another thread used a worker while its pool was closed";
 	case MBUFPOOL_NOT_OUT:
-		return "not out: of what was to be put not each was out";
-	case MBUFPOOL_NOBODY:
-		return "nobody: a get brings a number of 2 at least";
-	case MBUFPOOL_UNRESTED:
-		return "unrested: the word of an element that isn't out wasn't 0";
-	case MBUFPOOL_LENT_OUT:
-		return "lent out: the worker has lent its part of the pool, get by another or put by this one";
+		return "not out: what was to be put was put before, or is none of the pool";
 	case MBUFPOOL_NO_MAGAZINE:
 		return "no magazine: no empty magazine was at the depot";
 	default:
@@ -417,196 +406,200 @@ void mbufpool_pool_end(struct mbufpool_pool *pool);
 
 /* ---- guarded pools ----
  *
- * What the stack refuses, by a worker here and by a worker of packets below:
+ * An element is out from the get that gives it until a put takes it. All others are in the pool: at the
+ * depot, which is one as a pool of values has, in a worker's two magazines, or in its list. Each has a word
+ * of its own, with the number of the worker by which it is out, or in whose list it is; else 0. So a put says
+ * of any number whether it is out, whichever worker got it, and the caller owes nothing of elements: any
+ * numbers may be put, by any worker, in any thread. What a worker got and puts itself takes a look at that
+ * word, and no exchange. What another got is taken by one exchange of its word, so that of two puts of one
+ * element at once one is refused.
  *
- *   a get   reserves n elements by the stack's length word, and then takes them off its head:
- *             MBUFPOOL_NO_ENTRIES  the length word counts fewer than n
- *             MBUFPOOL_CONTENDED   `tries` goes at the length word were lost
- *             MBUFPOOL_HEAD_SPENT  no change of the head is left
- *             MBUFPOOL_CONTENDED   `tries` goes at the head were lost
- *           What was reserved is given back then. Until that is done others count fewer, and may be
- *           refused MBUFPOOL_NO_ENTRIES.
- *   a put   links n elements, and adds them to the head, and to the length word afterwards:
- *             MBUFPOOL_HEAD_SPENT  as of a get
- *             MBUFPOOL_CONTENDED   `tries` goes at the head were lost
+ * What a worker put and keeps in its list has its number still. Another worker's put of that, which isn't
+ * out, can't be told from one of an element that is out by the first: it is answered 0. The element is in
+ * the pool once then, with the worker that put it last; the first finds its entry stale when it comes to it,
+ * drops it, and mbufpool_guard_stale tells which it was.
  *
- * Each get and each put that succeeds, of whatever length but 0, takes one of 2^40 - 1 changes.
+ * What a worker gets and puts:
  *
- * A worker's part of a guarded pool is 2^56 elements that it can have lent: got, and not put by itself.
- * The first worker has besides 2^56 for each worker that hasn't been split off it yet.
+ *   a put   of what it got itself is into its list. Where that has more than `cache` besides those that
+ *           wait, all but `cache` / 2 of these go to its magazines, those that were put first. What another
+ *           worker got goes to its magazines, or where elements are to wait, into its list.
+ *   a get   is from its list while that has more than `waiting`: the element that was put last, or where
+ *           elements are to wait, of those that have waited the last. Then it is from its magazines and the depot,
+ *           as of a pool of values, and where these have none, from those that wait.
  *
- * A worker of a guarded pool: a cache of elements, over the stack that all workers of the pool share.
- * An element is in one place: on the stack, in a worker's cache, or out. While it is out, a word of its
- * own has the number that came with its get. A put takes each number of its list from there by one
- * exchange, so that of two puts of one element one is refused, whichever threads make them and when.
- * So the caller owes nothing of elements: any numbers may be put, by any worker, in any thread.
- *
- * How a cache of the size `cache` serves, here and in a worker of packets:
- *
- *   a get   of fewer than `cache` is from the cache. Where that has too few it is filled up first, so
- *           that it has `cache` left. Where the stack hasn't so many, or refuses them, or n + cache is
- *           above the population, and where n is `cache` or more, all n come from the stack. The stack's
- *           last refusal is the answer then, and the cache is as before: so a get may be refused though
- *           cache and stack together have enough.
- *   a put   is into the cache. Once that is above `cache` by it and reaches three halves of it, all
- *           beyond `cache` goes to the stack by one put; a list of more than 512 goes there past the
- *           cache. What the stack refuses isn't lost, nor told: it stays in the cache, and goes there
- *           with the next. */
+ * What lies in a worker's list and in its magazines no other worker gets, until it is flushed: so a get may
+ * be refused MBUFPOOL_NO_ENTRIES while others have some. */
 
 /** A worker of a guarded pool, or none where the pointer is null. The pointer is the library's. */
 struct mbufpool_guard { void *at; };
 
 /**
- * Makes a guarded pool, all its elements on the stack, and its first worker, with an empty cache.
+ * Makes a guarded pool and its first worker, with which all elements are out: the pool is to have what is
+ * put, by that worker or another.
+ *
+ * The pool takes 8 bytes for each element in its words, and its magazines; each worker takes a byte for each
+ * element, and 4 for each that it keeps in its list.
  *
  * @param population
  *   How many elements: 1 to 16,777,214.
  * @param cache
- *   How many a worker's cache keeps: 0 to 512, three halves of it, rounded down, at most the population.
+ *   How many elements that it put a worker keeps in its list, besides those that wait: 0 to 512.
+ * @param waiting
+ *   How many elements that it put last wait at a worker, before it gives them again: 0 to 1,048,576. It
+ *   gives others first, as long as it gets some.
  * @param workers
  *   How many workers can be made of the pool in all, this one and those that are ended by then among
- *   them: 1 to 64.
+ *   them: 1 to 1,024.
  * @param tries
- *   How many lost tries a call makes before it is refused MBUFPOOL_CONTENDED: 1 to 1,000,000.
+ *   How many lost exchanges a call makes before it is refused MBUFPOOL_CONTENDED: 1 to 1,000,000.
  * @param out
- *   Gets the worker. One that was in it is lost with what is in its cache: end it before, by
- *   mbufpool_guard_end. Where the call is refused, it stays.
+ *   Gets the worker. One that was in it is ended; where the call is refused, it stays.
  * @return
  *   - 0: the pool is made.
  *   - MBUFPOOL_STRANGER: `out` is NULL.
- *   - MBUFPOOL_BAD_POOL: one of the four numbers is out of range.
- *   - MBUFPOOL_NO_MEMORY: there is none for the words, for the places of the elements that are out, or
- *     for the worker, whose cache has room for the whole population.
+ *   - MBUFPOOL_BAD_POOL: one of the five numbers is out of range, or the pool would have more than 65,534
+ *     magazines, as many as a pool of values has: for one worker from 8,387,840 elements on, for 1,024 from
+ *     7,995,008 on.
+ *   - MBUFPOOL_NO_MEMORY: memory was refused for the depot, or for the worker.
+ *   - MBUFPOOL_NO_MAGAZINE, MBUFPOOL_HEAD_SPENT, MBUFPOOL_CONTENDED: it gets no two empty magazines. No run
+ *     has met it.
  */
-uint32_t mbufpool_guard_open(uint32_t population, uint32_t cache, uint32_t workers, uint32_t tries,
-	struct mbufpool_guard *out);
+uint32_t mbufpool_guard_open(uint32_t population, uint32_t cache, uint32_t waiting, uint32_t workers,
+	uint32_t tries, struct mbufpool_guard *out);
 
 /**
- * Makes a guarded pool of a stack that counts its changes from `start` on, as if so many had been made
- * before: so the end of a pool can be met in a test. To open it takes two of them.
- *
- * @param population,cache,workers,tries,out
- *   As mbufpool_guard_open has them.
- * @param start
- *   How many changes count as made: 0 to 2^40 - 1.
- * @return
- *   - 0: the pool is made.
- *   - MBUFPOOL_STRANGER: `out` is NULL.
- *   - MBUFPOOL_BAD_POOL: one of the five numbers is out of range.
- *   - MBUFPOOL_NO_MEMORY: as mbufpool_guard_open; some is asked for after the changes are taken.
- *   - MBUFPOOL_HEAD_SPENT: there aren't two changes left.
- */
-uint32_t mbufpool_guard_open_at(uint32_t population, uint32_t cache, uint32_t workers, uint32_t tries,
-	uint64_t start, struct mbufpool_guard *out);
-
-/**
- * Makes one more worker of the pool, by its first worker, with an empty cache.
+ * Makes one more worker of the pool, by its first worker.
  *
  * @param worker
  *   The pool's first worker.
  * @param out
- *   Gets the new worker, as mbufpool_guard_open's does.
+ *   Gets the new worker, which keeps nothing, as mbufpool_guard_open's does.
  * @return
  *   - 0: `out` has a worker.
  *   - MBUFPOOL_STRANGER: `out` is NULL.
  *   - MBUFPOOL_STRANGER: the handle has no worker, or one that isn't the pool's first, or the pool has no
  *     more of them.
- *   - MBUFPOOL_LENT_OUT: so much of the first worker's part of the pool is lent that no worker's is left.
- *   - MBUFPOOL_NO_MEMORY: memory was refused. Where it is the last of what a split asks for, the pool can
- *     make one worker fewer from then on, as if one was made and ended.
+ *   - MBUFPOOL_NO_MEMORY: memory was refused for the worker.
+ *   - MBUFPOOL_NO_MAGAZINE, MBUFPOOL_HEAD_SPENT, MBUFPOOL_CONTENDED: it gets no two empty magazines.
  */
 uint32_t mbufpool_guard_split(struct mbufpool_guard *worker, struct mbufpool_guard *out);
 
 /**
- * Gets n elements, from the cache or the stack: all of them, or none. Each is out then.
+ * Gets n elements: all of them, or none. Each is out then, until somebody puts it.
  *
  * @param worker
- *   The worker that lends them to the caller.
- * @param who
- *   The number that each has while it is out: 2 or more, whatever that means to the caller.
+ *   Any worker of the pool.
  * @param out
  *   Gets the numbers of the elements. A refused get may have written to it.
  * @param n
  *   How many, 0 too.
  * @return
  *   - 0: the n elements are the caller's.
- *   - MBUFPOOL_NOBODY: `who` is below 2.
  *   - MBUFPOOL_STRANGER
- *   - MBUFPOOL_LENT_OUT: the worker has lent its part of the pool, or would have by this list.
- *   - MBUFPOOL_NO_ENTRIES, MBUFPOOL_CONTENDED, MBUFPOOL_HEAD_SPENT: by the stack, as a get, where the
- *     cache can't serve it.
- *   - MBUFPOOL_UNRESTED: the word of an element that was got wasn't 0, which is overwritten memory. The
- *     n elements, which `out` has, are lost to the pool then: they aren't out, in a cache or on the stack,
- *     but for those that another thread put meanwhile.
+ *   - MBUFPOOL_NO_ENTRIES: fewer are with this worker, and the depot has no magazine with elements.
+ *   - MBUFPOOL_HEAD_SPENT, MBUFPOOL_CONTENDED: by an exchange at the depot.
+ *   What it had got by then is put again, and what came from the depot meanwhile may be with this worker.
  */
-uint32_t mbufpool_guard_get(struct mbufpool_guard *worker, uint64_t who, uint32_t *out, size_t n);
+uint32_t mbufpool_guard_get(struct mbufpool_guard *worker, uint32_t *out, size_t n);
 
 /**
- * Puts n numbers, as far as they are out: into the worker's cache, whichever worker got them.
+ * Gets one element, as mbufpool_guard_get does, in fewer instructions.
  *
  * @param worker
  *   Any worker of the pool.
+ * @param out
+ *   Gets the number of the element; where the call is refused, it is as it was.
+ * @return
+ *   What mbufpool_guard_get answers.
+ */
+uint32_t mbufpool_guard_get_one(struct mbufpool_guard *worker, uint32_t *out);
+
+/**
+ * Puts numbers, one after another, until one is refused.
+ *
+ * @param worker
+ *   Any worker of the pool, whichever got them.
  * @param list
- *   Any numbers. They are put in another order: those that were put first, `*taken` of them, and behind
- *   them those that weren't out: put before, put twice in this list, never got, or none of the pool.
+ *   Any numbers.
  * @param n
- *   How many numbers.
- * @param words
- *   words[k] gets what was found of list[k], as that stands then: the number that came with its get, or 0
- *   where it wasn't out.
- * @param words_n
- *   How many words there is room for: n.
+ *   How many numbers, 0 too.
  * @param taken
- *   Gets how many were put, 0 to n. After each refusal but MBUFPOOL_NOT_OUT it is 0, and `list` and
- *   `words` are as they were.
+ *   Gets how many were put: those before the one that is refused. Those behind that weren't looked at.
  * @return
- *   - 0: all were out, and are put.
- *   - MBUFPOOL_NO_ROOM: `words_n` isn't n.
+ *   - 0: all n are put.
  *   - MBUFPOOL_STRANGER
- *   - MBUFPOOL_NOT_OUT: not all were out; those that were are put.
+ *   - MBUFPOOL_NOT_OUT: list[*taken] isn't out: it was put before, by whichever worker, or earlier in this
+ *     list, or while this call looked; or it is none of the pool.
+ *   - MBUFPOOL_NO_MAGAZINE, MBUFPOOL_HEAD_SPENT, MBUFPOOL_CONTENDED: there is no room for list[*taken] with
+ *     this worker, and the depot refused what is to make some. It wasn't looked at, and is where it was.
  */
-uint32_t mbufpool_guard_put(struct mbufpool_guard *worker, uint32_t *list, size_t n, uint64_t *words,
-	size_t words_n, uint64_t *taken);
+uint32_t mbufpool_guard_put(struct mbufpool_guard *worker, const uint32_t *list, size_t n,
+	uint64_t *taken);
 
 /**
- * Says how many changes of a guarded pool's stack are left: what a worker's cache can't serve takes one.
- *
- * @param worker
- *   Any worker of the pool.
- * @return
- *   0 to 2^40 - 1, by one read; 0 also where the handle has no worker. Others may take some meanwhile.
- */
-uint64_t mbufpool_guard_changes_left(struct mbufpool_guard *worker);
-
-/**
- * Says who has an element: the number that came with its get.
+ * Puts one number, as mbufpool_guard_put does, in fewer instructions.
  *
  * @param worker
  *   Any worker of the pool.
  * @param element
  *   Any number.
  * @return
- *   The number, 2 or more; or 0: the element isn't out, or is none of the pool, or the handle has no
- *   worker.
+ *   What mbufpool_guard_put answers of a list of it.
  */
-uint64_t mbufpool_guard_who(struct mbufpool_guard *worker, uint32_t element);
+uint32_t mbufpool_guard_put_one(struct mbufpool_guard *worker, uint32_t element);
 
 /**
- * Says how many elements of the pool are out; all others are on the stack or in a cache.
+ * Gives all that a worker keeps, in its list and its magazines, to the depot, where the pool's other workers
+ * can get it.
  *
  * @param worker
  *   Any worker of the pool.
  * @return
- *   0 to population; 0 also where the handle has no worker. Each word is read once, so what others get
- *   and put meanwhile may count or not.
+ *   - 0: the worker keeps nothing.
+ *   - MBUFPOOL_STRANGER
+ *   - MBUFPOOL_NO_MAGAZINE, MBUFPOOL_HEAD_SPENT, MBUFPOOL_CONTENDED: what hasn't gone is with the worker
+ *     still.
  */
-uint64_t mbufpool_guard_out(struct mbufpool_guard *worker);
+uint32_t mbufpool_guard_flush(struct mbufpool_guard *worker);
 
 /**
- * Puts the worker's cache onto the stack and ends the worker.
+ * Says what the calls of a worker have put less what they got, modulo 2^64.
  *
- * What is out may still be put, by any other worker. Where the stack refuses the cache, it is lost. Once
- * the first worker is ended no more are made.
+ * The counts of all workers of a pool, those that are ended by then too, and the population add up to the
+ * elements that are in it, once each stale entry is found.
+ *
+ * @param worker
+ *   Any worker of the pool.
+ * @param out
+ *   Gets the count; where the call is refused, it is as it was.
+ * @return
+ *   - 0: it is said.
+ *   - MBUFPOOL_STRANGER
+ */
+uint32_t mbufpool_guard_count(struct mbufpool_guard *worker, uint64_t *out);
+
+/**
+ * Tells an element that this worker had put, and another worker put again while it wasn't out: the oldest
+ * that this worker has found and not told yet. A worker finds it when it comes to the element in its list,
+ * by a get, a put or a flush, and has up to 64 in store; what it finds beyond these isn't told.
+ *
+ * @param worker
+ *   Any worker of the pool.
+ * @param out
+ *   Gets the number of the element; where the call is refused, it is as it was.
+ * @return
+ *   - 0: it is told, and in the store no more.
+ *   - MBUFPOOL_STRANGER
+ *   - MBUFPOOL_NO_ENTRIES: none is in store.
+ */
+uint32_t mbufpool_guard_stale(struct mbufpool_guard *worker, uint32_t *out);
+
+/**
+ * Ends a worker, once what it keeps is at the depot. What the depot refuses is lost.
+ *
+ * What the worker has got and not put may still be put, by any other worker. Once the first worker is ended
+ * no more are made.
  *
  * @param worker
  *   The worker; the handle has zeros then.
@@ -620,8 +613,35 @@ void mbufpool_guard_end(struct mbufpool_guard *worker);
  * uses another's, as a clone's does. The library keeps these numbers; the buffers are the caller's.
  *
  * Each call from mbufpool_worker_alloc to mbufpool_worker_flush is one act of its worker. What is put
- * back, when the last hold of an element ends, goes through the cache, as an element that is got: both as
- * a guarded worker's, above. `out` is written where the answer is 0.
+ * back, when the last hold of an element ends, goes through the worker's cache, as an element that is got.
+ * `out` is written where the answer is 0.
+ *
+ * How a cache of the size `cache` serves:
+ *
+ *   a get   of fewer than `cache` is from the cache. Where that has too few it is filled up first, so
+ *           that it has `cache` left. Where the stack hasn't so many, or refuses them, or n + cache is
+ *           above the population, and where n is `cache` or more, all n come from the stack. The stack's
+ *           last refusal is the answer then, and the cache is as before: so a get may be refused though
+ *           cache and stack together have enough.
+ *   a put   is into the cache. Once that is above `cache` by it and reaches three halves of it, all
+ *           beyond `cache` goes to the stack by one put; a list of more than 512 goes there past the
+ *           cache. What the stack refuses isn't lost, nor told: it stays in the cache, and goes there
+ *           with the next.
+ *
+ * What the stack refuses:
+ *
+ *   a get   reserves n elements by the stack's length word, and then takes them off its head:
+ *             MBUFPOOL_NO_ENTRIES  the length word counts fewer than n
+ *             MBUFPOOL_CONTENDED   `tries` goes at the length word were lost
+ *             MBUFPOOL_HEAD_SPENT  no change of the head is left
+ *             MBUFPOOL_CONTENDED   `tries` goes at the head were lost
+ *           What was reserved is given back then. Until that is done others count fewer, and may be
+ *           refused MBUFPOOL_NO_ENTRIES.
+ *   a put   links n elements, and adds them to the head, and to the length word afterwards:
+ *             MBUFPOOL_HEAD_SPENT  as of a get
+ *             MBUFPOOL_CONTENDED   `tries` goes at the head were lost
+ *
+ * Each get and each put that succeeds, of whatever length but 0, takes one of 2^40 - 1 changes.
  *
  * A worker has its packets in 256 places, and a packet is named by its slot: its place in the low 8 bits,
  * and above them how many packets went from that place before, modulo 2^24. A packet goes from its place
@@ -1177,19 +1197,11 @@ static inline void mbufpool_nullable_pool_end(struct mbufpool_pool *pool)
 }
 
 static inline uint32_t mbufpool_nullable_guard_open(uint32_t population, uint32_t cache,
-	uint32_t workers, uint32_t tries, struct mbufpool_guard *out)
+	uint32_t waiting, uint32_t workers, uint32_t tries, struct mbufpool_guard *out)
 {
 	if (out == NULL)
 		return MBUFPOOL_STRANGER;
-	return mbufpool_guard_open(population, cache, workers, tries, out);
-}
-
-static inline uint32_t mbufpool_nullable_guard_open_at(uint32_t population, uint32_t cache,
-	uint32_t workers, uint32_t tries, uint64_t start, struct mbufpool_guard *out)
-{
-	if (out == NULL)
-		return MBUFPOOL_STRANGER;
-	return mbufpool_guard_open_at(population, cache, workers, tries, start, out);
+	return mbufpool_guard_open(population, cache, waiting, workers, tries, out);
 }
 
 static inline uint32_t mbufpool_nullable_guard_split(struct mbufpool_guard *worker,
@@ -1200,47 +1212,58 @@ static inline uint32_t mbufpool_nullable_guard_split(struct mbufpool_guard *work
 	return mbufpool_guard_split(worker, out);
 }
 
-static inline uint32_t mbufpool_nullable_guard_get(struct mbufpool_guard *worker, uint64_t who,
-	uint32_t *out, size_t n)
+static inline uint32_t mbufpool_nullable_guard_get(struct mbufpool_guard *worker, uint32_t *out,
+	size_t n)
+{
+	if (worker == NULL)
+		return MBUFPOOL_STRANGER;
+	return mbufpool_guard_get(worker, out, n);
+}
+
+static inline uint32_t mbufpool_nullable_guard_get_one(struct mbufpool_guard *worker, uint32_t *out)
+{
+	if (worker == NULL)
+		return MBUFPOOL_STRANGER;
+	return mbufpool_guard_get_one(worker, out);
+}
+
+static inline uint32_t mbufpool_nullable_guard_put(struct mbufpool_guard *worker,
+	const uint32_t *list, size_t n, uint64_t *taken)
 {
 	if (worker == NULL) {
-		struct mbufpool_guard none = MBUFPOOL_NONE;
-
-		return mbufpool_guard_get(&none, who, out, n);
+		*taken = 0;
+		return MBUFPOOL_STRANGER;
 	}
-	return mbufpool_guard_get(worker, who, out, n);
+	return mbufpool_guard_put(worker, list, n, taken);
 }
 
-static inline uint32_t mbufpool_nullable_guard_put(struct mbufpool_guard *worker, uint32_t *list,
-	size_t n, uint64_t *words, size_t words_n, uint64_t *taken)
-{
-	if (worker == NULL) {
-		struct mbufpool_guard none = MBUFPOOL_NONE;
-
-		return mbufpool_guard_put(&none, list, n, words, words_n, taken);
-	}
-	return mbufpool_guard_put(worker, list, n, words, words_n, taken);
-}
-
-static inline uint64_t mbufpool_nullable_guard_changes_left(struct mbufpool_guard *worker)
+static inline uint32_t mbufpool_nullable_guard_put_one(struct mbufpool_guard *worker,
+	uint32_t element)
 {
 	if (worker == NULL)
-		return 0;
-	return mbufpool_guard_changes_left(worker);
+		return MBUFPOOL_STRANGER;
+	return mbufpool_guard_put_one(worker, element);
 }
 
-static inline uint64_t mbufpool_nullable_guard_who(struct mbufpool_guard *worker, uint32_t element)
+static inline uint32_t mbufpool_nullable_guard_flush(struct mbufpool_guard *worker)
 {
 	if (worker == NULL)
-		return 0;
-	return mbufpool_guard_who(worker, element);
+		return MBUFPOOL_STRANGER;
+	return mbufpool_guard_flush(worker);
 }
 
-static inline uint64_t mbufpool_nullable_guard_out(struct mbufpool_guard *worker)
+static inline uint32_t mbufpool_nullable_guard_count(struct mbufpool_guard *worker, uint64_t *out)
 {
 	if (worker == NULL)
-		return 0;
-	return mbufpool_guard_out(worker);
+		return MBUFPOOL_STRANGER;
+	return mbufpool_guard_count(worker, out);
+}
+
+static inline uint32_t mbufpool_nullable_guard_stale(struct mbufpool_guard *worker, uint32_t *out)
+{
+	if (worker == NULL)
+		return MBUFPOOL_STRANGER;
+	return mbufpool_guard_stale(worker, out);
 }
 
 static inline void mbufpool_nullable_guard_end(struct mbufpool_guard *worker)
@@ -1469,13 +1492,14 @@ static inline void mbufpool_nullable_statement_end(struct mbufpool_statement *st
 #define mbufpool_pool_front(...) mbufpool_nullable_pool_front(__VA_ARGS__)
 #define mbufpool_pool_end(...) mbufpool_nullable_pool_end(__VA_ARGS__)
 #define mbufpool_guard_open(...) mbufpool_nullable_guard_open(__VA_ARGS__)
-#define mbufpool_guard_open_at(...) mbufpool_nullable_guard_open_at(__VA_ARGS__)
 #define mbufpool_guard_split(...) mbufpool_nullable_guard_split(__VA_ARGS__)
 #define mbufpool_guard_get(...) mbufpool_nullable_guard_get(__VA_ARGS__)
+#define mbufpool_guard_get_one(...) mbufpool_nullable_guard_get_one(__VA_ARGS__)
 #define mbufpool_guard_put(...) mbufpool_nullable_guard_put(__VA_ARGS__)
-#define mbufpool_guard_changes_left(...) mbufpool_nullable_guard_changes_left(__VA_ARGS__)
-#define mbufpool_guard_who(...) mbufpool_nullable_guard_who(__VA_ARGS__)
-#define mbufpool_guard_out(...) mbufpool_nullable_guard_out(__VA_ARGS__)
+#define mbufpool_guard_put_one(...) mbufpool_nullable_guard_put_one(__VA_ARGS__)
+#define mbufpool_guard_flush(...) mbufpool_nullable_guard_flush(__VA_ARGS__)
+#define mbufpool_guard_count(...) mbufpool_nullable_guard_count(__VA_ARGS__)
+#define mbufpool_guard_stale(...) mbufpool_nullable_guard_stale(__VA_ARGS__)
 #define mbufpool_guard_end(...) mbufpool_nullable_guard_end(__VA_ARGS__)
 #define mbufpool_worker_open(...) mbufpool_nullable_worker_open(__VA_ARGS__)
 #define mbufpool_worker_end(...) mbufpool_nullable_worker_end(__VA_ARGS__)

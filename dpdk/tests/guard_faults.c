@@ -9,16 +9,23 @@
  *
  *   one-lcore     an mbuf is freed twice by one lcore
  *   two-lcores    freed by one lcore, and again by the other
+ *   other-first   got by one lcore, freed by the other, and again by the one
+ *   at-once       both free an mbuf at the same time, 5,000 times: each time one is refused, or found
+ *                 later to have put what the other kept
  *   no-lcore      freed by one lcore, and again by a thread that is none
  *   got-again     freed by two, got again by two, and freed by one, who had it first: that isn't to be
  *                 seen, as the mbuf is out; then two frees it, which is refused, and names one
+ *   early         freed by its owner, who gets another and frees the first again: what is put waits, so that
+ *                 it isn't got again in between, where the environment has MBUFPOOL_GUARD_QUARANTINE
+ *   late          1,000 of 101,000 packets are freed early, and again by their old owner up to 100 packets
+ *                 later: whose free is refused, its own, or that of who got the mbuf meanwhile
  *   in-a-list     a list of eight mbufs has one twice: the other seven go back
  *   other-pool    an mbuf of another mempool
  *   no-object     a pointer into an mbuf, and one into nothing
  *   flood         an mbuf is freed 1,000 times too often
  *   leak          three places in the code get mbufs, and one of them frees none
  *   load          all lcores get, pass on over rings and free, and now and then free twice: as many
- *                 puts are refused as were made too many
+ *                 puts are refused, or found late, as were made too many
  *
  * In the end each lcore, and a thread that is none, gets what it can: each mbuf has to come once. */
 #include <dlfcn.h>
@@ -41,6 +48,7 @@
 #define POPULATION 63
 #define MANY 4095
 #define FLOOD 1000
+#define AT_ONCE 5000
 #define ROUNDS 100000
 #define BULK 8
 
@@ -96,12 +104,21 @@ free_there(void *m)
 	return 0;
 }
 
+/* (others may come first) */
 static int
 free_and_get(void *m)
 {
+	struct rte_mbuf *got[POPULATION];
+	unsigned int n = 0;
+
 	free_one(m);
-	if (get_one() != m)
-		printf("FAULT: another mbuf was got\n");
+	do
+		got[n] = get_one();
+	while (got[n] != m && got[n] != NULL && ++n < POPULATION);
+	if (n == POPULATION || got[n] != m)
+		printf("FAULT: it isn't got again\n");
+	while (n > 0)
+		free_one(got[--n]);
 	return 0;
 }
 
@@ -177,6 +194,16 @@ two_lcores(void)
 }
 
 static void
+other_first(void)
+{
+	struct rte_mbuf *m = get_one();
+
+	on_lcore(lcore_two, free_own, m);
+	free_again(m);
+	END_OF_PLACE;
+}
+
+static void
 no_lcore(void)
 {
 	struct rte_mbuf *m = get_one();
@@ -199,6 +226,20 @@ got_again(void)
 	printf("freed by lcore two\n");
 	fflush(stdout);
 	on_lcore(lcore_two, free_own, m);
+}
+
+static void
+early(void)
+{
+	struct rte_mbuf *m = get_one(), *other;
+
+	free_one(m);
+	other = get_one();
+	printf("%s mbuf was got\n", other == m ? "the same" : "another");
+	fflush(stdout);
+	free_again(m);
+	free_one(other);
+	END_OF_PLACE;
 }
 
 static void
@@ -316,6 +357,129 @@ leak(void)
 	tell();
 }
 
+/* ---- early frees, and late ones ---- */
+
+#define IN_FLIGHT 32
+#define EARLY 1000
+#define LATEST 100 /* packets behind an early free, of which there is one for each so many, and one more */
+
+/* Whether a free is refused, as only the handler says. (the mbuf is left alone) */
+static int
+is_refused(void *m)
+{
+	return rte_mempool_ops_enqueue_bulk(pool, &m, 1) != 0;
+}
+
+static void
+late(void)
+{
+	void *in_flight[IN_FLIGHT] = { NULL }, *early = NULL, **slot;
+	unsigned int i, due = 0, late_refused = 0, others_refused = 0;
+	uint64_t random = 1;
+
+	for (i = 0; i < EARLY * (LATEST + 1); i++) {
+		if (i == due && early != NULL)
+			late_refused += is_refused(early);
+		slot = &in_flight[i % IN_FLIGHT];
+		if (*slot != NULL)
+			others_refused += is_refused(*slot);
+		if (rte_mempool_get(pool, slot) != 0)
+			rte_panic("no mbuf\n");
+		if (i % (LATEST + 1) != 0)
+			continue;
+		random = random * UINT64_C(6364136223846793005) + 1442695040888963407;
+		due = i + 1 + (random >> 33) % LATEST;
+		early = *slot;
+		others_refused += is_refused(early);
+		*slot = NULL;
+	}
+	for (i = 0; i < IN_FLIGHT; i++)
+		if (in_flight[i] != NULL)
+			others_refused += is_refused(in_flight[i]);
+	printf("of %u early frees the late one is refused %u times, and %u times another\n", EARLY,
+		late_refused, others_refused);
+	tell();
+}
+
+/* ---- what is found late ---- */
+
+/* Gets all that it can and puts it back, so that it meets what it keeps; and some more, so that it is asked
+ * for what it found. */
+static int
+meet_all(void *arg)
+{
+	static void *all[MANY + 1];
+	unsigned int n = 0, i;
+
+	RTE_SET_USED(arg);
+	while (n <= pool->size && rte_mempool_get(pool, &all[n]) == 0)
+		n++;
+	for (i = 0; i < n; i++)
+		rte_mempool_put(pool, all[i]);
+	for (i = 0; i < 64; i++)
+		if (rte_mempool_get(pool, &all[0]) == 0)
+			rte_mempool_put(pool, all[0]);
+	return 0;
+}
+
+static void
+settle(void)
+{
+	unsigned int i;
+
+	RTE_LCORE_FOREACH_WORKER (i)
+		on_lcore(i, meet_all, NULL);
+	meet_all(NULL);
+}
+
+/* Two lcores come here, and go on at once. */
+static void
+go_at_once(unsigned int round)
+{
+	static unsigned int arrived;
+
+	__atomic_add_fetch(&arrived, 1, __ATOMIC_SEQ_CST);
+	while (__atomic_load_n(&arrived, __ATOMIC_SEQ_CST) < 2 * round)
+		rte_pause();
+}
+
+/* (by rte_mempool_put, which leaves the mbuf alone) */
+static int
+free_at_once(void *mbufs)
+{
+	unsigned int i;
+
+	for (i = 0; i < AT_ONCE; i++) {
+		go_at_once(2 * i + 1);
+		rte_mempool_put(pool, *(void **)mbufs);
+		go_at_once(2 * i + 2);
+	}
+	return 0;
+}
+
+static void
+at_once(void)
+{
+	unsigned int i;
+	void *m;
+
+	meet();
+	errand.what = free_at_once;
+	errand.with = &m;
+	rte_eal_remote_launch(run_errand, NULL, lcore_two);
+	for (i = 0; i < AT_ONCE; i++) {
+		if (rte_mempool_get(pool, &m) != 0)
+			rte_panic("no mbuf\n");
+		go_at_once(2 * i + 1);
+		rte_mempool_put(pool, m);
+		go_at_once(2 * i + 2);
+	}
+	rte_eal_wait_lcore(lcore_two);
+	meet();
+	settle();
+	tell();
+}
+
 /* ---- a load ---- */
 
 struct lcore {
@@ -413,6 +577,7 @@ load(void)
 		put += lcores[i].put;
 	}
 	printf("got %" PRIu64 ", put %" PRIu64 ", too many %" PRIu64 "\n", got, put, put - got);
+	settle();
 	tell();
 }
 
@@ -476,8 +641,12 @@ static const struct {
 } plays[] = {
 	{ "one-lcore", one_lcore, POPULATION },
 	{ "two-lcores", two_lcores, POPULATION },
+	{ "other-first", other_first, POPULATION },
+	{ "at-once", at_once, MANY },
 	{ "no-lcore", no_lcore, POPULATION },
 	{ "got-again", got_again, POPULATION },
+	{ "early", early, POPULATION },
+	{ "late", late, MANY },
 	{ "in-a-list", in_a_list, POPULATION },
 	{ "other-pool", other_pool, POPULATION },
 	{ "no-object", no_object, POPULATION },

@@ -1,14 +1,19 @@
-/* any_frees.c - a guarded pool that is put anything: elements that this thread got, or another, that
- * were put before, or twice in one list, and numbers that are none of the pool. Each get brings a number
- * of its own, and each put tells which it found. At the end every get is held against the puts:
+/* any_frees.c - a guarded pool that is put anything, by threads: elements that this thread got, or another,
+ * elements that were put before, and numbers that are none of the pool. It is done in three ways.
  *
- *   - each number that a put found came with a get of that element, and no other put found it;
- *   - each get whose number no put found is out still, and the pool says its number;
- *   - everything else is in the pool, which says 0 of it, and gives it all again.
+ *   held    Each thread knows what is out with it, and puts that, or gives it to another thread to put. So
+ *           each of these puts succeeds, no element is given to two, and a list stops at the number that
+ *           was put before in it, or is none of the pool.
+ *   freed   Each thread puts whatever number. Each put is refused, or what was put was got before, or it
+ *           was with another worker, which tells it later as stale: of each element the puts that succeeded,
+ *           and 1 if it is out, are as many as the gets and what was told.
+ *   lists   The same by lists; a get of a list that is refused puts again what it had, which C doesn't see,
+ *           so here the workers' counts are held against what is in the pool.
  *
- * What is refused, of openings, splits and puts, changes nothing.
+ * At the end of each way what isn't out is given once, then what is out is put, and every element is given
+ * once. What is refused, of openings, splits, gets and puts, changes nothing.
  *
- *     make any_frees && ./any_frees [CALLS [THREADS [SEED]]] */
+ *     make any_frees && ./any_frees [CALLS [THREADS [SEED]]]    CALLS by each thread, 2,500,000 by default */
 #include <pthread.h>
 #include <stdio.h>
 #include <stdlib.h>
@@ -19,36 +24,34 @@
 #define MOST_THREADS 16
 #define POPULATION 600
 #define CACHE 32
-#define MOST 48 /* numbers in a list */
+#define FEW 6	 /* numbers in a list that is put in the first way: all stay at their worker for a while */
+#define MOST 48	 /* numbers in a list */
+#define PASSES 8 /* places over which elements pass to another thread */
 
-/* A get of an element, or a put that found it. */
-struct event {
-	uint64_t who;
-	uint32_t element;
-};
-
-struct events {
-	struct event *all;
-	size_t count, room;
-};
+enum way { HELD, FREED, LISTS };
 
 struct thread {
 	pthread_t id;
-	uint64_t state, gets;
-	unsigned number;
+	uint64_t state;
 	struct mbufpool_guard worker;
-	struct events got, put;
-	unsigned long calls, refused, empty, strange;
-	uint32_t seen[POPULATION], have; /* numbers that it got, of which some were put since */
+	unsigned long calls, succeeded, refused, empty, told;
+	uint64_t got[POPULATION], put[POPULATION], stale[POPULATION];
+	uint32_t seen[POPULATION], have; /* elements that it got, of which some were put since */
+	unsigned char own[POPULATION];	 /* (first way) whether it got that itself */
 };
 
-static unsigned long calls = 200000, seed = 1;
+static struct thread all_threads[MOST_THREADS];
+static enum way way;
+static unsigned char holder[POPULATION];
+static uint32_t passing[PASSES]; /* elements + 1 */
+static unsigned long calls = 2500000, seed = 1;
+static unsigned threads = 4;
 
 /* Ends the program unless this holds. */
 #define MUST(what) \
 	do { \
 		if (!(what)) { \
-			printf("line %d, seed %lu: not so: %s\n", __LINE__, seed, #what); \
+			printf("line %d, way %d, seed %lu: not so: %s\n", __LINE__, (int)way, seed, #what); \
 			exit(1); \
 		} \
 	} while (0)
@@ -66,34 +69,202 @@ static uint32_t below(struct thread *t, uint32_t n)
 	return (uint32_t)(next_number(t) % n);
 }
 
-static void add(struct events *e, uint64_t who, uint32_t element)
+/* A new pool's elements are out with its first worker, which puts what the pool is to have. */
+static void put_all(struct mbufpool_guard *first, uint32_t n)
 {
-	if (e->count == e->room) {
-		e->room = e->room ? 2 * e->room : 1024;
-		e->all = (struct event *)realloc(e->all, e->room * sizeof(e->all[0]));
-		MUST(e->all != NULL);
+	uint32_t element;
+
+	for (element = 0; element < n; element++)
+		MUST(mbufpool_guard_put_one(first, element) == 0);
+	MUST(mbufpool_guard_flush(first) == 0);
+}
+
+/* ---- what is refused ---- */
+
+static void meet_refusals(void)
+{
+	struct mbufpool_guard first = MBUFPOOL_NONE, second = MBUFPOOL_NONE, none = MBUFPOOL_NONE;
+	uint32_t list[4] = { 7, 7, 7, 7 }, one = 7, kept;
+	uint64_t taken = 99, count = 99, other = 99;
+
+	MUST(mbufpool_guard_open(0, 0, 0, 1, 1, &first) == MBUFPOOL_BAD_POOL);
+	MUST(mbufpool_guard_open(16777215, 0, 0, 1, 1, &first) == MBUFPOOL_BAD_POOL);
+	MUST(mbufpool_guard_open(3, 513, 0, 1, 1, &first) == MBUFPOOL_BAD_POOL);
+	MUST(mbufpool_guard_open(3, 0, 1048577, 1, 1, &first) == MBUFPOOL_BAD_POOL);
+	MUST(mbufpool_guard_open(3, 0, 0, 0, 1, &first) == MBUFPOOL_BAD_POOL);
+	MUST(mbufpool_guard_open(3, 0, 0, 1025, 1, &first) == MBUFPOOL_BAD_POOL);
+	MUST(mbufpool_guard_open(3, 0, 0, 1, 0, &first) == MBUFPOOL_BAD_POOL);
+	MUST(mbufpool_guard_open(3, 0, 0, 1, 1000001, &first) == MBUFPOOL_BAD_POOL);
+	/* one magazine more than a depot has */
+	MUST(mbufpool_guard_open(8387840, 0, 0, 1, 1, &first) == MBUFPOOL_BAD_POOL && first.at == NULL);
+
+	MUST(mbufpool_guard_open(3, 2, 0, 2, 10, &first) == 0);
+	MUST(mbufpool_guard_split(&none, &second) == MBUFPOOL_STRANGER && second.at == NULL);
+	MUST(mbufpool_guard_split(&first, &second) == 0);
+	/* a worker of each is all that the pool has, and only its first makes others */
+	MUST(mbufpool_guard_split(&first, &none) == MBUFPOOL_STRANGER && none.at == NULL);
+	MUST(mbufpool_guard_split(&second, &none) == MBUFPOOL_STRANGER && none.at == NULL);
+
+	/* all are out with the first at the start, and none once they are put */
+	MUST(mbufpool_guard_count(&first, &count) == 0 && count == (uint64_t)0 - 3);
+	MUST(mbufpool_guard_get_one(&second, &one) == MBUFPOOL_NO_ENTRIES && one == 7);
+	put_all(&first, 3);
+	MUST(mbufpool_guard_put_one(&first, 0) == MBUFPOOL_NOT_OUT);
+	MUST(mbufpool_guard_put_one(&second, 2) == MBUFPOOL_NOT_OUT);
+	MUST(mbufpool_guard_put_one(&second, 3) == MBUFPOOL_NOT_OUT);
+	MUST(mbufpool_guard_put_one(&second, UINT32_MAX) == MBUFPOOL_NOT_OUT);
+	MUST(mbufpool_guard_count(&first, &count) == 0 && count == 0);
+
+	MUST(mbufpool_guard_get(&first, list, 4) == MBUFPOOL_NO_ENTRIES);
+	MUST(mbufpool_guard_get(&first, list, 0) == 0);
+	MUST(mbufpool_guard_flush(&first) == 0);
+	MUST(mbufpool_guard_get(&second, list, 3) == 0);
+	MUST(mbufpool_guard_get_one(&first, &one) == MBUFPOOL_NO_ENTRIES && one == 7);
+	MUST(mbufpool_guard_count(&second, &count) == 0 && count == (uint64_t)0 - 3);
+
+	/* a list stops at the first that isn't out */
+	list[3] = list[2];
+	kept = list[0];
+	MUST(mbufpool_guard_put(&first, list, 0, &taken) == 0 && taken == 0);
+	MUST(mbufpool_guard_put(&second, list + 1, 3, &taken) == MBUFPOOL_NOT_OUT && taken == 2);
+	MUST(mbufpool_guard_put(&second, list + 1, 2, &taken) == MBUFPOOL_NOT_OUT && taken == 0);
+
+	/* what the second put and keeps the first puts again: the second finds it stale, and tells it once */
+	MUST(mbufpool_guard_put_one(&first, list[2]) == 0);
+	MUST(mbufpool_guard_put_one(&first, list[2]) == MBUFPOOL_NOT_OUT);
+	MUST(mbufpool_guard_stale(&second, &one) == MBUFPOOL_NO_ENTRIES && one == 7);
+	MUST(mbufpool_guard_flush(&second) == 0);
+	MUST(mbufpool_guard_stale(&second, &one) == 0 && one == list[2]);
+	MUST(mbufpool_guard_stale(&second, &one) == MBUFPOOL_NO_ENTRIES && one == list[2]);
+	MUST(mbufpool_guard_stale(&first, &one) == MBUFPOOL_NO_ENTRIES);
+	MUST(mbufpool_guard_count(&first, &count) == 0 && mbufpool_guard_count(&second, &other) == 0);
+	MUST(3 + count + other == 2);
+
+	/* what one got another puts, once; its worker is ended by then */
+	mbufpool_guard_end(&second);
+	MUST(second.at == NULL);
+	MUST(mbufpool_guard_put_one(&first, kept) == 0);
+	MUST(mbufpool_guard_put_one(&first, kept) == MBUFPOOL_NOT_OUT);
+	MUST(mbufpool_guard_get(&first, list, 3) == 0);
+	MUST(list[0] != list[1] && list[0] != list[2] && list[1] != list[2]);
+	MUST(mbufpool_guard_get_one(&first, &one) == MBUFPOOL_NO_ENTRIES);
+	mbufpool_guard_end(&first);
+	MUST(mbufpool_guard_get_one(&first, &one) == MBUFPOOL_STRANGER);
+
+	/* what waits isn't given while there are others, and then the one that was put first */
+	MUST(mbufpool_guard_open(3, 0, 2, 1, 10, &first) == 0);
+	put_all(&first, 3);
+	MUST(mbufpool_guard_get(&first, list, 2) == 0);
+	MUST(mbufpool_guard_put(&first, list, 2, &taken) == 0 && taken == 2);
+	MUST(mbufpool_guard_get_one(&first, &one) == 0 && one != list[0] && one != list[1]);
+	MUST(mbufpool_guard_put_one(&first, list[1]) == MBUFPOOL_NOT_OUT);
+	MUST(mbufpool_guard_get_one(&first, &one) == 0 && one == list[0]);
+	MUST(mbufpool_guard_get_one(&first, &one) == 0 && one == list[1]);
+	mbufpool_guard_end(&first);
+}
+
+/* ---- what threads do ---- */
+
+/* What was found stale, as far as it is found by now. */
+static void ask(struct thread *t)
+{
+	uint32_t element;
+
+	while (mbufpool_guard_stale(&t->worker, &element) == 0) {
+		MUST(way != HELD && element < POPULATION);
+		t->stale[element]++;
+		t->told++;
 	}
-	e->all[e->count].who = who;
-	e->all[e->count].element = element;
-	e->count++;
+}
+
+static int is_refused(struct thread *t, uint32_t status)
+{
+	if (status == 0)
+		return 0;
+	MUST(status == MBUFPOOL_NO_ENTRIES || status == MBUFPOOL_CONTENDED);
+	t->empty++;
+	return 1;
 }
 
 static void get_some(struct thread *t)
 {
-	uint32_t out[MOST], n = below(t, 4) ? below(t, 5) : below(t, MOST + 1), k, status;
-	uint64_t who = ((uint64_t)(t->number + 1) << 40) + ++t->gets;
+	uint32_t out[MOST], n = below(t, 4) ? below(t, FEW) : below(t, MOST + 1), k;
 
-	status = mbufpool_guard_get(&t->worker, who, out, n);
-	if (status == MBUFPOOL_NO_ENTRIES || status == MBUFPOOL_CONTENDED) {
-		t->empty++;
+	if (way == HELD && n > POPULATION / threads - t->have)
 		return;
-	}
-	MUST(status == 0);
+	if (way == FREED || below(t, 2)) {
+		n = 1;
+		if (is_refused(t, mbufpool_guard_get_one(&t->worker, out)))
+			return;
+	} else if (is_refused(t, mbufpool_guard_get(&t->worker, out, n)))
+		return;
 	for (k = 0; k < n; k++) {
 		MUST(out[k] < POPULATION);
-		add(&t->got, who, out[k]);
-		t->seen[t->have++ % POPULATION] = out[k];
+		t->got[out[k]]++;
+		if (way != HELD) {
+			t->seen[t->have++ % POPULATION] = out[k];
+			continue;
+		}
+		MUST(__atomic_exchange_n(&holder[out[k]], 1, __ATOMIC_SEQ_CST) == 0);
+		t->own[t->have] = 1;
+		t->seen[t->have++] = out[k];
 	}
+}
+
+/* (the first way) Takes an element from among those that it has. */
+static uint32_t take_any(struct thread *t, unsigned char *own)
+{
+	uint32_t at = below(t, t->have), element = t->seen[at];
+
+	*own = t->own[at];
+	t->seen[at] = t->seen[--t->have];
+	t->own[at] = t->own[t->have];
+	return element;
+}
+
+/* Gives one of its elements to another thread, for one of another's, or for none. */
+static void pass_one(struct thread *t)
+{
+	uint32_t *place = &passing[below(t, PASSES)], element = 0;
+	unsigned char own;
+
+	if (t->have && below(t, 2))
+		element = take_any(t, &own) + 1;
+	element = __atomic_exchange_n(place, element, __ATOMIC_SEQ_CST);
+	if (element) {
+		t->own[t->have] = 0;
+		t->seen[t->have++] = element - 1;
+	}
+}
+
+/* (the first way) Puts some of what it has; behind these perhaps one of them once more, which is with this
+ * worker still, or a number that is none of the pool, and behind that whatever number. */
+static void put_held(struct thread *t)
+{
+	uint32_t list[FEW + 2], n = below(t, FEW + 1), k, again = POPULATION, count, status;
+	unsigned char own;
+	uint64_t taken = 99;
+
+	if (n > t->have)
+		n = t->have;
+	for (k = 0; k < n; k++) {
+		list[k] = take_any(t, &own);
+		if (own)
+			again = list[k];
+		MUST(__atomic_exchange_n(&holder[list[k]], 0, __ATOMIC_SEQ_CST) == 1);
+		t->put[list[k]]++;
+	}
+	if (n == 1 && below(t, 2)) {
+		MUST(mbufpool_guard_put_one(&t->worker, list[0]) == 0);
+		return;
+	}
+	list[n] = below(t, 2) ? again : POPULATION + below(t, 1000);
+	list[n + 1] = below(t, POPULATION);
+	count = below(t, 2) ? n : n + 2;
+	status = mbufpool_guard_put(&t->worker, list, count, &taken);
+	MUST(taken == n && status == (count == n ? 0 : (uint32_t)MBUFPOOL_NOT_OUT));
+	t->succeeded += n;
+	t->refused += count != n;
 }
 
 /* A number that is likely to be out, or any element, or any number. */
@@ -111,24 +282,23 @@ static uint32_t any(struct thread *t)
 
 static void put_any(struct thread *t)
 {
-	uint32_t list[MOST], before[MOST], n = below(t, 4) ? below(t, 6) : below(t, MOST + 1), k, i, status;
-	uint64_t words[MOST], taken = 99, at;
+	uint32_t list[MOST], n = below(t, 4) ? below(t, FEW) : below(t, MOST + 1), k, status;
+	uint64_t taken = 99;
 
 	for (k = 0; k < n; k++)
-		before[k] = list[k] = any(t);
-	status = mbufpool_guard_put(&t->worker, list, n, words, n, &taken);
-	MUST(taken <= n && status == (taken == n ? 0 : (uint32_t)MBUFPOOL_NOT_OUT));
-	for (at = 0; at < n; at++) {
-		for (k = 0, i = 0; k < n; k++)
-			i += (before[k] == list[at]) - (uint32_t)(list[k] == list[at]);
-		MUST(i == 0);
-		if (at < taken) {
-			MUST(words[at] >= 2 && list[at] < POPULATION);
-			add(&t->put, words[at], list[at]);
-		} else {
-			MUST(words[at] == 0);
-			t->refused++;
-		}
+		list[k] = any(t);
+	if (n == 1) {
+		status = mbufpool_guard_put_one(&t->worker, list[0]);
+		taken = status == 0;
+	} else
+		status = mbufpool_guard_put(&t->worker, list, n, &taken);
+	MUST(status == 0 ? taken == n : taken < n);
+	MUST(status == 0 || status == MBUFPOOL_NOT_OUT || status == MBUFPOOL_CONTENDED);
+	t->refused += status != 0;
+	t->succeeded += taken;
+	for (k = 0; k < taken; k++) {
+		MUST(list[k] < POPULATION);
+		t->put[list[k]]++;
 	}
 }
 
@@ -137,133 +307,128 @@ static void *run(void *arg)
 	struct thread *t = (struct thread *)arg;
 
 	for (; t->calls < calls; t->calls++) {
-		uint32_t one = below(t, POPULATION);
-
 		switch (below(t, 16)) {
-		case 0: /* a number of nobody changes nothing */
-			MUST(mbufpool_guard_get(&t->worker, below(t, 2), &one, 1) == MBUFPOOL_NOBODY);
+		case 0:
+			ask(t);
+			if (below(t, 16) == 0)
+				MUST(mbufpool_guard_flush(&t->worker) == 0);
 			break;
 		case 1:
-			MUST(mbufpool_guard_who(&t->worker, one) != 1);
-			MUST(mbufpool_guard_who(&t->worker, POPULATION + one) == 0);
-			break;
+			if (way == HELD) {
+				pass_one(t);
+				break;
+			}
+			/* fall through */
 		case 2:
 		case 3:
 		case 4:
 		case 5:
 		case 6:
-		case 7:
-			get_some(t);
-			break;
+		case 7: get_some(t); break;
 		default:
-			put_any(t);
+			if (way == HELD)
+				put_held(t);
+			else
+				put_any(t);
 		}
+		ask(t);
 	}
 	return NULL;
 }
 
-static int order(const void *a, const void *b)
-{
-	const struct event *x = (const struct event *)a, *y = (const struct event *)b;
+/* ---- what must be so at the end ---- */
 
-	if (x->who != y->who)
-		return x->who < y->who ? -1 : 1;
-	return x->element < y->element ? -1 : x->element > y->element;
+/* Gets all that is in the pool by its first worker, each once, and says how many. */
+static uint32_t get_all(unsigned char *met)
+{
+	uint32_t count = 0, element, status;
+
+	memset(met, 0, POPULATION);
+	while ((status = mbufpool_guard_get_one(&all_threads[0].worker, &element)) == 0) {
+		MUST(element < POPULATION && !met[element]);
+		met[element] = 1;
+		count++;
+	}
+	MUST(status == MBUFPOOL_NO_ENTRIES);
+	return count;
 }
 
-/* Each get is put once, or out still. */
-static void compare(struct thread *t, unsigned threads)
+static void compare(void)
 {
-	struct events got = { NULL, 0, 0 }, put = { NULL, 0, 0 };
-	struct mbufpool_guard none = MBUFPOOL_NONE;
-	uint64_t out[POPULATION] = { 0 };
-	uint32_t all[POPULATION];
-	unsigned char met[POPULATION] = { 0 };
-	size_t k, at = 0, left = 0;
+	unsigned char met[POPULATION], again[POPULATION];
+	uint64_t in_pool = POPULATION, count, got, put, stale;
+	uint32_t n, k;
 	unsigned i;
 
 	for (i = 0; i < threads; i++) {
-		for (k = 0; k < t[i].got.count; k++)
-			add(&got, t[i].got.all[k].who, t[i].got.all[k].element);
-		for (k = 0; k < t[i].put.count; k++)
-			add(&put, t[i].put.all[k].who, t[i].put.all[k].element);
+		MUST(mbufpool_guard_flush(&all_threads[i].worker) == 0);
+		ask(&all_threads[i]);
 	}
-	if (got.count)
-		qsort(got.all, got.count, sizeof(got.all[0]), order);
-	if (put.count)
-		qsort(put.all, put.count, sizeof(put.all[0]), order);
-	for (k = 0; k < got.count; k++) {
-		MUST(k == 0 || order(&got.all[k - 1], &got.all[k]) != 0);
-		if (at < put.count && order(&got.all[k], &put.all[at]) == 0) {
-			at++;
-			continue;
-		}
-		MUST(out[got.all[k].element] == 0);
-		out[got.all[k].element] = got.all[k].who;
-		left++;
+	for (i = 0; i < threads; i++) {
+		MUST(mbufpool_guard_count(&all_threads[i].worker, &count) == 0);
+		in_pool += count;
 	}
-	MUST(at == put.count);
-	for (k = 0; k < POPULATION; k++)
-		MUST(mbufpool_guard_who(&t[0].worker, (uint32_t)k) == out[k]);
-	MUST(mbufpool_guard_out(&t[0].worker) == left);
 	for (i = 1; i < threads; i++)
-		mbufpool_guard_end(&t[i].worker);
-	/* all else can be had again */
-	for (k = 0; k < POPULATION - left; k++) {
-		MUST(mbufpool_guard_get(&t[0].worker, 2, &all[k], 1) == 0);
-		MUST(out[all[k]] == 0 && !met[all[k]]);
-		met[all[k]] = 1;
+		mbufpool_guard_end(&all_threads[i].worker);
+	n = get_all(met);
+	MUST(n == in_pool);
+	for (k = 0; k < POPULATION; k++) {
+		for (i = 0, got = put = stale = 0; i < threads; i++) {
+			got += all_threads[i].got[k];
+			put += all_threads[i].put[k];
+			stale += all_threads[i].stale[k];
+		}
+		if (way != LISTS)
+			MUST(put + !met[k] == got + stale);
+		if (way == HELD)
+			MUST(stale == 0 && met[k] == !holder[k]);
 	}
-	MUST(mbufpool_guard_get(&t[0].worker, 2, all, 1) == MBUFPOOL_NO_ENTRIES);
-	printf("%zu elements got, %zu put, %zu out at the end\n", got.count, put.count, left);
-	mbufpool_guard_end(&t[0].worker);
-	MUST(mbufpool_guard_get(&t[0].worker, 2, all, 1) == MBUFPOOL_STRANGER);
-	MUST(mbufpool_guard_who(&none, 0) == 0 && mbufpool_guard_out(&none) == 0);
-	free(got.all);
-	free(put.all);
+	/* what wasn't given is out, by whichever worker, and what was given too */
+	for (k = 0; k < POPULATION; k++) {
+		MUST(mbufpool_guard_put_one(&all_threads[0].worker, k) == 0);
+		MUST(mbufpool_guard_put_one(&all_threads[0].worker, k) == MBUFPOOL_NOT_OUT);
+	}
+	MUST(get_all(again) == POPULATION);
+	mbufpool_guard_end(&all_threads[0].worker);
+	MUST(mbufpool_guard_get_one(&all_threads[0].worker, &k) == MBUFPOOL_STRANGER);
 }
 
-/* Each refusal but for want of memory, and that it leaves everything as it was. */
-static void meet_refusals(void)
+static void play(enum way which, uint32_t cache, uint32_t waiting)
 {
-	struct mbufpool_guard first = MBUFPOOL_NONE, second = MBUFPOOL_NONE, none = MBUFPOOL_NONE;
-	uint32_t list[3] = { 2, 1, 0 }, one;
-	uint64_t words[3] = { 7, 8, 9 }, taken = 99;
-	const uint64_t spent = (UINT64_C(1) << 40) - 1; /* changes of a stack */
+	static const char *const names[] = { "held", "freed", "lists" };
+	unsigned long succeeded = 0, refused = 0, empty = 0, told = 0;
+	unsigned i;
 
-	MUST(mbufpool_guard_open(0, 0, 1, 1, &first) == MBUFPOOL_BAD_POOL && first.at == NULL);
-	/* to fill the places takes two changes */
-	MUST(mbufpool_guard_open_at(3, 0, 2, 1, spent, &first) == MBUFPOOL_HEAD_SPENT);
-	MUST(mbufpool_guard_open_at(3, 0, 2, 1, spent - 1, &first) == MBUFPOOL_HEAD_SPENT && first.at == NULL);
-	MUST(mbufpool_guard_open_at(3, 0, 2, 1, spent - 2, &first) == 0);
-	MUST(mbufpool_guard_changes_left(&first) == 0);
-	MUST(mbufpool_guard_get(&first, 2, &one, 1) == MBUFPOOL_HEAD_SPENT);
-	mbufpool_guard_end(&first);
-	MUST(mbufpool_guard_open(3, 0, 2, 1, &first) == 0);
-	MUST(mbufpool_guard_split(&none, &second) == MBUFPOOL_STRANGER && second.at == NULL);
-	MUST(mbufpool_guard_split(&first, &second) == 0);
-	/* a worker of each is all that the pool has */
-	MUST(mbufpool_guard_split(&first, &none) == MBUFPOOL_STRANGER && none.at == NULL);
-	MUST(mbufpool_guard_split(&second, &none) == MBUFPOOL_STRANGER && none.at == NULL);
-	MUST(mbufpool_guard_get(&first, 2, list, 2) == 0 && mbufpool_guard_out(&second) == 2);
-	list[0] = 2, list[1] = 1, list[2] = 0;
-	MUST(mbufpool_guard_put(&first, list, 3, words, 2, &taken) == MBUFPOOL_NO_ROOM && taken == 0);
-	taken = 99;
-	MUST(mbufpool_guard_put(&none, list, 3, words, 3, &taken) == MBUFPOOL_STRANGER && taken == 0);
-	MUST(list[0] == 2 && list[1] == 1 && list[2] == 0 && words[0] == 7 && words[1] == 8 && words[2] == 9);
-	MUST(mbufpool_guard_out(&first) == 2);
-	MUST(mbufpool_guard_put(&second, list, 3, words, 3, &taken) == MBUFPOOL_NOT_OUT && taken == 2);
-	mbufpool_guard_end(&second);
-	MUST(mbufpool_guard_get(&first, 2, list, 3) == 0);
-	mbufpool_guard_end(&first);
+	way = which;
+	memset(holder, 0, sizeof(holder));
+	memset(passing, 0, sizeof(passing));
+	memset(all_threads, 0, sizeof(all_threads));
+	for (i = 0; i < threads; i++) {
+		struct thread *t = &all_threads[i];
+
+		t->state = 0x9e3779b97f4a7c15u * (seed * MOST_THREADS + i + 1);
+		MUST((i == 0 ? mbufpool_guard_open(POPULATION, cache, waiting, threads, 1000000, &t->worker)
+			     : mbufpool_guard_split(&all_threads[0].worker, &t->worker)) == 0);
+	}
+	put_all(&all_threads[0].worker, POPULATION);
+	for (i = 0; i < threads; i++)
+		MUST(pthread_create(&all_threads[i].id, NULL, run, &all_threads[i]) == 0);
+	for (i = 0; i < threads; i++)
+		MUST(pthread_join(all_threads[i].id, NULL) == 0);
+	compare();
+	for (i = 0; i < threads; i++) {
+		succeeded += all_threads[i].succeeded;
+		refused += all_threads[i].refused;
+		empty += all_threads[i].empty;
+		told += all_threads[i].told;
+	}
+	printf("%s: %lu calls by %u threads, each keeps %u and lets %u wait: %lu numbers put, %lu puts refused, "
+	       "%lu told as stale, %lu gets found too few\n", names[way], calls * threads, threads, cache, waiting,
+		succeeded, refused, told, empty);
 }
 
 int main(int argc, char **argv)
 {
-	static struct thread t[MOST_THREADS];
-	unsigned threads = 4, i;
-	unsigned long refused = 0, empty = 0;
-
 	if (argc > 1)
 		calls = strtoul(argv[1], NULL, 10);
 	if (argc > 2)
@@ -272,24 +437,10 @@ int main(int argc, char **argv)
 		seed = strtoul(argv[3], NULL, 10);
 	MUST(threads >= 1 && threads <= MOST_THREADS);
 	meet_refusals();
-	for (i = 0; i < threads; i++) {
-		t[i].number = i;
-		t[i].state = 0x9e3779b97f4a7c15u * (seed * MOST_THREADS + i + 1);
-		MUST((i == 0 ? mbufpool_guard_open(POPULATION, CACHE, threads, 1000000, &t[0].worker)
-			     : mbufpool_guard_split(&t[0].worker, &t[i].worker)) == 0);
-	}
-	for (i = 0; i < threads; i++)
-		MUST(pthread_create(&t[i].id, NULL, run, &t[i]) == 0);
-	for (i = 0; i < threads; i++) {
-		MUST(pthread_join(t[i].id, NULL) == 0);
-		refused += t[i].refused;
-		empty += t[i].empty;
-	}
-	printf("%lu calls by %u threads: %lu numbers refused, %lu gets found too few\n", calls * threads, threads, refused, empty);
-	compare(t, threads);
-	for (i = 0; i < threads; i++) {
-		free(t[i].got.all);
-		free(t[i].put.all);
-	}
+	play(HELD, CACHE, 0);
+	play(HELD, CACHE, 20);
+	play(FREED, CACHE, 0);
+	play(FREED, 0, 20);
+	play(LISTS, CACHE, 20);
 	return 0;
 }

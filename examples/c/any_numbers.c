@@ -495,22 +495,23 @@ static void call_no_worker(struct thread *t, struct mbufpool_worker *w)
 	t->calls += 20;
 }
 
-/* The same of a worker of a guarded pool; what comes before a stranger comes before NULL, too. */
+/* The same of a worker of a guarded pool. */
 static void call_no_guard(struct thread *t, struct mbufpool_guard *g)
 {
 	struct mbufpool_guard other = MBUFPOOL_NONE;
 	uint32_t list[2] = { 5, 6 };
-	uint64_t words[2] = { 8, 9 }, taken = 77;
+	uint64_t count = 8, taken = 77;
 
 	MUST(mbufpool_guard_split(g, &other) == MBUFPOOL_STRANGER && other.at == NULL);
 	MUST(mbufpool_guard_split(&other, g) == MBUFPOOL_STRANGER && other.at == NULL);
-	MUST(mbufpool_guard_get(g, 1, list, 2) == MBUFPOOL_NOBODY);
-	MUST(mbufpool_guard_get(g, 2, list, 2) == MBUFPOOL_STRANGER);
-	MUST(mbufpool_guard_put(g, list, 2, words, 1, &taken) == MBUFPOOL_NO_ROOM && taken == 0);
-	MUST(mbufpool_guard_put(g, list, 2, words, 2, &taken) == MBUFPOOL_STRANGER && taken == 0);
-	MUST(list[0] == 5 && list[1] == 6 && words[0] == 8 && words[1] == 9);
-	MUST(mbufpool_guard_changes_left(g) == 0 && mbufpool_guard_who(g, list[0]) == 0);
-	MUST(mbufpool_guard_out(g) == 0);
+	MUST(mbufpool_guard_get(g, list, 2) == MBUFPOOL_STRANGER);
+	MUST(mbufpool_guard_get_one(g, list) == MBUFPOOL_STRANGER);
+	MUST(mbufpool_guard_put(g, list, 2, &taken) == MBUFPOOL_STRANGER && taken == 0);
+	MUST(mbufpool_guard_put_one(g, list[0]) == MBUFPOOL_STRANGER);
+	MUST(mbufpool_guard_flush(g) == MBUFPOOL_STRANGER);
+	MUST(mbufpool_guard_count(g, &count) == MBUFPOOL_STRANGER && count == 8);
+	MUST(mbufpool_guard_stale(g, list) == MBUFPOOL_STRANGER);
+	MUST(list[0] == 5 && list[1] == 6);
 	mbufpool_guard_end(g);
 	t->calls += 10;
 }
@@ -549,9 +550,8 @@ static void open_none(struct thread *t)
 	struct mbufpool_worker one = MBUFPOOL_NONE;
 	struct mbufpool_statement e = MBUFPOOL_NONE;
 
-	MUST(mbufpool_guard_open(9, 3, 1, 10, NULL) == MBUFPOOL_STRANGER);
-	MUST(mbufpool_guard_open(0, 3, 1, 10, NULL) == MBUFPOOL_STRANGER);
-	MUST(mbufpool_guard_open_at(9, 3, 1, 10, 0, NULL) == MBUFPOOL_STRANGER);
+	MUST(mbufpool_guard_open(9, 3, 0, 1, 10, NULL) == MBUFPOOL_STRANGER);
+	MUST(mbufpool_guard_open(0, 3, 0, 1, 10, NULL) == MBUFPOOL_STRANGER);
 	MUST(mbufpool_worker_open(&l, NULL, 1) == MBUFPOOL_STRANGER);
 	MUST(mbufpool_worker_open(&l, NULL, 0) == MBUFPOOL_BAD_POOL);
 	MUST(mbufpool_worker_open(&l, &one, 1) == 0);
@@ -561,7 +561,7 @@ static void open_none(struct thread *t)
 	MUST(mbufpool_worker_close(&one, 1, &e) == 0 && e.at != NULL);
 	mbufpool_statement_end(NULL);
 	mbufpool_statement_end(&e);
-	t->calls += 10;
+	t->calls += 9;
 }
 
 static void call_none(struct thread *t)

@@ -36,9 +36,6 @@ static int is_refusal(uint32_t status)
 	case MBUFPOOL_SAME_PACKET:
 	case MBUFPOOL_MISUSED:
 	case MBUFPOOL_NOT_OUT:
-	case MBUFPOOL_NOBODY:
-	case MBUFPOOL_UNRESTED:
-	case MBUFPOOL_LENT_OUT:
 	case MBUFPOOL_NO_MAGAZINE:
 		return 1;
 	}

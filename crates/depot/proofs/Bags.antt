@@ -12,6 +12,9 @@ one-cases y x =
     ⊎_elim (λ e. inl (e, cond-true (y == x) 1 0 (eq-eqb y x e)))
     (λ n. inr (n, cond-false (y == x) 1 0 (ne_eqb y x n))) (cases_eq y x)
 
+pub one-other : (x y : ℕ) → x ≢ y → one y x ≡ 0
+one-other x y n = ⊎_elim (λ a. absurd (n (sym a.0))) (λ b. b.1) (one-cases y x)
+
 pub bag-without : (x y : ℕ) (xs : List ℕ) → bag (without y xs) x ≡ bag xs x - one y x
 unfolding without
 bag-without x y [] = omega (arith, bag-nil x)

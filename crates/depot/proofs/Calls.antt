@@ -6,13 +6,13 @@ use Rattle.depot.specs.declared.view.Stack.{Stack}
 use Rattle.depot.specs.declared.view.Stack.TheVariants.{Full, Partial, Empty}
 use Rattle.depot.specs.declared.view.Shape.{Shape}
 use Rattle.depot.specs.declared.view.View.{View}
-use Rattle.depot.specs.Layout.{head_at, link_at}
+use Rattle.depot.specs.Layout.{head_at, place_at}
 use Rattle.depot.specs.Seats.{Site, IsOf}
 
-module _ {table : TableId} {key : Shape} {population rounds tries : ℕ} {g : Site}
-    (keeps : (table.words ≡ link_at table.slots) × (table.slots < 65535)
-    × (key ≡ record { population = population; rounds = rounds }) × (0 < rounds) × (rounds ≤ 128))
-    (is : record { table = table; population = population; rounds = rounds; tries = tries } ≡ g) where
+module _ {table : TableId} {key : Shape} {population rounds places tries : ℕ} {g : Site}
+    (keeps : (table.words ≡ place_at table.slots places) × (table.slots < 65535)
+    × (key ≡ record { population = population; rounds = rounds; places = places }) × (0 < rounds) × (rounds ≤ 128))
+    (is : record { table = table; population = population; rounds = rounds; places = places; tries = tries } ≡ g) where
   pub same_table : g.table ≡ table
   same_table = sym (ap (λ (z : Site). z.table) is)
 
@@ -37,3 +37,20 @@ module _ {table : TableId} {key : Shape} {population rounds tries : ℕ} {g : Si
 
   pub link_within : (m : ℕ) → m < g.table.slots → 32 + m < table.words
   link_within m h = let w = keeps.0 in let e = slots_are in omega arith
+
+  pub places_are : g.places ≡ places
+  places_are = sym (ap (λ (z : Site). z.places) is)
+
+  -- so is the place of an element
+  pub place_within : (i : ℕ) → i < g.places → (word : ℕ) → word ≡ place_at g.table.slots i → word < table.words
+  place_within i h word e = let w = keeps.0 in let f = slots_are in let q = places_are in omega arith
+
+  -- as the table sees them
+  pub among : (i : ℕ) → i < g.places → i < key.places
+  among i h =
+      let same = places_are in
+      let is_key : key.places ≡ places = ap (λ (shape : Shape). shape.places) keeps.2 in
+      omega arith
+
+  pub placed : (i word : ℕ) → word ≡ place_at g.table.slots i → word ≡ place_at table.slots i
+  placed i word e = let same = slots_are in omega arith

@@ -23,9 +23,11 @@ use Rattle.depot.specs.declared.view.View.{View}
 use Rattle.depot.specs.Answers.{taken, losing, given, take_found, takes_top, give_found, gives_top}
 use Rattle.depot.specs.Bags.{below, total, Includes}
 use Rattle.depot.specs.Heads.{top_of, count_of, next_head}
-use Rattle.depot.specs.Layout.{head_at, stack_at, link_at, head_in, link_in}
+use Rattle.depot.specs.Layout.{head_at, stack_at, place_at, head_in, link_in, place_in}
+use Rattle.depot.specs.Resting.{rests, Guarded}
 use Rattle.depot.specs.Rule.{Sat, Depoted, at_home, hand_of, out_of, Linked, Suits, Sees, Chained, Knows, Ruled, rounds_of}
-use Rattle.depot.proofs.Bags.{bag-without, bag-minus, below-le, below-inside, one-cases}
+use Rattle.depot.proofs.Bags.{bag-without, bag-minus, below-le, below-inside, one-cases, one-other}
+use Rattle.depot.proofs.Guarding.{guard-view, guard-words}
 use Rattle.depot.proofs.Totals.{sum-set, sum-one}
 use Rattle.depot.proofs.Links.{linked-kept, linked-top, link-kept, head-set, head-other, each_stack, stack-at, next-top, next-count}
 use Rattle.depot.proofs.Stacks.{put, put-here, put-other, put-all, put-lone, on_all, none_on, linked-first, linked-none}
@@ -60,11 +62,11 @@ module _ (words : List ℕ) (k : Stack) (top : ℕ) (long : 32 ≤ length words)
       l.stack l.head l.link old
 
 -- an exchange that has lost
-lost : (p : Shape) (slots id : ℕ) (me : Sat) (i : ℕ) (s : Depoted) (r : Ruled p s) → get_elem? s.views id ≡ some me.0 →
+pub lost : (p : Shape) (slots id : ℕ) (me : Sat) (i : ℕ) (s : Depoted) (r : Ruled p s) → get_elem? s.views id ≡ some me.0 →
     Ruled p (stepped s i (slice_index s.words i) id me.1 (losing me.0) keeps)
 lost p slots id me i s r at =
     let own = mine p s r id me at in
-    loads p s r id me at i (losing me.0) refl refl
+    loads p s r id me at i (losing me.0) refl refl refl
     (record { population = own.population; rounds = own.rounds; look = own.look; chain = own.chain })
 
 -- the top of a stack is taken
@@ -129,12 +131,18 @@ module _ (p : Shape) (s : Depoted) (r : Ruled p s) (id : ℕ) (me : Sat) (at : g
       let gone : (j : Stack) → bag (stacks j) m ≡ 0 =
       let most = below-le (length s.homes) m in let all = places m in let more = outs m in let once = one-same m in
       none_on stacks m (omega arith) in
+      let placed : (i : ℕ) → place_in new (length (set s.homes m none)) i ≡ place_in s.words (length s.homes) i = λ i.
+      ap (λ (n : ℕ). place_in new n i) (length-set s.homes m none) ∙ link-kept s.words k h (length s.homes + i) in
+      let guarded : Guarded (length (set s.homes m none)) new (set s.views id w) =
+      subst (λ (n : ℕ). Guarded n new (set s.views id w)) (sym (length-set s.homes m none))
+      (guard-words (length s.homes) s.words new (set s.views id w) (λ i. link-kept s.words k h (length s.homes + i))
+      (guard-view (length s.homes) s.words s.views id me.0 w at refl r.guarded)) in
       record {
         stacks = stacks;
         room = let e = length-set s.homes m none in let old = r.room in omega arith;
-        words = length-set s.words (head_at k) h ∙ r.words ∙ ap link_at (sym (length-set s.homes m none));
-        links = λ j. let same = link-kept s.words k h j in let old = r.links j in
-            let e = length-set s.homes m none in omega arith;
+        words = length-set s.words (head_at k) h ∙ r.words ∙ ap (λ (n : ℕ). place_at n p.places) (sym (length-set s.homes m none));
+        links = λ j within. let same = link-kept s.words k h j in
+            let e = length-set s.homes m none in let old = r.links j (omega arith) in omega arith;
         linked = each_stack (λ j. Linked new (top_of (head_in new j)) (stacks j)) k
             (subst (λ (ms : List ℕ). Linked new (top_of (head_in new k)) ms) (sym (put-here k first.0 r.stacks))
             (subst (λ (t : ℕ). Linked new t first.0)
@@ -150,7 +158,9 @@ module _ (p : Shape) (s : Depoted) (r : Ruled p s) (id : ℕ) (me : Sat) (at : g
             let all : length (r.stacks k) ≡ suc (length first.0) = ap (λ (ms : List ℕ). length ms) first.1 in
             let few : length (r.stacks k) ≤ 1 = subst (λ (j : Stack). length (r.stacks j) ≤ 1) (sym e) r.lone in
             omega arith);
-        elements = λ i. let old = r.elements i in let more = hands i in let fewer = homes i in omega arith;
+        elements = λ i. let old = r.elements i in let more = hands i in let fewer = homes i in
+            let rest = ap rests (placed i) in omega arith;
+        guarded = guarded;
         home = λ j i there.
             let had = less j i in
             let old = r.home j i (omega arith) in
@@ -161,7 +171,7 @@ module _ (p : Shape) (s : Depoted) (r : Ruled p s) (id : ℕ) (me : Sat) (at : g
             (λ (e : i ≡ m). subst (λ (n : ℕ). get_elem? (set s.homes m none) n ≡ some none) (sym e)
             (set_here s.homes m none inside))
             (λ (n : i ≢ m). set_else s.homes m i none n
-            ∙ r.out i (let more = outs i in let other = one-other m i n in omega arith)) (cases_eq i m);
+            ∙ r.out i (let more = outs i in let other = one-other i m n in omega arith)) (cases_eq i m);
         known = λ j v is. ⊎_elim
             (λ here. subst (Knows p new) here.1 (record {
               population = own.population;
@@ -182,9 +192,6 @@ module _ (p : Shape) (s : Depoted) (r : Ruled p s) (id : ℕ) (me : Sat) (at : g
               }) old.chain;
             }) (at_set s.views id j w v is);
       }
-    where
-      one-other : (y i : ℕ) → i ≢ y → one y i ≡ 0
-      one-other y i n = ⊎_elim (λ a. absurd (n (sym a.0))) (λ b. b.1) (one-cases y i)
 
 -- the exchange that takes a stack's top
 pub top_takes : (p : Shape) (slots id : ℕ) (me : Sat) (k : Stack) (head m x rounds : ℕ) → me.0.rounds ≡ Some rounds →
@@ -276,12 +283,21 @@ module _ (p : Shape) (s : Depoted) (r : Ruled p s) (id : ℕ) (v : View) (at : g
       let gone : total out_of (set s.views id w) m ≡ 0 =
       let most = below-le (length s.homes) m in let all = r.places m in let more = outs m in let once = one-same m in
       omega arith in
+      let placed : (i : ℕ) → place_in put_words (length (set s.homes m (some xs))) i
+      ≡ place_in s.words (length s.homes) i = λ i.
+      ap (λ (n : ℕ). place_in put_words n i) (length-set s.homes m (some xs))
+      ∙ link-kept s.words k put_head (length s.homes + i) in
+      let guarded : Guarded (length (set s.homes m (some xs))) put_words (set s.views id w) =
+      subst (λ (n : ℕ). Guarded n put_words (set s.views id w)) (sym (length-set s.homes m (some xs)))
+      (guard-words (length s.homes) s.words put_words (set s.views id w)
+      (λ i. link-kept s.words k put_head (length s.homes + i))
+      (guard-view (length s.homes) s.words s.views id v w at refl r.guarded)) in
       record {
         stacks = stacks;
         room = let e = length-set s.homes m (some xs) in let old = r.room in omega arith;
-        words = length-set s.words (head_at k) put_head ∙ r.words ∙ ap link_at (sym (length-set s.homes m (some xs)));
-        links = λ j. let same = link-kept s.words k put_head j in let old = r.links j in
-            let e = length-set s.homes m (some xs) in omega arith;
+        words = length-set s.words (head_at k) put_head ∙ r.words ∙ ap (λ (n : ℕ). place_at n p.places) (sym (length-set s.homes m (some xs)));
+        links = λ j within. let same = link-kept s.words k put_head j in
+            let e = length-set s.homes m (some xs) in let old = r.links j (omega arith) in omega arith;
         linked = each_stack (λ j. Linked put_words (top_of (head_in put_words j)) (stacks j)) k
             (subst (λ (ms : List ℕ). Linked put_words (top_of (head_in put_words k)) ms)
             (sym (put-here k (m ∷ r.stacks k) r.stacks)) (
@@ -301,7 +317,9 @@ module _ (p : Shape) (s : Depoted) (r : Ruled p s) (id : ℕ) (v : View) (at : g
             linked-none s.words (top_of (head_in s.words k)) (r.stacks k) (r.linked k) (lone e) in
             let nothing : length (r.stacks k) ≡ 0 = ap (λ (ms : List ℕ). length ms) none_there in
             omega arith);
-        elements = λ i. let old = r.elements i in let more = homes i in let fewer = hands i in omega arith;
+        elements = λ i. let old = r.elements i in let more = homes i in let fewer = hands i in
+            let rest = ap rests (placed i) in omega arith;
+        guarded = guarded;
         home = each_stack (λ j. (i : ℕ) → 0 < bag (stacks j) i →
             (ys : List ℕ) × (get_elem? (set s.homes m (some xs)) i ≡ some (some ys)) × Suits p.rounds j ys) k
             (λ i there. ⊎_elim
@@ -314,7 +332,7 @@ module _ (p : Shape) (s : Depoted) (r : Ruled p s) (id : ℕ) (v : View) (at : g
             (λ (n : i ≢ m).
             let here : bag (stacks k) i ≡ bag (m ∷ r.stacks k) i = ap (λ ms. bag ms i) (put-here k (m ∷ r.stacks k) r.stacks) in
             let e = list i in
-            let other = one-other m i n in
+            let other = one-other i m n in
             let old = r.home k i (omega arith) in
             (old.0, set_else s.homes m i (some xs) n ∙ old.1, old.2)) (cases_eq i m))
             (λ j other i there.
@@ -347,9 +365,6 @@ module _ (p : Shape) (s : Depoted) (r : Ruled p s) (id : ℕ) (v : View) (at : g
               }) old.chain;
             }) (at_set s.views id j w u is);
       }
-    where
-      one-other : (y i : ℕ) → i ≢ y → one y i ≡ 0
-      one-other y i n = ⊎_elim (λ a. absurd (n (sym a.0))) (λ b. b.1) (one-cases y i)
 
 -- the exchange that puts a magazine on a stack
 gives_it : (p : Shape) (slots id : ℕ) (v : View) (k : Stack) (head m rounds : ℕ) (xs : List ℕ) (tail : List (ℕ × List ℕ)) →

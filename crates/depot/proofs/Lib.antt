@@ -1,10 +1,14 @@
 pub mod Bags
 pub mod Totals
 pub mod Links
+pub mod Guarding
 pub mod Stepping
 pub mod Stacks
 pub mod Exchanges
 mod Gathering
+pub mod Placing
+pub mod Looks
+pub mod Claims
 pub mod Calls
 pub mod Logging
 pub mod Reading
@@ -13,8 +17,10 @@ pub mod Turns
 pub mod Racking
 pub mod Swapping
 pub mod Listing
+pub mod Sites
 pub mod Taking
 pub mod Opens
 pub mod Vacant
 pub mod Tokens
 pub mod Crossing
+pub mod Rolling

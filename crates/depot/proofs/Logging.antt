@@ -13,13 +13,14 @@ use Rattle.depot.specs.Rule.{Sat}
 use Rattle.depot.specs.Seats.{Logs, LastRead, IsCause, IsCauseAt, IsGiveCause, WasRead, Stays, Comes, Goes, Loses, GivesOnce}
 
 pub logs-same : (v w : View) → w.heads ≡ v.heads → w.lost ≡ v.lost → w.population ≡ v.population →
-    w.rounds ≡ v.rounds → Logs v w
-logs-same v w heads lost population rounds = record {
+    w.rounds ≡ v.rounds → w.resting ≡ v.resting → Logs v w
+logs-same v w heads lost population rounds resting = record {
   more = [];
   heads = heads ∙ sym (append-nil v.heads);
   lost = omega arith;
   population = population;
   rounds = rounds;
+  resting = resting;
 }
 
 -- one after another
@@ -30,6 +31,7 @@ logs-on u v w a b = record {
   lost = let x = a.lost in let y = b.lost in omega arith;
   population = b.population ∙ a.population;
   rounds = b.rounds ∙ a.rounds;
+  resting = b.resting ∙ a.resting;
 }
 
 last-on : (u v w : View) (k : Stack) (P : ℕ → Type 0) → Logs u v → LastRead v w k P → LastRead u w k P
@@ -99,7 +101,7 @@ cause-then tries Contended u v w a b = let x = b.lost in omega arith
 cause-then tries HeadSpent u v w a b = (a.0, read-then u v w _ _ a.1 b)
 
 pub stays-same : (m : Sat) → Stays m m
-stays-same m = record { logs = logs-same m.0 m.0 refl refl refl refl; hand = refl; out = refl; magazines = refl }
+stays-same m = record { logs = logs-same m.0 m.0 refl refl refl refl refl; hand = refl; out = refl; magazines = refl }
 
 pub stays-on : (a b c : Sat) → Stays a b → Stays b c → Stays a c
 stays-on a b c x y = record {
@@ -124,7 +126,14 @@ comes-on rounds k m a b c x y = record {
 pub read-stays : (m m' : Sat) (k : Stack) (head : ℕ) → (link : ℕ) × (m' ≡ (looked m.0 k head link, m.1)) → Stays m m'
 read-stays m m' k head is =
     subst (Stays m) (sym is.1) (record {
-      logs = record { more = (k, head) ∷ []; heads = refl; lost = omega arith; population = refl; rounds = refl };
+      logs = record {
+        more = (k, head) ∷ [];
+        heads = refl;
+        lost = omega arith;
+        population = refl;
+        rounds = refl;
+        resting = refl;
+      };
       hand = refl;
       out = refl;
       magazines = refl;

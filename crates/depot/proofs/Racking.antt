@@ -21,7 +21,7 @@ use Rattle.depot.proofs.Turns.{held-cons, held-front, held-turned, names-front, 
 pub view-logs : (a b : Sat) → b.0 ≡ a.0 → Logs a.0 b.0
 view-logs a b is =
     logs-same a.0 b.0 (ap (λ (v : View). v.heads) is) (ap (λ (v : View). v.lost) is)
-    (ap (λ (v : View). v.population) is) (ap (λ (v : View). v.rounds) is)
+    (ap (λ (v : View). v.population) is) (ap (λ (v : View). v.rounds) is) (ap (λ (v : View). v.resting) is)
 
 -- the magazines are as they were, and then as they were again
 pub keeps-same : (rounds : ℕ) (a b : Sat) → b ≡ a → Keeps rounds a b
@@ -102,7 +102,7 @@ seated w t = record {
   seat = t;
   front = w.front;
   rounds = w.rounds;
-  leaves_nothing = w.leaves_nothing;
+  at_hand = w.at_hand;
   behind = w.behind;
 }
 
@@ -112,10 +112,10 @@ one-inside n m k inside some =
     (λ a. let none = a.1 in let b = bag-single m k in absurd (omega arith)) (one-cases m k)
 
 -- a rack of one empty magazine
-pub one-racked : (g : Site) (w : Rack) → IsOf g w.seat → IsSmall g → w.rounds ≡ g.rounds → w.seat.me.0.out ≡ w.front ∷ [] →
+pub one-racked : (g : Site) (w : Rack) → IsOf g w.seat → IsSmall g → w.rounds ≡ g.rounds → w.at_hand ≤ g.rounds → w.seat.me.0.out ≡ w.front ∷ [] →
     w.seat.me.1 ≡ (w.front, []) ∷ [] → w.front < g.table.slots → w.behind.items ≡ [] → g.table.slots ≤ deque_capacity w.behind →
     Racked g w
-one-racked g w of small rounds out rows inside none capacity = record {
+one-racked g w of small rounds at_hand out rows inside none capacity = record {
   of = of;
   sound = record {
     hand = λ i.
@@ -127,6 +127,7 @@ one-racked g w of small rounds out rows inside none capacity = record {
   };
   small = small;
   rounds = rounds;
+  at_hand = at_hand;
   magazines = ap names rows ∙ ap (λ (xs : List ℕ). w.front ∷ xs) (sym none);
   inside = λ m some. one-inside g.table.slots w.front m inside
       (let e = ap (λ (ms : Rows). bag (names ms) m) rows in omega arith);
@@ -160,6 +161,7 @@ module _ (g : Site) (w : Rack) (t : Seat (List ℕ) View) (r : Racked g w) (of :
     };
     small = r.small;
     rounds = r.rounds;
+    at_hand = r.at_hand;
     magazines = same_names ∙ r.magazines;
     inside = λ m some. r.inside m (let e = ap (λ (ms : List ℕ). bag ms m) same_names in omega arith);
     fit = rw front (fit-front g.rounds w.seat.me.1 xs r.fit fits);
@@ -287,7 +289,7 @@ module _ (g : Site) (w : Rack) (t : Seat (List ℕ) View) (r : Racked g w) (tabl
 
   pub turned_racked : (next : ℕ) (behind : VecDeque ℕ Global) → w.behind.items ++ w.front ∷ [] ≡ next ∷ behind.items →
       deque_capacity behind ≡ deque_capacity w.behind →
-      Racked g (record { seat = t; front = next; rounds = w.rounds; leaves_nothing = w.leaves_nothing; behind = behind })
+      Racked g (record { seat = t; front = next; rounds = w.rounds; at_hand = w.at_hand; behind = behind })
   turned_racked next behind items same_cap = record {
     of = record {
       table = table ∙ r.of.table;
@@ -301,6 +303,7 @@ module _ (g : Site) (w : Rack) (t : Seat (List ℕ) View) (r : Racked g w) (tabl
     };
     small = r.small;
     rounds = r.rounds;
+    at_hand = r.at_hand;
     magazines = turned_names ∙ items;
     inside = λ m some. r.inside m (let e = turned_bag m in omega arith);
     fit = rw rows_are (fit-turned g.rounds w.seat.me.1 r.fit);

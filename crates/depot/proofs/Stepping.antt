@@ -1,5 +1,5 @@
 -- Each of the five steps keeps the rule, and answers its seat what its contract says.
-use Rattle.std.proofs.Common.{◌≡◌, ◌≢◌, ℕ, suc, ◌-◌, ◌<◌, ◌≤◌, List, [], ◌∷◌, Option, Some, None, length, set, refl, sym, ap, ◌∙◌, subst, ⊎_elim, arith}
+use Rattle.std.proofs.Common.{◌≡◌, ◌≢◌, ℕ, suc, ◌+◌, ◌-◌, ◌<◌, ◌≤◌, List, [], ◌∷◌, Option, Some, None, length, set, refl, sym, ap, ◌∙◌, subst, ⊎_elim, arith}
 use Rattle.std.specs.Prelude.{slice_index, IfSome, unwrap_or}
 use Rattle.std.proofs.lemmas.Bool.{cases_eq}
 use Rattle.std.proofs.lemmas.List.{length-set}
@@ -17,9 +17,11 @@ use Rattle.depot.specs.declared.view.View.{View}
 use Rattle.depot.specs.Answers.{looked, linked, relinked, chained, noting, IsOwned, loads_head, loads_link, stores_link, notes}
 use Rattle.depot.specs.Bags.{below, total}
 use Rattle.depot.specs.Heads.{top_of, count_of}
-use Rattle.depot.specs.Layout.{head_at, link_at, head_in, link_in}
+use Rattle.depot.specs.Layout.{head_at, link_at, head_in, link_in, place_in}
+use Rattle.depot.specs.Resting.{rests, Guarded}
 use Rattle.depot.specs.Rule.{Sat, Depoted, hand_of, out_of, Linked, Sees, Chained, Knows, Ruled, rounds_of}
 use Rattle.depot.proofs.Bags.{below-le, below-past, below-inside}
+use Rattle.depot.proofs.Guarding.{guard-view, guard-words}
 use Rattle.depot.proofs.Totals.{sum-set, sum-one, sum-two}
 use Rattle.depot.proofs.Links.{linked-else, linked-top, head-kept, link-other, link-set, stack-at, words-kept}
 
@@ -34,10 +36,11 @@ module _ (p : Shape) (s : Depoted) (r : Ruled p s) (id : ℕ) (me : Sat) (at : g
       ap (λ (o : Option ℕ). unwrap_or o 0) is
       ∙ subst (λ (o : Option ℕ). IfSome o (λ x. x ≡ p.rounds)) is mine.rounds
 
-  -- a view that names what the seat's view names, and knows what is so
-  pub quiet : (w : View) → hand_of w ≡ hand_of me.0 → out_of w ≡ out_of me.0 → Knows p s.words w →
+  -- a view that has what the seat's view has, and knows what is so
+  pub re-viewed : (w : View) → hand_of w ≡ hand_of me.0 → out_of w ≡ out_of me.0 → Knows p s.words w →
+      Guarded (length s.homes) s.words (set s.views id w) →
       Ruled p (record { words = s.words; homes = s.homes; views = set s.views id w })
-  quiet w hand out knows =
+  re-viewed w hand out knows guarded =
       let hands : (i : ℕ) → total hand_of (set s.views id w) i ≡ total hand_of s.views i = λ i.
       let moved = sum-set (λ (v : View). bag (hand_of v) i) s.views id me.0 w at in
       let same : bag (hand_of w) i ≡ bag (hand_of me.0) i = ap (λ xs. bag xs i) hand in
@@ -57,16 +60,25 @@ module _ (p : Shape) (s : Depoted) (r : Ruled p s) (id : ℕ) (me : Sat) (at : g
         elements = λ i. let old = r.elements i in let more = hands i in omega arith;
         home = r.home;
         out = λ m some_out. r.out m (let more = outs m in omega arith);
+        guarded = guarded;
         known = λ j v there. ⊎_elim (λ here. subst (Knows p s.words) here.1 knows) (λ else. r.known j v else.1)
             (at_set s.views id j w v there);
       }
 
-  -- so does a load, which leaves the words as they were
-  pub loads : (i : ℕ) (w : View) → hand_of w ≡ hand_of me.0 → out_of w ≡ out_of me.0 → Knows p s.words w →
+  -- a load leaves the words as they were
+  pub loads-guarded : (i : ℕ) (w : View) → hand_of w ≡ hand_of me.0 → out_of w ≡ out_of me.0 → Knows p s.words w →
+      Guarded (length s.homes) s.words (set s.views id w) →
       Ruled p (stepped s i (slice_index s.words i) id me.1 w keeps)
-  loads i w hand out knows =
+  loads-guarded i w hand out knows guarded =
       subst (λ (words : List ℕ). Ruled p (record { words = words; homes = s.homes; views = set s.views id w }))
-      (sym (words-kept s.words i)) (quiet w hand out knows)
+      (sym (words-kept s.words i)) (re-viewed w hand out knows guarded)
+
+  -- and mostly all that rests
+  pub loads : (i : ℕ) (w : View) → hand_of w ≡ hand_of me.0 → out_of w ≡ out_of me.0 → w.resting ≡ me.0.resting →
+      Knows p s.words w → Ruled p (stepped s i (slice_index s.words i) id me.1 w keeps)
+  loads i w hand out same knows =
+      loads-guarded i w hand out knows
+      (guard-view (length s.homes) s.words s.views id me.0 w at same r.guarded)
 
   -- a magazine that stands on a stack is one of the depot's, and no seat has it
   pub on-stack : (k : Stack) (m : ℕ) → 0 < bag (r.stacks k) m →
@@ -123,7 +135,7 @@ head_loads p slots id me k s r many at small =
       w,
       keeps,
       tt,
-      loads p s r id me at (head_at k) w refl refl knows,
+      loads p s r id me at (head_at k) w refl refl refl knows,
       (link, ap (λ (j : Stack). (looked me.0 j h link, me.1)) (sym (stack-at k)), omega arith),
     )
 
@@ -137,10 +149,10 @@ relooks p s r (Some l) m sees of = record {
 }
 
 -- the load of a link
-pub link_loads : (p : Shape) (slots id : ℕ) (me : Sat) (m : ℕ) →
+pub link_loads : (p : Shape) (slots id : ℕ) (me : Sat) (m : ℕ) → m < slots →
     ((l : Look) → me.0.look ≡ Some l → top_of l.head ≡ suc m) →
     Allows (Ruled p) slots id me (link_at m) (λ n. n) (loads_link (step slots (link_at m) 0 0 none) me)
-link_loads p slots id me m of s r many at small =
+link_loads p slots id me m inside_it of s r many at small =
     let link = link_in s.words m in
     let w = linked me.0 link in
     let own = mine p s r id me at in
@@ -150,8 +162,8 @@ link_loads p slots id me m of s r many at small =
       look = relooks p s r me.0.look m own.look of;
       chain = own.chain;
     } in
-    let range = r.links m in
-    (w, keeps, tt, loads p s r id me at (link_at m) w refl refl knows, (refl, omega arith))
+    let range = r.links m (omega arith) in
+    (w, keeps, tt, loads p s r id me at (link_at m) w refl refl refl knows, (refl, omega arith))
 
 -- the load that notes what is in the seat's magazines
 pub quiet_loads : (p : Shape) (slots id : ℕ) (me : Sat) →
@@ -178,7 +190,7 @@ quiet_loads p slots id me s r many at small =
           subst (λ (o : Option ℕ). IfSome o (λ x. x ≡ p.population)) is own.population in
           let h = hand i in let none_there = below-past p.population i (omega arith) in omega arith;
     } in
-    (w, keeps, tt, loads p s r id me at 0 w refl refl knows, (refl, owned))
+    (w, keeps, tt, loads p s r id me at 0 w refl refl refl knows, (refl, owned))
 
 -- what follows of each value follows of one that may be there
 pub is_some : {X : Type 0} {P Q : X → Type 0} (o : Option X) → ((x : X) → P x → Q x) → IfSome o P → IfSome o Q
@@ -197,6 +209,8 @@ link_stores p slots id me m x out_there range s r many at small =
     let in_depot : m < length s.homes =
     let all = r.places m in below-inside (length s.homes) m (omega arith) in
     let there : link_at m < length s.words = let e = r.words in omega arith in
+    let places : (i : ℕ) → place_in new (length s.homes) i ≡ place_in s.words (length s.homes) i = λ i.
+    link-other s.words m x (length s.homes + i) (λ e. absurd (omega arith)) in
     let else : (j : ℕ) → j ≢ m → link_in new j ≡ link_in s.words j = λ j n. link-other s.words m x j n in
     let heads : (k : Stack) → head_in new k ≡ head_in s.words k = λ k. head-kept s.words m x k in
     let sees : (l : Look) → Sees s.words l → Sees new l = λ l old. record {
@@ -234,17 +248,19 @@ link_stores p slots id me m x out_there range s r many at small =
       stacks = r.stacks;
       room = r.room;
       words = length-set s.words (link_at m) x ∙ r.words;
-      links = λ j. ⊎_elim
+      links = λ j within. ⊎_elim
           (λ (e : j ≡ m). subst (λ (i : ℕ). link_in new i ≤ length s.homes) (sym e)
           (let is = link-set s.words m x there in omega arith))
-          (λ (n : j ≢ m). let is = else j n in let old = r.links j in omega arith) (cases_eq j m);
+          (λ (n : j ≢ m). let is = else j n in let old = r.links j within in omega arith) (cases_eq j m);
       linked = λ k. subst (λ (h : ℕ). Linked new (top_of h) (r.stacks k)) (sym (heads k))
           (linked-else s.words new m else (top_of (head_in s.words k)) (r.stacks k)
           (not-on-stack p s r id me at k m held) (r.linked k));
       places = λ j. let old = r.places j in let more = outs j in omega arith;
       lone = r.lone;
-      elements = λ i. let old = r.elements i in let more = hands i in omega arith;
+      elements = λ i. let old = r.elements i in let more = hands i in let rest = ap rests (places i) in omega arith;
       home = r.home;
+      guarded = guard-words (length s.homes) s.words new (set s.views id w) places
+          (guard-view (length s.homes) s.words s.views id me.0 w at refl r.guarded);
       out = λ j some_out. r.out j (let more = outs j in omega arith);
       known = λ j v is. ⊎_elim (λ here. subst (Knows p new) here.1 knows)
           (λ other. let old = r.known j v other.1 in record {

@@ -47,6 +47,7 @@ stay-racked g w t r of s = record {
   };
   small = r.small;
   rounds = r.rounds;
+  at_hand = r.at_hand;
   magazines = ap names s.magazines ∙ r.magazines;
   inside = λ m some. r.inside m (let e = ap (λ (ms : Rows). bag (names ms) m) s.magazines in omega arith);
   fit = rw s.magazines r.fit;
@@ -105,7 +106,7 @@ module _ (g : Site) (w : Rack) (t n : Seat (List ℕ) View) (k : Stack) (m : ℕ
 
   pub come-racked : (behind : VecDeque ℕ Global) → behind.items ≡ w.front ∷ w.behind.items →
       deque_capacity behind ≡ deque_capacity w.behind →
-      Racked g (record { seat = n; front = m; rounds = w.rounds; leaves_nothing = w.leaves_nothing; behind = behind })
+      Racked g (record { seat = n; front = m; rounds = w.rounds; at_hand = w.at_hand; behind = behind })
   come-racked behind items same_cap = record {
     of = of;
     sound = record {
@@ -114,6 +115,7 @@ module _ (g : Site) (w : Rack) (t n : Seat (List ℕ) View) (k : Stack) (m : ℕ
     };
     small = r.small;
     rounds = r.rounds;
+    at_hand = r.at_hand;
     magazines = ap names rows ∙ ap (λ (ms : List ℕ). m ∷ ms) (r.magazines ∙ sym items);
     inside = owned-inside g.table.slots t.me.0 n.me.1 owned come_out;
     fit = rw rows (suits-fit g.rounds k comes.elements comes.suits, r.fit);
@@ -128,6 +130,7 @@ module _ (g : Site) (w : Rack) (t n : Seat (List ℕ) View) (k : Stack) (m : ℕ
     lost = comes.logs.lost;
     population = comes.logs.population;
     rounds = comes.logs.rounds;
+    resting = comes.logs.resting;
   })
 
   pub come-lent : SameLent w.seat.me n.me
@@ -184,7 +187,7 @@ module _ (g : Site) (w : Rack) (t : Seat (List ℕ) View) (r : Racked g w) (of :
 
   pub go-racked : (next : ℕ) (behind : VecDeque ℕ Global) → w.behind.items ≡ next ∷ behind.items →
       deque_capacity behind ≡ deque_capacity w.behind →
-      Racked g (record { seat = t; front = next; rounds = w.rounds; leaves_nothing = w.leaves_nothing; behind = behind })
+      Racked g (record { seat = t; front = next; rounds = w.rounds; at_hand = w.at_hand; behind = behind })
   go-racked next behind items same_cap = record {
     of = of;
     sound = record {
@@ -198,6 +201,7 @@ module _ (g : Site) (w : Rack) (t : Seat (List ℕ) View) (r : Racked g w) (of :
     };
     small = r.small;
     rounds = r.rounds;
+    at_hand = r.at_hand;
     magazines = go_names ∙ items;
     inside = λ m some. r.inside m (let a = go_out m in omega arith);
     fit = rw goes.magazines (fit-rest g.rounds w.seat.me.1 r.fit);

@@ -1,15 +1,17 @@
 -- A rack that takes loans in, or lets them out.
-use Rattle.std.proofs.Common.{◌≡◌, ℕ, ◌+◌, List, [], ◌∷◌, length, sym, ap, ◌∙◌, arith}
+use Rattle.std.proofs.Common.{◌≡◌, ℕ, ◌+◌, List, [], ◌∷◌, length, sym, ap, ◌∙◌, subst, arith}
 use Rattle.atomic_table.specs.declared.shared.Seat.{Seat}
 use Rattle.commons.specs.Bag.{bag}
 use Rattle.commons.proofs.Bags.{bag-nil, bag-append}
 use Rattle.depot.specs.declared.loans.Loans.{Loans}
 use Rattle.depot.specs.declared.rack.Rack.{Rack}
+use Rattle.depot.specs.declared.view.Resting.{Resting}
 use Rattle.depot.specs.declared.view.View.{View}
 use Rattle.depot.specs.Answers.{contents, noting, other_part, both_views, IsOwned}
 use Rattle.depot.specs.Bags.{minus}
-use Rattle.depot.specs.Lending.{AreOf, AreOnce, IsSettled, elements, hands_of}
+use Rattle.depot.specs.Lending.{AreOf, AreOnce, elements, hands_of}
 use Rattle.depot.specs.Racks.{Racked}
+use Rattle.depot.specs.Resting.{no_resting, IsBare}
 use Rattle.depot.specs.Rule.{Sat}
 use Rattle.depot.specs.Seats.{Site, IsOf, names, lent}
 use Rattle.depot.proofs.Bags.{bag-minus}
@@ -23,7 +25,15 @@ pub none-out : (g : Site) (x : Loans) (v : View) → AreOf g x → x.views ≡ v
 unfolding first_out
 none-out g x v of is = ap first_out (sym is ∙ of.views) ∙ of.none
 
-module _ (g : Site) (w : Rack) (t : Seat (List ℕ) View) (x : Loans) (v : View) (r : Racked g w) (settled : IsSettled w)
+first_resting : List View → Resting
+first_resting [] = no_resting
+first_resting (v ∷ vs) = v.resting
+
+pub bare-of : (g : Site) (x : Loans) (v : View) → AreOf g x → x.views ≡ v ∷ [] → IsBare v.resting
+unfolding first_resting
+bare-of g x v of is = subst IsBare (ap first_resting (sym of.views ∙ is)) of.bare
+
+module _ (g : Site) (w : Rack) (t : Seat (List ℕ) View) (x : Loans) (v : View) (r : Racked g w)
     (of : AreOf g x) (is : x.views ≡ v ∷ []) (t_of : IsOf g t) (me : t.me ≡ (both_views w.seat.me.0 v, w.seat.me.1)) where
   in_hand : (i : ℕ) → bag t.me.0.hand i ≡ bag w.seat.me.0.hand i + bag v.hand i
   in_hand i = ap (λ (m : Sat). bag m.0.hand i) me ∙ bag-append w.seat.me.0.hand v.hand i
@@ -51,6 +61,7 @@ module _ (g : Site) (w : Rack) (t : Seat (List ℕ) View) (x : Loans) (v : View)
     };
     small = r.small;
     rounds = r.rounds;
+    at_hand = r.at_hand;
     magazines = ap (λ (m : Sat). names m.1) me ∙ r.magazines;
     inside = λ m some. r.inside m (let e = ap (λ (n : Sat). bag (names n.1) m) me in omega arith);
     fit = rw me r.fit;
@@ -58,9 +69,9 @@ module _ (g : Site) (w : Rack) (t : Seat (List ℕ) View) (x : Loans) (v : View)
     capacity = r.capacity;
   }
 
-  pub in-lent : (i : ℕ) → lent t.me i ≡ bag (elements x) i
+  pub in-lent : (i : ℕ) → lent t.me i ≡ lent w.seat.me i + bag (elements x) i
   in-lent i =
-      let a = in_hand i in let b = in_held i in let c = are i in let d = r.sound.hand i in let e = settled i in omega arith
+      let a = in_hand i in let b = in_held i in let c = are i in let d = r.sound.hand i in omega arith
 
 -- what is let out is the hand without what is in the magazines
 module _ (g : Site) (w : Rack) (n : Seat (List ℕ) View) (y : Seat (List ℕ) View) (x : Loans) (r : Racked g w)

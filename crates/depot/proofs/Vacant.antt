@@ -1,5 +1,5 @@
 -- A seat that is cut from the loans, and has nothing; and one with two empty magazines.
-use Rattle.std.proofs.Common.{◌≡◌, ℕ, ◌≤◌, List, [], ◌∷◌, length, refl, ap, ◌∙◌, arith}
+use Rattle.std.proofs.Common.{◌≡◌, ℕ, ◌≤◌, List, [], ◌∷◌, length, refl, sym, ap, ◌∙◌, subst, arith}
 use Rattle.atomic_table.specs.declared.shared.Seat.{Seat}
 use Rattle.commons.specs.Bag.{bag}
 use Rattle.commons.proofs.Bags.{bag-nil}
@@ -9,10 +9,11 @@ use Rattle.depot.specs.Answers.{contents, noting, kept_part, other_part}
 use Rattle.depot.specs.Bags.{minus}
 use Rattle.depot.specs.Lending.{AreOf, elements, hands_of}
 use Rattle.depot.specs.Racks.{Rows, front_of, stock, Gains}
+use Rattle.depot.specs.Resting.{IsBare}
 use Rattle.depot.specs.Rule.{Sat}
 use Rattle.depot.specs.Seats.{Site}
 use Rattle.depot.proofs.Bags.{bag-minus}
-use Rattle.depot.proofs.Taking.{none-out}
+use Rattle.depot.proofs.Taking.{none-out, bare-of}
 use Rattle.depot.proofs.Turns.{stock-contents}
 
 nil-length : (xs : List ℕ) → length xs ≡ 0 → xs ≡ []
@@ -60,3 +61,9 @@ module _ (t n : Seat (List ℕ) View) (none : t.me.1 ≡ []) (noted : n.me ≡ (
       let f : bag n.me.0.hand i ≡ bag t.me.0.hand i = ap (λ (m : Sat). bag m.0.hand i) noted in
       let h : bag (elements x) i ≡ bag t.me.0.hand i = ap (λ (vs : List View). bag (hands_of vs) i) views in
       omega arith
+
+  -- as little rests with it as with the loans
+  pub part-bare : (g : Site) (x : Loans) (p : Seat (List ℕ) View) → AreOf g x → x.views ≡ t.me.0 ∷ [] →
+      p.me ≡ (kept_part n.me.0, n.me.1) → IsBare p.me.0.resting
+  part-bare g x p of views is =
+      subst IsBare (sym (ap (λ (m : Sat). m.0.resting) is ∙ ap (λ (m : Sat). m.0.resting) noted)) (bare-of g x t.me.0 of views)

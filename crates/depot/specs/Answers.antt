@@ -9,6 +9,7 @@ use Rattle.depot.specs.declared.view.View.{View}
 use Rattle.depot.specs.Bags.{below, without, minus}
 use Rattle.depot.specs.Heads.{top_of}
 use Rattle.depot.specs.Layout.{stack_at, magazine_at}
+use Rattle.depot.specs.Resting.{no_resting}
 use Rattle.depot.specs.Rule.{Sat, Suits, rounds_of}
 
 -- the view after a head was read, whose top had this link
@@ -105,6 +106,7 @@ other_part v = record {
   chain = None;
   heads = [];
   lost = 0;
+  resting = no_resting;
 }
 
 abbrev pub both_views : View → View → View
@@ -121,4 +123,5 @@ spent_view = record {
   chain = None;
   heads = [];
   lost = 0;
+  resting = no_resting;
 }

@@ -1,5 +1,5 @@
 -- Where the words of a depot stand: on a cache line each a word that nobody writes and the three
--- heads, and then a link for each magazine.
+-- heads, then a link for each magazine, and then a place for each element that has one.
 use Rattle.std.specs.Prelude.{ℕ, ◌+◌, ◌-◌, ◌==◌, List, if◌then◌else◌, slice_index}
 use Rattle.depot.specs.declared.view.Stack.{Stack}
 use Rattle.depot.specs.declared.view.Stack.TheVariants.{Full, Partial, Empty}
@@ -25,3 +25,14 @@ head_in words k = slice_index words (head_at k)
 
 abbrev pub link_in : List ℕ → ℕ → ℕ
 link_in words m = slice_index words (link_at m)
+
+-- the place of an element stands behind the links of so many magazines
+abbrev pub place_at : ℕ → ℕ → ℕ
+place_at slots i = link_at (slots + i)
+
+-- the element whose place stands there
+abbrev pub element_at : ℕ → ℕ → ℕ
+element_at slots word = word - 32 - slots
+
+abbrev pub place_in : List ℕ → ℕ → ℕ → ℕ
+place_in words slots i = link_in words (slots + i)

@@ -8,6 +8,7 @@ use Rattle.depot.specs.declared.view.View.{View}
 use Rattle.depot.specs.declared.worker.Worker.{Worker}
 use Rattle.depot.specs.Answers.{contents}
 use Rattle.depot.specs.Racks.{Racked, AreAll}
+use Rattle.depot.specs.Resting.{IsBare}
 use Rattle.depot.specs.Seats.{Site, IsCause, lent}
 
 abbrev pub hands_of : List View → List ℕ
@@ -26,6 +27,7 @@ pub record AreOf (g : Site) (x : Loans) : Type 0 where
   pub population : view.population ≡ Some g.population
   pub rounds : view.rounds ≡ Some g.rounds
   pub none : view.out ≡ []
+  pub bare : IsBare view.resting
 
 -- the rack's seat has nothing but what is in its magazines
 abbrev pub IsSettled : Rack → Type 0

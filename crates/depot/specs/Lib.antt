@@ -1,10 +1,15 @@
 pub mod Heads
 pub mod Layout
 pub mod Bags
+pub mod Resting
 pub mod Rule
 pub mod Answers
+pub mod Placing
 pub mod Seats
 pub mod Opening
 pub mod Racks
 pub mod Lent
 pub mod Lending
+pub mod Dealing
+pub mod Rolls
+pub mod Laws

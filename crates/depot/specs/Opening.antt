@@ -1,5 +1,5 @@
 -- What a depot is at the start.
-use Rattle.std.specs.Prelude.{ℕ, ◌+◌, ◌*◌, ◌/◌, List, [], ◌∷◌, ◌++◌, min, max}
+use Rattle.std.specs.Prelude.{ℕ, ◌+◌, ◌*◌, ◌/◌, List, [], ◌∷◌, ◌++◌, min, max, replicate}
 use Rattle.std.specs.List.{range_with_len}
 
 -- a cache line that nobody writes, and the three heads on one each, of which that of the empty
@@ -10,8 +10,15 @@ header magazines =
     ∷ 0 ∷ 0 ∷ 0 ∷ magazines ∷ 0 ∷ 0 ∷ 0 ∷ 0 ∷ 0 ∷ 0 ∷ 0 ∷ []
 
 -- behind it for each magazine the one before it + 1
-abbrev pub opening_words : ℕ → List ℕ
-opening_words magazines = header magazines ++ range_with_len 0 magazines
+abbrev pub linked_words : ℕ → List ℕ
+linked_words magazines = header magazines ++ range_with_len 0 magazines
+
+abbrev pub zeros : ℕ → List ℕ
+zeros n = replicate n 0
+
+-- and then the places, at which nothing rests
+abbrev pub opening_words : ℕ → ℕ → List ℕ
+opening_words magazines places = linked_words magazines ++ zeros places
 
 -- how many elements a magazine may have, so that two for each worker keep at most half of them
 abbrev pub fair : ℕ → ℕ → ℕ

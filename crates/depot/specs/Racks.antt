@@ -55,6 +55,7 @@ pub record Racked (g : Site) (w : Rack) : Type 0 where
   pub sound : Sound w.seat.me
   pub small : IsSmall g
   pub rounds : w.rounds ≡ g.rounds
+  pub at_hand : w.at_hand ≤ g.rounds
   pub magazines : names w.seat.me.1 ≡ w.front ∷ w.behind.items
   pub inside : (m : ℕ) → 0 < bag (names w.seat.me.1) m → m < g.table.slots
   pub fit : Fit g.rounds w.seat.me.1

@@ -14,7 +14,8 @@ use Rattle.depot.specs.declared.view.Shape.{Shape}
 use Rattle.depot.specs.declared.view.View.{View}
 use Rattle.depot.specs.Bags.{below, total}
 use Rattle.depot.specs.Heads.{top_of, count_of}
-use Rattle.depot.specs.Layout.{head_in, link_at, link_in}
+use Rattle.depot.specs.Layout.{head_in, place_at, link_in, place_in}
+use Rattle.depot.specs.Resting.{all_numbers, rests, Guarded}
 
 -- what a seat has: its view, and the magazines that are out with it, each with its elements
 abbrev pub Sat : Type 0
@@ -60,13 +61,15 @@ pub record Chained (words magazines : List ℕ) (c : Chain) : Type 0 where
   pub out : 0 < bag magazines c.magazine
   pub link : link_in words c.magazine ≡ c.link
 
--- how often a magazine stands on the stacks or is out, and an element in magazines at home or in hands
+-- how often a magazine stands on the stacks or is out, and an element in magazines at home, in hands
+-- or at its place
 abbrev pub places_of : (Stack → List ℕ) → Depoted → ℕ → ℕ
 places_of stacks s m =
     bag (stacks Full) m + bag (stacks Partial) m + bag (stacks Empty) m + total out_of s.views m
 
 abbrev pub elements_of : Depoted → ℕ → ℕ
-elements_of s i = total at_home s.homes i + total hand_of s.views i
+elements_of s i =
+    total at_home s.homes i + total hand_of s.views i + rests (place_in s.words (length s.homes) i)
 
 -- what a seat knows is so
 pub record Knows (shape : Shape) (words : List ℕ) (v : View) : Type 0 where
@@ -76,13 +79,13 @@ pub record Knows (shape : Shape) (words : List ℕ) (v : View) : Type 0 where
   pub chain : IfSome v.chain (Chained words v.out)
 
 -- Each magazine is on one stack or out with one seat, and at most one is on that of partial ones; each
--- element is in one magazine that is at home, or in one hand.
+-- element is in one magazine that is at home, or in one hand, or rests at its place.
 pub record Ruled (shape : Shape) (s : Depoted) : Type 0 where
   pub stacks : Stack → List ℕ
   pub room : length s.homes < 65535
-  pub words : length s.words ≡ link_at (length s.homes)
+  pub words : length s.words ≡ place_at (length s.homes) shape.places
   -- a link is 0, or a magazine + 1
-  pub links : (m : ℕ) → link_in s.words m ≤ length s.homes
+  pub links : (m : ℕ) → m < length s.homes → link_in s.words m ≤ length s.homes
   pub linked : (k : Stack) → Linked s.words (top_of (head_in s.words k)) (stacks k)
   pub places : (m : ℕ) → places_of stacks s m ≡ below (length s.homes) m
   pub lone : length (stacks Partial) ≤ 1
@@ -90,6 +93,7 @@ pub record Ruled (shape : Shape) (s : Depoted) : Type 0 where
   pub home : (k : Stack) (m : ℕ) → 0 < bag (stacks k) m →
       (xs : List ℕ) × (get_elem? s.homes m ≡ some (some xs)) × Suits shape.rounds k xs
   pub out : (m : ℕ) → 0 < total out_of s.views m → get_elem? s.homes m ≡ some none
+  pub guarded : Guarded (length s.homes) s.words s.views
   pub known : (id : ℕ) (v : View) → get_elem? s.views id ≡ some v → Knows shape s.words v
 
 -- the view of the first seat, which has all elements
@@ -104,4 +108,5 @@ first_view shape = record {
   chain = None;
   heads = [];
   lost = 0;
+  resting = all_numbers;
 }

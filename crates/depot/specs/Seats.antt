@@ -13,12 +13,13 @@ use Rattle.depot.specs.Bags.{minus, without}
 use Rattle.depot.specs.Heads.{top_of, count_of, spent}
 use Rattle.depot.specs.Rule.{Sat, Suits}
 
--- A depot: which table it has, how many elements, how many rounds its magazines have, and how many
--- lost exchanges end a try.
+-- A depot: which table it has, how many elements, how many rounds its magazines have, how many
+-- elements have a place, and how many lost exchanges end a try.
 pub record Site : Type 0 where
   pub table : TableId
   pub population : ℕ
   pub rounds : ℕ
+  pub places : ℕ
   pub tries : ℕ
 
 -- the seat is one of this depot
@@ -47,6 +48,7 @@ pub record Logs (v w : View) : Type 0 where
   pub lost : v.lost ≤ w.lost
   pub population : w.population ≡ v.population
   pub rounds : w.rounds ≡ v.rounds
+  pub resting : w.resting ≡ v.resting
 
 -- the last head that was read is of this stack, and such
 pub record LastRead (v w : View) (k : Stack) (P : ℕ → Type 0) : Type 0 where

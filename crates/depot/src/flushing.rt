@@ -217,7 +217,7 @@ impl Rack {
     ///
     /// Refused as a take and a give are. What has gone to the depot by then is there.
     #[inline(never)]
-    pub(crate) fn flush(&mut self, depot: &Depot) -> Result<(), Cause>
+    pub fn flush(&mut self, depot: &Depot) -> Result<(), Cause>
         requires racked { Racked depot.now self.old }
         ensures racked { Racked depot.now self.new }
         ensures logs { Logs self.old.seat.me.0 self.new.seat.me.0 }

@@ -11,6 +11,16 @@ use crate::view::View;
 use atomic_table::Seat;
 
 impl Depot {
+    /// How many elements a put at hand may leave in a magazine.
+    pub(crate) fn at_hand(&self) -> usize
+        ensures most { result ≤ self.now.rounds }
+    {
+        if self.leaves_nothing {
+            return 0;
+        }
+        self.rounds as usize
+    }
+
     /// Where the magazine in front lies. All magazines lie side by side, by their numbers.
     pub(crate) fn front_address(&self, seat: &mut Seat<Magazine, View>, magazine: usize) -> *mut u8
         requires of { IsOf self.now seat.old }
@@ -28,6 +38,7 @@ impl Depot {
         requires of { IsOf self.now seat.old }
         requires front { IsFront magazine seat.old.me.1 }
         ensures of { IsOf self.now seat.new }
+        ensures same { seat.new ≡ seat.old }
         ensures me { seat.new.me ≡ seat.old.me }
         ensures len { result ≡ length (front_of seat.old.me.1) }
         ensures most { result ≤ 128 }

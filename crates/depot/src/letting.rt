@@ -1,6 +1,6 @@
 //! A worker takes loans in, and lets out what it lends.
 
-ghost use Rattle.std.specs.Prelude.{◌≡◌, ℕ};
+ghost use Rattle.std.specs.Prelude.{◌≡◌, ℕ, ◌+◌};
 ghost use Rattle.commons.specs.Bag.{bag};
 ghost use Rattle.depot.specs.Lending.{AreOf, AreOnce, IsSettled, elements};
 ghost use Rattle.depot.specs.Racks.{Racked};
@@ -11,14 +11,16 @@ use crate::loans::Loans;
 use crate::rack::Rack;
 
 impl Rack {
-    /// Takes all loans into the hand of a rack's seat.
+    /// Takes all loans into the hand of a rack's seat, beside what is lent already.
     #[inline(always)]
-    pub(crate) fn take_in(&mut self, depot: &Depot, loans: &mut Loans)
+    pub fn take_in(&mut self, depot: &Depot, loans: &mut Loans)
         requires racked { Racked depot.now self.old }
-        requires settled { IsSettled self.old }
         requires of { AreOf depot.now loans.old }
         ensures racked { Racked depot.now self.new }
-        ensures lent { (i : ℕ) → lent self.new.seat.me i ≡ bag (elements loans.old) i }
+        ensures rows { self.new.seat.me.1 ≡ self.old.seat.me.1 }
+        ensures at_hand { self.new.at_hand ≡ self.old.at_hand }
+        ensures lent { (i : ℕ) → lent self.new.seat.me i ≡ lent self.old.seat.me i + bag
+            (elements loans.old) i }
         ensures logs { Logs self.old.seat.me.0 self.new.seat.me.0 }
     {
         depot.join(&mut self.seat, loans.take());

@@ -30,24 +30,11 @@ impl Model for Magazine {
 
 /// Copies a list. (Apart, as it takes many registers.)
 #[inline(never)]
-fn copy_all(out: &mut [u64], list: &[u64])
-    requires { length out.old ≡ length list.now }
-    ensures { out.new ≡ list.now }
-{
-    out.copy_from_slice(list);
-}
-
-/// Copies a list. (A single element apart, so that it is one load and one store.)
-#[inline(always)]
 fn copy(out: &mut [u64], list: &[u64])
     requires { length out.old ≡ length list.now }
     ensures { out.new ≡ list.now }
 {
-    if list.len() == 1 {
-        out.copy_from_slice(list);
-        return;
-    }
-    copy_all(out, list);
+    out.copy_from_slice(list);
 }
 
 impl Magazine {
@@ -85,8 +72,8 @@ impl Magazine {
     {
         let n = out.len();
         let left = self.count as usize - n;
-        copy(out, &self.items[left..left + n]);
         self.count = left as u64;
+        copy(out, &self.items[left..left + n]);
     }
 
     /// Adds a list at the end.
@@ -97,8 +84,8 @@ impl Magazine {
     {
         let count = self.count as usize;
         let n = list.len();
-        copy(&mut self.items[count..count + n], list);
         self.count = (count + n) as u64;
+        copy(&mut self.items[count..count + n], list);
     }
 
     /// Takes the element at the end.

@@ -4,7 +4,9 @@ ghost use Rattle.std.specs.Prelude.{◌≡◌, ◌↔◌, ◌⊎◌, ℕ, ◌+�
 ghost use Rattle.commons.specs.Bag.{bag};
 ghost use Rattle.depot.specs.Lending.{AreOf, IsWorker, SameLoans, cached, elements};
 ghost use Rattle.std.specs.List.{range_with_len};
-ghost use Rattle.depot.specs.Opening.{opening_words, fair, rounds_for, magazines_for};
+ghost use Rattle.depot.specs.Opening.{zeros, opening_words, fair, rounds_for, magazines_for};
+ghost use Rattle.depot.specs.Resting.{IsBare};
+ghost use Rattle.depot.specs.Rule.{first_view};
 ghost use Rattle.depot.specs.Seats.{IsOf};
 
 use crate::cause::{Cause, Refusal};
@@ -13,7 +15,7 @@ use crate::loans::Loans;
 use crate::magazine::Magazine;
 use crate::rack::Rack;
 use crate::steps::LINKS;
-use crate::view::{Shape, Stack, View};
+use crate::view::{Shape, View};
 use crate::worker::Worker;
 use atomic_table::{Seat, Table};
 use std::alloc::{AllocError, Global};
@@ -79,12 +81,23 @@ fn push_links(words: &mut Vec<u64>, count: u64) -> Result<(), AllocError>
     Ok(())
 }
 
-/// The words at the start: no magazine has elements, and all are on the stack of the empty ones.
-fn opening_words(alloc: Global, magazines: usize) -> Result<Vec<u64>, AllocError>
-    requires { magazines < 65535 }
-    ensures { IfOk result (λ v. v.items ≡ opening_words magazines) }
+/// Pushes 0 this many times.
+fn push_zeros(words: &mut Vec<u64>, count: u64) -> Result<(), AllocError>
+    ensures { IfOk result (λ _. words.new.items ≡ words.old.items ++ zeros count) }
 {
-    let mut words = Vec::with_capacity(alloc, LINKS + magazines)?;
+    for _ in 0..count {
+        words.push(0)?;
+    }
+    Ok(())
+}
+
+/// The words at the start: no magazine has elements, and all are on the stack of the empty ones.
+/// Nothing rests at a place.
+fn opening_words(alloc: Global, magazines: usize, places: u32) -> Result<Vec<u64>, AllocError>
+    requires { magazines < 65535 }
+    ensures { IfOk result (λ v. v.items ≡ opening_words magazines places) }
+{
+    let mut words = Vec::with_capacity(alloc, LINKS + magazines + places as usize)?;
     let top = magazines as u64;
     let header = [
         0, 0, 0, 0, 0, 0, 0, 0, 0, 0, 0, 0, 0, 0, 0, 0, 0, 0, 0, 0, 0, 0, 0, 0, top, 0, 0, 0, 0, 0,
@@ -92,6 +105,7 @@ fn opening_words(alloc: Global, magazines: usize) -> Result<Vec<u64>, AllocError
     ];
     words.extend_from_slice(&header)?;
     push_links(&mut words, magazines as u64)?;
+    push_zeros(&mut words, u64::from(places))?;
     Ok(words)
 }
 
@@ -107,9 +121,58 @@ fn empty_magazines(alloc: Global, count: usize) -> Result<Vec<Magazine>, AllocEr
 }
 
 impl Depot {
+    /// Makes a depot of so many elements, of which those below `places` have a place, and its first
+    /// seat, which has all elements in its hand, and all numbers.
+    pub(crate) fn make_seat(
+        alloc: Global,
+        population: u64,
+        places: u32,
+        size: Size,
+        tries: u32,
+    ) -> Result<(Depot, Seat<Magazine, View>), AllocError>
+        requires magazines { size.magazines < 65535 }
+        requires some_rounds { 0 < size.rounds }
+        requires few_rounds { size.rounds ≤ 128 }
+        ensures population { IfOk result (λ made. made.0.population ≡ population) }
+        ensures rounds { IfOk result (λ made. made.0.rounds ≡ size.rounds) }
+        ensures places { IfOk result (λ made. made.0.places ≡ places) }
+        ensures tries { IfOk result (λ made. made.0.tries ≡ tries) }
+        ensures of { IfOk result (λ made. IsOf made.0 made.1) }
+        ensures me { IfOk result (λ made. made.1.me ≡ (
+          first_view (record {
+            population = population;
+            rounds = size.rounds;
+            places = places;
+          }),
+          [],
+        )) }
+    {
+        let magazines = size.magazines as usize;
+        let words = opening_words(alloc, magazines, places)?;
+        let slots = empty_magazines(alloc, magazines)?;
+        let rounds = size.rounds as u64;
+        let shape = Shape {
+            population,
+            rounds,
+            places: u64::from(places),
+        };
+        let Ok((table, seat)) = Table::new(alloc, words.as_slice(), slots, &shape) else {
+            return Err(AllocError);
+        };
+        let depot = Depot {
+            table,
+            population,
+            rounds,
+            places,
+            tries,
+            leaves_nothing: size.leaves_nothing,
+        };
+        Ok((depot, seat))
+    }
+
     /// Makes a depot of so many elements, laid out as its size says, whose tries end after so many
     /// lost exchanges. All its magazines are empty and at the depot, and all its elements are lent:
-    /// who has the loans puts them, by a worker.
+    /// who has the loans puts them, by a worker. No element has a place.
     ///
     /// Refused where there is no memory.
     pub fn make(
@@ -123,25 +186,12 @@ impl Depot {
         requires few_rounds { size.rounds ≤ 128 }
         ensures population { IfOk result (λ made. made.0.population ≡ population) }
         ensures rounds { IfOk result (λ made. made.0.rounds ≡ size.rounds) }
+        ensures places { IfOk result (λ made. made.0.places ≡ 0) }
         ensures tries { IfOk result (λ made. made.0.tries ≡ tries) }
         ensures loans { IfOk result (λ made. AreOf made.0 made.1) }
         ensures all { IfOk result (λ made. (i : ℕ) → i < population → bag (elements made.1) i ≡ 1) }
     {
-        let magazines = size.magazines as usize;
-        let words = opening_words(alloc, magazines)?;
-        let slots = empty_magazines(alloc, magazines)?;
-        let rounds = size.rounds as u64;
-        let shape = Shape { population, rounds };
-        let Ok((table, seat)) = Table::new(alloc, words.as_slice(), slots, &shape) else {
-            return Err(AllocError);
-        };
-        let depot = Depot {
-            table,
-            population,
-            rounds,
-            tries,
-            leaves_nothing: size.leaves_nothing,
-        };
+        let (depot, seat) = Depot::make_seat(alloc, population, 0, size, tries)?;
         Ok((depot, Loans::of(seat)))
     }
 
@@ -154,6 +204,7 @@ impl Depot {
         ensures hand { result.me.0.hand ≡ [] }
         ensures out { result.me.0.out ≡ [] }
         ensures magazines { result.me.1 ≡ [] }
+        ensures bare { IsBare result.me.0.resting }
     {
         let mut seat = loans.take();
         self.note(&mut seat);
@@ -189,18 +240,9 @@ impl Depot {
         let Ok(behind) = Rack::places(alloc, self) else {
             return Err(Refusal::Memory);
         };
-        let mut seat = self.vacant_seat(loans);
-        match self.take(&mut seat, Stack::Empty) {
-            Ok(front) => {
-                let mut rack = Rack::of(self, seat, front, behind);
-                match rack.fetch_empty(self) {
-                    Ok(()) => Ok(Worker::of(rack)),
-                    Err(cause) => {
-                        rack.end(self);
-                        Err(Refusal::Cause(cause))
-                    }
-                }
-            }
+        let seat = self.vacant_seat(loans);
+        match self.rack(seat, behind) {
+            Ok(rack) => Ok(Worker::of(rack)),
             Err(cause) => Err(Refusal::Cause(cause)),
         }
     }

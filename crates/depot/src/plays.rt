@@ -52,6 +52,54 @@ impl Play<Magazine, View> for Notes {
     ghost then = { notes };
 }
 
+pub(crate) struct RestsOut;
+
+impl Play<Magazine, View> for RestsOut {
+    ghost use Rattle.depot.specs.Placing.{rests_out};
+
+    ghost then = { rests_out };
+}
+
+pub(crate) struct RestsIn;
+
+impl Play<Magazine, View> for RestsIn {
+    ghost use Rattle.depot.specs.Placing.{rests_in};
+
+    ghost then = { rests_in };
+}
+
+pub(crate) struct LooksToGet;
+
+impl Play<Magazine, View> for LooksToGet {
+    ghost use Rattle.depot.specs.Placing.{looks_get};
+
+    ghost then = { looks_get };
+}
+
+pub(crate) struct LooksToPut;
+
+impl Play<Magazine, View> for LooksToPut {
+    ghost use Rattle.depot.specs.Placing.{looks_put};
+
+    ghost then = { looks_put };
+}
+
+pub(crate) struct Claims;
+
+impl Play<Magazine, View> for Claims {
+    ghost use Rattle.depot.specs.Placing.{claims_it};
+
+    ghost then = { claims_it };
+}
+
+pub(crate) struct TakesBack;
+
+impl Play<Magazine, View> for TakesBack {
+    ghost use Rattle.depot.specs.Placing.{takes_back};
+
+    ghost then = { takes_back };
+}
+
 pub(crate) struct Parts;
 
 impl Split<View> for Parts {
@@ -68,4 +116,14 @@ impl Join<View> for Parts {
     ghost both = { both_views };
 
     ghost spent = { spent_view };
+}
+
+pub(crate) struct Deals;
+
+impl Split<View> for Deals {
+    ghost use Rattle.depot.specs.Dealing.{with_first, with_others};
+
+    ghost left = { with_first };
+
+    ghost right = { with_others };
 }

@@ -16,13 +16,16 @@ use std::alloc::{AllocError, Global};
 use std::collections::VecDeque;
 
 /// A worker's magazines, with its seat: a ring, of which one stands in front, at hand.
-pub(crate) struct Rack {
+///
+/// It can't be dropped: it ends by `end`, or by `lose`.
+pub struct Rack {
     pub(crate) seat: Seat<Magazine, View>,
     pub(crate) front: usize,
     /// How many elements a full magazine has.
     pub(crate) rounds: usize,
-    /// Whether a call leaves nothing in the magazines.
-    pub(crate) leaves_nothing: bool,
+    /// How many elements a put at hand may leave in the magazine in front: as many as a full one
+    /// has, or 0 where a call leaves nothing in the magazines.
+    pub(crate) at_hand: usize,
     /// The others, as they come to the front. There is room for all that the depot has.
     pub(crate) behind: VecDeque<usize, Global>,
 }
@@ -61,7 +64,7 @@ impl Rack {
             seat,
             front,
             rounds: depot.rounds as usize,
-            leaves_nothing: depot.leaves_nothing,
+            at_hand: depot.at_hand(),
             behind,
         }
     }
@@ -92,6 +95,7 @@ impl Rack {
     pub(crate) fn len(&mut self, depot: &Depot) -> usize
         requires racked { Racked depot.now self.old }
         ensures racked { Racked depot.now self.new }
+        ensures same { self.new ≡ self.old }
         ensures me { self.new.seat.me ≡ self.old.seat.me }
         ensures len { result ≡ length (front_of self.old.seat.me.1) }
         ensures most { result ≤ depot.now.rounds }
@@ -169,12 +173,12 @@ impl Rack {
     }
 
     /// Ends the seat. What it has stays where it is.
-    pub(crate) fn lose(self) {
+    pub fn lose(self) {
         let Rack {
             seat,
             front: _,
             rounds: _,
-            leaves_nothing: _,
+            at_hand: _,
             behind,
         } = self;
         drop(seat);

@@ -1,5 +1,5 @@
-//! Gets and puts by a worker's magazines: the one in front serves most of them, and what it can't
-//! serve is fetched first, so that a list goes whole or not at all.
+//! Gets and puts that aren't at hand: what the magazine in front can't serve is fetched first, so
+//! that a list goes whole or not at all.
 
 ghost use Rattle.std.specs.Prelude.{◌≡◌, ℕ, ◌≤◌, [], ◌∷◌, length, IfOk, IfErr};
 ghost use Rattle.commons.specs.Bag.{bag};
@@ -56,8 +56,7 @@ impl Rack {
     }
 
     /// A get that the magazine in front can't serve.
-    #[inline(never)]
-    fn get_apart(&mut self, depot: &Depot, out: &mut [u64]) -> Result<(), Cause>
+    pub(crate) fn get_apart(&mut self, depot: &Depot, out: &mut [u64]) -> Result<(), Cause>
         requires racked { Racked depot.now self.old }
         ensures racked { Racked depot.now self.new }
         ensures logs { Logs self.old.seat.me.0 self.new.seat.me.0 }
@@ -80,8 +79,7 @@ impl Rack {
     }
 
     /// A put for which the magazine in front has no room.
-    #[inline(never)]
-    fn put_apart(&mut self, depot: &Depot, list: &[u64]) -> Result<(), Cause>
+    pub(crate) fn put_apart(&mut self, depot: &Depot, list: &[u64]) -> Result<(), Cause>
         requires racked { Racked depot.now self.old }
         requires lent { (i : ℕ) → bag list.now i ≤ lent self.old.seat.me i }
         ensures racked { Racked depot.now self.new }
@@ -104,47 +102,6 @@ impl Rack {
         }
     }
 
-    /// Takes a list out of the magazines, all of it or nothing.
-    #[inline(always)]
-    pub(crate) fn get(&mut self, depot: &Depot, out: &mut [u64]) -> Result<(), Cause>
-        requires racked { Racked depot.now self.old }
-        ensures racked { Racked depot.now self.new }
-        ensures logs { Logs self.old.seat.me.0 self.new.seat.me.0 }
-        ensures ok { IfOk result (λ _. Lends out.new self.old.seat.me self.new.seat.me) }
-        ensures err { IfErr result (λ cause. Refused depot.now.tries cause self.old.seat.me
-            self.new.seat.me) }
-    {
-        if self.leaves_nothing {
-            return self.get_apart(depot, out);
-        }
-        if out.len() <= self.len(depot) {
-            self.take(depot, out);
-            return Ok(());
-        }
-        self.get_apart(depot, out)
-    }
-
-    /// Puts a list into the magazines, all of it or nothing.
-    #[inline(always)]
-    pub(crate) fn put(&mut self, depot: &Depot, list: &[u64]) -> Result<(), Cause>
-        requires racked { Racked depot.now self.old }
-        requires lent { (i : ℕ) → bag list.now i ≤ lent self.old.seat.me i }
-        ensures racked { Racked depot.now self.new }
-        ensures logs { Logs self.old.seat.me.0 self.new.seat.me.0 }
-        ensures ok { IfOk result (λ _. Lends list.now self.new.seat.me self.old.seat.me) }
-        ensures err { IfErr result (λ cause. Refused depot.now.tries cause self.old.seat.me
-            self.new.seat.me) }
-    {
-        if self.leaves_nothing {
-            return self.put_apart(depot, list);
-        }
-        if list.len() <= self.rounds - self.len(depot) {
-            self.add(depot, list);
-            return Ok(());
-        }
-        self.put_apart(depot, list)
-    }
-
     /// A get of one element that the magazine in front can't serve.
     #[inline(never)]
     fn get_one_apart(&mut self, depot: &Depot) -> Result<u64, Cause>
@@ -164,7 +121,7 @@ impl Rack {
 
     /// Takes one element out of the magazines.
     #[inline(always)]
-    pub(crate) fn get_one(&mut self, depot: &Depot) -> Result<u64, Cause>
+    pub fn get_one(&mut self, depot: &Depot) -> Result<u64, Cause>
         requires racked { Racked depot.now self.old }
         ensures racked { Racked depot.now self.new }
         ensures logs { Logs self.old.seat.me.0 self.new.seat.me.0 }
@@ -172,9 +129,6 @@ impl Rack {
         ensures err { IfErr result (λ cause. Refused depot.now.tries cause self.old.seat.me
             self.new.seat.me) }
     {
-        if self.leaves_nothing {
-            return self.get_one_apart(depot);
-        }
         if self.len(depot) > 0 {
             return Ok(self.take_one(depot));
         }
@@ -183,7 +137,7 @@ impl Rack {
 
     /// Puts one element into the magazines.
     #[inline(always)]
-    pub(crate) fn put_one(&mut self, depot: &Depot, value: u64) -> Result<(), Cause>
+    pub fn put_one(&mut self, depot: &Depot, value: u64) -> Result<(), Cause>
         requires racked { Racked depot.now self.old }
         requires lent { (i : ℕ) → bag (value ∷ []) i ≤ lent self.old.seat.me i }
         ensures racked { Racked depot.now self.new }
@@ -192,10 +146,7 @@ impl Rack {
         ensures err { IfErr result (λ cause. Refused depot.now.tries cause self.old.seat.me
             self.new.seat.me) }
     {
-        if self.leaves_nothing {
-            return self.put_apart(depot, &[value]);
-        }
-        if self.len(depot) < self.rounds {
+        if self.len(depot) < self.at_hand {
             self.add_one(depot, value);
             return Ok(());
         }

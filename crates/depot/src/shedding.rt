@@ -107,7 +107,7 @@ impl Rack {
         ensures logs { Logs self.old.seat.me.0 self.new.seat.me.0 }
         ensures lent { SameLent self.old.seat.me self.new.seat.me }
     {
-        if self.leaves_nothing {
+        if self.at_hand == 0 {
             let _refused = self.flush(depot);
             self.shed(depot);
             return;
@@ -116,7 +116,7 @@ impl Rack {
     }
 
     /// Gives all elements and all magazines to the depot, as far as it takes them, and ends.
-    pub(crate) fn end(mut self, depot: &Depot)
+    pub fn end(mut self, depot: &Depot)
         requires racked { Racked depot.now self }
     {
         let _refused = self.flush(depot);

@@ -11,12 +11,13 @@ pub enum Stack {
     Empty,
 }
 
-/// What a depot's table is told: how many elements there are, and how many of them a full magazine
-/// has.
+/// What a depot's table is told: how many elements there are, how many of them a full magazine has,
+/// and how many have a place, those below this number: all in a guarded pool, and none in another.
 #[derive(Clone, Copy, PartialEq, Eq, Debug)]
 pub struct Shape {
     pub population: u64,
     pub rounds: u64,
+    pub places: u64,
 }
 
 /// A head that was read, and the link of its top as it was then.
@@ -30,6 +31,27 @@ pub struct Look {
 pub struct Chain {
     pub magazine: u64,
     pub link: u64,
+}
+
+/// What a seat does with elements that rest outside of the magazines, each at a place of its own.
+pub struct Resting {
+    /// The numbers from this one on, and below that one, are its own.
+    pub from: u64,
+    pub to: u64,
+    /// What it has marked as out.
+    pub marks: LinkedList<u64>,
+    /// What it keeps in a list.
+    pub listed: LinkedList<u64>,
+    /// Each element that it got, as often as it did.
+    pub gets: LinkedList<u64>,
+    /// Each element that it put while it was out, as often as it did.
+    pub puts: LinkedList<u64>,
+    /// Each element that it put while another kept it.
+    pub strays: LinkedList<u64>,
+    /// Each element that it dropped from its list since another seat had put it.
+    pub stale: LinkedList<u64>,
+    /// What it found at places.
+    pub found: LinkedList<(u64, u64)>,
 }
 
 /// What a seat knows.
@@ -50,4 +72,5 @@ pub struct View {
     pub heads: LinkedList<(Stack, u64)>,
     /// How many exchanges it has lost.
     pub lost: u64,
+    pub resting: Resting,
 }

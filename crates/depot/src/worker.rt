@@ -1,6 +1,6 @@
 //! A worker at a depot, with its magazines.
 
-ghost use Rattle.std.specs.Prelude.{◌≡◌, ℕ, ◌≤◌, [], ◌∷◌, length, IfOk, IfErr};
+ghost use Rattle.std.specs.Prelude.{◌≡◌, ℕ, ◌≤◌, true, false, [], ◌∷◌, length, None, Ok, IfOk, IfErr, IfSome};
 ghost use Rattle.commons.specs.Bag.{bag};
 ghost use Rattle.depot.specs.Lending.{AreOf, AreOnce, IsWorker, GetsLoans, PutsLoans, GetsCount, PutsCount, cached, count_of, elements, lent_list, lent_one, log_of};
 ghost use Rattle.depot.specs.Seats.{IsCause};
@@ -56,6 +56,134 @@ impl Worker {
         self.rack.front as u64
     }
 
+    /// Gets a list off the magazine in front, and adds its loans. Says whether it did: where that
+    /// magazine has fewer elements nothing has changed, and `get` may find them elsewhere.
+    #[inline(always)]
+    pub fn get_at_hand(&mut self, depot: &Depot, out: &mut [u64], loans: &mut Loans) -> bool
+        requires of { IsWorker depot.now self.old }
+        requires loans { AreOf depot.now loans.old }
+        ensures of { IsWorker depot.now self.new }
+        ensures loans { AreOf depot.now loans.new }
+        ensures once { result ≡ true → AreOnce depot.now loans.new }
+        ensures got { result ≡ true → GetsLoans depot.now.tries (Ok out.new) self.old loans.old
+            self.new loans.new }
+        ensures count { result ≡ true → GetsCount (Ok out.new) self.old self.new }
+        ensures not { result ≡ false → (self.new ≡ self.old) × (loans.new ≡ loans.old)
+            × (out.new ≡ out.old) }
+    {
+        let n = out.len();
+        if n > self.rack.len(depot) {
+            return false;
+        }
+        self.count = self.count.wrapping_sub(n as u64);
+        self.rack.take(depot, out);
+        self.rack.take_in(depot, loans);
+        self.rack.let_out(depot, loans);
+        true
+    }
+
+    /// Puts a list of elements of which there are loans into the magazine in front. Says whether it
+    /// did: where that has no room for them, or nothing may stay in it, nothing has changed, and
+    /// `put` may find room elsewhere.
+    #[inline(always)]
+    pub fn put_at_hand(&mut self, depot: &Depot, list: &[u64], loans: &mut Loans) -> bool
+        requires of { IsWorker depot.now self.old }
+        requires loans { AreOf depot.now loans.old }
+        requires lent { (i : ℕ) → bag list.now i ≤ bag (elements loans.old) i }
+        ensures of { IsWorker depot.now self.new }
+        ensures loans { AreOf depot.now loans.new }
+        ensures once { result ≡ true → AreOnce depot.now loans.new }
+        ensures put { result ≡ true → PutsLoans depot.now.tries list.now (Ok tt) self.old loans.old
+            self.new loans.new }
+        ensures count { result ≡ true → PutsCount list.now (Ok tt) self.old self.new }
+        ensures not { result ≡ false → (self.new ≡ self.old) × (loans.new ≡ loans.old) }
+    {
+        let n = list.len();
+        if n + self.rack.len(depot) > self.rack.at_hand {
+            return false;
+        }
+        self.count = self.count.wrapping_add(n as u64);
+        self.rack.take_in(depot, loans);
+        self.rack.add(depot, list);
+        self.rack.let_out(depot, loans);
+        true
+    }
+
+    /// Gets the last element of the magazine in front, and adds its loan. `None` where that has
+    /// none: then nothing has changed, and `get_one` may find one elsewhere.
+    #[inline(always)]
+    pub fn get_one_at_hand(&mut self, depot: &Depot, loans: &mut Loans) -> Option<u64>
+        requires of { IsWorker depot.now self.old }
+        requires loans { AreOf depot.now loans.old }
+        ensures of { IsWorker depot.now self.new }
+        ensures loans { AreOf depot.now loans.new }
+        ensures once { IfSome result (λ _. AreOnce depot.now loans.new) }
+        ensures got { IfSome result (λ x. GetsLoans depot.now.tries (Ok (x ∷ [])) self.old loans.old
+            self.new loans.new) }
+        ensures count { IfSome result (λ x. GetsCount (Ok (x ∷ [])) self.old self.new) }
+        ensures none { result ≡ None → (self.new ≡ self.old) × (loans.new ≡ loans.old) }
+    {
+        if self.rack.len(depot) == 0 {
+            return None;
+        }
+        let value = self.rack.take_one(depot);
+        self.rack.take_in(depot, loans);
+        self.rack.let_out(depot, loans);
+        self.count = self.count.wrapping_sub(1);
+        Some(value)
+    }
+
+    /// Puts one element of which there is a loan on top of the magazine in front. Says whether it
+    /// did, as `put_at_hand` does.
+    #[inline(always)]
+    pub fn put_one_at_hand(&mut self, depot: &Depot, value: u64, loans: &mut Loans) -> bool
+        requires of { IsWorker depot.now self.old }
+        requires loans { AreOf depot.now loans.old }
+        requires lent { (i : ℕ) → bag (value ∷ []) i ≤ bag (elements loans.old) i }
+        ensures of { IsWorker depot.now self.new }
+        ensures loans { AreOf depot.now loans.new }
+        ensures once { result ≡ true → AreOnce depot.now loans.new }
+        ensures put { result ≡ true → PutsLoans depot.now.tries (value ∷ []) (Ok tt) self.old
+            loans.old self.new loans.new }
+        ensures count { result ≡ true → PutsCount (value ∷ []) (Ok tt) self.old self.new }
+        ensures not { result ≡ false → (self.new ≡ self.old) × (loans.new ≡ loans.old) }
+    {
+        if self.rack.len(depot) >= self.rack.at_hand {
+            return false;
+        }
+        self.rack.take_in(depot, loans);
+        self.rack.add_one(depot, value);
+        self.rack.let_out(depot, loans);
+        self.count = self.count.wrapping_add(1);
+        true
+    }
+
+    /// A get that isn't one at hand.
+    #[inline(never)]
+    fn get_apart(&mut self, depot: &Depot, out: &mut [u64], loans: &mut Loans) -> Result<(), Cause>
+        requires of { IsWorker depot.now self.old }
+        requires loans { AreOf depot.now loans.old }
+        ensures of { IsWorker depot.now self.new }
+        ensures loans { AreOf depot.now loans.new }
+        ensures once { AreOnce depot.now loans.new }
+        ensures got { GetsLoans depot.now.tries (lent_list result out.new) self.old loans.old
+            self.new loans.new }
+        ensures count { GetsCount (lent_list result out.new) self.old self.new }
+    {
+        self.rack.take_in(depot, loans);
+        match self.rack.get_apart(depot, out) {
+            Ok(()) => {
+                self.rack.let_out(depot, loans);
+                self.count = self.count.wrapping_sub(out.len() as u64);
+                Ok(())
+            }
+            Err(cause) => {
+                self.rack.let_out(depot, loans);
+                Err(cause)
+            }
+        }
+    }
+
     /// Gets as many elements as `out` has places, and adds their loans: all of them, or none.
     ///
     /// Refused, where its magazines have fewer, `NoEntries` where no magazine with elements was at
@@ -74,11 +202,30 @@ impl Worker {
             self.new loans.new }
         ensures count { GetsCount (lent_list result out.new) self.old self.new }
     {
+        if self.get_at_hand(depot, out, loans) {
+            return Ok(());
+        }
+        self.get_apart(depot, out, loans)
+    }
+
+    /// A put that isn't one at hand.
+    #[inline(never)]
+    fn put_apart(&mut self, depot: &Depot, list: &[u64], loans: &mut Loans) -> Result<(), Cause>
+        requires of { IsWorker depot.now self.old }
+        requires loans { AreOf depot.now loans.old }
+        requires lent { (i : ℕ) → bag list.now i ≤ bag (elements loans.old) i }
+        ensures of { IsWorker depot.now self.new }
+        ensures loans { AreOf depot.now loans.new }
+        ensures once { AreOnce depot.now loans.new }
+        ensures put { PutsLoans depot.now.tries list.now result self.old loans.old self.new
+            loans.new }
+        ensures count { PutsCount list.now result self.old self.new }
+    {
         self.rack.take_in(depot, loans);
-        match self.rack.get(depot, out) {
+        match self.rack.put_apart(depot, list) {
             Ok(()) => {
                 self.rack.let_out(depot, loans);
-                self.count = self.count.wrapping_sub(out.len() as u64);
+                self.count = self.count.wrapping_add(list.len() as u64);
                 Ok(())
             }
             Err(cause) => {
@@ -106,17 +253,28 @@ impl Worker {
             loans.new }
         ensures count { PutsCount list.now result self.old self.new }
     {
-        self.rack.take_in(depot, loans);
-        match self.rack.put(depot, list) {
-            Ok(()) => {
-                self.rack.let_out(depot, loans);
-                self.count = self.count.wrapping_add(list.len() as u64);
-                Ok(())
-            }
-            Err(cause) => {
-                self.rack.let_out(depot, loans);
-                Err(cause)
-            }
+        if self.put_at_hand(depot, list, loans) {
+            return Ok(());
+        }
+        self.put_apart(depot, list, loans)
+    }
+
+    /// A get of one element where none is at hand.
+    #[inline(never)]
+    fn get_one_apart(&mut self, depot: &Depot, loans: &mut Loans) -> Result<u64, Cause>
+        requires of { IsWorker depot.now self.old }
+        requires loans { AreOf depot.now loans.old }
+        ensures of { IsWorker depot.now self.new }
+        ensures loans { AreOf depot.now loans.new }
+        ensures once { AreOnce depot.now loans.new }
+        ensures got { GetsLoans depot.now.tries (lent_one result) self.old loans.old self.new
+            loans.new }
+        ensures count { GetsCount (lent_one result) self.old self.new }
+    {
+        let mut out = [0; 1];
+        match self.get_apart(depot, &mut out, loans) {
+            Ok(()) => Ok(out[0]),
+            Err(cause) => Err(cause),
         }
     }
 
@@ -134,18 +292,26 @@ impl Worker {
             loans.new }
         ensures count { GetsCount (lent_one result) self.old self.new }
     {
-        self.rack.take_in(depot, loans);
-        match self.rack.get_one(depot) {
-            Ok(value) => {
-                self.rack.let_out(depot, loans);
-                self.count = self.count.wrapping_sub(1);
-                Ok(value)
-            }
-            Err(cause) => {
-                self.rack.let_out(depot, loans);
-                Err(cause)
-            }
+        if let Some(value) = self.get_one_at_hand(depot, loans) {
+            return Ok(value);
         }
+        self.get_one_apart(depot, loans)
+    }
+
+    /// A put of one element that isn't one at hand.
+    #[inline(never)]
+    fn put_one_apart(&mut self, depot: &Depot, value: u64, loans: &mut Loans) -> Result<(), Cause>
+        requires of { IsWorker depot.now self.old }
+        requires loans { AreOf depot.now loans.old }
+        requires lent { (i : ℕ) → bag (value ∷ []) i ≤ bag (elements loans.old) i }
+        ensures of { IsWorker depot.now self.new }
+        ensures loans { AreOf depot.now loans.new }
+        ensures once { AreOnce depot.now loans.new }
+        ensures put { PutsLoans depot.now.tries (value ∷ []) result self.old loans.old self.new
+            loans.new }
+        ensures count { PutsCount (value ∷ []) result self.old self.new }
+    {
+        self.put_apart(depot, &[value], loans)
     }
 
     /// Puts one element of which there is a loan, whichever worker got it.
@@ -163,18 +329,10 @@ impl Worker {
             loans.new }
         ensures count { PutsCount (value ∷ []) result self.old self.new }
     {
-        self.rack.take_in(depot, loans);
-        match self.rack.put_one(depot, value) {
-            Ok(()) => {
-                self.rack.let_out(depot, loans);
-                self.count = self.count.wrapping_add(1);
-                Ok(())
-            }
-            Err(cause) => {
-                self.rack.let_out(depot, loans);
-                Err(cause)
-            }
+        if self.put_one_at_hand(depot, value, loans) {
+            return Ok(());
         }
+        self.put_one_apart(depot, value, loans)
     }
 
     /// Gives all elements in its magazines to the depot, where any worker gets them. It keeps two

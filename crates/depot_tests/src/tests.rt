@@ -187,6 +187,7 @@ fn a_small_pool_keeps_nothing_with_its_workers(rt: HostRuntime) -> Result<(), Fa
         Ok(value) => first.put_one(&depot, value, &mut loans),
         Err(cause) => Err(cause),
     };
+    let at_hand = one_at_hand(&depot, &mut first, &mut loans);
     let again = second.get_one(&depot, &mut loans);
     let counts = first.count().wrapping_add(second.count());
     first.end(&depot);
@@ -194,8 +195,76 @@ fn a_small_pool_keeps_nothing_with_its_workers(rt: HostRuntime) -> Result<(), Fa
     assert!(rt; filled.is_ok());
     assert!(rt; others.is_ok());
     assert!(rt; put.is_ok());
+    assert!(rt; at_hand == None);
     assert!(rt; again.is_ok());
     assert!(rt; counts == 0);
+    Ok(())
+}
+
+/// Gets a list of `n` elements at hand and puts it again, at hand too. Says whether both was done.
+fn trip_at_hand(depot: &Depot, worker: &mut Worker, loans: &mut Loans, n: usize) -> bool
+    requires of { IsWorker depot.now worker.old }
+    requires loans { AreOf depot.now loans.old }
+    requires few { n ≤ 40 }
+    ensures of { IsWorker depot.now worker.new }
+    ensures loans { AreOf depot.now loans.new }
+{
+    let mut out = [0; 40];
+    if !worker.get_at_hand(depot, &mut out[..n], loans) {
+        return false;
+    }
+    worker.put_at_hand(depot, &out[..n], loans)
+}
+
+/// Gets one element at hand, where there is one, and says whether a put at hand took it.
+fn one_at_hand(depot: &Depot, worker: &mut Worker, loans: &mut Loans) -> Option<bool>
+    requires of { IsWorker depot.now worker.old }
+    requires loans { AreOf depot.now loans.old }
+    ensures of { IsWorker depot.now worker.new }
+    ensures loans { AreOf depot.now loans.new }
+{
+    match worker.get_one_at_hand(depot, loans) {
+        Some(value) => Some(worker.put_one_at_hand(depot, value, loans)),
+        None => None,
+    }
+}
+
+#[test]
+fn lists_at_hand_are_got_and_put(rt: HostRuntime) -> Result<(), Fail> {
+    let size = Size {
+        magazines: 12,
+        rounds: 128,
+        leaves_nothing: false,
+    };
+    let (depot, mut loans) = Depot::make(rt.alloc(), 100, size, 100)?;
+    let Ok(mut worker) = depot.worker(rt.alloc(), &mut loans) else {
+        panic!(rt; "no worker")
+    };
+    let Ok(mut other) = depot.worker(rt.alloc(), &mut loans) else {
+        worker.lose();
+        panic!(rt; "no worker")
+    };
+    let filled = fill(&depot, 100, &mut worker, &mut loans);
+    let none = one_at_hand(&depot, &mut other, &mut loans);
+    let one = one_at_hand(&depot, &mut worker, &mut loans);
+    let nothing = trip_at_hand(&depot, &mut worker, &mut loans, 0);
+    let few = trip_at_hand(&depot, &mut worker, &mut loans, 3);
+    let burst = trip_at_hand(&depot, &mut worker, &mut loans, 32);
+    let most = trip_at_hand(&depot, &mut worker, &mut loans, 40);
+    let count = worker.count();
+    let mut every = [0; 100];
+    let all = worker.get(&depot, &mut every, &mut loans);
+    let mut seen = [0u32; 100];
+    tally(&every, &mut seen);
+    other.end(&depot);
+    worker.end(&depot);
+    assert!(rt; none == None);
+    assert!(rt; filled.is_ok());
+    assert!(rt; one == Some(true));
+    assert!(rt; nothing && few && burst && most);
+    assert!(rt; count == 100);
+    assert!(rt; all.is_ok());
+    assert!(rt; seen.iter().all(|times: &u32| *times == 1));
     Ok(())
 }
 

@@ -1,67 +1,102 @@
--- The first get and the first put of a pool, by its only seat.
-use Rattle.std.proofs.Common.{◌≡◌, ℕ, zero, suc, List, [], ◌++◌, Option, Some, None, Ok, Err, flat_map, replicate, refl, sym, ap, ◌∙◌, subst, arith}
-use Rattle.commons.specs.Bounds.{IsPool}
-use Rattle.commons.specs.Calls.{GetList, PutList, Reading}
-use Rattle.commons.specs.Packets.{holds_in_slot}
-use Rattle.commons.specs.declared.limits.Limits.{Limits}
-use Rattle.commons.specs.declared.packet.Seg.{Seg}
-use Rattle.commons.specs.declared.refusal.Refusal.{Refusal}
-use Rattle.commons.specs.declared.refusal.Refusal.TheVariants.{NoEntries, Contended, HeadSpent}
-use Rattle.commons.proofs.Bags.{bag-nil}
-use Rattle.ground.specs.Rule.{first_known}
-use Rattle.ground.specs.Seats.{Seated, Note, KnowsLength, held_below}
-use Rattle.ground.specs.declared.known.Known.{Known}
-use Rattle.stack_lf.specs.Tries.{DidOnWords, IsGet, IsPut, KnowsShort, notes_of}
-use Rattle.step_core.specs.World.{every_part}
-use Rattle.guard.specs.Guarding.{Rest, IsFilled, IsMakeCause}
+-- What a new worker is, and how all elements of a new pool come to be out with it.
+use Rattle.std.proofs.Common.{◌≡◌, ◌≢◌, ℕ, zero, suc, ◌+◌, ◌-◌, ◌%◌, ◌^◌, ◌<◌, ◌≤◌, Bool, false, List, [], ◌∷◌, length, get_or, replicate, refl, sym, ap, ◌∙◌, ⊎_elim, arith}
+use Rattle.std.proofs.Math.Nat.{mod-add-mod, add-mod_left}
+use Rattle.std.proofs.lemmas.Bool.{cases_eq, cases_lt, le-ltb}
+use Rattle.std.proofs.lemmas.List.{length-replicate}
+use Rattle.commons.specs.Bag.{bag, one}
+use Rattle.commons.proofs.Bags.{bag-nil, bag-single, one-same}
+use Rattle.depot.specs.declared.rack.Rack.{Rack}
+use Rattle.depot.specs.Racks.{Racked}
+use Rattle.depot.specs.Resting.{IsBare, IsNumber}
+use Rattle.depot.specs.Seats.{Site, lent}
+use Rattle.depot.proofs.Bags.{one-other}
+use Rattle.guard.specs.declared.worker.GuardWorker.{GuardWorker}
+use Rattle.guard.specs.Guards.{resting_of, IsGuard, IsGuarded, Counted}
+use Rattle.guard.specs.Keeping.{Keep}
+use Rattle.guard.specs.Between.{Body}
+use Rattle.guard.proofs.Workers.{worker, body-of, body-again}
 
--- desks with nothing on them hold nothing
-none_on : (n : ℕ) → flat_map holds_in_slot (replicate n None) ≡ []
-none_on zero = refl
-none_on (suc n) = none_on n
+falses-at : (n i : ℕ) → get_or (replicate n false) i false ≡ false
+falses-at zero i = refl
+falses-at (suc n) zero = refl
+falses-at (suc n) (suc i) = falses-at n i
 
-none_held : (n : ℕ) → held_below n [] ≡ 0
-none_held zero = refl
-none_held (suc n) = let b = bag-nil n in let h = none_held n in omega arith
+-- a new worker
+pub guard-new : (g : Site) (t : Rack) (number : ℕ) (k : Keep) (ms : List Bool) (st : List ℕ) → IsGuarded g → k.items ≡ [] →
+    ms ≡ replicate g.places false → Racked g t → ((i : ℕ) → lent t.seat.me i ≡ 0) →
+    IsBare t.seat.me.0.resting → IsNumber t.seat.me.0.resting number → 0 < number → IsGuard g (worker t number k ms st 0)
+guard-new g t number k ms st guarded none_kept none_marked racked settled bare numbered some_number = record {
+  guarded = guarded;
+  racked = racked;
+  settled = settled;
+  number = numbered;
+  some = some_number;
+  listed = λ i. ap (λ (xs : List ℕ). bag xs i) none_kept ∙ sym (ap (λ (xs : List ℕ). bag xs i) bare.listed);
+  within = λ i h. ap (λ (xs : List ℕ). bag xs i) none_kept ∙ bag-nil i;
+  size = ap (λ (l : List Bool). length l) none_marked ∙ length-replicate g.places false ∙ guarded.places;
+  marks = λ i h. ap (λ (l : List Bool). get_or l i false) none_marked ∙ falses-at g.places i
+      ∙ sym (le-ltb 0 (bag t.seat.me.0.resting.marks i)
+      (let e = ap (λ (xs : List ℕ). bag xs i) bare.marks in let n = bag-nil i in omega arith));
+  counted = counted_is;
+}
+  where
+    nothing : (xs : List ℕ) → xs ≡ [] → length xs ≡ 0
+    nothing xs is = ap (λ (l : List ℕ). length l) is
 
-abbrev lying_in : Option (List (Option (List Seg))) → List (Option (List Seg))
-lying_in None = []
-lying_in (Some desks) = desks
+    counted_is : Counted 0 t.seat.me.0.resting
+    counted_is =
+        ap (λ (n : ℕ). n % 2 ^ 64)
+        (let a = nothing t.seat.me.0.resting.gets bare.gets in let b = nothing t.seat.me.0.resting.stale bare.stale in
+        let c = nothing t.seat.me.0.resting.puts bare.puts in let d = nothing t.seat.me.0.resting.strays bare.strays in
+        let goal : 0 + length t.seat.me.0.resting.gets + length t.seat.me.0.resting.stale
+        ≡ length t.seat.me.0.resting.puts + length t.seat.me.0.resting.strays = omega arith in goal)
 
--- the only seat of a new pool finds a length of the whole population
-pub not_short : (l : Limits) (n : ℕ) (s : Seated) → s.known ≡ first_known l → n ≡ l.population → KnowsShort n s → ⊥
-not_short l n s new all short =
-    let told = subst (λ (k : Known). KnowsLength k short.0) new short.2 refl in
-    let desks : replicate l.desks None ≡ told.0 = ap lying_in told.1 in
-    let held : held_below l.population ([] ++ flat_map holds_in_slot told.0) ≡ 0 =
-    ap (λ (ds : List (Option (List Seg))). held_below l.population (flat_map holds_in_slot ds)) (sym desks)
-    ∙ (ap (held_below l.population) (none_on l.desks) ∙ none_held l.population) in
-    let found = told.3 in
-    absurd (omega (arith, found, held, all, short.1))
+-- what a worker is that has taken all loans of its pool in
+pub body-taken : (g : Site) (w : GuardWorker) → IsGuard g w → (t : Rack) → Racked g t →
+    t.seat.me.0.resting ≡ resting_of w → Body g (worker t w.number w.kept w.marks w.stale w.count)
+body-taken g w is t racked rest =
+    body-again g w (body-of g w is) t racked (resting_of w) rest refl refl w.kept is.listed is.within w.marks refl is.marks
+    w.stale w.count is.counted
 
--- so a get of all elements is refused for a spent count alone
-pub refused_first : (l : Limits) (n : ℕ) (cause : Refusal) (s : Seated) (rs : List Reading) (u : Seated) →
-    IsPool l → s.known ≡ first_known l → n ≡ l.population → DidOnWords s (GetList n (Err cause)) rs u → IsMakeCause l cause
-refused_first l n NoEntries s rs u pool new all did = absurd (not_short l n s new all did.told)
-refused_first l n Contended s rs u pool new all did =
-    absurd (did.alone (ap (λ (k : Known). k.view.part) new ∙ sym (ap (λ (k : Known). every_part k.limits) new)) tt)
-refused_first l n HeadSpent s rs u pool new all did = pool
-refused_first l n _ s rs u pool new all did = absurd did.made
+-- one more is out, of all that are to be
+module _ (n p : ℕ) (inside : n < p) (had has : ℕ → ℕ) (left : (i : ℕ) → had i ≡ has i + bag (n ∷ []) i)
+    (before : (i : ℕ) → i < n → had i ≡ 0) (behind : (i : ℕ) → n ≤ i → i < p → had i ≡ 1)
+    (past : (i : ℕ) → p ≤ i → had i ≡ 0) where
+  pub out-before : (i : ℕ) → i < n + 1 → has i ≡ 0
+  out-before i h = ⊎_elim
+      (λ (is : i ≡ n).
+      let a = left i in let b = behind i (omega arith) (omega arith) in let single = bag-single n i in
+      let once : one n i ≡ 1 = ap (λ (x : ℕ). one n x) is ∙ one-same n in omega arith)
+      (λ (not : i ≢ n). let a = left i in let b = before i (below-it i not h) in omega arith) (cases_eq i n)
+    where
+      below-it : (i : ℕ) → i ≢ n → i < n + 1 → i < n
+      below-it i not h = ⊎_elim (λ (x : i < n). x) (λ (y : n ≤ i). absurd (not (omega arith))) (cases_lt i n)
 
--- what was got and put again fills the pool
-pub filled : (l : Limits) (n : ℕ) (xs ys : List ℕ) (s : Seated) (rs : List Reading) (u m : Seated) (qs : List Reading) (t : Seated) →
-    s.known ≡ first_known l → n ≡ l.population → DidOnWords s (GetList n (Ok xs)) rs u → Rest [] u m →
-    DidOnWords m (PutList ys (Ok tt)) qs t → ys ≡ xs → IsFilled l t.known.steps
-filled l n xs ys s rs u m qs t new all got kept put same =
-    let limits : m.known.limits ≡ l = kept.same.limits ∙ (got.limits ∙ ap (λ (k : Known). k.limits) new) in
-    let before : m.known.steps ≡ notes_of got.tries =
-    kept.same.steps ∙ (got.steps ∙ ap (λ (k : Known). k.steps ++ notes_of got.tries) new) in (
-      xs,
-      got.tries,
-      put.tries,
-      subst (λ (k : ℕ). IsGet l.tries k (Ok xs) got.tries) all
-          (subst (λ (k : Known). IsGet k.limits.tries n (Ok xs) got.tries) new got.made),
-      subst (λ (zs : List ℕ). IsPut l.tries zs (Ok tt) put.tries) same
-          (subst (λ (k : Limits). IsPut k.tries ys (Ok tt) put.tries) limits put.made),
-      put.steps ∙ ap (λ (ns : List Note). ns ++ notes_of put.tries) before,
-    )
+  pub out-behind : (i : ℕ) → n + 1 ≤ i → i < p → has i ≡ 1
+  out-behind i h k =
+      let a = left i in let b = behind i (omega arith) k in let single = bag-single n i in
+      let none = one-other i n (λ (is : i ≡ n). absurd (omega arith)) in omega arith
+
+  pub out-past : (i : ℕ) → p ≤ i → has i ≡ 0
+  out-past i h = let a = left i in let b = past i h in omega arith
+
+-- and all that are out are marked
+pub out-marked : (n : ℕ) (had has : ℕ → ℕ) → ((i : ℕ) → has i ≡ had i + bag (n ∷ []) i) →
+    ((i : ℕ) → i < n → 0 < had i) → (i : ℕ) → i < n + 1 → 0 < has i
+out-marked n had has more before i h = ⊎_elim
+    (λ (is : i ≡ n).
+    let a = more i in let single = bag-single n i in
+    let once : one n i ≡ 1 = ap (λ (x : ℕ). one n x) is ∙ one-same n in omega arith)
+    (λ (not : i ≢ n). let a = more i in let b = before i (below-it i not h) in omega arith) (cases_eq i n)
+  where
+    below-it : (i : ℕ) → i ≢ n → i < n + 1 → i < n
+    below-it i not h = ⊎_elim (λ (x : i < n). x) (λ (y : n ≤ i). absurd (not (omega arith))) (cases_lt i n)
+
+-- and one less is counted
+pub one-less : (c d n : ℕ) → d ≡ (c + (2 ^ 64 - 1)) % 2 ^ 64 → (c + n) % 2 ^ 64 ≡ 0 → (d + (n + 1)) % 2 ^ 64 ≡ 0
+one-less c d n off was =
+    ap (λ (x : ℕ). (x + (n + 1)) % 2 ^ 64) off
+    ∙ mod-add-mod (c + (2 ^ 64 - 1)) (2 ^ 64) (n + 1)
+    ∙ ap (λ (x : ℕ). x % 2 ^ 64) (let e : c + (2 ^ 64 - 1) + (n + 1) ≡ 2 ^ 64 + (c + n) = omega arith in e)
+    ∙ add-mod_left (2 ^ 64) (c + n)
+    ∙ was

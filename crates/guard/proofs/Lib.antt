@@ -1,4 +1,6 @@
-pub mod Resting
-pub mod Arranging
-pub mod Leading
+pub mod Keeping
+pub mod Since
+pub mod Workers
+pub mod Steps
+pub mod Bulk
 pub mod Filling

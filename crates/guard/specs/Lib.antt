@@ -1,4 +1,3 @@
-pub mod Spots
-pub mod Guarding
-pub mod Caching
-pub mod Kept
+pub mod Keeping
+pub mod Guards
+pub mod Between

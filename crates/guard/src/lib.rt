@@ -1,9 +1,10 @@
-//! A pool whose puts ask nothing: each element that is out rests at a place of its own, and a put
-//! takes it from there, or is refused.
+//! A guarded pool over a depot: what is put and isn't out is refused, whoever puts it. What a worker
+//! gets and puts itself takes no exchange.
 #![tactic(auto)]
 
-pub mod cause;
-pub mod guard;
-pub mod laws;
-pub mod lcore;
-pub mod place;
+pub mod kept;
+pub mod marks;
+pub mod opening;
+pub mod refusal;
+pub mod stale;
+pub mod worker;

@@ -1,4 +1,5 @@
-//! Tests of `guard`, and nothing else: what is out, by whom, and what is refused.
+//! Tests of `guard`, and nothing else: refusals, what another worker puts, stale entries and what
+//! waits.
 #![tactic(auto)]
 
 #[cfg(test)]

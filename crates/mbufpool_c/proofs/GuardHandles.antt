@@ -15,7 +15,7 @@ use Rattle.std.proofs.alloc.Calls.{handle_tells}
 use Rattle.std.specs.declared.alloc.Global.{Global}
 use Rattle.std.specs.declared.option.Option.{Option}
 use Rattle.mbufpool_c.specs.Owned.{owns_in}
-use Rattle.guard.specs.contracts.lcore.GuardWorker.{the_row as X}
+use Rattle.mbufpool_c.specs.contracts.guard_workers.OwnGuard.{the_row as X}
 use Rattle.mbufpool_c.specs.contracts.guard_handle.GuardHandle as guarded
 use Rattle.mbufpool_c.proofs.Values.{Good, both}
 use Rattle.mbufpool_c.proofs.Handles.{Z, al}

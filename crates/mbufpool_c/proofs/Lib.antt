@@ -1,7 +1,7 @@
 mod CloseLemmas
 mod EndingHandles
-mod FillLemmas
 mod GuardHandles
+mod GuardLemmas
 mod SharedLemmas
 mod Handles
 mod LabelLemmas

@@ -1,4 +1,5 @@
 pub mod Guarded
+pub mod KeptGuard
 pub mod KeptPool
 pub mod KeptWorker
 pub mod Labelled

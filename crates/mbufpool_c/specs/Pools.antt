@@ -5,7 +5,10 @@ use Rattle.commons.specs.declared.refusal.Refusal.TheVariants.{BadPool, OutOfMem
 use Rattle.commons.specs.Refusals.{number_of}
 use Rattle.depot.specs.declared.cause.Cause.{Cause}
 use Rattle.depot.specs.declared.cause.Cause.TheVariants.{NoEntries, NoMagazine, Contended, HeadSpent}
+use Rattle.depot.specs.declared.cause.Refusal.{Refusal}
+use Rattle.depot.specs.declared.cause.Refusal.TheVariants.{Memory, Cause as Depot}
 use Rattle.depot.specs.declared.loans.Loans.{Loans}
+use Rattle.depot.specs.declared.view.Resting.{Resting}
 use Rattle.depot.specs.declared.view.View.{View}
 use Rattle.depot.specs.declared.worker.Worker.{Worker}
 use Rattle.depot.specs.Lending.{AreOnce, GetsCount, GetsLoans, PutsCount, PutsLoans, cached, count_of, elements, lent_list, log_of}
@@ -22,12 +25,20 @@ pub record Pooled : Type 0 where
 abbrev pub all_values : ℕ
 all_values = 18446744073709551615
 
+-- what a view notes of elements at places; and of one that has been at none
+abbrev pub rests_of : Resting → List (List ℕ)
+rests_of r = r.marks ∷ r.listed ∷ r.gets ∷ r.puts ∷ r.strays ∷ r.stale ∷ []
+
+abbrev pub no_rests : List (List ℕ)
+no_rests = [] ∷ [] ∷ [] ∷ [] ∷ [] ∷ [] ∷ []
+
 -- The loans are of this pool. (Equations alone, as a field of a handle takes them.)
 abbrev pub AreAt : Site → Loans → Type 0
 AreAt g x =
     (x.table ≡ g.table) × (map (λ (v : View). v.population) x.views ≡ Some g.population ∷ [])
     × (map (λ (v : View). v.rounds) x.views ≡ Some g.rounds ∷ [])
     × (map (λ (v : View). v.out) x.views ≡ [] ∷ [])
+    × (map (λ (v : View). rests_of v.resting) x.views ≡ no_rests ∷ [])
 
 -- what no refusal of the pool on words has: of a put, of a split or of a flush for which there is no
 -- empty magazine
@@ -40,6 +51,11 @@ number_of_cause NoEntries = 3
 number_of_cause Contended = 4
 number_of_cause HeadSpent = 5
 number_of_cause NoMagazine = no_magazine
+
+-- the number of the refusal to make a worker
+abbrev pub number_of_refusal : Refusal → ℕ
+number_of_refusal Memory = number_of OutOfMemory
+number_of_refusal (Depot cause) = number_of_cause cause
 
 -- 0, or the number of the cause
 abbrev pub pool_status : Result (Unit {0}) Cause → ℕ

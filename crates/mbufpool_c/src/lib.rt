@@ -6,6 +6,7 @@ pub mod closing;
 pub mod ending;
 pub mod ending_handle;
 pub mod guard_handle;
+pub mod guard_workers;
 pub mod guarded;
 pub mod labels;
 mod loose;

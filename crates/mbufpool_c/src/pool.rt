@@ -1,6 +1,6 @@
 //! A pool of values for C, by workers in handles.
 
-ghost use Rattle.std.specs.Prelude.{◌≡◌, ◌≢◌, ◌<◌, ◌∷◌, ℕ, None, Some, [], IfSome};
+ghost use Rattle.std.specs.Prelude.{◌≡◌, ◌≢◌, ◌<◌, ◌∷◌, ℕ, None, Some, [], IfSome, IsSome};
 ghost use Rattle.std.proofs.Props.{props};
 ghost use Rattle.commons.specs.Bag.{bag};
 ghost use Rattle.depot.specs.Lending.{AreOf, SameLoans, elements};
@@ -38,7 +38,7 @@ impl Pool {
 
 /// The status of an answer: 0, or the number of a cause.
 #[inline(always)]
-fn status_of(answer: Result<(), Cause>) -> u32
+pub(crate) fn status_of(answer: Result<(), Cause>) -> u32
     ensures { result ≡ status_in answer }
 {
     match answer {
@@ -104,6 +104,57 @@ pub extern "C" fn mbufpool_pool_split(alloc: Global, pool: &mut Pool, out: &mut 
     }
 }
 
+/// Gets values that aren't all at hand.
+#[inline(never)]
+#[tactic(auto, using(crate::proofs::PoolLemmas::at_of, crate::proofs::PoolLemmas::of_at))]
+fn get_apart(pool: &mut Pool, out: &mut [u64]) -> u32
+    requires some { IsSome pool.old.handle.value }
+    ensures called { GetsIn out.new pool.old.handle.value pool.old.loans result
+        pool.new.handle.value pool.new.loans }
+{
+    let answer = pool.handle.lend().get(out, &mut pool.loans);
+    status_of(answer)
+}
+
+/// Gets a value where none is at hand.
+#[inline(never)]
+#[tactic(auto, using(crate::proofs::PoolLemmas::at_of, crate::proofs::PoolLemmas::of_at))]
+fn get_one_apart(pool: &mut Pool, out: &mut u64) -> u32
+    requires some { IsSome pool.old.handle.value }
+    ensures called { GetsIn (out.new ∷ []) pool.old.handle.value pool.old.loans result
+        pool.new.handle.value pool.new.loans }
+    ensures kept { result ≢ 0 → out.new ≡ out.old }
+{
+    let answer = pool.handle.lend().get_one(out, &mut pool.loans);
+    status_of(answer)
+}
+
+/// Puts values for which there is no room at hand.
+#[inline(never)]
+#[tactic(auto, using(crate::proofs::PoolLemmas::at_of, crate::proofs::PoolLemmas::of_at))]
+fn put_apart(pool: &mut Pool, list: &[u64]) -> u32
+    requires some { IsSome pool.old.handle.value }
+    requires lent { AreLent pool.old.handle.value pool.old.loans list.now }
+    ensures called { PutsIn list.now pool.old.handle.value pool.old.loans result
+        pool.new.handle.value pool.new.loans }
+{
+    let answer = pool.handle.lend().put(list, &mut pool.loans);
+    status_of(answer)
+}
+
+/// Puts a value for which there is no room at hand.
+#[inline(never)]
+#[tactic(auto, using(crate::proofs::PoolLemmas::at_of, crate::proofs::PoolLemmas::of_at))]
+fn put_one_apart(pool: &mut Pool, value: u64) -> u32
+    requires some { IsSome pool.old.handle.value }
+    requires lent { AreLent pool.old.handle.value pool.old.loans (value ∷ []) }
+    ensures called { PutsIn (value ∷ []) pool.old.handle.value pool.old.loans result
+        pool.new.handle.value pool.new.loans }
+{
+    let answer = pool.handle.lend().put_one(value, &mut pool.loans);
+    status_of(answer)
+}
+
 /// Gets as many values as `out` has places, and lends them to C: all of them, or none.
 ///
 /// Refused `StrangerShare` where the handle has no worker, and else as `Worker::get` is.
@@ -116,8 +167,10 @@ pub extern "C" fn mbufpool_pool_get(pool: &mut Pool, out: &mut [u64]) -> u32
     if pool.handle.is_empty() {
         return Refusal::StrangerShare.number();
     }
-    let answer = pool.handle.lend().get(out, &mut pool.loans);
-    status_of(answer)
+    if pool.handle.lend().get_at_hand(out, &mut pool.loans) {
+        return 0;
+    }
+    get_apart(pool, out)
 }
 
 /// Gets one value, and lends it to C. Where it is refused, as `mbufpool_pool_get` is, what was there
@@ -132,8 +185,11 @@ pub extern "C" fn mbufpool_pool_get_one(pool: &mut Pool, out: &mut u64) -> u32
     if pool.handle.is_empty() {
         return Refusal::StrangerShare.number();
     }
-    let answer = pool.handle.lend().get_one(out, &mut pool.loans);
-    status_of(answer)
+    if let Some(value) = pool.handle.lend().get_one_at_hand(&mut pool.loans) {
+        *out = value;
+        return 0;
+    }
+    get_one_apart(pool, out)
 }
 
 /// Puts a list of values: all of them, or none. Each is lent to C: C got it from this pool, by
@@ -151,8 +207,10 @@ pub extern "C" fn mbufpool_pool_put(pool: &mut Pool, list: &[u64]) -> u32
     if pool.handle.is_empty() {
         return Refusal::StrangerShare.number();
     }
-    let answer = pool.handle.lend().put(list, &mut pool.loans);
-    status_of(answer)
+    if pool.handle.lend().put_at_hand(list, &mut pool.loans) {
+        return 0;
+    }
+    put_apart(pool, list)
 }
 
 /// Puts one value that is lent to C, as `mbufpool_pool_put` does.
@@ -166,8 +224,10 @@ pub extern "C" fn mbufpool_pool_put_one(pool: &mut Pool, value: u64) -> u32
     if pool.handle.is_empty() {
         return Refusal::StrangerShare.number();
     }
-    let answer = pool.handle.lend().put_one(value, &mut pool.loans);
-    status_of(answer)
+    if pool.handle.lend().put_one_at_hand(value, &mut pool.loans) {
+        return 0;
+    }
+    put_one_apart(pool, value)
 }
 
 /// Gives all values in a worker's magazines to the pool, where its other workers can get them.

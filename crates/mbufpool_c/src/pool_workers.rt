@@ -1,12 +1,12 @@
 //! A worker of a pool of values, with the depot that it is at.
 
-ghost use Rattle.std.specs.Prelude.{◌≡◌, ◌≢◌, ◌↔◌, ◌∷◌, ◌-◌, ◌≤◌, ◌<◌, ℕ, None, [], length, IfOk, IfErr, IfSome};
+ghost use Rattle.std.specs.Prelude.{◌≡◌, ◌≢◌, ◌↔◌, ◌∷◌, ◌-◌, ◌≤◌, ◌<◌, ℕ, true, false, None, Ok, [], length, IfOk, IfErr, IfSome};
 ghost use Rattle.commons.specs.Bag.{bag};
 ghost use Rattle.commons.specs.Refusals.{number_of as number_in};
 ghost use Rattle.commons.specs.declared.refusal.Refusal.TheVariants.{StrangerShare};
 ghost use Rattle.depot.specs.Lending.{AreOf, AreOnce, GetsCount, GetsLoans, PutsCount, PutsLoans, SameLoans, cached, count_of, elements, lent_list, log_of};
 ghost use Rattle.depot.specs.Seats.{IsCause};
-ghost use Rattle.mbufpool_c.specs.Pools.{IsFirst, IsNoPool, RefusesPool, all_values, number_of_cause};
+ghost use Rattle.mbufpool_c.specs.Pools.{IsFirst, IsNoPool, RefusesPool, all_values, number_of_cause, number_of_refusal};
 
 use commons::refusal::Refusal;
 use depot::cause::{Cause, Refusal as NoWorker};
@@ -35,7 +35,8 @@ pub(crate) fn number(cause: Cause) -> u32
 }
 
 /// The number of the refusal to make a worker, which is no stranger's.
-fn number_of_worker(refusal: NoWorker) -> u32
+pub(crate) fn number_of_worker(refusal: NoWorker) -> u32
+    ensures is { result ≡ number_of_refusal refusal }
     ensures refused { result ≢ 0 }
     ensures other { result ≢ number_in StrangerShare }
 {
@@ -263,6 +264,75 @@ impl PoolWorker {
     /// The number of the magazine in front, from 0, and how many there are, side by side.
     pub fn front_number(&self) -> (u64, u64) {
         (self.worker.front_number(), self.magazines as u64)
+    }
+
+    /// Gets a list off the magazine at hand, and lends it. Says whether it did: where that has
+    /// fewer, nothing has changed, and `get` may find them elsewhere.
+    #[inline(always)]
+    pub fn get_at_hand(&mut self, out: &mut [u64], loans: &mut Loans) -> bool
+        requires loans { AreOf self.old.site loans.old }
+        ensures loans { AreOf self.old.site loans.new }
+        ensures once { result ≡ true → AreOnce self.old.site loans.new }
+        ensures got { result ≡ true → GetsLoans self.old.site.tries (Ok out.new) self.old.worker
+            loans.old self.new.worker loans.new }
+        ensures count { result ≡ true → GetsCount (Ok out.new) self.old.worker self.new.worker }
+        ensures same { (self.new.site ≡ self.old.site) × (self.new.left ≡ self.old.left) }
+        ensures not { result ≡ false → (self.new ≡ self.old) × (loans.new ≡ loans.old) }
+    {
+        self.worker.get_at_hand(&self.depot, out, loans)
+    }
+
+    /// Gets the last value of the magazine at hand, and lends it. `None` where that has none: then
+    /// nothing has changed, and `get_one` may find one elsewhere.
+    #[inline(always)]
+    pub fn get_one_at_hand(&mut self, loans: &mut Loans) -> Option<u64>
+        requires loans { AreOf self.old.site loans.old }
+        ensures loans { AreOf self.old.site loans.new }
+        ensures once { IfSome result (λ _. AreOnce self.old.site loans.new) }
+        ensures got { IfSome result (λ x. GetsLoans self.old.site.tries (Ok (x ∷ [])) self.old.worker
+            loans.old self.new.worker loans.new) }
+        ensures count { IfSome result (λ x. GetsCount (Ok (x ∷ [])) self.old.worker
+            self.new.worker) }
+        ensures same { (self.new.site ≡ self.old.site) × (self.new.left ≡ self.old.left) }
+        ensures none { result ≡ None → (self.new ≡ self.old) × (loans.new ≡ loans.old) }
+    {
+        self.worker.get_one_at_hand(&self.depot, loans)
+    }
+
+    /// Puts a list of values that are lent into the magazine at hand. Says whether it did: where
+    /// that has no room for them, nothing has changed, and `put` may find room elsewhere.
+    #[inline(always)]
+    pub fn put_at_hand(&mut self, list: &[u64], loans: &mut Loans) -> bool
+        requires loans { AreOf self.old.site loans.old }
+        requires lent { (i : ℕ) → bag list.now i ≤ bag (elements loans.old) i }
+        ensures loans { AreOf self.old.site loans.new }
+        ensures once { result ≡ true → AreOnce self.old.site loans.new }
+        ensures put { result ≡ true → PutsLoans self.old.site.tries list.now (Ok tt)
+            self.old.worker loans.old self.new.worker loans.new }
+        ensures count { result ≡ true → PutsCount list.now (Ok tt) self.old.worker
+            self.new.worker }
+        ensures same { (self.new.site ≡ self.old.site) × (self.new.left ≡ self.old.left) }
+        ensures not { result ≡ false → (self.new ≡ self.old) × (loans.new ≡ loans.old) }
+    {
+        self.worker.put_at_hand(&self.depot, list, loans)
+    }
+
+    /// Puts a value that is lent into the magazine at hand. Says whether it did, as `put_at_hand`
+    /// does.
+    #[inline(always)]
+    pub fn put_one_at_hand(&mut self, value: u64, loans: &mut Loans) -> bool
+        requires loans { AreOf self.old.site loans.old }
+        requires lent { (i : ℕ) → bag (value ∷ []) i ≤ bag (elements loans.old) i }
+        ensures loans { AreOf self.old.site loans.new }
+        ensures once { result ≡ true → AreOnce self.old.site loans.new }
+        ensures put { result ≡ true → PutsLoans self.old.site.tries (value ∷ []) (Ok tt)
+            self.old.worker loans.old self.new.worker loans.new }
+        ensures count { result ≡ true → PutsCount (value ∷ []) (Ok tt) self.old.worker
+            self.new.worker }
+        ensures same { (self.new.site ≡ self.old.site) × (self.new.left ≡ self.old.left) }
+        ensures not { result ≡ false → (self.new ≡ self.old) × (loans.new ≡ loans.old) }
+    {
+        self.worker.put_one_at_hand(&self.depot, value, loans)
     }
 
     /// Gets as many values as `out` has places, and lends them: all of them, or none.

@@ -17,7 +17,6 @@ use std::test::Fail;
 mod carrying;
 mod desks;
 mod left;
-mod passing;
 mod playing;
 mod rows;
 mod threads;

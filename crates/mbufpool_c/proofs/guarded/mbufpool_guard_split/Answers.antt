@@ -1,20 +1,14 @@
-use Rattle.std.proofs.Common.{◌≡◌, ◌<◌, ◌≤◌, Option, Some, sym, ap, subst, arith}
-use Rattle.commons.specs.declared.refusal.Refusal.TheVariants.{OutOfMemory}
-use Rattle.guard.specs.Caching.{Cached}
-use Rattle.guard.specs.declared.cause.Cause.TheVariants.{Refused}
-use Rattle.step_core.specs.World.{worker_part}
-use Rattle.mbufpool_c.specs.Guarded.{RefusesSplit}
+use Rattle.std.proofs.Common.{◌∙◌, Option, Some, ap, subst, sym}
+use Rattle.mbufpool_c.specs.declared.guard_handle.GuardHandle.{GuardHandle}
+use Rattle.mbufpool_c.specs.Guarded.{Guarded, SplitsGuard}
 use Rattle.mbufpool_c.proofs.guarded.mbufpool_guard_split.Goals as goal
 
--- the worker was split, so its part was greater than a worker's, and the pool had one more, and memory
--- was refused for the new one
-pub returns-in-Ok-clause-cause : goal.returns-in-Ok-clause-cause
-returns-in-Ok-clause-cause c refused =
-    let own = c.in-Some.own.value in
-    let same = ap (λ (v : Cached). v.seat.known.view.part) c.deref_mut.ensures.value in
-    let greater : worker_part < own.seat.known.view.part = omega (arith, same, c.in-Ok.ensures.part) in
-    let parts = ap (λ (v : Cached). v.parts) c.deref_mut.ensures.value in
-    let two : 2 ≤ own.parts = omega (arith, parts, c.in-Ok.ensures.more.0) in
-    let there : c.args.worker.now.value ≡ Some own = c.in-Some.ensures.seat in
-    subst (λ (w : Option Cached). RefusesSplit c.hand_out.result w) (sym there)
-    (Refused OutOfMemory, c.hand_out.ensures.cause refused, (two, greater))
+-- the handle lent its worker, of which one more was made
+pub returns-in-Ok-clause-made : goal.returns-in-Ok-clause-made
+returns-in-Ok-clause-made c zero =
+    let made = c.in-Ok.ensures.made in
+    let less = c.in-Ok.ensures.less in
+    let same = ap (λ (h : GuardHandle). h.value) c.is_empty.ensures.1 in
+    subst (λ (v : Option Guarded). SplitsGuard v (Some c.split.new.self) c.put.new.self.value)
+    (sym (sym same ∙ c.lend.ensures.value))
+    (less.0, ap Some less.1, (c.in-Ok.other.value, c.put.ensures, made.0, made.1, made.2, made.3))

@@ -1,17 +1,26 @@
-use Rattle.std.proofs.Common.{◌∙◌, Option, Some, ap, sym, refl, subst}
+use Rattle.std.proofs.Common.{◌∙◌, ap, sym, refl}
 use Rattle.mbufpool_c.specs.declared.pool_handle.PoolHandle.{PoolHandle}
-use Rattle.mbufpool_c.specs.Pools.{GetsIn, Pooled}
+use Rattle.mbufpool_c.proofs.PoolLemmas.{gets-at-hand, gets-apart}
 use Rattle.mbufpool_c.proofs.pool.mbufpool_pool_get.Goals as goal
 
--- the handle lent its worker, which got or was refused
+-- the handle lent its worker, which got at hand
+pub returns-then-get_at_hand : goal.returns-then-get_at_hand
+returns-then-get_at_hand c =
+    let own = c.lend.ensures in
+    let did = c.if-get_at_hand.ensures in
+    let same = ap (λ (h : PoolHandle). h.value) c.is_empty.ensures.1 in
+    record {
+      called = gets-at-hand c.get_at_hand.new.out _ _ c.get_at_hand.new.self c.args.pool.now.loans c.get_at_hand.new.loans (sym same ∙ own.value)
+          did.same (did.once refl) (did.got refl) (did.count refl);
+    }
+
+-- which did nothing at hand
 pub returns : goal.returns
 returns c =
     let own = c.lend.ensures in
-    let did = c.get-answer.ensures in
+    let none = c.if-get_at_hand.ensures.not refl in
     let same = ap (λ (h : PoolHandle). h.value) c.is_empty.ensures.1 in
     record {
-      called = subst
-          (λ (v : Option Pooled). GetsIn c.get-answer.new.out v c.args.pool.now.loans c.status_of.result
-          (Some c.get-answer.new.self) c.get-answer.new.loans) (sym (sym same ∙ own.value))
-          (c.get-answer.result, c.get-answer.new.self, refl, c.status_of.ensures, did.same, did.once, did.got, did.count);
+      called = gets-apart c.get_apart.new.out _ c.get_apart.new.pool.handle.value _ c.get_at_hand.new.self c.args.pool.now.loans c.get_at_hand.new.loans
+          c.get_apart.new.pool.loans c.get_apart.result (sym same ∙ own.value) none c.get_apart.ensures.called;
     }

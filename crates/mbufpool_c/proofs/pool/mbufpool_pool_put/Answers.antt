@@ -1,17 +1,26 @@
-use Rattle.std.proofs.Common.{◌∙◌, Option, Some, ap, sym, refl, subst}
+use Rattle.std.proofs.Common.{◌∙◌, ap, sym, refl}
 use Rattle.mbufpool_c.specs.declared.pool_handle.PoolHandle.{PoolHandle}
-use Rattle.mbufpool_c.specs.Pools.{PutsIn, Pooled}
+use Rattle.mbufpool_c.proofs.PoolLemmas.{puts-at-hand, puts-apart}
 use Rattle.mbufpool_c.proofs.pool.mbufpool_pool_put.Goals as goal
 
--- the handle lent its worker, which put or was refused
+-- the handle lent its worker, which put at hand
+pub returns-then-put_at_hand : goal.returns-then-put_at_hand
+returns-then-put_at_hand c =
+    let own = c.lend.ensures in
+    let did = c.if-put_at_hand.ensures in
+    let same = ap (λ (h : PoolHandle). h.value) c.is_empty.ensures.1 in
+    record {
+      called = puts-at-hand c.args.list.now _ _ c.put_at_hand.new.self c.args.pool.now.loans c.put_at_hand.new.loans (sym same ∙ own.value)
+          did.same (did.once refl) (did.put refl) (did.count refl);
+    }
+
+-- which did nothing at hand
 pub returns : goal.returns
 returns c =
     let own = c.lend.ensures in
-    let did = c.put-answer.ensures in
+    let none = c.if-put_at_hand.ensures.not refl in
     let same = ap (λ (h : PoolHandle). h.value) c.is_empty.ensures.1 in
     record {
-      called = subst
-          (λ (v : Option Pooled). PutsIn c.args.list.now v c.args.pool.now.loans c.status_of.result
-          (Some c.put-answer.new.self) c.put-answer.new.loans) (sym (sym same ∙ own.value))
-          (c.put-answer.result, c.put-answer.new.self, refl, c.status_of.ensures, did.same, did.once, did.put, did.count);
+      called = puts-apart c.args.list.now _ c.put_apart.new.pool.handle.value _ c.put_at_hand.new.self c.args.pool.now.loans c.put_at_hand.new.loans
+          c.put_apart.new.pool.loans c.put_apart.result (sym same ∙ own.value) none c.put_apart.ensures.called;
     }

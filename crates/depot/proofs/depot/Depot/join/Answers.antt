@@ -9,5 +9,5 @@ join_seat-requires c = (
   at_table c.self.invariant c.self.view_is c.requires.other_of,
   c.requires.none,
   quiet_within c.self.invariant c.self.view_is,
-  joins _ _ _ _ _,
+  joins _ _ _ _ _ c.requires.bare,
 )

@@ -1,4 +1,4 @@
-use Rattle.depot.proofs.Vacant.{kept-few, part-hand, part-out, part-magazines, part-same}
+use Rattle.depot.proofs.Vacant.{kept-few, part-hand, part-out, part-magazines, part-same, part-bare}
 use Rattle.depot.proofs.depot.Depot.vacant_seat.Goals as goal
 
 -- nothing is kept
@@ -22,3 +22,8 @@ returns-clause-out c =
 pub returns-clause-magazines : goal.returns-clause-magazines
 returns-clause-magazines c =
     part-magazines c.take-seat.result c.note.new.seat c.take-seat.ensures.me.1 c.note.ensures.me c.part.new.seat c.part.ensures.me
+
+pub returns-clause-bare : goal.returns-clause-bare
+returns-clause-bare c =
+    part-bare c.take-seat.result c.note.new.seat c.take-seat.ensures.me.1 c.note.ensures.me
+    c.args.self.now c.args.loans.now c.part.new.seat c.requires.loans c.take-seat.ensures.me.0 c.part.ensures.me

@@ -14,4 +14,4 @@ returns-clause-racked c =
     let most = keeps.4 in
     one-racked _ _ r.of
     (record { slots = few_slots c.depot.invariant c.depot.view_is; least = omega arith; most = omega arith })
-    same r.out r.magazines r.inside r.none r.room
+    same c.at_hand.ensures.most r.out r.magazines r.inside r.none r.room

@@ -20,7 +20,7 @@ use Rattle.std.specs.declared.option.Option.TheVariants.{Some}
 use Rattle.std.proofs.raw_atomic.Walks.{proved_at, leaves}
 use Rattle.std.specs.contracts.impls.GlobalAllocator.TheImpl.{ghosts}
 use Rattle.std.proofs.alloc.Global.TheLaws as heap_laws
-use Rattle.guard.specs.contracts.lcore.GuardWorker.{the_row as X}
+use Rattle.mbufpool_c.specs.contracts.guard_workers.OwnGuard.{the_row as X}
 use Rattle.mbufpool_c.specs.contracts.guard_handle.GuardHandle as guarded
 use Rattle.mbufpool_c.proofs.Values.{both, Loose, loose_good, loose_out}
 use Rattle.mbufpool_c.proofs.Handles.{Z, handle_good}

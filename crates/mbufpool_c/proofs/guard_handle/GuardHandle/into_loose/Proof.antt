@@ -25,7 +25,7 @@ use Rattle.std.proofs.raw_atomic.Walks.{proved_at, leaves}
 use Rattle.std.proofs.ResultValues.{and_tt}
 use Rattle.std.specs.contracts.impls.GlobalAllocator.TheImpl.{ghosts}
 use Rattle.std.proofs.alloc.Global.TheLaws as heap_laws
-use Rattle.guard.specs.contracts.lcore.GuardWorker.{the_row as X}
+use Rattle.mbufpool_c.specs.contracts.guard_workers.OwnGuard.{the_row as X}
 use Rattle.mbufpool_c.specs.contracts.guard_handle.GuardHandle as guarded
 use Rattle.mbufpool_c.proofs.Values.{Good, both, Loose, loose_good, loose_in}
 use Rattle.mbufpool_c.proofs.Handles.{Z, either, handle_good}

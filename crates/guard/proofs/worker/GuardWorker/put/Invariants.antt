@@ -1,0 +1,9 @@
+use Rattle.std.proofs.Common.{take}
+use Rattle.guard.specs.Guards.{IsGuard, PutsAll, Since, resting_of}
+use Rattle.guard.proofs.worker.GuardWorker.put.Given as goal
+
+-- so many were put
+abbrev pub invariant-loop-k : goal.invariant-loop-k
+invariant-loop-k l =
+    IsGuard l.fn.depot l.self × PutsAll (take l.k l.fn.list) (resting_of l.fn.self) (resting_of l.self)
+    × Since l.fn.self l.self

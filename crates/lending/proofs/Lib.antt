@@ -1,5 +1,0 @@
-pub mod Finding
-pub mod Tokens
-pub mod Outs
-pub mod Crossing
-pub mod Moving

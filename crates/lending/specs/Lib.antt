@@ -1,4 +1,0 @@
-pub mod Lent
-pub mod Pools
-pub mod Lending
-pub mod Lenders

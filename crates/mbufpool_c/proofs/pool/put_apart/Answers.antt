@@ -1,0 +1,15 @@
+use Rattle.std.proofs.Common.{Option, Some, sym, refl, subst}
+use Rattle.mbufpool_c.specs.Pools.{PutsIn, Pooled}
+use Rattle.mbufpool_c.proofs.pool.put_apart.Goals as goal
+
+-- the handle lent its worker, which put or was refused
+pub returns : goal.returns
+returns c =
+    let own = c.lend.ensures in
+    let did = c.put-answer.ensures in
+    record {
+      called = subst
+          (λ (v : Option Pooled). PutsIn c.args.list.now v c.args.pool.now.loans c.status_of.result
+          (Some c.put-answer.new.self) c.put-answer.new.loans) (sym own.value)
+          (c.put-answer.result, c.put-answer.new.self, refl, c.status_of.ensures, did.same, did.once, did.put, did.count);
+    }
